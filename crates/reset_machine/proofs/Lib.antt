@@ -1,0 +1,11 @@
+pub mod Places
+pub mod Children
+pub mod Planned
+pub mod Rows
+pub mod Seen
+pub mod PlannedSteps
+pub mod ConfigurationSteps
+pub mod Fronts
+pub mod WordLines
+pub mod NumberWords
+pub mod EventLines

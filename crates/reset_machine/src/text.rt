@@ -1,0 +1,222 @@
+// The lines that stand for events, and the words and numbers that lines are made of.
+ghost use Rattle.std.specs.Prelude.{◌≡◌, ℕ, ◌<◌, ◌^◌, [], ◌∷◌, ◌++◌, ◌↔◌, ◌⊎◌, IsTrue, IfSome, IfNone, OnOk, OnErr, length, slice_index};
+ghost use Rattle.std.specs.Fmt.{decimal};
+ghost use Rattle.std.specs.Io.KnownBytes.{Appends};
+ghost use Rattle.std.specs.List.{position};
+ghost use Rattle.reset_machine.specs.EventText.{event_line, event_words, Fits};
+ghost use Rattle.reset_machine.specs.Words.{is_space, words_of};
+ghost use Rattle.reset_machine.specs.Written.{AppendsFront};
+ghost use Rattle.reset_machine.specs.declared.event.Event.{Event};
+
+use crate::event::Event;
+use crate::put::{WriteFault, put_bytes, put_number};
+use std::io::Write;
+
+/// Two events below 2 ^ 32 in their numbers that have one line are the same event.
+pub fn one_event_a_line()
+    ensures { (e f : Event) → Fits e → Fits f → event_line e ≡ event_line f → e ≡ f }
+{}
+
+/// The first word of a line and what follows the space after it, or `None` where the line has no
+/// space: it is one word then, or empty.
+pub fn split_word(line: &[u8]) -> Option<(&[u8], &[u8])>
+    ensures found { IfSome result (λ cut. words_of line.now ≡ cut.0.now ∷ words_of cut.1.now) }
+    ensures only { IfNone result (words_of line.now ≡ line.now ∷ []) }
+{
+    let space = first_space(line)?;
+    Some((&line[..space], &line[space + 1..]))
+}
+
+fn first_space(line: &[u8]) -> Option<usize>
+    ensures { result ≡ position is_space line.now }
+{
+    line.iter().position(|byte| *byte == b' ')
+}
+
+/// The number that a word spells: decimal digits, without leading zeros, at most 4294967295.
+pub fn read_number(word: &[u8]) -> Option<u32>
+    ensures found { IfSome result (λ n. word.now ≡ decimal n) }
+    ensures only { IfNone result ((n : ℕ) → n < 2 ^ 32 → word.now ≡ decimal n → ⊥) }
+{
+    // `parse` would read these too.
+    if has_sign_or_zeros(word) {
+        return None;
+    }
+    match str::from_utf8(word) {
+        Ok(text) => text.parse().ok(),
+        Err(_) => None,
+    }
+}
+
+// Whether a sign or a leading zero begins the word.
+fn has_sign_or_zeros(word: &[u8]) -> bool
+    ensures { IsTrue result ↔ (slice_index word.now 0 ≡ 43) ⊎ ((slice_index word.now 0 ≡ 48) × (1 < length word.now)) }
+{
+    matches!(word, [b'+', ..] | [b'0', _, ..])
+}
+
+/// The event that a line without its line feed stands for.
+pub fn read_event(line: &[u8]) -> Option<Event>
+    ensures found { IfSome result (λ e. line.now ≡ event_line e) }
+    ensures fits { IfSome result Fits }
+    ensures only { IfNone result ((e : Event) → Fits e → line.now ≡ event_line e → ⊥) }
+{
+    let (command, numbers) = split_word(line)?;
+    match split_word(numbers) {
+        None => event_of_one(command, read_number(numbers)?),
+        Some((at, child)) => event_of_two(command, read_number(at)?, read_number(child)?),
+    }
+}
+
+// The event of a command with one number.
+fn event_of_one(command: &[u8], at: u32) -> Option<Event>
+    ensures found { IfSome result (λ e. event_words e ≡ command.now ∷ decimal at ∷ []) }
+    ensures fits { IfSome result Fits }
+    ensures only { IfNone result ((e : Event) → event_words e ≡ command.now ∷ decimal at ∷ [] → ⊥) }
+{
+    if command == b"request".as_slice() {
+        Some(Event::Request { at })
+    } else if command == b"open".as_slice() {
+        Some(Event::Open { at })
+    } else if command == b"join".as_slice() {
+        Some(Event::Join { at })
+    } else if command == b"finish".as_slice() {
+        Some(Event::Finish { at })
+    } else if command == b"mend".as_slice() {
+        Some(Event::Mend { at })
+    } else {
+        None
+    }
+}
+
+// The event of a command with two numbers.
+fn event_of_two(command: &[u8], at: u32, child: u32) -> Option<Event>
+    ensures found { IfSome result (λ e. event_words e ≡ command.now ∷ decimal at ∷ decimal child ∷ []) }
+    ensures fits { IfSome result Fits }
+    ensures only { IfNone result ((e : Event) → event_words e ≡ command.now ∷ decimal at ∷ decimal child ∷ [] → ⊥) }
+{
+    if command == b"relay".as_slice() {
+        Some(Event::Relay { at, child })
+    } else {
+        None
+    }
+}
+
+/// Writes the line that stands for the event, without a line feed.
+pub fn write_event<W: Write>(event: &Event, out: &mut W) -> Result<(), WriteFault>
+    ensures ok { OnOk result (Appends (W.contents out.old) (W.contents out.new) (event_line event.now)) }
+    ensures err { OnErr result (AppendsFront (W.contents out.old) (W.contents out.new) (event_line event.now)) }
+{
+    match *event {
+        Event::Request { at } => put_command(out, b"request", at),
+        Event::Relay { at, child } => {
+            put_command(out, b"relay", at)?;
+            put_bytes(out, b" ")?;
+            put_number(out, u64::from(child))
+        }
+        Event::Open { at } => put_command(out, b"open", at),
+        Event::Join { at } => put_command(out, b"join", at),
+        Event::Finish { at } => put_command(out, b"finish", at),
+        Event::Mend { at } => put_command(out, b"mend", at),
+    }
+}
+
+// Writes a command and its first number.
+fn put_command<W: Write>(out: &mut W, command: &[u8], at: u32) -> Result<(), WriteFault>
+    ensures ok { OnOk result (Appends (W.contents out.old) (W.contents out.new) (command.now ++ (32 ∷ decimal at))) }
+    ensures err { OnErr result (AppendsFront (W.contents out.old) (W.contents out.new) (command.now ++ (32 ∷ decimal at))) }
+{
+    put_bytes(out, command)?;
+    put_bytes(out, b" ")?;
+    put_number(out, u64::from(at))
+}
+
+#[cfg(test)]
+mod tests {
+    use super::*;
+    use crate::put::tests::{Fault, Slow};
+    use std::test::Fail;
+
+    #[test]
+    fn reads_and_writes_each_line(rt: HostRuntime) -> Result<(), Fail> {
+        let lines = [
+            (b"request 1".as_slice(), Event::Request { at: 1 }),
+            (b"relay 2 1".as_slice(), Event::Relay { at: 2, child: 1 }),
+            (b"open 0".as_slice(), Event::Open { at: 0 }),
+            (b"join 10".as_slice(), Event::Join { at: 10 }),
+            (b"finish 65535".as_slice(), Event::Finish { at: 65535 }),
+            (
+                b"mend 4294967295".as_slice(),
+                Event::Mend { at: 4_294_967_295 },
+            ),
+        ];
+        for (line, event) in lines {
+            assert_eq!(rt; read_event(line), Some(event));
+            let mut out = Vec::new(rt.alloc());
+            assert_eq!(rt; write_event(&event, &mut out), Ok(()));
+            assert_eq!(rt; out.as_slice(), line);
+        }
+        Ok(())
+    }
+
+    #[test]
+    fn refuses_other_lines(rt: HostRuntime) {
+        let lines = [
+            b"".as_slice(),
+            b"open".as_slice(),
+            b"open ".as_slice(),
+            b"open 03".as_slice(),
+            b"open  3".as_slice(),
+            b" open 3".as_slice(),
+            b"open 3 ".as_slice(),
+            b"open 3\n".as_slice(),
+            b"open 3 4".as_slice(),
+            b"Open 3".as_slice(),
+            b"open +3".as_slice(),
+            b"open 3x".as_slice(),
+            b"open 4294967296".as_slice(),
+            b"relay 2".as_slice(),
+            b"relay 2 01".as_slice(),
+            b"relay 2 1 1".as_slice(),
+            b"opens 3".as_slice(),
+        ];
+        for line in lines {
+            assert_eq!(rt; read_event(line), None);
+        }
+    }
+
+    #[test]
+    fn reads_numbers(rt: HostRuntime) {
+        assert_eq!(rt; read_number(b"0"), Some(0));
+        assert_eq!(rt; read_number(b"4294967295"), Some(u32::MAX));
+        assert_eq!(rt; read_number(b"99999999999999999999999"), None);
+        assert_eq!(rt; read_number(b""), None);
+        assert_eq!(rt; read_number(b"-0"), None);
+        assert_eq!(rt; read_number(b"00"), None);
+        assert_eq!(rt; read_number(b"1\xff"), None);
+    }
+
+    #[test]
+    fn cuts_at_the_first_space(rt: HostRuntime) {
+        let cut = (b"show".as_slice(), b"3".as_slice());
+        assert_eq!(rt; split_word(b"show 3"), Some(cut));
+        let cut = (b"".as_slice(), b" a ".as_slice());
+        assert_eq!(rt; split_word(b"  a "), Some(cut));
+        assert_eq!(rt; split_word(b"show"), None);
+        assert_eq!(rt; split_word(b""), None);
+    }
+
+    #[test]
+    fn stops_at_the_first_fault(rt: HostRuntime) {
+        let event = Event::Relay { at: 70, child: 6 };
+        let line = b"relay 70 6";
+        for fault in [Fault::Error, Fault::Zero] {
+            for stop in 1..=line.len() {
+                let mut out = Slow::new(rt.alloc(), 1, stop, fault);
+                assert_eq!(rt; write_event(&event, &mut out), Err(WriteFault));
+                assert_eq!(rt; out.taken(), &line[..stop - 1]);
+                assert_eq!(rt; out.calls(), stop);
+            }
+        }
+    }
+}

@@ -1,0 +1,2 @@
+mod Ascending
+pub mod NextSession

@@ -1,0 +1,150 @@
+-- The wave layer: the rows of its table on what one node sees, and its predicate.
+use Rattle.std.specs.Prelude.{◌≡◌, ℕ, ◌+◌, Bool, true, false, not, ◌&&◌, ◌||◌, ◌==◌, if◌then◌else◌, List, [], ◌∷◌, Option, Some, None, Result, Ok, Err, ◌⊎◌, nat_lt}
+use Rattle.std.specs.List.{list_all}
+use Rattle.std.specs.Map.{lookup}
+use Rattle.wave_layer.specs.declared.regs.Phase.{Phase}
+use Rattle.wave_layer.specs.declared.regs.Phase.TheVariants.{Normal, Initiate, Reset}
+use Rattle.wave_layer.specs.declared.regs.WaveRegs.{WaveRegs}
+use Rattle.wave_layer.specs.declared.regs.FatherSeen.{FatherSeen}
+use Rattle.wave_layer.specs.declared.regs.FatherSeen.TheVariants.{Itself, Lost, Is}
+use Rattle.wave_layer.specs.declared.regs.WaveMove.{WaveMove}
+use Rattle.wave_layer.specs.declared.regs.WaveRefusal.{WaveRefusal}
+use Rattle.wave_layer.specs.declared.regs.WaveRefusal.TheVariants.{NoSuchCase, NotChild, NotEnabled, SessionsSpent}
+
+-- the session after s. Crates above use of it only what the lemmas of NextSession say
+unfoldable pub next_session : ℕ → ℕ
+next_session s = s + 1
+
+abbrev pub is_normal : Phase → Bool
+is_normal Normal = true
+is_normal Initiate = false
+is_normal Reset = false
+
+abbrev pub is_initiate : Phase → Bool
+is_initiate Normal = false
+is_initiate Initiate = true
+is_initiate Reset = false
+
+abbrev pub is_reset : Phase → Bool
+is_reset Normal = false
+is_reset Initiate = false
+is_reset Reset = true
+
+-- what one node sees: its registers, its father's, and those of its children, by id
+pub record LocalView : Type 0 where
+  pub own : WaveRegs
+  pub father : FatherSeen
+  pub children : List (ℕ × WaveRegs)
+
+-- the father register names the node itself
+abbrev pub is_root : FatherSeen → Bool
+is_root Itself = true
+is_root Lost = false
+is_root (Is up) = false
+
+-- the father is a neighbour, and passes the test
+abbrev pub father_passes : (WaveRegs → Bool) → FatherSeen → Bool
+father_passes p Itself = false
+father_passes p Lost = false
+father_passes p (Is up) = p up
+
+-- the father is a neighbour that is reset
+abbrev pub father_reset : FatherSeen → Bool
+father_reset father = father_passes (λ up. is_reset up.phase) father
+
+-- the father is a neighbour that is not reset
+abbrev pub father_awake : FatherSeen → Bool
+father_awake father = father_passes (λ up. not (is_reset up.phase)) father
+
+-- the father's registers, and the node's own where the father is no neighbour
+abbrev pub father_regs : WaveRegs → FatherSeen → WaveRegs
+father_regs own Itself = own
+father_regs own Lost = own
+father_regs own (Is up) = up
+
+-- every child is not reset and has the session
+abbrev pub children_done : ℕ → List (ℕ × WaveRegs) → Bool
+children_done session children = list_all (λ child. not (is_reset child.1.phase) && child.1.session == session) children
+
+-- a row of the table: its number, whether its guard holds, and what it does
+pub record Row : Type 0 where
+  pub number : ℕ
+  pub guard : Bool
+  pub effect : Result WaveMove WaveRefusal
+
+-- the registers become these
+abbrev pub becomes : Phase → ℕ → Result WaveMove WaveRefusal
+becomes p s = Ok (record { regs = record { phase = p; session = s }; restarts = false; completes = false })
+
+-- the same, and the node's local state becomes its start state
+abbrev pub restarts : Phase → ℕ → Result WaveMove WaveRefusal
+restarts p s = Ok (record { regs = record { phase = p; session = s }; restarts = true; completes = false })
+
+-- the same as becomes, and the reset is complete
+abbrev pub completes : Phase → ℕ → Result WaveMove WaveRefusal
+completes p s = Ok (record { regs = record { phase = p; session = s }; restarts = false; completes = true })
+
+-- the session after s is entered, unless s is the last one
+abbrev pub opens : ℕ → Result WaveMove WaveRefusal
+opens s = if nat_lt s 4294967295 then restarts Reset (next_session s) else Err SessionsSpent
+
+-- the rows, where asked says whether the child of row 2 is initiate
+abbrev pub wave_table : LocalView → Bool → List Row
+wave_table v asked =
+    let phase = v.own.phase in
+    let session = v.own.session in
+    let up = father_regs v.own v.father in
+    record { number = 1; guard = is_normal phase; effect = becomes Initiate session }
+    ∷ record { number = 2; guard = is_normal phase && asked; effect = becomes Initiate session }
+    ∷ record { number = 3; guard = is_root v.father && is_initiate phase; effect = opens session }
+    ∷ record { number = 4; guard = father_reset v.father && is_normal phase && up.session == next_session session; effect = restarts Reset up.session }
+    ∷ record { number = 5; guard = father_reset v.father && is_initiate phase && up.session == next_session session; effect = restarts Reset up.session }
+    ∷ record { number = 6; guard = not (is_root v.father) && is_reset phase && children_done session v.children; effect = becomes Normal session }
+    ∷ record { number = 7; guard = is_root v.father && is_reset phase && children_done session v.children; effect = completes Normal session }
+    ∷ record { number = 8; guard = father_awake v.father && is_reset phase; effect = becomes up.phase up.session }
+    ∷ record { number = 9; guard = father_awake v.father && not (is_reset phase) && not (session == up.session); effect = becomes up.phase up.session }
+    ∷ record { number = 10; guard = father_reset v.father && is_reset phase && not (session == up.session); effect = becomes up.phase up.session }
+    ∷ record { number = 11; guard = father_reset v.father && not (is_reset phase) && not (up.session == session) && not (up.session == next_session session); effect = becomes up.phase up.session }
+    ∷ []
+
+-- the registers of the child with this id
+abbrev pub child_regs : ℕ → List (ℕ × WaveRegs) → Option WaveRegs
+child_regs id children = lookup (λ child. child == id) children
+
+-- what firing a row of the list does
+abbrev pub fired_of : List Row → ℕ → Result WaveMove WaveRefusal
+fired_of [] n = Err NoSuchCase
+fired_of (row ∷ rows) n = if row.number == n then (if row.guard then row.effect else Err NotEnabled) else fired_of rows n
+
+-- the rows that name a child
+abbrev pub names_child : ℕ → Bool
+names_child n = n == 2
+
+-- row n with the child that it names, None where it isn't among the children
+abbrev pub fired_at : LocalView → ℕ → Option WaveRegs → Result WaveMove WaveRefusal
+fired_at v n None = Err NotChild
+fired_at v n (Some regs) = fired_of (wave_table v (is_initiate regs.phase)) n
+
+-- case n, with this child named: what the node does, or the first refusal
+abbrev pub wave_fired : LocalView → ℕ → Option ℕ → Result WaveMove WaveRefusal
+wave_fired v n None =
+    if nat_lt n 1 || nat_lt 11 n then Err NoSuchCase
+    else (if names_child n then Err NotChild else fired_of (wave_table v false) n)
+wave_fired v n (Some id) =
+    if nat_lt n 1 || nat_lt 11 n then Err NoSuchCase
+    else (if names_child n then fired_at v n (child_regs id v.children) else Err NotChild)
+
+-- the predicate of a node's registers and those of its father, a neighbour
+pub record WaveHolds (own up : WaveRegs) : Type 0 where
+  pub awake : is_reset up.phase ≡ false → (is_reset own.phase ≡ false) × (own.session ≡ up.session)
+  pub resetting : is_reset up.phase ≡ true → (own.session ≡ up.session) ⊎ ((is_reset own.phase ≡ false) × (up.session ≡ next_session own.session))
+
+-- the same of what the node sees: it is asked only where the father is a neighbour
+abbrev pub FatherHolds : WaveRegs → FatherSeen → Type 0
+FatherHolds own Itself = Unit {0}
+FatherHolds own Lost = Unit {0}
+FatherHolds own (Is up) = WaveHolds own up
+
+-- no row from 8 on is enabled
+abbrev pub no_mend : List Row → Bool
+no_mend rows = list_all (λ row. nat_lt row.number 8 || not row.guard) rows

@@ -1,0 +1,58 @@
+// The predicate of a node's wave registers and its father's.
+
+ghost use Rattle.std.specs.Prelude.{◌≡◌, ◌↔◌, Bool, IsTrue};
+ghost use Rattle.wave_layer.specs.WaveTable.{FatherHolds, WaveHolds, no_mend, wave_table};
+
+use crate::regs::{FatherSeen, WaveRegs};
+use crate::sessions::is_next;
+use crate::view::WaveView;
+
+/// Whether the node's wave registers fit its father's; they do exactly where no mending row is enabled.
+pub fn wave_good(view: &WaveView) -> bool
+    ensures predicate { IsTrue result ↔ FatherHolds view.now.own view.now.father }
+    ensures table { (asked : Bool) → result ≡ no_mend (wave_table view.now asked) }
+{
+    match view.father() {
+        FatherSeen::Is(up) => fits(view.own(), up),
+        FatherSeen::Itself | FatherSeen::Lost => true,
+    }
+}
+
+// Whether registers fit those of the father, a neighbour.
+fn fits(own: WaveRegs, up: WaveRegs) -> bool
+    ensures { IsTrue result ↔ WaveHolds own up }
+{
+    let same = own.session == up.session;
+    let behind = !own.phase.is_reset() & is_next(up.session, own.session);
+    if up.phase.is_reset() {
+        same | behind
+    } else {
+        !own.phase.is_reset() & same
+    }
+}
+
+#[cfg(test)]
+mod tests {
+    use super::*;
+    use crate::regs::Phase;
+
+    #[test]
+    fn fits_a_father_that_is_one_session_ahead(rt: HostRuntime) {
+        let up = WaveRegs {
+            phase: Phase::Reset,
+            session: 6,
+        };
+        for (phase, session, good) in [
+            (Phase::Normal, 5, true),
+            (Phase::Reset, 5, false),
+            (Phase::Reset, 6, true),
+        ] {
+            let view = WaveView::new(WaveRegs { phase, session }, FatherSeen::Is(up), &[]);
+            assert_eq!(rt;
+                view.map(|view| wave_good(&view)),
+                Some(good),
+                "session {session}"
+            );
+        }
+    }
+}

@@ -1,0 +1,20 @@
+//! The wave layer of the distributed reset service: a diffusing wave with session numbers.
+//!
+//! A reset request travels up the spanning tree to the root, the root opens a new session, the
+//! session travels down as each node joins, and the end of the reset travels up again as each node
+//! finishes after its children. The table of rows is this project's profile of the wave layer of
+//! A. Arora and M. Gouda, "Distributed Reset", IEEE Transactions on Computers 43(9), 1994.
+#![tactic(auto)]
+
+mod boot;
+mod fire;
+mod holds;
+mod regs;
+mod sessions;
+mod view;
+
+pub use boot::boot_wave;
+pub use fire::wave_fire;
+pub use holds::wave_good;
+pub use regs::{FatherSeen, Phase, WaveMove, WaveRefusal, WaveRegs};
+pub use view::WaveView;

@@ -1,0 +1,99 @@
+// What one node sees of the wave: its own registers, its father's and its children's.
+
+ghost use Rattle.std.specs.Prelude.{◌≡◌, ◌↔◌, IsSome, IfSome, IsTrue, map};
+ghost use Rattle.std.specs.List.Sorted.{IsStrictlyIncreasing};
+
+use crate::regs::{FatherSeen, WaveRegs};
+use std::marker::Model;
+
+/// What one node sees: its registers, its father's, and those of its children with their ids.
+///
+/// The ids of the children ascend strictly.
+#[derive(Drop)]
+pub struct WaveView<'a> {
+    own: WaveRegs,
+    father: FatherSeen,
+    children: &'a [(u32, WaveRegs)],
+}
+
+impl<'a> Model for WaveView<'a> {
+    ghost use Rattle.std.specs.Prelude.{map};
+    ghost use Rattle.std.specs.List.Sorted.{IsStrictlyIncreasing};
+    ghost use Rattle.wave_layer.specs.WaveTable.{LocalView};
+
+    ghost Value = { LocalView };
+
+    ghost view = { λ v. record { own = v.own; father = v.father; children = v.children.now } };
+
+    ghost invariant = { λ v. IsStrictlyIncreasing (map (λ c. c.0) v.children.now) };
+}
+
+impl<'a> WaveView<'a> {
+    /// The view of these registers, or `None` where the ids of the children do not ascend strictly.
+    pub fn new(
+        own: WaveRegs,
+        father: FatherSeen,
+        children: &'a [(u32, WaveRegs)],
+    ) -> Option<WaveView<'a>>
+        ensures ascending { IsSome result ↔ IsStrictlyIncreasing (map (λ c. c.0) children.now) }
+        ensures value { IfSome result (λ v. v ≡ record { own = own; father = father; children = children.now }) }
+    {
+        if ids_ascend(children) {
+            Some(WaveView {
+                own,
+                father,
+                children,
+            })
+        } else {
+            None
+        }
+    }
+
+    /// The node's own registers.
+    pub fn own(&self) -> WaveRegs
+        ensures { result ≡ self.now.own }
+    {
+        self.own
+    }
+
+    /// What the node's father register names.
+    pub fn father(&self) -> FatherSeen
+        ensures { result ≡ self.now.father }
+    {
+        self.father
+    }
+
+    /// The children's ids and registers, by strictly ascending id.
+    pub fn children(&self) -> &[(u32, WaveRegs)]
+        ensures value { result.now ≡ self.now.children }
+        ensures ascending { IsStrictlyIncreasing (map (λ c. c.0) self.now.children) }
+    {
+        self.children
+    }
+}
+
+// Whether each child's id is below the next one's.
+fn ids_ascend(children: &[(u32, WaveRegs)]) -> bool
+    ensures { IsTrue result ↔ IsStrictlyIncreasing (map (λ c. c.0) children.now) }
+{
+    children.is_sorted_by(|one, next| one.0 < next.0)
+}
+
+#[cfg(test)]
+mod tests {
+    use super::*;
+    use crate::regs::Phase;
+
+    #[test]
+    fn takes_strictly_ascending_ids(rt: HostRuntime) {
+        let regs = WaveRegs {
+            phase: Phase::Normal,
+            session: 0,
+        };
+        for (first, second, taken) in [(3, 8, true), (3, 3, false), (8, 3, false)] {
+            let children = [(first, regs), (second, regs)];
+            let view = WaveView::new(regs, FatherSeen::Lost, &children);
+            assert_eq!(rt; view.is_some(), taken, "{first} before {second}");
+        }
+    }
+}
