@@ -9,6 +9,9 @@ mod put;
 mod step;
 mod text;
 
+#[cfg(test)]
+mod tests;
+
 pub use config::Config;
 pub use event::Event;
 pub use put::{WriteFault, put_bytes, put_number};

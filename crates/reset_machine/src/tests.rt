@@ -1,0 +1,86 @@
+use super::*;
+use std::alloc::Global;
+use std::process::Abort;
+use topology::Topology;
+use tree_layer::TreeRegs;
+use wave_layer::{Phase, WaveRegs};
+
+// The booted line of the nodes 1, 2 and 3.
+fn line(rt: &impl Abort, alloc: Global) -> Config {
+    let topology = Topology::build(alloc, &[1, 2, 3], &[(1, 2), (2, 3)]).expect(rt, "the line");
+    match Config::boot(alloc, topology) {
+        Ok(config) => config,
+        Err(_) => panic!(rt; "memory for the line"),
+    }
+}
+
+fn waves(rt: &impl Abort, config: &Config) -> [WaveRegs; 3] {
+    [1, 2, 3].map(|id| config.wave_at(id).expect(rt, "a node of the line"))
+}
+
+#[test]
+fn boots_the_line(rt: HostRuntime) {
+    let config = line(&rt, rt.alloc());
+    let trees = [1, 2, 3].map(|id| config.tree_at(id).expect(&rt, "a node of the line"));
+    let tree = |father, dist| TreeRegs {
+        root: 3,
+        father,
+        dist,
+    };
+    assert_eq!(rt; trees, [tree(2, 2), tree(3, 1), tree(3, 0)]);
+    let normal = WaveRegs {
+        phase: Phase::Normal,
+        session: 0,
+    };
+    assert_eq!(rt; waves(&rt, &config), [normal, normal, normal]);
+    assert_eq!(rt; config.tree_at(4), None);
+    assert_eq!(rt; config.wave_at(4), None);
+    assert_eq!(rt; config.topology().len(), 3);
+    assert_eq!(rt; config.newest_session(), 0);
+}
+
+#[test]
+fn one_wave_completes(rt: HostRuntime) {
+    let mut config = line(&rt, rt.alloc());
+    let events = [
+        Event::Request { at: 1 },
+        Event::Relay { at: 2, child: 1 },
+        Event::Relay { at: 3, child: 2 },
+        Event::Open { at: 3 },
+        Event::Join { at: 2 },
+        Event::Join { at: 1 },
+        Event::Finish { at: 1 },
+        Event::Finish { at: 2 },
+    ];
+    for event in events {
+        assert_eq!(rt; config.step(rt.alloc(), event), Ok(Reply::Applied));
+    }
+    let last = config.step(rt.alloc(), Event::Finish { at: 3 });
+    assert_eq!(rt; last, Ok(Reply::Complete(1)));
+    assert_eq!(rt; config.newest_session(), 1);
+    let done = WaveRegs {
+        phase: Phase::Normal,
+        session: 1,
+    };
+    assert_eq!(rt; waves(&rt, &config), [done, done, done]);
+}
+
+#[test]
+fn refuses_in_order(rt: HostRuntime) {
+    let mut config = line(&rt, rt.alloc());
+    let refused = [
+        (Event::Request { at: 9 }, StepRefusal::StrangeNode),
+        (Event::Relay { at: 9, child: 9 }, StepRefusal::StrangeNode),
+        (Event::Relay { at: 3, child: 1 }, StepRefusal::StrangeNeighbour),
+        (Event::Relay { at: 1, child: 2 }, StepRefusal::NotEnabled),
+        (Event::Open { at: 3 }, StepRefusal::NotEnabled),
+        (Event::Join { at: 1 }, StepRefusal::NotEnabled),
+        (Event::Finish { at: 3 }, StepRefusal::NotEnabled),
+        (Event::Mend { at: 1 }, StepRefusal::NotEnabled),
+    ];
+    let before = waves(&rt, &config);
+    for (event, refusal) in refused {
+        assert_eq!(rt; config.step(rt.alloc(), event), Err(refusal));
+        assert_eq!(rt; waves(&rt, &config), before);
+    }
+}

@@ -1,0 +1,17 @@
+use Rattle.std.proofs.Common.{◌≡◌, ◌+◌, ap, ◌∙◌, length, arith, length-append}
+use Rattle.tree_layer.proofs.Booting.{each_more}
+use Rattle.tree_layer.proofs.boot.boot_tree.Goals as goal
+
+pub regs_at-requires-clause-distances : goal.regs_at-requires-clause-distances
+regs_at-requires-clause-distances c =
+    let found = c.in_ok-distances.ensures in
+    rw c.deref.ensures.value (record { count = found.count; each = rw c.len.ensures at found.distances; below = λ k short. found.below k 0 (omega (arith, found.count)) })
+
+pub loop-ix-preserved : goal.loop-ix-preserved
+loop-ix-preserved c =
+    let g = c.args.topology.now in
+    let so_far = c.loop-ix.invariant in
+    rw c.in_ok-push.ensures.items (record {
+      count = length-append c.loop-ix.trees.items _ ∙ ap (λ n. n + 1) so_far.count;
+      each = each_more g c.loop-ix.trees.items c.regs_at.result c.loop-ix.ix so_far.count so_far.each c.regs_at.ensures;
+    })

@@ -1,0 +1,22 @@
+use Rattle.std.proofs.Common.{◌≡◌, sym, ◌∙◌}
+use Rattle.std.proofs.lemmas.Option.{get_or_from_slice_get}
+use Rattle.topology.specs.Graph.{greatest}
+use Rattle.tree_layer.proofs.Booting.{booted_below, booted_top}
+use Rattle.tree_layer.proofs.boot.regs_at.Goals.{in-Some, in-None}
+use Rattle.tree_layer.proofs.boot.regs_at.Goals as goal
+
+pub returns : goal.returns
+returns c =
+    let g = c.args.topology.now in
+    let graph = c.is_graph.ensures.graph in
+    let connected = c.is_graph.ensures.connected in
+    let near = c.neighbours.result.now in
+    let root : c.get-root.result ≡ greatest g = c.get-root.ensures.number ∙ c.greatest.ensures in
+    elim c.match-nearer_among.branch [
+      | in-Some w ↦
+          rw (root, w.father-is ∙ w.get-father.ensures.number ∙ sym (get_or_from_slice_get g.ids _ _ 0 (sym w.id_at.ensures ∙ w.unwrap.ensures)))
+          (booted_below g graph connected c.args.distances.now c.requires.distances c.args.ix c.requires.place near c.neighbours.ensures.ids c.neighbours.ensures.within c.neighbours.ensures.ascending _ w.in-Some.ensures)
+      | in-None w ↦
+          rw (w.father-is, root)
+          (booted_top g graph connected c.args.distances.now c.requires.distances c.args.ix c.requires.place near c.neighbours.ensures.ids c.neighbours.ensures.within c.neighbours.ensures.ascending w.in-None.ensures)
+    ]
