@@ -18,7 +18,8 @@ use Rattle.reset_machine.specs.Steps.{strange_node, strange_neighbour, not_enabl
 use Rattle.reset_machine.specs.LocalSteps.{view_of, father_seen, children_of, is_neighbour, cases_of, fired_first, step_answer, planned_of}
 use Rattle.reset_machine.proofs.Planned.{planned_of-strange_node, planned_of-strange_neighbour, planned_of-named}
 use Rattle.reset_machine.proofs.Rows.{IsAnswer, IsInvited, IsTorn, Contradict, one_reset, other_number, both_reset, too_late, request_answers, relay_answers, relay_answers-stranger, open_answers, join_answers, finish_answers, mend_answers}
-use Rattle.topology.proofs.Membership.{has, has-Contains, Contains-has}
+use Rattle.topology.specs.Building.{has}
+use Rattle.topology.proofs.Membership.{has-Contains, Contains-has}
 use Rattle.reset_machine.proofs.Seen.{is_done, father_seen-itself, father_seen-IsFather, IsFather-father_seen, itself-father_seen, child_regs-among, children_done-each, each-children_done, IsFather-is_child, is_child-IsFather}
 
 -- an answer under other names of its parts

@@ -3,7 +3,8 @@ use Rattle.std.proofs.Common.{◌≡◌, ◌≢◌, ℕ, zero, suc, ◌<◌, ◌
 use Rattle.std.specs.List.{list_any, list_all}
 use Rattle.std.proofs.lemmas.Bool.{eq-eqb, ne_eqb, eqb-true}
 use Rattle.std.proofs.lemmas.Bool.Decides.{eqb_tells, nat_tests}
-use Rattle.topology.proofs.Membership.{has, has-Contains, has-filter}
+use Rattle.topology.specs.Building.{has}
+use Rattle.topology.proofs.Membership.{has-Contains, has-filter}
 use Rattle.topology.specs.Graph.{Graph, IsGraph, IsNode, AreLinked, are_linked, neighbours_of}
 use Rattle.tree_layer.specs.declared.regs.TreeRegs.{TreeRegs}
 use Rattle.wave_layer.specs.declared.regs.WaveRegs.{WaveRegs}

@@ -1,0 +1,18 @@
+# Needs `rt`, the command of the Rattle kit, and make: nothing else.
+
+.PHONY: run build test
+
+# Builds the program and replays one whole reset wave on the line of nodes 1, 2, 3.
+run: build
+	@{ cat examples/one-wave/topology.toml; echo ---; cat examples/one-wave/script; } | build/reset-service
+
+# Leaves the proved program at build/reset-service.
+build:
+	@mkdir -p build
+	@cd crates/service_main && rt run < /dev/null > out.log 2>&1 || { cat out.log; rm -f out.log; exit 1; }
+	@rm -f crates/service_main/out.log
+	@cp crates/service_main/out/service_main build/reset-service
+
+# Everything that decides: the gate `rt ci`, and then the examples on the program that it has built.
+test:
+	@bash tests/all

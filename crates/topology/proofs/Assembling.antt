@@ -1,0 +1,106 @@
+-- From checked lists and the marks of a search to a topology, or to a node that is cut off.
+use Rattle.std.proofs.Common.{◌≡◌, ℕ, ◌<◌, ◌≤◌, eqb, List, length, get_or, Option, Some, None, Vec, Global, vec_len, position, refl, sym, subst, subst₂, ◌∙◌, arith}
+use Rattle.std.proofs.lemmas.List.{length-map, get_or_read}
+use Rattle.std.proofs.lemmas.Bool.{eqb-true, eqb-false}
+use Rattle.std.proofs.lemmas.List.Quantifiers.{position-Some}
+use Rattle.std.proofs.lemmas.List.Elements.{Contains-get_or}
+use Rattle.topology.specs.Building.{AreSorted, AreApart, AreJoined}
+use Rattle.topology.specs.Faults.{IsFirstFault, IsTopologyOf}
+use Rattle.topology.specs.Graph.{IsGraph, IsConnected, IsDistance}
+use Rattle.topology.specs.Rows.{graph_of, AreIds, AreParts}
+use Rattle.topology.specs.Searching.{AreDistances}
+use Rattle.topology.specs.declared.fault.TopoFault.TheVariants.{Disconnected}
+use Rattle.topology.specs.declared.fault.TheConstants.{MAX_LINKS}
+use Rattle.topology.proofs.Ascending.{no_place}
+use Rattle.topology.proofs.Counting.{links_counted}
+use Rattle.topology.proofs.FaultOrder.{clean_lists, clean_all, first_fault, graph_of_lists}
+use Rattle.topology.proofs.Inserting.{rows_of}
+use Rattle.topology.proofs.RowLemmas.{graph_of_rows}
+use Rattle.topology.proofs.Walks.{connected_from_marks, cut_off_from_marks, no_cut_off, distance_of_mark}
+
+module _ (nodes ids : List ℕ) (links : List (ℕ × ℕ)) (rows : List (List ℕ)) (as_ids : AreIds ids) (sorted : AreSorted nodes ids) (few : length links ≤ MAX_LINKS)
+    (apart : AreApart ids links) (joined : AreJoined ids links rows) (marks : List ℕ) (found : AreDistances (length ids) rows 0 marks) where
+  are_graph : IsGraph (graph_of ids rows)
+  are_graph = graph_of_rows ids rows as_ids.ascending joined.as_rows as_ids.some
+
+  module _ (none : None ≡ position (λ m. eqb m (length ids)) marks) where
+    all_marked : (i : ℕ) → i < length ids → get_or marks i 0 < length ids
+    all_marked i i_in =
+        let other = eqb-false (get_or marks i 0) (length ids) (no_place (λ m. eqb m (length ids)) marks none i (omega (arith, found.are_reached.count))) in
+        omega (arith, found.are_reached.small i i_in)
+
+    connected : IsConnected (graph_of ids rows)
+    connected = connected_from_marks ids rows as_ids joined.as_rows are_graph marks found all_marked
+
+    pub parts : AreParts ids rows (length links)
+    parts = record {
+      as_ids = as_ids;
+      as_rows = joined.as_rows;
+      connected = connected;
+      counted = links_counted nodes ids links rows (graph_of_lists nodes ids as_ids sorted links apart rows joined) joined.distinct apart.different;
+    }
+
+    pub topology_of_lists : IsTopologyOf nodes links (graph_of ids rows)
+    topology_of_lists =
+        let of_lists = graph_of_lists nodes ids as_ids sorted links apart rows joined in
+        record {
+          sound = clean_all nodes links (clean_lists nodes ids as_ids sorted links few apart.known apart.different joined.distinct)
+              (λ n x. no_cut_off nodes links (graph_of ids rows) x.0 of_lists connected x.1 x.2 n x.3);
+          exact = of_lists;
+        }
+
+  pub cut_off_first : (i : ℕ) → Some i ≡ position (λ m. eqb m (length ids)) marks → IsFirstFault nodes links (Disconnected (get_or ids i 0))
+  cut_off_first i at =
+      let place = position-Some (λ m. eqb m (length ids)) marks i 0 (sym at) in
+      first_fault nodes links (Disconnected (get_or ids i 0)) 8 refl
+      (clean_lists nodes ids as_ids sorted links few apart.known apart.different joined.distinct) (
+        graph_of ids rows,
+        are_graph,
+        graph_of_lists nodes ids as_ids sorted links apart rows joined,
+        cut_off_from_marks ids rows as_ids joined.as_rows are_graph marks found i (omega (arith, place.0, found.are_reached.count))
+            (eqb-true (get_or marks i 0) (length ids) place.1)
+            (λ k low. eqb-false (get_or marks k 0) (length ids) (place.2 k low)),
+      )
+
+-- the same, where the parts are vectors that were lent to the calls
+module _ (nodes ids : List ℕ) (links : List (ℕ × ℕ)) (near : Vec (Vec ℕ Global) Global) (as_ids : AreIds ids) (sorted : AreSorted nodes ids) (few : length links ≤ MAX_LINKS)
+    (lent_ids : List ℕ) (ids_are : lent_ids ≡ ids) (apart : AreApart lent_ids links) (joined : AreJoined lent_ids links (rows_of near.items))
+    (lent_near : List (Vec ℕ Global)) (near_is : lent_near ≡ near.items) (marks : List ℕ) (found : AreDistances (length lent_near) (rows_of lent_near) 0 marks)
+    (lent_marks : List ℕ) (marks_are : lent_marks ≡ marks) (count : ℕ) (count_is : count ≡ vec_len near) where
+  apart_ids : AreApart ids links
+  apart_ids = subst (λ xs. AreApart xs links) ids_are apart
+
+  joined_ids : AreJoined ids links (rows_of near.items)
+  joined_ids = subst (λ xs. AreJoined xs links (rows_of near.items)) ids_are joined
+
+  rows_count : length near.items ≡ length ids
+  rows_count = sym (length-map near.items (λ row. row.items)) ∙ joined_ids.as_rows.count
+
+  found_ids : AreDistances (length ids) (rows_of near.items) 0 marks
+  found_ids =
+      subst (λ n. AreDistances n (rows_of near.items) 0 marks) rows_count (subst (λ v. AreDistances (length v) (rows_of v) 0 marks) near_is found)
+
+  place_of_count : (o : Option ℕ) → o ≡ position (λ m. eqb m count) lent_marks → o ≡ position (λ m. eqb m (length ids)) marks
+  place_of_count o at =
+      subst₂ (λ n xs. o ≡ position (λ m. eqb m n) xs) (omega (arith, count_is, near.ok.0, rows_count)) marks_are at
+
+  pub lent_parts : None ≡ position (λ m. eqb m count) lent_marks → AreParts ids (rows_of near.items) (length links)
+  lent_parts none = parts nodes ids links (rows_of near.items) as_ids sorted few apart_ids joined_ids marks found_ids (place_of_count None none)
+
+  pub lent_topology : None ≡ position (λ m. eqb m count) lent_marks → IsTopologyOf nodes links (graph_of ids (rows_of near.items))
+  lent_topology none =
+      topology_of_lists nodes ids links (rows_of near.items) as_ids sorted few apart_ids joined_ids marks found_ids (place_of_count None none)
+
+  pub lent_cut_off : (i x : ℕ) → Some i ≡ position (λ m. eqb m count) lent_marks → x ≡ get_or ids i x → IsFirstFault nodes links (Disconnected x)
+  lent_cut_off i x at read =
+      let place = place_of_count (Some i) at in
+      let within : i < length ids = omega (arith, (position-Some (λ m. eqb m (length ids)) marks i 0 (sym place)).0, found_ids.are_reached.count) in
+      subst (λ y. IsFirstFault nodes links (Disconnected y)) (sym (get_or_read ids i x within read 0))
+      (cut_off_first nodes ids links (rows_of near.items) as_ids sorted few apart_ids joined_ids marks found_ids i place)
+
+-- the marks of a search in a topology are distances
+pub distance_in : (ids : List ℕ) (rows : List (List ℕ)) (count : ℕ) → AreParts ids rows count → (start : ℕ) → start < length ids → (marks : List ℕ) → AreDistances (length ids) rows start marks → (k : ℕ) → k < length ids →
+    (get_or marks k 0 < length ids) × IsDistance (graph_of ids rows) (get_or ids k 0) (get_or ids start 0) (get_or marks k 0)
+distance_in ids rows count are start within marks found k k_in =
+    distance_of_mark ids rows are.as_ids are.as_rows start marks found k k_in
+    (are.connected (get_or ids k 0) (get_or ids start 0) (Contains-get_or ids k 0 k_in) (Contains-get_or ids start 0 within))

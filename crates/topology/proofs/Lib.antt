@@ -1,0 +1,12 @@
+pub mod Ascending
+pub mod RowLemmas
+pub mod Inserting
+pub mod FirstItems
+pub mod Joining
+pub mod Levels
+pub mod FaultOrder
+pub mod Walks
+pub mod Assembling
+pub mod Counting
+pub mod Membership
+pub mod TopologyTexts

@@ -1,0 +1,10 @@
+pub mod Id
+pub mod Graph
+pub mod Rows
+pub mod Faults
+pub mod Building
+pub mod Searching
+pub mod FaultText
+pub mod TopologyText
+pub mod ReadFaultText
+pub mod Reading

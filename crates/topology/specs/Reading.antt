@@ -1,0 +1,14 @@
+-- What the clauses of the text's private functions cite.
+use Rattle.std.specs.Prelude.{◌≡◌, ◌≢◌, Result, Ok, Err, MatchResult}
+use Rattle.topology.specs.TopologyText.{Description}
+use Rattle.topology.specs.declared.text.ReadFault.{ReadFault}
+use Rattle.topology.specs.declared.text.ReadFault.TheVariants.{NoMemory}
+use Rattle.topology.specs.declared.text.Reading as code
+
+-- what was read, as a description
+abbrev pub reading_view : code.Reading → Description
+reading_view r = record { nodes = r.nodes.items; links = r.links.items; app = r.app }
+
+-- the result is what the text gives, unless memory ran out
+abbrev pub Gives : {A B : Type 0} → (A → B) → Result A ReadFault → Result B ReadFault → Type 0
+Gives view r read = MatchResult r (λ x. read ≡ Ok (view x)) (λ f. f ≢ NoMemory → read ≡ Err f)

@@ -1,0 +1,49 @@
+-- A graph kept as rows: for each index of an id, the indexes of its neighbours.
+use Rattle.std.specs.Prelude.{◌≡◌, ℕ, ◌<◌, ◌≤◌, Bool, true, false, List, [], All, map, length, slice_index, slice_index_or, ◌==◌, ◌*◌}
+use Rattle.std.specs.List.{list_any, flat_map, range_with_len}
+use Rattle.std.specs.List.Sorted.{IsStrictlyIncreasing}
+use Rattle.std.specs.FinSet as set
+use Rattle.topology.specs.Graph.{Graph, pair_cmp, IsConnected}
+use Rattle.topology.specs.Id.{IsId}
+use Rattle.topology.specs.declared.fault.TheConstants.{MAX_NODES}
+
+-- the row of an index
+abbrev pub row_at : List (List ℕ) → ℕ → List ℕ
+row_at rows i = slice_index_or rows i []
+
+-- whether the row of i has j
+abbrev pub near_has : List (List ℕ) → ℕ → ℕ → Bool
+near_has rows i j = list_any (λ y. y == j) (row_at rows i)
+
+-- the id at i with each id of its row
+abbrev pub pairs_at : List ℕ → List (List ℕ) → ℕ → List (ℕ × ℕ)
+pairs_at ids rows i = map (λ j. (slice_index ids i, slice_index ids j)) (row_at rows i)
+
+-- the pairs of all rows
+unfoldable pub links_of : List ℕ → List (List ℕ) → set.FinSet pair_cmp
+links_of ids rows = set.from_list (flat_map (pairs_at ids rows) (range_with_len 0 (length ids)))
+
+abbrev pub graph_of : List ℕ → List (List ℕ) → Graph
+graph_of ids rows = record { ids = ids; links = links_of ids rows }
+
+-- as many rows as there are indexes, each with ascending indexes, in both directions, none with its own
+pub record AreRows (n : ℕ) (rows : List (List ℕ)) : Type 0 where
+  pub count : length rows ≡ n
+  pub ascending : (i : ℕ) → IsStrictlyIncreasing (row_at rows i)
+  pub within : (i j : ℕ) → near_has rows i j ≡ true → j < n
+  pub symmetric : (i j : ℕ) → near_has rows i j ≡ near_has rows j i
+  pub irreflexive : (i : ℕ) → near_has rows i i ≡ false
+
+-- one to MAX_NODES identifiers, in ascending order
+pub record AreIds (ids : List ℕ) : Type 0 where
+  pub some : 0 < length ids
+  pub small : length ids ≤ MAX_NODES
+  pub valid : All IsId ids
+  pub ascending : IsStrictlyIncreasing ids
+
+-- what the fields of a topology are: connected rows, with two pairs for each link that is counted
+pub record AreParts (ids : List ℕ) (rows : List (List ℕ)) (count : ℕ) : Type 0 where
+  pub as_ids : AreIds ids
+  pub as_rows : AreRows (length ids) rows
+  pub connected : IsConnected (graph_of ids rows)
+  pub counted : 2 * count ≡ set.len (links_of ids rows)

@@ -1,0 +1,18 @@
+ghost use Rattle.std.specs.Prelude.{◌≡◌, ℕ, List, length};
+ghost use Rattle.topology.specs.Graph.{Graph, IsDistance, IsGraph, IsWalk};
+
+/// A walk of a graph leads back over as many links.
+pub fn walks_back()
+    ensures { (g : Graph) (a b : ℕ) (cs : List ℕ) → IsGraph g → IsWalk g a cs b
+        → (ds : List ℕ) × IsWalk g b ds a × (length ds ≡ length cs) }
+{}
+
+/// Two nodes have one distance.
+pub fn one_distance()
+    ensures { (g : Graph) (a b d e : ℕ) → IsDistance g a b d → IsDistance g a b e → d ≡ e }
+{}
+
+/// The distance of two nodes of a graph is the same in both directions.
+pub fn distance_back()
+    ensures { (g : Graph) (a b d : ℕ) → IsGraph g → IsDistance g a b d → IsDistance g b a d }
+{}

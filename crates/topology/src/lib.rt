@@ -1,0 +1,20 @@
+//! Topologies of the distributed reset service: graphs, their identifiers and their text.
+#![tactic(auto)]
+
+mod fault;
+mod id;
+mod laws;
+mod links;
+mod nodes;
+mod rows;
+mod search;
+#[cfg(test)]
+mod tests;
+mod text;
+mod topology;
+
+pub use fault::{MAX_LINKS, MAX_NODES, TopoFault};
+pub use id::NodeId;
+pub use laws::{distance_back, one_distance, walks_back};
+pub use text::{AppName, MAX_TEXT, ReadFault, read_topology};
+pub use topology::Topology;

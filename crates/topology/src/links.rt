@@ -1,0 +1,113 @@
+ghost use Rattle.std.specs.Prelude.{◌≡◌, ◌≢◌, ℕ, ◌<◌, ◌≤◌, List, [], true, All, IfErr, IfOk, MatchOption, OnOk, length, map, slice_index};
+ghost use Rattle.std.specs.List.Sorted.{IsStrictlyIncreasing};
+ghost use Rattle.topology.specs.Building.{AreApart, AreJoined, AreSorted, has};
+ghost use Rattle.topology.specs.Faults.{IsFirst, IsFirstFault, IsFirstRepeat, ends_of, ordered_links};
+ghost use Rattle.topology.specs.Rows.{AreIds};
+
+use crate::fault::{MAX_LINKS, TopoFault};
+use crate::rows::{empty_rows, link};
+use std::alloc::Global;
+
+/// The first end of a link that isn't one of the ids, which ascend.
+fn first_strange_end(ids: &[u32], links: &[(u32, u32)]) -> Option<u32>
+    requires { IsStrictlyIncreasing ids.now }
+    ensures { MatchOption result (All (λ x. has ids.now x ≡ true) (ends_of links.now))
+        (IsFirst (λ x. has ids.now x ≡ true → ⊥) (ends_of links.now)) }
+{
+    for (a, b) in links {
+        if ids.binary_search(a).is_err() {
+            return Some(*a);
+        }
+        if ids.binary_search(b).is_err() {
+            return Some(*b);
+        }
+    }
+    None
+}
+
+/// The node of the first link that leads from a node to itself.
+fn first_self_link(links: &[(u32, u32)]) -> Option<u32>
+    ensures { MatchOption result (All (λ l. l.0 ≢ l.1) links.now)
+        (λ n. IsFirst (λ l. l.0 ≡ l.1) links.now (n, n)) }
+{
+    for (a, b) in links {
+        if a == b {
+            return Some(*a);
+        }
+    }
+    None
+}
+
+/// The index of one of the ids, which ascend.
+fn index_among(ids: &[u32], id: u32) -> usize
+    requires ascending { IsStrictlyIncreasing ids.now }
+    requires member { has ids.now id ≡ true }
+    ensures within { result < length ids.now }
+    ensures value { slice_index ids.now result ≡ id }
+{
+    ids.binary_search(&id).unwrap()
+}
+
+/// Puts each link into the rows, or answers `TwiceLink` of the first that repeats an earlier one.
+fn link_all(ids: &[u32], links: &[(u32, u32)], near: &mut [Vec<usize>]) -> Result<(), TopoFault>
+    requires ascending { IsStrictlyIncreasing ids.now }
+    requires apart { AreApart ids.now links.now }
+    requires empty { AreJoined ids.now [] (map (λ row. row.items) near.old) }
+    ensures ok { OnOk result (AreJoined ids.now links.now (map (λ row. row.items) near.new)) }
+    ensures err { IfErr result (λ f. f ≢ TopoFault.NoMemory → (p : ℕ × ℕ)
+        × (f ≡ TopoFault.TwiceLink p.0 p.1) × IsFirstRepeat (ordered_links links.now) p) }
+{
+    for (a, b) in links {
+        let i = index_among(ids, *a);
+        let j = index_among(ids, *b);
+        if !link(near, i, j)? {
+            return Err(TopoFault::TwiceLink((*a).min(*b), (*a).max(*b)));
+        }
+    }
+    Ok(())
+}
+
+/// The rows of these links of the ids, or `TwiceLink` of the first that repeats an earlier one.
+fn linked_rows(
+    alloc: Global,
+    ids: &[u32],
+    links: &[(u32, u32)],
+) -> Result<Vec<Vec<usize>>, TopoFault>
+    requires ascending { IsStrictlyIncreasing ids.now }
+    requires apart { AreApart ids.now links.now }
+    ensures ok { IfOk result (λ near. AreJoined ids.now links.now (map (λ row. row.items) near.items)) }
+    ensures err { IfErr result (λ f. f ≢ TopoFault.NoMemory → (p : ℕ × ℕ)
+        × (f ≡ TopoFault.TwiceLink p.0 p.1) × IsFirstRepeat (ordered_links links.now) p) }
+{
+    let mut near = empty_rows(alloc, ids.len())?;
+    match link_all(ids, links, &mut near) {
+        Ok(()) => Ok(near),
+        Err(fault) => Err(fault),
+    }
+}
+
+/// The rows of these links of the ids, which ascend, or the first fault of the links.
+pub fn checked_rows(
+    alloc: Global,
+    ids: &[u32],
+    links: &[(u32, u32)],
+) -> Result<Vec<Vec<usize>>, TopoFault>
+    requires { IsStrictlyIncreasing ids.now }
+    ensures few { OnOk result (length links.now ≤ MAX_LINKS) }
+    ensures apart { OnOk result (AreApart ids.now links.now) }
+    ensures joined { IfOk result (λ near.
+        AreJoined ids.now links.now (map (λ row. row.items) near.items)) }
+    ensures err { IfErr result (λ f. f ≢ TopoFault.NoMemory → (nodes : List ℕ)
+        → AreIds ids.now → AreSorted nodes ids.now → IsFirstFault nodes links.now f) }
+{
+    if links.len() > MAX_LINKS {
+        return Err(TopoFault::TooManyLinks);
+    }
+    if let Some(end) = first_strange_end(ids, links) {
+        return Err(TopoFault::StrangeNode(end));
+    }
+    if let Some(node) = first_self_link(links) {
+        return Err(TopoFault::SelfLink(node));
+    }
+    linked_rows(alloc, ids, links)
+}

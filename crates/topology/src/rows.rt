@@ -1,0 +1,46 @@
+ghost use Rattle.std.specs.Prelude.{◌≡◌, ◌≢◌, ℕ, ◌<◌, ◌≤◌, false, IfOk, length, map};
+ghost use Rattle.std.specs.List.Sorted.{IsStrictlyIncreasing};
+ghost use Rattle.topology.specs.Building.{Inserts, Links};
+ghost use Rattle.topology.specs.Rows.{AreRows, near_has};
+
+use std::alloc::{AllocError, Global};
+
+/// Rows with no index, as many as `count`.
+pub fn empty_rows(alloc: Global, count: usize) -> Result<Vec<Vec<usize>>, AllocError>
+    ensures rows { IfOk result (λ near. AreRows count (map (λ row. row.items) near.items)) }
+    ensures empty { IfOk result (λ near. (i j : ℕ) → near_has (map (λ row. row.items) near.items) i j ≡ false) }
+{
+    let mut near = Vec::new(alloc);
+    for _index in 0..count {
+        near.push(Vec::new(alloc))?;
+    }
+    Ok(near)
+}
+
+/// Puts an index into a row that may have it already, and says whether it was new.
+fn insert_index(row: &mut Vec<usize>, index: usize) -> Result<bool, AllocError>
+    requires { IsStrictlyIncreasing row.old.items }
+    ensures { IfOk result (λ fresh. Inserts row.old.items index fresh row.new.items) }
+{
+    match row.binary_search(&index) {
+        Ok(_) => Ok(false),
+        Err(place) => {
+            row.insert(place, index)?;
+            Ok(true)
+        }
+    }
+}
+
+/// Puts two indexes into one another's rows, and says whether the link was new.
+pub fn link(near: &mut [Vec<usize>], i: usize, j: usize) -> Result<bool, AllocError>
+    requires rows { AreRows (length near.old) (map (λ row. row.items) near.old) }
+    requires i_within { i < length near.old }
+    requires j_within { j < length near.old }
+    requires different { i ≢ j }
+    ensures { IfOk result (λ fresh. Links (length near.old)
+        (map (λ row. row.items) near.old) i j fresh (map (λ row. row.items) near.new)) }
+{
+    let fresh = insert_index(&mut near[i], j)?;
+    let _ = insert_index(&mut near[j], i)?;
+    Ok(fresh)
+}

@@ -1,0 +1,149 @@
+ghost use Rattle.std.specs.Prelude.{◌≡◌, ◌≢◌, ℕ, ◌<◌, ◌≤◌, ◌*◌, ◌==◌, All, IfOk, IfErr, length, map, position, slice_get, slice_index};
+ghost use Rattle.std.specs.FinSet as set;
+ghost use Rattle.std.specs.List.Sorted.{IsStrictlyIncreasing};
+ghost use Rattle.topology.specs.Faults.{IsFirstFault, IsTopologyOf};
+ghost use Rattle.topology.specs.Graph.{IsConnected, IsDistance, IsGraph, are_linked, greatest, neighbours_of};
+ghost use Rattle.topology.specs.Id.{IsId};
+
+use crate::fault::{MAX_NODES, TopoFault};
+use crate::id::NodeId;
+use crate::links::checked_rows;
+use crate::nodes::checked_ids;
+use crate::search::{distances_to, first_free};
+use std::alloc::{AllocError, Global};
+use std::marker::Model;
+
+/// A connected graph of nodes with identifiers. A node goes by its identifier, or by its index in
+/// the ascending order of the identifiers.
+#[derive(Drop)]
+pub struct Topology {
+    ids: Vec<u32>,
+    near: Vec<Vec<usize>>,
+    link_count: usize,
+}
+
+impl Model for Topology {
+    ghost use Rattle.topology.specs.Graph.{Graph, graph_code};
+
+    ghost Value = { Graph };
+
+    ghost coded = { graph_code };
+
+    ghost use Rattle.std.specs.Prelude.{map};
+    ghost use Rattle.topology.specs.Rows.{graph_of, AreParts};
+
+    ghost view = { λ t. graph_of t.ids.items (map (λ row. row.items) t.near.items) };
+
+    ghost invariant = { λ t. AreParts t.ids.items (map (λ row. row.items) t.near.items) t.link_count };
+}
+
+impl Topology {
+    /// The number of nodes, at least one.
+    pub fn len(&self) -> usize
+        ensures { result ≡ length self.now.ids }
+    {
+        self.ids.len()
+    }
+
+    /// The number of links.
+    pub fn link_count(&self) -> usize
+        ensures { 2 * result ≡ set.len self.now.links }
+    {
+        self.link_count
+    }
+
+    /// What each topology is: a connected graph of at most `MAX_NODES` nodes.
+    pub fn is_graph(&self)
+        ensures graph { IsGraph self.now }
+        ensures connected { IsConnected self.now }
+        ensures small { length self.now.ids ≤ MAX_NODES }
+        ensures ids { All IsId self.now.ids }
+    {
+        let _ = &self.ids;
+    }
+
+    /// The identifier at this index. None from the number of nodes on.
+    pub fn id_at(&self, index: usize) -> Option<NodeId>
+        ensures { result ≡ slice_get self.now.ids index }
+    {
+        let ids = &self.ids;
+        match ids.get(index) {
+            Some(id) => NodeId::new(*id),
+            None => None,
+        }
+    }
+
+    /// The index of this identifier. None where it isn't a node's.
+    pub fn index_of(&self, id: u32) -> Option<usize>
+        ensures { result ≡ position (λ i. i == id) self.now.ids }
+    {
+        self.ids.binary_search(&id).ok()
+    }
+
+    /// The indexes of the neighbours of the node at this index, ascending.
+    pub fn neighbours(&self, index: usize) -> &[usize]
+        requires { index < length self.now.ids }
+        ensures ids { map (λ n. slice_index self.now.ids n) result.now
+            ≡ neighbours_of self.now (slice_index self.now.ids index) }
+        ensures within { All (λ n. n < length self.now.ids) result.now }
+        ensures ascending { IsStrictlyIncreasing result.now }
+    {
+        let near = &self.near;
+        near[index].as_slice()
+    }
+
+    /// Whether these two are nodes with a link between them.
+    pub fn linked(&self, a: u32, b: u32) -> bool
+        ensures { result ≡ are_linked self.now a b }
+    {
+        let near = &self.near;
+        match (self.index_of(a), self.index_of(b)) {
+            (Some(i), Some(j)) => near[i].binary_search(&j).is_ok(),
+            _ => false,
+        }
+    }
+
+    /// The greatest identifier.
+    pub fn greatest(&self) -> NodeId
+        ensures { result ≡ greatest self.now }
+    {
+        let ids = &self.ids;
+        NodeId::new(ids[ids.len() - 1]).unwrap()
+    }
+
+    /// The topology with these nodes and links, or the first fault of the lists.
+    pub fn build(alloc: Global, nodes: &[u32], links: &[(u32, u32)]) -> Result<Topology, TopoFault>
+        ensures ok { IfOk result (IsTopologyOf nodes.now links.now) }
+        ensures err { IfErr result (λ f. f ≢ TopoFault.NoMemory → IsFirstFault nodes.now links.now f) }
+    {
+        let ids = match checked_ids(alloc, nodes) {
+            Ok(ids) => ids,
+            Err(fault) => return Err(fault),
+        };
+        let near = match checked_rows(alloc, &ids, links) {
+            Ok(near) => near,
+            Err(fault) => return Err(fault),
+        };
+        let distances = distances_to(alloc, &near, 0)?;
+        match first_free(&distances, near.len()) {
+            Some(index) => Err(TopoFault::Disconnected(ids[index])),
+            None => Ok(Topology {
+                ids,
+                near,
+                link_count: links.len(),
+            }),
+        }
+    }
+
+    /// The number of links of a shortest walk from each node to the node at this index, by index.
+    pub fn distances_from(&self, alloc: Global, index: usize) -> Result<Vec<usize>, AllocError>
+        requires { index < length self.now.ids }
+        ensures count { IfOk result (λ ds. length ds.items ≡ length self.now.ids) }
+        ensures distances { IfOk result (λ ds. (k : ℕ) → k < length self.now.ids → IsDistance self.now
+            (slice_index self.now.ids k) (slice_index self.now.ids index) (slice_index ds.items k)) }
+        ensures below { IfOk result (λ ds. All (λ d. d < length self.now.ids) ds.items) }
+    {
+        let near = &self.near;
+        distances_to(alloc, near, index)
+    }
+}
