@@ -15,7 +15,7 @@ children_among ids t w id near = map (λ c. (c, w c)) (filter (λ c. (t c).fathe
 -- the next neighbour is a child or it isn't
 children_among-drop : (ids : List ℕ) (t : ℕ → TreeRegs) (w : ℕ → WaveRegs) (id : ℕ) (near : List ℕ) (i : ℕ) → i < length near →
     children_among ids t w id (drop i near) ≡ (let c = slice_index ids (slice_index near i) in
-        if (t c).father == id then (c, w c) ∷ children_among ids t w id (drop (i + 1) near) else children_among ids t w id (drop (i + 1) near))
+    if (t c).father == id then (c, w c) ∷ children_among ids t w id (drop (i + 1) near) else children_among ids t w id (drop (i + 1) near))
 children_among-drop ids t w id near i short =
     rw (drop-cons near i 0, add-one) (pushed (slice_index near i))
   where

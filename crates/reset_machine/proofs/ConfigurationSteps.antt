@@ -1,5 +1,5 @@
 -- A plan that is put is a step of the configuration, with its reply.
-use Rattle.std.proofs.Common.{◌≡◌, ◌≢◌, ℕ, ◌<◌, ◌==◌, Bool, true, false, cond, nat_eq, List, length, slice_index, slice_index_or, slice_set, position, Some, Result, Ok, refl, sym, ap, ◌∙◌, length-set, get_or-set_same, arith}
+use Rattle.std.proofs.Common.{◌≡◌, ℕ, ◌<◌, ◌==◌, cond, List, length, slice_set, position, Some, Result, Ok, refl, sym, ap, ◌∙◌, length-set, get_or-set_same, arith}
 use Rattle.std.proofs.lemmas.Bool.{eqb-true}
 use Rattle.std.proofs.lemmas.List.Quantifiers.{position-Some}
 use Rattle.topology.specs.Graph.{Graph, IsGraph, Changes}
@@ -11,13 +11,13 @@ use Rattle.reset_machine.specs.declared.event.Event.{Event}
 use Rattle.reset_machine.specs.declared.event.Event.TheVariants.{Request, Relay, Open, Join, Finish, Mend}
 use Rattle.reset_machine.specs.declared.step.Reply.{Reply}
 use Rattle.reset_machine.specs.declared.step.Reply.TheVariants.{Applied, Complete}
-use Rattle.reset_machine.specs.Configuration.{Configuration, tree_of, wave_of, tree_map, wave_map}
+use Rattle.reset_machine.specs.Configuration.{Configuration, tree_map, wave_map}
 use Rattle.reset_machine.specs.Steps.{event_node, IsStep, reply_of}
 use Rattle.reset_machine.specs.declared.step.StepRefusal.{StepRefusal}
 use Rattle.reset_machine.specs.Outcome.{outcome_of, moved, move_reply}
 use Rattle.reset_machine.specs.LocalSteps.{planned_of}
 use Rattle.reset_machine.proofs.Places.{value_at-position, value_at-set_other, put_at-position}
-use Rattle.reset_machine.proofs.PlannedSteps.{IsPlannedStep, planned_steps, completes_of}
+use Rattle.reset_machine.proofs.PlannedSteps.{IsPlannedStep, planned_steps}
 
 -- wave registers that are put at the place of a node change that node alone
 put_changes : (g : Graph) (waves : List WaveRegs) (i ix : ℕ) (regs : WaveRegs) → length waves ≡ length g.ids → position (λ k. k == i) g.ids ≡ Some ix → Changes g (wave_map g waves) i regs (wave_map g (slice_set waves ix regs))

@@ -1,7 +1,6 @@
 -- The values of ids that stand in a list in the order of the ids.
-use Rattle.std.proofs.Common.{◌≡◌, ◌≢◌, ℕ, zero, suc, ◌+◌, ◌<◌, Bool, true, false, cond, nat_eq, eqb, List, [], ◌∷◌, length, get_or, slice_index, slice_index_or, slice_get, set, slice_set, Option, Some, None, is_some, nat_lt, position, Contains, ◌==◌, refl, ap, sym, ◌∙◌, subst, arith, rules}
+use Rattle.std.proofs.Common.{◌≡◌, ◌≢◌, ℕ, zero, suc, ◌<◌, Bool, true, false, cond, nat_eq, List, [], ◌∷◌, length, slice_index, slice_index_or, slice_set, Some, None, is_some, nat_lt, position, Contains, ◌==◌, refl, ap, sym, ◌∙◌, subst, arith}
 use Rattle.std.specs.List.Sorted.{IsStrictlyIncreasing}
-use Rattle.std.proofs.lemmas.Grind.{common_steps}
 use Rattle.std.proofs.lemmas.Bool.Decides.{nat_tests}
 use Rattle.std.proofs.lemmas.Bool.{eqb-true, eq-eqb, ne_eqb, false≢true}
 use Rattle.std.specs.List.{list_any, position_or_len}
@@ -67,6 +66,7 @@ list_any-position ids id = short ids ∙ sym (some_place _ _)
     short : (ks : List ℕ) → list_any (λ i. i == id) ks ≡ nat_lt (position_or_len (λ i. i == id) ks) (length ks)
     short [] = refl
     short (k ∷ ks) = let rest = short ks in grind (arith, nat_tests)
+
     some_place : (b : Bool) (n : ℕ) → is_some (cond b (Some n) None) ≡ b
     some_place true n = refl
     some_place false n = refl

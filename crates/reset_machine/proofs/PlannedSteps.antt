@@ -1,12 +1,11 @@
 -- What is planned on a node's view is a step of the whole configuration, or its first refusal.
-use Rattle.std.proofs.Common.{◌≡◌, ◌≢◌, ℕ, ◌≤◌, ◌==◌, Bool, true, false, cond, ◌&&◌, nat_eq, List, [], ◌∷◌, map, Contains, Option, Some, None, Result, Ok, Err, MatchResult, refl, sym, ap, subst, ◌∙◌, ◌⊎◌, inl, inr, ⊎_elim, true≢false}
+use Rattle.std.proofs.Common.{◌≡◌, ℕ, ◌≤◌, Bool, true, false, cond, nat_eq, List, map, Option, Some, None, Result, Ok, Err, MatchResult, refl, sym, ap, subst, ◌∙◌, ◌⊎◌, inl, inr, ⊎_elim, true≢false}
 use Rattle.std.proofs.lemmas.Bool.{eqb-true, eq-eqb}
 use Rattle.topology.specs.Graph.{Graph, IsGraph, IsNode, AreLinked, are_linked}
 use Rattle.tree_layer.specs.declared.regs.TreeRegs.{TreeRegs}
 use Rattle.wave_layer.specs.declared.regs.WaveRegs.{WaveRegs}
 use Rattle.wave_layer.specs.declared.regs.Phase.{Phase}
 use Rattle.wave_layer.specs.declared.regs.Phase.TheVariants.{Normal, Initiate, Reset}
-use Rattle.wave_layer.specs.declared.regs.FatherSeen.{FatherSeen}
 use Rattle.wave_layer.specs.declared.regs.FatherSeen.TheVariants.{Itself, Lost, Is}
 use Rattle.wave_layer.specs.declared.regs.WaveMove.{WaveMove}
 use Rattle.wave_layer.specs.WaveTable.{is_reset, is_root, father_regs, child_regs, children_done, next_session}
@@ -83,9 +82,11 @@ module _ (g : Graph) (t : ℕ → TreeRegs) (w : ℕ → WaveRegs) (graph : IsGr
           let reset : is_reset (w (t i).father).phase ≡ true = ap (λ r. is_reset r.phase) (sym seen.1) ∙ h.reset in
           let next : (w (t i).father).session ≡ next_session (w i).session = ap (λ r. r.session) (sym seen.1) ∙ h.next in
           ⊎_elim (λ p. join_normal _ seen.0 reset p next) (λ p. join_asked _ seen.0 reset p next) (awake_phase _ h.awake)
+
       back : Joins g t w i → IsInvited (w i).phase (w i).session (father_seen g t w i)
       back (join_normal j father reset p next) = record { up = w j; father = father_seen-IsFather g t w i graph j father; reset = reset; awake = ap is_reset p; next = next }
       back (join_asked j father reset p next) = record { up = w j; father = father_seen-IsFather g t w i graph j father; reset = reset; awake = ap is_reset p; next = next }
+
       same : IsInvited (w i).phase (w i).session (father_seen g t w i) → record { phase = Reset; session = (father_regs (w i) (father_seen g t w i)).session } ≡ wave_effect t w (Join i)
       same h =
           let after : WaveRegs → WaveRegs = λ r. record { phase = Reset; session = r.session } in
@@ -96,16 +97,22 @@ module _ (g : Graph) (t : ℕ → TreeRegs) (w : ℕ → WaveRegs) (graph : IsGr
     where
       there : ((w i).phase ≡ Reset) × (children_done (w i).session (children i) ≡ true) → Finishes g t w i
       there h = record { reset = h.0; children = λ c father. parts (is_reset (w c).phase) refl (each-children_done w (w i).session (children_of g t i) h.1 c (IsFather-is_child g t i c graph father)) }
+
       back : Finishes g t w i → ((w i).phase ≡ Reset) × (children_done (w i).session (children i) ≡ true)
-      back h = (h.reset, children_done-each w (w i).session (children_of g t i) (λ c among.
-          let done = h.children c (is_child-IsFather g t i c graph among) in
-          let number : nat_eq (w c).session (w i).session ≡ true = eq-eqb _ _ done.1 in
-          let awake : is_reset (w c).phase ≡ false = done.0 in
-          rw (awake, number) refl))
+      back h = (
+        h.reset,
+        children_done-each w (w i).session (children_of g t i) (λ c among.
+            let done = h.children c (is_child-IsFather g t i c graph among) in
+            let number : nat_eq (w c).session (w i).session ≡ true = eq-eqb _ _ done.1 in
+            let awake : is_reset (w c).phase ≡ false = done.0 in
+            rw (awake, number) refl),
+      )
+
       flag : (b d : Bool) (up : WaveRegs) → is_root (cond b Itself (cond d (Is up) Lost)) ≡ b
       flag true d up = refl
       flag false true up = refl
       flag false false up = refl
+
       root : is_root (father_seen g t w i) ≡ nat_eq (t i).father i
       root = flag (nat_eq (t i).father i) (are_linked g i (t i).father) (w (t i).father)
 
@@ -116,11 +123,13 @@ module _ (g : Graph) (t : ℕ → TreeRegs) (w : ℕ → WaveRegs) (graph : IsGr
       there h =
           let seen = IsFather-father_seen g t w i h.up h.father in
           mended (t i).father seen.0 (subst (Contradict (w i).phase (w i).session) seen.1 h.contradict)
+
       back : Mends g t w i → IsTorn (w i).phase (w i).session (father_seen g t w i)
       back (mend_reset j father above own) = record { up = w j; father = father_seen-IsFather g t w i graph j father; contradict = one_reset above own }
       back (mend_number j father above own number) = record { up = w j; father = father_seen-IsFather g t w i graph j father; contradict = other_number above own number }
       back (mend_both j father above own number) = record { up = w j; father = father_seen-IsFather g t w i graph j father; contradict = both_reset above own number }
       back (mend_late j father above own number next) = record { up = w j; father = father_seen-IsFather g t w i graph j father; contradict = too_late above own number next }
+
       same : IsTorn (w i).phase (w i).session (father_seen g t w i) → father_regs (w i) (father_seen g t w i) ≡ w (t i).father
       same h = ap (father_regs (w i)) h.father ∙ (IsFather-father_seen g t w i h.up h.father).1
 
@@ -160,6 +169,7 @@ module _ (g : Graph) (t : ℕ → TreeRegs) (w : ℕ → WaveRegs) (graph : IsGr
     where
       Steps : Result WaveMove StepRefusal → Type 0
       Steps r = MatchResult r (IsPlannedStep e) (IsRefused g t w e)
+
       at : (b d : Bool) → has g.ids (event_node e) ≡ b → is_neighbour g (event_node e) (named_node e) ≡ d → MatchResult r (IsPlannedStep e) (IsRefused g t w e)
       at false d node named = subst Steps (sym (planned_of-strange_node g t w e node) ∙ is) (strange_node (λ there. true≢false (sym (has-Contains g.ids (event_node e) there) ∙ node)))
       at true false node named =

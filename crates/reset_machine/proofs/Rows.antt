@@ -1,5 +1,5 @@
 -- What the rows of each event answer on a view, in terms of the view's parts.
-use Rattle.std.proofs.Common.{◌≡◌, ◌≢◌, ℕ, ◌+◌, ◌≤◌, ◌<◌, Bool, true, false, not, ◌&&◌, nat_eq, nat_lt, List, [], ◌∷◌, Option, Some, None, Result, Ok, Err, refl, sym, ap, subst, ◌∙◌, ◌⊎◌, inl, inr, arith}
+use Rattle.std.proofs.Common.{◌≡◌, ◌≢◌, ℕ, ◌≤◌, Bool, true, false, nat_eq, nat_lt, List, [], ◌∷◌, Some, None, Result, Ok, Err, refl, sym, ap, subst, ◌∙◌, ◌⊎◌, inl, inr, arith}
 use Rattle.std.proofs.lemmas.Bool.{true≢false, ltb-true, ltb-false}
 use Rattle.std.proofs.lemmas.Bool.Decides.{eqb_tells}
 use Rattle.wave_layer.specs.declared.regs.WaveRegs.{WaveRegs}
@@ -8,7 +8,7 @@ use Rattle.wave_layer.specs.declared.regs.Phase.TheVariants.{Normal, Initiate, R
 use Rattle.wave_layer.specs.declared.regs.FatherSeen.{FatherSeen}
 use Rattle.wave_layer.specs.declared.regs.FatherSeen.TheVariants.{Itself, Lost, Is}
 use Rattle.wave_layer.specs.declared.regs.WaveMove.{WaveMove}
-use Rattle.wave_layer.specs.WaveTable.{LocalView, is_reset, is_initiate, is_root, father_regs, children_done, child_regs, next_session}
+use Rattle.wave_layer.specs.WaveTable.{LocalView, is_reset, is_root, father_regs, children_done, child_regs, next_session}
 use Rattle.reset_machine.specs.declared.step.StepRefusal.{StepRefusal}
 use Rattle.reset_machine.specs.declared.step.StepRefusal.TheVariants.{StrangeNode, StrangeNeighbour, NotEnabled, SessionsSpent, NoMemory}
 use Rattle.reset_machine.specs.LocalSteps.{step_answer, fired_first}
@@ -78,8 +78,10 @@ join_answers p s (Is up) cs = at p up.phase up.session (eqb_tells up.session (ne
   where
     up_of : {q : Phase} {u : ℕ} {p : Phase} (e : IsInvited p s (Is (record { phase = q; session = u }))) → record { phase = q; session = u } ≡ e.up
     up_of e = let h = e.father in cc
+
     asleep : {A : Type 0} {q : Phase} {u : ℕ} {p : Phase} → IsInvited p s (Is (record { phase = q; session = u })) → is_reset q ≡ false → A
     asleep e not_reset = absurd (true≢false (sym e.reset ∙ sym (ap (λ r. is_reset r.phase) (up_of e)) ∙ not_reset))
+
     at : (p q : Phase) (u : ℕ) → ((nat_eq u (next_session s) ≡ true) × (u ≡ next_session s)) ⊎ ((nat_eq u (next_session s) ≡ false) × (u ≢ next_session s)) →
         IsAnswer (step_answer (fired_first (seen p s (Is (record { phase = q; session = u })) cs) None (4 ∷ 5 ∷ []))) (IsInvited p s (Is (record { phase = q; session = u }))) ⊥ (record { phase = Reset; session = u }) false
     at p Normal u t = λ e. asleep e refl
@@ -155,8 +157,10 @@ mend_answers p s (Is up) cs = at (is_reset p) (is_reset up.phase) refl refl (eqb
   where
     torn : (Contradict p s up → ⊥) → IsTorn p s (Is up) → ⊥
     torn none e = none (subst (Contradict p s) (let h = e.father in let k : e.up ≡ up = cc in k) e.contradict)
+
     tear : Contradict p s up → IsTorn p s (Is up)
     tear c = record { up = up; father = refl; contradict = c }
+
     at : (b d : Bool) → is_reset p ≡ b → is_reset up.phase ≡ d
         → ((nat_eq s up.session ≡ true) × (s ≡ up.session)) ⊎ ((nat_eq s up.session ≡ false) × (s ≢ up.session))
         → ((nat_eq up.session s ≡ true) × (up.session ≡ s)) ⊎ ((nat_eq up.session s ≡ false) × (up.session ≢ s))

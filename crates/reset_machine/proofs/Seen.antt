@@ -1,17 +1,15 @@
 -- What a node sees of its father and of its children.
-use Rattle.std.proofs.Common.{◌≡◌, ◌≢◌, ℕ, zero, suc, ◌<◌, ◌==◌, Bool, true, false, not, cond, ◌&&◌, ◌||◌, nat_eq, List, [], ◌∷◌, length, get_or, map, filter, Contains, Option, Some, None, refl, sym, ap, subst, ◌∙◌, ◌⊎◌, inl, inr, arith, true≢false}
-use Rattle.std.specs.List.{list_any, list_all}
+use Rattle.std.proofs.Common.{◌≡◌, ◌≢◌, ℕ, ◌==◌, Bool, true, false, not, cond, ◌&&◌, ◌||◌, nat_eq, List, [], ◌∷◌, map, Some, None, refl, sym, ap, subst, ◌∙◌, ◌⊎◌, inl, inr, true≢false}
 use Rattle.std.proofs.lemmas.Bool.{eq-eqb, ne_eqb, eqb-true}
-use Rattle.std.proofs.lemmas.Bool.Decides.{eqb_tells, nat_tests}
+use Rattle.std.proofs.lemmas.Bool.Decides.{eqb_tells}
 use Rattle.topology.specs.Building.{has}
 use Rattle.topology.proofs.Membership.{has-Contains, has-filter}
-use Rattle.topology.specs.Graph.{Graph, IsGraph, IsNode, AreLinked, are_linked, neighbours_of}
+use Rattle.topology.specs.Graph.{Graph, IsGraph, AreLinked, are_linked, neighbours_of}
 use Rattle.tree_layer.specs.declared.regs.TreeRegs.{TreeRegs}
 use Rattle.wave_layer.specs.declared.regs.WaveRegs.{WaveRegs}
-use Rattle.wave_layer.specs.declared.regs.FatherSeen.{FatherSeen}
 use Rattle.wave_layer.specs.declared.regs.FatherSeen.TheVariants.{Itself, Lost, Is}
 use Rattle.wave_layer.specs.WaveTable.{is_reset, child_regs, children_done}
-use Rattle.reset_machine.specs.Steps.{IsFather, reset_at}
+use Rattle.reset_machine.specs.Steps.{IsFather}
 use Rattle.reset_machine.specs.LocalSteps.{father_seen, children_of}
 
 module _ (g : Graph) (t : ℕ → TreeRegs) (w : ℕ → WaveRegs) (i : ℕ) where

@@ -1,5 +1,5 @@
 -- What an event makes of a configuration: its reply and the configuration after it, or the first refusal.
-use Rattle.std.specs.Prelude.{◌≡◌, ℕ, if◌then◌else◌, List, length, replicate, Result, Ok, Err}
+use Rattle.std.specs.Prelude.{◌≡◌, if◌then◌else◌, length, replicate, Result, Ok, Err}
 use Rattle.topology.specs.Graph.{Graph}
 use Rattle.tree_layer.specs.BootTree.{AreBooted}
 use Rattle.wave_layer.specs.declared.regs.WaveMove.{WaveMove}

@@ -7,10 +7,9 @@ mod event;
 mod plan;
 mod put;
 mod step;
-mod text;
-
 #[cfg(test)]
 mod tests;
+mod text;
 
 pub use config::Config;
 pub use event::Event;

@@ -71,7 +71,10 @@ fn refuses_in_order(rt: HostRuntime) {
     let refused = [
         (Event::Request { at: 9 }, StepRefusal::StrangeNode),
         (Event::Relay { at: 9, child: 9 }, StepRefusal::StrangeNode),
-        (Event::Relay { at: 3, child: 1 }, StepRefusal::StrangeNeighbour),
+        (
+            Event::Relay { at: 3, child: 1 },
+            StepRefusal::StrangeNeighbour,
+        ),
         (Event::Relay { at: 1, child: 2 }, StepRefusal::NotEnabled),
         (Event::Open { at: 3 }, StepRefusal::NotEnabled),
         (Event::Join { at: 1 }, StepRefusal::NotEnabled),

@@ -1,5 +1,5 @@
 -- The first neighbour one step nearer makes the registers that a node is booted with.
-use Rattle.std.proofs.Common.{◌≡◌, ◌≢◌, ℕ, zero, suc, ◌+◌, ◌-◌, ◌<◌, ◌≤◌, ◌&&◌, Bool, true, false, List, [], ◌∷◌, ◌++◌, length, map, slice_index, get_or, All, Contains, refl, sym, ap, subst, ◌∙◌, ◌⊎◌, inl, inr, ⊎_elim, arith, true≢false}
+use Rattle.std.proofs.Common.{◌≡◌, ◌≢◌, ℕ, ◌+◌, ◌-◌, ◌<◌, ◌≤◌, ◌&&◌, Bool, true, false, List, [], ◌∷◌, ◌++◌, length, map, slice_index, get_or, All, refl, sym, ap, subst, ◌∙◌, ◌⊎◌, inl, inr, arith, true≢false}
 use Rattle.std.specs.List.Sorted.{IsStrictlyIncreasing}
 use Rattle.std.proofs.lemmas.Bool.{cases_lt}
 use Rattle.std.proofs.lemmas.List.{get_or_default, get_or-map, length-map, get_or_append_left}
@@ -7,7 +7,7 @@ use Rattle.std.proofs.Math.Seq.{get_or-append_seam}
 use Rattle.std.proofs.lemmas.List.Kept.{AllPairs-from_increasing}
 use Rattle.topology.specs.Building.{has}
 use Rattle.topology.proofs.Membership.{has-Contains, Contains-has, has-filter}
-use Rattle.topology.specs.Graph.{Graph, IsGraph, IsConnected, IsNode, AreLinked, are_linked, neighbours_of, greatest, IsWalk, IsReached, IsDistance, IsLeader}
+use Rattle.topology.specs.Graph.{Graph, IsGraph, IsConnected, IsNode, AreLinked, are_linked, neighbours_of, greatest, IsWalk, IsDistance, IsLeader}
 use Rattle.tree_layer.specs.declared.regs.TreeRegs.{TreeRegs}
 use Rattle.tree_layer.specs.BootTree.{IsNearer, IsBooted, AreDistances, IsFirstNearer, NoneNearer}
 
@@ -26,6 +26,7 @@ at_most_greatest g graph i node = at (cases_lt node.0 (length g.ids - 1))
   where
     read : slice_index g.ids node.0 ≡ i
     read = get_or_default g.ids node.0 0 i node.1 ∙ node.2
+
     at : (node.0 < length g.ids - 1) ⊎ (length g.ids - 1 ≤ node.0) → i ≤ greatest g
     at (inl below) = omega (arith, AllPairs-from_increasing g.ids graph.ascending node.0 (length g.ids - 1) 0 below (omega (arith, node.1)), read)
     at (inr last) =
@@ -41,8 +42,8 @@ index_node g ix short = (ix, short, get_or_default g.ids ix _ 0 short)
 -- the greatest id is the leader of each node of a connected graph
 greatest_leads : (g : Graph) → IsGraph g → IsConnected g → (i : ℕ) → IsNode g i → IsLeader g i (greatest g)
 greatest_leads g graph connected i node = record {
-    reached = connected i (greatest g) node (greatest_node g graph);
-    greatest = λ j reached. at_most_greatest g graph j (reached_node g graph i reached.0 j node reached.1);
+  reached = connected i (greatest g) node (greatest_node g graph);
+  greatest = λ j reached. at_most_greatest g graph j (reached_node g graph i reached.0 j node reached.1);
 }
 
 module _ (g : Graph) (graph : IsGraph g) (connected : IsConnected g) (distances : List ℕ) (are : AreDistances g (greatest g) distances)
@@ -131,11 +132,11 @@ module _ (g : Graph) (graph : IsGraph g) (connected : IsConnected g) (distances 
   -- without one, at the leader
   pub booted_top : NoneNearer near distances d → IsBooted g i (record { root = greatest g; father = greatest g; dist = d })
   booted_top none = record {
-      root = greatest_leads g graph connected i (index_node g ix short);
-      dist = are.each ix short;
-      top = λ same. sym same;
-      father = λ other. absurd (first_step none (are.each ix short).walk.0 (are.each ix short).walk.1 (are.each ix short).walk.2 other);
-      least = λ j h. let at = nearer_index j h in absurd (none at.0 at.1 at.3);
+    root = greatest_leads g graph connected i (index_node g ix short);
+    dist = are.each ix short;
+    top = λ same. sym same;
+    father = λ other. absurd (first_step none (are.each ix short).walk.0 (are.each ix short).walk.1 (are.each ix short).walk.2 other);
+    least = λ j h. let at = nearer_index j h in absurd (none at.0 at.1 at.3);
   }
 
 -- one more node's registers

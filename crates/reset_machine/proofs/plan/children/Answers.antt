@@ -1,4 +1,4 @@
-use Rattle.std.proofs.Common.{◌≡◌, ◌<◌, ◌==◌, ◌++◌, ℕ, List, length, ap, sym, ◌∙◌, slice_index, map, filter, arith, append-nil}
+use Rattle.std.proofs.Common.{◌<◌, ◌==◌, ◌++◌, ℕ, List, length, ap, sym, ◌∙◌, slice_index, map, filter, arith, append-nil}
 use Rattle.std.proofs.lemmas.List.{at_drop_all}
 use Rattle.std.proofs.lemmas.List.Quantifiers.{position-Some}
 use Rattle.std.proofs.lemmas.Bool.{eqb-true}

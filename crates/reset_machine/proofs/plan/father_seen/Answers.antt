@@ -1,4 +1,4 @@
-use Rattle.std.proofs.Common.{◌≡◌, sym, ◌∙◌, arith, slice_index_or}
+use Rattle.std.proofs.Common.{sym, ◌∙◌, arith, slice_index_or}
 use Rattle.std.proofs.lemmas.Bool.Decides.{nat_tests}
 use Rattle.topology.specs.Graph.{AreLinked}
 use Rattle.wave_layer.specs.declared.regs.Phase.TheVariants.{Normal}

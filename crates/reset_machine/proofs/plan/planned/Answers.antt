@@ -3,7 +3,7 @@ use Rattle.std.specs.List.Sorted.{IsStrictlyIncreasing}
 use Rattle.wave_layer.specs.declared.regs.WaveRegs.{WaveRegs}
 use Rattle.wave_layer.specs.declared.regs.Phase.TheVariants.{Normal}
 use Rattle.reset_machine.specs.Configuration.{tree_map, wave_map}
-use Rattle.reset_machine.specs.Steps.{named_node, event_node}
+use Rattle.reset_machine.specs.Steps.{named_node}
 use Rattle.reset_machine.specs.LocalSteps.{planned_of, step_answer, fired_first, cases_of}
 use Rattle.reset_machine.proofs.Places.{value_at-position, found_is_node, unfound_is_no_node}
 use Rattle.reset_machine.proofs.Children.{children_ascend}

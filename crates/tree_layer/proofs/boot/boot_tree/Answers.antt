@@ -1,4 +1,4 @@
-use Rattle.std.proofs.Common.{◌≡◌, ◌+◌, ap, ◌∙◌, length, arith, length-append}
+use Rattle.std.proofs.Common.{◌+◌, ap, ◌∙◌, arith, length-append}
 use Rattle.tree_layer.proofs.Booting.{each_more}
 use Rattle.tree_layer.proofs.boot.boot_tree.Goals as goal
 

@@ -1,4 +1,4 @@
-use Rattle.std.proofs.Common.{◌≡◌, ap, sym, ◌∙◌, List, subst}
+use Rattle.std.proofs.Common.{◌∙◌}
 use Rattle.reset_machine.specs.Configuration.{tree_map, wave_map}
 use Rattle.reset_machine.proofs.PlannedSteps.{planned_steps}
 use Rattle.reset_machine.proofs.ConfigurationSteps.{put_is_step, planned_reply, put_outcome}
