@@ -63,11 +63,12 @@ all_some (o ∷ os) = option_and_then (λ x. option_map (λ xs. x ∷ xs) (all_s
 abbrev pub array_of : {X : Type 0} → (Data → Option X) → Data → Option (List X)
 array_of kind d = option_and_then (λ ds. all_some (map kind (list_of ds))) (as_array d)
 
--- an integer from 0 to 4294967295
+-- the number, if it is from 0 to 4294967295
 abbrev pub in_range : ℤ → Option ℕ
 in_range (pos n) = if nat_lt n (2 ^ 32) then Some n else None
 in_range (negsuc n) = None
 
+-- an integer from 0 to 4294967295
 unfoldable pub number_of : Data → Option ℕ
 number_of d = option_and_then in_range (as_integer d)
 
