@@ -1,0 +1,242 @@
+// What the run writes.
+
+ghost use Rattle.std.specs.Prelude.{◌≡◌, ◌≢◌, ℕ, [], ◌∷◌, ◌++◌, codes, List, IfOk, IfErr, OnOk, OnErr};
+ghost use Rattle.std.specs.List.{flat_map};
+ghost use Rattle.std.specs.Io.KnownBytes.{Appends};
+ghost use Rattle.reset_machine.specs.Written.{AppendsFront};
+ghost use Rattle.service_main.specs.Output.{bad_line_text, bad_topology_text, graph_fault_text, node_text, numbered, phase_name, refusal_text, reply_text, too_long_text, numbered_twice};
+ghost use Rattle.service_main.specs.Parts.{part_text};
+
+use crate::script::Command;
+use crate::status::RunStop;
+use reset_machine::{Config, Event, Reply, StepRefusal, WriteFault, put_bytes, put_number};
+use std::alloc::Global;
+use std::io::Write;
+use topology::{ReadFault, TopoFault};
+use tree_layer::TreeRegs;
+use wave_layer::{Phase, WaveRegs};
+
+// A part of a line.
+#[derive(Clone, Copy)]
+enum Part<'t> {
+    Text(&'t [u8]),
+    Number(u64),
+}
+
+// Writes the parts, one after the other.
+fn put_parts<W: Write>(out: &mut W, parts: &[Part<'_>]) -> Result<(), WriteFault>
+    ensures ok { OnOk result (Appends (W.contents out.old) (W.contents out.new) (flat_map part_text parts.now)) }
+    ensures err { OnErr result (AppendsFront (W.contents out.old) (W.contents out.new) (flat_map part_text parts.now)) }
+{
+    for part in parts {
+        put_part(out, *part)?;
+    }
+    Ok(())
+}
+
+fn put_part<W: Write>(out: &mut W, part: Part<'_>) -> Result<(), WriteFault>
+    ensures ok { OnOk result (Appends (W.contents out.old) (W.contents out.new) (part_text part.entry)) }
+    ensures err { OnErr result (AppendsFront (W.contents out.old) (W.contents out.new) (part_text part.entry)) }
+{
+    match part {
+        Part::Text(text) => put_bytes(out, text),
+        Part::Number(number) => put_number(out, number),
+    }
+}
+
+/// Writes what the fault of a topology text is answered with.
+pub fn put_topology_fault<W: Write>(out: &mut W, fault: ReadFault) -> Result<(), WriteFault>
+    ensures ok { OnOk result (Appends (W.contents out.old) (W.contents out.new) (bad_topology_text fault)) }
+    ensures err { OnErr result (AppendsFront (W.contents out.old) (W.contents out.new) (bad_topology_text fault)) }
+{
+    match fault {
+        ReadFault::TextTooLong => put_bytes(out, b"bad topology TextTooLong\n"),
+        ReadFault::NotToml => put_bytes(out, b"bad topology NotToml\n"),
+        ReadFault::MissingKey => put_bytes(out, b"bad topology MissingKey\n"),
+        ReadFault::UnknownKey => put_bytes(out, b"bad topology UnknownKey\n"),
+        ReadFault::WrongKind => put_bytes(out, b"bad topology WrongKind\n"),
+        ReadFault::UnknownApp => put_bytes(out, b"bad topology UnknownApp\n"),
+        ReadFault::Topology(fault) => put_graph_fault(out, fault),
+        ReadFault::NoMemory => put_bytes(out, b"bad topology NoMemory\n"),
+    }
+}
+
+fn put_graph_fault<W: Write>(out: &mut W, fault: TopoFault) -> Result<(), WriteFault>
+    ensures ok { OnOk result (Appends (W.contents out.old) (W.contents out.new) (graph_fault_text fault)) }
+    ensures err { OnErr result (AppendsFront (W.contents out.old) (W.contents out.new) (graph_fault_text fault)) }
+{
+    match fault {
+        TopoFault::NoNodes => put_bytes(out, b"bad topology NoNodes\n"),
+        TopoFault::TooManyNodes => put_bytes(out, b"bad topology TooManyNodes\n"),
+        TopoFault::BadId(id) => put_node_fault(out, b"bad topology BadId ", id),
+        TopoFault::TwiceNode(id) => put_node_fault(out, b"bad topology TwiceNode ", id),
+        TopoFault::TooManyLinks => put_bytes(out, b"bad topology TooManyLinks\n"),
+        TopoFault::StrangeNode(id) => put_node_fault(out, b"bad topology StrangeNode ", id),
+        TopoFault::SelfLink(id) => put_node_fault(out, b"bad topology SelfLink ", id),
+        TopoFault::TwiceLink(a, b) => put_link_fault(out, b"bad topology TwiceLink ", a, b),
+        TopoFault::Disconnected(id) => put_node_fault(out, b"bad topology Disconnected ", id),
+        TopoFault::NoMemory => put_bytes(out, b"bad topology NoMemory\n"),
+    }
+}
+
+fn put_link_fault<W: Write>(out: &mut W, text: &[u8], a: u32, b: u32) -> Result<(), WriteFault>
+    ensures ok { OnOk result (Appends (W.contents out.old) (W.contents out.new) (numbered_twice text.now a b)) }
+    ensures err { OnErr result (AppendsFront (W.contents out.old) (W.contents out.new) (numbered_twice text.now a b)) }
+{
+    let first = Part::Number(u64::from(a));
+    let second = Part::Number(u64::from(b));
+    put_parts(
+        out,
+        &[
+            Part::Text(text),
+            first,
+            Part::Text(b" "),
+            second,
+            Part::Text(b"\n"),
+        ],
+    )
+}
+
+// Writes a line that ends with a number.
+fn put_node_fault<W: Write>(out: &mut W, text: &[u8], id: u32) -> Result<(), WriteFault>
+    ensures ok { OnOk result (Appends (W.contents out.old) (W.contents out.new) (numbered text.now id)) }
+    ensures err { OnErr result (AppendsFront (W.contents out.old) (W.contents out.new) (numbered text.now id)) }
+{
+    put_numbered(out, text, u64::from(id))
+}
+
+// Writes a line that ends with a number.
+fn put_numbered<W: Write>(out: &mut W, text: &[u8], number: u64) -> Result<(), WriteFault>
+    ensures ok { OnOk result (Appends (W.contents out.old) (W.contents out.new) (numbered text.now number)) }
+    ensures err { OnErr result (AppendsFront (W.contents out.old) (W.contents out.new) (numbered text.now number)) }
+{
+    put_parts(
+        out,
+        &[Part::Text(text), Part::Number(number), Part::Text(b"\n")],
+    )
+}
+
+/// Writes what a script that is too long is answered with.
+pub fn put_too_long<W: Write>(out: &mut W) -> Result<(), WriteFault>
+    ensures ok { OnOk result (Appends (W.contents out.old) (W.contents out.new) too_long_text) }
+    ensures err { OnErr result (AppendsFront (W.contents out.old) (W.contents out.new) too_long_text) }
+{
+    put_bytes(out, b"bad script TooLong\n")
+}
+
+/// Writes what a bad line is answered with.
+pub fn put_bad_line<W: Write>(out: &mut W, number: u64) -> Result<(), WriteFault>
+    ensures ok { OnOk result (Appends (W.contents out.old) (W.contents out.new) (bad_line_text number)) }
+    ensures err { OnErr result (AppendsFront (W.contents out.old) (W.contents out.new) (bad_line_text number)) }
+{
+    put_numbered(out, b"bad line ", number)
+}
+
+/// Does what the command asks for, and writes the answer. Want of memory changes and writes
+/// nothing.
+pub fn answer<W: Write>(
+    alloc: Global,
+    config: &mut Config,
+    command: Command,
+    out: &mut W,
+) -> Result<(), RunStop> {
+    match command {
+        Command::Step(event) => answer_step(alloc, config, event, out),
+        Command::Show => Ok(show_all(config, out)?),
+        Command::ShowNode(at) => Ok(show_node(config, at, out)?),
+    }
+}
+
+fn answer_step<W: Write>(
+    alloc: Global,
+    config: &mut Config,
+    event: Event,
+    out: &mut W,
+) -> Result<(), RunStop> {
+    match config.step(alloc, event) {
+        Ok(reply) => Ok(put_reply(out, reply)?),
+        Err(StepRefusal::NoMemory) => Err(RunStop::NoMemory),
+        Err(refusal) => Ok(put_refusal(out, refusal)?),
+    }
+}
+
+fn put_reply<W: Write>(out: &mut W, reply: Reply) -> Result<(), WriteFault>
+    ensures ok { OnOk result (Appends (W.contents out.old) (W.contents out.new) (reply_text reply)) }
+    ensures err { OnErr result (AppendsFront (W.contents out.old) (W.contents out.new) (reply_text reply)) }
+{
+    match reply {
+        Reply::Applied => put_bytes(out, b"applied\n"),
+        Reply::Complete(session) => put_numbered(out, b"complete ", u64::from(session)),
+    }
+}
+
+fn put_refusal<W: Write>(out: &mut W, refusal: StepRefusal) -> Result<(), WriteFault>
+    ensures ok { OnOk result (Appends (W.contents out.old) (W.contents out.new) (refusal_text refusal)) }
+    ensures err { OnErr result (AppendsFront (W.contents out.old) (W.contents out.new) (refusal_text refusal)) }
+{
+    match refusal {
+        StepRefusal::StrangeNode => put_bytes(out, b"refused StrangeNode\n"),
+        StepRefusal::StrangeNeighbour => put_bytes(out, b"refused StrangeNeighbour\n"),
+        StepRefusal::NotEnabled => put_bytes(out, b"refused NotEnabled\n"),
+        StepRefusal::SessionsSpent => put_bytes(out, b"refused SessionsSpent\n"),
+        StepRefusal::NoMemory => put_bytes(out, b"refused NoMemory\n"),
+    }
+}
+
+// Writes the line of each node, ascending.
+fn show_all<W: Write>(config: &Config, out: &mut W) -> Result<(), WriteFault> {
+    let topology = config.topology();
+    for index in 0..topology.len() {
+        if let Some(id) = topology.id_at(index) {
+            show_node(config, id.get(), out)?;
+        }
+    }
+    Ok(())
+}
+
+// Writes the line of a node, or that there is no such node.
+fn show_node<W: Write>(config: &Config, id: u32, out: &mut W) -> Result<(), WriteFault> {
+    match (config.tree_at(id), config.wave_at(id)) {
+        (Some(tree), Some(wave)) => put_node(out, id, tree, wave),
+        _ => put_refusal(out, StepRefusal::StrangeNode),
+    }
+}
+
+fn put_node<W: Write>(
+    out: &mut W,
+    id: u32,
+    tree: TreeRegs,
+    wave: WaveRegs,
+) -> Result<(), WriteFault>
+    ensures ok { OnOk result (Appends (W.contents out.old) (W.contents out.new) (node_text id tree wave)) }
+    ensures err { OnErr result (AppendsFront (W.contents out.old) (W.contents out.new) (node_text id tree wave)) }
+{
+    put_parts(
+        out,
+        &[
+            Part::Text(b"node "),
+            Part::Number(u64::from(id)),
+            Part::Text(b" tree "),
+            Part::Number(u64::from(tree.root)),
+            Part::Text(b" "),
+            Part::Number(u64::from(tree.father)),
+            Part::Text(b" "),
+            Part::Number(u64::from(tree.dist)),
+            Part::Text(b" wave "),
+            Part::Text(phase_name(wave.phase)),
+            Part::Text(b" "),
+            Part::Number(u64::from(wave.session)),
+            Part::Text(b" local -\n"),
+        ],
+    )
+}
+
+fn phase_name(phase: Phase) -> &'static [u8]
+    ensures { result.now ≡ phase_name phase }
+{
+    match phase {
+        Phase::Normal => b"normal",
+        Phase::Initiate => b"initiate",
+        Phase::Reset => b"reset",
+    }
+}
