@@ -9,7 +9,7 @@ run: build
 # Leaves the proved program at build/reset-service.
 build:
 	@mkdir -p build
-	@cd crates/service_main && rt run < /dev/null > out.log 2>&1 || { cat out.log; rm -f out.log; exit 1; }
+	@cd crates/service_main && rt run < stdin > out.log 2>&1 || { cat out.log; rm -f out.log; exit 1; }
 	@rm -f crates/service_main/out.log
 	@cp crates/service_main/out/service_main build/reset-service
 
