@@ -1,7 +1,7 @@
 -- The values of ids that stand in a list in the order of the ids.
-use Rattle.std.proofs.Common.{◌≡◌, ◌≢◌, ℕ, zero, suc, ◌<◌, Bool, true, false, cond, nat_eq, List, [], ◌∷◌, length, slice_index, slice_index_or, slice_set, Some, None, is_some, nat_lt, position, Contains, ◌==◌, refl, ap, sym, ◌∙◌, subst, arith}
+use Rattle.std.proofs.Common.{◌≡◌, ◌≢◌, ℕ, zero, suc, ◌<◌, Bool, true, false, cond, nat_eq, List, [], ◌∷◌, length, slice_index, slice_index_or, slice_set, Some, None, is_some, nat_lt, position, Contains, ◌==◌, ◌⊎◌, inl, inr, refl, ap, sym, ◌∙◌, subst, arith}
 use Rattle.std.specs.List.Sorted.{IsStrictlyIncreasing}
-use Rattle.std.proofs.lemmas.Bool.Decides.{nat_tests}
+use Rattle.std.proofs.lemmas.Bool.Decides.{nat_tests, eqb_tells}
 use Rattle.std.proofs.lemmas.Bool.{eqb-true, eq-eqb, ne_eqb, false≢true}
 use Rattle.std.specs.List.{list_any, position_or_len}
 use Rattle.std.proofs.lemmas.List.{get_or_default}
@@ -100,3 +100,27 @@ pub read_at-position : {X : Type 0} (d : X) (ids : List ℕ) (xs : List X) (ix i
 read_at-position d ids xs ix id x same found read =
     let place = position-Some (λ i. i == id) ids ix 0 found in
     read ∙ get_or_default xs ix x d (omega (arith, place.0)) ∙ sym (value_at-position d ids xs ix id same found)
+
+-- what is put at an id is its value, where it has a place
+pub value_at-put_at : {X : Type 0} (d : X) (ids : List ℕ) (xs : List X) (id : ℕ) (y : X) → length xs ≡ length ids → Contains ids id → value_at d ids (put_at ids xs id y) id ≡ y
+value_at-put_at d [] xs id y same there = absurd (omega (arith, there.1))
+value_at-put_at d (k ∷ ks) [] id y same there = absurd (omega arith)
+value_at-put_at d (k ∷ ks) (x ∷ xs) id y same there = at (eqb_tells k id) (value_at-put_at d ks xs id y (omega arith)) there
+  where
+    at : ((nat_eq k id ≡ true) × (k ≡ id)) ⊎ ((nat_eq k id ≡ false) × (k ≢ id)) → (Contains ks id → value_at d ks (put_at ks xs id y) id ≡ y) → Contains (k ∷ ks) id → value_at d (k ∷ ks) (put_at (k ∷ ks) (x ∷ xs) id y) id ≡ y
+    at (inl e) rest there = rw (e.0, e.0) refl
+    at (inr e) rest (zero, short, here) = absurd (e.1 here)
+    at (inr e) rest (suc n, short, here) = rw (e.0, e.0) (rest (n, omega arith, here))
+
+-- and the values of the other ids stay
+pub value_at-put_at_other : {X : Type 0} (d : X) (ids : List ℕ) (xs : List X) (id other : ℕ) (y : X) → other ≢ id → value_at d ids (put_at ids xs id y) other ≡ value_at d ids xs other
+value_at-put_at_other d [] xs id other y apart = refl
+value_at-put_at_other d (k ∷ ks) [] id other y apart = refl
+value_at-put_at_other d (k ∷ ks) (x ∷ xs) id other y apart = at (eqb_tells k id) (eqb_tells k other) (value_at-put_at_other d ks xs id other y apart)
+  where
+    at : ((nat_eq k id ≡ true) × (k ≡ id)) ⊎ ((nat_eq k id ≡ false) × (k ≢ id)) → ((nat_eq k other ≡ true) × (k ≡ other)) ⊎ ((nat_eq k other ≡ false) × (k ≢ other))
+        → value_at d ks (put_at ks xs id y) other ≡ value_at d ks xs other → value_at d (k ∷ ks) (put_at (k ∷ ks) (x ∷ xs) id y) other ≡ value_at d (k ∷ ks) (x ∷ xs) other
+    at (inl e) (inl f) rest = absurd (apart (sym f.1 ∙ e.1))
+    at (inl e) (inr f) rest = rw (e.0, f.0) refl
+    at (inr e) (inl f) rest = rw (e.0, f.0) refl
+    at (inr e) (inr f) rest = rw (e.0, f.0) rest

@@ -1,0 +1,5 @@
+use Rattle.reset_machine.proofs.ConfigurationSteps.{outcome_steps}
+use Rattle.reset_machine.proofs.laws.outcomes_are_steps.Goals as goal
+
+pub returns : goal.returns
+returns c = outcome_steps
