@@ -33,7 +33,7 @@ abbrev first_byte : List (List ℕ) → ℕ
 first_byte [] = 0
 first_byte (w ∷ ws) = get_or w 0 0
 
-event_not_show : (e : Event) (ws : List (List ℕ)) → event_words e ≡ codes "show" ∷ ws → ⊥
+pub event_not_show : (e : Event) (ws : List (List ℕ)) → event_words e ≡ codes "show" ∷ ws → ⊥
 event_not_show (Request at) ws h = omega (arith, ap first_byte h)
 event_not_show (Relay at child) ws h = omega (arith, ap first_byte h)
 event_not_show (Open at) ws h = omega (arith, ap first_byte h)

@@ -1,13 +1,18 @@
 -- What a run writes.
-use Rattle.std.specs.Prelude.{◌≡◌, ℕ, ◌+◌, ◌==◌, Bool, if◌then◌else◌, List, [], ◌∷◌, ◌++◌, codes, Option, Some, None, Result, Ok, Err}
+use Rattle.std.specs.Prelude.{◌≡◌, ℕ, ◌+◌, ◌<◌, ◌≤◌, nat_lt, ◌==◌, if◌then◌else◌, ◌⊎◌, List, [], ◌∷◌, ◌++◌, length, codes, Option, Result, Ok, Err}
 use Rattle.std.specs.Fmt.{decimal}
+use Rattle.std.specs.Io.KnownBytes.{Appends, Keeps}
 use Rattle.std.specs.List.{concat, flat_map, list_any}
+use Rattle.topology.specs.Graph.{Graph}
+use Rattle.topology.specs.Faults.{IsTopologyOf}
+use Rattle.topology.specs.TopologyText.{Description, IsReadFault, description_of}
 use Rattle.topology.specs.declared.fault.TopoFault.{TopoFault}
 use Rattle.topology.specs.declared.fault.TopoFault.TheVariants.{NoNodes, TooManyNodes, BadId, TwiceNode, TooManyLinks, SelfLink, TwiceLink, Disconnected}
 use Rattle.topology.specs.declared.fault.TopoFault.TheVariants as topo
 use Rattle.topology.specs.declared.text.ReadFault.{ReadFault}
 use Rattle.topology.specs.declared.text.ReadFault.TheVariants.{TextTooLong, NotToml, MissingKey, UnknownKey, WrongKind, UnknownApp, Topology}
 use Rattle.topology.specs.declared.text.ReadFault.TheVariants as read
+use Rattle.topology.specs.declared.text.TheConstants.{MAX_TEXT}
 use Rattle.tree_layer.specs.declared.regs.TreeRegs.{TreeRegs}
 use Rattle.wave_layer.specs.declared.regs.WaveRegs.{WaveRegs}
 use Rattle.wave_layer.specs.declared.regs.Phase.{Phase}
@@ -17,15 +22,21 @@ use Rattle.reset_machine.specs.declared.step.Reply.TheVariants.{Applied, Complet
 use Rattle.reset_machine.specs.declared.step.StepRefusal.{StepRefusal}
 use Rattle.reset_machine.specs.declared.step.StepRefusal.TheVariants.{StrangeNode, StrangeNeighbour, NotEnabled, SessionsSpent, NoMemory}
 use Rattle.reset_machine.specs.Configuration.{Configuration, tree_of, wave_of}
-use Rattle.reset_machine.specs.Outcome.{outcome_of}
+use Rattle.reset_machine.specs.Outcome.{IsBoot, outcome_of}
+use Rattle.reset_machine.specs.Written.{AppendsFront}
+use Rattle.service_main.specs.Lines.{ended, lines_of, IsCut}
+use Rattle.service_main.specs.Script.{line_of}
 use Rattle.service_main.specs.declared.script.Command.{Command}
 use Rattle.service_main.specs.declared.script.Command.TheVariants.{Step, Show, ShowNode}
+use Rattle.service_main.specs.declared.script.Line.{Line}
+use Rattle.service_main.specs.declared.script.Line.TheVariants.{Silent, Asks, Bad}
+use Rattle.service_main.specs.declared.status.Status.{Status}
+use Rattle.service_main.specs.declared.status.Status.TheVariants.{Good, BadInput}
+use Rattle.service_main.specs.declared.status.RunStop.{RunStop}
+use Rattle.service_main.specs.declared.status.RunStop.TheVariants.{ReadFailed, WriteFailed}
+use Rattle.service_main.specs.declared.status.RunStop.TheVariants as stop
 
 -- ---- lines
-
--- a text with its line feed
-abbrev pub ended : List ℕ → List ℕ
-ended text = text ++ (10 ∷ [])
 
 -- a line that ends with a number
 abbrev pub numbered : List ℕ → ℕ → List ℕ
@@ -85,3 +96,76 @@ too_long_text = ended (codes "bad script TooLong")
 
 abbrev pub bad_line_text : ℕ → List ℕ
 bad_line_text n = numbered (codes "bad line ") n
+
+-- ---- answers
+
+-- what a configuration becomes, and what is written
+abbrev pub stepped : Configuration → Result (Configuration × Reply) StepRefusal → Configuration × List ℕ
+stepped c (Ok r) = (r.0, reply_text r.1)
+stepped c (Err refusal) = (c, refusal_text refusal)
+
+-- the line of a node, as its registers stand
+abbrev pub shown : Configuration → ℕ → List ℕ
+shown c i = node_text i (tree_of c i) (wave_of c i)
+
+-- the answer to a command
+abbrev pub answered : Configuration → Command → Configuration × List ℕ
+answered c (Step e) = stepped c (outcome_of c e)
+answered c Show = (c, flat_map (shown c) c.graph.ids)
+answered c (ShowNode i) = (c, if list_any (λ k. k == i) c.graph.ids then shown c i else refusal_text StrangeNode)
+
+-- what a line leaves: the configuration, what is written, and whether the line is good
+pub record Answer : Type 0 where
+  pub config : Configuration
+  pub text : List ℕ
+  pub status : Status
+
+-- the answer to the n-th line
+abbrev pub answer_to : Configuration → ℕ → Line → Answer
+answer_to c n Silent = record { config = c; text = []; status = Good }
+answer_to c n (Asks command) = record { config = (answered c command).0; text = (answered c command).1; status = Good }
+answer_to c n Bad = record { config = c; text = bad_line_text n; status = BadInput }
+
+-- an output that goes on after a good line only
+abbrev pub followed : Status → List ℕ → List ℕ × Status → List ℕ × Status
+followed Good text rest = (text ++ rest.0, rest.1)
+followed BadInput text rest = (text, BadInput)
+
+-- the answers to lines, of which the first has the number n
+unfoldable pub answers : Configuration → ℕ → List (List ℕ) → List ℕ × Status
+answers c n [] = ([], Good)
+answers c n (line ∷ lines) =
+    followed (answer_to c n (line_of line)).status (answer_to c n (line_of line)).text (answers (answer_to c n (line_of line)).config (n + 1) lines)
+
+-- the answers to a script
+abbrev pub script_output : Configuration → List ℕ → List ℕ × Status
+script_output c script = if nat_lt MAX_TEXT (length script) then (too_long_text, BadInput) else answers c 1 (lines_of script)
+
+-- ---- the output of texts
+
+-- the booted configuration of a topology text
+abbrev pub IsBootOf : List ℕ → Configuration → Type 0
+IsBootOf topology c = (d : Description) × (g : Graph) × (description_of topology ≡ Ok d) × IsTopologyOf d.nodes d.links g × IsBoot g c
+
+-- what a run writes, and its status: the topology is judged before the script
+pub data IsOutput (topology script : List ℕ) (output : List ℕ × Status) : Type 0 where
+  bad_topology : (f : ReadFault) → IsReadFault topology f → output ≡ (bad_topology_text f, BadInput) → IsOutput topology script output
+  replayed : (c : Configuration) → IsBootOf topology c → output ≡ script_output c script → IsOutput topology script output
+
+-- the same of a joined text, which is judged by its length before it is cut
+pub data IsJoinedOutput (joined : List ℕ) (output : List ℕ × Status) : Type 0 where
+  too_long : MAX_TEXT < length joined → output ≡ (too_long_text, BadInput) → IsJoinedOutput joined output
+  cut : (topology script : List ℕ) → length joined ≤ MAX_TEXT → IsCut joined topology script → IsOutput topology script output → IsJoinedOutput joined output
+
+-- ---- what a run leaves
+
+-- a front of an output was written
+abbrev pub HasFront : (List ℕ × Status → Type 0) → Option (List ℕ) → Option (List ℕ) → Type 0
+HasFront O old new = (output : List ℕ × Status) × O output × AppendsFront old new output.0
+
+-- the run wrote an output and answers its status, or it was cut short
+abbrev pub Leaves : (List ℕ × Status → Type 0) → Option (List ℕ) → Option (List ℕ) → Result Status RunStop → Type 0
+Leaves O old new (Ok status) = (written : List ℕ) × O (written, status) × Appends old new written
+Leaves O old new (Err ReadFailed) = Keeps old new
+Leaves O old new (Err WriteFailed) = HasFront O old new
+Leaves O old new (Err stop.NoMemory) = Keeps old new ⊎ HasFront O old new

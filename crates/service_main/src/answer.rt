@@ -4,7 +4,9 @@ ghost use Rattle.std.specs.Prelude.{◌≡◌, ◌≢◌, ℕ, [], ◌∷◌, �
 ghost use Rattle.std.specs.List.{flat_map};
 ghost use Rattle.std.specs.Io.KnownBytes.{Appends};
 ghost use Rattle.reset_machine.specs.Written.{AppendsFront};
-ghost use Rattle.service_main.specs.Output.{bad_line_text, bad_topology_text, graph_fault_text, node_text, numbered, phase_name, refusal_text, reply_text, too_long_text, numbered_twice};
+ghost use Rattle.reset_machine.specs.Outcome.{outcome_of};
+ghost use Rattle.service_main.specs.declared.script.Command.TheVariants.{ShowNode};
+ghost use Rattle.service_main.specs.Output.{answered, shown, stepped, bad_line_text, bad_topology_text, graph_fault_text, node_text, numbered, phase_name, refusal_text, reply_text, too_long_text, numbered_twice};
 ghost use Rattle.service_main.specs.Parts.{part_text};
 
 use crate::script::Command;
@@ -139,7 +141,11 @@ pub fn answer<W: Write>(
     config: &mut Config,
     command: Command,
     out: &mut W,
-) -> Result<(), RunStop> {
+) -> Result<(), RunStop>
+    ensures ok { OnOk result ((config.new ≡ (answered config.old command).0) × Appends (W.contents out.old) (W.contents out.new) (answered config.old command).1) }
+    ensures err { OnErr result (AppendsFront (W.contents out.old) (W.contents out.new) (answered config.old command).1) }
+    ensures stop { IfErr result (λ stop. stop ≢ RunStop.ReadFailed) }
+{
     match command {
         Command::Step(event) => answer_step(alloc, config, event, out),
         Command::Show => Ok(show_all(config, out)?),
@@ -152,7 +158,11 @@ fn answer_step<W: Write>(
     config: &mut Config,
     event: Event,
     out: &mut W,
-) -> Result<(), RunStop> {
+) -> Result<(), RunStop>
+    ensures ok { OnOk result ((config.new ≡ (stepped config.old (outcome_of config.old event)).0) × Appends (W.contents out.old) (W.contents out.new) (stepped config.old (outcome_of config.old event)).1) }
+    ensures err { OnErr result (AppendsFront (W.contents out.old) (W.contents out.new) (stepped config.old (outcome_of config.old event)).1) }
+    ensures stop { IfErr result (λ stop. stop ≢ RunStop.ReadFailed) }
+{
     match config.step(alloc, event) {
         Ok(reply) => Ok(put_reply(out, reply)?),
         Err(StepRefusal::NoMemory) => Err(RunStop::NoMemory),
@@ -184,21 +194,31 @@ fn put_refusal<W: Write>(out: &mut W, refusal: StepRefusal) -> Result<(), WriteF
 }
 
 // Writes the line of each node, ascending.
-fn show_all<W: Write>(config: &Config, out: &mut W) -> Result<(), WriteFault> {
+fn show_all<W: Write>(config: &Config, out: &mut W) -> Result<(), WriteFault>
+    ensures ok { OnOk result (Appends (W.contents out.old) (W.contents out.new) (flat_map (shown config.now) config.now.graph.ids)) }
+    ensures err { OnErr result (AppendsFront (W.contents out.old) (W.contents out.new) (flat_map (shown config.now) config.now.graph.ids)) }
+{
     let topology = config.topology();
     for index in 0..topology.len() {
-        if let Some(id) = topology.id_at(index) {
-            show_node(config, id.get(), out)?;
+        match topology.id_at(index) {
+            Some(id) => show_node(config, id.get(), out)?,
+            None => return Ok(()),
         }
     }
     Ok(())
 }
 
 // Writes the line of a node, or that there is no such node.
-fn show_node<W: Write>(config: &Config, id: u32, out: &mut W) -> Result<(), WriteFault> {
-    match (config.tree_at(id), config.wave_at(id)) {
-        (Some(tree), Some(wave)) => put_node(out, id, tree, wave),
-        _ => put_refusal(out, StepRefusal::StrangeNode),
+fn show_node<W: Write>(config: &Config, id: u32, out: &mut W) -> Result<(), WriteFault>
+    ensures ok { OnOk result (Appends (W.contents out.old) (W.contents out.new) (answered config.now (ShowNode id)).1) }
+    ensures err { OnErr result (AppendsFront (W.contents out.old) (W.contents out.new) (answered config.now (ShowNode id)).1) }
+{
+    match config.tree_at(id) {
+        Some(tree) => match config.wave_at(id) {
+            Some(wave) => put_node(out, id, tree, wave),
+            None => put_refusal(out, StepRefusal::StrangeNode),
+        },
+        None => put_refusal(out, StepRefusal::StrangeNode),
     }
 }
 

@@ -1,8 +1,10 @@
 // Reading texts up to their limit, and cutting them.
 
-ghost use Rattle.std.specs.Prelude.{◌≡◌, ℕ, ◌+◌, ◌<◌, ◌≤◌, [], ◌∷◌, ◌++◌, List, length, IfOk, IfErr, IfSome, IfNone, vec_len};
+ghost use Rattle.std.specs.Prelude.{◌≡◌, ◌≢◌, ℕ, ◌+◌, ◌<◌, ◌≤◌, [], ◌∷◌, length, IfOk, IfErr, IfSome, IfNone, IsTrue, ◌↔◌, vec_len};
 ghost use Rattle.std.specs.List.{position};
-ghost use Rattle.service_main.specs.Lines.{is_line_feed};
+ghost use Rattle.std.specs.Io.KnownBytes.{IsAtEnd};
+ghost use Rattle.service_main.specs.Lines.{is_line_feed, lines_of, separator, IsCut, IsReadFrom};
+ghost use Rattle.service_main.specs.Parts.{ReadMore};
 
 use crate::status::RunStop;
 use std::alloc::Global;
@@ -18,14 +20,15 @@ const CHUNK: usize = 8192;
 /// Reads a text to its end, or its first `READ_LIMIT` bytes. A failed read ends the reading, and
 /// is not tried again.
 pub fn read_text<R: Read>(alloc: Global, reader: &mut R) -> Result<Vec<u8>, RunStop>
-    ensures short { IfOk result (λ text. vec_len text ≤ READ_LIMIT) }
+    ensures ok { IfOk result (λ text. IsReadFrom (R.remaining reader.old) text.items) }
+    ensures err { IfErr result (λ stop. stop ≢ RunStop.WriteFailed) }
 {
     let mut text = Vec::new(alloc);
     let mut chunk = [0; CHUNK];
     while text.len() < READ_LIMIT {
         let room = CHUNK.min(READ_LIMIT - text.len());
         if read_once(reader, &mut chunk[..room], &mut text)? == 0 {
-            break;
+            return Ok(text);
         }
     }
     Ok(text)
@@ -37,8 +40,10 @@ fn read_once<R: Read>(
     chunk: &mut [u8],
     text: &mut Vec<u8>,
 ) -> Result<usize, RunStop>
-    ensures length { IfOk result (λ n. vec_len text.new ≡ vec_len text.old + n) }
+    ensures ok { IfOk result (λ n. ReadMore (R.remaining reader.old) (R.remaining reader.new) text.old.items text.new.items n) }
     ensures most { IfOk result (λ n. n ≤ length chunk.old) }
+    ensures end { IfOk result (λ n. n ≡ 0 → 0 < length chunk.old → IsAtEnd (R.remaining reader.new)) }
+    ensures err { IfErr result (λ stop. stop ≢ RunStop.WriteFailed) }
 {
     match reader.read(chunk) {
         Ok(count) => {
@@ -52,7 +57,9 @@ fn read_once<R: Read>(
 /// The first line of a text and what follows its line feed, or `None` where the text has no line
 /// feed: it is one line then.
 pub fn split_line(text: &[u8]) -> Option<(&[u8], &[u8])>
+    ensures found { IfSome result (λ cut. lines_of text.now ≡ cut.0.now ∷ lines_of cut.1.now) }
     ensures shorter { IfSome result (λ cut. length cut.1.now < length text.now) }
+    ensures only { IfNone result (lines_of text.now ≡ text.now ∷ []) }
 {
     let end = first_line_feed(text)?;
     Some((&text[..end], &text[end + 1..]))
@@ -66,7 +73,9 @@ fn first_line_feed(text: &[u8]) -> Option<usize>
 
 /// Cuts a joined text at its first line that is exactly `---`: the topology before that line, and
 /// the script after it. Without such a line all of it is the topology, and the script is empty.
-pub fn cut_joined(joined: &[u8]) -> (&[u8], &[u8]) {
+pub fn cut_joined(joined: &[u8]) -> (&[u8], &[u8])
+    ensures { IsCut joined.now result.0.now result.1.now }
+{
     let mut rest = joined;
     while let Some((line, after)) = split_line(rest) {
         if is_separator(line) {
@@ -81,6 +90,8 @@ pub fn cut_joined(joined: &[u8]) -> (&[u8], &[u8]) {
     }
 }
 
-fn is_separator(line: &[u8]) -> bool {
+fn is_separator(line: &[u8]) -> bool
+    ensures { IsTrue result ↔ (line.now ≡ separator) }
+{
     line == b"---".as_slice()
 }

@@ -1,10 +1,16 @@
 // The replay of a script on a booted configuration.
 
-ghost use Rattle.std.specs.Prelude.{◌≡◌, ◌≢◌, ℕ, ◌<◌, ◌≤◌, ◌+◌, ◌^◌, length, IfOk, IfErr};
+ghost use Rattle.std.specs.Prelude.{◌≡◌, ◌≢◌, ℕ, ◌≤◌, List, length, IfOk, IfErr, OnErr};
+ghost use Rattle.std.specs.Io.KnownBytes.{Appends};
+ghost use Rattle.topology.specs.TopologyText.{IsReadFault};
+ghost use Rattle.reset_machine.specs.Written.{AppendsFront};
+ghost use Rattle.service_main.specs.Lines.{lines_of, IsReadFrom};
+ghost use Rattle.service_main.specs.Script.{line_of};
+ghost use Rattle.service_main.specs.Output.{answer_to, answers, bad_topology_text, script_output, too_long_text, IsBootOf, IsJoinedOutput, IsOutput, Leaves};
 
 use crate::answer::{answer, put_bad_line, put_too_long, put_topology_fault};
 use crate::input::{cut_joined, read_text, split_line};
-use crate::script::read_line;
+use crate::script::{Line, read_line};
 use crate::status::{RunStop, Status};
 use reset_machine::Config;
 use std::alloc::Global;
@@ -21,7 +27,9 @@ pub fn replay_text<W: Write>(
     topology: &[u8],
     script: &[u8],
     out: &mut W,
-) -> Result<Status, RunStop> {
+) -> Result<Status, RunStop>
+    ensures { Leaves (IsOutput topology.now script.now) (W.contents out.old) (W.contents out.new) result }
+{
     match boot(alloc, topology) {
         Ok(config) => replay_script(alloc, config, script, out),
         Err(fault) => refuse_topology(fault, out),
@@ -35,13 +43,16 @@ pub fn replay<R: Read, W: Write>(
     topology: &[u8],
     script: &mut R,
     out: &mut W,
-) -> Result<Status, RunStop> {
+) -> Result<Status, RunStop>
+    ensures leaves { (text : List ℕ) × IsReadFrom (R.remaining script.old) text × Leaves (IsOutput topology.now text) (W.contents out.old) (W.contents out.new) result }
+    ensures untouched { (f : ReadFault) → IsReadFault topology.now f → script.new ≡ script.old }
+{
     match boot(alloc, topology) {
-        Ok(config) => {
-            let text = read_text(alloc, script)?;
-            replay_script(alloc, config, &text, out)
-        }
-        Err(fault) => refuse_topology(fault, out),
+        Ok(config) => match read_text(alloc, script) {
+            Ok(text) => replay_script(alloc, config, &text, out),
+            Err(stop) => Err(stop),
+        },
+        Err(refused) => refuse_topology(refused, out),
     }
 }
 
@@ -52,26 +63,44 @@ pub fn replay_joined<R: Read, W: Write>(
     alloc: Global,
     joined: &mut R,
     out: &mut W,
-) -> Result<Status, RunStop> {
-    let text = read_text(alloc, joined)?;
-    if text.len() > MAX_TEXT {
+) -> Result<Status, RunStop>
+    ensures { (text : List ℕ) × IsReadFrom (R.remaining joined.old) text × Leaves (IsJoinedOutput text) (W.contents out.old) (W.contents out.new) result }
+{
+    match read_text(alloc, joined) {
+        Ok(text) => replay_whole(alloc, &text, out),
+        Err(stop) => Err(stop),
+    }
+}
+
+// The run of a joined text.
+fn replay_whole<W: Write>(alloc: Global, joined: &[u8], out: &mut W) -> Result<Status, RunStop>
+    ensures { Leaves (IsJoinedOutput joined.now) (W.contents out.old) (W.contents out.new) result }
+{
+    if joined.len() > MAX_TEXT {
         return refuse_script(out);
     }
-    let (topology, script) = cut_joined(&text);
+    let (topology, script) = cut_joined(joined);
     replay_text(alloc, topology, script, out)
 }
 
 // The booted configuration of a topology text.
-fn boot(alloc: Global, topology: &[u8]) -> Result<Config, ReadFault> {
-    let (topology, _app) = read_topology(alloc, topology)?;
-    match Config::boot(alloc, topology) {
-        Ok(config) => Ok(config),
-        Err(_) => Err(ReadFault::NoMemory),
+fn boot(alloc: Global, topology: &[u8]) -> Result<Config, ReadFault>
+    ensures ok { IfOk result (IsBootOf topology.now) }
+    ensures err { IfErr result (λ f. f ≢ ReadFault.NoMemory → IsReadFault topology.now f) }
+{
+    match read_topology(alloc, topology) {
+        Ok((topology, _app)) => match Config::boot(alloc, topology) {
+            Ok(config) => Ok(config),
+            Err(_) => Err(ReadFault::NoMemory),
+        },
+        Err(fault) => Err(fault),
     }
 }
 
 // Answers a topology text that has no configuration.
-fn refuse_topology<W: Write>(fault: ReadFault, out: &mut W) -> Result<Status, RunStop> {
+fn refuse_topology<W: Write>(fault: ReadFault, out: &mut W) -> Result<Status, RunStop>
+    ensures { Leaves (λ output. (fault ≢ ReadFault.NoMemory) × (output ≡ (bad_topology_text fault, Status.BadInput))) (W.contents out.old) (W.contents out.new) result }
+{
     if fault == ReadFault::NoMemory {
         return Err(RunStop::NoMemory);
     }
@@ -80,7 +109,9 @@ fn refuse_topology<W: Write>(fault: ReadFault, out: &mut W) -> Result<Status, Ru
 }
 
 // Answers a script that is too long.
-fn refuse_script<W: Write>(out: &mut W) -> Result<Status, RunStop> {
+fn refuse_script<W: Write>(out: &mut W) -> Result<Status, RunStop>
+    ensures { Leaves (λ output. output ≡ (too_long_text, Status.BadInput)) (W.contents out.old) (W.contents out.new) result }
+{
     put_too_long(out)?;
     Ok(Status::BadInput)
 }
@@ -90,7 +121,9 @@ fn replay_script<W: Write>(
     mut config: Config,
     script: &[u8],
     out: &mut W,
-) -> Result<Status, RunStop> {
+) -> Result<Status, RunStop>
+    ensures { Leaves (λ output. output ≡ script_output config script.now) (W.contents out.old) (W.contents out.new) result }
+{
     if script.len() > MAX_TEXT {
         return refuse_script(out);
     }
@@ -105,13 +138,15 @@ fn answer_lines<W: Write>(
     out: &mut W,
 ) -> Result<Status, RunStop>
     requires { length script.now ≤ MAX_TEXT }
+    ensures { Leaves (λ output. output ≡ answers config.old 1 (lines_of script.now)) (W.contents out.old) (W.contents out.new) result }
 {
     let mut rest = script;
     let mut number = 1;
     while let Some((line, after)) = split_line(rest) {
-        match answer_line(alloc, config, number, line, out)? {
-            Status::Good => {}
-            Status::BadInput => return Ok(Status::BadInput),
+        match answer_line(alloc, config, number, line, out) {
+            Ok(Status::Good) => {}
+            Ok(Status::BadInput) => return Ok(Status::BadInput),
+            Err(stop) => return Err(stop),
         }
         rest = after;
         number += 1;
@@ -126,14 +161,18 @@ fn answer_line<W: Write>(
     number: u64,
     line: &[u8],
     out: &mut W,
-) -> Result<Status, RunStop> {
+) -> Result<Status, RunStop>
+    ensures ok { IfOk result (λ status. let a = answer_to config.old number (line_of line.now) in (status ≡ a.status) × (config.new ≡ a.config) × Appends (W.contents out.old) (W.contents out.new) a.text) }
+    ensures err { OnErr result (AppendsFront (W.contents out.old) (W.contents out.new) (answer_to config.old number (line_of line.now)).text) }
+    ensures stop { IfErr result (λ stop. stop ≢ RunStop.ReadFailed) }
+{
     match read_line(line) {
-        Ok(None) => Ok(Status::Good),
-        Ok(Some(command)) => {
+        Line::Silent => Ok(Status::Good),
+        Line::Asks(command) => {
             answer(alloc, config, command, out)?;
             Ok(Status::Good)
         }
-        Err(_) => {
+        Line::Bad => {
             put_bad_line(out, number)?;
             Ok(Status::BadInput)
         }

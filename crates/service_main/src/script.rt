@@ -2,7 +2,7 @@
 
 ghost use Rattle.std.specs.Prelude.{◌≡◌, ℕ, ◌<◌, ◌≤◌, [], ◌∷◌, ◌++◌, List, length, codes, IsTrue, ◌↔◌, IfSome, IfNone};
 ghost use Rattle.service_main.specs.declared.script.Command.{Command};
-ghost use Rattle.service_main.specs.Script.{CommandFits, command_line, command_words};
+ghost use Rattle.service_main.specs.Script.{CommandFits, command_line, command_of, is_silent, line_of};
 
 use reset_machine::{Event, read_event, read_number, split_word};
 
@@ -20,30 +20,50 @@ pub enum Command {
     ShowNode(u32),
 }
 
-/// The line is none of a script.
+/// A line of a script, without its line feed.
 #[derive(Clone, Copy, Debug, PartialEq, Eq)]
-pub struct BadLine;
+pub enum Line {
+    /// It is empty or a comment, and asks for nothing.
+    Silent,
+    /// It spells this command.
+    Asks(Command),
+    /// It is none of these, or too long.
+    Bad,
+}
 
-/// What a line without its line feed asks for. Nothing, where it is empty or begins with `#`.
-pub fn read_line(line: &[u8]) -> Result<Option<Command>, BadLine> {
+/// Reads a line without its line feed.
+pub fn read_line(line: &[u8]) -> Line
+    ensures { result ≡ line_of line.now }
+{
     if line.len() > MAX_LINE {
-        return Err(BadLine);
+        return Line::Bad;
     }
     if is_silent(line) {
-        return Ok(None);
+        return Line::Silent;
     }
     match read_command(line) {
-        Some(command) => Ok(Some(command)),
-        None => Err(BadLine),
+        Some(command) => Line::Asks(command),
+        None => Line::Bad,
     }
 }
 
-fn is_silent(line: &[u8]) -> bool {
+fn is_silent(line: &[u8]) -> bool
+    ensures { result ≡ is_silent line.now }
+{
     matches!(line, [] | [b'#', ..])
 }
 
 /// The command that a line without its line feed spells.
 pub fn read_command(line: &[u8]) -> Option<Command>
+    ensures function { result ≡ command_of line.now }
+    ensures found { IfSome result (λ command. line.now ≡ command_line command) }
+    ensures fits { IfSome result CommandFits }
+    ensures only { IfNone result ((command : Command) → CommandFits command → line.now ≡ command_line command → ⊥) }
+{
+    by_first_word(line)
+}
+
+fn by_first_word(line: &[u8]) -> Option<Command>
     ensures found { IfSome result (λ command. line.now ≡ command_line command) }
     ensures fits { IfSome result CommandFits }
     ensures only { IfNone result ((command : Command) → CommandFits command → line.now ≡ command_line command → ⊥) }

@@ -1,8 +1,15 @@
-use Rattle.std.proofs.Common.{◌≤◌, ◌+◌, length}
+-- What was written, and the answers to the lines that are left, are the answers to all lines.
+use Rattle.std.proofs.Common.{◌≡◌, ◌≤◌, ◌+◌, ℕ, List, length}
+use Rattle.std.specs.Io.KnownBytes.{Appends}
+use Rattle.service_main.specs.Lines.{lines_of}
+use Rattle.service_main.specs.Output.{answers, followed}
+use Rattle.service_main.specs.declared.status.Status.TheVariants.{Good}
 use Rattle.service_main.proofs.replay.answer_lines.Given as goal
 
 abbrev pub invariant-loop-line : goal.invariant-loop-line
-invariant-loop-line g l = l.number + length l.rest ≤ length l.script + 1
+invariant-loop-line g l =
+    (done : List ℕ) × (answers l.initial.config 1 (lines_of l.script) ≡ followed Good done (answers l.config l.number (lines_of l.rest)))
+    × Appends (g.W.Write.contents l.initial.out) (g.W.Write.contents l.out) done × (l.number + length l.rest ≤ length l.script + 1)
 
 abbrev pub decreases-loop-line : goal.decreases-loop-line
 decreases-loop-line g l = length l.rest

@@ -1,16 +1,6 @@
-use Rattle.std.specs.Prelude.{codes}
-use Rattle.std.proofs.Common.{◌≡◌, rules}
-use Rattle.service_main.proofs.CommandLines.{show_only, show_found}
+use Rattle.service_main.proofs.CommandOf.{command_of-is}
 use Rattle.service_main.proofs.script.read_command.Goals as goal
 
-pub returns-in_err-read_number-in-Some-clause-only : goal.returns-in_err-read_number-in-Some-clause-only
-returns-in_err-read_number-in-Some-clause-only c =
-    let show : c.in-Some.word.now ≡ codes "show" = search rules in
-    rw c.from_residual.ensures
-    (show_only c.args.line.now c.in-Some.word.now c.in-Some.number.now c.in-Some.ensures.found show c.in_err-read_number-in-Some.ensures.only)
-
-pub returns-in_ok-read_number-in-Some-clause-found : goal.returns-in_ok-read_number-in-Some-clause-found
-returns-in_ok-read_number-in-Some-clause-found c =
-    let show : c.in-Some.word.now ≡ codes "show" = search rules in
-    show_found c.args.line.now c.in-Some.word.now c.in-Some.number.now c.in_ok-read_number-in-Some.field-0 c.in-Some.ensures.found show
-    c.in_ok-read_number-in-Some.ensures.found (search rules)
+pub returns-clause-function : goal.returns-clause-function
+returns-clause-function c =
+    command_of-is c.args.line.now _ c.by_first_word.ensures.found c.by_first_word.ensures.fits c.by_first_word.ensures.only

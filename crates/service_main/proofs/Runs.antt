@@ -1,0 +1,112 @@
+-- A run that goes on from line to line.
+use Rattle.std.proofs.Common.{◌≡◌, ◌≢◌, ℕ, ◌+◌, List, [], ◌∷◌, ◌++◌, refl, sym, ap, ◌∙◌, subst, append_assoc, append-nil, ◌⊎◌, inl, inr, Option, Some, None, Result, Ok, Err, IfOk, IfErr, OnErr}
+use Rattle.std.specs.Io.KnownBytes.{Appends, Keeps}
+use Rattle.std.proofs.KnownBytes.{Appends-trans, Keeps-refl}
+use Rattle.reset_machine.specs.Configuration.{Configuration}
+use Rattle.reset_machine.specs.Written.{AppendsFront}
+use Rattle.reset_machine.proofs.Fronts.{AppendsFront-first, AppendsFront-then}
+use Rattle.service_main.specs.Script.{line_of}
+use Rattle.service_main.specs.Output.{answer_to, answers, followed, Answer, Leaves, HasFront}
+use Rattle.service_main.specs.declared.status.Status.{Status}
+use Rattle.service_main.specs.declared.status.Status.TheVariants.{Good, BadInput}
+use Rattle.service_main.specs.declared.status.RunStop.{RunStop}
+use Rattle.service_main.specs.declared.status.RunStop.TheVariants.{ReadFailed, WriteFailed, NoMemory}
+
+abbrev Output : Type 0
+Output = List ℕ × Status
+
+-- ---- one line
+
+pub answers-more : (c : Configuration) (n : ℕ) (line : List ℕ) (lines : List (List ℕ))
+    → answers c n (line ∷ lines) ≡ followed (answer_to c n (line_of line)).status (answer_to c n (line_of line)).text (answers (answer_to c n (line_of line)).config (n + 1) lines)
+unfolding answers
+answers-more c n line lines = refl
+
+pub answers-none : (c : Configuration) (n : ℕ) → answers c n [] ≡ ([], Good)
+unfolding answers
+answers-none c n = refl
+
+-- a good line after `done`, and what follows it
+good_then : (done text : List ℕ) (rest : Output) → followed Good done (followed Good text rest) ≡ followed Good (done ++ text) rest
+good_then done text rest = ap (λ l. (l, rest.1)) (sym (append_assoc done text rest.0))
+
+last_line : (done text : List ℕ) (s : Status) → followed Good done (followed s text ([], Good)) ≡ (done ++ text, s)
+last_line done text Good = ap (λ l. (done ++ l, Good)) (append-nil text)
+last_line done text BadInput = refl
+
+front_of : (done text : List ℕ) (s : Status) (rest : Output) → (tail : List ℕ) × ((followed Good done (followed s text rest)).0 ≡ (done ++ text) ++ tail)
+front_of done text Good rest = (rest.0, sym (append_assoc done text rest.0))
+front_of done text BadInput rest = ([], sym (append-nil (done ++ text)))
+
+-- ---- the lines that are left, after `done` was written
+
+one_more : (all : Output) (done : List ℕ) (c : Configuration) (n : ℕ) (lines later : List (List ℕ)) (line : List ℕ) → all ≡ followed Good done (answers c n lines) → lines ≡ line ∷ later
+    → all ≡ followed Good done (followed (answer_to c n (line_of line)).status (answer_to c n (line_of line)).text (answers (answer_to c n (line_of line)).config (n + 1) later))
+one_more all done c n lines later line p q = p ∙ ap (λ ls. followed Good done (answers c n ls)) q ∙ ap (followed Good done) (answers-more c n line later)
+
+pub left_good : (all : Output) (done : List ℕ) (c after : Configuration) (n : ℕ) (lines later : List (List ℕ)) (line : List ℕ) → all ≡ followed Good done (answers c n lines) → lines ≡ line ∷ later
+    → (answer_to c n (line_of line)).status ≡ Good → after ≡ (answer_to c n (line_of line)).config
+    → all ≡ followed Good (done ++ (answer_to c n (line_of line)).text) (answers after (n + 1) later)
+left_good all done c after n lines later line p q good same =
+    let a : Answer = answer_to c n (line_of line) in
+    let rest : Output = answers a.config (n + 1) later in
+    one_more all done c n lines later line p q ∙ ap (λ s. followed Good done (followed s a.text rest)) good ∙ good_then done a.text rest
+    ∙ ap (λ x. followed Good (done ++ a.text) (answers x (n + 1) later)) (sym same)
+
+pub left_bad : (all : Output) (done : List ℕ) (c : Configuration) (n : ℕ) (lines later : List (List ℕ)) (line : List ℕ) → all ≡ followed Good done (answers c n lines) → lines ≡ line ∷ later
+    → (answer_to c n (line_of line)).status ≡ BadInput → all ≡ (done ++ (answer_to c n (line_of line)).text, BadInput)
+left_bad all done c n lines later line p q bad =
+    let a : Answer = answer_to c n (line_of line) in
+    one_more all done c n lines later line p q ∙ ap (λ s. followed Good done (followed s a.text (answers a.config (n + 1) later))) bad
+
+pub left_last : (all : Output) (done : List ℕ) (c : Configuration) (n : ℕ) (lines : List (List ℕ)) (line : List ℕ) → all ≡ followed Good done (answers c n lines) → lines ≡ line ∷ []
+    → all ≡ (done ++ (answer_to c n (line_of line)).text, (answer_to c n (line_of line)).status)
+left_last all done c n lines line p q =
+    let a : Answer = answer_to c n (line_of line) in
+    one_more all done c n lines [] line p q ∙ ap (λ o. followed Good done (followed a.status a.text o)) (answers-none a.config (n + 1)) ∙ last_line done a.text a.status
+
+-- ---- what is left by a stop
+
+pub leaves_stop : (O : Output → Type 0) (a b : Option (List ℕ)) (s : RunStop) → s ≢ ReadFailed → HasFront O a b → Leaves O a b (Err s)
+leaves_stop O a b ReadFailed other h = absurd (other refl)
+leaves_stop O a b WriteFailed other h = h
+leaves_stop O a b NoMemory other h = inr h
+
+-- an answer failed, after `done`
+front_whole : (all : Output) (a b d : Option (List ℕ)) (done text tail : List ℕ) → all.0 ≡ (done ++ text) ++ tail → Appends a b done → AppendsFront b d text → AppendsFront a d all.0
+front_whole all a b d done text tail e p q =
+    let P : List ℕ → Type 0 = λ l. AppendsFront a d l in
+    subst P (sym e) (AppendsFront-first a d (done ++ text) tail (AppendsFront-then a b d done text p q))
+
+pub left_stop : (all : Output) (a b d : Option (List ℕ)) (done : List ℕ) (c : Configuration) (n : ℕ) (lines later : List (List ℕ)) (line : List ℕ) (s : RunStop)
+    → all ≡ followed Good done (answers c n lines) → lines ≡ line ∷ later → Appends a b done → AppendsFront b d (answer_to c n (line_of line)).text → s ≢ ReadFailed
+    → Leaves (λ o. o ≡ all) a d (Err s)
+left_stop all a b d done c n lines later line s p q before here other =
+    let x : Answer = answer_to c n (line_of line) in
+    let tail = front_of done x.text x.status (answers x.config (n + 1) later) in
+    leaves_stop (λ o. o ≡ all) a d s other
+    (all, refl, front_whole all a b d done x.text tail.0 (ap (λ (o : Output). o.0) (one_more all done c n lines later line p q) ∙ tail.1) before here)
+
+pub left_result : (all : Output) (a b d : Option (List ℕ)) (done : List ℕ) (c c' : Configuration) (n : ℕ) (lines : List (List ℕ)) (line : List ℕ) (r : Result Status RunStop)
+    → all ≡ followed Good done (answers c n lines) → lines ≡ line ∷ [] → Appends a b done
+    → IfOk r (λ s. (s ≡ (answer_to c n (line_of line)).status) × (c' ≡ (answer_to c n (line_of line)).config) × Appends b d (answer_to c n (line_of line)).text)
+    → OnErr r (AppendsFront b d (answer_to c n (line_of line)).text) → IfErr r (λ s. s ≢ ReadFailed) → Leaves (λ o. o ≡ all) a d r
+left_result all a b d done c c' n lines line (Ok s) p q before ok err other =
+    let x : Answer = answer_to c n (line_of line) in
+    (done ++ x.text, ap (λ (t : Status). (done ++ x.text, t)) ok.0 ∙ sym (left_last all done c n lines line p q), Appends-trans a b d done x.text before ok.2)
+left_result all a b d done c c' n lines line (Err s) p q before ok err other = left_stop all a b d done c n lines [] line s p q before err other
+
+-- ---- what a run leaves, said of another output
+
+pub leaves_weaker : (O P : Output → Type 0) (a b : Option (List ℕ)) (r : Result Status RunStop) → ((o : Output) → O o → P o) → Leaves O a b r → Leaves P a b r
+leaves_weaker O P a b (Ok s) f h = (h.0, f (h.0, s) h.1, h.2)
+leaves_weaker O P a b (Err ReadFailed) f h = h
+leaves_weaker O P a b (Err WriteFailed) f h = (h.0, f h.0 h.1, h.2)
+leaves_weaker O P a b (Err NoMemory) f (inl h) = inl h
+leaves_weaker O P a b (Err NoMemory) f (inr h) = inr (h.0, f h.0 h.1, h.2)
+
+-- a reading was cut short, before anything was written
+pub leaves_unread : (O : Output → Type 0) (a : Option (List ℕ)) (s : RunStop) → s ≢ WriteFailed → Leaves O a a (Err s)
+leaves_unread O a ReadFailed other = Keeps-refl a
+leaves_unread O a WriteFailed other = absurd (other refl)
+leaves_unread O a NoMemory other = inl (Keeps-refl a)

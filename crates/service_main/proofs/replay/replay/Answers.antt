@@ -1,0 +1,30 @@
+use Rattle.std.proofs.Common.{◌≡◌, ◌≢◌}
+use Rattle.service_main.specs.Output.{IsOutput, bad_topology_text, script_output}
+use Rattle.service_main.specs.Output.IsOutput.{bad_topology, replayed}
+use Rattle.service_main.specs.declared.status.Status.TheVariants.{BadInput}
+use Rattle.topology.specs.declared.text.ReadFault.TheVariants.{NoMemory}
+use Rattle.service_main.proofs.Runs.{leaves_unread, leaves_weaker}
+use Rattle.service_main.proofs.Reading.{some_read}
+use Rattle.service_main.proofs.replay.replay.Goals as goal
+
+pub returns-in-Err-clause-leaves : goal.returns-in-Err-clause-leaves
+returns-in-Err-clause-leaves g c =
+    let read = some_read (g.R.Read.remaining c.args.script.now) in (
+      read.0,
+      read.1,
+      leaves_weaker (λ o. (c.in-Err.refused ≢ NoMemory) × (o ≡ (bad_topology_text c.in-Err.refused, BadInput))) (IsOutput c.args.topology.now read.0) _ _ c.refuse_topology.result
+          (λ o is. bad_topology c.in-Err.refused (c.in-Err.ensures.err is.0) is.1) c.refuse_topology.ensures,
+    )
+
+pub returns-in-Ok-read_text-clause-leaves : goal.returns-in-Ok-read_text-clause-leaves
+returns-in-Ok-read_text-clause-leaves g c = (
+  c.deref.result.now,
+  rw c.deref.ensures.value c.in-Ok-read_text.ensures.ok,
+  leaves_weaker (λ o. o ≡ script_output c.in-Ok.config c.deref.result.now) (IsOutput c.args.topology.now c.deref.result.now) _ _ c.replay_script.result
+      (λ o is. replayed c.in-Ok.config c.in-Ok.ensures.ok is) c.replay_script.ensures,
+)
+
+pub returns-in-Err-read_text-clause-leaves : goal.returns-in-Err-read_text-clause-leaves
+returns-in-Err-read_text-clause-leaves g c =
+    let read = some_read (g.R.Read.remaining c.args.script.now) in
+    (read.0, read.1, leaves_unread (IsOutput c.args.topology.now read.0) (g.W.Write.contents c.args.out.now) c.in-Err-read_text.stop c.in-Err-read_text.ensures.err)

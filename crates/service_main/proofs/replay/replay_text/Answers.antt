@@ -1,0 +1,17 @@
+use Rattle.std.proofs.Common.{◌≡◌, ◌≢◌}
+use Rattle.service_main.specs.Output.{IsOutput, bad_topology_text, script_output}
+use Rattle.service_main.specs.Output.IsOutput.{bad_topology, replayed}
+use Rattle.service_main.specs.declared.status.Status.TheVariants.{BadInput}
+use Rattle.topology.specs.declared.text.ReadFault.TheVariants.{NoMemory}
+use Rattle.service_main.proofs.Runs.{leaves_weaker}
+use Rattle.service_main.proofs.replay.replay_text.Goals as goal
+
+pub returns-in-Ok : goal.returns-in-Ok
+returns-in-Ok g c =
+    leaves_weaker (λ o. o ≡ script_output c.in-Ok.config c.args.script.now) (IsOutput c.args.topology.now c.args.script.now) _ _ c.replay_script.result
+    (λ o is. replayed c.in-Ok.config c.in-Ok.ensures.ok is) c.replay_script.ensures
+
+pub returns-in-Err : goal.returns-in-Err
+returns-in-Err g c =
+    leaves_weaker (λ o. (c.in-Err.fault ≢ NoMemory) × (o ≡ (bad_topology_text c.in-Err.fault, BadInput))) (IsOutput c.args.topology.now c.args.script.now) _ _ c.refuse_topology.result
+    (λ o is. bad_topology c.in-Err.fault (c.in-Err.ensures.err is.0) is.1) c.refuse_topology.ensures
