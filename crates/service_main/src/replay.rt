@@ -181,3 +181,6 @@ fn answer_line<W: Write>(
 
 #[cfg(test)]
 mod tests;
+
+#[cfg(test)]
+mod spellings;

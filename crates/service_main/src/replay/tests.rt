@@ -9,16 +9,16 @@ use topology::MAX_TEXT;
 
 const SINGLE: &[u8] = b"nodes = [7]\nlinks = []\napp = \"idle\"\n";
 
-const LINE: &[u8] = b"nodes = [1, 2, 3]\nlinks = [[1, 2], [2, 3]]\napp = \"idle\"\n";
+pub(super) const LINE: &[u8] = b"nodes = [1, 2, 3]\nlinks = [[1, 2], [2, 3]]\napp = \"idle\"\n";
 
-const ONE_WAVE: &[u8] =
+pub(super) const ONE_WAVE: &[u8] =
     b"request 1\nrelay 2 1\nrelay 3 2\nopen 3\njoin 2\njoin 1\nfinish 1\nfinish 2\nfinish 3\nshow\n";
 
-const WAVE_ANSWERS: &[u8] =
+pub(super) const WAVE_ANSWERS: &[u8] =
     b"applied\napplied\napplied\napplied\napplied\napplied\napplied\napplied\ncomplete 1\nnode 1 tree 3 2 2 wave normal 1 local -\nnode 2 tree 3 3 1 wave normal 1 local -\nnode 3 tree 3 3 0 wave normal 1 local -\n";
 
 // The run of these texts ends so, and writes this.
-fn runs(
+pub(super) fn runs(
     rt: &(impl Abort + AllocGlobal),
     topology: &[u8],
     script: &[u8],
