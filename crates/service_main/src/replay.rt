@@ -180,7 +180,6 @@ fn answer_line<W: Write>(
 }
 
 #[cfg(test)]
-mod tests;
-
-#[cfg(test)]
 mod spellings;
+#[cfg(test)]
+mod tests;

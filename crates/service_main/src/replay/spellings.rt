@@ -60,7 +60,13 @@ fn cuts_at_the_first_separator(rt: HostRuntime) -> Result<(), Fail> {
     let no_toml = b"bad topology NotToml\n";
     joined_runs(&rt, LINE, b"--- \nshow\n", Status::BadInput, no_toml)?;
     joined_runs(&rt, LINE, b"---", Status::Good, b"")?;
-    joined_runs(&rt, LINE, b"---\nopen 3", Status::Good, b"refused NotEnabled\n")
+    joined_runs(
+        &rt,
+        LINE,
+        b"---\nopen 3",
+        Status::Good,
+        b"refused NotEnabled\n",
+    )
 }
 
 /// Gives the byte `1` for ever.
