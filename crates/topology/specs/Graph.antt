@@ -57,10 +57,14 @@ pub record IsDistance (g : Graph) (a b d : ℕ) : Type 0 where
   pub walk : (cs : List ℕ) × IsWalk g a cs b × (length cs ≡ d)
   pub least : (cs : List ℕ) → IsWalk g a cs b → d ≤ length cs
 
--- the leader of a node is the greatest id that a walk from it reaches
+-- the leader of a node i is the greatest id that a walk from i reaches
 pub record IsLeader (g : Graph) (i leader : ℕ) : Type 0 where
   pub reached : IsReached g i leader
   pub greatest : (j : ℕ) → IsReached g i j → j ≤ leader
+
+-- the leader of a node; a connected graph has one for all, its greatest id
+abbrev pub leader : Graph → ℕ → ℕ
+leader g i = greatest g
 
 -- what each graph of the service is: links join two different nodes, in both directions
 pub record IsGraph (g : Graph) : Type 0 where

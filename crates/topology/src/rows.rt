@@ -44,3 +44,14 @@ pub fn link(near: &mut [Vec<usize>], i: usize, j: usize) -> Result<bool, AllocEr
     let _ = insert_index(&mut near[j], i)?;
     Ok(fresh)
 }
+
+/// Rows with the same indexes.
+pub fn copied_rows(alloc: Global, near: &[Vec<usize>]) -> Result<Vec<Vec<usize>>, AllocError>
+    ensures { IfOk result (λ copy. map (λ row. row.items) copy.items ≡ map (λ row. row.items) near.now) }
+{
+    let mut copy = Vec::new(alloc);
+    for row in near {
+        copy.push(row.to_vec(alloc)?)?;
+    }
+    Ok(copy)
+}

@@ -9,6 +9,7 @@ use crate::fault::{MAX_NODES, TopoFault};
 use crate::id::NodeId;
 use crate::links::checked_rows;
 use crate::nodes::checked_ids;
+use crate::rows::copied_rows;
 use crate::search::{distances_to, first_free};
 use std::alloc::{AllocError, Global};
 use std::marker::Model;
@@ -133,6 +134,19 @@ impl Topology {
                 link_count: links.len(),
             }),
         }
+    }
+
+    /// A topology that equals this one.
+    pub fn copy(&self, alloc: Global) -> Result<Topology, AllocError>
+        ensures { IfOk result (λ copy. copy ≡ self.now) }
+    {
+        let ids = &self.ids;
+        let near = &self.near;
+        Ok(Topology {
+            ids: ids.to_vec(alloc)?,
+            near: copied_rows(alloc, near)?,
+            link_count: self.link_count,
+        })
     }
 
     /// The number of links of a shortest walk from each node to the node at this index, by index.

@@ -1,1 +1,6 @@
+mod Ascending
+mod Asked
 mod Booting
+pub mod Leaders
+mod Counts
+pub mod TreePictures

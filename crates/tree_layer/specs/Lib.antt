@@ -1,1 +1,4 @@
 pub mod BootTree
+pub mod TreeRows
+pub mod TreePicture
+pub mod TreeTable

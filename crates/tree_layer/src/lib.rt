@@ -5,7 +5,15 @@
 #![tactic(auto)]
 
 mod boot;
+mod effects;
+mod guards;
+mod laws;
 mod regs;
+mod table;
+mod view;
 
 pub use boot::boot_tree;
-pub use regs::TreeRegs;
+pub use laws::{boot_is_picture, tree_pictures};
+pub use regs::{TreeRefusal, TreeRegs};
+pub use table::{tree_enabled, tree_fire, tree_good, tree_rows};
+pub use view::TreeView;

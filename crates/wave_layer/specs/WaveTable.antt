@@ -1,7 +1,8 @@
 -- The wave layer: the rows of its table on what one node sees, and its predicate.
-use Rattle.std.specs.Prelude.{◌≡◌, ℕ, ◌+◌, Bool, true, false, not, ◌&&◌, ◌||◌, ◌==◌, if◌then◌else◌, List, [], ◌∷◌, Option, Some, None, Result, Ok, Err, ◌⊎◌, nat_lt}
-use Rattle.std.specs.List.{list_all}
+use Rattle.std.specs.Prelude.{◌≡◌, ℕ, ◌+◌, Bool, true, false, not, ◌&&◌, ◌||◌, ◌==◌, if◌then◌else◌, List, [], ◌∷◌, codes, Option, Some, None, Result, Ok, Err, ◌⊎◌, nat_lt}
+use Rattle.std.specs.List.{list_all, list_any}
 use Rattle.std.specs.Map.{lookup}
+use Rattle.action_tables.specs.Table.{Row, fired_of}
 use Rattle.wave_layer.specs.declared.regs.Phase.{Phase}
 use Rattle.wave_layer.specs.declared.regs.Phase.TheVariants.{Normal, Initiate, Reset}
 use Rattle.wave_layer.specs.declared.regs.WaveRegs.{WaveRegs}
@@ -66,11 +67,9 @@ father_regs own (Is up) = up
 abbrev pub children_done : ℕ → List (ℕ × WaveRegs) → Bool
 children_done session children = list_all (λ child. not (is_reset child.1.phase) && child.1.session == session) children
 
--- a row of the table: its number, whether its guard holds, and what it does
-pub record Row : Type 0 where
-  pub number : ℕ
-  pub guard : Bool
-  pub effect : Result WaveMove WaveRefusal
+-- some child that is asked is initiate
+abbrev pub any_initiate : List (ℕ × WaveRegs) → Bool
+any_initiate asked = list_any (λ child. is_initiate child.1.phase) asked
 
 -- the registers become these
 abbrev pub becomes : Phase → ℕ → Result WaveMove WaveRefusal
@@ -88,51 +87,48 @@ completes p s = Ok (record { regs = record { phase = p; session = s }; restarts 
 abbrev pub opens : ℕ → Result WaveMove WaveRefusal
 opens s = if nat_lt s 4294967295 then restarts Reset (next_session s) else Err SessionsSpent
 
--- the rows, where asked says whether the child of row 2 is initiate
-abbrev pub wave_table : LocalView → Bool → List Row
+-- the rows, where the relay may ask the children in asked
+abbrev pub wave_table : LocalView → List (ℕ × WaveRegs) → List (Row (Result WaveMove WaveRefusal))
 wave_table v asked =
     let phase = v.own.phase in
     let session = v.own.session in
     let up = father_regs v.own v.father in
-    record { number = 1; guard = is_normal phase; effect = becomes Initiate session }
-    ∷ record { number = 2; guard = is_normal phase && asked; effect = becomes Initiate session }
-    ∷ record { number = 3; guard = is_root v.father && is_initiate phase; effect = opens session }
-    ∷ record { number = 4; guard = father_reset v.father && is_normal phase && up.session == next_session session; effect = restarts Reset up.session }
-    ∷ record { number = 5; guard = father_reset v.father && is_initiate phase && up.session == next_session session; effect = restarts Reset up.session }
-    ∷ record { number = 6; guard = not (is_root v.father) && is_reset phase && children_done session v.children; effect = becomes Normal session }
-    ∷ record { number = 7; guard = is_root v.father && is_reset phase && children_done session v.children; effect = completes Normal session }
-    ∷ record { number = 8; guard = father_awake v.father && is_reset phase; effect = becomes up.phase up.session }
-    ∷ record { number = 9; guard = father_awake v.father && not (is_reset phase) && not (session == up.session); effect = becomes up.phase up.session }
-    ∷ record { number = 10; guard = father_reset v.father && is_reset phase && not (session == up.session); effect = becomes up.phase up.session }
-    ∷ record { number = 11; guard = father_reset v.father && not (is_reset phase) && not (up.session == session) && not (up.session == next_session session); effect = becomes up.phase up.session }
+    let join = codes "phase, session := reset, session.j; restart" in
+    let mend = codes "phase, session := phase.j, session.j" in
+    record { number = 1; name = codes "request"; guard = codes "phase = normal"; effect = codes "phase := initiate"; holds = is_normal phase; does = becomes Initiate session }
+    ∷ record { number = 2; name = codes "relay"; guard = codes "phase = normal, child c is initiate"; effect = codes "phase := initiate"; holds = is_normal phase && any_initiate asked; does = becomes Initiate session }
+    ∷ record { number = 3; name = codes "open"; guard = codes "father = id, phase = initiate"; effect = codes "phase, session := reset, session + 1; restart"; holds = is_root v.father && is_initiate phase; does = opens session }
+    ∷ record { number = 4; name = codes "join-normal"; guard = codes "father j is reset, phase = normal, session.j = session + 1"; effect = join; holds = father_reset v.father && is_normal phase && up.session == next_session session; does = restarts Reset up.session }
+    ∷ record { number = 5; name = codes "join-asked"; guard = codes "father j is reset, phase = initiate, session.j = session + 1"; effect = join; holds = father_reset v.father && is_initiate phase && up.session == next_session session; does = restarts Reset up.session }
+    ∷ record { number = 6; name = codes "finish"; guard = codes "father != id, phase = reset, every child is not reset and has session"; effect = codes "phase := normal"; holds = not (is_root v.father) && is_reset phase && children_done session v.children; does = becomes Normal session }
+    ∷ record { number = 7; name = codes "finish-root"; guard = codes "father = id, phase = reset, every child is not reset and has session"; effect = codes "phase := normal; complete"; holds = is_root v.father && is_reset phase && children_done session v.children; does = completes Normal session }
+    ∷ record { number = 8; name = codes "mend-reset"; guard = codes "father j is not reset, phase = reset"; effect = mend; holds = father_awake v.father && is_reset phase; does = becomes up.phase up.session }
+    ∷ record { number = 9; name = codes "mend-number"; guard = codes "father j is not reset, phase != reset, session != session.j"; effect = mend; holds = father_awake v.father && not (is_reset phase) && not (session == up.session); does = becomes up.phase up.session }
+    ∷ record { number = 10; name = codes "mend-both"; guard = codes "father j is reset, phase = reset, session != session.j"; effect = mend; holds = father_reset v.father && is_reset phase && not (session == up.session); does = becomes up.phase up.session }
+    ∷ record { number = 11; name = codes "mend-late"; guard = codes "father j is reset, phase != reset, session.j is neither session nor session + 1"; effect = mend; holds = father_reset v.father && not (is_reset phase) && not (up.session == session) && not (up.session == next_session session); does = becomes up.phase up.session }
     ∷ []
 
 -- the registers of the child with this id
 abbrev pub child_regs : ℕ → List (ℕ × WaveRegs) → Option WaveRegs
 child_regs id children = lookup (λ child. child == id) children
 
--- what firing a row of the list does
-abbrev pub fired_of : List Row → ℕ → Result WaveMove WaveRefusal
-fired_of [] n = Err NoSuchCase
-fired_of (row ∷ rows) n = if row.number == n then (if row.guard then row.effect else Err NotEnabled) else fired_of rows n
-
 -- the rows that name a child
 abbrev pub names_child : ℕ → Bool
 names_child n = n == 2
 
 -- row n with the child that it names, None where it isn't among the children
-abbrev pub fired_at : LocalView → ℕ → Option WaveRegs → Result WaveMove WaveRefusal
-fired_at v n None = Err NotChild
-fired_at v n (Some regs) = fired_of (wave_table v (is_initiate regs.phase)) n
+abbrev pub fired_at : LocalView → ℕ → ℕ → Option WaveRegs → Result WaveMove WaveRefusal
+fired_at v n id None = Err NotChild
+fired_at v n id (Some regs) = fired_of NoSuchCase NotEnabled (wave_table v ((id, regs) ∷ [])) n
 
 -- case n, with this child named: what the node does, or the first refusal
 abbrev pub wave_fired : LocalView → ℕ → Option ℕ → Result WaveMove WaveRefusal
 wave_fired v n None =
     if nat_lt n 1 || nat_lt 11 n then Err NoSuchCase
-    else (if names_child n then Err NotChild else fired_of (wave_table v false) n)
+    else (if names_child n then Err NotChild else fired_of NoSuchCase NotEnabled (wave_table v []) n)
 wave_fired v n (Some id) =
     if nat_lt n 1 || nat_lt 11 n then Err NoSuchCase
-    else (if names_child n then fired_at v n (child_regs id v.children) else Err NotChild)
+    else (if names_child n then fired_at v n id (child_regs id v.children) else Err NotChild)
 
 -- the predicate of a node's registers and those of its father, a neighbour
 pub record WaveHolds (own up : WaveRegs) : Type 0 where
@@ -146,5 +142,5 @@ FatherHolds own Lost = Unit {0}
 FatherHolds own (Is up) = WaveHolds own up
 
 -- no row from 8 on is enabled
-abbrev pub no_mend : List Row → Bool
-no_mend rows = list_all (λ row. nat_lt row.number 8 || not row.guard) rows
+abbrev pub no_mend : List (Row (Result WaveMove WaveRefusal)) → Bool
+no_mend rows = list_all (λ row. nat_lt row.number 8 || not row.holds) rows

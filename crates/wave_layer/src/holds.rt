@@ -1,6 +1,7 @@
 // The predicate of a node's wave registers and its father's.
 
-ghost use Rattle.std.specs.Prelude.{◌≡◌, ◌↔◌, Bool, IsTrue};
+ghost use Rattle.std.specs.Prelude.{◌≡◌, ◌↔◌, ℕ, List, IsTrue};
+ghost use Rattle.wave_layer.specs.declared.regs.WaveRegs.{WaveRegs};
 ghost use Rattle.wave_layer.specs.WaveTable.{FatherHolds, WaveHolds, no_mend, wave_table};
 
 use crate::regs::{FatherSeen, WaveRegs};
@@ -10,7 +11,7 @@ use crate::view::WaveView;
 /// Whether the node's wave registers fit its father's; they do exactly where no mending row is enabled.
 pub fn wave_good(view: &WaveView) -> bool
     ensures predicate { IsTrue result ↔ FatherHolds view.now.own view.now.father }
-    ensures table { (asked : Bool) → result ≡ no_mend (wave_table view.now asked) }
+    ensures table { (asked : List (ℕ × WaveRegs)) → result ≡ no_mend (wave_table view.now asked) }
 {
     match view.father() {
         FatherSeen::Is(up) => fits(view.own(), up),

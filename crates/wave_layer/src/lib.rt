@@ -7,14 +7,16 @@
 #![tactic(auto)]
 
 mod boot;
-mod fire;
+mod effects;
+mod guards;
 mod holds;
 mod regs;
 mod sessions;
+mod table;
 mod view;
 
 pub use boot::boot_wave;
-pub use fire::wave_fire;
 pub use holds::wave_good;
 pub use regs::{FatherSeen, Phase, WaveMove, WaveRefusal, WaveRegs};
+pub use table::{wave_enabled, wave_fire, wave_rows};
 pub use view::WaveView;

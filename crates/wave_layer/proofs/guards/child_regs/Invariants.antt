@@ -1,6 +1,6 @@
 use Rattle.std.proofs.Common.{◌≡◌, drop}
 use Rattle.wave_layer.specs.WaveTable.{child_regs}
-use Rattle.wave_layer.proofs.fire.child_regs.Given as goal
+use Rattle.wave_layer.proofs.guards.child_regs.Given as goal
 
 -- the child is looked for among those that are left
 abbrev pub invariant-loop-child : goal.invariant-loop-child

@@ -1,0 +1,5 @@
+pub mod Written
+pub mod Numbers
+pub mod NumberBits
+pub mod Table
+pub mod RowText

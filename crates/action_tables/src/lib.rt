@@ -1,0 +1,16 @@
+//! Tables of guarded actions: sets of their cases, their rows in print, and how all output is written.
+//!
+//! A table is written once, as a macro that calls back with its rows. [`enabled_cases`],
+//! [`fire_case`] and [`case_rows`] make of the rows what a layer needs of its table.
+#![tactic(auto)]
+
+mod case_set;
+mod part;
+mod put;
+mod row;
+mod table;
+
+pub use case_set::CaseSet;
+pub use part::{Part, put_parts};
+pub use put::{WriteFault, put_bytes, put_number};
+pub use row::{CaseRow, print_rows};
