@@ -1,18 +1,22 @@
 -- An event's line has the event's words, and no other event has them.
 use Rattle.std.specs.Prelude.{codes}
-use Rattle.std.proofs.Common.{◌≡◌, ℕ, ◌<◌, ◌^◌, List, [], ◌∷◌, sym, ap, ◌∙◌, arith, length, get_or, Option, None, Some, IfSome, IfNone}
+use Rattle.std.proofs.Common.{◌≡◌, ℕ, ◌+◌, ◌*◌, ◌<◌, ◌^◌, List, [], ◌∷◌, sym, ap, ◌∙◌, arith, length, get_or, Option, None, Some, IfSome, IfNone}
 use Rattle.std.specs.Fmt.{decimal}
 use Rattle.std.proofs.lemmas.Fmt.{decimal_injective}
 use Rattle.reset_machine.specs.EventText.{event_words, event_line, Fits}
 use Rattle.reset_machine.specs.Words.{words_of}
 use Rattle.reset_machine.specs.declared.event.Event.{Event}
-use Rattle.reset_machine.specs.declared.event.Event.TheVariants.{Request, Relay, Open, Join, Finish, Mend}
+use Rattle.reset_machine.specs.declared.event.Event.TheVariants.{Claim, Follow, Adopt, Request, Relay, Open, Join, Finish, Mend}
 use Rattle.reset_machine.proofs.WordLines.{words_of-word, words_of-more, words_of-some, line-words, IsWord-decimal}
 
 pub words_of-decimal : (n : ℕ) → n < 2 ^ 32 → words_of (decimal n) ≡ decimal n ∷ []
 words_of-decimal n h = words_of-word (decimal n) (IsWord-decimal n h)
 
 pub words_of-event_line : (e : Event) → Fits e → words_of (event_line e) ≡ event_words e
+words_of-event_line (Claim at) h = ap (λ ws. codes "claim" ∷ ws) (words_of-decimal at h)
+words_of-event_line (Follow at) h = ap (λ ws. codes "follow" ∷ ws) (words_of-decimal at h)
+words_of-event_line (Adopt at from) h =
+    ap (λ ws. codes "adopt" ∷ ws) (words_of-more (decimal at) (decimal from) (IsWord-decimal at h.0) ∙ ap (λ ws. decimal at ∷ ws) (words_of-decimal from h.1))
 words_of-event_line (Request at) h = ap (λ ws. codes "request" ∷ ws) (words_of-decimal at h)
 words_of-event_line (Relay at child) h =
     ap (λ ws. codes "relay" ∷ ws) (words_of-more (decimal at) (decimal child) (IsWord-decimal at h.0) ∙ ap (λ ws. decimal at ∷ ws) (words_of-decimal child h.1))
@@ -36,6 +40,9 @@ no_event_at line ws (Some e) split h = tt
 
 -- the second word of an event is a number
 pub second_word : (e : Event) (command w : List ℕ) (rest : List (List ℕ)) → Fits e → event_words e ≡ command ∷ w ∷ rest → (n : ℕ) × (n < 2 ^ 32) × (w ≡ decimal n)
+second_word (Claim at) command w rest h p = (at, h, cc)
+second_word (Follow at) command w rest h p = (at, h, cc)
+second_word (Adopt at from) command w rest h p = (at, h.0, cc)
 second_word (Request at) command w rest h p = (at, h, cc)
 second_word (Relay at child) command w rest h p = (at, h.0, cc)
 second_word (Open at) command w rest h p = (at, h, cc)
@@ -45,6 +52,9 @@ second_word (Mend at) command w rest h p = (at, h, cc)
 
 -- what follows the second word of an event, if anything does, is a number
 pub third_word : (e : Event) (command w rest : List ℕ) → Fits e → event_words e ≡ command ∷ w ∷ words_of rest → (n : ℕ) × (n < 2 ^ 32) × (rest ≡ decimal n)
+third_word (Claim at) command w rest h p = absurd (words_of-some rest (cc))
+third_word (Follow at) command w rest h p = absurd (words_of-some rest (cc))
+third_word (Adopt at from) command w rest h p = (from, h.1, line-words rest (decimal from ∷ []) (cc))
 third_word (Request at) command w rest h p = absurd (words_of-some rest (cc))
 third_word (Relay at child) command w rest h p = (child, h.1, line-words rest (decimal child ∷ []) (cc))
 third_word (Open at) command w rest h p = absurd (words_of-some rest (cc))
@@ -55,19 +65,22 @@ third_word (Mend at) command w rest h p = absurd (words_of-some rest (cc))
 same_number : (m n : ℕ) → m < 2 ^ 32 → n < 2 ^ 32 → decimal m ≡ decimal n → m ≡ n
 same_number m n p q h = decimal_injective m n (omega arith) (omega arith) h
 
--- with the number of words it tells events apart
-abbrev first_byte : List (List ℕ) → ℕ
-first_byte [] = 0
-first_byte (w ∷ ws) = get_or w 0 0
+-- with the number of words, the first two bytes of the first word tell events apart
+abbrev first_bytes : List (List ℕ) → ℕ
+first_bytes [] = 0
+first_bytes (w ∷ ws) = 1000 * get_or w 0 0 + get_or w 1 0
 
 same_words : (e f : Event) → Fits e → Fits f → event_words e ≡ event_words f → e ≡ f
+same_words (Claim a) (Claim b) p q h = ap Claim (same_number a b p q (cc))
+same_words (Follow a) (Follow b) p q h = ap Follow (same_number a b p q (cc))
+same_words (Adopt a c) (Adopt b d) p q h = ap (λ n. Adopt n c) (same_number a b p.0 q.0 (cc)) ∙ ap (λ n. Adopt b n) (same_number c d p.1 q.1 (cc))
 same_words (Request a) (Request b) p q h = ap Request (same_number a b p q (cc))
 same_words (Open a) (Open b) p q h = ap Open (same_number a b p q (cc))
 same_words (Join a) (Join b) p q h = ap Join (same_number a b p q (cc))
 same_words (Finish a) (Finish b) p q h = ap Finish (same_number a b p q (cc))
 same_words (Mend a) (Mend b) p q h = ap Mend (same_number a b p q (cc))
 same_words (Relay a c) (Relay b d) p q h = ap (λ n. Relay n c) (same_number a b p.0 q.0 (cc)) ∙ ap (λ n. Relay b n) (same_number c d p.1 q.1 (cc))
-same_words e f p q h = absurd (omega (arith, ap first_byte h, ap length h))
+same_words e f p q h = absurd (omega (arith, ap first_bytes h, ap length h))
 
 pub one_event : (e f : Event) → Fits e → Fits f → event_line e ≡ event_line f → e ≡ f
 one_event e f p q h = same_words e f p q (sym (words_of-event_line e p) ∙ ap words_of h ∙ words_of-event_line f q)

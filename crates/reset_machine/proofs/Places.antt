@@ -1,8 +1,8 @@
 -- The values of ids that stand in a list in the order of the ids.
-use Rattle.std.proofs.Common.{◌≡◌, ◌≢◌, ℕ, zero, suc, ◌<◌, Bool, true, false, cond, nat_eq, List, [], ◌∷◌, length, slice_index, slice_index_or, slice_set, Some, None, is_some, nat_lt, position, Contains, ◌==◌, ◌⊎◌, inl, inr, refl, ap, sym, ◌∙◌, subst, arith}
+use Rattle.std.proofs.Common.{◌≡◌, ◌≢◌, ℕ, zero, suc, ◌<◌, Bool, true, false, cond, nat_eq, List, [], ◌∷◌, length, slice_index, slice_index_or, slice_set, Option, Some, None, IsSome, is_some, nat_lt, position, Contains, ◌==◌, ◌⊎◌, inl, inr, refl, ap, sym, ◌∙◌, subst, arith}
 use Rattle.std.specs.List.Sorted.{IsStrictlyIncreasing}
 use Rattle.std.proofs.lemmas.Bool.Decides.{nat_tests, eqb_tells}
-use Rattle.std.proofs.lemmas.Bool.{eqb-true, eq-eqb, ne_eqb, false≢true}
+use Rattle.std.proofs.lemmas.Bool.{eqb-true, eq-eqb, ne_eqb, false≢true, lt-ltb}
 use Rattle.std.specs.List.{list_any, position_or_len}
 use Rattle.std.proofs.lemmas.List.{get_or_default}
 use Rattle.std.proofs.lemmas.List.Quantifiers.{position-Some}
@@ -124,3 +124,26 @@ value_at-put_at_other d (k ∷ ks) (x ∷ xs) id other y apart = at (eqb_tells k
     at (inl e) (inr f) rest = rw (e.0, f.0) refl
     at (inr e) (inl f) rest = rw (e.0, f.0) refl
     at (inr e) (inr f) rest = rw (e.0, f.0) rest
+
+-- an answer is not both there and not
+pub none_is_no_some : {X : Type 0} {o : Option X} → o ≡ None → IsSome o → ⊥
+none_is_no_some {o = None} is some = absurd (false≢true some)
+none_is_no_some {o = Some x} is some = cc
+
+-- the id at the place that a search gives
+pub id_at-position : (ids : List ℕ) (ix id : ℕ) → position (λ i. i == id) ids ≡ Some ix → slice_index ids ix ≡ id
+id_at-position ids ix id found = eqb-true _ _ (position-Some (λ i. i == id) ids ix 0 found).1
+
+-- a search for the id at a place ends at the place, where the id stands nowhere before
+position_or_len-place : (ids : List ℕ) (ix id : ℕ) → ix < length ids → slice_index ids ix ≡ id → ((k : ℕ) → k < ix → slice_index ids k ≢ id) → position_or_len (λ i. i == id) ids ≡ ix
+position_or_len-place [] ix id short here before = absurd (omega arith)
+position_or_len-place (i ∷ ids) zero id short here before = grind (arith, nat_tests)
+position_or_len-place (i ∷ ids) (suc ix) id short here before =
+    let other : i ≢ id = before 0 (omega arith) in
+    let rest : position_or_len (λ i. i == id) ids ≡ ix = position_or_len-place ids ix id (omega arith) here (λ k l. before (suc k) (omega arith)) in
+    grind (arith, nat_tests)
+
+pub position-place : (ids : List ℕ) (ix : ℕ) → IsStrictlyIncreasing ids → ix < length ids → position (λ i. i == slice_index ids ix) ids ≡ Some ix
+position-place ids ix up short =
+    let at = position_or_len-place ids ix (slice_index ids ix) short refl (λ k l e. absurd (omega (arith, AllPairs-from_increasing ids up k ix 0 l short))) in
+    ap (λ n. cond (nat_lt n (length ids)) (Some n) None) at ∙ ap (λ b. cond b (Some ix) None) (lt-ltb ix (length ids) short)

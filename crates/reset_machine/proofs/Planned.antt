@@ -1,34 +1,32 @@
 -- The three ends of planning an event: a strange node, a strange neighbour, and what the rows answer.
-use Rattle.std.proofs.Common.{◌≡◌, ℕ, ◌==◌, not, true, false, cond, Result, Err, List, map, subst, ap, ◌∙◌}
+use Rattle.std.proofs.Common.{◌≡◌, ◌≢◌, ℕ, ◌==◌, not, true, false, cond, Result, Ok, Err, MatchResult, List, length, map, refl, subst, ap, ◌∙◌}
 use Rattle.std.specs.List.{list_any}
-use Rattle.topology.specs.Graph.{Graph}
+use Rattle.topology.specs.Graph.{Graph, neighbours_of, node_bound}
 use Rattle.tree_layer.specs.declared.regs.TreeRegs.{TreeRegs}
 use Rattle.wave_layer.specs.declared.regs.WaveRegs.{WaveRegs}
-use Rattle.wave_layer.specs.declared.regs.WaveMove.{WaveMove}
 use Rattle.wave_layer.specs.declared.regs.FatherSeen.{FatherSeen}
 use Rattle.wave_layer.specs.WaveTable.{LocalView}
 use Rattle.reset_machine.specs.declared.event.Event.{Event}
 use Rattle.reset_machine.specs.declared.step.StepRefusal.{StepRefusal}
-use Rattle.reset_machine.specs.declared.step.StepRefusal.TheVariants.{StrangeNode, StrangeNeighbour}
+use Rattle.reset_machine.specs.declared.step.StepRefusal.TheVariants.{StrangeNode, StrangeNeighbour, NoMemory}
+use Rattle.reset_machine.specs.declared.plan.Effect.{Effect}
 use Rattle.reset_machine.specs.Steps.{event_node, named_node}
-use Rattle.reset_machine.specs.LocalSteps.{planned_of, is_neighbour, step_answer, fired_first, father_seen, children_of, view_of, cases_of}
+use Rattle.tree_layer.specs.TreeTable as tree
+use Rattle.reset_machine.specs.LocalSteps.{planned_of, answer_of, is_neighbour, father_seen, children_of, view_of, tree_view_of}
 
-module _ (g : Graph) (t : ℕ → TreeRegs) (w : ℕ → WaveRegs) (e : Event) where
-  abbrev answer : Result WaveMove StepRefusal
-  answer = step_answer (fired_first (view_of g t w (event_node e)) (named_node e) (cases_of e))
+module _ (g : Graph) (K : ℕ) (t : ℕ → TreeRegs) (w : ℕ → WaveRegs) (e : Event) where
+  pub planned_of-strange_node : list_any (λ i. i == event_node e) g.ids ≡ false → planned_of g K t w e ≡ Err StrangeNode
+  planned_of-strange_node none = ap (λ b. cond (not b) (Err StrangeNode) (cond (not (is_neighbour g (event_node e) (named_node e))) (Err StrangeNeighbour) (answer_of g K t w e))) none
 
-  pub planned_of-strange_node : list_any (λ i. i == event_node e) g.ids ≡ false → planned_of g t w e ≡ Err StrangeNode
-  planned_of-strange_node none = ap (λ b. cond (not b) (Err StrangeNode) (cond (not (is_neighbour g (event_node e) (named_node e))) (Err StrangeNeighbour) answer)) none
-
-  pub planned_of-strange_neighbour : list_any (λ i. i == event_node e) g.ids ≡ true → is_neighbour g (event_node e) (named_node e) ≡ false → planned_of g t w e ≡ Err StrangeNeighbour
+  pub planned_of-strange_neighbour : list_any (λ i. i == event_node e) g.ids ≡ true → is_neighbour g (event_node e) (named_node e) ≡ false → planned_of g K t w e ≡ Err StrangeNeighbour
   planned_of-strange_neighbour node stranger =
-      ap (λ b. cond (not b) (Err StrangeNode) (cond (not (is_neighbour g (event_node e) (named_node e))) (Err StrangeNeighbour) answer)) node
-      ∙ ap (λ b. cond (not b) (Err StrangeNeighbour) answer) stranger
+      ap (λ b. cond (not b) (Err StrangeNode) (cond (not (is_neighbour g (event_node e) (named_node e))) (Err StrangeNeighbour) (answer_of g K t w e))) node
+      ∙ ap (λ b. cond (not b) (Err StrangeNeighbour) (answer_of g K t w e)) stranger
 
-  pub planned_of-named : list_any (λ i. i == event_node e) g.ids ≡ true → is_neighbour g (event_node e) (named_node e) ≡ true → planned_of g t w e ≡ answer
+  pub planned_of-named : list_any (λ i. i == event_node e) g.ids ≡ true → is_neighbour g (event_node e) (named_node e) ≡ true → planned_of g K t w e ≡ answer_of g K t w e
   planned_of-named node neighbour =
-      ap (λ b. cond (not b) (Err StrangeNode) (cond (not (is_neighbour g (event_node e) (named_node e))) (Err StrangeNeighbour) answer)) node
-      ∙ ap (λ b. cond (not b) (Err StrangeNeighbour) answer) neighbour
+      ap (λ b. cond (not b) (Err StrangeNode) (cond (not (is_neighbour g (event_node e) (named_node e))) (Err StrangeNeighbour) (answer_of g K t w e))) node
+      ∙ ap (λ b. cond (not b) (Err StrangeNeighbour) (answer_of g K t w e)) neighbour
 
 -- a view of these parts is what the node sees
 pub view_of-parts : (g : Graph) (t : ℕ → TreeRegs) (w : ℕ → WaveRegs) (at id : ℕ) (v : LocalView) (own : WaveRegs) (father : FatherSeen) (children : List (ℕ × WaveRegs)) → at ≡ id →
@@ -37,3 +35,17 @@ view_of-parts g t w at id v own father children same is own_is father_is childre
     let P : ℕ → Type 0 = λ k. view_of g t w k ≡ v in
     let parts : view_of g t w at ≡ v = cc in
     subst P same parts
+
+-- what is answered is exactly what is
+pub exact_of : (r r' : Result Effect StepRefusal) → r ≡ r' → MatchResult r' (λ does. r ≡ Ok does) (λ f. f ≢ NoMemory → r ≡ Err f)
+exact_of r (Ok does) is = is
+exact_of r (Err f) is = λ _. is
+
+pub bound_is : (g : Graph) → length g.ids ≡ node_bound g
+unfolding node_bound
+bound_is g = refl
+
+-- a view of these parts is what the node sees of the tree
+pub tree_view_of-parts : (g : Graph) (K : ℕ) (t : ℕ → TreeRegs) (id bound : ℕ) (v : tree.LocalView) (own : TreeRegs) (near : List (ℕ × TreeRegs)) → v ≡ record { id = id; bound = bound; own = own; near = near } →
+    bound ≡ K → t id ≡ own → near ≡ map (λ j. (j, t j)) (neighbours_of g id) → v ≡ tree_view_of g K t id
+tree_view_of-parts g K t id bound v own near is bound_is own_is near_is = cc

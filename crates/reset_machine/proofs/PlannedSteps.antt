@@ -1,156 +1,92 @@
 -- What is planned on a node's view is a step of the whole configuration, or its first refusal.
-use Rattle.std.proofs.Common.{◌≡◌, ℕ, ◌≤◌, Bool, true, false, cond, nat_eq, List, map, Option, Some, None, Result, Ok, Err, MatchResult, refl, sym, ap, subst, ◌∙◌, ◌⊎◌, inl, inr, ⊎_elim, true≢false}
-use Rattle.std.proofs.lemmas.Bool.{eqb-true, eq-eqb}
+use Rattle.std.proofs.Common.{◌≡◌, ℕ, Bool, true, false, cond, nat_eq, Option, Some, None, Result, Ok, Err, MatchResult, refl, sym, ap, subst, ◌∙◌, true≢false}
 use Rattle.topology.specs.Graph.{Graph, IsGraph, IsNode, AreLinked, are_linked}
-use Rattle.tree_layer.specs.declared.regs.TreeRegs.{TreeRegs}
-use Rattle.wave_layer.specs.declared.regs.WaveRegs.{WaveRegs}
-use Rattle.wave_layer.specs.declared.regs.Phase.{Phase}
-use Rattle.wave_layer.specs.declared.regs.Phase.TheVariants.{Normal, Initiate, Reset}
-use Rattle.wave_layer.specs.declared.regs.FatherSeen.TheVariants.{Itself, Lost, Is}
-use Rattle.wave_layer.specs.declared.regs.WaveMove.{WaveMove}
-use Rattle.wave_layer.specs.WaveTable.{is_reset, is_root, father_regs, child_regs, children_done, next_session}
-use Rattle.reset_machine.specs.declared.event.Event.{Event}
-use Rattle.reset_machine.specs.declared.event.Event.TheVariants.{Request, Relay, Open, Join, Finish, Mend}
-use Rattle.reset_machine.specs.declared.step.StepRefusal.{StepRefusal}
-use Rattle.reset_machine.specs.declared.step.StepRefusal.TheVariants.{StrangeNode, StrangeNeighbour, NotEnabled, SessionsSpent, NoMemory}
-use Rattle.reset_machine.specs.Steps.{strange_node, strange_neighbour, not_enabled, sessions_spent, join_normal, join_asked, mend_reset, mend_number, mend_both, mend_late, event_node, named_node, IsFather, IsEnabled, IsSpent, IsNamed, IsRefused, Joins, Finishes, Mends, wave_effect}
-use Rattle.reset_machine.specs.LocalSteps.{view_of, father_seen, children_of, is_neighbour, cases_of, fired_first, step_answer, planned_of}
-use Rattle.reset_machine.proofs.Planned.{planned_of-strange_node, planned_of-strange_neighbour, planned_of-named}
-use Rattle.reset_machine.proofs.Rows.{IsAnswer, IsInvited, IsTorn, Contradict, one_reset, other_number, both_reset, too_late, request_answers, relay_answers, relay_answers-stranger, open_answers, join_answers, finish_answers, mend_answers}
 use Rattle.topology.specs.Building.{has}
 use Rattle.topology.proofs.Membership.{has-Contains, Contains-has}
-use Rattle.reset_machine.proofs.Seen.{is_done, father_seen-itself, father_seen-IsFather, IsFather-father_seen, itself-father_seen, child_regs-among, children_done-each, each-children_done, IsFather-is_child, is_child-IsFather}
+use Rattle.tree_layer.specs.declared.regs.TreeRegs.{TreeRegs}
+use Rattle.wave_layer.specs.declared.regs.WaveRegs.{WaveRegs}
+use Rattle.reset_machine.specs.declared.event.Event.{Event}
+use Rattle.reset_machine.specs.declared.event.Event.TheVariants.{Claim, Follow, Adopt, Request, Relay, Open, Join, Finish, Mend}
+use Rattle.reset_machine.specs.declared.plan.Effect.{Effect}
+use Rattle.reset_machine.specs.declared.plan.Effect.TheVariants.{Tree, Wave}
+use Rattle.reset_machine.specs.declared.step.Reply.{Reply}
+use Rattle.reset_machine.specs.declared.step.Reply.TheVariants.{Applied, Complete}
+use Rattle.reset_machine.specs.declared.step.StepRefusal.{StepRefusal}
+use Rattle.reset_machine.specs.declared.step.StepRefusal.TheVariants.{StrangeNode, StrangeNeighbour, NotEnabled, SessionsSpent, NoMemory}
+use Rattle.reset_machine.specs.Steps.{strange_node, strange_neighbour, not_enabled, sessions_spent, event_node, named_node, IsEnabled, IsSpent, IsNamed, IsRefused, reply_of, tree_effect, wave_effect}
+use Rattle.reset_machine.specs.LocalSteps.{is_neighbour, answer_of, planned_of, children_of}
+use Rattle.reset_machine.specs.Outcome.{tree_left, wave_left, effect_reply}
+use Rattle.reset_machine.proofs.Planned.{planned_of-strange_node, planned_of-strange_neighbour, planned_of-named}
+use Rattle.reset_machine.proofs.WaveRows.{IsAnswer}
+use Rattle.reset_machine.proofs.WavePlans.{completes_of, WaveAnswers, request_is, relay_is, open_is, join_is, finish_is, mend_is}
+use Rattle.reset_machine.proofs.TreePlans.{IsTreeAnswer, claim_is, follow_is, adopt_is}
 
--- an answer under other names of its parts
-answer_as : (r : Result WaveMove StepRefusal) (S : Type 0) {E E' : Type 0} {regs regs' : WaveRegs} {b b' : Bool} → IsAnswer r E S regs b → (E → E') → (E' → E) → (E → regs ≡ regs') → b ≡ b' → IsAnswer r E' S regs' b'
-answer_as (Ok move) S h there back same flag = (there h.0, h.1, h.2 ∙ same h.0, h.3 ∙ flag)
-answer_as (Err StrangeNode) S h there back same flag = h
-answer_as (Err StrangeNeighbour) S h there back same flag = h
-answer_as (Err NotEnabled) S h there back same flag = λ e. h (back e)
-answer_as (Err SessionsSpent) S h there back same flag = (there h.0, h.1)
-answer_as (Err NoMemory) S h there back same flag = h
+module _ (g : Graph) (K : ℕ) (t : ℕ → TreeRegs) (w : ℕ → WaveRegs) (graph : IsGraph g) where
+  -- what an effect leaves is what the event leaves
+  pub record IsEffect (e : Event) (does : Effect) : Type 0 where
+    pub tree : tree_left (t (event_node e)) does ≡ tree_effect K t e
+    pub wave : wave_left (w (event_node e)) does ≡ wave_effect t w e
+    pub reply : effect_reply does ≡ reply_of t w e
 
--- whether the event completes a reset
-abbrev pub completes_of : (ℕ → TreeRegs) → Event → Bool
-completes_of t (Request i) = false
-completes_of t (Relay i c) = false
-completes_of t (Open i) = false
-completes_of t (Join i) = false
-completes_of t (Finish i) = nat_eq (t i).father i
-completes_of t (Mend i) = false
+  -- what an event's rows answer, of an event that names nodes of the graph
+  abbrev IsAnswered : Event → Result Effect StepRefusal → Type 0
+  IsAnswered e (Ok does) = IsEnabled g K t w e × (IsSpent w e → ⊥) × IsEffect e does
+  IsAnswered e (Err StrangeNode) = ⊥
+  IsAnswered e (Err StrangeNeighbour) = ⊥
+  IsAnswered e (Err NotEnabled) = IsEnabled g K t w e → ⊥
+  IsAnswered e (Err SessionsSpent) = IsEnabled g K t w e × IsSpent w e
+  IsAnswered e (Err NoMemory) = ⊥
 
-awake_phase : (p : Phase) → is_reset p ≡ false → (p ≡ Normal) ⊎ (p ≡ Initiate)
-awake_phase Normal is = inl refl
-awake_phase Initiate is = inr refl
-awake_phase Reset is = absurd (true≢false is)
+  -- a wave event leaves the tree registers, and its reply says whether it completes a reset
+  by_wave : (e : Event) → tree_effect K t e ≡ t (event_node e) → reply_of t w e ≡ cond (completes_of t e) (Complete (wave_effect t w e).session) Applied
+      → (r : Result Effect StepRefusal) → IsAnswer r (IsEnabled g K t w e) (IsSpent w e) (wave_effect t w e) (completes_of t e) → IsAnswered e r
+  by_wave e stays reply (Ok (Tree regs)) h = absurd h
+  by_wave e stays reply (Ok (Wave move)) h = (
+    h.0,
+    h.1,
+    record {
+      tree = sym stays;
+      wave = h.2;
+      reply = ap (λ b. cond b (Complete move.regs.session) Applied) h.3 ∙ ap (λ (regs : WaveRegs). cond (completes_of t e) (Complete regs.session) Applied) h.2 ∙ sym reply;
+    },
+  )
+  by_wave e stays reply (Err StrangeNode) h = h
+  by_wave e stays reply (Err StrangeNeighbour) h = h
+  by_wave e stays reply (Err NotEnabled) h = h
+  by_wave e stays reply (Err SessionsSpent) h = h
+  by_wave e stays reply (Err NoMemory) h = h
 
-module _ (g : Graph) (t : ℕ → TreeRegs) (w : ℕ → WaveRegs) (graph : IsGraph g) where
-  abbrev answer : Event → Result WaveMove StepRefusal
-  answer e = step_answer (fired_first (view_of g t w (event_node e)) (named_node e) (cases_of e))
+  -- a tree event leaves the wave registers, and opens no session
+  by_tree : (e : Event) → wave_effect t w e ≡ w (event_node e) → reply_of t w e ≡ Applied → (IsSpent w e → ⊥)
+      → (r : Result Effect StepRefusal) → IsTreeAnswer r (IsEnabled g K t w e) (tree_effect K t e) → IsAnswered e r
+  by_tree e stays reply unspent (Ok (Tree regs)) h = (h.0, unspent, record { tree = h.1; wave = sym stays; reply = sym reply })
+  by_tree e stays reply unspent (Ok (Wave move)) h = absurd h
+  by_tree e stays reply unspent (Err StrangeNode) h = h
+  by_tree e stays reply unspent (Err StrangeNeighbour) h = h
+  by_tree e stays reply unspent (Err NotEnabled) h = h
+  by_tree e stays reply unspent (Err SessionsSpent) h = absurd h
+  by_tree e stays reply unspent (Err NoMemory) h = h
 
-  abbrev children : ℕ → List (ℕ × WaveRegs)
-  children i = map (λ c. (c, w c)) (children_of g t i)
-
-  abbrev Answers : Event → Type 0
-  Answers e = IsAnswer (answer e) (IsEnabled g t w e) (IsSpent w e) (wave_effect t w e) (completes_of t e)
-
-  mended : {i : ℕ} (j : ℕ) → IsFather g t i j → Contradict (w i).phase (w i).session (w j) → Mends g t w i
-  mended j father (one_reset above own) = mend_reset j father above own
-  mended j father (other_number above own number) = mend_number j father above own number
-  mended j father (both_reset above own number) = mend_both j father above own number
-  mended j father (too_late above own number next) = mend_late j father above own number next
-
-  parts : {c s : ℕ} (b : Bool) → is_reset (w c).phase ≡ b → is_done w s c ≡ true → (is_reset (w c).phase ≡ false) × ((w c).session ≡ s)
-  parts true is done = absurd (true≢false (sym (rw is at done)))
-  parts false is done = (is, eqb-true _ _ (rw is at done))
-
-  relay_is : (i c : ℕ) → (b : Bool) → has (children_of g t i) c ≡ b → Answers (Relay i c)
-  relay_is i c true among =
-      let regs : child_regs c (children i) ≡ Some (record { phase = (w c).phase; session = (w c).session }) = child_regs-among w (children_of g t i) c ∙ ap (λ b. cond b (Some (w c)) None) among in
-      answer_as (answer (Relay i c)) ⊥ (relay_answers (w i).phase (w i).session (father_seen g t w i) (children i) c (w c).phase (w c).session regs)
-      (λ h. (h.0, is_child-IsFather g t i c graph among, h.1)) (λ h. (h.0, h.2)) (λ _. refl) refl
-  relay_is i c false among =
-      relay_answers-stranger (w i).phase (w i).session (father_seen g t w i) (children i) c _ _ (child_regs-among w (children_of g t i) c ∙ ap (λ b. cond b (Some (w c)) None) among)
-      (λ h. absurd (true≢false (sym (IsFather-is_child g t i c graph h.1) ∙ among)))
-
-  join_is : (i : ℕ) → Answers (Join i)
-  join_is i = answer_as (answer (Join i)) ⊥ (join_answers (w i).phase (w i).session (father_seen g t w i) (children i)) there back same refl
-    where
-      there : IsInvited (w i).phase (w i).session (father_seen g t w i) → Joins g t w i
-      there h =
-          let seen = IsFather-father_seen g t w i h.up h.father in
-          let reset : is_reset (w (t i).father).phase ≡ true = ap (λ r. is_reset r.phase) (sym seen.1) ∙ h.reset in
-          let next : (w (t i).father).session ≡ next_session (w i).session = ap (λ r. r.session) (sym seen.1) ∙ h.next in
-          ⊎_elim (λ p. join_normal _ seen.0 reset p next) (λ p. join_asked _ seen.0 reset p next) (awake_phase _ h.awake)
-
-      back : Joins g t w i → IsInvited (w i).phase (w i).session (father_seen g t w i)
-      back (join_normal j father reset p next) = record { up = w j; father = father_seen-IsFather g t w i graph j father; reset = reset; awake = ap is_reset p; next = next }
-      back (join_asked j father reset p next) = record { up = w j; father = father_seen-IsFather g t w i graph j father; reset = reset; awake = ap is_reset p; next = next }
-
-      same : IsInvited (w i).phase (w i).session (father_seen g t w i) → record { phase = Reset; session = (father_regs (w i) (father_seen g t w i)).session } ≡ wave_effect t w (Join i)
-      same h =
-          let after : WaveRegs → WaveRegs = λ r. record { phase = Reset; session = r.session } in
-          ap (λ f. after (father_regs (w i) f)) h.father ∙ ap after (IsFather-father_seen g t w i h.up h.father).1
-
-  finish_is : (i : ℕ) → Answers (Finish i)
-  finish_is i = answer_as (answer (Finish i)) ⊥ (finish_answers (w i).phase (w i).session (father_seen g t w i) (children i) _ refl) there back (λ _. refl) root
-    where
-      there : ((w i).phase ≡ Reset) × (children_done (w i).session (children i) ≡ true) → Finishes g t w i
-      there h = record { reset = h.0; children = λ c father. parts (is_reset (w c).phase) refl (each-children_done w (w i).session (children_of g t i) h.1 c (IsFather-is_child g t i c graph father)) }
-
-      back : Finishes g t w i → ((w i).phase ≡ Reset) × (children_done (w i).session (children i) ≡ true)
-      back h = (
-        h.reset,
-        children_done-each w (w i).session (children_of g t i) (λ c among.
-            let done = h.children c (is_child-IsFather g t i c graph among) in
-            let number : nat_eq (w c).session (w i).session ≡ true = eq-eqb _ _ done.1 in
-            let awake : is_reset (w c).phase ≡ false = done.0 in
-            rw (awake, number) refl),
-      )
-
-      flag : (b d : Bool) (up : WaveRegs) → is_root (cond b Itself (cond d (Is up) Lost)) ≡ b
-      flag true d up = refl
-      flag false true up = refl
-      flag false false up = refl
-
-      root : is_root (father_seen g t w i) ≡ nat_eq (t i).father i
-      root = flag (nat_eq (t i).father i) (are_linked g i (t i).father) (w (t i).father)
-
-  mend_is : (i : ℕ) → Answers (Mend i)
-  mend_is i = answer_as (answer (Mend i)) ⊥ (mend_answers (w i).phase (w i).session (father_seen g t w i) (children i)) there back same refl
-    where
-      there : IsTorn (w i).phase (w i).session (father_seen g t w i) → Mends g t w i
-      there h =
-          let seen = IsFather-father_seen g t w i h.up h.father in
-          mended (t i).father seen.0 (subst (Contradict (w i).phase (w i).session) seen.1 h.contradict)
-
-      back : Mends g t w i → IsTorn (w i).phase (w i).session (father_seen g t w i)
-      back (mend_reset j father above own) = record { up = w j; father = father_seen-IsFather g t w i graph j father; contradict = one_reset above own }
-      back (mend_number j father above own number) = record { up = w j; father = father_seen-IsFather g t w i graph j father; contradict = other_number above own number }
-      back (mend_both j father above own number) = record { up = w j; father = father_seen-IsFather g t w i graph j father; contradict = both_reset above own number }
-      back (mend_late j father above own number next) = record { up = w j; father = father_seen-IsFather g t w i graph j father; contradict = too_late above own number next }
-
-      same : IsTorn (w i).phase (w i).session (father_seen g t w i) → father_regs (w i) (father_seen g t w i) ≡ w (t i).father
-      same h = ap (father_regs (w i)) h.father ∙ (IsFather-father_seen g t w i h.up h.father).1
-
-  answers : (e : Event) → Answers e
-  answers (Request i) = request_answers (w i).phase (w i).session (father_seen g t w i) (children i)
-  answers (Relay i c) = relay_is i c _ refl
-  answers (Open i) = answer_as (answer (Open i)) (4294967295 ≤ (w i).session) (open_answers (w i).phase (w i).session (father_seen g t w i) (children i)) (λ h. (itself-father_seen g t w i h.0, h.1)) (λ h. (father_seen-itself g t w i h.0, h.1)) (λ _. refl) refl
-  answers (Join i) = join_is i
-  answers (Finish i) = finish_is i
-  answers (Mend i) = mend_is i
+  answered : (e : Event) → IsNamed g e → IsAnswered e (answer_of g K t w e)
+  answered (Claim i) named = by_tree (Claim i) refl refl (λ h. h) _ (claim_is g K t w graph i)
+  answered (Follow i) named = by_tree (Follow i) refl refl (λ h. h) _ (follow_is g K t w graph i)
+  answered (Adopt i j) named = by_tree (Adopt i j) refl refl (λ h. h) _ (adopt_is g K t w graph i j (named.neighbour j refl))
+  answered (Request i) named = by_wave (Request i) refl refl _ (request_is g K t w graph i)
+  answered (Relay i c) named = by_wave (Relay i c) refl refl _ (relay_is g K t w graph i c _ refl)
+  answered (Open i) named = by_wave (Open i) refl refl _ (open_is g K t w graph i)
+  answered (Join i) named = by_wave (Join i) refl refl _ (join_is g K t w graph i)
+  answered (Finish i) named = by_wave (Finish i) refl refl _ (finish_is g K t w graph i)
+  answered (Mend i) named = by_wave (Mend i) refl refl _ (mend_is g K t w graph i)
 
   -- what a plan does is a step
-  pub record IsPlannedStep (e : Event) (move : WaveMove) : Type 0 where
+  pub record IsPlannedStep (e : Event) (does : Effect) : Type 0 where
     pub node : IsNode g (event_node e)
-    pub enabled : IsEnabled g t w e
+    pub enabled : IsEnabled g K t w e
     pub unspent : IsSpent w e → ⊥
-    pub regs : move.regs ≡ wave_effect t w e
-    pub completes : move.completes ≡ completes_of t e
+    pub leaves : IsEffect e does
 
-  step_of : (e : Event) → IsNamed g e → (r : Result WaveMove StepRefusal) → IsAnswer r (IsEnabled g t w e) (IsSpent w e) (wave_effect t w e) (completes_of t e) → MatchResult r (IsPlannedStep e) (IsRefused g t w e)
-  step_of e named (Ok move) h = record { node = named.node; enabled = h.0; unspent = h.1; regs = h.2; completes = h.3 }
+  step_of : (e : Event) → IsNamed g e → (r : Result Effect StepRefusal) → IsAnswered e r → MatchResult r (IsPlannedStep e) (IsRefused g K t w e)
+  step_of e named (Ok does) h = record { node = named.node; enabled = h.0; unspent = h.1; leaves = h.2 }
   step_of e named (Err StrangeNode) h = absurd h
   step_of e named (Err StrangeNeighbour) h = absurd h
   step_of e named (Err NotEnabled) h = not_enabled named h
@@ -164,17 +100,18 @@ module _ (g : Graph) (t : ℕ → TreeRegs) (w : ℕ → WaveRegs) (graph : IsGr
   neighbour : (i : ℕ) (o : Option ℕ) → is_neighbour g i o ≡ true → (j : ℕ) → o ≡ Some j → AreLinked g i j
   neighbour i o is j named = let P : Option ℕ → Type 0 = λ o. is_neighbour g i o ≡ true in subst P named is
 
-  pub planned_steps : (e : Event) (r : Result WaveMove StepRefusal) → planned_of g t w e ≡ r → MatchResult r (IsPlannedStep e) (IsRefused g t w e)
+  pub planned_steps : (e : Event) (r : Result Effect StepRefusal) → planned_of g K t w e ≡ r → MatchResult r (IsPlannedStep e) (IsRefused g K t w e)
   planned_steps e r is = at (has g.ids (event_node e)) (is_neighbour g (event_node e) (named_node e)) refl refl
     where
-      Steps : Result WaveMove StepRefusal → Type 0
-      Steps r = MatchResult r (IsPlannedStep e) (IsRefused g t w e)
+      Steps : Result Effect StepRefusal → Type 0
+      Steps r = MatchResult r (IsPlannedStep e) (IsRefused g K t w e)
 
-      at : (b d : Bool) → has g.ids (event_node e) ≡ b → is_neighbour g (event_node e) (named_node e) ≡ d → MatchResult r (IsPlannedStep e) (IsRefused g t w e)
-      at false d node named = subst Steps (sym (planned_of-strange_node g t w e node) ∙ is) (strange_node (λ there. true≢false (sym (has-Contains g.ids (event_node e) there) ∙ node)))
+      at : (b d : Bool) → has g.ids (event_node e) ≡ b → is_neighbour g (event_node e) (named_node e) ≡ d → MatchResult r (IsPlannedStep e) (IsRefused g K t w e)
+      at false d node named = subst Steps (sym (planned_of-strange_node g K t w e node) ∙ is) (strange_node (λ there. true≢false (sym (has-Contains g.ids (event_node e) there) ∙ node)))
       at true false node named =
           let other = stranger (event_node e) (named_node e) named in
-          subst Steps (sym (planned_of-strange_neighbour g t w e node named) ∙ is) (strange_neighbour other.0 (Contains-has g.ids (event_node e) node) other.1 other.2)
+          subst Steps (sym (planned_of-strange_neighbour g K t w e node named) ∙ is) (strange_neighbour other.0 (Contains-has g.ids (event_node e) node) other.1 other.2)
       at true true node named =
-          subst Steps (sym (planned_of-named g t w e node named) ∙ is)
-          (step_of e (record { node = Contains-has g.ids (event_node e) node; neighbour = neighbour (event_node e) (named_node e) named }) (answer e) (answers e))
+          subst Steps (sym (planned_of-named g K t w e node named) ∙ is)
+          (let named_nodes : IsNamed g e = record { node = Contains-has g.ids (event_node e) node; neighbour = neighbour (event_node e) (named_node e) named } in
+          step_of e named_nodes (answer_of g K t w e) (answered e named_nodes))

@@ -8,8 +8,9 @@ use Rattle.topology.specs.Graph.{Graph, IsGraph, AreLinked, are_linked, neighbou
 use Rattle.tree_layer.specs.declared.regs.TreeRegs.{TreeRegs}
 use Rattle.wave_layer.specs.declared.regs.WaveRegs.{WaveRegs}
 use Rattle.wave_layer.specs.declared.regs.FatherSeen.TheVariants.{Itself, Lost, Is}
-use Rattle.wave_layer.specs.WaveTable.{is_reset, child_regs, children_done}
-use Rattle.reset_machine.specs.Steps.{IsFather}
+use Rattle.wave_layer.specs.WaveTable.{is_reset, children_done}
+use Rattle.std.specs.Map.{lookup}
+use Rattle.tree_layer.specs.TreeRows.{IsFather}
 use Rattle.reset_machine.specs.LocalSteps.{father_seen, children_of}
 
 module _ (g : Graph) (t : ℕ → TreeRegs) (w : ℕ → WaveRegs) (i : ℕ) where
@@ -48,12 +49,12 @@ or-true : (b : Bool) → (b || true) ≡ true
 or-true true = refl
 or-true false = refl
 
--- the registers that a list of children has for an id
-pub child_regs-among : (w : ℕ → WaveRegs) (cs : List ℕ) (c : ℕ) → child_regs c (map (λ i. (i, w i)) cs) ≡ cond (has cs c) (Some (w c)) None
-child_regs-among w [] c = refl
-child_regs-among w (y ∷ ys) c = at (eqb_tells y c) (child_regs-among w ys c)
+-- what a list of nodes with their registers has for an id
+pub lookup-among : {X : Type 0} (w : ℕ → X) (cs : List ℕ) (c : ℕ) → lookup (λ k. k == c) (map (λ i. (i, w i)) cs) ≡ cond (has cs c) (Some (w c)) None
+lookup-among w [] c = refl
+lookup-among {X} w (y ∷ ys) c = at (eqb_tells y c) (lookup-among w ys c)
   where
-    at : ((nat_eq y c ≡ true) × (y ≡ c)) ⊎ ((nat_eq y c ≡ false) × (y ≢ c)) → child_regs c (map (λ i. (i, w i)) ys) ≡ cond (has ys c) (Some (w c)) None → child_regs c (map (λ i. (i, w i)) (y ∷ ys)) ≡ cond (has (y ∷ ys) c) (Some (w c)) None
+    at : ((nat_eq y c ≡ true) × (y ≡ c)) ⊎ ((nat_eq y c ≡ false) × (y ≢ c)) → lookup (λ k. k == c) (map (λ i. (i, w i)) ys) ≡ cond (has ys c) (Some (w c)) None → lookup (λ k. k == c) (map (λ i. (i, w i)) (y ∷ ys)) ≡ cond (has (y ∷ ys) c) (Some (w c)) None
     at (inl e) rest = rw e.0 (ap (λ k. Some (w k)) e.1)
     at (inr e) rest = rw e.0 rest
 

@@ -41,3 +41,11 @@ tree_of c = tree_map c.graph c.trees
 
 abbrev pub wave_of : Configuration → ℕ → WaveRegs
 wave_of c = wave_map c.graph c.waves
+
+-- the configuration with other tree registers of a node
+abbrev pub with_tree : Configuration → ℕ → TreeRegs → Configuration
+with_tree c i regs = record { graph = c.graph; trees = put_at c.graph.ids c.trees i regs; waves = c.waves }
+
+-- the configuration with other wave registers of a node
+abbrev pub with_wave : Configuration → ℕ → WaveRegs → Configuration
+with_wave c i regs = record { graph = c.graph; trees = c.trees; waves = put_at c.graph.ids c.waves i regs }

@@ -3,5 +3,8 @@ pub mod Steps
 pub mod LocalSteps
 pub mod Outcome
 pub mod Words
-pub mod Written
 pub mod EventText
+pub mod Runs
+pub mod WavePicture
+pub mod Sound
+pub mod Enabled

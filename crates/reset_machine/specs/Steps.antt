@@ -1,12 +1,13 @@
--- The steps of the wave layer between whole configurations, and the first refusal where there is none.
+-- The steps between whole configurations, and the first refusal where there is none.
 use Rattle.std.specs.Prelude.{◌≡◌, ◌≢◌, ℕ, ◌≤◌, Bool, true, false, ◌==◌, if◌then◌else◌, Option, Some, None}
-use Rattle.topology.specs.Graph.{Graph, IsNode, AreLinked, Changes}
+use Rattle.topology.specs.Graph.{Graph, IsNode, AreLinked, Changes, node_bound}
 use Rattle.tree_layer.specs.declared.regs.TreeRegs.{TreeRegs}
+use Rattle.tree_layer.specs.TreeRows.{IsFather, Claims, Follows, Adopts, claimed, followed, adopted}
 use Rattle.wave_layer.specs.declared.regs.WaveRegs.{WaveRegs}
 use Rattle.wave_layer.specs.declared.regs.Phase.TheVariants.{Normal, Initiate, Reset}
 use Rattle.wave_layer.specs.WaveTable.{is_reset, next_session}
 use Rattle.reset_machine.specs.declared.event.Event.{Event}
-use Rattle.reset_machine.specs.declared.event.Event.TheVariants.{Request, Relay, Open, Join, Finish, Mend}
+use Rattle.reset_machine.specs.declared.event.Event.TheVariants.{Claim, Follow, Adopt, Request, Relay, Open, Join, Finish, Mend}
 use Rattle.reset_machine.specs.declared.step.Reply.{Reply}
 use Rattle.reset_machine.specs.declared.step.Reply.TheVariants.{Applied, Complete}
 use Rattle.reset_machine.specs.declared.step.StepRefusal.{StepRefusal}
@@ -15,6 +16,9 @@ use Rattle.reset_machine.specs.Configuration.{Configuration, tree_of, wave_of}
 
 -- the node at which the event happens, which alone it changes
 abbrev pub event_node : Event → ℕ
+event_node (Claim i) = i
+event_node (Follow i) = i
+event_node (Adopt i j) = i
 event_node (Request i) = i
 event_node (Relay i c) = i
 event_node (Open i) = i
@@ -24,6 +28,9 @@ event_node (Mend i) = i
 
 -- the other node that the event names
 abbrev pub named_node : Event → Option ℕ
+named_node (Claim i) = None
+named_node (Follow i) = None
+named_node (Adopt i j) = Some j
 named_node (Request i) = None
 named_node (Relay i c) = Some c
 named_node (Open i) = None
@@ -31,10 +38,17 @@ named_node (Join i) = None
 named_node (Finish i) = None
 named_node (Mend i) = None
 
--- i's father register names its neighbour j
-pub record IsFather (g : Graph) (t : ℕ → TreeRegs) (i j : ℕ) : Type 0 where
-  pub named : (t i).father ≡ j
-  pub linked : AreLinked g i j
+-- the events of the tree layer
+abbrev pub is_of_tree : Event → Bool
+is_of_tree (Claim i) = true
+is_of_tree (Follow i) = true
+is_of_tree (Adopt i j) = true
+is_of_tree (Request i) = false
+is_of_tree (Relay i c) = false
+is_of_tree (Open i) = false
+is_of_tree (Join i) = false
+is_of_tree (Finish i) = false
+is_of_tree (Mend i) = false
 
 abbrev pub reset_at : (ℕ → WaveRegs) → ℕ → Bool
 reset_at w i = is_reset (w i).phase
@@ -56,17 +70,23 @@ pub data Mends (g : Graph) (t : ℕ → TreeRegs) (w : ℕ → WaveRegs) (i : �
   mend_both : (j : ℕ) → IsFather g t i j → reset_at w j ≡ true → reset_at w i ≡ true → (w i).session ≢ (w j).session → Mends g t w i
   mend_late : (j : ℕ) → IsFather g t i j → reset_at w j ≡ true → reset_at w i ≡ false → (w j).session ≢ (w i).session → (w j).session ≢ next_session (w i).session → Mends g t w i
 
--- the guard of a row of the event holds
-abbrev pub IsEnabled : Graph → (ℕ → TreeRegs) → (ℕ → WaveRegs) → Event → Type 0
-IsEnabled g t w (Request i) = (w i).phase ≡ Normal
-IsEnabled g t w (Relay i c) = ((w i).phase ≡ Normal) × IsFather g t c i × ((w c).phase ≡ Initiate)
-IsEnabled g t w (Open i) = ((t i).father ≡ i) × ((w i).phase ≡ Initiate)
-IsEnabled g t w (Join i) = Joins g t w i
-IsEnabled g t w (Finish i) = Finishes g t w i
-IsEnabled g t w (Mend i) = Mends g t w i
+-- the guard of a row of the event holds, where K bounds the distances
+abbrev pub IsEnabled : Graph → ℕ → (ℕ → TreeRegs) → (ℕ → WaveRegs) → Event → Type 0
+IsEnabled g K t w (Claim i) = Claims g K t i
+IsEnabled g K t w (Follow i) = Follows g K t i
+IsEnabled g K t w (Adopt i j) = Adopts g K t i j
+IsEnabled g K t w (Request i) = (w i).phase ≡ Normal
+IsEnabled g K t w (Relay i c) = ((w i).phase ≡ Normal) × IsFather g t c i × ((w c).phase ≡ Initiate)
+IsEnabled g K t w (Open i) = ((t i).father ≡ i) × ((w i).phase ≡ Initiate)
+IsEnabled g K t w (Join i) = Joins g t w i
+IsEnabled g K t w (Finish i) = Finishes g t w i
+IsEnabled g K t w (Mend i) = Mends g t w i
 
 -- the event would open the session after the last one
 abbrev pub IsSpent : (ℕ → WaveRegs) → Event → Type 0
+IsSpent w (Claim i) = ⊥
+IsSpent w (Follow i) = ⊥
+IsSpent w (Adopt i j) = ⊥
 IsSpent w (Request i) = ⊥
 IsSpent w (Relay i c) = ⊥
 IsSpent w (Open i) = 4294967295 ≤ (w i).session
@@ -74,8 +94,23 @@ IsSpent w (Join i) = ⊥
 IsSpent w (Finish i) = ⊥
 IsSpent w (Mend i) = ⊥
 
--- what the event leaves in the registers of its node
+-- what the event leaves in the tree registers of its node
+abbrev pub tree_effect : ℕ → (ℕ → TreeRegs) → Event → TreeRegs
+tree_effect K t (Claim i) = claimed i
+tree_effect K t (Follow i) = followed K (t i).father (t (t i).father)
+tree_effect K t (Adopt i j) = adopted j (t j)
+tree_effect K t (Request i) = t i
+tree_effect K t (Relay i c) = t i
+tree_effect K t (Open i) = t i
+tree_effect K t (Join i) = t i
+tree_effect K t (Finish i) = t i
+tree_effect K t (Mend i) = t i
+
+-- what it leaves in the wave registers of its node
 abbrev pub wave_effect : (ℕ → TreeRegs) → (ℕ → WaveRegs) → Event → WaveRegs
+wave_effect t w (Claim i) = w i
+wave_effect t w (Follow i) = w i
+wave_effect t w (Adopt i j) = w i
 wave_effect t w (Request i) = record { phase = Initiate; session = (w i).session }
 wave_effect t w (Relay i c) = record { phase = Initiate; session = (w i).session }
 wave_effect t w (Open i) = record { phase = Reset; session = next_session (w i).session }
@@ -85,6 +120,9 @@ wave_effect t w (Mend i) = w (t i).father
 
 -- a reset is complete where a node that is its own father finishes
 abbrev pub reply_of : (ℕ → TreeRegs) → (ℕ → WaveRegs) → Event → Reply
+reply_of t w (Claim i) = Applied
+reply_of t w (Follow i) = Applied
+reply_of t w (Adopt i j) = Applied
 reply_of t w (Request i) = Applied
 reply_of t w (Relay i c) = Applied
 reply_of t w (Open i) = Applied
@@ -97,22 +135,22 @@ pub record IsNamed (g : Graph) (e : Event) : Type 0 where
   pub node : IsNode g (event_node e)
   pub neighbour : (j : ℕ) → named_node e ≡ Some j → AreLinked g (event_node e) j
 
--- the event takes the wave registers w to w'
-pub record WaveStep (g : Graph) (t : ℕ → TreeRegs) (w : ℕ → WaveRegs) (e : Event) (w' : ℕ → WaveRegs) : Type 0 where
+-- the event takes the tree registers t and the wave registers w to t' and w'
+pub record RegsStep (g : Graph) (K : ℕ) (t : ℕ → TreeRegs) (w : ℕ → WaveRegs) (e : Event) (t' : ℕ → TreeRegs) (w' : ℕ → WaveRegs) : Type 0 where
   pub node : IsNode g (event_node e)
-  pub enabled : IsEnabled g t w e
+  pub enabled : IsEnabled g K t w e
   pub unspent : IsSpent w e → ⊥
-  pub changes : Changes g w (event_node e) (wave_effect t w e) w'
+  pub trees : Changes g t (event_node e) (tree_effect K t e) t'
+  pub waves : Changes g w (event_node e) (wave_effect t w e) w'
 
 -- the event takes the configuration c to c'
 pub record IsStep (c : Configuration) (e : Event) (c' : Configuration) : Type 0 where
   pub graph : c'.graph ≡ c.graph
-  pub trees : c'.trees ≡ c.trees
-  pub waves : WaveStep c.graph (tree_of c) (wave_of c) e (wave_of c')
+  pub regs : RegsStep c.graph (node_bound c.graph) (tree_of c) (wave_of c) e (tree_of c') (wave_of c')
 
 -- why the event isn't a step: the first that applies, in this order
-pub data IsRefused (g : Graph) (t : ℕ → TreeRegs) (w : ℕ → WaveRegs) (e : Event) : StepRefusal → Type 0 where
-  strange_node : (IsNode g (event_node e) → ⊥) → IsRefused g t w e StrangeNode
-  strange_neighbour : (j : ℕ) → IsNode g (event_node e) → named_node e ≡ Some j → (AreLinked g (event_node e) j → ⊥) → IsRefused g t w e StrangeNeighbour
-  not_enabled : IsNamed g e → (IsEnabled g t w e → ⊥) → IsRefused g t w e NotEnabled
-  sessions_spent : IsNamed g e → IsEnabled g t w e → IsSpent w e → IsRefused g t w e SessionsSpent
+pub data IsRefused (g : Graph) (K : ℕ) (t : ℕ → TreeRegs) (w : ℕ → WaveRegs) (e : Event) : StepRefusal → Type 0 where
+  strange_node : (IsNode g (event_node e) → ⊥) → IsRefused g K t w e StrangeNode
+  strange_neighbour : (j : ℕ) → IsNode g (event_node e) → named_node e ≡ Some j → (AreLinked g (event_node e) j → ⊥) → IsRefused g K t w e StrangeNeighbour
+  not_enabled : IsNamed g e → (IsEnabled g K t w e → ⊥) → IsRefused g K t w e NotEnabled
+  sessions_spent : IsNamed g e → IsEnabled g K t w e → IsSpent w e → IsRefused g K t w e SessionsSpent

@@ -3,6 +3,12 @@
 /// What a node may do, and which node does it. Nodes are named by their identifiers.
 #[derive(Clone, Copy, Debug, PartialEq, Eq)]
 pub enum Event {
+    /// The node makes itself a root, where its tree registers contradict its neighbourhood.
+    Claim { at: u32 },
+    /// The node takes over its father's root and a distance one more than its father's.
+    Follow { at: u32 },
+    /// The node takes this neighbour as its father, for a greater root or a shorter way to the root.
+    Adopt { at: u32, from: u32 },
     /// The node asks for a reset.
     Request { at: u32 },
     /// The node relays the request of one of its children.
@@ -19,7 +25,7 @@ pub enum Event {
 
 impl Event {
     ghost use Rattle.std.specs.Prelude.{◌≡◌};
-    ghost use Rattle.reset_machine.specs.Steps.{event_node, named_node};
+    ghost use Rattle.reset_machine.specs.Steps.{event_node, is_of_tree, named_node};
     ghost use Rattle.reset_machine.specs.LocalSteps.{cases_of};
 
     /// The identifier of the node at which the event happens, which alone it changes.
@@ -27,7 +33,10 @@ impl Event {
         ensures { result ≡ event_node self }
     {
         match self {
-            Event::Request { at }
+            Event::Claim { at }
+            | Event::Follow { at }
+            | Event::Adopt { at, .. }
+            | Event::Request { at }
             | Event::Relay { at, .. }
             | Event::Open { at }
             | Event::Join { at }
@@ -41,8 +50,11 @@ impl Event {
         ensures { result ≡ named_node self }
     {
         match self {
+            Event::Adopt { from, .. } => Some(from),
             Event::Relay { child, .. } => Some(child),
-            Event::Request { .. }
+            Event::Claim { .. }
+            | Event::Follow { .. }
+            | Event::Request { .. }
             | Event::Open { .. }
             | Event::Join { .. }
             | Event::Finish { .. }
@@ -50,11 +62,29 @@ impl Event {
         }
     }
 
-    // The rows of the wave table that stand behind the event.
+    // Whether the event is one of the tree layer, and not of the wave layer.
+    pub(crate) fn is_of_tree(self) -> bool
+        ensures { result ≡ is_of_tree self }
+    {
+        match self {
+            Event::Claim { .. } | Event::Follow { .. } | Event::Adopt { .. } => true,
+            Event::Request { .. }
+            | Event::Relay { .. }
+            | Event::Open { .. }
+            | Event::Join { .. }
+            | Event::Finish { .. }
+            | Event::Mend { .. } => false,
+        }
+    }
+
+    // The rows of its layer's table that stand behind the event.
     pub(crate) fn cases(self) -> &'static [u8]
         ensures { result.now ≡ cases_of self }
     {
         match self {
+            Event::Claim { .. } => &[1, 2, 3, 4],
+            Event::Follow { .. } => &[5, 6],
+            Event::Adopt { .. } => &[7, 8],
             Event::Request { .. } => &[1],
             Event::Relay { .. } => &[2],
             Event::Open { .. } => &[3],

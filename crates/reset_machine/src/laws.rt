@@ -1,15 +1,54 @@
 // Laws of the definitions.
 
-ghost use Rattle.std.specs.Prelude.{◌≡◌, MatchResult};
-ghost use Rattle.topology.specs.Graph.{IsGraph};
+ghost use Rattle.std.specs.Prelude.{◌≡◌, ◌↔◌, ◌≤◌, ℕ, false, length, MatchResult};
+ghost use Rattle.topology.specs.Graph.{Graph, IsConnected, IsGraph, IsNode, node_bound};
+ghost use Rattle.tree_layer.specs.declared.regs.TreeRegs.{TreeRegs};
+ghost use Rattle.tree_layer.specs.TreePicture.{TreePicture};
+ghost use Rattle.wave_layer.specs.declared.regs.WaveRegs.{WaveRegs};
 ghost use Rattle.reset_machine.specs.declared.event.Event.{Event};
 ghost use Rattle.reset_machine.specs.Configuration.{Configuration, IsShaped, tree_of, wave_of};
-ghost use Rattle.reset_machine.specs.Steps.{IsStep, IsRefused, reply_of};
+ghost use Rattle.reset_machine.specs.Steps.{event_node, IsEnabled, IsStep, IsRefused, Mends, RegsStep, reply_of, reset_at};
 ghost use Rattle.reset_machine.specs.Outcome.{outcome_of};
+ghost use Rattle.reset_machine.specs.Sound.{Repairs, Sound};
+ghost use Rattle.reset_machine.specs.WavePicture.{WavePicture, WaveSound};
+ghost use Rattle.reset_machine.specs.declared.event.Event.TheVariants.{Finish};
 
 /// The outcome of an event, as a function, is a step with its reply, or the first refusal.
 pub fn outcomes_are_steps()
     ensures { (c : Configuration) (e : Event) → IsGraph c.graph → IsShaped c → MatchResult (outcome_of c e)
         (λ after. IsStep c e after.0 × (after.1 ≡ reply_of (tree_of c) (wave_of c) e))
-        (IsRefused c.graph (tree_of c) (wave_of c) e) }
+        (IsRefused c.graph (node_bound c.graph) (tree_of c) (wave_of c) e) }
+{}
+
+/// No mending row is enabled at any node exactly where the predicate holds at every father link.
+pub fn mends_rest()
+    ensures { (g : Graph) (t : ℕ → TreeRegs) (w : ℕ → WaveRegs)
+        → (((i : ℕ) → Mends g t w i → ⊥) ↔ WaveSound g t w) }
+{}
+
+/// Where the tree picture holds, the predicate holds at every father link exactly where the wave
+/// picture holds.
+pub fn wave_pictures()
+    ensures { (g : Graph) (t : ℕ → TreeRegs) (w : ℕ → WaveRegs) → IsGraph g → IsConnected g → TreePicture g t
+        → (WaveSound g t w ↔ WavePicture g t w) }
+{}
+
+/// Each step leaves sound registers sound, whatever the bound `K`.
+pub fn steps_stay_sound()
+    ensures { (g : Graph) (K : ℕ) (t t' : ℕ → TreeRegs) (w w' : ℕ → WaveRegs) (e : Event) → IsGraph g
+        → Sound g K t w → RegsStep g K t w e t' w' → Sound g K t' w' }
+{}
+
+/// Where registers are sound no node claims, follows, adopts or mends.
+pub fn sound_is_quiet()
+    ensures { (g : Graph) (K : ℕ) (t : ℕ → TreeRegs) (w : ℕ → WaveRegs) (e : Event) → IsNode g (event_node e)
+        → Sound g K t w → Repairs e → IsEnabled g K t w e → ⊥ }
+{}
+
+/// Right after a node that is its own father finishes, from sound registers, every node has its
+/// session and none is reset.
+pub fn completions_are_true()
+    ensures { (g : Graph) (K : ℕ) (t t' : ℕ → TreeRegs) (w w' : ℕ → WaveRegs) (i : ℕ) → IsGraph g → IsConnected g
+        → Sound g K t w → (t i).father ≡ i → RegsStep g K t w (Finish i) t' w'
+        → (j : ℕ) → IsNode g j → (reset_at w' j ≡ false) × ((w' j).session ≡ (w i).session) }
 {}

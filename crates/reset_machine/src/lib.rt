@@ -3,18 +3,21 @@
 #![tactic(auto)]
 
 mod config;
+mod enabled;
 mod event;
 mod laws;
 mod plan;
-mod put;
+#[cfg(test)]
+mod slow;
 mod step;
 #[cfg(test)]
 mod tests;
 mod text;
+mod view;
 
 pub use config::Config;
+pub use enabled::Enabled;
 pub use event::Event;
 pub use laws::outcomes_are_steps;
-pub use put::{WriteFault, put_bytes, put_number};
-pub use step::{Reply, StepRefusal};
+pub use step::{Done, Reply, StepRefusal};
 pub use text::{one_event_a_line, read_event, read_number, split_word, write_event};

@@ -1,17 +1,34 @@
 // What an event's node does, from what it sees.
 
-ghost use Rattle.std.specs.Prelude.{◌≡◌, ◌≢◌, ℕ, ◌<◌, length, ◌==◌, position, Some, MatchResult, IfOk, map};
-ghost use Rattle.topology.specs.Graph.{Graph};
+ghost use Rattle.std.specs.Prelude.{◌≡◌, ◌≢◌, true, false, ◌==◌, length, position, Err, Ok, Some, MatchResult, IfOk};
+ghost use Rattle.topology.specs.Graph.{node_bound};
 ghost use Rattle.reset_machine.specs.Configuration.{tree_map, wave_map};
-ghost use Rattle.reset_machine.specs.LocalSteps.{father_seen, children_of, is_neighbour, fired_first, planned_of, cases_of, step_answer};
-ghost use Rattle.reset_machine.specs.Steps.{event_node, named_node};
+ghost use Rattle.reset_machine.specs.LocalSteps.{answer_of, first_answer, is_neighbour, planned_of, row_answer};
+ghost use Rattle.reset_machine.specs.Steps.{event_node, is_of_tree, named_node};
 
 use crate::event::Event;
 use crate::step::StepRefusal;
-use std::alloc::{AllocError, Global};
+use crate::view::{children, near_trees, tree_view, wave_view};
+use std::alloc::Global;
 use topology::Topology;
-use tree_layer::TreeRegs;
-use wave_layer::{FatherSeen, WaveMove, WaveRefusal, WaveRegs, WaveView, wave_fire};
+use tree_layer::{TreeRefusal, TreeRegs, TreeView, tree_fire};
+use wave_layer::{WaveMove, WaveRefusal, WaveRegs, WaveView, wave_fire};
+
+/// What an event does at its node.
+#[derive(Clone, Copy)]
+pub enum Effect {
+    /// The tree registers become these.
+    Tree(TreeRegs),
+    /// A row of the wave table was fired.
+    Wave(WaveMove),
+}
+
+/// What a node sees of the layer that an event belongs to.
+#[derive(Drop)]
+pub enum Seen<'a> {
+    Tree(TreeView<'a>),
+    Wave(WaveView<'a>),
+}
 
 /// The index of the event's node and what it does, or the first refusal.
 pub fn planned(
@@ -20,28 +37,21 @@ pub fn planned(
     trees: &[TreeRegs],
     waves: &[WaveRegs],
     event: Event,
-) -> Result<(usize, WaveMove), StepRefusal>
+) -> Result<(usize, Effect), StepRefusal>
     requires all_trees { length trees.now ≡ length topology.now.ids }
     requires all_waves { length waves.now ≡ length topology.now.ids }
     ensures place { IfOk result (λ p. position (λ i. i == event_node event) topology.now.ids ≡ Some p.0) }
-    ensures exact { MatchResult result (λ p. planned_of topology.now (tree_map topology.now trees.now) (wave_map topology.now waves.now) event ≡ Ok p.1)
-        (λ f. f ≢ StepRefusal.NoMemory → planned_of topology.now (tree_map topology.now trees.now) (wave_map topology.now waves.now) event ≡ Err f) }
+    ensures exact { MatchResult result (λ p. planned_of topology.now (node_bound topology.now) (tree_map topology.now trees.now) (wave_map topology.now waves.now) event ≡ Ok p.1)
+        (λ f. f ≢ StepRefusal.NoMemory → planned_of topology.now (node_bound topology.now) (tree_map topology.now trees.now) (wave_map topology.now waves.now) event ≡ Err f) }
 {
-    topology.is_graph();
-    let at = event.node();
-    let Some(ix) = topology.index_of(at) else {
+    let Some(ix) = topology.index_of(event.node()) else {
         return Err(StepRefusal::StrangeNode);
     };
     if !names_neighbour(topology, event) {
         return Err(StepRefusal::StrangeNeighbour);
     }
-    let children = children(alloc, topology, trees, waves, at, ix)?;
-    let father = father_seen(topology, trees, waves, at, ix);
-    let Some(view) = WaveView::new(waves[ix], father, &children) else {
-        unreachable!();
-    };
-    match fire_first(&view, event) {
-        Ok(fired) => Ok((ix, fired)),
+    match answer(alloc, topology, trees, waves, event, ix) {
+        Ok(effect) => Ok((ix, effect)),
         Err(refusal) => Err(refusal),
     }
 }
@@ -56,79 +66,62 @@ fn names_neighbour(topology: &Topology, event: Event) -> bool
     }
 }
 
-// What the father register of the node with this id and index names.
-fn father_seen(
-    topology: &Topology,
-    trees: &[TreeRegs],
-    waves: &[WaveRegs],
-    id: u32,
-    ix: usize,
-) -> FatherSeen
-    requires place { position (λ i. i == id) topology.now.ids ≡ Some ix }
-    requires all_trees { length trees.now ≡ length topology.now.ids }
-    requires all_waves { length waves.now ≡ length topology.now.ids }
-    ensures { result ≡ father_seen topology.now (tree_map topology.now trees.now) (wave_map topology.now waves.now) id }
-{
-    topology.is_graph();
-    let father = trees[ix].father;
-    if father == id {
-        return FatherSeen::Itself;
-    }
-    if !topology.linked(id, father) {
-        return FatherSeen::Lost;
-    }
-    match topology.index_of(father) {
-        Some(father_ix) => FatherSeen::Is(waves[father_ix]),
-        None => FatherSeen::Lost,
-    }
-}
-
-// The children of the node with this id and index, and their registers, by ascending id.
-fn children(
+// What the rows of the event answer at its node, which has this index.
+fn answer(
     alloc: Global,
     topology: &Topology,
     trees: &[TreeRegs],
     waves: &[WaveRegs],
-    id: u32,
+    event: Event,
     ix: usize,
-) -> Result<Vec<(u32, WaveRegs)>, AllocError>
-    requires place { position (λ i. i == id) topology.now.ids ≡ Some ix }
+) -> Result<Effect, StepRefusal>
+    requires place { position (λ i. i == event_node event) topology.now.ids ≡ Some ix }
     requires all_trees { length trees.now ≡ length topology.now.ids }
     requires all_waves { length waves.now ≡ length topology.now.ids }
-    ensures { IfOk result (λ v. v.items ≡ map (λ c. (c, wave_map topology.now waves.now c)) (children_of topology.now (tree_map topology.now trees.now) id)) }
+    ensures exact { MatchResult result (λ does. answer_of topology.now (node_bound topology.now) (tree_map topology.now trees.now) (wave_map topology.now waves.now) event ≡ Ok does)
+        (λ f. f ≢ StepRefusal.NoMemory → answer_of topology.now (node_bound topology.now) (tree_map topology.now trees.now) (wave_map topology.now waves.now) event ≡ Err f) }
 {
-    topology.is_graph();
-    let mut children = Vec::new(alloc);
-    for near in topology.neighbours(ix) {
-        if trees[*near].father == id {
-            if let Some(child) = topology.id_at(*near) {
-                children.push((child.get(), waves[*near]))?;
-            }
-        }
-    }
-    Ok(children)
-}
-
-// Fires the first row of the event whose guard holds.
-fn fire_first(view: &WaveView, event: Event) -> Result<WaveMove, StepRefusal>
-    ensures { result ≡ step_answer (fired_first view.now (named_node event) (cases_of event)) }
-{
-    match first_fired(view, event.cases(), event.named()) {
-        Ok(fired) => Ok(fired),
-        Err(WaveRefusal::SessionsSpent) => Err(StepRefusal::SessionsSpent),
-        Err(_) => Err(StepRefusal::NotEnabled),
+    let id = event.node();
+    if event.is_of_tree() {
+        let near = near_trees(alloc, topology, trees, ix)?;
+        let view = tree_view(topology, trees, &near, id, ix);
+        first_answer(&Seen::Tree(view), event.named(), event.cases())
+    } else {
+        let children = children(alloc, topology, trees, waves, id, ix)?;
+        let view = wave_view(topology, trees, waves, &children, id, ix);
+        first_answer(&Seen::Wave(view), event.named(), event.cases())
     }
 }
 
 // Fires the first of the rows whose guard holds.
-fn first_fired(view: &WaveView, cases: &[u8], child: Option<u32>) -> Result<WaveMove, WaveRefusal>
-    ensures { result ≡ fired_first view.now child cases.now }
+fn first_answer(seen: &Seen<'_>, named: Option<u32>, cases: &[u8]) -> Result<Effect, StepRefusal>
+    ensures { result ≡ first_answer seen.now named cases.now }
 {
     for case in cases {
-        match wave_fire(view, *case, child) {
-            Err(WaveRefusal::NotEnabled) => {}
+        match row_answer(seen, named, *case) {
+            Err(StepRefusal::NotEnabled) => {}
             answer => return answer,
         }
     }
-    Err(WaveRefusal::NotEnabled)
+    Err(StepRefusal::NotEnabled)
+}
+
+// Fires a row of the layer's table.
+fn row_answer(seen: &Seen<'_>, named: Option<u32>, case: u8) -> Result<Effect, StepRefusal>
+    ensures { result ≡ row_answer seen.now named case }
+{
+    match seen {
+        Seen::Tree(view) => match tree_fire(view, case, named) {
+            Ok(regs) => Ok(Effect::Tree(regs)),
+            Err(TreeRefusal::StrangeNeighbour) => Err(StepRefusal::StrangeNeighbour),
+            Err(TreeRefusal::NoSuchCase | TreeRefusal::NotEnabled) => Err(StepRefusal::NotEnabled),
+        },
+        Seen::Wave(view) => match wave_fire(view, case, named) {
+            Ok(fired) => Ok(Effect::Wave(fired)),
+            Err(WaveRefusal::SessionsSpent) => Err(StepRefusal::SessionsSpent),
+            Err(WaveRefusal::NoSuchCase | WaveRefusal::NotChild | WaveRefusal::NotEnabled) => {
+                Err(StepRefusal::NotEnabled)
+            }
+        },
+    }
 }

@@ -1,8 +1,9 @@
 // What a step answers.
 
-ghost use Rattle.std.specs.Prelude.{◌≡◌, if◌then◌else◌};
-ghost use Rattle.reset_machine.specs.declared.step.Reply.TheVariants.{Applied, Complete};
+ghost use Rattle.std.specs.Prelude.{◌≡◌};
 ghost use Rattle.reset_machine.specs.declared.step.StepRefusal.TheVariants.{NoMemory};
+ghost use Rattle.reset_machine.specs.declared.plan.Effect.TheVariants.{Wave};
+ghost use Rattle.reset_machine.specs.Outcome.{effect_reply};
 
 use std::alloc::{AllocError, AllocFailed};
 use wave_layer::WaveMove;
@@ -31,6 +32,15 @@ pub enum StepRefusal {
     NoMemory,
 }
 
+/// How an event of a list was answered.
+#[derive(Clone, Copy, Debug, PartialEq, Eq)]
+pub enum Done {
+    /// It was applied, with this reply.
+    Did(Reply),
+    /// It was refused, and changed nothing.
+    Refused(StepRefusal),
+}
+
 impl From<AllocError> for StepRefusal {
     ghost from_gives = { λ _ f. f ≡ NoMemory };
 
@@ -47,12 +57,12 @@ impl<T: Drop> From<AllocFailed<T>> for StepRefusal {
     }
 }
 
-// What a node that does this replies.
-pub(crate) fn reply_to(planned: WaveMove) -> Reply
-    ensures { result ≡ (if planned.completes then Complete planned.regs.session else Applied) }
+// What a node that fired this row of the wave table replies.
+pub(crate) fn reply_to(fired: WaveMove) -> Reply
+    ensures { result ≡ effect_reply (Wave fired) }
 {
-    if planned.completes {
-        Reply::Complete(planned.regs.session)
+    if fired.completes {
+        Reply::Complete(fired.regs.session)
     } else {
         Reply::Applied
     }

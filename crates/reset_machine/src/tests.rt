@@ -5,6 +5,8 @@ use topology::Topology;
 use tree_layer::TreeRegs;
 use wave_layer::{Phase, WaveRegs};
 
+mod pictures;
+
 // The booted line of the nodes 1, 2 and 3.
 fn line(rt: &impl Abort, alloc: Global) -> Config {
     let topology = Topology::build(alloc, &[1, 2, 3], &[(1, 2), (2, 3)]).expect(rt, "the line");
@@ -86,4 +88,88 @@ fn refuses_in_order(rt: HostRuntime) {
         assert_eq!(rt; config.step(rt.alloc(), event), Err(refusal));
         assert_eq!(rt; waves(&rt, &config), before);
     }
+}
+
+#[test]
+fn a_copy_keeps_its_session(rt: HostRuntime) {
+    let mut config = line(&rt, rt.alloc());
+    let copy = match config.copy(rt.alloc()) {
+        Ok(copy) => copy,
+        Err(_) => panic!(rt; "memory for a copy"),
+    };
+    let events = [
+        Event::Request { at: 1 },
+        Event::Relay { at: 2, child: 1 },
+        Event::Relay { at: 3, child: 2 },
+        Event::Open { at: 3 },
+        Event::Join { at: 2 },
+        Event::Join { at: 1 },
+        Event::Finish { at: 1 },
+        Event::Finish { at: 2 },
+        Event::Finish { at: 3 },
+    ];
+    let answers = match config.run(rt.alloc(), &events) {
+        Ok(answers) => answers,
+        Err(_) => panic!(rt; "memory for the answers"),
+    };
+    assert_eq!(rt; answers.len(), 9);
+    for answer in &answers[..8] {
+        assert_eq!(rt; *answer, Done::Did(Reply::Applied));
+    }
+    assert_eq!(rt; answers[8], Done::Did(Reply::Complete(1)));
+    assert_eq!(rt; config.newest_session(), 1);
+    assert_eq!(rt; copy.newest_session(), 0);
+    assert_eq!(rt; waves(&rt, &copy)[0].phase, Phase::Normal);
+}
+
+#[test]
+fn a_run_goes_on_after_a_refusal(rt: HostRuntime) {
+    let mut config = line(&rt, rt.alloc());
+    let events = [
+        Event::Open { at: 3 },
+        Event::Request { at: 9 },
+        Event::Request { at: 1 },
+    ];
+    let answers = match config.run(rt.alloc(), &events) {
+        Ok(answers) => answers,
+        Err(_) => panic!(rt; "memory for the answers"),
+    };
+    let expected = [
+        Done::Refused(StepRefusal::NotEnabled),
+        Done::Refused(StepRefusal::StrangeNode),
+        Done::Did(Reply::Applied),
+    ];
+    assert_eq!(rt; answers.as_slice(), expected.as_slice());
+}
+
+#[test]
+fn a_request_makes_its_father_ready(rt: HostRuntime) {
+    let mut config = line(&rt, rt.alloc());
+    assert_eq!(rt;
+        config.ready(rt.alloc()).expect(&rt, "memory").as_slice(),
+        [].as_slice()
+    );
+    assert!(rt; config.step(rt.alloc(), Event::Request { at: 1 }).is_ok());
+    assert_eq!(rt;
+        config.ready(rt.alloc()).expect(&rt, "memory").as_slice(),
+        [2].as_slice()
+    );
+    let enabled = config.enabled(rt.alloc(), 2).expect(&rt, "a node");
+    assert_eq!(rt; enabled.tree.count(), 0);
+    assert_eq!(rt; enabled.wave.count(), 2);
+    assert!(rt; enabled.wave.has(1) && enabled.wave.has(2));
+    assert_eq!(rt; enabled.act.count(), 0);
+}
+
+#[test]
+fn strangers_have_no_registers(rt: HostRuntime) {
+    let mut config = line(&rt, rt.alloc());
+    let tree = config.tree_at(1).expect(&rt, "a node");
+    let wave = config.wave_at(1).expect(&rt, "a node");
+    assert_eq!(rt; config.put_tree(4, tree), Err(StepRefusal::StrangeNode));
+    assert_eq!(rt; config.put_wave(0, wave), Err(StepRefusal::StrangeNode));
+    assert_eq!(rt;
+        config.enabled(rt.alloc(), 4),
+        Err(StepRefusal::StrangeNode)
+    );
 }

@@ -5,11 +5,11 @@ ghost use Rattle.std.specs.Io.KnownBytes.{Appends};
 ghost use Rattle.std.specs.List.{position};
 ghost use Rattle.reset_machine.specs.EventText.{event_line, event_words, Fits};
 ghost use Rattle.reset_machine.specs.Words.{is_space, words_of};
-ghost use Rattle.reset_machine.specs.Written.{AppendsFront};
+ghost use Rattle.action_tables.specs.Written.{AppendsFront};
 ghost use Rattle.reset_machine.specs.declared.event.Event.{Event};
 
 use crate::event::Event;
-use crate::put::{WriteFault, put_bytes, put_number};
+use action_tables::{WriteFault, put_bytes, put_number};
 use std::io::Write;
 
 /// Two events below 2 ^ 32 in their numbers that have one line are the same event.
@@ -64,7 +64,7 @@ pub fn read_event(line: &[u8]) -> Option<Event>
     let (command, numbers) = split_word(line)?;
     match split_word(numbers) {
         None => event_of_one(command, read_number(numbers)?),
-        Some((at, child)) => event_of_two(command, read_number(at)?, read_number(child)?),
+        Some((at, other)) => event_of_two(command, read_number(at)?, read_number(other)?),
     }
 }
 
@@ -74,7 +74,11 @@ fn event_of_one(command: &[u8], at: u32) -> Option<Event>
     ensures fits { IfSome result Fits }
     ensures only { IfNone result ((e : Event) → event_words e ≡ command.now ∷ decimal at ∷ [] → ⊥) }
 {
-    if command == b"request".as_slice() {
+    if command == b"claim".as_slice() {
+        Some(Event::Claim { at })
+    } else if command == b"follow".as_slice() {
+        Some(Event::Follow { at })
+    } else if command == b"request".as_slice() {
         Some(Event::Request { at })
     } else if command == b"open".as_slice() {
         Some(Event::Open { at })
@@ -90,13 +94,15 @@ fn event_of_one(command: &[u8], at: u32) -> Option<Event>
 }
 
 // The event of a command with two numbers.
-fn event_of_two(command: &[u8], at: u32, child: u32) -> Option<Event>
-    ensures found { IfSome result (λ e. event_words e ≡ command.now ∷ decimal at ∷ decimal child ∷ []) }
+fn event_of_two(command: &[u8], at: u32, other: u32) -> Option<Event>
+    ensures found { IfSome result (λ e. event_words e ≡ command.now ∷ decimal at ∷ decimal other ∷ []) }
     ensures fits { IfSome result Fits }
-    ensures only { IfNone result ((e : Event) → event_words e ≡ command.now ∷ decimal at ∷ decimal child ∷ [] → ⊥) }
+    ensures only { IfNone result ((e : Event) → event_words e ≡ command.now ∷ decimal at ∷ decimal other ∷ [] → ⊥) }
 {
-    if command == b"relay".as_slice() {
-        Some(Event::Relay { at, child })
+    if command == b"adopt".as_slice() {
+        Some(Event::Adopt { at, from: other })
+    } else if command == b"relay".as_slice() {
+        Some(Event::Relay { at, child: other })
     } else {
         None
     }
@@ -108,17 +114,31 @@ pub fn write_event<W: Write>(event: &Event, out: &mut W) -> Result<(), WriteFaul
     ensures err { OnErr result (AppendsFront (W.contents out.old) (W.contents out.new) (event_line event.now)) }
 {
     match *event {
+        Event::Claim { at } => put_command(out, b"claim", at),
+        Event::Follow { at } => put_command(out, b"follow", at),
+        Event::Adopt { at, from } => put_command_of_two(out, b"adopt", at, from),
         Event::Request { at } => put_command(out, b"request", at),
-        Event::Relay { at, child } => {
-            put_command(out, b"relay", at)?;
-            put_bytes(out, b" ")?;
-            put_number(out, u64::from(child))
-        }
+        Event::Relay { at, child } => put_command_of_two(out, b"relay", at, child),
         Event::Open { at } => put_command(out, b"open", at),
         Event::Join { at } => put_command(out, b"join", at),
         Event::Finish { at } => put_command(out, b"finish", at),
         Event::Mend { at } => put_command(out, b"mend", at),
     }
+}
+
+// Writes a command and its two numbers.
+fn put_command_of_two<W: Write>(
+    out: &mut W,
+    command: &[u8],
+    at: u32,
+    other: u32,
+) -> Result<(), WriteFault>
+    ensures ok { OnOk result (Appends (W.contents out.old) (W.contents out.new) ((command.now ++ (32 ∷ decimal at)) ++ (32 ∷ decimal other))) }
+    ensures err { OnErr result (AppendsFront (W.contents out.old) (W.contents out.new) ((command.now ++ (32 ∷ decimal at)) ++ (32 ∷ decimal other))) }
+{
+    put_command(out, command, at)?;
+    put_bytes(out, b" ")?;
+    put_number(out, u64::from(other))
 }
 
 // Writes a command and its first number.
@@ -134,12 +154,15 @@ fn put_command<W: Write>(out: &mut W, command: &[u8], at: u32) -> Result<(), Wri
 #[cfg(test)]
 mod tests {
     use super::*;
-    use crate::put::tests::{Fault, Slow};
+    use crate::slow::{Fault, Slow};
     use std::test::Fail;
 
     #[test]
     fn reads_and_writes_each_line(rt: HostRuntime) -> Result<(), Fail> {
         let lines = [
+            (b"claim 4".as_slice(), Event::Claim { at: 4 }),
+            (b"follow 5".as_slice(), Event::Follow { at: 5 }),
+            (b"adopt 6 7".as_slice(), Event::Adopt { at: 6, from: 7 }),
             (b"request 1".as_slice(), Event::Request { at: 1 }),
             (b"relay 2 1".as_slice(), Event::Relay { at: 2, child: 1 }),
             (b"open 0".as_slice(), Event::Open { at: 0 }),
@@ -175,6 +198,8 @@ mod tests {
             b"open +3".as_slice(),
             b"open 3x".as_slice(),
             b"open 4294967296".as_slice(),
+            b"claim 3 4".as_slice(),
+            b"adopt 3".as_slice(),
             b"relay 2".as_slice(),
             b"relay 2 01".as_slice(),
             b"relay 2 1 1".as_slice(),

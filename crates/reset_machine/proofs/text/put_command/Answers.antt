@@ -1,7 +1,7 @@
 use Rattle.std.proofs.Common.{◌∷◌, []}
 use Rattle.std.specs.Fmt.{decimal}
 use Rattle.std.proofs.lemmas.Result.{on_err_weaker}
-use Rattle.reset_machine.proofs.Fronts.{AppendsFront-first, AppendsFront-then, OnErr-always}
+use Rattle.action_tables.proofs.Fronts.{AppendsFront-first, AppendsFront-then, OnErr-always}
 use Rattle.reset_machine.proofs.text.put_command.Goals as goal
 
 pub returns-in_err-put_bytes-2-clause-err : goal.returns-in_err-put_bytes-2-clause-err

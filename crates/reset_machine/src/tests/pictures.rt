@@ -1,0 +1,224 @@
+// The local predicates and the pictures of the whole network, over every assignment of registers.
+
+use crate::{Config, Event};
+use std::alloc::Global;
+use std::process::Abort;
+use topology::Topology;
+use tree_layer::TreeRegs;
+use wave_layer::{Phase, WaveRegs};
+
+// A graph of the nodes 1, 2 and 3, with the distances of its nodes to node 3.
+struct Case {
+    links: &'static [(u32, u32)],
+    distances: [u32; 3],
+}
+
+const LINE: Case = Case {
+    links: &[(1, 2), (2, 3)],
+    distances: [2, 1, 0],
+};
+
+const TRIANGLE: Case = Case {
+    links: &[(1, 2), (2, 3), (1, 3)],
+    distances: [1, 1, 0],
+};
+
+const IDS: [u32; 3] = [1, 2, 3];
+
+// The number of nodes.
+const BOUND: u32 = 3;
+
+impl Case {
+    fn boot(&self, rt: &impl Abort, alloc: Global) -> Config {
+        let topology = Topology::build(alloc, &IDS, self.links).expect(rt, "a graph");
+        match Config::boot(alloc, topology) {
+            Ok(config) => config,
+            Err(_) => panic!(rt; "memory for the graph"),
+        }
+    }
+
+    fn are_linked(&self, a: u32, b: u32) -> bool {
+        self.links.contains(&(a, b)) || self.links.contains(&(b, a))
+    }
+
+    // Whether each node knows node 3 and its distance to it, node 3 is its own father, and any
+    // other node's father is a neighbour one nearer.
+    fn is_tree(&self, trees: &[TreeRegs; 3]) -> bool {
+        for place in 0..3 {
+            let regs = trees[place];
+            if regs.root != 3 || regs.dist != self.distances[place] {
+                return false;
+            }
+            let is_led = match regs.father {
+                father if place == 2 => father == 3,
+                father @ 1..=3 => {
+                    let steps = self.distances[father as usize - 1];
+                    self.are_linked(IDS[place], father) && steps.saturating_add(1) == regs.dist
+                }
+                _ => false,
+            };
+            if !is_led {
+                return false;
+            }
+        }
+        true
+    }
+}
+
+// Every assignment of a root and a father among the ids and a stranger, and of a distance up to
+// the bound.
+fn tree_regs(number: u32) -> TreeRegs {
+    TreeRegs {
+        root: number % 4 + 1,
+        father: number / 4 % 4 + 1,
+        dist: number / 16 % (BOUND + 1),
+    }
+}
+
+fn no_tree_row(rt: &impl Abort, alloc: Global, config: &Config) -> bool {
+    for id in IDS {
+        if config.enabled(alloc, id).expect(rt, "a node").tree.count() > 0 {
+            return false;
+        }
+    }
+    true
+}
+
+fn tree_pictures(rt: &impl Abort, alloc: Global, case: &Case) -> u32 {
+    let mut config = case.boot(rt, alloc);
+    let mut pictures = 0_u32;
+    for number in 0..64 * 64 * 64 {
+        let trees = [number % 64, number / 64 % 64, number / 4096].map(tree_regs);
+        for place in 0..3 {
+            config
+                .put_tree(IDS[place], trees[place])
+                .expect(rt, "a node");
+        }
+        let is_tree = case.is_tree(&trees);
+        assert_eq!(rt; no_tree_row(rt, alloc, &config), is_tree);
+        pictures = pictures.saturating_add(u32::from(is_tree));
+    }
+    pictures
+}
+
+#[test]
+fn no_tree_row_is_enabled_on_a_tree_alone(rt: HostRuntime) {
+    assert_eq!(rt; tree_pictures(&rt, rt.alloc(), &LINE), 1);
+    assert_eq!(rt; tree_pictures(&rt, rt.alloc(), &TRIANGLE), 1);
+}
+
+// Every assignment of a phase and of a session up to 2.
+fn wave_regs(number: u32) -> WaveRegs {
+    let phase = match number % 3 {
+        0 => Phase::Normal,
+        1 => Phase::Initiate,
+        _ => Phase::Reset,
+    };
+    WaveRegs {
+        phase,
+        session: number / 3,
+    }
+}
+
+// Whether the nodes that have the session of node 3 contain their fathers, any other is not reset
+// and one session behind, the father of a reset node is reset, and so is a father that has the
+// session of node 3 before its child.
+fn is_wave(config: &Config, waves: &[WaveRegs; 3]) -> bool {
+    let newest = waves[2].session;
+    for place in 0..3 {
+        let Some(tree) = config.tree_at(IDS[place]) else {
+            return false;
+        };
+        let own = waves[place];
+        let up = match tree.father {
+            father @ 1..=3 => waves[father as usize - 1],
+            _ => return false,
+        };
+        let joined = own.session == newest;
+        let father_joined = up.session == newest;
+        let reset = own.phase == Phase::Reset;
+        let father_reset = up.phase == Phase::Reset;
+        let fits = if joined {
+            father_joined && (!reset || father_reset)
+        } else {
+            !reset && own.session.saturating_add(1) == newest && (!father_joined || father_reset)
+        };
+        if !fits {
+            return false;
+        }
+    }
+    true
+}
+
+fn no_mending_row(rt: &impl Abort, alloc: Global, config: &Config) -> bool {
+    for id in IDS {
+        let rows = config.enabled(alloc, id).expect(rt, "a node").wave;
+        if (8..=11).any(|row| rows.has(row)) {
+            return false;
+        }
+    }
+    true
+}
+
+fn wave_pictures(rt: &impl Abort, alloc: Global, case: &Case) -> u32 {
+    let mut config = case.boot(rt, alloc);
+    let mut pictures = 0_u32;
+    for number in 0..9 * 9 * 9 {
+        let waves = [number % 9, number / 9 % 9, number / 81].map(wave_regs);
+        for place in 0..3 {
+            config
+                .put_wave(IDS[place], waves[place])
+                .expect(rt, "a node");
+        }
+        let is_wave = is_wave(&config, &waves);
+        assert_eq!(rt; no_mending_row(rt, alloc, &config), is_wave);
+        pictures = pictures.saturating_add(u32::from(is_wave));
+    }
+    pictures
+}
+
+#[test]
+fn no_mending_row_is_enabled_in_a_wave_alone(rt: HostRuntime) {
+    assert!(rt; wave_pictures(&rt, rt.alloc(), &LINE) > 0);
+    assert!(rt; wave_pictures(&rt, rt.alloc(), &TRIANGLE) > 0);
+}
+
+#[test]
+fn each_repair_leads_on(rt: HostRuntime) {
+    // The registers of node 2 are torn; a claim and an adoption mend them.
+    let mut config = LINE.boot(&rt, rt.alloc());
+    let torn = TreeRegs {
+        root: 3,
+        father: 3,
+        dist: 4_294_967_295,
+    };
+    assert_eq!(rt; config.put_tree(2, torn), Ok(()));
+    let rows = config.enabled(rt.alloc(), 2).expect(&rt, "a node").tree;
+    assert_eq!(rt; [4, 8].map(|row| rows.has(row)), [true, true]);
+    assert_eq!(rt; rows.count(), 2);
+    for event in [Event::Claim { at: 2 }, Event::Adopt { at: 2, from: 3 }] {
+        assert!(rt; config.step(rt.alloc(), event).is_ok());
+    }
+    let mended = TreeRegs {
+        root: 3,
+        father: 3,
+        dist: 1,
+    };
+    assert_eq!(rt; config.tree_at(2), Some(mended));
+}
+
+#[test]
+fn an_impossible_root_is_followed_and_adopted(rt: HostRuntime) {
+    let mut config = LINE.boot(&rt, rt.alloc());
+    let impossible = TreeRegs {
+        root: 65535,
+        father: 3,
+        dist: 0,
+    };
+    assert_eq!(rt; config.put_tree(2, impossible), Ok(()));
+    for (id, rows) in [(1, [true, true]), (2, [true, false]), (3, [false, true])] {
+        let enabled = config.enabled(rt.alloc(), id).expect(&rt, "a node").tree;
+        assert_eq!(rt; [5, 7].map(|row| enabled.has(row)), rows, "node {id}");
+        assert_eq!(rt; enabled.has(1) || enabled.has(4) || enabled.has(8), false);
+    }
+}

@@ -1,0 +1,130 @@
+// What one node sees of the tree and of the wave.
+
+ghost use Rattle.std.specs.Prelude.{◌≡◌, ℕ, ◌<◌, length, ◌==◌, position, Some, IfOk, map, slice_index};
+ghost use Rattle.topology.specs.Graph.{neighbours_of, node_bound};
+ghost use Rattle.reset_machine.specs.Configuration.{tree_map, wave_map};
+ghost use Rattle.reset_machine.specs.LocalSteps.{father_seen, children_of, tree_view_of, view_of};
+
+use std::alloc::{AllocError, Global};
+use topology::Topology;
+use tree_layer::{TreeRegs, TreeView};
+use wave_layer::{FatherSeen, WaveRegs, WaveView};
+
+/// The neighbours of the node at an index, and their tree registers, by ascending id.
+pub fn near_trees(
+    alloc: Global,
+    topology: &Topology,
+    trees: &[TreeRegs],
+    ix: usize,
+) -> Result<Vec<(u32, TreeRegs)>, AllocError>
+    requires place { ix < length topology.now.ids }
+    requires all_trees { length trees.now ≡ length topology.now.ids }
+    ensures { IfOk result (λ v. v.items ≡ map (λ j. (j, tree_map topology.now trees.now j)) (neighbours_of topology.now (slice_index topology.now.ids ix))) }
+{
+    topology.is_graph();
+    let mut near_trees = Vec::new(alloc);
+    for near in topology.neighbours(ix) {
+        let id = topology.id_at(*near).unwrap().get();
+        near_trees.push((id, trees[*near]))?;
+    }
+    Ok(near_trees)
+}
+
+/// What the node with this id and index sees of the tree, from its neighbours' registers.
+pub fn tree_view<'a>(
+    topology: &Topology,
+    trees: &[TreeRegs],
+    near: &'a [(u32, TreeRegs)],
+    id: u32,
+    ix: usize,
+) -> TreeView<'a>
+    requires place { position (λ i. i == id) topology.now.ids ≡ Some ix }
+    requires all_trees { length trees.now ≡ length topology.now.ids }
+    requires near { near.now ≡ map (λ j. (j, tree_map topology.now trees.now j)) (neighbours_of topology.now id) }
+    ensures { result ≡ tree_view_of topology.now (node_bound topology.now) (tree_map topology.now trees.now) id }
+{
+    topology.is_graph();
+    match TreeView::new(id, topology.len() as u32, trees[ix], near) {
+        Some(view) => view,
+        None => unreachable!(),
+    }
+}
+
+/// The children of the node with this id and index, and their wave registers, by ascending id.
+pub fn children(
+    alloc: Global,
+    topology: &Topology,
+    trees: &[TreeRegs],
+    waves: &[WaveRegs],
+    id: u32,
+    ix: usize,
+) -> Result<Vec<(u32, WaveRegs)>, AllocError>
+    requires place { position (λ i. i == id) topology.now.ids ≡ Some ix }
+    requires all_trees { length trees.now ≡ length topology.now.ids }
+    requires all_waves { length waves.now ≡ length topology.now.ids }
+    ensures { IfOk result (λ v. v.items ≡ map (λ c. (c, wave_map topology.now waves.now c)) (children_of topology.now (tree_map topology.now trees.now) id)) }
+{
+    topology.is_graph();
+    let mut children = Vec::new(alloc);
+    for near in topology.neighbours(ix) {
+        if trees[*near].father == id {
+            if let Some(child) = topology.id_at(*near) {
+                children.push((child.get(), waves[*near]))?;
+            }
+        }
+    }
+    Ok(children)
+}
+
+/// What the node with this id and index sees of the wave, from its children's registers.
+pub fn wave_view<'a>(
+    topology: &Topology,
+    trees: &[TreeRegs],
+    waves: &[WaveRegs],
+    children: &'a [(u32, WaveRegs)],
+    id: u32,
+    ix: usize,
+) -> WaveView<'a>
+    requires place { position (λ i. i == id) topology.now.ids ≡ Some ix }
+    requires all_trees { length trees.now ≡ length topology.now.ids }
+    requires all_waves { length waves.now ≡ length topology.now.ids }
+    requires children { children.now ≡ map (λ c. (c, wave_map topology.now waves.now c)) (children_of topology.now (tree_map topology.now trees.now) id) }
+    ensures { result ≡ view_of topology.now (tree_map topology.now trees.now) (wave_map topology.now waves.now) id }
+{
+    topology.is_graph();
+    match WaveView::new(
+        waves[ix],
+        father_seen(topology, trees, waves, id, ix),
+        children,
+    ) {
+        Some(view) => view,
+        None => unreachable!(),
+    }
+}
+
+// What the father register of the node with this id and index names.
+fn father_seen(
+    topology: &Topology,
+    trees: &[TreeRegs],
+    waves: &[WaveRegs],
+    id: u32,
+    ix: usize,
+) -> FatherSeen
+    requires place { position (λ i. i == id) topology.now.ids ≡ Some ix }
+    requires all_trees { length trees.now ≡ length topology.now.ids }
+    requires all_waves { length waves.now ≡ length topology.now.ids }
+    ensures { result ≡ father_seen topology.now (tree_map topology.now trees.now) (wave_map topology.now waves.now) id }
+{
+    topology.is_graph();
+    let father = trees[ix].father;
+    if father == id {
+        return FatherSeen::Itself;
+    }
+    if !topology.linked(id, father) {
+        return FatherSeen::Lost;
+    }
+    match topology.index_of(father) {
+        Some(father_ix) => FatherSeen::Is(waves[father_ix]),
+        None => FatherSeen::Lost,
+    }
+}
