@@ -4,7 +4,7 @@
 
 # Builds the program and replays one whole reset wave on the line of nodes 1, 2, 3.
 run: build
-	@{ cat examples/one-wave/topology.toml; echo ---; cat examples/one-wave/script; } | build/reset-service
+	build/reset-service replay examples/one-wave/topology.toml examples/one-wave/script
 
 # Leaves the proved program at build/reset-service.
 build:
@@ -13,6 +13,7 @@ build:
 	@rm -f crates/service_main/out.log
 	@cp crates/service_main/out/service_main build/reset-service
 
-# Everything that decides: the gate `rt ci`, and then the examples on the program that it has built.
+# Everything that decides: the gate `rt ci`, and then the examples and the words on the program that
+# it has built.
 test:
 	@bash tests/all

@@ -8,14 +8,13 @@ use Rattle.std.specs.Str.Parse.{digits_value}
 use Rattle.std.proofs.lemmas.Bool.Decides.{nat_tests}
 use Rattle.std.proofs.lemmas.Fmt.{decimal_injective, decimal_is_IsNumeral}
 use Rattle.std.proofs.lemmas.Slice.Eq.{bytes_eq-Decides}
-use Rattle.reset_machine.specs.EventText.{event_words}
 use Rattle.reset_machine.specs.Words.{words_of}
-use Rattle.reset_machine.specs.declared.event.Event.TheVariants.{Request, Relay, Open, Join, Finish, Mend}
+use Rattle.reset_machine.specs.declared.event.Event.TheVariants.{Claim, Follow, Adopt, Request, Relay, Open, Join, Finish, Mend}
 use Rattle.reset_machine.proofs.EventLines.{one_event}
 use Rattle.service_main.specs.declared.script.Command.{Command}
-use Rattle.service_main.specs.declared.script.Command.TheVariants.{Step, Show, ShowNode}
+use Rattle.service_main.specs.declared.script.Command.TheVariants.{Step, Show, ShowNode, Enabled, Ready}
 use Rattle.service_main.specs.Script.{command_words, command_line, command_of, commands_with, fits_32, number_at, spelled_by, CommandFits}
-use Rattle.service_main.proofs.CommandLines.{words_of-command_line, same_words, event_not_show}
+use Rattle.service_main.proofs.CommandLines.{words_of-command_line, same_words, event_not_one, event_not_show, event_not_enabled, first_byte}
 
 -- ---- no two commands have one line
 
@@ -23,12 +22,28 @@ one_by_words : (c d : Command) → CommandFits c → CommandFits d → command_w
 one_by_words (Step e) (Step f) p q h = ap Step (one_event e f p q (ap (join_with_byte 32) h))
 one_by_words (Step e) Show p q h = absurd (event_not_show e [] h)
 one_by_words (Step e) (ShowNode b) p q h = absurd (event_not_show e (decimal b ∷ []) h)
+one_by_words (Step e) (Enabled b) p q h = absurd (event_not_enabled e (decimal b ∷ []) h)
+one_by_words (Step e) Ready p q h = absurd (event_not_one e (codes "ready") h)
 one_by_words Show (Step f) p q h = absurd (event_not_show f [] (sym h))
 one_by_words Show Show p q h = refl
 one_by_words Show (ShowNode b) p q h = absurd (omega (arith, ap length h))
+one_by_words Show (Enabled b) p q h = absurd (omega (arith, ap length h))
+one_by_words Show Ready p q h = absurd (omega (arith, ap first_byte h))
 one_by_words (ShowNode a) (Step f) p q h = absurd (event_not_show f (decimal a ∷ []) (sym h))
 one_by_words (ShowNode a) Show p q h = absurd (omega (arith, ap length h))
 one_by_words (ShowNode a) (ShowNode b) p q h = ap ShowNode (decimal_injective a b (omega arith) (omega arith) (cc))
+one_by_words (ShowNode a) (Enabled b) p q h = absurd (omega (arith, ap first_byte h))
+one_by_words (ShowNode a) Ready p q h = absurd (omega (arith, ap length h))
+one_by_words (Enabled a) (Step f) p q h = absurd (event_not_enabled f (decimal a ∷ []) (sym h))
+one_by_words (Enabled a) Show p q h = absurd (omega (arith, ap length h))
+one_by_words (Enabled a) (ShowNode b) p q h = absurd (omega (arith, ap first_byte h))
+one_by_words (Enabled a) (Enabled b) p q h = ap Enabled (decimal_injective a b (omega arith) (omega arith) (cc))
+one_by_words (Enabled a) Ready p q h = absurd (omega (arith, ap length h))
+one_by_words Ready (Step f) p q h = absurd (event_not_one f (codes "ready") (sym h))
+one_by_words Ready Show p q h = absurd (omega (arith, ap first_byte h))
+one_by_words Ready (ShowNode b) p q h = absurd (omega (arith, ap length h))
+one_by_words Ready (Enabled b) p q h = absurd (omega (arith, ap length h))
+one_by_words Ready Ready p q h = refl
 
 pub one_command : (c d : Command) → CommandFits c → CommandFits d → command_line c ≡ command_line d → c ≡ d
 one_command c d p q h = one_by_words c d p q (sym (words_of-command_line c p) ∙ ap words_of h ∙ words_of-command_line d q)
@@ -39,6 +54,9 @@ value : (n : ℕ) → n < 2 ^ 32 → digits_value 10 (decimal n) ≡ n
 value n h = (decimal_is_IsNumeral n (omega arith)).1
 
 first_below : (c : Command) → CommandFits c → number_at (command_words c) 1 < 2 ^ 32
+first_below (Step (Claim a)) h = rw (value a h) h
+first_below (Step (Follow a)) h = rw (value a h) h
+first_below (Step (Adopt a b)) h = rw (value a h.0) h.0
 first_below (Step (Request a)) h = rw (value a h) h
 first_below (Step (Relay a b)) h = rw (value a h.0) h.0
 first_below (Step (Open a)) h = rw (value a h) h
@@ -47,8 +65,13 @@ first_below (Step (Finish a)) h = rw (value a h) h
 first_below (Step (Mend a)) h = rw (value a h) h
 first_below Show h = omega arith
 first_below (ShowNode a) h = rw (value a h) h
+first_below (Enabled a) h = rw (value a h) h
+first_below Ready h = omega arith
 
 second_below : (c : Command) → CommandFits c → number_at (command_words c) 2 < 2 ^ 32
+second_below (Step (Claim a)) h = omega arith
+second_below (Step (Follow a)) h = omega arith
+second_below (Step (Adopt a b)) h = rw (value b h.1) h.1
 second_below (Step (Request a)) h = omega arith
 second_below (Step (Relay a b)) h = rw (value b h.1) h.1
 second_below (Step (Open a)) h = omega arith
@@ -57,6 +80,8 @@ second_below (Step (Finish a)) h = omega arith
 second_below (Step (Mend a)) h = omega arith
 second_below Show h = omega arith
 second_below (ShowNode a) h = omega arith
+second_below (Enabled a) h = omega arith
+second_below Ready h = omega arith
 
 both_below : (m n : ℕ) → m < 2 ^ 32 → n < 2 ^ 32 → (ltb m (2 ^ 32) && ltb n (2 ^ 32)) ≡ true
 both_below m n p q = grind (arith, nat_tests)
@@ -71,19 +96,24 @@ IsIn c (d ∷ ds) = (c ≡ d) ⊎ IsIn c ds
 among : (c : Command) → CommandFits c → IsIn c (commands_with (number_at (command_words c) 1) (number_at (command_words c) 2))
 among Show h = inl refl
 among (ShowNode a) h = inr (inl (ap ShowNode (sym (value a h))))
-among (Step (Request a)) h = inr (inr (inl (ap (λ n. Step (Request n)) (sym (value a h)))))
-among (Step (Relay a b)) h = inr (inr (inr (inl (ap (λ n. Step (Relay n b)) (sym (value a h.0)) ∙ ap (λ n. Step (Relay (digits_value 10 (decimal a)) n)) (sym (value b h.1))))))
-among (Step (Open a)) h = inr (inr (inr (inr (inl (ap (λ n. Step (Open n)) (sym (value a h)))))))
-among (Step (Join a)) h = inr (inr (inr (inr (inr (inl (ap (λ n. Step (Join n)) (sym (value a h))))))))
-among (Step (Finish a)) h = inr (inr (inr (inr (inr (inr (inl (ap (λ n. Step (Finish n)) (sym (value a h)))))))))
-among (Step (Mend a)) h = inr (inr (inr (inr (inr (inr (inr (inl (ap (λ n. Step (Mend n)) (sym (value a h))))))))))
+among (Enabled a) h = inr (inr (inl (ap Enabled (sym (value a h)))))
+among Ready h = inr (inr (inr (inl refl)))
+among (Step (Claim a)) h = inr (inr (inr (inr (inl (ap (λ n. Step (Claim n)) (sym (value a h)))))))
+among (Step (Follow a)) h = inr (inr (inr (inr (inr (inl (ap (λ n. Step (Follow n)) (sym (value a h))))))))
+among (Step (Adopt a b)) h = inr (inr (inr (inr (inr (inr (inl (ap (λ n. Step (Adopt n b)) (sym (value a h.0)) ∙ ap (λ n. Step (Adopt (digits_value 10 (decimal a)) n)) (sym (value b h.1)))))))))
+among (Step (Request a)) h = inr (inr (inr (inr (inr (inr (inr (inl (ap (λ n. Step (Request n)) (sym (value a h))))))))))
+among (Step (Relay a b)) h = inr (inr (inr (inr (inr (inr (inr (inr (inl (ap (λ n. Step (Relay n b)) (sym (value a h.0)) ∙ ap (λ n. Step (Relay (digits_value 10 (decimal a)) n)) (sym (value b h.1)))))))))))
+among (Step (Open a)) h = inr (inr (inr (inr (inr (inr (inr (inr (inr (inl (ap (λ n. Step (Open n)) (sym (value a h))))))))))))
+among (Step (Join a)) h = inr (inr (inr (inr (inr (inr (inr (inr (inr (inr (inl (ap (λ n. Step (Join n)) (sym (value a h)))))))))))))
+among (Step (Finish a)) h = inr (inr (inr (inr (inr (inr (inr (inr (inr (inr (inr (inl (ap (λ n. Step (Finish n)) (sym (value a h))))))))))))))
+among (Step (Mend a)) h = inr (inr (inr (inr (inr (inr (inr (inr (inr (inr (inr (inr (inl (ap (λ n. Step (Mend n)) (sym (value a h)))))))))))))))
 
 abbrev AllFit : List Command → Type 0
 AllFit [] = Unit {0}
 AllFit (c ∷ cs) = CommandFits c × AllFit cs
 
 all_fit : (m n : ℕ) → m < 2 ^ 32 → n < 2 ^ 32 → AllFit (commands_with m n)
-all_fit m n p q = (tt, (p, (p, ((p, q), (p, (p, (p, (p, tt))))))))
+all_fit m n p q = (tt, (p, (p, (tt, (p, (p, ((p, q), (p, ((p, q), (p, (p, (p, (p, tt)))))))))))))
 
 -- ---- what the search for a line finds
 

@@ -1,7 +1,11 @@
-pub mod Pieces
 pub mod CommandLines
 pub mod CommandOf
 pub mod TextLines
 pub mod Reading
 pub mod Runs
 pub mod Nodes
+pub mod Jobs
+pub mod PathRows
+pub mod Subcommands
+pub mod TableRuns
+pub mod ReadyTexts

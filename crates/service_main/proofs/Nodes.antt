@@ -1,12 +1,15 @@
--- Which nodes can be shown.
+-- Which nodes can be shown, and what is answered of the enabled rows.
 use Rattle.std.proofs.Common.{◌≡◌, ◌≢◌, ℕ, zero, suc, ◌<◌, nat_eq, Bool, true, false, ◌||◌, if◌then◌else◌, List, [], ◌∷◌, refl, sym, ap, ◌∙◌, Some, None, arith, length, get_or, Contains}
 use Rattle.std.specs.List.{list_any, slice_get}
 use Rattle.std.proofs.lemmas.Bool.Decides.{nat_tests}
 use Rattle.topology.specs.Graph.{IsNode}
 use Rattle.reset_machine.specs.Configuration.{Configuration}
 use Rattle.reset_machine.specs.declared.step.StepRefusal.TheVariants.{StrangeNode}
-use Rattle.service_main.specs.Output.{answered, shown, refusal_text}
+use Rattle.reset_machine.specs.Enabled.{enabled_rows, ready_of}
+use Rattle.reset_machine.specs.declared.enabled.Enabled.{Enabled}
+use Rattle.service_main.specs.Output.{answered, enabled_line, enabled_text, ready_line, ready_text, shown, refusal_text}
 use Rattle.service_main.specs.declared.script.Command.TheVariants.{ShowNode}
+use Rattle.service_main.specs.declared.script.Command.TheVariants as command
 
 or_first : (a b : Bool) → a ≡ true → (a || b) ≡ true
 or_first true b h = refl
@@ -52,3 +55,20 @@ pub got_some : (ids : List ℕ) (i : ℕ) → i < length ids → slice_get ids i
 got_some [] i inside h = omega arith
 got_some (x ∷ xs) zero inside h = cc
 got_some (x ∷ xs) (suc i) inside h = got_some xs i (omega arith) h
+
+-- ---- enabled rows
+
+enabled_line-is : (c : Configuration) (i : ℕ) (rows : Enabled) → rows ≡ enabled_rows c i → enabled_line c i ≡ enabled_text i rows
+unfolding enabled_line
+enabled_line-is c i rows is = ap (enabled_text i) (sym is)
+
+pub enabled_node : (c : Configuration) (i : ℕ) (rows : Enabled) → IsNode c.graph i → rows ≡ enabled_rows c i → (answered c (command.Enabled i)).1 ≡ enabled_text i rows
+enabled_node c i rows node is =
+    ap (λ (b : Bool). if b then enabled_line c i else refusal_text StrangeNode) (present c.graph.ids i node.0 node.1 node.2) ∙ enabled_line-is c i rows is
+
+pub enabled_none : (c : Configuration) (i : ℕ) → (IsNode c.graph i → ⊥) → (answered c (command.Enabled i)).1 ≡ refusal_text StrangeNode
+enabled_none c i none = ap (λ (b : Bool). if b then enabled_line c i else refusal_text StrangeNode) (absent c.graph.ids i none)
+
+pub ready_line-is : (c : Configuration) (ids : List ℕ) → ids ≡ ready_of c → ready_line c ≡ ready_text ids
+unfolding ready_line
+ready_line-is c ids is = ap ready_text (sym is)

@@ -1,10 +1,11 @@
 -- A run that goes on from line to line.
-use Rattle.std.proofs.Common.{◌≡◌, ◌≢◌, ℕ, ◌+◌, List, [], ◌∷◌, ◌++◌, refl, sym, ap, ◌∙◌, subst, append_assoc, append-nil, ◌⊎◌, inl, inr, Option, Some, None, Result, Ok, Err, IfOk, IfErr, OnErr}
-use Rattle.std.specs.Io.KnownBytes.{Appends, Keeps}
+use Rattle.std.proofs.Common.{◌≡◌, ◌≢◌, ℕ, ◌+◌, List, [], ◌∷◌, ◌++◌, refl, sym, ap, ◌∙◌, subst, append_assoc, append-nil, inl, inr, Option, Result, Ok, Err, IfOk, IfErr, OnErr}
+use Rattle.std.specs.Prelude.{IsErrAnd}
+use Rattle.std.specs.Io.KnownBytes.{Appends}
 use Rattle.std.proofs.KnownBytes.{Appends-trans, Keeps-refl}
 use Rattle.reset_machine.specs.Configuration.{Configuration}
-use Rattle.reset_machine.specs.Written.{AppendsFront}
-use Rattle.reset_machine.proofs.Fronts.{AppendsFront-first, AppendsFront-then}
+use Rattle.action_tables.specs.Written.{AppendsFront}
+use Rattle.action_tables.proofs.Fronts.{AppendsFront-first, AppendsFront-then}
 use Rattle.service_main.specs.Script.{line_of}
 use Rattle.service_main.specs.Output.{answer_to, answers, followed, Answer, Leaves, HasFront}
 use Rattle.service_main.specs.declared.status.Status.{Status}
@@ -95,6 +96,13 @@ left_result all a b d done c c' n lines line (Ok s) p q before ok err other =
     let x : Answer = answer_to c n (line_of line) in
     (done ++ x.text, ap (λ (t : Status). (done ++ x.text, t)) ok.0 ∙ sym (left_last all done c n lines line p q), Appends-trans a b d done x.text before ok.2)
 left_result all a b d done c c' n lines line (Err s) p q before ok err other = left_stop all a b d done c n lines [] line s p q before err other
+
+-- writing failed
+pub leaves_fault : (O : Output → Type 0) (a b : Option (List ℕ)) (r : Result Status RunStop) → IsErrAnd r (λ s. s ≡ WriteFailed) → HasFront O a b → Leaves O a b r
+leaves_fault O a b (Ok s) is h = absurd is
+leaves_fault O a b (Err ReadFailed) is h = absurd (cc)
+leaves_fault O a b (Err WriteFailed) is h = h
+leaves_fault O a b (Err NoMemory) is h = inr h
 
 -- ---- what a run leaves, said of another output
 

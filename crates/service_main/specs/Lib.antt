@@ -2,3 +2,5 @@ pub mod Script
 pub mod Output
 pub mod Parts
 pub mod Lines
+pub mod Words
+pub mod Tables

@@ -23,11 +23,15 @@ use Rattle.reset_machine.specs.declared.step.StepRefusal.{StepRefusal}
 use Rattle.reset_machine.specs.declared.step.StepRefusal.TheVariants.{StrangeNode, StrangeNeighbour, NotEnabled, SessionsSpent, NoMemory}
 use Rattle.reset_machine.specs.Configuration.{Configuration, tree_of, wave_of}
 use Rattle.reset_machine.specs.Outcome.{IsBoot, outcome_of}
-use Rattle.reset_machine.specs.Written.{AppendsFront}
+use Rattle.reset_machine.specs.Enabled.{enabled_rows, ready_of}
+use Rattle.reset_machine.specs.declared.enabled.Enabled.{Enabled}
+use Rattle.action_tables.specs.RowText.{set_text}
+use Rattle.action_tables.specs.Written.{AppendsFront}
 use Rattle.service_main.specs.Lines.{ended, lines_of, IsCut}
 use Rattle.service_main.specs.Script.{line_of}
 use Rattle.service_main.specs.declared.script.Command.{Command}
-use Rattle.service_main.specs.declared.script.Command.TheVariants.{Step, Show, ShowNode}
+use Rattle.service_main.specs.declared.script.Command.TheVariants.{Step, Show, ShowNode, Ready}
+use Rattle.service_main.specs.declared.script.Command.TheVariants as command
 use Rattle.service_main.specs.declared.script.Line.{Line}
 use Rattle.service_main.specs.declared.script.Line.TheVariants.{Silent, Asks, Bad}
 use Rattle.service_main.specs.declared.status.Status.{Status}
@@ -67,6 +71,20 @@ abbrev pub node_text : ℕ → TreeRegs → WaveRegs → List ℕ
 node_text id tree wave =
     concat (codes "node " ∷ decimal id ∷ codes " tree " ∷ decimal tree.root ∷ codes " " ∷ decimal tree.father ∷ codes " " ∷ decimal tree.dist
     ∷ codes " wave " ∷ phase_name wave.phase ∷ codes " " ∷ decimal wave.session ∷ ended (codes " local -") ∷ [])
+
+-- the line that names the enabled rows of a node, by table
+abbrev pub enabled_text : ℕ → Enabled → List ℕ
+enabled_text id rows =
+    concat (codes "enabled " ∷ decimal id ∷ codes " tree " ∷ set_text rows.tree ∷ codes " wave " ∷ set_text rows.wave ∷ codes " act " ∷ set_text rows.act ∷ ended [] ∷ [])
+
+-- a number after a space
+abbrev pub spaced : ℕ → List ℕ
+spaced n = codes " " ++ decimal n
+
+-- the line that names nodes, each after a space, or has a dash where there is none
+abbrev pub ready_text : List ℕ → List ℕ
+ready_text [] = ended (codes "ready -")
+ready_text (id ∷ ids) = ended (codes "ready" ++ flat_map spaced (id ∷ ids))
 
 abbrev pub graph_fault_text : TopoFault → List ℕ
 graph_fault_text NoNodes = ended (codes "bad topology NoNodes")
@@ -108,11 +126,21 @@ stepped c (Err refusal) = (c, refusal_text refusal)
 abbrev pub shown : Configuration → ℕ → List ℕ
 shown c i = node_text i (tree_of c i) (wave_of c i)
 
+-- the line that names the enabled rows of a node. It stays folded: unfolded, it has both tables
+unfoldable pub enabled_line : Configuration → ℕ → List ℕ
+enabled_line c i = enabled_text i (enabled_rows c i)
+
+-- the line that names the nodes that have something to do
+unfoldable pub ready_line : Configuration → List ℕ
+ready_line c = ready_text (ready_of c)
+
 -- the answer to a command
 abbrev pub answered : Configuration → Command → Configuration × List ℕ
 answered c (Step e) = stepped c (outcome_of c e)
 answered c Show = (c, flat_map (shown c) c.graph.ids)
 answered c (ShowNode i) = (c, if list_any (λ k. k == i) c.graph.ids then shown c i else refusal_text StrangeNode)
+answered c (command.Enabled i) = (c, if list_any (λ k. k == i) c.graph.ids then enabled_line c i else refusal_text StrangeNode)
+answered c Ready = (c, ready_line c)
 
 -- what a line leaves: the configuration, what is written, and whether the line is good
 pub record Answer : Type 0 where

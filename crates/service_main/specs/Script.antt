@@ -1,15 +1,14 @@
 -- The lines of a script, and the commands that they spell.
-use Rattle.std.specs.Prelude.{ℕ, ◌<◌, ◌^◌, nat_lt, ◌==◌, Bool, true, false, ◌&&◌, if◌then◌else◌, List, [], ◌∷◌, length, codes, slice_index_or, Option, Some, None}
+use Rattle.std.specs.Prelude.{ℕ, ◌<◌, ◌^◌, nat_lt, ◌==◌, Bool, true, ◌&&◌, if◌then◌else◌, List, [], ◌∷◌, length, codes, slice_index_or, Option, Some, None}
 use Rattle.std.specs.Fmt.{decimal}
 use Rattle.std.specs.List.{find, join_with_byte}
 use Rattle.std.specs.Str.{bytes_eq}
 use Rattle.std.specs.Str.Parse.{digits_value}
 use Rattle.reset_machine.specs.EventText.{event_words, Fits}
 use Rattle.reset_machine.specs.Words.{words_of}
-use Rattle.reset_machine.specs.declared.event.Event.{Event}
-use Rattle.reset_machine.specs.declared.event.Event.TheVariants.{Request, Relay, Open, Join, Finish, Mend}
+use Rattle.reset_machine.specs.declared.event.Event.TheVariants.{Claim, Follow, Adopt, Request, Relay, Open, Join, Finish, Mend}
 use Rattle.service_main.specs.declared.script.Command.{Command}
-use Rattle.service_main.specs.declared.script.Command.TheVariants.{Step, Show, ShowNode}
+use Rattle.service_main.specs.declared.script.Command.TheVariants.{Step, Show, ShowNode, Enabled, Ready}
 use Rattle.service_main.specs.declared.script.Line.{Line}
 use Rattle.service_main.specs.declared.script.Line.TheVariants.{Silent, Asks, Bad}
 use Rattle.service_main.specs.declared.script.TheConstants.{MAX_LINE}
@@ -19,6 +18,8 @@ abbrev pub command_words : Command → List (List ℕ)
 command_words (Step e) = event_words e
 command_words Show = codes "show" ∷ []
 command_words (ShowNode at) = codes "show" ∷ decimal at ∷ []
+command_words (Enabled at) = codes "enabled" ∷ decimal at ∷ []
+command_words Ready = codes "ready" ∷ []
 
 -- the one line of a command: its words, with a space between each two
 abbrev pub command_line : Command → List ℕ
@@ -29,11 +30,14 @@ abbrev pub CommandFits : Command → Type 0
 CommandFits (Step e) = Fits e
 CommandFits Show = Unit {0}
 CommandFits (ShowNode at) = at < 2 ^ 32
+CommandFits (Enabled at) = at < 2 ^ 32
+CommandFits Ready = Unit {0}
 
 -- the commands with these numbers
 abbrev pub commands_with : ℕ → ℕ → List Command
 commands_with m n =
-    Show ∷ ShowNode m ∷ Step (Request m) ∷ Step (Relay m n) ∷ Step (Open m) ∷ Step (Join m) ∷ Step (Finish m) ∷ Step (Mend m) ∷ []
+    Show ∷ ShowNode m ∷ Enabled m ∷ Ready ∷ Step (Claim m) ∷ Step (Follow m) ∷ Step (Adopt m n)
+    ∷ Step (Request m) ∷ Step (Relay m n) ∷ Step (Open m) ∷ Step (Join m) ∷ Step (Finish m) ∷ Step (Mend m) ∷ []
 
 -- the value of the digits of a word, which counts from 0
 abbrev pub number_at : List (List ℕ) → ℕ → ℕ

@@ -3,48 +3,21 @@
 ghost use Rattle.std.specs.Prelude.{◌≡◌, ◌≢◌, ℕ, [], ◌∷◌, ◌++◌, codes, List, IfOk, IfErr, OnOk, OnErr};
 ghost use Rattle.std.specs.List.{flat_map};
 ghost use Rattle.std.specs.Io.KnownBytes.{Appends};
-ghost use Rattle.reset_machine.specs.Written.{AppendsFront};
+ghost use Rattle.action_tables.specs.Written.{AppendsFront};
 ghost use Rattle.reset_machine.specs.Outcome.{outcome_of};
 ghost use Rattle.service_main.specs.declared.script.Command.TheVariants.{ShowNode};
 ghost use Rattle.service_main.specs.Output.{answered, shown, stepped, bad_line_text, bad_topology_text, graph_fault_text, node_text, numbered, phase_name, refusal_text, reply_text, too_long_text, numbered_twice};
-ghost use Rattle.service_main.specs.Parts.{part_text};
 
+use crate::rows::{answer_enabled, answer_ready};
 use crate::script::Command;
 use crate::status::RunStop;
-use reset_machine::{Config, Event, Reply, StepRefusal, WriteFault, put_bytes, put_number};
+use action_tables::{Part, WriteFault, put_bytes, put_parts};
+use reset_machine::{Config, Event, Reply, StepRefusal};
 use std::alloc::Global;
 use std::io::Write;
 use topology::{ReadFault, TopoFault};
 use tree_layer::TreeRegs;
 use wave_layer::{Phase, WaveRegs};
-
-// A part of a line.
-#[derive(Clone, Copy)]
-enum Part<'t> {
-    Text(&'t [u8]),
-    Number(u64),
-}
-
-// Writes the parts, one after the other.
-fn put_parts<W: Write>(out: &mut W, parts: &[Part<'_>]) -> Result<(), WriteFault>
-    ensures ok { OnOk result (Appends (W.contents out.old) (W.contents out.new) (flat_map part_text parts.now)) }
-    ensures err { OnErr result (AppendsFront (W.contents out.old) (W.contents out.new) (flat_map part_text parts.now)) }
-{
-    for part in parts {
-        put_part(out, *part)?;
-    }
-    Ok(())
-}
-
-fn put_part<W: Write>(out: &mut W, part: Part<'_>) -> Result<(), WriteFault>
-    ensures ok { OnOk result (Appends (W.contents out.old) (W.contents out.new) (part_text part.entry)) }
-    ensures err { OnErr result (AppendsFront (W.contents out.old) (W.contents out.new) (part_text part.entry)) }
-{
-    match part {
-        Part::Text(text) => put_bytes(out, text),
-        Part::Number(number) => put_number(out, number),
-    }
-}
 
 /// Writes what the fault of a topology text is answered with.
 pub fn put_topology_fault<W: Write>(out: &mut W, fault: ReadFault) -> Result<(), WriteFault>
@@ -150,6 +123,8 @@ pub fn answer<W: Write>(
         Command::Step(event) => answer_step(alloc, config, event, out),
         Command::Show => Ok(show_all(config, out)?),
         Command::ShowNode(at) => Ok(show_node(config, at, out)?),
+        Command::Enabled(at) => answer_enabled(alloc, config, at, out),
+        Command::Ready => answer_ready(alloc, config, out),
     }
 }
 
@@ -180,7 +155,8 @@ fn put_reply<W: Write>(out: &mut W, reply: Reply) -> Result<(), WriteFault>
     }
 }
 
-fn put_refusal<W: Write>(out: &mut W, refusal: StepRefusal) -> Result<(), WriteFault>
+/// Writes what a refusal is answered with.
+pub fn put_refusal<W: Write>(out: &mut W, refusal: StepRefusal) -> Result<(), WriteFault>
     ensures ok { OnOk result (Appends (W.contents out.old) (W.contents out.new) (refusal_text refusal)) }
     ensures err { OnErr result (AppendsFront (W.contents out.old) (W.contents out.new) (refusal_text refusal)) }
 {

@@ -3,7 +3,7 @@
 ghost use Rattle.std.specs.Prelude.{◌≡◌};
 
 use crate::status::RunStop;
-use reset_machine::put_bytes;
+use action_tables::put_bytes;
 use std::alloc::{AllocError, Global};
 use std::io;
 use std::io::Write;

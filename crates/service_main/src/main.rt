@@ -3,45 +3,84 @@
 #![tactic(auto)]
 
 mod answer;
+mod commands;
+mod files;
 mod gather;
 mod input;
 mod replay;
+mod rows;
 mod script;
 mod status;
+mod tables;
+mod words;
 
+use crate::files::{open_file, read_file};
 use crate::gather::Gathered;
-use crate::replay::replay_joined;
+use crate::replay::{replay, replay_joined};
 use crate::status::{RunStop, Status};
+use crate::tables::print_tables;
+use crate::words::{Job, LineFault, no_text, read_words};
+use action_tables::put_bytes;
+use std::io::Write;
 use std::process::ExitCode;
 use std::{env, io};
 
-const USAGE: &str =
-    "usage: service_main < TEXT (no words; TEXT is a topology, a line ---, and a script)";
-
 fn main(rt: HostRuntime) -> ExitCode {
-    match has_words(&rt) {
-        Ok(true) => {
-            let _ = eprintln!(rt; "{USAGE}");
-            ExitCode::from(2)
+    match run(&rt) {
+        Ok(Status::Good) => ExitCode::SUCCESS,
+        Ok(Status::BadInput) => ExitCode::from(2),
+        Err(stop) => {
+            let _ = eprintln!(rt; "{stop}");
+            match stop {
+                RunStop::ReadFailed | RunStop::WriteFailed => ExitCode::from(3),
+                RunStop::NoMemory => ExitCode::from(4),
+            }
         }
-        Ok(false) => exit_code(&rt, run(&rt)),
-        Err(stop) => exit_code(&rt, Err(stop)),
     }
 }
 
-// Whether the program was given words, after its name. Words that can't be told are words.
-fn has_words(rt: &HostRuntime) -> Result<bool, RunStop> {
-    match env::args(rt) {
-        Ok(words) => Ok(words.len() > 1),
-        Err(error) if error.kind() == io::ErrorKind::OutOfMemory => Err(RunStop::NoMemory),
-        Err(_) => Ok(true),
-    }
-}
-
-// Replays the joined text of the standard input.
 fn run(rt: &HostRuntime) -> Result<Status, RunStop> {
+    let words = match given_words(rt) {
+        Ok(words) => words,
+        Err(fault) => return answer_fault(rt, fault),
+    };
+    match read_words(rt.alloc(), words.as_slice()) {
+        Ok(job) => do_job(rt, job),
+        Err(fault) => answer_fault(rt, fault),
+    }
+}
+
+// The words that the program was started with, its own name first.
+fn given_words(rt: &HostRuntime) -> Result<Vec<String>, LineFault> {
+    match env::args(rt) {
+        Ok(words) => Ok(words.collect(rt.alloc())?),
+        Err(error) if error.kind() == io::ErrorKind::OutOfMemory => Err(LineFault::NoMemory),
+        Err(_) => Err(no_text(rt.alloc())),
+    }
+}
+
+// Help is what was asked for, and goes to the standard output. A mistake goes to the standard error.
+fn answer_fault(rt: &HostRuntime, fault: LineFault) -> Result<Status, RunStop> {
+    match fault {
+        LineFault::NoMemory => Err(RunStop::NoMemory),
+        LineFault::BadWords(error) => {
+            if error.use_stderr() {
+                let _ = eprint!(rt; "{error}");
+                return Ok(Status::BadInput);
+            }
+            let help = format!(in rt.alloc(); "{error}")?;
+            let mut out = Gathered::new(rt.alloc(), io::writer(rt))?;
+            put_bytes(&mut out, help.as_bytes())?;
+            out.finish()?;
+            Ok(Status::Good)
+        }
+    }
+}
+
+// What was written before the job stopped is handed on, unless it stopped because that failed.
+fn do_job(rt: &HostRuntime, job: Job<'_>) -> Result<Status, RunStop> {
     let mut out = Gathered::new(rt.alloc(), io::writer(rt))?;
-    match replay_joined(rt.alloc(), &mut rt.reader(), &mut out) {
+    match job_output(rt, job, &mut out) {
         Ok(status) => {
             out.finish()?;
             Ok(status)
@@ -54,16 +93,22 @@ fn run(rt: &HostRuntime) -> Result<Status, RunStop> {
     }
 }
 
-fn exit_code(rt: &HostRuntime, ended: Result<Status, RunStop>) -> ExitCode {
-    match ended {
-        Ok(Status::Good) => ExitCode::SUCCESS,
-        Ok(Status::BadInput) => ExitCode::from(2),
-        Err(stop) => {
-            let _ = eprintln!(rt; "{stop}");
-            match stop {
-                RunStop::ReadFailed | RunStop::WriteFailed => ExitCode::from(3),
-                RunStop::NoMemory => ExitCode::from(4),
-            }
-        }
+fn job_output<W: Write>(rt: &HostRuntime, job: Job<'_>, out: &mut W) -> Result<Status, RunStop> {
+    match job {
+        Job::Joined => replay_joined(rt.alloc(), &mut rt.reader(), out),
+        Job::Replay { topology, script } => replay_files(rt, topology, script, out),
+        Job::Tables => print_tables(out),
     }
+}
+
+// Both files are opened, and the topology is read, before anything is judged.
+fn replay_files<W: Write>(
+    rt: &HostRuntime,
+    topology: &str,
+    script: &str,
+    out: &mut W,
+) -> Result<Status, RunStop> {
+    let topology = read_file(rt, topology)?;
+    let mut script = open_file(rt, script)?;
+    replay(rt.alloc(), &topology, &mut script, out)
 }

@@ -3,7 +3,7 @@
 ghost use Rattle.std.specs.Prelude.{◌≡◌, ◌≢◌, ℕ, ◌≤◌, List, length, IfOk, IfErr, OnErr};
 ghost use Rattle.std.specs.Io.KnownBytes.{Appends};
 ghost use Rattle.topology.specs.TopologyText.{IsReadFault};
-ghost use Rattle.reset_machine.specs.Written.{AppendsFront};
+ghost use Rattle.action_tables.specs.Written.{AppendsFront};
 ghost use Rattle.service_main.specs.Lines.{lines_of, IsReadFrom};
 ghost use Rattle.service_main.specs.Script.{line_of};
 ghost use Rattle.service_main.specs.Output.{answer_to, answers, bad_topology_text, script_output, too_long_text, IsBootOf, IsJoinedOutput, IsOutput, Leaves};

@@ -18,6 +18,10 @@ pub enum Command {
     Show,
     /// That this node be shown.
     ShowNode(u32),
+    /// That the enabled rows of this node be named.
+    Enabled(u32),
+    /// That the nodes with something to do be named.
+    Ready,
 }
 
 /// A line of a script, without its line feed.
@@ -70,9 +74,15 @@ fn by_first_word(line: &[u8]) -> Option<Command>
 {
     match split_word(line) {
         None if is_show(line) => Some(Command::Show),
+        None if is_ready(line) => Some(Command::Ready),
         None => None,
-        Some((word, number)) if is_show(word) => Some(Command::ShowNode(read_number(number)?)),
-        Some(_) => Some(Command::Step(read_event(line)?)),
+        Some((word, number)) => Some(if is_show(word) {
+            Command::ShowNode(read_number(number)?)
+        } else if is_enabled(word) {
+            Command::Enabled(read_number(number)?)
+        } else {
+            Command::Step(read_event(line)?)
+        }),
     }
 }
 
@@ -80,4 +90,16 @@ fn is_show(word: &[u8]) -> bool
     ensures { IsTrue result ↔ (word.now ≡ codes "show") }
 {
     word == b"show".as_slice()
+}
+
+fn is_enabled(word: &[u8]) -> bool
+    ensures { IsTrue result ↔ (word.now ≡ codes "enabled") }
+{
+    word == b"enabled".as_slice()
+}
+
+fn is_ready(word: &[u8]) -> bool
+    ensures { IsTrue result ↔ (word.now ≡ codes "ready") }
+{
+    word == b"ready".as_slice()
 }

@@ -3,7 +3,7 @@
 ghost use Rattle.std.specs.Prelude.{◌≡◌};
 ghost use Rattle.service_main.specs.declared.status.RunStop.TheVariants.{NoMemory, WriteFailed};
 
-use reset_machine::WriteFault;
+use action_tables::WriteFault;
 use std::alloc::AllocError;
 use std::error::Error;
 use std::fmt;

@@ -60,6 +60,29 @@ fn refusals_and_silence(rt: HostRuntime) {
 }
 
 #[test]
+fn enabled_and_ready(rt: HostRuntime) {
+    let script = b"enabled 1\nready\nrequest 1\nready\nenabled 2\n";
+    let written =
+        b"enabled 1 tree - wave 1 act -\nready -\napplied\nready 2\nenabled 2 tree - wave 1,2 act -\n";
+    runs(&rt, LINE, script, Status::Good, written);
+    runs(
+        &rt,
+        LINE,
+        b"enabled 9",
+        Status::Good,
+        b"refused StrangeNode\n",
+    );
+}
+
+#[test]
+fn tree_events(rt: HostRuntime) {
+    let script = b"claim 1\nfollow 1\nadopt 1 2\nadopt 1 3\n";
+    let written =
+        b"refused NotEnabled\nrefused NotEnabled\nrefused NotEnabled\nrefused StrangeNeighbour\n";
+    runs(&rt, LINE, script, Status::Good, written);
+}
+
+#[test]
 fn bad_topologies(rt: HostRuntime) {
     let cases = [
         (

@@ -2,10 +2,10 @@ use Rattle.std.proofs.Common.{◌≡◌, ap, ◌∙◌, sym, subst, List, ℕ, S
 use Rattle.std.specs.List.{slice_get}
 use Rattle.std.specs.Io.KnownBytes.{Appends}
 use Rattle.topology.specs.Graph.{Graph}
-use Rattle.reset_machine.specs.Written.{AppendsFront}
-use Rattle.reset_machine.proofs.Fronts.{OnErr-always}
+use Rattle.action_tables.specs.Written.{AppendsFront}
+use Rattle.action_tables.proofs.Fronts.{OnErr-always}
 use Rattle.service_main.specs.Output.{shown}
-use Rattle.service_main.proofs.Pieces.{Appends-piece, AppendsFront-piece}
+use Rattle.action_tables.proofs.Pieces.{Appends-piece, AppendsFront-piece}
 use Rattle.service_main.proofs.Nodes.{got_some, shown_here}
 use Rattle.service_main.proofs.answer.show_all.Goals as goal
 

@@ -1,4 +1,4 @@
-use Rattle.std.proofs.Common.{◌≡◌, ◌++◌, sym, ◌∙◌, arith}
+use Rattle.std.proofs.Common.{◌++◌, sym, ◌∙◌, arith}
 use Rattle.std.proofs.KnownBytes.{Appends-trans}
 use Rattle.service_main.specs.Lines.{lines_of}
 use Rattle.service_main.specs.Script.{line_of}

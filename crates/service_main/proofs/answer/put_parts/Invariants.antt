@@ -1,9 +1,0 @@
--- The parts before the index were written.
-use Rattle.std.proofs.Common.{take}
-use Rattle.std.specs.List.{flat_map}
-use Rattle.std.specs.Io.KnownBytes.{Appends}
-use Rattle.service_main.specs.Parts.{part_text}
-use Rattle.service_main.proofs.answer.put_parts.Given as goal
-
-abbrev pub invariant-loop-part : goal.invariant-loop-part
-invariant-loop-part g l = Appends (g.W.Write.contents l.initial.out) (g.W.Write.contents l.out) (flat_map part_text (take l.part-index l.parts))

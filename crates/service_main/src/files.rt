@@ -1,0 +1,27 @@
+// Opening and reading the files that the command line names.
+
+ghost use Rattle.std.specs.Prelude.{◌≢◌, IfErr};
+
+use crate::input::read_text;
+use crate::status::RunStop;
+use std::rt::Files;
+use std::{fs, io};
+
+/// Opens a file for reading. One that can't be opened is a read fault.
+pub fn open_file<R: Files>(rt: &R, path: &str) -> Result<R::File, RunStop>
+    ensures { IfErr result (λ stop. stop ≢ RunStop.WriteFailed) }
+{
+    match fs::open(rt, path) {
+        Ok(file) => Ok(file),
+        Err(error) if error.kind() == io::ErrorKind::OutOfMemory => Err(RunStop::NoMemory),
+        Err(_) => Err(RunStop::ReadFailed),
+    }
+}
+
+/// The text of a file, or its first `READ_LIMIT` bytes.
+pub fn read_file<R: Files + AllocGlobal>(rt: &R, path: &str) -> Result<Vec<u8>, RunStop>
+    ensures { IfErr result (λ stop. stop ≢ RunStop.WriteFailed) }
+{
+    let mut file = open_file(rt, path)?;
+    read_text(rt.alloc(), &mut file)
+}
