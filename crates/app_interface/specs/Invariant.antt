@@ -1,0 +1,14 @@
+-- What holds of the local states of all nodes from a reset on.
+use Rattle.std.specs.Prelude.{◌≡◌, ℕ, Option}
+use Rattle.topology.specs.Graph.{Graph, IsNode}
+use Rattle.app_interface.specs.Application.{App, Action}
+
+-- the same at every node
+abbrev pub SameAtNodes : {L : Type 0} → Graph → (ℕ → L) → (ℕ → L) → Type 0
+SameAtNodes g v v' = (i : ℕ) → IsNode g i → v' i ≡ v i
+
+-- Inv is a fact of the nodes' states that holds at the start and that each action keeps
+pub record Keeps {L : Type 0} (app : App L) (g : Graph) (K : ℕ) (Inv : (ℕ → L) → Type 0) : Type 0 where
+  pub same : (v v' : ℕ → L) → SameAtNodes g v v' → Inv v → Inv v'
+  pub starts : Inv (app.start g)
+  pub acts : (i case : ℕ) (with : Option ℕ) (v v' : ℕ → L) → Action app g K i case with v v' → Inv v → Inv v'

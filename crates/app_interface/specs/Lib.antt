@@ -1,0 +1,5 @@
+pub mod Cases
+pub mod Application
+pub mod Invariant
+pub mod Idle
+pub mod Views

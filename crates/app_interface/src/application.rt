@@ -1,0 +1,111 @@
+// The trait of applications.
+ghost use Rattle.std.specs.Prelude.{◌≡◌, ◌≢◌, ℕ, ◌≤◌, ◌↔◌, List, Option, None, Some, Err, IsTrue, IfOk, IfSome, OnOk, OnErr, is_some, length, option_map, slice_get};
+ghost use Rattle.std.specs.Io.KnownBytes.{Appends};
+ghost use Rattle.action_tables.specs.Written.{AppendsFront};
+ghost use Rattle.app_interface.specs.Application.{App};
+ghost use Rattle.app_interface.specs.Cases.{AreCases};
+ghost use Rattle.app_interface.specs.Invariant.{Keeps};
+ghost use Rattle.app_interface.specs.Views.{seen_values};
+ghost use Rattle.topology.specs.Graph.{Graph, IsGraph};
+
+use crate::reads::Reads;
+use crate::refusal::{ClockRefusal, LocalFault};
+use crate::view::{Here, Seen};
+use action_tables::WriteFault;
+use std::alloc::{AllocError, Global};
+use std::io::Write;
+use topology::Topology;
+
+/// A program that runs at every node and is reset as a whole.
+///
+/// Its actions are numbered cases. A case reads the node's own local state and those of the
+/// neighbours that [`reads`](Application::reads) says, and leaves the node a new local state.
+pub trait Application: Send + Sync {
+    /// What a node keeps.
+    type Local: Drop + Send;
+
+    // What the cases read, the start states, and what the cases do.
+    ghost app: { App Self.Local };
+
+    // What each case is called.
+    ghost names: { ℕ → Option (List ℕ) };
+
+    // What holds of each local state that the program can have.
+    ghost IsLocal: { Self.Local → Type 0 };
+
+    // The text of a local state.
+    ghost text: { Self.Local → List ℕ };
+
+    // What holds of the local states of all nodes from a reset on.
+    ghost Inv: { Graph → (ℕ → Self.Local) → Type 0 };
+
+    /// How many cases there are, at most 16.
+    fn cases() -> u8
+        ensures { result ≡ app.count };
+
+    /// The name of a case. None outside 1 to [`cases`](Application::cases).
+    fn case_name(case: u8) -> Option<&'static str>
+        ensures { option_map (λ name. name.now) result ≡ names case };
+
+    /// What a case reads. None outside 1 to [`cases`](Application::cases).
+    fn reads(case: u8) -> Option<Reads>
+        ensures { result ≡ app.reads case };
+
+    /// The declared start state of the node at this index.
+    fn on_start(alloc: Global, topology: &Topology, index: usize) -> Result<Self::Local, AllocError>
+        ensures { IfSome (slice_get topology.now.ids index) (λ id. IfOk result (λ local. local ≡ app.start topology.now id)) };
+
+    /// Whether the case is enabled, where `seen` holds the neighbours that it reads, ascending.
+    fn can(
+        here: Here,
+        case: u8,
+        with: Option<u32>,
+        own: &Self::Local,
+        seen: &[Seen<'_, Self::Local>],
+    ) -> bool
+        ensures { result ≡ is_some (app.next here.id here.k case with own.now (seen_values seen.now)) };
+
+    /// The local state that the case leaves, or `NotEnabled` exactly where [`can`](Application::can) is false.
+    fn on_clock(
+        alloc: Global,
+        here: Here,
+        case: u8,
+        with: Option<u32>,
+        own: &Self::Local,
+        seen: &[Seen<'_, Self::Local>],
+    ) -> Result<Self::Local, ClockRefusal>
+        ensures ok { IfOk result (λ new. app.next here.id here.k case with own.now (seen_values seen.now) ≡ Some new) }
+        ensures not_enabled { result ≡ Err ClockRefusal.NotEnabled ↔ app.next here.id here.k case with own.now (seen_values seen.now) ≡ None };
+
+    /// Whether the two are equal.
+    fn same(a: &Self::Local, b: &Self::Local) -> bool
+        ensures { IsTrue result ↔ a.now ≡ b.now };
+
+    /// A copy.
+    fn copy(alloc: Global, local: &Self::Local) -> Result<Self::Local, AllocError>
+        ensures { IfOk result (λ copy. copy ≡ local.now) };
+
+    /// Writes the text of a local state.
+    fn show<W: Write>(local: &Self::Local, out: &mut W) -> Result<(), WriteFault>
+        ensures ok { OnOk result (Appends (W.contents out.old) (W.contents out.new) (text local.now)) }
+        ensures err { OnErr result (AppendsFront (W.contents out.old) (W.contents out.new) (text local.now)) };
+
+    /// The local state with this text, `BadLocal` where there is none.
+    fn read_local(alloc: Global, bytes: &[u8]) -> Result<Self::Local, LocalFault>
+        ensures ok { IfOk result (λ local. text local ≡ bytes.now) }
+        ensures bad { result ≡ Err LocalFault.BadLocal → (local : Self.Local) → IsLocal local → text local ≢ bytes.now };
+
+    /// What holds of each local state.
+    fn known(local: &Self::Local)
+        ensures { IsLocal local.now };
+
+    // A case from 1 to the number of cases has a name and reads something, and no other number has.
+    ghost are_cases: { AreCases app.count names app.reads };
+
+    // No two local states have one text.
+    ghost one_text: { (a b : Self.Local) → IsLocal a → IsLocal b → text a ≡ text b → a ≡ b };
+
+    // On every graph, and for every bound that the number of nodes doesn't pass, the invariant holds
+    // at the start and each action keeps it.
+    ghost keeps: { (g : Graph) (bound : ℕ) → IsGraph g → length g.ids ≤ bound → Keeps app g bound (Inv g) };
+}

@@ -1,0 +1,48 @@
+use super::*;
+use std::alloc::Global;
+use std::test::Fail;
+use topology::Topology;
+
+fn text_of<P: Application>(alloc: Global, local: &P::Local) -> Vec<u8> {
+    let mut out = Vec::new(alloc);
+    let _ = P::show(local, &mut out);
+    out
+}
+
+#[test]
+fn idles(rt: HostRuntime) -> Result<(), Fail> {
+    let alloc = rt.alloc();
+    let single = Topology::build(alloc, &[7], &[])?;
+    let here = Here { id: 7, k: 1 };
+    assert_eq!(rt; Idle::cases(), 0);
+    assert_eq!(rt; Idle::case_name(1), None);
+    assert_eq!(rt; Idle::reads(1), None);
+    let own = Idle::on_start(alloc, &single, 0)?;
+    assert!(rt; !Idle::can(here, 1, None, &own, &[]));
+    assert_eq!(rt;
+        Idle::on_clock(alloc, here, 1, None, &own, &[]),
+        Err(ClockRefusal::NotEnabled)
+    );
+    let copy = Idle::copy(alloc, &own)?;
+    assert!(rt; Idle::same(&own, &copy));
+    Idle::known(&own);
+    assert_eq!(rt; text_of::<Idle>(alloc, &own).as_slice(), b"-".as_slice());
+    Ok(())
+}
+
+#[test]
+fn reads_a_dash_alone(rt: HostRuntime) {
+    let alloc = rt.alloc();
+    assert_eq!(rt; Idle::read_local(alloc, b"-"), Ok(()));
+    for text in [
+        b"".as_slice(),
+        b"--".as_slice(),
+        b" -".as_slice(),
+        b"- ".as_slice(),
+        b"-\n".as_slice(),
+        b"0".as_slice(),
+        b"hold/-/-".as_slice(),
+    ] {
+        assert_eq!(rt; Idle::read_local(alloc, text), Err(LocalFault::BadLocal));
+    }
+}

@@ -1,0 +1,47 @@
+-- The bits of a list after one of them is turned over, whatever the list.
+use Rattle.std.proofs.Common.{◌≡◌, ◌≢◌, ℕ, ◌≤◌, Bool, true, false, not, ◌&&◌, ◌||◌, ltb, eqb, List, ◌∷◌, refl, sym, ap₂, ◌∙◌, arith, eq-eqb, ne_eqb, lt-ltb, le-ltb, ⊎_elim}
+use Rattle.std.specs.List.{filter}
+use Rattle.std.proofs.lemmas.Bool.{cases_order}
+use Rattle.std.proofs.lemmas.List.Folds.{list_any-append}
+use Rattle.topology.proofs.Membership.{has-filter}
+use Rattle.app_token.specs.Bits.{bit_of, toggled, with_id}
+
+or-true : (b : Bool) → (b || true) ≡ true
+or-true true = refl
+or-true false = refl
+
+or-false : (b : Bool) → (b || false) ≡ b
+or-false true = refl
+or-false false = refl
+
+-- the members of a list with j
+with_members : (ids : List ℕ) (j k : ℕ) → bit_of (with_id ids j) k ≡ ((ltb k j && bit_of ids k) || (eqb j k || (ltb j k && bit_of ids k)))
+with_members ids j k =
+    list_any-append (λ i. eqb i k) (filter (λ i. ltb i j) ids) (j ∷ filter (λ i. ltb j i) ids)
+    ∙ ap₂ (λ a b. a || (eqb j k || b)) (has-filter (λ i. ltb i j) ids k) (has-filter (λ i. ltb j i) ids k)
+
+pub toggled_same : (ids : List ℕ) (j : ℕ) → bit_of (toggled ids j) j ≡ not (bit_of ids j)
+toggled_same ids j = at (bit_of ids j) refl
+  where
+    at : (b : Bool) → bit_of ids j ≡ b → bit_of (toggled ids j) j ≡ not (bit_of ids j)
+    at true is = rw is (has-filter (λ i. not (eqb i j)) ids j ∙ rw (eq-eqb j j refl) refl)
+    at false is = rw is (with_members ids j j ∙ rw (eq-eqb j j refl) (or-true _))
+
+pub toggled_other : (ids : List ℕ) (j k : ℕ) → k ≢ j → bit_of (toggled ids j) k ≡ bit_of ids k
+toggled_other ids j k ne = at (bit_of ids j) refl
+  where
+    at : (b : Bool) → bit_of ids j ≡ b → bit_of (toggled ids j) k ≡ bit_of ids k
+    at true is = rw is (has-filter (λ i. not (eqb i j)) ids k ∙ rw (ne_eqb k j ne) refl)
+    at false is =
+        rw is (with_members ids j k
+        ∙ ⊎_elim
+        (λ same. absurd (ne same))
+        (λ other. ⊎_elim
+        (λ low.
+        let weak : k ≤ j = omega (arith, low) in
+        rw (lt-ltb k j low, ne_eqb j k (λ e. ne (sym e)), le-ltb j k weak) (or-false (bit_of ids k)))
+        (λ high.
+        let weak : j ≤ k = omega (arith, high) in
+        rw (le-ltb k j weak, ne_eqb j k (λ e. ne (sym e)), lt-ltb j k high) refl)
+        other)
+        (cases_order k j))

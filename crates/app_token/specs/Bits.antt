@@ -1,0 +1,26 @@
+-- One bit for each identifier, kept as the list of those whose bit is one.
+use Rattle.std.specs.Prelude.{ℕ, ◌==◌, if◌then◌else◌, Bool, not, List, ◌∷◌, ◌++◌, All, ltb}
+use Rattle.std.specs.List.{filter, list_any}
+use Rattle.std.specs.List.Sorted.{IsStrictlyIncreasing}
+use Rattle.topology.specs.Id.{IsId}
+
+-- identifiers in strictly ascending order
+pub record IsBits (ids : List ℕ) : Type 0 where
+  pub ascending : IsStrictlyIncreasing ids
+  pub are_ids : All IsId ids
+
+-- the bit of j
+abbrev pub bit_of : List ℕ → ℕ → Bool
+bit_of ids j = list_any (λ i. i == j) ids
+
+-- the list without j
+abbrev pub without_id : List ℕ → ℕ → List ℕ
+without_id ids j = filter (λ i. not (i == j)) ids
+
+-- the lesser ones, j, and the greater ones
+abbrev pub with_id : List ℕ → ℕ → List ℕ
+with_id ids j = filter (λ i. ltb i j) ids ++ j ∷ filter (λ i. ltb j i) ids
+
+-- the list with the bit of j turned over
+abbrev pub toggled : List ℕ → ℕ → List ℕ
+toggled ids j = if bit_of ids j then without_id ids j else with_id ids j

@@ -1,0 +1,51 @@
+-- Texts that are cut at a byte.
+use Rattle.std.proofs.Common.{◌≡◌, ◌≢◌, ℕ, ◌<◌, ◌^◌, List, [], ◌∷◌, ◌++◌, refl, sym, ap, ◌∙◌, arith}
+use Rattle.std.specs.Fmt.{decimal}
+use Rattle.std.specs.Int.{IsInRange}
+use Rattle.std.specs.Str.Parse.{AllDigits}
+use Rattle.std.proofs.lemmas.Fmt.{decimal_is_IsNumeral}
+use Rattle.std.proofs.lemmas.Str.Parse.{digit_from_value}
+
+-- no byte of the text is this one
+abbrev pub HasNo : ℕ → List ℕ → Type 0
+HasNo byte [] = Unit {0}
+HasNo byte (x ∷ xs) = (x ≢ byte) × HasNo byte xs
+
+pub HasNo-append : (byte : ℕ) (xs ys : List ℕ) → HasNo byte xs → HasNo byte ys → HasNo byte (xs ++ ys)
+HasNo-append byte [] ys none more = more
+HasNo-append byte (x ∷ xs) ys none more = (none.0, HasNo-append byte xs ys none.1 more)
+
+-- a text with the byte has it
+pub has_byte : (byte : ℕ) (xs ys : List ℕ) → HasNo byte (xs ++ byte ∷ ys) → ⊥
+has_byte byte [] ys none = none.0 refl
+has_byte byte (x ∷ xs) ys none = has_byte byte xs ys none.1
+
+-- a text is cut at its first such byte in one way
+pub record SameCut (xs xs' ys ys' : List ℕ) : Type 0 where
+  pub front : xs ≡ xs'
+  pub back : ys ≡ ys'
+
+first_of : (x y : ℕ) (xs ys : List ℕ) → ◌≡◌ {A = List ℕ} (x ∷ xs) (y ∷ ys) → x ≡ y
+first_of x y xs ys e = cc
+
+rest_of : (x y : ℕ) (xs ys : List ℕ) → ◌≡◌ {A = List ℕ} (x ∷ xs) (y ∷ ys) → xs ≡ ys
+rest_of x y xs ys e = cc
+
+pub same_cut : (byte : ℕ) (xs xs' ys ys' : List ℕ) → HasNo byte xs → HasNo byte xs' → xs ++ byte ∷ ys ≡ xs' ++ byte ∷ ys' → SameCut xs xs' ys ys'
+same_cut byte [] [] ys ys' none none' e = record { front = refl; back = rest_of byte byte ys ys' e }
+same_cut byte [] (x ∷ xs') ys ys' none none' e = absurd (none'.0 (sym (first_of byte x ys (xs' ++ byte ∷ ys') e)))
+same_cut byte (x ∷ xs) [] ys ys' none none' e = absurd (none.0 (first_of x byte (xs ++ byte ∷ ys) ys' e))
+same_cut byte (x ∷ xs) (x' ∷ xs') ys ys' none none' e =
+    let first : x ≡ x' = first_of x x' (xs ++ byte ∷ ys) (xs' ++ byte ∷ ys') e in
+    let cut = same_cut byte xs xs' ys ys' none.1 none'.1 (rest_of x x' (xs ++ byte ∷ ys) (xs' ++ byte ∷ ys') e) in
+    record { front = ap (λ l. x ∷ l) cut.front ∙ ap (λ c. c ∷ xs') first; back = cut.back }
+
+-- the digits of a number have no byte below 48
+no_such_digit : (byte : ℕ) (ds : List ℕ) → byte < 48 → AllDigits 10 ds → HasNo byte ds
+no_such_digit byte [] low h = tt
+no_such_digit byte (d ∷ ds) low h =
+    let digit : IsInRange 48 57 d = digit_from_value d h.0 in
+    (λ e. absurd (omega (arith, digit, e)), no_such_digit byte ds low h.1)
+
+pub HasNo-decimal : (byte n : ℕ) → byte < 48 → n < 2 ^ 64 → HasNo byte (decimal n)
+HasNo-decimal byte n low small = no_such_digit byte (decimal n) low (decimal_is_IsNumeral n small).0.1

@@ -1,0 +1,11 @@
+pub mod Bits
+pub mod Token
+pub mod LocalText
+pub mod OneToken
+pub mod Sums
+pub mod BitLaws
+pub mod Laws
+pub mod Cuts
+pub mod Spelling
+pub mod Reading
+pub mod TokenCases

@@ -1,0 +1,74 @@
+-- What the two cases of the token do, and the start states.
+use Rattle.std.specs.Prelude.{ℕ, ◌==◌, ◌&&◌, if◌then◌else◌, Bool, true, false, not, ltb, List, [], ◌∷◌, Option, Some, None, Result, Ok, codes}
+use Rattle.std.specs.Option.{option_map_or}
+use Rattle.std.specs.Result.{result_ok}
+use Rattle.action_tables.specs.Table.{Row, fired_of}
+use Rattle.app_interface.specs.Application.{App}
+use Rattle.app_interface.specs.declared.reads.Reads.{Reads}
+use Rattle.app_interface.specs.declared.reads.Reads.TheVariants.{Toward, One}
+use Rattle.app_interface.specs.declared.refusal.ClockRefusal.{ClockRefusal}
+use Rattle.app_interface.specs.declared.refusal.ClockRefusal.TheVariants.{NotEnabled}
+use Rattle.topology.specs.Graph.{Graph, leader}
+use Rattle.app_token.specs.Bits.{bit_of, toggled}
+use Rattle.app_token.specs.declared.local.TokenLocal.{TokenLocal}
+
+-- two bits are not the same
+abbrev pub differ : Bool → Bool → Bool
+differ true b = not b
+differ false b = b
+
+abbrev pub is_id : ℕ → Bool
+is_id j = ltb 0 j && ltb j 65536
+
+-- what is seen of j
+abbrev pub seen_at : ℕ → List (ℕ × TokenLocal) → Option TokenLocal
+seen_at j [] = None
+seen_at j (near ∷ rest) = if near.0 == j then Some near.1 else seen_at j rest
+
+-- whether the token is on its way from j to node i: j's given bit for i and i's taken bit for j differ
+abbrev pub arrives : ℕ → ℕ → TokenLocal → List (ℕ × TokenLocal) → Bool
+arrives i j own seen = option_map_or (λ theirs. differ (bit_of theirs.given i) (bit_of own.taken j)) (seen_at j seen) false
+
+-- the rows of a node toward its neighbour j
+abbrev pub token_table : ℕ → TokenLocal → Bool → List (Row (Result TokenLocal ClockRefusal))
+token_table j own arriving =
+    record {
+      number = 1;
+      name = codes "pass";
+      guard = codes "hold";
+      effect = codes "hold := no; given[j] := not given[j]";
+      holds = own.hold;
+      does = Ok (record { hold = false; given = toggled own.given j; taken = own.taken });
+    }
+    ∷ record {
+      number = 2;
+      name = codes "take";
+      guard = codes "not hold, given.j[id] != taken[j]";
+      effect = codes "hold := yes; taken[j] := not taken[j]";
+      holds = not own.hold && arriving;
+      does = Ok (record { hold = true; given = own.given; taken = toggled own.taken j });
+    }
+    ∷ []
+
+-- what a case leaves, toward a neighbour that is named by an identifier
+abbrev pub token_next : ℕ → ℕ → Option ℕ → TokenLocal → List (ℕ × TokenLocal) → Option TokenLocal
+token_next i case None own seen = None
+token_next i case (Some j) own seen = if is_id j then result_ok (fired_of NotEnabled NotEnabled (token_table j own (arrives i j own seen)) case) else None
+
+abbrev pub token_reads : ℕ → Option Reads
+token_reads case = if 1 == case then Some Toward else (if 2 == case then Some One else None)
+
+abbrev pub token_names : ℕ → Option (List ℕ)
+token_names case = if 1 == case then Some (codes "pass") else (if 2 == case then Some (codes "take") else None)
+
+-- the leader holds the token, and nothing is on its way
+abbrev pub token_start : Graph → ℕ → TokenLocal
+token_start g i = record { hold = i == leader g i; given = []; taken = [] }
+
+abbrev pub token : App TokenLocal
+token = record {
+  count = 2;
+  reads = token_reads;
+  start = token_start;
+  next = λ i bound case with own seen. token_next i case with own seen;
+}
