@@ -1,6 +1,7 @@
 use super::{AppName, ReadFault, read_topology};
 use crate::fault::TopoFault;
 use std::alloc::{AllocError, Global};
+use std::process::Abort;
 use std::test::Fail;
 
 #[test]
@@ -22,83 +23,68 @@ fn reads_the_keys_in_any_order(rt: HostRuntime) -> Result<(), Fail> {
     Ok(())
 }
 
-#[test]
-fn names_the_first_fault_of_a_text(rt: HostRuntime) {
-    let cases = [
-        ("nodes = [1\nlinks = []\napp = \"idle\"", ReadFault::NotToml),
-        (
-            "nodes = [1]\nnodes = [1]\nlinks = []\napp = \"idle\"",
-            ReadFault::NotToml,
-        ),
-        (
-            "nodes = [9223372036854775808]\nlinks = []\napp = \"idle\"",
-            ReadFault::NotToml,
-        ),
-        (
-            "nodes = [1]\nlinks = []\napp = \"i\0dle\"",
-            ReadFault::NotToml,
-        ),
-        ("", ReadFault::MissingKey),
-        ("nodes = [1]\napp = \"idle\"", ReadFault::MissingKey),
-        ("nodes = [1]\nx = 1\napp = \"idle\"", ReadFault::MissingKey),
-        (
-            "nodes = [1.5]\nlinks = []\napp = \"idle\"\nx = 1",
-            ReadFault::UnknownKey,
-        ),
-        (
-            "nodes = 1\nlinks = []\napp = \"idle\"",
-            ReadFault::WrongKind,
-        ),
-        (
-            "nodes = [-1]\nlinks = []\napp = \"idle\"",
-            ReadFault::WrongKind,
-        ),
-        (
-            "nodes = [1.0]\nlinks = []\napp = \"idle\"",
-            ReadFault::WrongKind,
-        ),
-        (
-            "nodes = [4294967296]\nlinks = []\napp = \"idle\"",
-            ReadFault::WrongKind,
-        ),
-        (
-            "nodes = [1]\nlinks = [[1]]\napp = \"idle\"",
-            ReadFault::WrongKind,
-        ),
-        (
-            "nodes = [1]\nlinks = [[1, 2, 3]]\napp = \"idle\"",
-            ReadFault::WrongKind,
-        ),
-        (
-            "nodes = [1]\nlinks = [1, 2]\napp = \"idle\"",
-            ReadFault::WrongKind,
-        ),
-        (
-            "nodes = [1]\nlinks = [[1, 4294967296]]\napp = \"idle\"",
-            ReadFault::WrongKind,
-        ),
-        (
-            "nodes = [1]\nlinks = [[1]]\napp = \"idel\"",
-            ReadFault::WrongKind,
-        ),
-        ("nodes = [1]\nlinks = []\napp = 3", ReadFault::WrongKind),
-        (
-            "nodes = [1]\nlinks = []\napp = \"idel\"",
-            ReadFault::UnknownApp,
-        ),
-        ("nodes = []\nlinks = []\napp = \"\"", ReadFault::UnknownApp),
-    ];
-    for (text, fault) in cases {
+// Each of the texts has this fault.
+fn refuses(rt: &impl Abort, alloc: Global, texts: &[&str], fault: ReadFault) {
+    for text in texts {
         assert_eq!(rt;
-            read_topology(rt.alloc(), text.as_bytes()).err(),
+            read_topology(alloc, text.as_bytes()).err(),
             Some(fault),
             "at {text}"
         );
     }
+}
+
+#[test]
+fn refuses_what_is_no_toml(rt: HostRuntime) {
+    let texts = [
+        "nodes = [1\nlinks = []\napp = \"idle\"",
+        "nodes = [1]\nnodes = [1]\nlinks = []\napp = \"idle\"",
+        "nodes = [9223372036854775808]\nlinks = []\napp = \"idle\"",
+        "nodes = [1]\nlinks = []\napp = \"i\0dle\"",
+    ];
+    refuses(&rt, rt.alloc(), &texts, ReadFault::NotToml);
     assert_eq!(rt;
         read_topology(rt.alloc(), b"app = \"\xff\"").err(),
         Some(ReadFault::NotToml)
     );
+}
+
+#[test]
+fn names_a_missing_key_before_an_unknown_one(rt: HostRuntime) {
+    let missing = [
+        "",
+        "nodes = [1]\napp = \"idle\"",
+        "nodes = [1]\nx = 1\napp = \"idle\"",
+    ];
+    refuses(&rt, rt.alloc(), &missing, ReadFault::MissingKey);
+    let unknown = ["nodes = [1.5]\nlinks = []\napp = \"idle\"\nx = 1"];
+    refuses(&rt, rt.alloc(), &unknown, ReadFault::UnknownKey);
+}
+
+#[test]
+fn refuses_values_of_another_kind(rt: HostRuntime) {
+    let texts = [
+        "nodes = 1\nlinks = []\napp = \"idle\"",
+        "nodes = [-1]\nlinks = []\napp = \"idle\"",
+        "nodes = [1.0]\nlinks = []\napp = \"idle\"",
+        "nodes = [4294967296]\nlinks = []\napp = \"idle\"",
+        "nodes = [1]\nlinks = [[1]]\napp = \"idle\"",
+        "nodes = [1]\nlinks = [[1, 2, 3]]\napp = \"idle\"",
+        "nodes = [1]\nlinks = [1, 2]\napp = \"idle\"",
+        "nodes = [1]\nlinks = [[1, 4294967296]]\napp = \"idle\"",
+        "nodes = [1]\nlinks = [[1]]\napp = \"idel\"",
+        "nodes = [1]\nlinks = []\napp = 3",
+    ];
+    refuses(&rt, rt.alloc(), &texts, ReadFault::WrongKind);
+}
+
+#[test]
+fn refuses_an_unknown_application_before_the_lists(rt: HostRuntime) {
+    let texts = [
+        "nodes = [1]\nlinks = []\napp = \"idel\"",
+        "nodes = []\nlinks = []\napp = \"\"",
+    ];
+    refuses(&rt, rt.alloc(), &texts, ReadFault::UnknownApp);
 }
 
 #[test]
