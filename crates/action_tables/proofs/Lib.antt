@@ -4,3 +4,5 @@ pub mod Fronts
 pub mod NumberSets
 pub mod EnabledSets
 pub mod SetTexts
+mod NumberWords
+mod CutTexts

@@ -8,6 +8,7 @@ use Rattle.std.specs.Int.RustNames.{bit_or}
 use Rattle.std.specs.List.{filter, range_with_len}
 use Rattle.std.specs.declared.cmp.Ordering.TheVariants.{Less, Equal, Greater}
 use Rattle.std.specs.Ordering.{nat_cmp, match_ordering}
+use Rattle.std.proofs.Math.Bool.{and-false}
 use Rattle.std.proofs.lemmas.Bool.{eqb-true}
 use Rattle.std.proofs.lemmas.Bool.Decides.{eqb_tells}
 use Rattle.std.proofs.lemmas.Map.Views.{any-filter_same}
@@ -98,16 +99,12 @@ outside n (x ∷ xs) all absent =
     ⊎_elim (λ same. absurd (absent (let P : ℕ → Type 0 = λ m. IsCase m in subst P same.1 all.0)))
     (λ other. ap (λ b. b || is_among n xs) other.0 ∙ outside n xs all.1 absent) (eqb_tells x n)
 
-false_both : (b : Bool) → (b && false) ≡ false
-false_both true = refl
-false_both false = refl
-
 -- and no other number is
 pub is_among-other : (s n : ℕ) → (IsCase n → ⊥) → is_among n (numbers_of s) ≡ false
 unfolding numbers_of
 is_among-other s n absent =
     any-filter_same (λ m. m == n) (λ m. has_bit s m) (has_bit s n) (λ k e. ap (λ m. has_bit s m) (eqb-true k n e)) all_cases
-    ∙ ap (λ b. has_bit s n && b) (outside n all_cases every_case absent) ∙ false_both (has_bit s n)
+    ∙ ap (λ b. has_bit s n && b) (outside n all_cases every_case absent) ∙ and-false (has_bit s n)
 
 listed : (p : ℕ → Bool) (xs : List ℕ) → Each IsCase xs → Each (λ n. p n ≡ is_among n (filter p all_cases)) xs
 listed p [] h = tt

@@ -3,3 +3,4 @@ pub mod Numbers
 pub mod NumberBits
 pub mod Table
 pub mod RowText
+pub mod Cuts

@@ -1,16 +1,21 @@
-//! Tables of guarded actions: sets of their cases, their rows in print, and how all output is written.
+//! Tables of guarded actions: sets of their cases, their rows in print, how all output is written, and
+//! how numbers and lists are read.
 //!
 //! A table is written once, as a macro that calls back with its rows. [`enabled_cases`],
 //! [`fire_case`] and [`case_rows`] make of the rows what a layer needs of its table.
 #![tactic(auto)]
 
 mod case_set;
+mod cutting;
+mod number;
 mod part;
 mod put;
 mod row;
 mod table;
 
 pub use case_set::CaseSet;
+pub use cutting::cut;
+pub use number::read_number;
 pub use part::{Part, put_parts};
 pub use put::{WriteFault, put_bytes, put_number};
 pub use row::{CaseRow, print_rows};

@@ -1,7 +1,7 @@
 -- The application without cases, and its laws.
-use Rattle.std.proofs.Common.{◌≡◌, ℕ, ◌≤◌, List, Option, Some, None, IsSome, length, refl, sym, ◌∙◌, arith}
+use Rattle.std.proofs.Common.{◌≡◌, ℕ, ◌≤◌, true≢false, None, length, refl, sym, arith}
 use Rattle.std.specs.Prelude.{codes}
-use Rattle.app_interface.specs.declared.reads.Reads.{Reads}
+use Rattle.std.proofs.lemmas.Option.{none-some}
 use Rattle.topology.specs.Graph.{Graph, IsGraph}
 use Rattle.app_interface.specs.Application.{App}
 use Rattle.app_interface.specs.Cases.{AreCases, IsCase}
@@ -18,20 +18,13 @@ idle = record {
 no_case : (n : ℕ) → IsCase 0 n → ⊥
 no_case n h = omega (arith, h.first, h.last)
 
-none_some : {X : Type 0} (o : Option X) (x : X) → o ≡ None → o ≡ Some x → ⊥
-none_some o x h k = let e : None ≡ Some x = sym h ∙ k in absurd (cc)
-
-none_is_some : {X : Type 0} (o : Option X) → o ≡ None → IsSome o → ⊥
-none_is_some (Some x) h k = none_some (Some x) x h refl
-none_is_some None h k = absurd (cc)
-
 pub idle_cases : AreCases 0 (λ n. None) (λ n. None)
 idle_cases = record {
   few = omega arith;
-  named = λ n. (λ h. absurd (none_is_some {X = List ℕ} None refl h), λ h. absurd (no_case n h));
-  read = λ n. (λ h. absurd (none_is_some {X = Reads} None refl h), λ h. absurd (no_case n h));
-  distinct = λ m n name h k. absurd (none_some None name refl h);
-  lettered = λ n name h. absurd (none_some None name refl h);
+  named = λ n. (λ h. absurd (true≢false (sym h)), λ h. absurd (no_case n h));
+  read = λ n. (λ h. absurd (true≢false (sym h)), λ h. absurd (no_case n h));
+  distinct = λ m n name h k. absurd (none-some name h);
+  lettered = λ n name h. absurd (none-some name h);
 }
 
 pub one_idle_text : (a b : Unit {0}) → Unit {0} → Unit {0} → codes "-" ≡ codes "-" → a ≡ b

@@ -3,3 +3,4 @@ pub mod Application
 pub mod Invariant
 pub mod Idle
 pub mod Views
+pub mod ViewLaws

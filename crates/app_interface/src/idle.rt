@@ -1,5 +1,5 @@
 // The application that does nothing.
-ghost use Rattle.std.specs.Prelude.{◌≡◌, None, codes};
+ghost use Rattle.std.specs.Prelude.{None, codes};
 ghost use Rattle.app_interface.specs.Idle.{idle, idle_cases, idle_keeps, one_idle_text};
 
 use crate::application::Application;

@@ -17,4 +17,4 @@ pub use application::Application;
 pub use idle::Idle;
 pub use reads::Reads;
 pub use refusal::{ClockRefusal, LocalFault};
-pub use view::{Here, Seen};
+pub use view::{Here, Seen, seen_at};

@@ -46,3 +46,19 @@ fn reads_a_dash_alone(rt: HostRuntime) {
         assert_eq!(rt; Idle::read_local(alloc, text), Err(LocalFault::BadLocal));
     }
 }
+
+#[test]
+fn sees_the_first_of_a_name(rt: HostRuntime) {
+    let (one, two, three) = (1, 2, 3);
+    let near = [
+        Seen { id: 4, local: &one },
+        Seen { id: 9, local: &two },
+        Seen {
+            id: 4,
+            local: &three,
+        },
+    ];
+    assert_eq!(rt; seen_at(4, &near), Some(&one));
+    assert_eq!(rt; seen_at(9, &near), Some(&two));
+    assert_eq!(rt; seen_at(5, &near), None);
+}

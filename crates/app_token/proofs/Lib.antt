@@ -1,7 +1,4 @@
 mod BitLists
 mod TokenTable
 mod IdTexts
-mod NumberWords
-mod Cutting
 mod Listing
-mod Refusals

@@ -3,13 +3,14 @@ use Rattle.std.proofs.Common.{◌≡◌, ◌≢◌, ℕ, ◌+◌, ◌-◌, ◌<�
 use Rattle.std.specs.Fmt.{decimal}
 use Rattle.std.specs.List.{AllByRecursion}
 use Rattle.std.specs.List.Sorted.{IsStrictlyIncreasing}
+use Rattle.std.proofs.Math.Seq.{get_or-append_seam}
 use Rattle.std.proofs.lemmas.Bool.{cases_lt}
 use Rattle.std.proofs.lemmas.Fmt.{decimal_injective}
 use Rattle.std.proofs.lemmas.List.{get_or_append_left}
 use Rattle.std.proofs.lemmas.List.Elements.{recursion_from_All, All-append}
 use Rattle.topology.specs.Id.{IsId}
 use Rattle.app_token.specs.Bits.{IsBits}
-use Rattle.app_token.specs.Cuts.{HasNo, SameCut, has_byte, same_cut}
+use Rattle.action_tables.specs.Cuts.{HasNo, SameCut, has_byte, same_cut}
 use Rattle.app_token.specs.LocalText.{ids_text}
 use Rattle.app_token.specs.Reading.{ReadsOn, with_commas}
 use Rattle.app_token.specs.Spelling.{listed, no_comma, same_id}
@@ -22,10 +23,6 @@ no_id None text n small spelled valid = λ id is e.
     absurd (true≢false (sym (valid.1 (subst IsId same is))))
 
 -- ---- ascending lists and their last number
-
-get_or_last : (ids : List ℕ) (i d : ℕ) (more : List ℕ) → get_or (ids ++ i ∷ more) (length ids) d ≡ i
-get_or_last [] i d more = refl
-get_or_last (x ∷ ids) i d more = get_or_last ids i d more
 
 pub bits_push : (ids : List ℕ) (i : ℕ) → IsBits ids → IsId i → (0 < length ids → get_or ids (length ids - 1) 0 < i) → IsBits (ids ++ i ∷ [])
 bits_push ids i are id above = record {
@@ -47,7 +44,7 @@ bits_push ids i are id above = record {
         (λ past.
         let at : k + 1 ≡ length ids = omega (arith, lt, long, past) in
         let before : k ≡ length ids - 1 = omega (arith, at) in
-        let next : get_or (ids ++ i ∷ []) (k + 1) 0 ≡ i = ap (λ n. get_or (ids ++ i ∷ []) n 0) at ∙ get_or_last ids i 0 [] in
+        let next : get_or (ids ++ i ∷ []) (k + 1) 0 ≡ i = ap (λ n. get_or (ids ++ i ∷ []) n 0) at ∙ get_or-append_seam ids i [] 0 in
         let last : get_or ids k 0 ≡ get_or ids (length ids - 1) 0 = ap (λ n. get_or ids n 0) before in
         omega (arith, here, next, last, above (omega (arith, at))))
         (cases_lt (k + 1) (length ids))
@@ -57,7 +54,7 @@ above_last ids i are some =
     let long : length (ids ++ i ∷ []) ≡ length ids + 1 = length-append ids (i ∷ []) in
     let n : length ids - 1 + 1 ≡ length ids = omega (arith, some) in
     let last : get_or (ids ++ i ∷ []) (length ids - 1) 0 ≡ get_or ids (length ids - 1) 0 = get_or_append_left ids (i ∷ []) 0 (length ids - 1) (omega (arith, some)) in
-    let next : get_or (ids ++ i ∷ []) (length ids - 1 + 1) 0 ≡ i = ap (λ k. get_or (ids ++ i ∷ []) k 0) n ∙ get_or_last ids i 0 [] in
+    let next : get_or (ids ++ i ∷ []) (length ids - 1 + 1) 0 ≡ i = ap (λ k. get_or (ids ++ i ∷ []) k 0) n ∙ get_or-append_seam ids i [] 0 in
     omega (arith, last, next, are.ascending (length ids - 1) (omega (arith, n, long)))
 
 -- the front of identifiers in ascending order
@@ -66,7 +63,7 @@ module _ (ids : List ℕ) (i : ℕ) (more : List ℕ) (are : IsBits (ids ++ i �
   whole = sym (append_assoc ids (i ∷ []) more)
 
   pub is_id_next : IsId i
-  is_id_next = subst IsId (get_or_last ids i 0 more) (are.are_ids (length ids) 0 (omega (arith, length-append ids (i ∷ more))))
+  is_id_next = subst IsId (get_or-append_seam ids i more 0) (are.are_ids (length ids) 0 (omega (arith, length-append ids (i ∷ more))))
 
   bits_front : IsBits (ids ++ i ∷ [])
   bits_front = record {

@@ -1,18 +1,11 @@
 -- The bits of a list after one of them is turned over, whatever the list.
 use Rattle.std.proofs.Common.{◌≡◌, ◌≢◌, ℕ, ◌≤◌, Bool, true, false, not, ◌&&◌, ◌||◌, ltb, eqb, List, ◌∷◌, refl, sym, ap₂, ◌∙◌, arith, eq-eqb, ne_eqb, lt-ltb, le-ltb, ⊎_elim}
 use Rattle.std.specs.List.{filter}
+use Rattle.std.proofs.Math.Bool.{or-false, or-true}
 use Rattle.std.proofs.lemmas.Bool.{cases_order}
 use Rattle.std.proofs.lemmas.List.Folds.{list_any-append}
 use Rattle.topology.proofs.Membership.{has-filter}
 use Rattle.app_token.specs.Bits.{bit_of, toggled, with_id}
-
-or-true : (b : Bool) → (b || true) ≡ true
-or-true true = refl
-or-true false = refl
-
-or-false : (b : Bool) → (b || false) ≡ b
-or-false true = refl
-or-false false = refl
 
 -- the members of a list with j
 with_members : (ids : List ℕ) (j k : ℕ) → bit_of (with_id ids j) k ≡ ((ltb k j && bit_of ids k) || (eqb j k || (ltb j k && bit_of ids k)))

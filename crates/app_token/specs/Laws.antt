@@ -1,8 +1,8 @@
 -- There is one token at the start, and each action keeps it the one.
-use Rattle.std.proofs.Common.{◌≡◌, ◌≢◌, ◌⊎◌, ℕ, ◌+◌, ◌-◌, ◌<◌, ◌≤◌, Bool, true, false, not, ◌&&◌, ◌==◌, cond, eqb, List, [], ◌∷◌, Option, Some, None, Ok, Err, length, inl, inr, refl, sym, ap, ap₂, ◌∙◌, subst, arith, eq-eqb, ne_eqb, eqb-true, ⊎_elim}
+use Rattle.std.proofs.Common.{◌≡◌, ◌≢◌, ◌⊎◌, ℕ, ◌+◌, ◌-◌, ◌<◌, ◌≤◌, Bool, true, false, not, ◌&&◌, ◌==◌, cond, List, [], ◌∷◌, Option, Some, None, Ok, Err, length, inl, inr, refl, sym, ap, ap₂, ◌∙◌, subst, arith, eq-eqb, ne_eqb, eqb-true, ⊎_elim}
 use Rattle.std.specs.List.{count_by, sum_by}
 use Rattle.std.specs.Result.{result_ok}
-use Rattle.std.proofs.lemmas.Bool.Decides.{eqb_tells}
+use Rattle.std.proofs.Math.Bool.{and-false}
 use Rattle.std.proofs.lemmas.Bool.{cases_eq}
 use Rattle.std.specs.Option.{option_map_or}
 use Rattle.std.proofs.lemmas.List.{get_or_default}
@@ -10,12 +10,14 @@ use Rattle.std.proofs.lemmas.List.Sums.{sum_by-cons}
 use Rattle.topology.specs.Graph.{Graph, IsGraph, IsNode, AreLinked, Changes, are_linked, greatest}
 use Rattle.app_interface.specs.Application.{Action, Fits, is_read, seen}
 use Rattle.app_interface.specs.Invariant.{Keeps, SameAtNodes}
+use Rattle.app_interface.specs.ViewLaws.{seen_is}
+use Rattle.app_interface.specs.Views.{seen_at}
 use Rattle.app_interface.specs.declared.refusal.ClockRefusal.TheVariants.{NotEnabled}
 use Rattle.app_token.specs.Bits.{bit_of, toggled}
 use Rattle.app_token.specs.BitLaws.{toggled_same, toggled_other}
 use Rattle.app_token.specs.OneToken.{in_flight, holders, flights, HasOneToken}
 use Rattle.app_token.specs.Sums.{number_of, same_sum, sum_at, pairs_at}
-use Rattle.app_token.specs.Token.{token, token_next, token_reads, token_start, arrives, seen_at, differ, is_id}
+use Rattle.app_token.specs.Token.{token, token_next, token_reads, token_start, arrives, differ, is_id}
 use Rattle.app_token.specs.declared.local.TokenLocal.{TokenLocal}
 
 -- ---- what an enabled case does
@@ -55,24 +57,11 @@ moves_toward i case j own new near = at (is_id j)
         (λ t. takes (eqb-true 2 case t.0) t.1 t.2 t.3)
         (fired (1 == case) own.hold (2 == case) (arrives i j own near) (passed own j) (took own j) new e)
 
--- what is seen of j is j's state
-seen_is : (j : ℕ) (v : ℕ → TokenLocal) (ids : List ℕ) (w : TokenLocal) → seen_at j (seen (λ k. k == j) v ids) ≡ Some w → w ≡ v j
-seen_is j v [] w e = absurd (cc)
-seen_is j v (k ∷ ids) w e = at (eqb_tells k j) (seen_is j v ids w)
-  where
-    at : ((eqb k j ≡ true) × (k ≡ j)) ⊎ ((eqb k j ≡ false) × (k ≢ j)) → (seen_at j (seen (λ k. k == j) v ids) ≡ Some w → w ≡ v j) → w ≡ v j
-    at (inl here) rest = let found : Some (v k) ≡ Some w = rw (here.0, here.0) at e in (let same : v k ≡ w = cc in sym same ∙ ap v here.1)
-    at (inr other) rest = rest (rw other.0 at e)
-
 arrived : (f : TokenLocal → Bool) (o : Option TokenLocal) → option_map_or f o false ≡ true → (w : TokenLocal) × (o ≡ Some w) × (f w ≡ true)
 arrived f (Some w) e = (w, refl, e)
 arrived f None e = absurd (cc)
 
 -- ---- the numbers of bits
-
-and-false : (b : Bool) → (b && false) ≡ false
-and-false true = refl
-and-false false = refl
 
 differ_first : (a b : Bool) → differ (not a) b ≡ not (differ a b)
 differ_first true true = refl

@@ -5,7 +5,6 @@ pub mod OneToken
 pub mod Sums
 pub mod BitLaws
 pub mod Laws
-pub mod Cuts
 pub mod Spelling
 pub mod Reading
 pub mod TokenCases

@@ -6,7 +6,7 @@ use Rattle.std.proofs.lemmas.Fmt.{decimal_injective}
 use Rattle.std.proofs.lemmas.List.Elements.{recursion_from_All}
 use Rattle.topology.specs.Id.{IsId}
 use Rattle.app_token.specs.Bits.{IsBits}
-use Rattle.app_token.specs.Cuts.{HasNo, HasNo-append, HasNo-decimal, SameCut, has_byte, same_cut}
+use Rattle.action_tables.specs.Cuts.{HasNo, HasNo-append, HasNo-decimal, SameCut, has_byte, same_cut}
 use Rattle.app_token.specs.LocalText.{IsTokenLocal, hold_text, ids_text, local_text}
 use Rattle.app_token.specs.declared.local.TokenLocal.{TokenLocal}
 

@@ -4,6 +4,7 @@ use Rattle.std.specs.Option.{option_map_or}
 use Rattle.std.specs.Result.{result_ok}
 use Rattle.action_tables.specs.Table.{Row, fired_of}
 use Rattle.app_interface.specs.Application.{App}
+use Rattle.app_interface.specs.Views.{seen_at}
 use Rattle.app_interface.specs.declared.reads.Reads.{Reads}
 use Rattle.app_interface.specs.declared.reads.Reads.TheVariants.{Toward, One}
 use Rattle.app_interface.specs.declared.refusal.ClockRefusal.{ClockRefusal}
@@ -19,11 +20,6 @@ differ false b = b
 
 abbrev pub is_id : ℕ → Bool
 is_id j = ltb 0 j && ltb j 65536
-
--- what is seen of j
-abbrev pub seen_at : ℕ → List (ℕ × TokenLocal) → Option TokenLocal
-seen_at j [] = None
-seen_at j (near ∷ rest) = if near.0 == j then Some near.1 else seen_at j rest
 
 -- whether the token is on its way from j to node i: j's given bit for i and i's taken bit for j differ
 abbrev pub arrives : ℕ → ℕ → TokenLocal → List (ℕ × TokenLocal) → Bool

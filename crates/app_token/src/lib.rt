@@ -7,7 +7,6 @@
 #![tactic(auto)]
 
 mod bits;
-mod cut;
 mod local;
 mod number;
 mod read;

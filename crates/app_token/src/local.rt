@@ -1,5 +1,5 @@
 // What a node keeps.
-ghost use Rattle.std.specs.Prelude.{◌≡◌, ◌↔◌, [], IfOk, IsTrue, All};
+ghost use Rattle.std.specs.Prelude.{◌≡◌, ◌↔◌, [], IfOk, IsTrue};
 ghost use Rattle.app_token.specs.Bits.{IsBits};
 
 use crate::bits::Bits;

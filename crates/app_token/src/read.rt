@@ -8,9 +8,9 @@ ghost use Rattle.app_token.specs.Reading.{ReadsOn};
 ghost use Rattle.app_token.specs.declared.local.TokenLocal.{TokenLocal};
 
 use crate::bits::Bits;
-use crate::cut::cut;
 use crate::local::TokenLocal;
 use crate::number::read_id;
+use action_tables::cut;
 use app_interface::LocalFault;
 use smallvec::SmallVec;
 use std::alloc::Global;

@@ -7,13 +7,13 @@ ghost use Rattle.app_interface.specs.Views.{seen_values};
 ghost use Rattle.app_interface.specs.declared.refusal.ClockRefusal.TheVariants.{NotEnabled};
 ghost use Rattle.topology.specs.Id.{IsId};
 ghost use Rattle.app_token.specs.Bits.{toggled};
-ghost use Rattle.app_token.specs.Token.{arrives, differ, is_id, seen_at, token_names, token_next, token_table};
+ghost use Rattle.app_token.specs.Token.{arrives, is_id, token_names, token_next, token_table};
 ghost use Rattle.app_token.specs.declared.local.TokenLocal.{TokenLocal};
 
 use crate::local::TokenLocal;
 use action_tables::{CaseRow, case_rows, enabled_cases, fire_case};
-use app_interface::{ClockRefusal, Here, Seen};
-use std::alloc::{AllocError, Global};
+use app_interface::{ClockRefusal, Here, Seen, seen_at};
+use std::alloc::Global;
 use topology::NodeId;
 
 // The rows, for the macro that is named. `$arrives` says whether the token is on its way from the
@@ -124,18 +124,6 @@ fn arrives(id: u32, j: u32, own: &TokenLocal, seen: &[Seen<'_, TokenLocal>]) -> 
         Some(theirs) => theirs.given.has(id) != own.taken.has(j),
         None => false,
     }
-}
-
-// What is seen of the neighbour.
-fn seen_at<'a>(j: u32, seen: &[Seen<'a, TokenLocal>]) -> Option<&'a TokenLocal>
-    ensures { option_map (λ local. local.now) result ≡ seen_at j (seen_values seen.now) }
-{
-    for near in seen {
-        if near.id == j {
-            return Some(near.local);
-        }
-    }
-    None
 }
 
 // Whether an identifier has this number.

@@ -109,6 +109,32 @@ fn refuses_what_is_not_enabled(rt: HostRuntime) -> Result<(), Fail> {
 }
 
 #[test]
+fn keeps_identifiers_that_are_no_nodes(rt: HostRuntime) -> Result<(), Fail> {
+    let alloc = rt.alloc();
+    let holder = Token::read_local(alloc, b"hold/8/9")?;
+    assert!(rt; Token::can(at(7), 1, Some(2), &holder, &[]));
+    let passed = text_after_pass(alloc, &holder, 2);
+    assert_eq!(rt; passed.as_slice(), b"free/2,8/9".as_slice());
+
+    let free = Token::read_local(alloc, b"free/8/9")?;
+    let sent = Token::read_local(alloc, b"free/7,99/98")?;
+    let near = [Seen {
+        id: 2,
+        local: &sent,
+    }];
+    assert!(rt; Token::can(at(7), 2, Some(2), &free, &near));
+    let taken = Token::on_clock(alloc, at(7), 2, Some(2), &free, &near)?;
+    let text = text_of::<Token>(alloc, &taken);
+    assert_eq!(rt; text.as_slice(), b"hold/8/2,9".as_slice());
+    for stranger in [8, 9, 98, 99] {
+        assert!(rt; !Token::can(at(7), 2, Some(stranger), &free, &near));
+        let answer = Token::on_clock(alloc, at(7), 2, Some(stranger), &free, &near);
+        assert_eq!(rt; answer.err(), Some(ClockRefusal::NotEnabled));
+    }
+    Ok(())
+}
+
+#[test]
 fn tells_local_states_apart(rt: HostRuntime) -> Result<(), Fail> {
     let alloc = rt.alloc();
     let local = Token::read_local(alloc, b"free/2,5/3")?;
@@ -133,6 +159,7 @@ fn reads_what_it_shows(rt: HostRuntime) -> Result<(), Fail> {
         b"hold/-/-".as_slice(),
         b"free/2,5/3".as_slice(),
         b"free/-/65535".as_slice(),
+        b"free/2,3/2,3".as_slice(),
         b"hold/1,2,3,4,5,6/1,10,100,1000,10000".as_slice(),
     ] {
         let local = Token::read_local(alloc, text)?;
@@ -151,6 +178,9 @@ fn refuses_other_texts(rt: HostRuntime) {
         b"hold/-/-/-".as_slice(),
         b"hold/-/-/".as_slice(),
         b"/-/-".as_slice(),
+        b"hold//-".as_slice(),
+        b"hold/-/".as_slice(),
+        b"//".as_slice(),
         b"Hold/-/-".as_slice(),
         b"FREE/-/-".as_slice(),
         b"held/-/-".as_slice(),
@@ -158,19 +188,22 @@ fn refuses_other_texts(rt: HostRuntime) {
         b"hold/ -/-".as_slice(),
         b"hold/-/- ".as_slice(),
         b"hold/-/-\n".as_slice(),
-        b"hold//-".as_slice(),
-        b"hold/-/".as_slice(),
-        b"free/5,2/3".as_slice(),
-        b"free/2,2/3".as_slice(),
+        b"hold/2,1/-".as_slice(),
+        b"hold/-/2,1".as_slice(),
+        b"hold/1,1/-".as_slice(),
+        b"hold/-/1,1".as_slice(),
+        b"hold/0/-".as_slice(),
+        b"hold/-/0".as_slice(),
+        b"hold/65536/-".as_slice(),
+        b"hold/-/65536".as_slice(),
         b"free/2,,5/3".as_slice(),
         b"free/2,5,/3".as_slice(),
         b"free/,2,5/3".as_slice(),
         b"free/2, 5/3".as_slice(),
         b"free/2;5/3".as_slice(),
         b"free/-,2/3".as_slice(),
+        b"free/2,-/3".as_slice(),
         b"free/--/3".as_slice(),
-        b"free/0/3".as_slice(),
-        b"free/65536/3".as_slice(),
         b"free/4294967297/3".as_slice(),
         b"free/02/3".as_slice(),
         b"free/+2/3".as_slice(),

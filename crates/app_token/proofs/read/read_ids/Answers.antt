@@ -1,6 +1,6 @@
 use Rattle.std.proofs.Common.{◌≢◌, [], ◌∷◌, ◌++◌, ap, ◌∙◌, rules}
 use Rattle.std.proofs.lemmas.Result.{err_from_is_err_and}
-use Rattle.app_token.proofs.Refusals.{other_ok}
+use Rattle.app_interface.proofs.Refusals.{other_ok}
 use Rattle.app_token.specs.Reading.{with_commas}
 use Rattle.app_token.proofs.Listing.{bad_next, bad_last, read_on, read_last}
 use Rattle.app_token.proofs.read.read_ids.Goals as goal

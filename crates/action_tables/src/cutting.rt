@@ -1,7 +1,7 @@
 // Texts that are cut at a byte.
 ghost use Rattle.std.specs.Prelude.{◌≡◌, ◌==◌, ◌∷◌, ◌++◌, IfNone, IfSome};
 ghost use Rattle.std.specs.List.{position};
-ghost use Rattle.app_token.specs.Cuts.{HasNo};
+ghost use Rattle.action_tables.specs.Cuts.{HasNo};
 
 /// What stands before and after the first byte of this value, or `None` where there is none.
 pub fn cut(text: &[u8], byte: u8) -> Option<(&[u8], &[u8])>
@@ -18,4 +18,19 @@ fn place_of(text: &[u8], byte: u8) -> Option<usize>
     ensures { result ≡ position (λ b. b == byte) text.now }
 {
     text.iter().position(|b| *b == byte)
+}
+
+#[cfg(test)]
+mod tests {
+    use super::*;
+
+    #[test]
+    fn cuts_at_the_first(rt: HostRuntime) {
+        let parts = (b"1".as_slice(), b"0:1".as_slice());
+        assert_eq!(rt; cut(b"1:0:1", b':'), Some(parts));
+        let parts = (b"".as_slice(), b"".as_slice());
+        assert_eq!(rt; cut(b",", b','), Some(parts));
+        assert_eq!(rt; cut(b"1:0", b','), None);
+        assert_eq!(rt; cut(b"", b','), None);
+    }
 }

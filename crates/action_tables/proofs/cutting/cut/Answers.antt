@@ -1,7 +1,7 @@
 use Rattle.std.proofs.Common.{sym, ◌∙◌}
 use Rattle.std.proofs.lemmas.List.{take_rest}
-use Rattle.app_token.proofs.Cutting.{unplaced, placed_front, placed_whole}
-use Rattle.app_token.proofs.cut.cut.Goals as goal
+use Rattle.action_tables.proofs.CutTexts.{unplaced, placed_front, placed_whole}
+use Rattle.action_tables.proofs.cutting.cut.Goals as goal
 
 pub returns-in_err-place-clause-none : goal.returns-in_err-place-clause-none
 returns-in_err-place-clause-none c = rw c.from_residual.ensures (unplaced c.args.byte c.args.text.now (sym c.in_err-place.was ∙ c.place_of.ensures))
