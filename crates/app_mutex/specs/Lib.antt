@@ -1,0 +1,7 @@
+pub mod Mutex
+pub mod MutexCases
+pub mod LocalText
+pub mod Spelling
+pub mod Turns
+pub mod SeenNeighbours
+pub mod Laws

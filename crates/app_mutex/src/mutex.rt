@@ -1,0 +1,108 @@
+// Neighbour exclusion as an application.
+ghost use Rattle.app_mutex.specs.Laws.{mutex_keeps};
+ghost use Rattle.app_mutex.specs.LocalText.{local_text};
+ghost use Rattle.app_mutex.specs.Mutex.{mutex, mutex_names};
+ghost use Rattle.app_mutex.specs.MutexCases.{mutex_cases};
+ghost use Rattle.app_mutex.specs.Spelling.{one_mutex_text};
+ghost use Rattle.app_mutex.specs.Turns.{HoldsTurns};
+
+use crate::local::MutexLocal;
+use crate::{table, text};
+use action_tables::WriteFault;
+use app_interface::{Application, ClockRefusal, Here, LocalFault, Reads, Seen};
+use std::alloc::{AllocError, Global};
+use std::io::Write;
+use topology::Topology;
+
+// The cases are enter and leave.
+const CASES: u8 = 2;
+
+/// Neighbour exclusion by edge reversal. At the start no node is in. Whatever the actions, a node
+/// that is in holds the turn of each of its links, and so none of its neighbours is in.
+pub struct EdgeReversal;
+
+impl Application for EdgeReversal {
+    type Local = MutexLocal;
+
+    ghost app = { mutex };
+
+    ghost names = { mutex_names };
+
+    ghost IsLocal = { λ local. Unit {0} };
+
+    ghost text = { local_text };
+
+    ghost Inv = { HoldsTurns };
+
+    ghost are_cases = { mutex_cases };
+
+    ghost one_text = { one_mutex_text };
+
+    ghost keeps = { mutex_keeps };
+
+    fn cases() -> u8 {
+        CASES
+    }
+
+    fn case_name(case: u8) -> Option<&'static str> {
+        table::case_name(case)
+    }
+
+    fn reads(case: u8) -> Option<Reads> {
+        match case {
+            1 => Some(Reads::All),
+            2 => Some(Reads::Alone),
+            _ => None,
+        }
+    }
+
+    fn on_start(
+        _alloc: Global,
+        _topology: &Topology,
+        _index: usize,
+    ) -> Result<MutexLocal, AllocError> {
+        Ok(MutexLocal {
+            inside: false,
+            bit: false,
+        })
+    }
+
+    fn can(
+        here: Here,
+        case: u8,
+        with: Option<u32>,
+        own: &MutexLocal,
+        seen: &[Seen<'_, MutexLocal>],
+    ) -> bool {
+        table::can(here.id, case, with, own, seen)
+    }
+
+    fn on_clock(
+        _alloc: Global,
+        here: Here,
+        case: u8,
+        with: Option<u32>,
+        own: &MutexLocal,
+        seen: &[Seen<'_, MutexLocal>],
+    ) -> Result<MutexLocal, ClockRefusal> {
+        table::on_clock(here.id, case, with, own, seen)
+    }
+
+    fn same(a: &MutexLocal, b: &MutexLocal) -> bool {
+        a == b
+    }
+
+    fn copy(_alloc: Global, local: &MutexLocal) -> Result<MutexLocal, AllocError> {
+        Ok(*local)
+    }
+
+    fn show<W: Write>(local: &MutexLocal, out: &mut W) -> Result<(), WriteFault> {
+        text::show(*local, out)
+    }
+
+    fn read_local(_alloc: Global, bytes: &[u8]) -> Result<MutexLocal, LocalFault> {
+        text::read_local(bytes)
+    }
+
+    fn known(_local: &MutexLocal) {}
+}
