@@ -1,0 +1,10 @@
+pub mod Entries
+pub mod Routes
+pub mod Ways
+pub mod Pulled
+pub mod LocalText
+pub mod Reading
+pub mod EntryLaws
+pub mod Laws
+pub mod RoutesCases
+pub mod Spelling

@@ -1,0 +1,14 @@
+-- The text of a local state.
+use Rattle.std.specs.Prelude.{ℕ, List, [], ◌∷◌, map, codes}
+use Rattle.std.specs.Fmt.{decimal}
+use Rattle.std.specs.List.{join_with_byte}
+use Rattle.app_routes.specs.declared.entry.Entry.{Entry}
+
+-- the three numbers, joined by colons
+abbrev pub entry_text : Entry → List ℕ
+entry_text e = join_with_byte 58 (decimal e.destination ∷ decimal e.hops ∷ decimal e.next ∷ [])
+
+-- the entries joined by commas, or - where there is none
+abbrev pub routes_text : List Entry → List ℕ
+routes_text [] = codes "-"
+routes_text (e ∷ es) = join_with_byte 44 (entry_text e ∷ map entry_text es)

@@ -1,0 +1,110 @@
+// Routing tables as an application.
+ghost use Rattle.app_routes.specs.Entries.{AreRoutes};
+ghost use Rattle.app_routes.specs.Laws.{routes_keep};
+ghost use Rattle.app_routes.specs.LocalText.{routes_text};
+ghost use Rattle.app_routes.specs.Routes.{routes, routes_names};
+ghost use Rattle.app_routes.specs.RoutesCases.{routes_cases};
+ghost use Rattle.app_routes.specs.Spelling.{one_routes_text};
+ghost use Rattle.app_routes.specs.Ways.{HasRoutes};
+
+use crate::local::RoutesLocal;
+use crate::{read, show, table};
+use action_tables::WriteFault;
+use app_interface::{Application, ClockRefusal, Here, LocalFault, Reads, Seen};
+use std::alloc::{AllocError, Global};
+use std::io::Write;
+use topology::Topology;
+
+// The case is pull.
+const CASES: u8 = 1;
+
+/// Routing tables. At the start each node knows the way to itself. Whatever the actions, each entry
+/// tells the links of a walk to its destination, and names a neighbour that is nearer.
+pub struct Routes;
+
+impl Application for Routes {
+    type Local = RoutesLocal;
+
+    ghost app = { routes };
+
+    ghost names = { routes_names };
+
+    ghost IsLocal = { AreRoutes };
+
+    ghost text = { routes_text };
+
+    ghost Inv = { HasRoutes };
+
+    ghost are_cases = { routes_cases };
+
+    ghost one_text = { one_routes_text };
+
+    ghost keeps = { routes_keep };
+
+    fn cases() -> u8 {
+        CASES
+    }
+
+    fn case_name(case: u8) -> Option<&'static str> {
+        table::case_name(case)
+    }
+
+    fn reads(case: u8) -> Option<Reads> {
+        match case {
+            1 => Some(Reads::One),
+            _ => None,
+        }
+    }
+
+    fn on_start(
+        alloc: Global,
+        topology: &Topology,
+        index: usize,
+    ) -> Result<RoutesLocal, AllocError> {
+        match topology.id_at(index) {
+            Some(id) => RoutesLocal::start(alloc, id),
+            None => Ok(RoutesLocal::none(alloc)),
+        }
+    }
+
+    fn can(
+        here: Here,
+        case: u8,
+        with: Option<u32>,
+        own: &RoutesLocal,
+        seen: &[Seen<'_, RoutesLocal>],
+    ) -> bool {
+        table::can(here, case, with, own, seen)
+    }
+
+    fn on_clock(
+        alloc: Global,
+        here: Here,
+        case: u8,
+        with: Option<u32>,
+        own: &RoutesLocal,
+        seen: &[Seen<'_, RoutesLocal>],
+    ) -> Result<RoutesLocal, ClockRefusal> {
+        table::on_clock(alloc, here, case, with, own, seen)
+    }
+
+    fn same(a: &RoutesLocal, b: &RoutesLocal) -> bool {
+        a.same(b)
+    }
+
+    fn copy(alloc: Global, local: &RoutesLocal) -> Result<RoutesLocal, AllocError> {
+        local.copy(alloc)
+    }
+
+    fn show<W: Write>(local: &RoutesLocal, out: &mut W) -> Result<(), WriteFault> {
+        show::show(local, out)
+    }
+
+    fn read_local(alloc: Global, bytes: &[u8]) -> Result<RoutesLocal, LocalFault> {
+        read::read_local(alloc, bytes)
+    }
+
+    fn known(local: &RoutesLocal) {
+        let _ = local.entries();
+    }
+}
