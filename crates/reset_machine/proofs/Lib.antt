@@ -7,9 +7,10 @@ pub mod WaveRows
 pub mod WavePlans
 pub mod TreePlans
 pub mod PlannedSteps
+pub mod FirstFound
+pub mod ActionSteps
 pub mod ConfigurationSteps
 pub mod WordLines
-pub mod NumberWords
 pub mod EventLines
 mod Mending
 pub mod Fathers
@@ -19,3 +20,12 @@ pub mod Completions
 pub mod RunLists
 pub mod Readiness
 pub mod SoundConfigurations
+pub mod StepClauses
+pub mod Judging
+pub mod CaseChoices
+pub mod Shapes
+pub mod Abstractions
+pub mod RunShadows
+pub mod RunInvariants
+pub mod JoinCounts
+pub mod StepShadows

@@ -47,11 +47,13 @@ any_true : (ns : List ℕ) → list_any (λ n. true) ns ≡ nat_lt 0 (length ns)
 any_true [] = refl
 any_true (n ∷ ns) = some_more (length ns)
 
--- a node has work where it has a row of the tree table, or more rows of the wave table than the request
-pub work_counted : (trees waves : List ℕ) (p : ℕ → Bool) → waves ≡ filter p all_cases → has_work trees waves ≡ (nat_lt 0 (length trees) || nat_lt (cond (p 1) 1 0) (length waves))
-work_counted trees waves p listed =
-    ap (λ b. b || has_other waves) (any_true trees)
-    ∙ ap (λ b. nat_lt 0 (length trees) || b) (ap has_other listed ∙ others_counted p ∙ ap (λ ns. nat_lt (cond (p 1) 1 0) (length ns)) (sym listed))
+-- a node has work where it has a row of the tree table, more rows of the wave table than the
+-- request, or a case of the application
+pub work_counted : (trees waves acts : List ℕ) (p : ℕ → Bool) → waves ≡ filter p all_cases → has_work trees waves acts ≡ (nat_lt 0 (length trees) || (nat_lt (cond (p 1) 1 0) (length waves) || nat_lt 0 (length acts)))
+work_counted trees waves acts p listed =
+    ap (λ b. b || (has_other waves || list_any (λ n. true) acts)) (any_true trees)
+    ∙ ap (λ b. nat_lt 0 (length trees) || (b || list_any (λ n. true) acts)) (ap has_other listed ∙ others_counted p ∙ ap (λ ns. nat_lt (cond (p 1) 1 0) (length ns)) (sym listed))
+    ∙ ap (λ b. nat_lt 0 (length trees) || (nat_lt (cond (p 1) 1 0) (length waves) || b)) (any_true acts)
 
 pub or_true : (b d : Bool) → b ≡ true → b ≡ (b || d)
 or_true true d is = refl

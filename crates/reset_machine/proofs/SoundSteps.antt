@@ -10,7 +10,7 @@ use Rattle.wave_layer.specs.declared.regs.WaveRegs.{WaveRegs}
 use Rattle.wave_layer.specs.declared.regs.Phase.TheVariants.{Normal, Initiate, Reset}
 use Rattle.wave_layer.specs.WaveTable.{WaveHolds, is_reset, next_session}
 use Rattle.reset_machine.specs.declared.event.Event.{Event}
-use Rattle.reset_machine.specs.declared.event.Event.TheVariants.{Claim, Follow, Adopt, Request, Relay, Open, Join, Finish, Mend}
+use Rattle.reset_machine.specs.declared.event.Event.TheVariants.{Claim, Follow, Adopt, Request, Relay, Open, Join, Finish, Mend, Act}
 use Rattle.reset_machine.specs.Steps.{event_node, reset_at, IsEnabled, Joins, join_normal, join_asked, Finishes, RegsStep}
 use Rattle.reset_machine.specs.Sound.{Sound, Repairs, claims, follows, adopts, mends}
 use Rattle.reset_machine.proofs.Fathers.{not_own_father}
@@ -206,3 +206,4 @@ sound_stays g K t t' w w' (Open i) graph sound step = opened_sound g graph K t t
 sound_stays g K t t' w w' (Join i) graph sound step = join_sound g graph K t t' w w' sound i step.trees step.enabled step.waves
 sound_stays g K t t' w w' (Finish i) graph sound step = finished_sound g graph K t t' w w' sound i step.trees step.enabled step.waves
 sound_stays g K t t' w w' (Mend i) graph sound step = absurd (sound_rests g K t w (Mend i) step.node sound (mends i) step.enabled)
+sound_stays g K t t' w w' (Act i case with) graph sound step = absurd step.enabled

@@ -13,7 +13,7 @@ use Rattle.reset_machine.specs.declared.event.Event.TheVariants.{Claim, Follow, 
 use Rattle.reset_machine.specs.declared.plan.Effect.{Effect}
 use Rattle.reset_machine.specs.declared.plan.Effect.TheVariants.{Tree, Wave}
 use Rattle.reset_machine.specs.declared.step.StepRefusal.{StepRefusal}
-use Rattle.reset_machine.specs.declared.step.StepRefusal.TheVariants.{StrangeNode, StrangeNeighbour, NotEnabled, SessionsSpent, NoMemory}
+use Rattle.reset_machine.specs.declared.step.StepRefusal.TheVariants.{StrangeNode, StrangeNeighbour, NoSuchCase, WantsNeighbour, TakesNoNeighbour, Disagrees, NotEnabled, SessionsSpent, NoMemory}
 use Rattle.reset_machine.specs.LocalSteps.{answer_of}
 use Rattle.reset_machine.proofs.Seen.{lookup-among}
 
@@ -23,6 +23,10 @@ IsTreeAnswer (Ok (Tree own)) E regs = E × (own ≡ regs)
 IsTreeAnswer (Ok (Wave move)) E regs = ⊥
 IsTreeAnswer (Err StrangeNode) E regs = ⊥
 IsTreeAnswer (Err StrangeNeighbour) E regs = ⊥
+IsTreeAnswer (Err NoSuchCase) E regs = ⊥
+IsTreeAnswer (Err WantsNeighbour) E regs = ⊥
+IsTreeAnswer (Err TakesNoNeighbour) E regs = ⊥
+IsTreeAnswer (Err (Disagrees j)) E regs = ⊥
 IsTreeAnswer (Err NotEnabled) E regs = E → ⊥
 IsTreeAnswer (Err SessionsSpent) E regs = ⊥
 IsTreeAnswer (Err NoMemory) E regs = ⊥

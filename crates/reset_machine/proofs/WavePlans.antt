@@ -10,9 +10,9 @@ use Rattle.wave_layer.specs.declared.regs.FatherSeen.TheVariants.{Itself, Lost, 
 use Rattle.wave_layer.specs.declared.regs.WaveMove.{WaveMove}
 use Rattle.wave_layer.specs.WaveTable.{is_reset, is_root, father_regs, child_regs, children_done, next_session}
 use Rattle.reset_machine.specs.declared.event.Event.{Event}
-use Rattle.reset_machine.specs.declared.event.Event.TheVariants.{Claim, Follow, Adopt, Request, Relay, Open, Join, Finish, Mend}
+use Rattle.reset_machine.specs.declared.event.Event.TheVariants.{Claim, Follow, Adopt, Request, Relay, Open, Join, Finish, Mend, Act}
 use Rattle.reset_machine.specs.declared.step.StepRefusal.{StepRefusal}
-use Rattle.reset_machine.specs.declared.step.StepRefusal.TheVariants.{StrangeNode, StrangeNeighbour, NotEnabled, SessionsSpent, NoMemory}
+use Rattle.reset_machine.specs.declared.step.StepRefusal.TheVariants.{StrangeNode, StrangeNeighbour, NoSuchCase, WantsNeighbour, TakesNoNeighbour, Disagrees, NotEnabled, SessionsSpent, NoMemory}
 use Rattle.tree_layer.specs.TreeRows.{IsFather}
 use Rattle.reset_machine.specs.declared.plan.Effect.{Effect}
 use Rattle.reset_machine.specs.declared.plan.Effect.TheVariants as effect
@@ -24,14 +24,18 @@ use Rattle.topology.proofs.Membership.{has-Contains, Contains-has}
 use Rattle.reset_machine.proofs.Seen.{is_done, father_seen-itself, father_seen-IsFather, IsFather-father_seen, itself-father_seen, lookup-among, children_done-each, each-children_done, IsFather-is_child, is_child-IsFather}
 
 -- an answer under other names of its parts
-answer_as : (r : Result Effect StepRefusal) (S : Type 0) {E E' : Type 0} {regs regs' : WaveRegs} {b b' : Bool} → IsAnswer r E S regs b → (E → E') → (E' → E) → (E → regs ≡ regs') → b ≡ b' → IsAnswer r E' S regs' b'
-answer_as (Ok (effect.Tree regs)) S h there back same flag = h
-answer_as (Ok (effect.Wave move)) S h there back same flag = (there h.0, h.1, h.2 ∙ same h.0, h.3 ∙ flag)
-answer_as (Err StrangeNode) S h there back same flag = h
-answer_as (Err StrangeNeighbour) S h there back same flag = h
-answer_as (Err NotEnabled) S h there back same flag = λ e. h (back e)
-answer_as (Err SessionsSpent) S h there back same flag = (there h.0, h.1)
-answer_as (Err NoMemory) S h there back same flag = h
+answer_as : (r : Result Effect StepRefusal) (S : Type 0) (d : Bool) {E E' : Type 0} {regs regs' : WaveRegs} {b b' : Bool} → IsAnswer r E S regs b d → (E → E') → (E' → E) → (E → regs ≡ regs') → b ≡ b' → IsAnswer r E' S regs' b' d
+answer_as (Ok (effect.Tree regs)) S d h there back same flag = h
+answer_as (Ok (effect.Wave move)) S d h there back same flag = (there h.0, h.1, h.2 ∙ same h.0, h.3 ∙ flag, h.4)
+answer_as (Err NotEnabled) S d h there back same flag = λ e. h (back e)
+answer_as (Err SessionsSpent) S d h there back same flag = (there h.0, h.1)
+answer_as (Err StrangeNode) S d h there back same flag = h
+answer_as (Err StrangeNeighbour) S d h there back same flag = h
+answer_as (Err NoSuchCase) S d h there back same flag = h
+answer_as (Err WantsNeighbour) S d h there back same flag = h
+answer_as (Err TakesNoNeighbour) S d h there back same flag = h
+answer_as (Err (Disagrees j)) S d h there back same flag = h
+answer_as (Err NoMemory) S d h there back same flag = h
 
 -- whether the event completes a reset
 abbrev pub completes_of : (ℕ → TreeRegs) → Event → Bool
@@ -44,6 +48,20 @@ completes_of t (Open i) = false
 completes_of t (Join i) = false
 completes_of t (Finish i) = nat_eq (t i).father i
 completes_of t (Mend i) = false
+completes_of t (Act i case with) = false
+
+-- whether it restarts the local state
+abbrev pub restarts_of : Event → Bool
+restarts_of (Claim i) = false
+restarts_of (Follow i) = false
+restarts_of (Adopt i j) = false
+restarts_of (Request i) = false
+restarts_of (Relay i c) = false
+restarts_of (Open i) = true
+restarts_of (Join i) = true
+restarts_of (Finish i) = false
+restarts_of (Mend i) = false
+restarts_of (Act i case with) = false
 
 awake_phase : (p : Phase) → is_reset p ≡ false → (p ≡ Normal) ⊎ (p ≡ Initiate)
 awake_phase Normal is = inl refl
@@ -58,7 +76,7 @@ module _ (g : Graph) (K : ℕ) (t : ℕ → TreeRegs) (w : ℕ → WaveRegs) (gr
   children i = map (λ c. (c, w c)) (children_of g t i)
 
   abbrev pub WaveAnswers : Event → Type 0
-  WaveAnswers e = IsAnswer (answer e) (IsEnabled g K t w e) (IsSpent w e) (wave_effect t w e) (completes_of t e)
+  WaveAnswers e = IsAnswer (answer e) (IsEnabled g K t w e) (IsSpent w e) (wave_effect t w e) (completes_of t e) (restarts_of e)
 
   mended : {i : ℕ} (j : ℕ) → IsFather g t i j → Contradict (w i).phase (w i).session (w j) → Mends g t w i
   mended j father (one_reset above own) = mend_reset j father above own
@@ -73,14 +91,14 @@ module _ (g : Graph) (K : ℕ) (t : ℕ → TreeRegs) (w : ℕ → WaveRegs) (gr
   pub relay_is : (i c : ℕ) → (b : Bool) → has (children_of g t i) c ≡ b → WaveAnswers (Relay i c)
   relay_is i c true among =
       let regs : child_regs c (children i) ≡ Some (record { phase = (w c).phase; session = (w c).session }) = lookup-among w (children_of g t i) c ∙ ap (λ b. cond b (Some (w c)) None) among in
-      answer_as (answer (Relay i c)) ⊥ (relay_answers (w i).phase (w i).session (father_seen g t w i) (children i) c (w c).phase (w c).session regs)
+      answer_as (answer (Relay i c)) ⊥ false (relay_answers (w i).phase (w i).session (father_seen g t w i) (children i) c (w c).phase (w c).session regs)
       (λ h. (h.0, is_child-IsFather g t i c graph among, h.1)) (λ h. (h.0, h.2)) (λ _. refl) refl
   relay_is i c false among =
       relay_answers-stranger (w i).phase (w i).session (father_seen g t w i) (children i) c _ _ (lookup-among w (children_of g t i) c ∙ ap (λ b. cond b (Some (w c)) None) among)
       (λ h. absurd (true≢false (sym (IsFather-is_child g t i c graph h.1) ∙ among)))
 
   pub join_is : (i : ℕ) → WaveAnswers (Join i)
-  join_is i = answer_as (answer (Join i)) ⊥ (join_answers (w i).phase (w i).session (father_seen g t w i) (children i)) there back same refl
+  join_is i = answer_as (answer (Join i)) ⊥ true (join_answers (w i).phase (w i).session (father_seen g t w i) (children i)) there back same refl
     where
       there : IsInvited (w i).phase (w i).session (father_seen g t w i) → Joins g t w i
       there h =
@@ -99,7 +117,7 @@ module _ (g : Graph) (K : ℕ) (t : ℕ → TreeRegs) (w : ℕ → WaveRegs) (gr
           ap (λ f. after (father_regs (w i) f)) h.father ∙ ap after (IsFather-father_seen g t w i h.up h.father).1
 
   pub finish_is : (i : ℕ) → WaveAnswers (Finish i)
-  finish_is i = answer_as (answer (Finish i)) ⊥ (finish_answers (w i).phase (w i).session (father_seen g t w i) (children i) _ refl) there back (λ _. refl) root
+  finish_is i = answer_as (answer (Finish i)) ⊥ false (finish_answers (w i).phase (w i).session (father_seen g t w i) (children i) _ refl) there back (λ _. refl) root
     where
       there : ((w i).phase ≡ Reset) × (children_done (w i).session (children i) ≡ true) → Finishes g t w i
       there h = record { reset = h.0; children = λ c father. parts (is_reset (w c).phase) refl (each-children_done w (w i).session (children_of g t i) h.1 c (IsFather-is_child g t i c graph father)) }
@@ -123,7 +141,7 @@ module _ (g : Graph) (K : ℕ) (t : ℕ → TreeRegs) (w : ℕ → WaveRegs) (gr
       root = flag (nat_eq (t i).father i) (are_linked g i (t i).father) (w (t i).father)
 
   pub mend_is : (i : ℕ) → WaveAnswers (Mend i)
-  mend_is i = answer_as (answer (Mend i)) ⊥ (mend_answers (w i).phase (w i).session (father_seen g t w i) (children i)) there back same refl
+  mend_is i = answer_as (answer (Mend i)) ⊥ false (mend_answers (w i).phase (w i).session (father_seen g t w i) (children i)) there back same refl
     where
       there : IsTorn (w i).phase (w i).session (father_seen g t w i) → Mends g t w i
       there h =
@@ -144,5 +162,5 @@ module _ (g : Graph) (K : ℕ) (t : ℕ → TreeRegs) (w : ℕ → WaveRegs) (gr
 
   pub open_is : (i : ℕ) → WaveAnswers (Open i)
   open_is i =
-      answer_as (answer (Open i)) (4294967295 ≤ (w i).session) (open_answers (w i).phase (w i).session (father_seen g t w i) (children i))
+      answer_as (answer (Open i)) (4294967295 ≤ (w i).session) true (open_answers (w i).phase (w i).session (father_seen g t w i) (children i))
       (λ h. (itself-father_seen g t w i h.0, h.1)) (λ h. (father_seen-itself g t w i h.0, h.1)) (λ _. refl) refl

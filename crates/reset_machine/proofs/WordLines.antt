@@ -1,14 +1,14 @@
--- The words of a line that is put together from words, and of one that is cut at its first space.
-use Rattle.std.proofs.Common.{◌≡◌, ℕ, ◌+◌, ◌<◌, ◌≤◌, ◌^◌, Bool, true, false, List, [], ◌∷◌, ◌++◌, refl, sym, ap, ◌∙◌, subst, arith, length, take, drop, None, Some, cond, ltb}
+-- The words of a line that is put together from words.
+use Rattle.std.proofs.Common.{◌≡◌, ℕ, ◌<◌, ◌^◌, false, List, [], ◌∷◌, ◌++◌, Option, None, Some, IfNone, IfSome, refl, sym, ap, ◌∙◌, arith, length, ne_eqb}
 use Rattle.std.specs.Fmt.{decimal}
 use Rattle.std.specs.Int.{IsInRange}
-use Rattle.std.specs.List.{onto_first, position, position_or_len, join_with_byte}
+use Rattle.std.specs.List.{onto_first, join_with_byte}
 use Rattle.std.specs.Str.Parse.{AllDigits}
 use Rattle.std.proofs.lemmas.Bool.Decides.{nat_tests}
 use Rattle.std.proofs.lemmas.Fmt.{decimal_is_IsNumeral}
-use Rattle.std.proofs.lemmas.List.Splits.{slice_split-cons_no, slice_split_none, slice_split_first, length-slice_split, join_with_byte-slice_split}
-use Rattle.std.proofs.lemmas.List.Sums.{fails_before_first}
+use Rattle.std.proofs.lemmas.List.Splits.{slice_split-cons_no, length-slice_split, join_with_byte-slice_split}
 use Rattle.std.proofs.lemmas.Str.Parse.{digit_from_value}
+use Rattle.action_tables.specs.Cuts.{HasNo}
 use Rattle.reset_machine.specs.Words.{is_space, words_of}
 
 -- no byte is a space
@@ -42,28 +42,23 @@ IsWord-digits (c ∷ cs) h = (digit_not_space c (digit_from_value c h.0), IsWord
 pub IsWord-decimal : (n : ℕ) → n < 2 ^ 32 → IsWord (decimal n)
 IsWord-decimal n h = IsWord-digits (decimal n) (decimal_is_IsNumeral n (omega arith)).0.1
 
+-- a byte that isn't 32 is no space
+IsWord-none : (w : List ℕ) → HasNo 32 w → IsWord w
+IsWord-none [] none = tt
+IsWord-none (c ∷ cs) none = (ne_eqb c 32 none.0, IsWord-none cs none.1)
+
 -- ---- a line that is cut at its first space
 
-some_at : (b : Bool) (n i : ℕ) → cond b (Some n) None ≡ Some i → (b ≡ true) × (n ≡ i)
-some_at true n i h = (refl, cc)
-some_at false n i h = absurd (cc)
+pub words_cut : (line w rest : List ℕ) → line ≡ w ++ 32 ∷ rest → HasNo 32 w → words_of line ≡ w ∷ words_of rest
+words_cut line w rest is none = ap words_of is ∙ words_of-more w rest (IsWord-none w none)
 
-none_at : (b : Bool) (n : ℕ) → cond b (Some n) None ≡ None → b ≡ false
-none_at true n h = cc
-none_at false n h = refl
+pub words_uncut : (line : List ℕ) → HasNo 32 line → words_of line ≡ line ∷ []
+words_uncut line none = words_of-word line (IsWord-none line none)
 
-no_space : (line : List ℕ) → length line ≤ position_or_len is_space line → words_of line ≡ line ∷ []
-no_space line h = slice_split_none is_space line (λ k d inside. fails_before_first is_space line k d (omega arith))
+pub some_of_both : {X : Type 0} (r : Option X) {P Q R : X → Type 0} → IfSome r P → IfSome r Q → ((x : X) → P x → Q x → R x) → IfSome r R
+some_of_both (Some x) p q f = f x p q
+some_of_both None p q f = tt
 
-pub uncut : (line : List ℕ) → position is_space line ≡ None → words_of line ≡ line ∷ []
-uncut line h =
-    let past = none_at (ltb (position_or_len is_space line) (length line)) (position_or_len is_space line) h in
-    no_space line (grind (arith, nat_tests))
-
-cut_at : (line : List ℕ) (i : ℕ) → position_or_len is_space line ≡ i → i < length line → words_of line ≡ take i line ∷ words_of (drop (i + 1) line)
-cut_at line i e inside = subst (λ k. words_of line ≡ take k line ∷ words_of (drop (k + 1) line)) e (slice_split_first is_space line 0 (omega arith))
-
-pub cut : (line : List ℕ) (i : ℕ) → position is_space line ≡ Some i → words_of line ≡ take i line ∷ words_of (drop (i + 1) line)
-cut line i h =
-    let place = some_at (ltb (position_or_len is_space line) (length line)) (position_or_len is_space line) i h in
-    cut_at line i place.1 (grind (arith, nat_tests))
+pub none_then : {X P Q : Type 0} (r : Option X) → IfNone r P → (P → Q) → IfNone r Q
+none_then (Some x) p f = tt
+none_then None p f = f p

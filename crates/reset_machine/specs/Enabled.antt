@@ -1,34 +1,57 @@
--- The enabled rows of a node, and the nodes that have something to do.
-use Rattle.std.specs.Prelude.{ℕ, Bool, true, not, ◌||◌, ◌==◌, List, [], filter}
+-- The enabled rows and cases of a node, and the nodes that have something to do.
+use Rattle.std.specs.Prelude.{ℕ, Bool, true, false, not, ◌||◌, ◌==◌, List, [], ◌∷◌, Option, Some, None, Result, is_ok, map, filter}
 use Rattle.std.specs.List.{list_any}
+use Rattle.action_tables.specs.Numbers.{all_cases}
 use Rattle.action_tables.specs.Table.{enabled_of}
-use Rattle.topology.specs.Graph.{node_bound}
+use Rattle.app_interface.specs.Application.{App}
+use Rattle.app_interface.specs.declared.reads.Reads.{Reads}
+use Rattle.app_interface.specs.declared.reads.Reads.TheVariants.{Alone, Toward, One, All}
+use Rattle.topology.specs.Graph.{Graph, neighbours_of, node_bound}
 use Rattle.tree_layer.specs.TreeTable.{tree_table}
 use Rattle.wave_layer.specs.WaveTable.{wave_table}
+use Rattle.wave_layer.specs.declared.regs.WaveRegs.{WaveRegs}
 use Rattle.reset_machine.specs.declared.enabled.Enabled.{Enabled}
-use Rattle.reset_machine.specs.Configuration.{Configuration, tree_of, wave_of}
+use Rattle.reset_machine.specs.Actions.{fitted_of}
+use Rattle.reset_machine.specs.Configuration.{Configuration, tree_of, wave_of, local_of}
 use Rattle.reset_machine.specs.LocalSteps.{tree_view_of, view_of}
 
--- among these rows is one of the tree table, or one of the wave table other than the request, its row 1
-abbrev pub has_work : List ℕ → List ℕ → Bool
-has_work trees waves = list_any (λ n. true) trees || list_any (λ n. not (n == 1)) waves
+-- among these rows and cases is one of the tree table, one of the wave table other than the request,
+-- its row 1, or one of the application
+abbrev pub has_work : List ℕ → List ℕ → List ℕ → Bool
+has_work trees waves acts = list_any (λ n. true) trees || (list_any (λ n. not (n == 1)) waves || list_any (λ n. true) acts)
 
 -- the numbers of the rows of the tree table that are enabled at i
-abbrev pub enabled_trees : Configuration → ℕ → List ℕ
+abbrev pub enabled_trees : {L : Type 0} → Configuration L → ℕ → List ℕ
 enabled_trees c i = let v = tree_view_of c.graph (node_bound c.graph) (tree_of c) i in enabled_of (tree_table v v.near)
 
 -- the numbers of the rows of the wave table that are enabled at i
-abbrev pub enabled_waves : Configuration → ℕ → List ℕ
+abbrev pub enabled_waves : {L : Type 0} → Configuration L → ℕ → List ℕ
 enabled_waves c i = let v = view_of c.graph (tree_of c) (wave_of c) i in enabled_of (wave_table v v.children)
 
--- the enabled rows of i, by table; there is no application yet
-abbrev pub enabled_rows : Configuration → ℕ → Enabled
-enabled_rows c i = record { tree = enabled_trees c i; wave = enabled_waves c i; act = [] }
+-- the choices of a neighbour that fit what a case reads
+abbrev pub choices : Graph → ℕ → Option Reads → List (Option ℕ)
+choices g i None = []
+choices g i (Some Alone) = None ∷ []
+choices g i (Some Toward) = map Some (neighbours_of g i)
+choices g i (Some One) = map Some (neighbours_of g i)
+choices g i (Some All) = None ∷ []
 
--- some row of the tree table, or a row of the wave table other than the request, is enabled at i
-abbrev pub is_ready : Configuration → ℕ → Bool
-is_ready c i = has_work (enabled_trees c i) (enabled_waves c i)
+-- the case is taken at i with some choice: no node that it reads disagrees, and it is enabled
+abbrev pub is_taken : {L : Type 0} → App L → Graph → ℕ → (ℕ → WaveRegs) → (ℕ → L) → ℕ → ℕ → Bool
+is_taken app g K w l i case = list_any (λ with. is_ok (fitted_of app g K w l i case with)) (choices g i (app.reads case))
+
+-- the numbers of the cases of the application that are enabled at i
+abbrev pub enabled_acts : {L : Type 0} → App L → Configuration L → ℕ → List ℕ
+enabled_acts app c i = filter (is_taken app c.graph (node_bound c.graph) (wave_of c) (local_of app c) i) all_cases
+
+-- what is enabled at i, by table
+abbrev pub enabled_rows : {L : Type 0} → App L → Configuration L → ℕ → Enabled
+enabled_rows app c i = record { tree = enabled_trees c i; wave = enabled_waves c i; act = enabled_acts app c i }
+
+-- i has something to do: more than to ask for a reset
+abbrev pub is_ready : {L : Type 0} → App L → Configuration L → ℕ → Bool
+is_ready app c i = has_work (enabled_trees c i) (enabled_waves c i) (enabled_acts app c i)
 
 -- the ids of the nodes that have something to do, ascending
-abbrev pub ready_of : Configuration → List ℕ
-ready_of c = filter (is_ready c) c.graph.ids
+abbrev pub ready_of : {L : Type 0} → App L → Configuration L → List ℕ
+ready_of app c = filter (is_ready app c) c.graph.ids

@@ -1,6 +1,8 @@
 pub mod Configuration
 pub mod Steps
 pub mod LocalSteps
+pub mod Actions
+pub mod MachineSteps
 pub mod Outcome
 pub mod Words
 pub mod EventText
@@ -8,3 +10,5 @@ pub mod Runs
 pub mod WavePicture
 pub mod Sound
 pub mod Enabled
+pub mod Refinement
+pub mod Completion

@@ -15,13 +15,13 @@ use Rattle.wave_layer.specs.declared.regs.WaveRefusal.{WaveRefusal}
 use Rattle.wave_layer.specs.declared.regs.WaveRefusal.TheVariants as wave_refusal
 use Rattle.wave_layer.specs.WaveTable.{LocalView, wave_fired}
 use Rattle.reset_machine.specs.declared.event.Event.{Event}
-use Rattle.reset_machine.specs.declared.event.Event.TheVariants.{Claim, Follow, Adopt, Request, Relay, Open, Join, Finish, Mend}
+use Rattle.reset_machine.specs.declared.event.Event.TheVariants.{Claim, Follow, Adopt, Request, Relay, Open, Join, Finish, Mend, Act}
 use Rattle.reset_machine.specs.declared.plan.Effect.{Effect}
 use Rattle.reset_machine.specs.declared.plan.Effect.TheVariants as effect
 use Rattle.reset_machine.specs.declared.plan.Seen.{Seen}
 use Rattle.reset_machine.specs.declared.plan.Seen.TheVariants.{Tree, Wave}
 use Rattle.reset_machine.specs.declared.step.StepRefusal.{StepRefusal}
-use Rattle.reset_machine.specs.declared.step.StepRefusal.TheVariants.{StrangeNode, StrangeNeighbour, NotEnabled, SessionsSpent, NoMemory}
+use Rattle.reset_machine.specs.declared.step.StepRefusal.TheVariants.{StrangeNode, StrangeNeighbour, NoSuchCase, WantsNeighbour, TakesNoNeighbour, Disagrees, NotEnabled, SessionsSpent, NoMemory}
 use Rattle.reset_machine.specs.Steps.{event_node, named_node, is_of_tree}
 
 -- what i sees of the tree, where K bounds the distances
@@ -55,6 +55,7 @@ cases_of (Open i) = 3 ∷ []
 cases_of (Join i) = 4 ∷ 5 ∷ []
 cases_of (Finish i) = 6 ∷ 7 ∷ []
 cases_of (Mend i) = 8 ∷ 9 ∷ 10 ∷ 11 ∷ []
+cases_of (Act i case with) = []
 
 -- an answer of the tree table
 abbrev pub tree_answer : Result TreeRegs TreeRefusal → Result Effect StepRefusal
@@ -81,6 +82,10 @@ abbrev pub or_next : Result Effect StepRefusal → Result Effect StepRefusal →
 or_next (Ok does) next = Ok does
 or_next (Err StrangeNode) next = Err StrangeNode
 or_next (Err StrangeNeighbour) next = Err StrangeNeighbour
+or_next (Err NoSuchCase) next = Err NoSuchCase
+or_next (Err WantsNeighbour) next = Err WantsNeighbour
+or_next (Err TakesNoNeighbour) next = Err TakesNoNeighbour
+or_next (Err (Disagrees j)) next = Err (Disagrees j)
 or_next (Err NotEnabled) next = next
 or_next (Err SessionsSpent) next = Err SessionsSpent
 or_next (Err NoMemory) next = Err NoMemory

@@ -17,11 +17,11 @@ pub record Sound (g : Graph) (K : ℕ) (t : ℕ → TreeRegs) (w : ℕ → WaveR
   pub wave : WaveSound g t w
 
 -- the registers of a configuration are sound
-abbrev pub IsSound : Configuration → Type 0
+abbrev pub IsSound : {L : Type 0} → Configuration L → Type 0
 IsSound c = Sound c.graph (node_bound c.graph) (tree_of c) (wave_of c)
 
 -- every node is in the session and none is reset
-abbrev pub IsComplete : Configuration → ℕ → Type 0
+abbrev pub IsComplete : {L : Type 0} → Configuration L → ℕ → Type 0
 IsComplete c session = (i : ℕ) → IsNode c.graph i → (reset_at (wave_of c) i ≡ false) × ((wave_of c i).session ≡ session)
 
 -- the events that repair registers

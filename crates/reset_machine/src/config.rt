@@ -1,59 +1,73 @@
 // Configurations, and what they tell.
 
-ghost use Rattle.std.specs.Prelude.{◌≡◌, ◌≢◌, ℕ, IfOk, IfErr, IfSome, IfNone, OnOk, OnErr, MatchResult, Ok, Err};
-ghost use Rattle.topology.specs.Graph.{IsNode, greatest, node_bound};
+ghost use Rattle.std.specs.Prelude.{◌≡◌, ◌≢◌, ℕ, ◌<◌, true, ◌==◌, position, Some, IfOk, IfErr, IfSome, IfNone, OnOk, OnErr, MatchResult, Ok, Err};
+ghost use Rattle.topology.specs.Graph.{IsConnected, IsGraph, IsNode, greatest, node_bound};
+ghost use Rattle.reset_machine.specs.Configuration.{IsShaped, start_list};
+ghost use Rattle.reset_machine.specs.Outcome.{after_effect, effect_reply};
+ghost use Rattle.reset_machine.specs.declared.plan.Effect.TheVariants.{Wave};
 
+use crate::action::{Choice, acted};
 use crate::enabled::{Enabled, enabled_at, ready_ids};
 use crate::event::Event;
 use crate::plan::{Effect, planned};
+use crate::run_laws::{invariants, refinement};
 use crate::step::{Done, Reply, StepRefusal, reply_to};
+use app_interface::Application;
 use std::alloc::{AllocError, AllocFailed, Global};
 use std::marker::Model;
 use topology::Topology;
 use tree_layer::{TreeRegs, boot_tree};
-use wave_layer::{WaveRegs, boot_wave};
+use wave_layer::{WaveMove, WaveRegs, boot_wave};
 
-/// A configuration of the service: a topology, and the tree and wave registers of each node.
+/// A configuration of the service: a topology, and of each node its tree registers, its wave
+/// registers, and the local state and the declared start state of the application `P`.
 #[derive(Drop)]
-pub struct Config {
+pub struct Config<P: Application> {
     topology: Topology,
     trees: Vec<TreeRegs>,
     waves: Vec<WaveRegs>,
+    locals: Vec<P::Local>,
+    // What an open or a join puts into the local state.
+    starts: Vec<P::Local>,
 }
 
-impl Model for Config {
-    ghost use Rattle.reset_machine.specs.Configuration.{Configuration};
+impl<P: Application> Model for Config<P> {
+    ghost use Rattle.std.specs.Prelude.{◌≡◌};
+    ghost use Rattle.reset_machine.specs.Configuration.{Configuration, IsShaped, start_list};
 
-    ghost Value = { Configuration };
+    ghost Value = { Configuration P.Local };
 
     ghost use Rattle.std.specs.Coded.{codes};
     ghost use Rattle.topology.specs.Graph.{graph_code};
 
     ghost coded = { Prim.hlevel (codes, graph_code) };
 
-    ghost use Rattle.reset_machine.specs.Configuration.{IsShaped};
+    ghost view = { λ c. record { graph = c.topology; trees = c.trees.items; waves = c.waves.items; locals = c.locals.items } };
 
-    ghost view = { λ c. record { graph = c.topology; trees = c.trees.items; waves = c.waves.items } };
-
-    ghost invariant = { λ c. IsShaped (record { graph = c.topology; trees = c.trees.items; waves = c.waves.items }) };
+    // A contract doesn't see the start states: the application and the graph give them.
+    ghost invariant = { λ c. IsShaped (record { graph = c.topology; trees = c.trees.items; waves = c.waves.items; locals = c.locals.items })
+        × (c.starts.items ≡ start_list P.app c.topology) };
 }
 
-impl Config {
-    ghost use Rattle.reset_machine.specs.Configuration.{tree_of, wave_of, with_tree, with_wave};
+impl<P: Application> Config<P> {
+    ghost use Rattle.reset_machine.specs.Configuration.{local_of, tree_of, wave_of, with_local, with_tree, with_wave};
     ghost use Rattle.reset_machine.specs.Enabled.{enabled_rows, ready_of};
+    ghost use Rattle.reset_machine.specs.MachineSteps.{IsStep, IsRefused};
+    ghost use Rattle.reset_machine.specs.Completion.{applied, is_open, times};
+    ghost use Rattle.reset_machine.specs.Refinement.{abstract_of, IsAbstractRun, shadow, shadow_of};
     ghost use Rattle.reset_machine.specs.Runs.{Answers, IsRun};
-    ghost use Rattle.reset_machine.specs.Steps.{IsStep, IsRefused, reply_of};
-    ghost use Rattle.reset_machine.specs.Outcome.{IsBoot, outcome_of};
+    ghost use Rattle.reset_machine.specs.Steps.{reply_of};
+    ghost use Rattle.reset_machine.specs.Outcome.{IsBoot, act_outcome, outcome_of, row_outcome};
     ghost use Rattle.reset_machine.specs.Sound.{IsComplete, IsSound, Repairs};
-    ghost use Rattle.reset_machine.specs.WavePicture.{WavePicture};
+    ghost use Rattle.reset_machine.specs.WavePicture.{HasJoined, WavePicture};
     ghost use Rattle.tree_layer.specs.TreePicture.{TreePicture};
     ghost use Rattle.reset_machine.specs.declared.step.Reply.TheVariants.{Complete};
 
     /// The configuration in which each node has its place in the tree of shortest ways to the
-    /// greatest id, and no reset has begun: every node is normal, in session 0. Where memory is
-    /// wanting the topology comes back.
-    pub fn boot(alloc: Global, topology: Topology) -> Result<Config, AllocFailed<Topology>>
-        ensures ok { IfOk result (IsBoot topology) }
+    /// greatest id, and no reset has begun: every node is normal, in session 0, and has its declared
+    /// start state. Where memory is wanting the topology comes back.
+    pub fn boot(alloc: Global, topology: Topology) -> Result<Config<P>, AllocFailed<Topology>>
+        ensures ok { IfOk result (IsBoot P.app topology) }
 
         // Of it both pictures hold, and so do both predicates everywhere.
         ensures tree_picture { IfOk result (λ c. TreePicture c.graph (tree_of c)) }
@@ -69,11 +83,21 @@ impl Config {
             Ok(waves) => waves,
             Err(AllocError) => return Err(AllocFailed { value: topology }),
         };
+        let locals = match start_all::<P>(alloc, &topology) {
+            Ok(locals) => locals,
+            Err(AllocError) => return Err(AllocFailed { value: topology }),
+        };
+        let starts = match start_all::<P>(alloc, &topology) {
+            Ok(starts) => starts,
+            Err(AllocError) => return Err(AllocFailed { value: topology }),
+        };
         topology.is_graph();
         Ok(Config {
             topology,
             trees,
             waves,
+            locals,
+            starts,
         })
     }
 
@@ -81,11 +105,11 @@ impl Config {
     /// nothing. It reads the node and its neighbours, and writes that node alone.
     pub fn step(&mut self, alloc: Global, event: Event) -> Result<Reply, StepRefusal>
         // It is a step, with its reply.
-        ensures ok { IfOk result (λ reply. IsStep self.old event self.new) }
+        ensures ok { IfOk result (λ reply. IsStep P.app self.old event self.new) }
         ensures reply { IfOk result (λ reply. reply ≡ reply_of (tree_of self.old) (wave_of self.old) event) }
 
         // Or it is none, for the first of the reasons.
-        ensures err { IfErr result (λ f. f ≢ StepRefusal.NoMemory → IsRefused self.old.graph (node_bound self.old.graph) (tree_of self.old) (wave_of self.old) event f) }
+        ensures err { IfErr result (λ f. f ≢ StepRefusal.NoMemory → IsRefused P.app self.old event f) }
         ensures kept { OnErr result (self.new ≡ self.old) }
 
         // Sound registers stay sound, and nothing in them is repaired. A reset is told complete only
@@ -94,30 +118,115 @@ impl Config {
         ensures quiet { IfOk result (λ _. IsSound self.old → Repairs event → ⊥) }
         ensures complete { (session : ℕ) → IsSound self.old → result ≡ Ok (Complete session) → IsComplete self.new session }
 
+        // Sound, it is the event's shadow on the abstract machine. What holds of its states from a reset
+        // on, holds.
+        ensures refines { IfOk result (λ _. IsSound self.old → IsAbstractRun P.app self.old.graph (node_bound self.old.graph)
+            (shadow_of self.old event) (abstract_of P.app self.old) (abstract_of P.app self.new)) }
+        ensures invariant { IfOk result (λ _. IsSound self.old → P.Inv self.old.graph (abstract_of P.app self.old) → P.Inv self.new.graph (abstract_of P.app self.new)) }
+        ensures restored { IfOk result (λ _. IsSound self.old → is_open event ≡ true → P.Inv self.new.graph (abstract_of P.app self.new)) }
+
         // The same as a function.
-        ensures outcome { MatchResult result (λ reply. outcome_of self.old event ≡ Ok (self.new, reply))
-            (λ f. f ≢ StepRefusal.NoMemory → outcome_of self.old event ≡ Err f) }
+        ensures outcome { MatchResult result (λ reply. outcome_of P.app self.old event ≡ Ok (self.new, reply))
+            (λ f. f ≢ StepRefusal.NoMemory → outcome_of P.app self.old event ≡ Err f) }
     {
-        self.topology.is_graph();
+        self.is_graph();
+        invariants::<P>();
+        match event {
+            Event::Act { at, case, with } => self.act(alloc, at, Choice { case, with }),
+            _ => self.fire(alloc, event),
+        }
+    }
+
+    // Takes a case of the application.
+    fn act(&mut self, alloc: Global, at: u32, choice: Choice) -> Result<Reply, StepRefusal>
+        ensures kept { OnErr result (self.new ≡ self.old) }
+        ensures outcome { MatchResult result (λ reply. act_outcome P.app self.old at choice.case choice.with ≡ Ok (self.new, reply))
+            (λ f. f ≢ StepRefusal.NoMemory → act_outcome P.app self.old at choice.case choice.with ≡ Err f) }
+    {
+        match acted::<P>(alloc, &self.topology, &self.waves, &self.locals, at, choice) {
+            Ok((ix, after)) => {
+                self.locals[ix] = after;
+                Ok(Reply::Applied)
+            }
+            Err(refusal) => Err(refusal),
+        }
+    }
+
+    // Fires a row of the tree table or of the wave table.
+    fn fire(&mut self, alloc: Global, event: Event) -> Result<Reply, StepRefusal>
+        ensures kept { OnErr result (self.new ≡ self.old) }
+        ensures outcome { MatchResult result (λ reply. row_outcome P.app self.old event ≡ Ok (self.new, reply))
+            (λ f. f ≢ StepRefusal.NoMemory → row_outcome P.app self.old event ≡ Err f) }
+    {
         match planned(alloc, &self.topology, &self.trees, &self.waves, event) {
             Ok((ix, effect)) => match effect {
                 Effect::Tree(regs) => {
                     self.trees[ix] = regs;
                     Ok(Reply::Applied)
                 }
-                Effect::Wave(fired) => {
-                    self.waves[ix] = fired.regs;
-                    Ok(reply_to(fired))
-                }
+                Effect::Wave(fired) => self.write_wave(alloc, event.node(), ix, fired),
             },
             Err(refusal) => Err(refusal),
         }
     }
 
+    // Writes what a row of the wave table leaves at the node with this id and index. The start state
+    // is copied before the first change, since there may be no memory for it.
+    fn write_wave(
+        &mut self,
+        alloc: Global,
+        at: u32,
+        ix: usize,
+        fired: WaveMove,
+    ) -> Result<Reply, StepRefusal>
+        requires place { position (λ i. i == at) self.old.graph.ids ≡ Some ix }
+        ensures ok { IfOk result (λ reply. (reply ≡ effect_reply (Wave fired)) × (self.new ≡ after_effect P.app self.old at (Wave fired))) }
+        ensures memory { IfErr result (λ f. f ≡ StepRefusal.NoMemory) }
+        ensures kept { OnErr result (self.new ≡ self.old) }
+    {
+        if fired.restarts {
+            let start = match P::copy(alloc, &self.starts[ix]) {
+                Ok(start) => start,
+                Err(AllocError) => return Err(StepRefusal::NoMemory),
+            };
+            self.locals[ix] = start;
+        }
+        self.waves[ix] = fired.regs;
+        Ok(reply_to(fired))
+    }
+
+    // The graph of the topology, and the shape of the configuration.
+    fn is_graph(&self)
+        ensures graph { IsGraph self.now.graph }
+        ensures connected { IsConnected self.now.graph }
+        ensures shaped { IsShaped self.now }
+    {
+        self.topology.is_graph();
+    }
+
     /// Does what the events say, in turn, and tells how each was answered. A refused event changes
     /// nothing, and the next one follows it. Where there is no memory for the answers nothing is done.
     pub fn run(&mut self, alloc: Global, events: &[Event]) -> Result<Vec<Done>, AllocError>
-        ensures ok { IfOk result (λ answers. IsRun self.old events.now answers.items self.new) }
+        ensures ok { IfOk result (λ answers. IsRun P.app self.old events.now answers.items self.new) }
+        ensures sound { IsSound self.old → IsSound self.new }
+        ensures kept { OnErr result (self.new ≡ self.old) }
+
+        // Sound, it is a run of the abstract machine: all nodes restart at once where a session opens,
+        // and the nodes that have joined act. What holds of its states from a reset on, holds.
+        ensures refines { IfOk result (λ answers. IsSound self.old → IsAbstractRun P.app self.old.graph (node_bound self.old.graph)
+            (shadow P.app self.old events.now answers.items) (abstract_of P.app self.old) (abstract_of P.app self.new)) }
+        ensures invariant { IfOk result (λ _. IsSound self.old → P.Inv self.old.graph (abstract_of P.app self.old) → P.Inv self.new.graph (abstract_of P.app self.new)) }
+        ensures restored { IfOk result (λ answers. IsSound self.old → 0 < times is_open (applied events.now answers.items) → P.Inv self.new.graph (abstract_of P.app self.new)) }
+    {
+        self.is_graph();
+        refinement::<P>();
+        invariants::<P>();
+        self.run_all(alloc, events)
+    }
+
+    // Does what the events say, in turn.
+    fn run_all(&mut self, alloc: Global, events: &[Event]) -> Result<Vec<Done>, AllocError>
+        ensures ok { IfOk result (λ answers. IsRun P.app self.old events.now answers.items self.new) }
         ensures sound { IsSound self.old → IsSound self.new }
         ensures kept { OnErr result (self.new ≡ self.old) }
     {
@@ -130,7 +239,7 @@ impl Config {
 
     // Does what the event says, and tells how it was answered.
     fn attempt(&mut self, alloc: Global, event: Event) -> Done
-        ensures answered { Answers self.old event result self.new }
+        ensures answered { Answers P.app self.old event result self.new }
         ensures sound { IsSound self.old → IsSound self.new }
     {
         match self.step(alloc, event) {
@@ -140,7 +249,7 @@ impl Config {
     }
 
     /// A configuration that equals this one.
-    pub fn copy(&self, alloc: Global) -> Result<Config, AllocError>
+    pub fn copy(&self, alloc: Global) -> Result<Config<P>, AllocError>
         ensures { IfOk result (λ copy. copy ≡ self.now) }
     {
         let trees = &self.trees;
@@ -149,6 +258,8 @@ impl Config {
             topology: self.topology.copy(alloc)?,
             trees: trees.to_vec(alloc)?,
             waves: waves.to_vec(alloc)?,
+            locals: copy_all::<P>(alloc, &self.locals)?,
+            starts: copy_all::<P>(alloc, &self.starts)?,
         })
     }
 
@@ -184,28 +295,46 @@ impl Config {
         }
     }
 
-    /// The rows that are enabled at the node with this identifier, or a refusal: `StrangeNode`, or
-    /// `NoMemory`.
+    /// Puts a local state at the node with this identifier, whatever it is, or refuses a
+    /// `StrangeNode` and hands the local state back.
+    pub fn put_local(&mut self, at: u32, local: P::Local) -> Result<(), (StepRefusal, P::Local)>
+        ensures ok { OnOk result (IsNode self.old.graph at × (self.new ≡ with_local self.old at local)) }
+        ensures err { IfErr result (λ f. (f ≡ (StepRefusal.StrangeNode, local)) × (IsNode self.old.graph at → ⊥)) }
+        ensures kept { OnErr result (self.new ≡ self.old) }
+    {
+        match self.topology.index_of(at) {
+            Some(ix) => {
+                self.locals[ix] = local;
+                Ok(())
+            }
+            None => Err((StepRefusal::StrangeNode, local)),
+        }
+    }
+
+    /// The rows and cases that are enabled at the node with this identifier, or a refusal:
+    /// `StrangeNode`, or `NoMemory`. A case is enabled where some choice of a neighbour is.
     pub fn enabled(&self, alloc: Global, at: u32) -> Result<Enabled, StepRefusal>
-        ensures ok { IfOk result (λ rows. IsNode self.now.graph at × (rows ≡ enabled_rows self.now at)) }
+        ensures ok { IfOk result (λ rows. IsNode self.now.graph at × (rows ≡ enabled_rows P.app self.now at)) }
         ensures err { IfErr result (λ f. f ≢ StepRefusal.NoMemory → (f ≡ StepRefusal.StrangeNode) × (IsNode self.now.graph at → ⊥)) }
     {
         let trees = &self.trees;
         let waves = &self.waves;
+        let locals = &self.locals;
         match self.topology.index_of(at) {
-            Some(ix) => Ok(enabled_at(alloc, &self.topology, trees, waves, at, ix)?),
+            Some(ix) => Ok(enabled_at::<P>(alloc, &self.topology, trees, waves, locals, at, ix)?),
             None => Err(StepRefusal::StrangeNode),
         }
     }
 
-    /// The identifiers of the nodes at which a row other than the request, row 1 of the wave table,
-    /// is enabled, ascending.
+    /// The identifiers of the nodes at which a case is enabled, or a row other than the request, row 1
+    /// of the wave table, ascending.
     pub fn ready(&self, alloc: Global) -> Result<Vec<u32>, AllocError>
-        ensures { IfOk result (λ ids. ids.items ≡ ready_of self.now) }
+        ensures { IfOk result (λ ids. ids.items ≡ ready_of P.app self.now) }
     {
         let trees = &self.trees;
         let waves = &self.waves;
-        ready_ids(alloc, &self.topology, trees, waves)
+        let locals = &self.locals;
+        ready_ids::<P>(alloc, &self.topology, trees, waves, locals)
     }
 
     /// The topology.
@@ -239,6 +368,32 @@ impl Config {
         }
     }
 
+    /// The local state of the node with this identifier. None where there is no such node.
+    pub fn local_at(&self, id: u32) -> Option<&P::Local>
+        ensures found { IfSome result (λ local. IsNode self.now.graph id × (local.now ≡ local_of P.app self.now id)) }
+        ensures none { IfNone result (IsNode self.now.graph id → ⊥) }
+    {
+        let locals = &self.locals;
+        match self.topology.index_of(id) {
+            Some(ix) => Some(&locals[ix]),
+            None => None,
+        }
+    }
+
+    /// The local state of the node with this identifier, where it has joined the newest session. None
+    /// elsewhere, and where there is no such node.
+    pub fn newest_local(&self, id: u32) -> Option<&P::Local>
+        ensures found { IfSome result (λ local. IsNode self.now.graph id × HasJoined self.now.graph (wave_of self.now) id × (local.now ≡ local_of P.app self.now id)) }
+        ensures none { IfNone result (IsNode self.now.graph id → HasJoined self.now.graph (wave_of self.now) id → ⊥) }
+    {
+        let regs = self.wave_at(id)?;
+        if regs.session == self.newest_session() {
+            self.local_at(id)
+        } else {
+            None
+        }
+    }
+
     /// The newest session: that of the greatest identifier.
     pub fn newest_session(&self) -> u32
         ensures { result ≡ (wave_of self.now (greatest self.now.graph)).session }
@@ -247,4 +402,29 @@ impl Config {
         self.topology.is_graph();
         waves[self.topology.len() - 1].session
     }
+}
+
+// The declared start states, in the order of the ids.
+fn start_all<P: Application>(
+    alloc: Global,
+    topology: &Topology,
+) -> Result<Vec<P::Local>, AllocError>
+    ensures { IfOk result (λ starts. starts.items ≡ start_list P.app topology.now) }
+{
+    let mut starts = Vec::new(alloc);
+    for index in 0..topology.len() {
+        starts.push(P::on_start(alloc, topology, index)?)?;
+    }
+    Ok(starts)
+}
+
+// A copy of each local state.
+fn copy_all<P: Application>(alloc: Global, locals: &[P::Local]) -> Result<Vec<P::Local>, AllocError>
+    ensures { IfOk result (λ copies. copies.items ≡ locals.now) }
+{
+    let mut copies = Vec::new(alloc);
+    for local in locals {
+        copies.push(P::copy(alloc, local)?)?;
+    }
+    Ok(copies)
 }

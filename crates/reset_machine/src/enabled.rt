@@ -1,11 +1,17 @@
-// The enabled rows of a node, and the nodes that have something to do.
+// The enabled rows and cases of a node, and the nodes that have something to do.
 
-ghost use Rattle.std.specs.Prelude.{◌≡◌, ◌==◌, if◌then◌else◌, length, position, Some, IfOk};
-ghost use Rattle.action_tables.specs.Numbers.{is_among};
-ghost use Rattle.reset_machine.specs.Enabled.{enabled_rows, has_work, ready_of};
+ghost use Rattle.std.specs.Prelude.{◌≡◌, ◌==◌, if◌then◌else◌, length, position, filter, map, Some, IfOk, is_ok};
+ghost use Rattle.std.specs.List.{list_any};
+ghost use Rattle.action_tables.specs.Numbers.{all_cases, is_among};
+ghost use Rattle.topology.specs.Graph.{neighbours_of, node_bound};
+ghost use Rattle.reset_machine.specs.Actions.{fitted_of};
+ghost use Rattle.reset_machine.specs.Configuration.{local_map, wave_map};
+ghost use Rattle.reset_machine.specs.Enabled.{enabled_rows, has_work, is_taken, ready_of};
 
+use crate::action::{Choice, is_taken};
 use crate::view::{children, near_trees, tree_view, wave_view};
 use action_tables::CaseSet;
+use app_interface::{Application, Reads};
 use std::alloc::{AllocError, Global};
 use topology::Topology;
 use tree_layer::{TreeRegs, tree_enabled};
@@ -13,6 +19,9 @@ use wave_layer::{WaveRegs, wave_enabled};
 
 // The request, the one row that is enabled wherever nothing is to be done.
 const REQUEST: u8 = 1;
+
+// No application has more cases.
+const MOST_CASES: u8 = 16;
 
 /// The enabled rows of a node, by table.
 #[derive(Clone, Copy, Debug, PartialEq, Eq)]
@@ -26,12 +35,14 @@ pub struct Enabled {
 }
 
 impl Enabled {
-    // Whether a row other than the request is enabled.
+    // Whether a case is enabled, or a row other than the request.
     fn is_ready(self) -> bool
-        ensures { result ≡ has_work self.tree self.wave }
+        ensures { result ≡ has_work self.tree self.wave self.act }
     {
         self.wave.is_listed();
-        self.tree.count() > 0 || self.wave.count() > count_of(self.wave, REQUEST)
+        self.tree.count() > 0
+            || self.wave.count() > count_of(self.wave, REQUEST)
+            || self.act.count() > 0
     }
 }
 
@@ -42,47 +53,124 @@ fn count_of(set: CaseSet, row: u8) -> u32
     if set.has(row) { 1 } else { 0 }
 }
 
-/// The enabled rows of the node with this id and index.
-pub fn enabled_at(
+/// The enabled rows and cases of the node with this id and index.
+pub fn enabled_at<P: Application>(
     alloc: Global,
     topology: &Topology,
     trees: &[TreeRegs],
     waves: &[WaveRegs],
+    locals: &[P::Local],
     id: u32,
     ix: usize,
 ) -> Result<Enabled, AllocError>
     requires place { position (λ i. i == id) topology.now.ids ≡ Some ix }
     requires all_trees { length trees.now ≡ length topology.now.ids }
     requires all_waves { length waves.now ≡ length topology.now.ids }
-    ensures { IfOk result (λ rows. rows ≡ enabled_rows (record { graph = topology.now; trees = trees.now; waves = waves.now }) id) }
+    requires all_locals { length locals.now ≡ length topology.now.ids }
+    ensures { IfOk result (λ rows. rows ≡ enabled_rows P.app (record { graph = topology.now; trees = trees.now; waves = waves.now; locals = locals.now }) id) }
 {
     let near = near_trees(alloc, topology, trees, ix)?;
     let tree = tree_enabled(&tree_view(topology, trees, &near, id, ix));
     let children = children(alloc, topology, trees, waves, id, ix)?;
     let wave = wave_enabled(&wave_view(topology, trees, waves, &children, id, ix));
-    Ok(Enabled {
-        tree,
-        wave,
-        act: CaseSet::empty(),
-    })
+    let act = enabled_acts::<P>(alloc, topology, waves, locals, id, ix)?;
+    Ok(Enabled { tree, wave, act })
 }
 
-/// The ids of the nodes at which a row other than the request is enabled, ascending.
-pub fn ready_ids(
+// The cases of the application that are enabled with some choice of a neighbour.
+fn enabled_acts<P: Application>(
+    alloc: Global,
+    topology: &Topology,
+    waves: &[WaveRegs],
+    locals: &[P::Local],
+    id: u32,
+    ix: usize,
+) -> Result<CaseSet, AllocError>
+    requires place { position (λ i. i == id) topology.now.ids ≡ Some ix }
+    requires all_waves { length waves.now ≡ length topology.now.ids }
+    requires all_locals { length locals.now ≡ length topology.now.ids }
+    ensures { IfOk result (λ set. set ≡ filter (is_taken P.app topology.now (node_bound topology.now) (wave_map topology.now waves.now) (local_map P.app topology.now locals.now) id) all_cases) }
+{
+    let mut acts = CaseSet::empty();
+    for case in 1..=MOST_CASES {
+        if is_enabled::<P>(alloc, topology, waves, locals, id, ix, case)? {
+            acts = acts.with(case);
+        }
+    }
+    Ok(acts)
+}
+
+// Whether the case is enabled with some choice of a neighbour.
+fn is_enabled<P: Application>(
+    alloc: Global,
+    topology: &Topology,
+    waves: &[WaveRegs],
+    locals: &[P::Local],
+    id: u32,
+    ix: usize,
+    case: u8,
+) -> Result<bool, AllocError>
+    requires place { position (λ i. i == id) topology.now.ids ≡ Some ix }
+    requires all_waves { length waves.now ≡ length topology.now.ids }
+    requires all_locals { length locals.now ≡ length topology.now.ids }
+    ensures { IfOk result (λ taken. taken ≡ is_taken P.app topology.now (node_bound topology.now) (wave_map topology.now waves.now) (local_map P.app topology.now locals.now) id case) }
+{
+    match P::reads(case) {
+        None => Ok(false),
+        Some(Reads::Alone | Reads::All) => {
+            let choice = Choice { case, with: None };
+            is_taken::<P>(alloc, topology, waves, locals, id, ix, choice)
+        }
+        Some(Reads::Toward | Reads::One) => {
+            is_taken_toward::<P>(alloc, topology, waves, locals, id, ix, case)
+        }
+    }
+}
+
+// Whether the case is enabled toward some neighbour.
+fn is_taken_toward<P: Application>(
+    alloc: Global,
+    topology: &Topology,
+    waves: &[WaveRegs],
+    locals: &[P::Local],
+    id: u32,
+    ix: usize,
+    case: u8,
+) -> Result<bool, AllocError>
+    requires place { position (λ i. i == id) topology.now.ids ≡ Some ix }
+    requires all_waves { length waves.now ≡ length topology.now.ids }
+    requires all_locals { length locals.now ≡ length topology.now.ids }
+    ensures { IfOk result (λ taken. taken ≡ list_any (λ with. is_ok (fitted_of P.app topology.now (node_bound topology.now) (wave_map topology.now waves.now) (local_map P.app topology.now locals.now) id case with)) (map Some (neighbours_of topology.now id))) }
+{
+    topology.is_graph();
+    for near in topology.neighbours(ix) {
+        let with = Some(topology.id_at(*near).unwrap().get());
+        let choice = Choice { case, with };
+        if is_taken::<P>(alloc, topology, waves, locals, id, ix, choice)? {
+            return Ok(true);
+        }
+    }
+    Ok(false)
+}
+
+/// The ids of the nodes at which a case is enabled, or a row other than the request, ascending.
+pub fn ready_ids<P: Application>(
     alloc: Global,
     topology: &Topology,
     trees: &[TreeRegs],
     waves: &[WaveRegs],
+    locals: &[P::Local],
 ) -> Result<Vec<u32>, AllocError>
     requires all_trees { length trees.now ≡ length topology.now.ids }
     requires all_waves { length waves.now ≡ length topology.now.ids }
-    ensures { IfOk result (λ ids. ids.items ≡ ready_of (record { graph = topology.now; trees = trees.now; waves = waves.now })) }
+    requires all_locals { length locals.now ≡ length topology.now.ids }
+    ensures { IfOk result (λ ids. ids.items ≡ ready_of P.app (record { graph = topology.now; trees = trees.now; waves = waves.now; locals = locals.now })) }
 {
     topology.is_graph();
     let mut ready = Vec::new(alloc);
     for ix in 0..topology.len() {
         let id = topology.id_at(ix).unwrap().get();
-        if enabled_at(alloc, topology, trees, waves, id, ix)?.is_ready() {
+        if enabled_at::<P>(alloc, topology, trees, waves, locals, id, ix)?.is_ready() {
             ready.push(id)?;
         }
     }

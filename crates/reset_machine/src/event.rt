@@ -1,26 +1,52 @@
-// The events of a reset.
+// The events of a configuration.
 
 /// What a node may do, and which node does it. Nodes are named by their identifiers.
 #[derive(Clone, Copy, Debug, PartialEq, Eq)]
 pub enum Event {
     /// The node makes itself a root, where its tree registers contradict its neighbourhood.
-    Claim { at: u32 },
+    Claim {
+        at: u32,
+    },
     /// The node takes over its father's root and a distance one more than its father's.
-    Follow { at: u32 },
+    Follow {
+        at: u32,
+    },
     /// The node takes this neighbour as its father, for a greater root or a shorter way to the root.
-    Adopt { at: u32, from: u32 },
+    Adopt {
+        at: u32,
+        from: u32,
+    },
     /// The node asks for a reset.
-    Request { at: u32 },
+    Request {
+        at: u32,
+    },
     /// The node relays the request of one of its children.
-    Relay { at: u32, child: u32 },
+    Relay {
+        at: u32,
+        child: u32,
+    },
     /// The node, a root, opens a session.
-    Open { at: u32 },
+    Open {
+        at: u32,
+    },
     /// The node joins its father's session.
-    Join { at: u32 },
+    Join {
+        at: u32,
+    },
     /// The node finishes, after its children.
-    Finish { at: u32 },
+    Finish {
+        at: u32,
+    },
     /// The node takes over its father's registers, where they contradict the wave.
-    Mend { at: u32 },
+    Mend {
+        at: u32,
+    },
+    /// The node takes a case of the application, toward this neighbour where the case names one.
+    Act {
+        at: u32,
+        case: u8,
+        with: Option<u32>,
+    },
 }
 
 impl Event {
@@ -41,7 +67,8 @@ impl Event {
             | Event::Open { at }
             | Event::Join { at }
             | Event::Finish { at }
-            | Event::Mend { at } => at,
+            | Event::Mend { at }
+            | Event::Act { at, .. } => at,
         }
     }
 
@@ -52,6 +79,7 @@ impl Event {
         match self {
             Event::Adopt { from, .. } => Some(from),
             Event::Relay { child, .. } => Some(child),
+            Event::Act { with, .. } => with,
             Event::Claim { .. }
             | Event::Follow { .. }
             | Event::Request { .. }
@@ -73,11 +101,12 @@ impl Event {
             | Event::Open { .. }
             | Event::Join { .. }
             | Event::Finish { .. }
-            | Event::Mend { .. } => false,
+            | Event::Mend { .. }
+            | Event::Act { .. } => false,
         }
     }
 
-    // The rows of its layer's table that stand behind the event.
+    // The rows of its layer's table that stand behind the event. An action has none.
     pub(crate) fn cases(self) -> &'static [u8]
         ensures { result.now ≡ cases_of self }
     {
@@ -91,6 +120,7 @@ impl Event {
             Event::Join { .. } => &[4, 5],
             Event::Finish { .. } => &[6, 7],
             Event::Mend { .. } => &[8, 9, 10, 11],
+            Event::Act { .. } => &[],
         }
     }
 }

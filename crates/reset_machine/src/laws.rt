@@ -1,23 +1,26 @@
 // Laws of the definitions.
 
 ghost use Rattle.std.specs.Prelude.{◌≡◌, ◌↔◌, ◌≤◌, ℕ, false, length, MatchResult};
-ghost use Rattle.topology.specs.Graph.{Graph, IsConnected, IsGraph, IsNode, node_bound};
+ghost use Rattle.topology.specs.Graph.{Graph, IsConnected, IsGraph, IsNode};
 ghost use Rattle.tree_layer.specs.declared.regs.TreeRegs.{TreeRegs};
 ghost use Rattle.tree_layer.specs.TreePicture.{TreePicture};
 ghost use Rattle.wave_layer.specs.declared.regs.WaveRegs.{WaveRegs};
 ghost use Rattle.reset_machine.specs.declared.event.Event.{Event};
 ghost use Rattle.reset_machine.specs.Configuration.{Configuration, IsShaped, tree_of, wave_of};
-ghost use Rattle.reset_machine.specs.Steps.{event_node, IsEnabled, IsStep, IsRefused, Mends, RegsStep, reply_of, reset_at};
+ghost use Rattle.reset_machine.specs.Steps.{event_node, IsEnabled, Mends, RegsStep, reply_of, reset_at};
+ghost use Rattle.reset_machine.specs.MachineSteps.{IsStep, IsRefused};
 ghost use Rattle.reset_machine.specs.Outcome.{outcome_of};
 ghost use Rattle.reset_machine.specs.Sound.{Repairs, Sound};
 ghost use Rattle.reset_machine.specs.WavePicture.{WavePicture, WaveSound};
 ghost use Rattle.reset_machine.specs.declared.event.Event.TheVariants.{Finish};
 
+use app_interface::Application;
+
 /// The outcome of an event, as a function, is a step with its reply, or the first refusal.
-pub fn outcomes_are_steps()
-    ensures { (c : Configuration) (e : Event) → IsGraph c.graph → IsShaped c → MatchResult (outcome_of c e)
-        (λ after. IsStep c e after.0 × (after.1 ≡ reply_of (tree_of c) (wave_of c) e))
-        (IsRefused c.graph (node_bound c.graph) (tree_of c) (wave_of c) e) }
+pub fn outcomes_are_steps<P: Application>()
+    ensures { (c : Configuration P.Local) (e : Event) → IsGraph c.graph → IsShaped c → MatchResult (outcome_of P.app c e)
+        (λ after. IsStep P.app c e after.0 × (after.1 ≡ reply_of (tree_of c) (wave_of c) e))
+        (IsRefused P.app c e) }
 {}
 
 /// No mending row is enabled at any node exactly where the predicate holds at every father link.

@@ -2,11 +2,13 @@
 //! that name their events.
 #![tactic(auto)]
 
+mod action;
 mod config;
 mod enabled;
 mod event;
 mod laws;
 mod plan;
+mod run_laws;
 #[cfg(test)]
 mod slow;
 mod step;
@@ -19,5 +21,6 @@ pub use config::Config;
 pub use enabled::Enabled;
 pub use event::Event;
 pub use laws::outcomes_are_steps;
+pub use run_laws::{invariants, joins_once, refinement, runs_stay_sound};
 pub use step::{Done, Reply, StepRefusal};
-pub use text::{one_event_a_line, read_event, read_number, split_word, write_event};
+pub use text::{one_event_a_line, read_event, split_word, write_event};

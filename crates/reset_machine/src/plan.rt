@@ -3,9 +3,10 @@
 ghost use Rattle.std.specs.Prelude.{◌≡◌, ◌≢◌, true, false, ◌==◌, length, position, Err, Ok, Some, MatchResult, IfOk};
 ghost use Rattle.topology.specs.Graph.{node_bound};
 ghost use Rattle.reset_machine.specs.Configuration.{tree_map, wave_map};
-ghost use Rattle.reset_machine.specs.LocalSteps.{answer_of, first_answer, is_neighbour, planned_of, row_answer};
+ghost use Rattle.reset_machine.specs.LocalSteps.{answer_of, first_answer, planned_of, row_answer};
 ghost use Rattle.reset_machine.specs.Steps.{event_node, is_of_tree, named_node};
 
+use crate::action::is_neighbour;
 use crate::event::Event;
 use crate::step::StepRefusal;
 use crate::view::{children, near_trees, tree_view, wave_view};
@@ -47,22 +48,12 @@ pub fn planned(
     let Some(ix) = topology.index_of(event.node()) else {
         return Err(StepRefusal::StrangeNode);
     };
-    if !names_neighbour(topology, event) {
+    if !is_neighbour(topology, event.node(), event.named()) {
         return Err(StepRefusal::StrangeNeighbour);
     }
     match answer(alloc, topology, trees, waves, event, ix) {
         Ok(effect) => Ok((ix, effect)),
         Err(refusal) => Err(refusal),
-    }
-}
-
-// Whether the other node that the event names, if any, is a neighbour.
-fn names_neighbour(topology: &Topology, event: Event) -> bool
-    ensures { result ≡ is_neighbour topology.now (event_node event) (named_node event) }
-{
-    match event.named() {
-        None => true,
-        Some(near) => topology.linked(event.node(), near),
     }
 }
 

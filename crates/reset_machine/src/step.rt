@@ -24,7 +24,15 @@ pub enum StepRefusal {
     StrangeNode,
     /// The other node that the event names isn't a neighbour of the event's node.
     StrangeNeighbour,
-    /// No row of the event is enabled.
+    /// The application has no case with this number.
+    NoSuchCase,
+    /// The case names a neighbour, and none is named.
+    WantsNeighbour,
+    /// The case names no neighbour, and one is named.
+    TakesNoNeighbour,
+    /// The case reads this neighbour, which is in another session. It is the first such one.
+    Disagrees(u32),
+    /// No row of the event is enabled, or the case isn't.
     NotEnabled,
     /// The session after the last one, 4294967295, would be opened.
     SessionsSpent,

@@ -1,4 +1,5 @@
 use super::*;
+use app_interface::Idle;
 use std::alloc::Global;
 use std::process::Abort;
 use topology::Topology;
@@ -8,15 +9,15 @@ use wave_layer::{Phase, WaveRegs};
 mod pictures;
 
 // The booted line of the nodes 1, 2 and 3.
-fn line(rt: &impl Abort, alloc: Global) -> Config {
+fn line(rt: &impl Abort, alloc: Global) -> Config<Idle> {
     let topology = Topology::build(alloc, &[1, 2, 3], &[(1, 2), (2, 3)]).expect(rt, "the line");
-    match Config::boot(alloc, topology) {
+    match Config::<Idle>::boot(alloc, topology) {
         Ok(config) => config,
         Err(_) => panic!(rt; "memory for the line"),
     }
 }
 
-fn waves(rt: &impl Abort, config: &Config) -> [WaveRegs; 3] {
+fn waves(rt: &impl Abort, config: &Config<Idle>) -> [WaveRegs; 3] {
     [1, 2, 3].map(|id| config.wave_at(id).expect(rt, "a node of the line"))
 }
 
@@ -171,5 +172,44 @@ fn strangers_have_no_registers(rt: HostRuntime) {
     assert_eq!(rt;
         config.enabled(rt.alloc(), 4),
         Err(StepRefusal::StrangeNode)
+    );
+}
+
+#[test]
+fn acts_are_refused_in_order(rt: HostRuntime) {
+    let mut config = line(&rt, rt.alloc());
+    let act = |at, case, with| Event::Act { at, case, with };
+    let refused = [
+        (act(9, 1, Some(2)), StepRefusal::StrangeNode),
+        (act(1, 1, Some(3)), StepRefusal::StrangeNeighbour),
+        (act(1, 0, None), StepRefusal::NoSuchCase),
+        (act(1, 1, Some(2)), StepRefusal::NoSuchCase),
+        (act(3, 255, None), StepRefusal::NoSuchCase),
+    ];
+    for (event, refusal) in refused {
+        assert_eq!(rt; config.step(rt.alloc(), event), Err(refusal));
+    }
+}
+
+#[test]
+fn local_states_are_the_newest_where_joined(rt: HostRuntime) {
+    let mut config = line(&rt, rt.alloc());
+    for id in [1, 2, 3] {
+        assert!(rt; config.local_at(id).is_some());
+        assert!(rt; config.newest_local(id).is_some());
+    }
+    for event in [Event::Request { at: 3 }, Event::Open { at: 3 }] {
+        assert_eq!(rt; config.step(rt.alloc(), event), Ok(Reply::Applied));
+    }
+    assert!(rt; config.newest_local(1).is_none());
+    assert!(rt; config.newest_local(2).is_none());
+    assert!(rt; config.newest_local(3).is_some());
+    assert!(rt; config.local_at(1).is_some());
+    assert!(rt; config.local_at(4).is_none());
+    assert!(rt; config.newest_local(4).is_none());
+    assert_eq!(rt; config.put_local(1, ()), Ok(()));
+    assert_eq!(rt;
+        config.put_local(4, ()),
+        Err((StepRefusal::StrangeNode, ()))
     );
 }

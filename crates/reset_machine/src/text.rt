@@ -1,15 +1,15 @@
-// The lines that stand for events, and the words and numbers that lines are made of.
-ghost use Rattle.std.specs.Prelude.{◌≡◌, ℕ, ◌<◌, ◌^◌, [], ◌∷◌, ◌++◌, ◌↔◌, ◌⊎◌, IsTrue, IfSome, IfNone, OnOk, OnErr, length, slice_index};
+// The lines that stand for events, and the words that lines are made of.
+ghost use Rattle.std.specs.Prelude.{◌≡◌, ◌≤◌, [], ◌∷◌, ◌++◌, IfSome, IfNone, OnOk, OnErr};
 ghost use Rattle.std.specs.Fmt.{decimal};
 ghost use Rattle.std.specs.Io.KnownBytes.{Appends};
-ghost use Rattle.std.specs.List.{position};
 ghost use Rattle.reset_machine.specs.EventText.{event_line, event_words, Fits};
-ghost use Rattle.reset_machine.specs.Words.{is_space, words_of};
+ghost use Rattle.reset_machine.specs.Words.{words_of};
 ghost use Rattle.action_tables.specs.Written.{AppendsFront};
 ghost use Rattle.reset_machine.specs.declared.event.Event.{Event};
+ghost use Rattle.reset_machine.specs.declared.event.Event.TheVariants.{Act};
 
 use crate::event::Event;
-use action_tables::{WriteFault, put_bytes, put_number};
+use action_tables::{WriteFault, cut, put_bytes, put_number, read_number};
 use std::io::Write;
 
 /// Two events below 2 ^ 32 in their numbers that have one line are the same event.
@@ -20,39 +20,10 @@ pub fn one_event_a_line()
 /// The first word of a line and what follows the space after it, or `None` where the line has no
 /// space: it is one word then, or empty.
 pub fn split_word(line: &[u8]) -> Option<(&[u8], &[u8])>
-    ensures found { IfSome result (λ cut. words_of line.now ≡ cut.0.now ∷ words_of cut.1.now) }
+    ensures found { IfSome result (λ parts. words_of line.now ≡ parts.0.now ∷ words_of parts.1.now) }
     ensures only { IfNone result (words_of line.now ≡ line.now ∷ []) }
 {
-    let space = first_space(line)?;
-    Some((&line[..space], &line[space + 1..]))
-}
-
-fn first_space(line: &[u8]) -> Option<usize>
-    ensures { result ≡ position is_space line.now }
-{
-    line.iter().position(|byte| *byte == b' ')
-}
-
-/// The number that a word spells: decimal digits, without leading zeros, at most 4294967295.
-pub fn read_number(word: &[u8]) -> Option<u32>
-    ensures found { IfSome result (λ n. word.now ≡ decimal n) }
-    ensures only { IfNone result ((n : ℕ) → n < 2 ^ 32 → word.now ≡ decimal n → ⊥) }
-{
-    // `parse` would read these too.
-    if has_sign_or_zeros(word) {
-        return None;
-    }
-    match str::from_utf8(word) {
-        Ok(text) => text.parse().ok(),
-        Err(_) => None,
-    }
-}
-
-// Whether a sign or a leading zero begins the word.
-fn has_sign_or_zeros(word: &[u8]) -> bool
-    ensures { IsTrue result ↔ (slice_index word.now 0 ≡ 43) ⊎ ((slice_index word.now 0 ≡ 48) × (1 < length word.now)) }
-{
-    matches!(word, [b'+', ..] | [b'0', _, ..])
+    cut(line, b' ')
 }
 
 /// The event that a line without its line feed stands for.
@@ -64,7 +35,15 @@ pub fn read_event(line: &[u8]) -> Option<Event>
     let (command, numbers) = split_word(line)?;
     match split_word(numbers) {
         None => event_of_one(command, read_number(numbers)?),
-        Some((at, other)) => event_of_two(command, read_number(at)?, read_number(other)?),
+        Some((at, rest)) => match split_word(rest) {
+            None => event_of_two(command, read_number(at)?, read_number(rest)?),
+            Some((case, with)) => event_of_three(
+                command,
+                read_number(at)?,
+                read_number(case)?,
+                read_number(with)?,
+            ),
+        },
     }
 }
 
@@ -72,7 +51,7 @@ pub fn read_event(line: &[u8]) -> Option<Event>
 fn event_of_one(command: &[u8], at: u32) -> Option<Event>
     ensures found { IfSome result (λ e. event_words e ≡ command.now ∷ decimal at ∷ []) }
     ensures fits { IfSome result Fits }
-    ensures only { IfNone result ((e : Event) → event_words e ≡ command.now ∷ decimal at ∷ [] → ⊥) }
+    ensures only { IfNone result ((e : Event) → Fits e → event_words e ≡ command.now ∷ decimal at ∷ [] → ⊥) }
 {
     if command == b"claim".as_slice() {
         Some(Event::Claim { at })
@@ -97,15 +76,45 @@ fn event_of_one(command: &[u8], at: u32) -> Option<Event>
 fn event_of_two(command: &[u8], at: u32, other: u32) -> Option<Event>
     ensures found { IfSome result (λ e. event_words e ≡ command.now ∷ decimal at ∷ decimal other ∷ []) }
     ensures fits { IfSome result Fits }
-    ensures only { IfNone result ((e : Event) → event_words e ≡ command.now ∷ decimal at ∷ decimal other ∷ [] → ⊥) }
+    ensures only { IfNone result ((e : Event) → Fits e → event_words e ≡ command.now ∷ decimal at ∷ decimal other ∷ [] → ⊥) }
 {
     if command == b"adopt".as_slice() {
         Some(Event::Adopt { at, from: other })
     } else if command == b"relay".as_slice() {
         Some(Event::Relay { at, child: other })
+    } else if command == b"act".as_slice() {
+        act(at, other, None)
     } else {
         None
     }
+}
+
+// The event of a command with three numbers.
+fn event_of_three(command: &[u8], at: u32, case: u32, with: u32) -> Option<Event>
+    ensures found { IfSome result (λ e. event_words e ≡ command.now ∷ decimal at ∷ decimal case ∷ decimal with ∷ []) }
+    ensures fits { IfSome result Fits }
+    ensures only { IfNone result ((e : Event) → Fits e → event_words e ≡ command.now ∷ decimal at ∷ decimal case ∷ decimal with ∷ [] → ⊥) }
+{
+    if command == b"act".as_slice() {
+        act(at, case, Some(with))
+    } else {
+        None
+    }
+}
+
+// The action with this case, if it is the number of one.
+fn act(at: u32, case: u32, with: Option<u32>) -> Option<Event>
+    ensures found { IfSome result (λ e. e ≡ Act at case with) }
+    ensures only { IfNone result (256 ≤ case) }
+{
+    if case > u32::from(u8::MAX) {
+        return None;
+    }
+    Some(Event::Act {
+        at,
+        case: case as u8,
+        with,
+    })
 }
 
 /// Writes the line that stands for the event, without a line feed.
@@ -123,7 +132,21 @@ pub fn write_event<W: Write>(event: &Event, out: &mut W) -> Result<(), WriteFaul
         Event::Join { at } => put_command(out, b"join", at),
         Event::Finish { at } => put_command(out, b"finish", at),
         Event::Mend { at } => put_command(out, b"mend", at),
+        Event::Act { at, case, with } => put_act(out, at, case, with),
     }
+}
+
+// Writes an action.
+fn put_act<W: Write>(out: &mut W, at: u32, case: u8, with: Option<u32>) -> Result<(), WriteFault>
+    ensures ok { OnOk result (Appends (W.contents out.old) (W.contents out.new) (event_line (Act at case with))) }
+    ensures err { OnErr result (AppendsFront (W.contents out.old) (W.contents out.new) (event_line (Act at case with))) }
+{
+    put_command_of_two(out, b"act", at, u32::from(case))?;
+    if let Some(near) = with {
+        put_bytes(out, b" ")?;
+        put_number(out, u64::from(near))?;
+    }
+    Ok(())
 }
 
 // Writes a command and its two numbers.
@@ -172,6 +195,13 @@ mod tests {
                 b"mend 4294967295".as_slice(),
                 Event::Mend { at: 4_294_967_295 },
             ),
+            (b"act 3 1 2".as_slice(), action(3, 1, Some(2))),
+            (b"act 3 0".as_slice(), action(3, 0, None)),
+            (b"act 0 255".as_slice(), action(0, 255, None)),
+            (
+                b"act 4294967295 255 4294967295".as_slice(),
+                action(4_294_967_295, 255, Some(4_294_967_295)),
+            ),
         ];
         for (line, event) in lines {
             assert_eq!(rt; read_event(line), Some(event));
@@ -180,6 +210,10 @@ mod tests {
             assert_eq!(rt; out.as_slice(), line);
         }
         Ok(())
+    }
+
+    fn action(at: u32, case: u8, with: Option<u32>) -> Event {
+        Event::Act { at, case, with }
     }
 
     #[test]
@@ -204,21 +238,23 @@ mod tests {
             b"relay 2 01".as_slice(),
             b"relay 2 1 1".as_slice(),
             b"opens 3".as_slice(),
+            b"act".as_slice(),
+            b"act 3".as_slice(),
+            b"act 3 256".as_slice(),
+            b"act 3 256 2".as_slice(),
+            b"act 3 pass 2".as_slice(),
+            b"act 3 1 2 4".as_slice(),
+            b"act 3 01".as_slice(),
+            b"act 3 1 ".as_slice(),
+            b"act 3 1 02".as_slice(),
+            b"act 3  1".as_slice(),
+            b"act 3 1  2".as_slice(),
+            b"act 3 1 4294967296".as_slice(),
+            b"adopt 3 1 2".as_slice(),
         ];
         for line in lines {
             assert_eq!(rt; read_event(line), None);
         }
-    }
-
-    #[test]
-    fn reads_numbers(rt: HostRuntime) {
-        assert_eq!(rt; read_number(b"0"), Some(0));
-        assert_eq!(rt; read_number(b"4294967295"), Some(u32::MAX));
-        assert_eq!(rt; read_number(b"99999999999999999999999"), None);
-        assert_eq!(rt; read_number(b""), None);
-        assert_eq!(rt; read_number(b"-0"), None);
-        assert_eq!(rt; read_number(b"00"), None);
-        assert_eq!(rt; read_number(b"1\xff"), None);
     }
 
     #[test]
@@ -233,14 +269,18 @@ mod tests {
 
     #[test]
     fn stops_at_the_first_fault(rt: HostRuntime) {
-        let event = Event::Relay { at: 70, child: 6 };
-        let line = b"relay 70 6";
-        for fault in [Fault::Error, Fault::Zero] {
-            for stop in 1..=line.len() {
-                let mut out = Slow::new(rt.alloc(), 1, stop, fault);
-                assert_eq!(rt; write_event(&event, &mut out), Err(WriteFault));
-                assert_eq!(rt; out.taken(), &line[..stop - 1]);
-                assert_eq!(rt; out.calls(), stop);
+        let lines = [
+            (b"relay 70 6".as_slice(), Event::Relay { at: 70, child: 6 }),
+            (b"act 70 6 31".as_slice(), action(70, 6, Some(31))),
+        ];
+        for (line, event) in lines {
+            for fault in [Fault::Error, Fault::Zero] {
+                for stop in 1..=line.len() {
+                    let mut out = Slow::new(rt.alloc(), 1, stop, fault);
+                    assert_eq!(rt; write_event(&event, &mut out), Err(WriteFault));
+                    assert_eq!(rt; out.taken(), &line[..stop - 1]);
+                    assert_eq!(rt; out.calls(), stop);
+                }
             }
         }
     }

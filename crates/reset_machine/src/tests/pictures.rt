@@ -1,6 +1,7 @@
 // The local predicates and the pictures of the whole network, over every assignment of registers.
 
 use crate::{Config, Event};
+use app_interface::Idle;
 use std::alloc::Global;
 use std::process::Abort;
 use topology::Topology;
@@ -29,9 +30,9 @@ const IDS: [u32; 3] = [1, 2, 3];
 const BOUND: u32 = 3;
 
 impl Case {
-    fn boot(&self, rt: &impl Abort, alloc: Global) -> Config {
+    fn boot(&self, rt: &impl Abort, alloc: Global) -> Config<Idle> {
         let topology = Topology::build(alloc, &IDS, self.links).expect(rt, "a graph");
-        match Config::boot(alloc, topology) {
+        match Config::<Idle>::boot(alloc, topology) {
             Ok(config) => config,
             Err(_) => panic!(rt; "memory for the graph"),
         }
@@ -75,7 +76,7 @@ fn tree_regs(number: u32) -> TreeRegs {
     }
 }
 
-fn no_tree_row(rt: &impl Abort, alloc: Global, config: &Config) -> bool {
+fn no_tree_row(rt: &impl Abort, alloc: Global, config: &Config<Idle>) -> bool {
     for id in IDS {
         if config.enabled(alloc, id).expect(rt, "a node").tree.count() > 0 {
             return false;
@@ -123,7 +124,7 @@ fn wave_regs(number: u32) -> WaveRegs {
 // Whether the nodes that have the session of node 3 contain their fathers, any other is not reset
 // and one session behind, the father of a reset node is reset, and so is a father that has the
 // session of node 3 before its child.
-fn is_wave(config: &Config, waves: &[WaveRegs; 3]) -> bool {
+fn is_wave(config: &Config<Idle>, waves: &[WaveRegs; 3]) -> bool {
     let newest = waves[2].session;
     for place in 0..3 {
         let Some(tree) = config.tree_at(IDS[place]) else {
@@ -150,7 +151,7 @@ fn is_wave(config: &Config, waves: &[WaveRegs; 3]) -> bool {
     true
 }
 
-fn no_mending_row(rt: &impl Abort, alloc: Global, config: &Config) -> bool {
+fn no_mending_row(rt: &impl Abort, alloc: Global, config: &Config<Idle>) -> bool {
     for id in IDS {
         let rows = config.enabled(alloc, id).expect(rt, "a node").wave;
         if (8..=11).any(|row| rows.has(row)) {

@@ -1,4 +1,4 @@
-use Rattle.std.proofs.Common.{◌≡◌, ◌<◌, ◌==◌, ℕ, length, position, slice_index, Option, Some, Vec, Global, filter, take, take_all, sym, ap, subst, ◌∙◌, arith}
+use Rattle.std.proofs.Common.{◌≡◌, ◌<◌, ◌==◌, ℕ, length, position, slice_index, Some, Vec, Global, filter, take, take_all, sym, ap, subst, ◌∙◌, arith}
 use Rattle.std.proofs.lemmas.Option.{get_or_from_slice_get}
 use Rattle.reset_machine.specs.Configuration.{Configuration}
 use Rattle.reset_machine.specs.Enabled.{has_work, is_ready}
@@ -9,7 +9,7 @@ use Rattle.reset_machine.proofs.enabled.ready_ids.Goals.{then-is_ready+in_ok-pus
 use Rattle.reset_machine.proofs.enabled.ready_ids.Goals as goal
 
 pub enabled_at-requires-clause-place : goal.enabled_at-requires-clause-place
-enabled_at-requires-clause-place c =
+enabled_at-requires-clause-place g c = λ κs within.
     let ids = c.args.topology.now.ids in
     let ix = c.loop-ix.ix in
     let short : ix < length ids = omega (arith, c.loop-ix-test.true, c.len-ix-end.ensures) in
@@ -17,21 +17,23 @@ enabled_at-requires-clause-place c =
     subst (λ id. position (λ i. i == id) ids ≡ Some ix) at (position-place ids ix c.is_graph.ensures.graph.ascending short)
 
 pub loop-ix-preserved : goal.loop-ix-preserved
-loop-ix-preserved c =
-    let conf : Configuration = record { graph = c.args.topology.now; trees = c.args.trees.now; waves = c.args.waves.now } in
+loop-ix-preserved g c =
+    let conf : Configuration g.row.P-Local.Denot = record { graph = c.args.topology.now; trees = c.args.trees.now; waves = c.args.waves.now; locals = c.args.locals.now } in
+    let app = g.P.Application.app in
     let ids = c.args.topology.now.ids in
     let ix = c.loop-ix.ix in
     let short : ix < length ids = omega (arith, c.loop-ix-test.true, c.len-ix-end.ensures) in
     let at : slice_index ids ix ≡ c.get-id.result = get_or_from_slice_get ids ix _ 0 (sym c.id_at.ensures ∙ c.unwrap.ensures) ∙ sym c.get-id.ensures.number in
-    let work : has_work c.in_ok-enabled_at.field-0.tree c.in_ok-enabled_at.field-0.wave ≡ is_ready conf c.get-id.result = ap (λ (r : Enabled). has_work r.tree r.wave) c.in_ok-enabled_at.ensures in
+    let rows = c.in_ok-enabled_at.field-0 in
+    let work : has_work rows.tree rows.wave rows.act ≡ is_ready app conf c.get-id.result = ap (λ (r : Enabled). has_work r.tree r.wave r.act) c.in_ok-enabled_at.ensures in
     elim c.if-is_ready.branch [
-      | then-is_ready+in_ok-push v ↦ kept_next (is_ready conf) ids c.loop-ix.ready.items c.if-is_ready.ready.items ix c.get-id.result short at (sym (v.if-is_ready.ensures ∙ work)) c.loop-ix.invariant (ap (λ (x : Vec ℕ Global). x.items) v.ready-is ∙ v.in_ok-push.ensures.items)
-      | else-is_ready v ↦ rw v.ready-is (left_next (is_ready conf) ids c.loop-ix.ready.items ix c.get-id.result short at (sym (v.if-is_ready.ensures ∙ work)) c.loop-ix.invariant)
+      | then-is_ready+in_ok-push v ↦ kept_next (is_ready app conf) ids c.loop-ix.ready.items c.if-is_ready.ready.items ix c.get-id.result short at (sym (v.if-is_ready.ensures ∙ work)) c.loop-ix.invariant (ap (λ (x : Vec ℕ Global). x.items) v.ready-is ∙ v.in_ok-push.ensures.items)
+      | else-is_ready v ↦ rw v.ready-is (left_next (is_ready app conf) ids c.loop-ix.ready.items ix c.get-id.result short at (sym (v.if-is_ready.ensures ∙ work)) c.loop-ix.invariant)
     ]
 
 pub returns : goal.returns
-returns c =
-    let conf : Configuration = record { graph = c.args.topology.now; trees = c.args.trees.now; waves = c.args.waves.now } in
+returns g c =
+    let conf : Configuration g.row.P-Local.Denot = record { graph = c.args.topology.now; trees = c.args.trees.now; waves = c.args.waves.now; locals = c.args.locals.now } in
     let ids = c.args.topology.now.ids in
     let all : take c.loop-ix.ix ids ≡ ids = take_all c.loop-ix.ix ids (omega (arith, c.loop-ix-test.false, c.len-ix-end.ensures)) in
-    c.loop-ix.invariant ∙ ap (filter (is_ready conf)) all
+    c.loop-ix.invariant ∙ ap (filter (is_ready g.P.Application.app conf)) all

@@ -1,66 +1,75 @@
-use Rattle.std.proofs.Common.{Ok, ◌∙◌, sym, ap}
-use Rattle.reset_machine.specs.Configuration.{tree_map, wave_map}
-use Rattle.reset_machine.specs.Steps.{event_node}
-use Rattle.reset_machine.proofs.ConfigurationSteps.{outcome_is_step, outcome_is_refused, put_tree_outcome, put_wave_outcome, refused_outcome}
-use Rattle.reset_machine.proofs.SoundConfigurations.{step_sound, step_quiet, step_complete, same_value}
+use Rattle.std.proofs.Common.{[], ◌∷◌}
+use Rattle.reset_machine.specs.declared.step.Done.TheVariants.{Did}
+use Rattle.reset_machine.proofs.StepClauses.{act_is_outcome, answer_complete, answer_quiet, answer_refused, answer_reply, answer_sound, answer_step, no_act, row_is_outcome}
+use Rattle.reset_machine.proofs.StepShadows.{one_run, opened_once, step_refines}
 use Rattle.reset_machine.proofs.config.Config.step.Goals as goal
 
-pub returns-in-Tree-clause-outcome : goal.returns-in-Tree-clause-outcome
-returns-in-Tree-clause-outcome c =
-    let exact = rw (c.deref.ensures.value, c.deref-2.ensures.value) at c.in-Ok.ensures.exact in
-    rw (← c.self.view_is) (put_tree_outcome _ _ _ c.args.event _ _ c.self.invariant.trees c.in-Ok.ensures.place (exact ∙ ap Ok c.in-Tree.is))
+pub returns-in-Act-clause-ok : goal.returns-in-Act-clause-ok
+returns-in-Act-clause-ok g c =
+    let app = g.P.Application.app in
+    let now = c.args.self.now in
+    let is = act_is_outcome app now c.act.new.self c.args.event c.in-Act.at c.in-Act.case c.in-Act.with c.in-Act.is c.act.result c.act.ensures.outcome in
+    answer_step app now c.act.new.self c.args.event c.is_graph.ensures.graph c.is_graph.ensures.shaped c.act.result is
 
-pub returns-in-Tree-clause-ok : goal.returns-in-Tree-clause-ok
-returns-in-Tree-clause-ok c =
-    let exact = rw (c.deref.ensures.value, c.deref-2.ensures.value) at c.in-Ok.ensures.exact in
-    rw (← c.self.view_is) (outcome_is_step _ c.args.event _ _ c.is_graph.ensures.graph c.self.invariant (put_tree_outcome _ _ _ c.args.event _ _ c.self.invariant.trees c.in-Ok.ensures.place (exact ∙ ap Ok c.in-Tree.is))).0
+pub returns-in-Act-clause-err : goal.returns-in-Act-clause-err
+returns-in-Act-clause-err g c =
+    let app = g.P.Application.app in
+    let now = c.args.self.now in
+    let is = act_is_outcome app now c.act.new.self c.args.event c.in-Act.at c.in-Act.case c.in-Act.with c.in-Act.is c.act.result c.act.ensures.outcome in
+    answer_refused app now c.act.new.self c.args.event c.is_graph.ensures.graph c.is_graph.ensures.shaped c.act.result is
 
-pub returns-in-Wave-clause-outcome : goal.returns-in-Wave-clause-outcome
-returns-in-Wave-clause-outcome c =
-    let exact = rw (c.deref.ensures.value, c.deref-2.ensures.value) at c.in-Ok.ensures.exact in
-    rw (← c.self.view_is) (put_wave_outcome _ _ _ c.args.event _ _ _ c.self.invariant.waves c.in-Ok.ensures.place (exact ∙ ap Ok c.in-Wave.is) c.reply_to.ensures)
+pub returns-in-Act-clause-refines : goal.returns-in-Act-clause-refines
+returns-in-Act-clause-refines g c =
+    let app = g.P.Application.app in
+    let now = c.args.self.now in
+    let new = c.act.new.self in
+    let graph = c.is_graph.ensures.graph in
+    let whole = c.is_graph.ensures.connected in
+    let shaped = c.is_graph.ensures.shaped in
+    let is = act_is_outcome app now new c.args.event c.in-Act.at c.in-Act.case c.in-Act.with c.in-Act.is c.act.result c.act.ensures.outcome in
+    one_run app now new c.args.event _ c.act.result is (step_refines app now new c.args.event graph whole shaped)
 
-pub returns-in-Wave-clause-ok : goal.returns-in-Wave-clause-ok
-returns-in-Wave-clause-ok c =
-    let exact = rw (c.deref.ensures.value, c.deref-2.ensures.value) at c.in-Ok.ensures.exact in
-    rw (← c.self.view_is) (outcome_is_step _ c.args.event _ _ c.is_graph.ensures.graph c.self.invariant (put_wave_outcome _ _ _ c.args.event _ _ _ c.self.invariant.waves c.in-Ok.ensures.place (exact ∙ ap Ok c.in-Wave.is) c.reply_to.ensures)).0
+pub returns-in-Act-clause-invariant : goal.returns-in-Act-clause-invariant
+returns-in-Act-clause-invariant g c =
+    let app = g.P.Application.app in
+    let now = c.args.self.now in
+    let new = c.act.new.self in
+    let graph = c.is_graph.ensures.graph in
+    let whole = c.is_graph.ensures.connected in
+    let shaped = c.is_graph.ensures.shaped in
+    let is = act_is_outcome app now new c.args.event c.in-Act.at c.in-Act.case c.in-Act.with c.in-Act.is c.act.result c.act.ensures.outcome in
+    one_run app now new c.args.event _ c.act.result is (λ reply run sound inv. c.invariants.ensures.kept now new (c.args.event ∷ []) (Did reply ∷ []) graph whole shaped sound run inv)
 
-pub returns-in-Err-clause-outcome : goal.returns-in-Err-clause-outcome
-returns-in-Err-clause-outcome c = λ other.
-    let exact = rw (c.deref.ensures.value, c.deref-2.ensures.value) at (c.in-Err.ensures.exact other) in
-    rw (← c.self.view_is) (refused_outcome _ c.args.event _ exact)
+pub returns-in-Act-clause-restored : goal.returns-in-Act-clause-restored
+returns-in-Act-clause-restored g c =
+    let app = g.P.Application.app in
+    let now = c.args.self.now in
+    let new = c.act.new.self in
+    let graph = c.is_graph.ensures.graph in
+    let whole = c.is_graph.ensures.connected in
+    let shaped = c.is_graph.ensures.shaped in
+    let is = act_is_outcome app now new c.args.event c.in-Act.at c.in-Act.case c.in-Act.with c.in-Act.is c.act.result c.act.ensures.outcome in
+    one_run app now new c.args.event _ c.act.result is (λ reply run sound opens. c.invariants.ensures.opened now new (c.args.event ∷ []) (Did reply ∷ []) graph whole shaped sound run (opened_once c.args.event reply opens))
 
-pub returns-in-Err-clause-err : goal.returns-in-Err-clause-err
-returns-in-Err-clause-err c = λ other.
-    let exact = rw (c.deref.ensures.value, c.deref-2.ensures.value) at (c.in-Err.ensures.exact other) in
-    rw (← c.self.view_is) (outcome_is_refused _ c.args.event _ c.is_graph.ensures.graph c.self.invariant (refused_outcome _ c.args.event _ exact))
-
-pub returns-in-Tree-clause-sound : goal.returns-in-Tree-clause-sound
-returns-in-Tree-clause-sound c =
-    let exact = rw (c.deref.ensures.value, c.deref-2.ensures.value) at c.in-Ok.ensures.exact in
-    let step = outcome_is_step _ c.args.event _ _ c.is_graph.ensures.graph c.self.invariant (put_tree_outcome _ _ _ c.args.event _ _ c.self.invariant.trees c.in-Ok.ensures.place (exact ∙ ap Ok c.in-Tree.is)) in
-    rw (← c.self.view_is) (λ sound. step_sound _ _ c.args.event c.is_graph.ensures.graph step.0 sound)
-
-pub returns-in-Tree-clause-quiet : goal.returns-in-Tree-clause-quiet
-returns-in-Tree-clause-quiet c =
-    let exact = rw (c.deref.ensures.value, c.deref-2.ensures.value) at c.in-Ok.ensures.exact in
-    let step = outcome_is_step _ c.args.event _ _ c.is_graph.ensures.graph c.self.invariant (put_tree_outcome _ _ _ c.args.event _ _ c.self.invariant.trees c.in-Ok.ensures.place (exact ∙ ap Ok c.in-Tree.is)) in
-    rw (← c.self.view_is) (λ sound repairs. step_quiet _ _ c.args.event step.0 sound repairs)
-
-pub returns-in-Wave-clause-sound : goal.returns-in-Wave-clause-sound
-returns-in-Wave-clause-sound c =
-    let exact = rw (c.deref.ensures.value, c.deref-2.ensures.value) at c.in-Ok.ensures.exact in
-    let step = outcome_is_step _ c.args.event _ _ c.is_graph.ensures.graph c.self.invariant (put_wave_outcome _ _ _ c.args.event _ _ _ c.self.invariant.waves c.in-Ok.ensures.place (exact ∙ ap Ok c.in-Wave.is) c.reply_to.ensures) in
-    rw (← c.self.view_is) (λ sound. step_sound _ _ c.args.event c.is_graph.ensures.graph step.0 sound)
-
-pub returns-in-Wave-clause-quiet : goal.returns-in-Wave-clause-quiet
-returns-in-Wave-clause-quiet c =
-    let exact = rw (c.deref.ensures.value, c.deref-2.ensures.value) at c.in-Ok.ensures.exact in
-    let step = outcome_is_step _ c.args.event _ _ c.is_graph.ensures.graph c.self.invariant (put_wave_outcome _ _ _ c.args.event _ _ _ c.self.invariant.waves c.in-Ok.ensures.place (exact ∙ ap Ok c.in-Wave.is) c.reply_to.ensures) in
-    rw (← c.self.view_is) (λ sound repairs. step_quiet _ _ c.args.event step.0 sound repairs)
-
-pub returns-in-Wave-clause-complete : goal.returns-in-Wave-clause-complete
-returns-in-Wave-clause-complete c =
-    let exact = rw (c.deref.ensures.value, c.deref-2.ensures.value) at c.in-Ok.ensures.exact in
-    let step = outcome_is_step _ c.args.event _ _ c.is_graph.ensures.graph c.self.invariant (put_wave_outcome _ _ _ c.args.event _ _ _ c.self.invariant.waves c.in-Ok.ensures.place (exact ∙ ap Ok c.in-Wave.is) c.reply_to.ensures) in
-    rw (← c.self.view_is) (λ session sound told. step_complete _ _ c.args.event session c.is_graph.ensures.graph c.is_graph.ensures.connected step.0 sound (sym step.1 ∙ same_value told))
+pub returns-in_default : goal.returns-in_default
+returns-in_default g c =
+    let app = g.P.Application.app in
+    let now = c.args.self.now in
+    let new = c.fire.new.self in
+    let r = c.fire.result in
+    let graph = c.is_graph.ensures.graph in
+    let shaped = c.is_graph.ensures.shaped in
+    let is = row_is_outcome app now new c.args.event (no_act c.args.event c.in_default.not-Act) r c.fire.ensures.outcome in
+    record {
+      ok = answer_step app now new c.args.event graph shaped r is;
+      reply = answer_reply app now new c.args.event graph shaped r is;
+      err = answer_refused app now new c.args.event graph shaped r is;
+      kept = c.fire.ensures.kept;
+      sound = answer_sound app now new c.args.event graph shaped r is;
+      quiet = answer_quiet app now new c.args.event graph shaped r is;
+      complete = answer_complete app now new c.args.event graph shaped c.is_graph.ensures.connected r is;
+      refines = one_run app now new c.args.event _ r is (step_refines app now new c.args.event graph c.is_graph.ensures.connected shaped);
+      invariant = one_run app now new c.args.event _ r is (λ reply run sound inv. c.invariants.ensures.kept now new (c.args.event ∷ []) (Did reply ∷ []) graph c.is_graph.ensures.connected shaped sound run inv);
+      restored = one_run app now new c.args.event _ r is (λ reply run sound opens. c.invariants.ensures.opened now new (c.args.event ∷ []) (Did reply ∷ []) graph c.is_graph.ensures.connected shaped sound run (opened_once c.args.event reply opens));
+      outcome = is;
+    }

@@ -1,16 +1,42 @@
-use Rattle.std.proofs.Common.{◌∙◌, sym, ap, nat_lt, cond, length, arith}
+use Rattle.std.proofs.Common.{◌≡◌, ◌||◌, ◌∙◌, sym, ap, nat_lt, cond, length, arith}
 use Rattle.std.proofs.lemmas.Bool.{lt-ltb, le-ltb}
 use Rattle.action_tables.specs.Numbers.{is_among}
+use Rattle.reset_machine.proofs.CaseChoices.{or_left, or_right}
 use Rattle.reset_machine.proofs.Readiness.{work_counted, or_true, or_false}
+use Rattle.reset_machine.proofs.enabled.Enabled.is_ready.Goals.{then-count-gt0, else-count-gt0}
 use Rattle.reset_machine.proofs.enabled.Enabled.is_ready.Goals as goal
 
-pub returns-then-count-gt0 : goal.returns-then-count-gt0
-returns-then-count-gt0 c =
-    let some = lt-ltb 0 (length c.args.self.tree) (omega (arith, c.if-count-gt0.true, c.count.ensures)) in
-    ap (nat_lt 0) c.count.ensures ∙ or_true (nat_lt 0 (length c.args.self.tree)) _ some ∙ sym (work_counted c.args.self.tree c.args.self.wave (λ n. is_among n c.args.self.wave) c.is_listed.ensures)
+pub returns-then-count-count_of : goal.returns-then-count-count_of
+returns-then-count-count_of c =
+    let rows = c.args.self in
+    let trees = nat_lt 0 (length rows.tree) in
+    let waves = nat_lt (cond (is_among 1 rows.wave) 1 0) (length rows.wave) in
+    let counted : c.if-count-gt0.value ≡ (trees || waves) = elim c.if-count-gt0.branch [
+      | then-count-gt0 v ↦
+          let some = lt-ltb 0 (length rows.tree) (omega (arith, v.if-count-gt0.true, c.count.ensures)) in
+          v.value-is ∙ ap (nat_lt 0) c.count.ensures ∙ or_true trees waves some
+      | else-count-gt0 v ↦
+          let none = le-ltb 0 (length rows.tree) (omega (arith, v.if-count-gt0.false, c.count.ensures)) in
+          v.value-is ∙ ap (λ r. nat_lt r v.count-else-count-gt0.result) v.count_of.ensures ∙ ap (λ n. nat_lt (cond (is_among 1 rows.wave) 1 0) n) v.count-else-count-gt0.ensures
+          ∙ or_false trees waves none
+    ] in
+    or_left c.if-count-gt0.value trees waves (nat_lt 0 (length rows.act)) counted c.if-count-count_of.true
+    ∙ sym (work_counted rows.tree rows.wave rows.act (λ n. is_among n rows.wave) c.is_listed.ensures)
 
-pub returns-else-count-gt0 : goal.returns-else-count-gt0
-returns-else-count-gt0 c =
-    let none = le-ltb 0 (length c.args.self.tree) (omega (arith, c.if-count-gt0.false, c.count.ensures)) in
-    ap (λ r. nat_lt r c.count-else-count-gt0.result) c.count_of.ensures ∙ ap (λ n. nat_lt (cond (is_among 1 c.args.self.wave) 1 0) n) c.count-else-count-gt0.ensures
-    ∙ or_false (nat_lt 0 (length c.args.self.tree)) _ none ∙ sym (work_counted c.args.self.tree c.args.self.wave (λ n. is_among n c.args.self.wave) c.is_listed.ensures)
+pub returns-else-count-count_of : goal.returns-else-count-count_of
+returns-else-count-count_of c =
+    let rows = c.args.self in
+    let trees = nat_lt 0 (length rows.tree) in
+    let waves = nat_lt (cond (is_among 1 rows.wave) 1 0) (length rows.wave) in
+    let counted : c.if-count-gt0.value ≡ (trees || waves) = elim c.if-count-gt0.branch [
+      | then-count-gt0 v ↦
+          let some = lt-ltb 0 (length rows.tree) (omega (arith, v.if-count-gt0.true, c.count.ensures)) in
+          v.value-is ∙ ap (nat_lt 0) c.count.ensures ∙ or_true trees waves some
+      | else-count-gt0 v ↦
+          let none = le-ltb 0 (length rows.tree) (omega (arith, v.if-count-gt0.false, c.count.ensures)) in
+          v.value-is ∙ ap (λ r. nat_lt r v.count-else-count-gt0.result) v.count_of.ensures ∙ ap (λ n. nat_lt (cond (is_among 1 rows.wave) 1 0) n) v.count-else-count-gt0.ensures
+          ∙ or_false trees waves none
+    ] in
+    ap (nat_lt 0) c.count-else-count-count_of.ensures
+    ∙ or_right c.if-count-gt0.value trees waves (nat_lt 0 (length rows.act)) counted c.if-count-count_of.false
+    ∙ sym (work_counted rows.tree rows.wave rows.act (λ n. is_among n rows.wave) c.is_listed.ensures)

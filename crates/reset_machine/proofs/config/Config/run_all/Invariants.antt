@@ -3,9 +3,9 @@ use Rattle.std.proofs.Common.{◌≡◌, ◌≤◌, length, take}
 use Rattle.std.specs.Vec.{vec_capacity}
 use Rattle.reset_machine.specs.Runs.{IsRun}
 use Rattle.reset_machine.specs.Sound.{IsSound}
-use Rattle.reset_machine.proofs.config.Config.run.Given as goal
+use Rattle.reset_machine.proofs.config.Config.run_all.Given as goal
 
 abbrev pub invariant-loop-event : goal.invariant-loop-event
-invariant-loop-event l =
-    IsRun l.initial.self (take l.event-index l.events) l.answers.items l.self × (length l.answers.items ≡ l.event-index) × (length l.events ≤ vec_capacity l.answers)
+invariant-loop-event g l =
+    IsRun g.P.Application.app l.initial.self (take l.event-index l.events) l.answers.items l.self × (length l.answers.items ≡ l.event-index) × (length l.events ≤ vec_capacity l.answers)
     × (IsSound l.initial.self → IsSound l.self)
