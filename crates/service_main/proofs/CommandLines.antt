@@ -1,19 +1,20 @@
 -- A command's line has the command's words, and no other command has them.
 use Rattle.std.specs.Prelude.{codes}
-use Rattle.std.proofs.Common.{◌≡◌, ◌≢◌, ℕ, ◌<◌, ◌^◌, List, [], ◌∷◌, refl, sym, ap, ◌∙◌, arith, get_or}
+use Rattle.std.proofs.Common.{◌≡◌, ◌≢◌, ℕ, ◌<◌, ◌^◌, false, List, [], ◌∷◌, refl, sym, ap, ◌∙◌, true≢false, arith, get_or, Option}
 use Rattle.std.specs.Fmt.{decimal}
 use Rattle.reset_machine.specs.EventText.{event_words, event_line, Fits}
+use Rattle.reset_machine.specs.Steps.{is_act}
 use Rattle.reset_machine.specs.Words.{words_of}
 use Rattle.reset_machine.specs.declared.event.Event.{Event}
-use Rattle.reset_machine.specs.declared.event.Event.TheVariants.{Claim, Follow, Adopt, Request, Relay, Open, Join, Finish, Mend}
-use Rattle.reset_machine.proofs.EventLines.{words_of-decimal, words_of-event_line}
+use Rattle.reset_machine.specs.declared.event.Event.TheVariants.{Claim, Follow, Adopt, Request, Relay, Open, Join, Finish, Mend, Act}
+use Rattle.reset_machine.proofs.EventLines.{one_event, words_of-decimal, words_of-event_line}
 use Rattle.reset_machine.proofs.WordLines.{words_of-some, line-words}
 use Rattle.service_main.specs.declared.script.Command.{Command}
 use Rattle.service_main.specs.declared.script.Command.TheVariants.{Step, Show, ShowNode, Enabled, Ready}
 use Rattle.service_main.specs.Script.{command_words, command_line, CommandFits}
 
 pub words_of-command_line : (c : Command) → CommandFits c → words_of (command_line c) ≡ command_words c
-words_of-command_line (Step e) h = words_of-event_line e h
+words_of-command_line (Step e) h = words_of-event_line e h.0
 words_of-command_line Show h = refl
 words_of-command_line (ShowNode at) h = ap (λ ws. codes "show" ∷ ws) (words_of-decimal at h)
 words_of-command_line (Enabled at) h = ap (λ ws. codes "enabled" ∷ ws) (words_of-decimal at h)
@@ -33,6 +34,7 @@ event_not_one (Open at) w h = cc
 event_not_one (Join at) w h = cc
 event_not_one (Finish at) w h = cc
 event_not_one (Mend at) w h = cc
+event_not_one (Act at case with) w h = cc
 
 abbrev pub first_byte : List (List ℕ) → ℕ
 first_byte [] = 0
@@ -48,6 +50,7 @@ event_not_show (Open at) ws h = omega (arith, ap first_byte h)
 event_not_show (Join at) ws h = omega (arith, ap first_byte h)
 event_not_show (Finish at) ws h = omega (arith, ap first_byte h)
 event_not_show (Mend at) ws h = omega (arith, ap first_byte h)
+event_not_show (Act at case with) ws h = omega (arith, ap first_byte h)
 
 pub event_not_enabled : (e : Event) (ws : List (List ℕ)) → event_words e ≡ codes "enabled" ∷ ws → ⊥
 event_not_enabled (Claim at) ws h = omega (arith, ap first_byte h)
@@ -59,6 +62,7 @@ event_not_enabled (Open at) ws h = omega (arith, ap first_byte h)
 event_not_enabled (Join at) ws h = omega (arith, ap first_byte h)
 event_not_enabled (Finish at) ws h = omega (arith, ap first_byte h)
 event_not_enabled (Mend at) ws h = omega (arith, ap first_byte h)
+event_not_enabled (Act at case with) ws h = omega (arith, ap first_byte h)
 
 -- a line of one word other than `show` and `ready` is no command
 pub one_word_only : (line : List ℕ) → words_of line ≡ line ∷ [] → line ≢ codes "show" → line ≢ codes "ready" → (c : Command) → CommandFits c → line ≡ command_line c → ⊥
@@ -99,9 +103,9 @@ enabled_only line word rest split enabled none c fits is =
     only Ready fits w = words_of-some rest (cc)
 
 -- a line of more words that begins with neither `show` nor `enabled` is a command only as an event
-pub event_only : (line word rest : List ℕ) → words_of line ≡ word ∷ words_of rest → word ≢ codes "show" → word ≢ codes "enabled" → ((e : Event) → Fits e → line ≡ event_line e → ⊥)
+pub event_only : (line word rest : List ℕ) → words_of line ≡ word ∷ words_of rest → word ≢ codes "show" → word ≢ codes "enabled" → ((e : Event) → Fits e → is_act e ≡ false → line ≡ event_line e → ⊥)
     → (c : Command) → CommandFits c → line ≡ command_line c → ⊥
-event_only line word rest split show enabled none (Step e) fits is = none e fits is
+event_only line word rest split show enabled none (Step e) fits is = none e fits.0 fits.1 is
 event_only line word rest split show enabled none Show fits is = let w = same_words line Show fits is ∙ split in words_of-some rest (cc)
 event_only line word rest split show enabled none (ShowNode at) fits is = let w = same_words line (ShowNode at) fits is ∙ split in show (cc)
 event_only line word rest split show enabled none (Enabled at) fits is = let w = same_words line (Enabled at) fits is ∙ split in enabled (cc)
@@ -118,3 +122,9 @@ pub enabled_found : (line word rest : List ℕ) (n : ℕ) → words_of line ≡ 
 enabled_found line word rest n split enabled number small =
     line-words line (command_words (Enabled n))
     (split ∙ ap (λ w. w ∷ words_of rest) enabled ∙ ap (λ r. codes "enabled" ∷ words_of r) number ∙ ap (λ ws. codes "enabled" ∷ ws) (words_of-decimal n small))
+
+-- an action's line is the line of no event of the two tables
+pub no_other_act : (line : List ℕ) (at case : ℕ) (with : Option ℕ) → Fits (Act at case with) → line ≡ event_line (Act at case with) → (e : Event) → Fits e → is_act e ≡ false → line ≡ event_line e → ⊥
+no_other_act line at case with acts is e fits row line_is =
+    let same : e ≡ Act at case with = one_event e (Act at case with) fits acts (sym line_is ∙ is) in
+    true≢false (sym (ap is_act same) ∙ row)

@@ -1,6 +1,6 @@
 -- The command of a line is the one that has this line.
 use Rattle.std.specs.Prelude.{codes}
-use Rattle.std.proofs.Common.{◌≡◌, ℕ, ◌<◌, ◌^◌, ltb, Bool, true, false, ◌&&◌, cond, if◌then◌else◌, ◌⊎◌, inl, inr, List, [], ◌∷◌, refl, sym, ap, ◌∙◌, arith, length, Option, Some, None, IfSome, IfNone}
+use Rattle.std.proofs.Common.{◌≡◌, ℕ, ◌<◌, ◌^◌, ltb, Bool, true, false, ◌&&◌, cond, if◌then◌else◌, ◌⊎◌, inl, inr, List, [], ◌∷◌, refl, sym, ap, ◌∙◌, true≢false, arith, length, Option, Some, None, IfSome, IfNone}
 use Rattle.std.specs.Fmt.{decimal}
 use Rattle.std.specs.List.{find, join_with_byte}
 use Rattle.std.specs.Str.{bytes_eq}
@@ -9,7 +9,7 @@ use Rattle.std.proofs.lemmas.Bool.Decides.{nat_tests}
 use Rattle.std.proofs.lemmas.Fmt.{decimal_injective, decimal_is_IsNumeral}
 use Rattle.std.proofs.lemmas.Slice.Eq.{bytes_eq-Decides}
 use Rattle.reset_machine.specs.Words.{words_of}
-use Rattle.reset_machine.specs.declared.event.Event.TheVariants.{Claim, Follow, Adopt, Request, Relay, Open, Join, Finish, Mend}
+use Rattle.reset_machine.specs.declared.event.Event.TheVariants.{Claim, Follow, Adopt, Request, Relay, Open, Join, Finish, Mend, Act}
 use Rattle.reset_machine.proofs.EventLines.{one_event}
 use Rattle.service_main.specs.declared.script.Command.{Command}
 use Rattle.service_main.specs.declared.script.Command.TheVariants.{Step, Show, ShowNode, Enabled, Ready}
@@ -19,7 +19,7 @@ use Rattle.service_main.proofs.CommandLines.{words_of-command_line, same_words, 
 -- ---- no two commands have one line
 
 one_by_words : (c d : Command) → CommandFits c → CommandFits d → command_words c ≡ command_words d → c ≡ d
-one_by_words (Step e) (Step f) p q h = ap Step (one_event e f p q (ap (join_with_byte 32) h))
+one_by_words (Step e) (Step f) p q h = ap Step (one_event e f p.0 q.0 (ap (join_with_byte 32) h))
 one_by_words (Step e) Show p q h = absurd (event_not_show e [] h)
 one_by_words (Step e) (ShowNode b) p q h = absurd (event_not_show e (decimal b ∷ []) h)
 one_by_words (Step e) (Enabled b) p q h = absurd (event_not_enabled e (decimal b ∷ []) h)
@@ -54,15 +54,16 @@ value : (n : ℕ) → n < 2 ^ 32 → digits_value 10 (decimal n) ≡ n
 value n h = (decimal_is_IsNumeral n (omega arith)).1
 
 first_below : (c : Command) → CommandFits c → number_at (command_words c) 1 < 2 ^ 32
-first_below (Step (Claim a)) h = rw (value a h) h
-first_below (Step (Follow a)) h = rw (value a h) h
-first_below (Step (Adopt a b)) h = rw (value a h.0) h.0
-first_below (Step (Request a)) h = rw (value a h) h
-first_below (Step (Relay a b)) h = rw (value a h.0) h.0
-first_below (Step (Open a)) h = rw (value a h) h
-first_below (Step (Join a)) h = rw (value a h) h
-first_below (Step (Finish a)) h = rw (value a h) h
-first_below (Step (Mend a)) h = rw (value a h) h
+first_below (Step (Claim a)) h = rw (value a h.0) h.0
+first_below (Step (Follow a)) h = rw (value a h.0) h.0
+first_below (Step (Adopt a b)) h = rw (value a h.0.0) h.0.0
+first_below (Step (Request a)) h = rw (value a h.0) h.0
+first_below (Step (Relay a b)) h = rw (value a h.0.0) h.0.0
+first_below (Step (Open a)) h = rw (value a h.0) h.0
+first_below (Step (Join a)) h = rw (value a h.0) h.0
+first_below (Step (Finish a)) h = rw (value a h.0) h.0
+first_below (Step (Mend a)) h = rw (value a h.0) h.0
+first_below (Step (Act a c w)) h = absurd (true≢false h.1)
 first_below Show h = omega arith
 first_below (ShowNode a) h = rw (value a h) h
 first_below (Enabled a) h = rw (value a h) h
@@ -71,13 +72,14 @@ first_below Ready h = omega arith
 second_below : (c : Command) → CommandFits c → number_at (command_words c) 2 < 2 ^ 32
 second_below (Step (Claim a)) h = omega arith
 second_below (Step (Follow a)) h = omega arith
-second_below (Step (Adopt a b)) h = rw (value b h.1) h.1
+second_below (Step (Adopt a b)) h = rw (value b h.0.1) h.0.1
 second_below (Step (Request a)) h = omega arith
-second_below (Step (Relay a b)) h = rw (value b h.1) h.1
+second_below (Step (Relay a b)) h = rw (value b h.0.1) h.0.1
 second_below (Step (Open a)) h = omega arith
 second_below (Step (Join a)) h = omega arith
 second_below (Step (Finish a)) h = omega arith
 second_below (Step (Mend a)) h = omega arith
+second_below (Step (Act a c w)) h = absurd (true≢false h.1)
 second_below Show h = omega arith
 second_below (ShowNode a) h = omega arith
 second_below (Enabled a) h = omega arith
@@ -98,22 +100,23 @@ among Show h = inl refl
 among (ShowNode a) h = inr (inl (ap ShowNode (sym (value a h))))
 among (Enabled a) h = inr (inr (inl (ap Enabled (sym (value a h)))))
 among Ready h = inr (inr (inr (inl refl)))
-among (Step (Claim a)) h = inr (inr (inr (inr (inl (ap (λ n. Step (Claim n)) (sym (value a h)))))))
-among (Step (Follow a)) h = inr (inr (inr (inr (inr (inl (ap (λ n. Step (Follow n)) (sym (value a h))))))))
-among (Step (Adopt a b)) h = inr (inr (inr (inr (inr (inr (inl (ap (λ n. Step (Adopt n b)) (sym (value a h.0)) ∙ ap (λ n. Step (Adopt (digits_value 10 (decimal a)) n)) (sym (value b h.1)))))))))
-among (Step (Request a)) h = inr (inr (inr (inr (inr (inr (inr (inl (ap (λ n. Step (Request n)) (sym (value a h))))))))))
-among (Step (Relay a b)) h = inr (inr (inr (inr (inr (inr (inr (inr (inl (ap (λ n. Step (Relay n b)) (sym (value a h.0)) ∙ ap (λ n. Step (Relay (digits_value 10 (decimal a)) n)) (sym (value b h.1)))))))))))
-among (Step (Open a)) h = inr (inr (inr (inr (inr (inr (inr (inr (inr (inl (ap (λ n. Step (Open n)) (sym (value a h))))))))))))
-among (Step (Join a)) h = inr (inr (inr (inr (inr (inr (inr (inr (inr (inr (inl (ap (λ n. Step (Join n)) (sym (value a h)))))))))))))
-among (Step (Finish a)) h = inr (inr (inr (inr (inr (inr (inr (inr (inr (inr (inr (inl (ap (λ n. Step (Finish n)) (sym (value a h))))))))))))))
-among (Step (Mend a)) h = inr (inr (inr (inr (inr (inr (inr (inr (inr (inr (inr (inr (inl (ap (λ n. Step (Mend n)) (sym (value a h)))))))))))))))
+among (Step (Claim a)) h = inr (inr (inr (inr (inl (ap (λ n. Step (Claim n)) (sym (value a h.0)))))))
+among (Step (Follow a)) h = inr (inr (inr (inr (inr (inl (ap (λ n. Step (Follow n)) (sym (value a h.0))))))))
+among (Step (Adopt a b)) h = inr (inr (inr (inr (inr (inr (inl (ap (λ n. Step (Adopt n b)) (sym (value a h.0.0)) ∙ ap (λ n. Step (Adopt (digits_value 10 (decimal a)) n)) (sym (value b h.0.1)))))))))
+among (Step (Request a)) h = inr (inr (inr (inr (inr (inr (inr (inl (ap (λ n. Step (Request n)) (sym (value a h.0))))))))))
+among (Step (Relay a b)) h = inr (inr (inr (inr (inr (inr (inr (inr (inl (ap (λ n. Step (Relay n b)) (sym (value a h.0.0)) ∙ ap (λ n. Step (Relay (digits_value 10 (decimal a)) n)) (sym (value b h.0.1)))))))))))
+among (Step (Open a)) h = inr (inr (inr (inr (inr (inr (inr (inr (inr (inl (ap (λ n. Step (Open n)) (sym (value a h.0))))))))))))
+among (Step (Join a)) h = inr (inr (inr (inr (inr (inr (inr (inr (inr (inr (inl (ap (λ n. Step (Join n)) (sym (value a h.0)))))))))))))
+among (Step (Finish a)) h = inr (inr (inr (inr (inr (inr (inr (inr (inr (inr (inr (inl (ap (λ n. Step (Finish n)) (sym (value a h.0))))))))))))))
+among (Step (Mend a)) h = inr (inr (inr (inr (inr (inr (inr (inr (inr (inr (inr (inr (inl (ap (λ n. Step (Mend n)) (sym (value a h.0)))))))))))))))
+among (Step (Act a c w)) h = absurd (true≢false h.1)
 
 abbrev AllFit : List Command → Type 0
 AllFit [] = Unit {0}
 AllFit (c ∷ cs) = CommandFits c × AllFit cs
 
 all_fit : (m n : ℕ) → m < 2 ^ 32 → n < 2 ^ 32 → AllFit (commands_with m n)
-all_fit m n p q = (tt, (p, (p, (tt, (p, (p, ((p, q), (p, ((p, q), (p, (p, (p, (p, tt)))))))))))))
+all_fit m n p q = (tt, (p, (p, (tt, ((p, refl), ((p, refl), (((p, q), refl), ((p, refl), (((p, q), refl), ((p, refl), ((p, refl), ((p, refl), ((p, refl), tt)))))))))))))
 
 -- ---- what the search for a line finds
 

@@ -2,12 +2,12 @@
 use Rattle.std.proofs.Common.{◌≡◌, ◌≢◌, ℕ, zero, suc, ◌<◌, nat_eq, Bool, true, false, ◌||◌, if◌then◌else◌, List, [], ◌∷◌, refl, sym, ap, ◌∙◌, Some, None, arith, length, get_or, Contains}
 use Rattle.std.specs.List.{list_any, slice_get}
 use Rattle.std.proofs.lemmas.Bool.Decides.{nat_tests}
+use Rattle.app_interface.specs.Idle.{idle}
 use Rattle.topology.specs.Graph.{IsNode}
-use Rattle.reset_machine.specs.Configuration.{Configuration}
 use Rattle.reset_machine.specs.declared.step.StepRefusal.TheVariants.{StrangeNode}
 use Rattle.reset_machine.specs.Enabled.{enabled_rows, ready_of}
 use Rattle.reset_machine.specs.declared.enabled.Enabled.{Enabled}
-use Rattle.service_main.specs.Output.{answered, enabled_line, enabled_text, ready_line, ready_text, shown, refusal_text}
+use Rattle.service_main.specs.Output.{IdleConfiguration, answered, enabled_line, enabled_text, ready_line, ready_text, shown, refusal_text}
 use Rattle.service_main.specs.declared.script.Command.TheVariants.{ShowNode}
 use Rattle.service_main.specs.declared.script.Command.TheVariants as command
 
@@ -34,10 +34,10 @@ absent (x ∷ xs) i h =
     let apart : x ≢ i = λ e. h (0, omega arith, e) in
     or_neither (nat_eq x i) (list_any (λ n. nat_eq n i) xs) (grind (arith, nat_tests)) (absent xs i (λ m. h (suc m.0, omega (arith, m.1), m.2)))
 
-pub shown_node : (c : Configuration) (i : ℕ) → IsNode c.graph i → (answered c (ShowNode i)).1 ≡ shown c i
+pub shown_node : (c : IdleConfiguration) (i : ℕ) → IsNode c.graph i → (answered c (ShowNode i)).1 ≡ shown c i
 shown_node c i node = ap (λ (b : Bool). if b then shown c i else refusal_text StrangeNode) (present c.graph.ids i node.0 node.1 node.2)
 
-pub shown_none : (c : Configuration) (i : ℕ) → (IsNode c.graph i → ⊥) → (answered c (ShowNode i)).1 ≡ refusal_text StrangeNode
+pub shown_none : (c : IdleConfiguration) (i : ℕ) → (IsNode c.graph i → ⊥) → (answered c (ShowNode i)).1 ≡ refusal_text StrangeNode
 shown_none c i none = ap (λ (b : Bool). if b then shown c i else refusal_text StrangeNode) (absent c.graph.ids i none)
 
 got : (ids : List ℕ) (i n : ℕ) → slice_get ids i ≡ Some n → (i < length ids) × (get_or ids i n ≡ n)
@@ -46,7 +46,7 @@ got (x ∷ xs) zero n h = (omega arith, cc)
 got (x ∷ xs) (suc i) n h = let rest = got xs i n h in (omega (arith, rest.0), rest.1)
 
 -- the i-th node is shown
-pub shown_here : (c : Configuration) (i n : ℕ) → slice_get c.graph.ids i ≡ Some n → (i < length c.graph.ids) × ((answered c (ShowNode n)).1 ≡ shown c (get_or c.graph.ids i n))
+pub shown_here : (c : IdleConfiguration) (i n : ℕ) → slice_get c.graph.ids i ≡ Some n → (i < length c.graph.ids) × ((answered c (ShowNode n)).1 ≡ shown c (get_or c.graph.ids i n))
 shown_here c i n h =
     let at = got c.graph.ids i n h in
     (at.0, shown_node c n (i, at.0, at.1) ∙ ap (shown c) (sym at.1))
@@ -58,17 +58,17 @@ got_some (x ∷ xs) (suc i) inside h = got_some xs i (omega arith) h
 
 -- ---- enabled rows
 
-enabled_line-is : (c : Configuration) (i : ℕ) (rows : Enabled) → rows ≡ enabled_rows c i → enabled_line c i ≡ enabled_text i rows
+enabled_line-is : (c : IdleConfiguration) (i : ℕ) (rows : Enabled) → rows ≡ enabled_rows idle c i → enabled_line c i ≡ enabled_text i rows
 unfolding enabled_line
 enabled_line-is c i rows is = ap (enabled_text i) (sym is)
 
-pub enabled_node : (c : Configuration) (i : ℕ) (rows : Enabled) → IsNode c.graph i → rows ≡ enabled_rows c i → (answered c (command.Enabled i)).1 ≡ enabled_text i rows
+pub enabled_node : (c : IdleConfiguration) (i : ℕ) (rows : Enabled) → IsNode c.graph i → rows ≡ enabled_rows idle c i → (answered c (command.Enabled i)).1 ≡ enabled_text i rows
 enabled_node c i rows node is =
     ap (λ (b : Bool). if b then enabled_line c i else refusal_text StrangeNode) (present c.graph.ids i node.0 node.1 node.2) ∙ enabled_line-is c i rows is
 
-pub enabled_none : (c : Configuration) (i : ℕ) → (IsNode c.graph i → ⊥) → (answered c (command.Enabled i)).1 ≡ refusal_text StrangeNode
+pub enabled_none : (c : IdleConfiguration) (i : ℕ) → (IsNode c.graph i → ⊥) → (answered c (command.Enabled i)).1 ≡ refusal_text StrangeNode
 enabled_none c i none = ap (λ (b : Bool). if b then enabled_line c i else refusal_text StrangeNode) (absent c.graph.ids i none)
 
-pub ready_line-is : (c : Configuration) (ids : List ℕ) → ids ≡ ready_of c → ready_line c ≡ ready_text ids
+pub ready_line-is : (c : IdleConfiguration) (ids : List ℕ) → ids ≡ ready_of idle c → ready_line c ≡ ready_text ids
 unfolding ready_line
 ready_line-is c ids is = ap ready_text (sym is)

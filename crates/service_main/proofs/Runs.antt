@@ -3,11 +3,10 @@ use Rattle.std.proofs.Common.{◌≡◌, ◌≢◌, ℕ, ◌+◌, List, [], ◌�
 use Rattle.std.specs.Prelude.{IsErrAnd}
 use Rattle.std.specs.Io.KnownBytes.{Appends}
 use Rattle.std.proofs.KnownBytes.{Appends-trans, Keeps-refl}
-use Rattle.reset_machine.specs.Configuration.{Configuration}
 use Rattle.action_tables.specs.Written.{AppendsFront}
 use Rattle.action_tables.proofs.Fronts.{AppendsFront-first, AppendsFront-then}
 use Rattle.service_main.specs.Script.{line_of}
-use Rattle.service_main.specs.Output.{answer_to, answers, followed, Answer, Leaves, HasFront}
+use Rattle.service_main.specs.Output.{IdleConfiguration, answer_to, answers, followed, Answer, Leaves, HasFront}
 use Rattle.service_main.specs.declared.status.Status.{Status}
 use Rattle.service_main.specs.declared.status.Status.TheVariants.{Good, BadInput}
 use Rattle.service_main.specs.declared.status.RunStop.{RunStop}
@@ -18,12 +17,12 @@ Output = List ℕ × Status
 
 -- ---- one line
 
-pub answers-more : (c : Configuration) (n : ℕ) (line : List ℕ) (lines : List (List ℕ))
+pub answers-more : (c : IdleConfiguration) (n : ℕ) (line : List ℕ) (lines : List (List ℕ))
     → answers c n (line ∷ lines) ≡ followed (answer_to c n (line_of line)).status (answer_to c n (line_of line)).text (answers (answer_to c n (line_of line)).config (n + 1) lines)
 unfolding answers
 answers-more c n line lines = refl
 
-pub answers-none : (c : Configuration) (n : ℕ) → answers c n [] ≡ ([], Good)
+pub answers-none : (c : IdleConfiguration) (n : ℕ) → answers c n [] ≡ ([], Good)
 unfolding answers
 answers-none c n = refl
 
@@ -41,11 +40,11 @@ front_of done text BadInput rest = ([], sym (append-nil (done ++ text)))
 
 -- ---- the lines that are left, after `done` was written
 
-one_more : (all : Output) (done : List ℕ) (c : Configuration) (n : ℕ) (lines later : List (List ℕ)) (line : List ℕ) → all ≡ followed Good done (answers c n lines) → lines ≡ line ∷ later
+one_more : (all : Output) (done : List ℕ) (c : IdleConfiguration) (n : ℕ) (lines later : List (List ℕ)) (line : List ℕ) → all ≡ followed Good done (answers c n lines) → lines ≡ line ∷ later
     → all ≡ followed Good done (followed (answer_to c n (line_of line)).status (answer_to c n (line_of line)).text (answers (answer_to c n (line_of line)).config (n + 1) later))
 one_more all done c n lines later line p q = p ∙ ap (λ ls. followed Good done (answers c n ls)) q ∙ ap (followed Good done) (answers-more c n line later)
 
-pub left_good : (all : Output) (done : List ℕ) (c after : Configuration) (n : ℕ) (lines later : List (List ℕ)) (line : List ℕ) → all ≡ followed Good done (answers c n lines) → lines ≡ line ∷ later
+pub left_good : (all : Output) (done : List ℕ) (c after : IdleConfiguration) (n : ℕ) (lines later : List (List ℕ)) (line : List ℕ) → all ≡ followed Good done (answers c n lines) → lines ≡ line ∷ later
     → (answer_to c n (line_of line)).status ≡ Good → after ≡ (answer_to c n (line_of line)).config
     → all ≡ followed Good (done ++ (answer_to c n (line_of line)).text) (answers after (n + 1) later)
 left_good all done c after n lines later line p q good same =
@@ -54,13 +53,13 @@ left_good all done c after n lines later line p q good same =
     one_more all done c n lines later line p q ∙ ap (λ s. followed Good done (followed s a.text rest)) good ∙ good_then done a.text rest
     ∙ ap (λ x. followed Good (done ++ a.text) (answers x (n + 1) later)) (sym same)
 
-pub left_bad : (all : Output) (done : List ℕ) (c : Configuration) (n : ℕ) (lines later : List (List ℕ)) (line : List ℕ) → all ≡ followed Good done (answers c n lines) → lines ≡ line ∷ later
+pub left_bad : (all : Output) (done : List ℕ) (c : IdleConfiguration) (n : ℕ) (lines later : List (List ℕ)) (line : List ℕ) → all ≡ followed Good done (answers c n lines) → lines ≡ line ∷ later
     → (answer_to c n (line_of line)).status ≡ BadInput → all ≡ (done ++ (answer_to c n (line_of line)).text, BadInput)
 left_bad all done c n lines later line p q bad =
     let a : Answer = answer_to c n (line_of line) in
     one_more all done c n lines later line p q ∙ ap (λ s. followed Good done (followed s a.text (answers a.config (n + 1) later))) bad
 
-pub left_last : (all : Output) (done : List ℕ) (c : Configuration) (n : ℕ) (lines : List (List ℕ)) (line : List ℕ) → all ≡ followed Good done (answers c n lines) → lines ≡ line ∷ []
+pub left_last : (all : Output) (done : List ℕ) (c : IdleConfiguration) (n : ℕ) (lines : List (List ℕ)) (line : List ℕ) → all ≡ followed Good done (answers c n lines) → lines ≡ line ∷ []
     → all ≡ (done ++ (answer_to c n (line_of line)).text, (answer_to c n (line_of line)).status)
 left_last all done c n lines line p q =
     let a : Answer = answer_to c n (line_of line) in
@@ -79,7 +78,7 @@ front_whole all a b d done text tail e p q =
     let P : List ℕ → Type 0 = λ l. AppendsFront a d l in
     subst P (sym e) (AppendsFront-first a d (done ++ text) tail (AppendsFront-then a b d done text p q))
 
-pub left_stop : (all : Output) (a b d : Option (List ℕ)) (done : List ℕ) (c : Configuration) (n : ℕ) (lines later : List (List ℕ)) (line : List ℕ) (s : RunStop)
+pub left_stop : (all : Output) (a b d : Option (List ℕ)) (done : List ℕ) (c : IdleConfiguration) (n : ℕ) (lines later : List (List ℕ)) (line : List ℕ) (s : RunStop)
     → all ≡ followed Good done (answers c n lines) → lines ≡ line ∷ later → Appends a b done → AppendsFront b d (answer_to c n (line_of line)).text → s ≢ ReadFailed
     → Leaves (λ o. o ≡ all) a d (Err s)
 left_stop all a b d done c n lines later line s p q before here other =
@@ -88,7 +87,7 @@ left_stop all a b d done c n lines later line s p q before here other =
     leaves_stop (λ o. o ≡ all) a d s other
     (all, refl, front_whole all a b d done x.text tail.0 (ap (λ (o : Output). o.0) (one_more all done c n lines later line p q) ∙ tail.1) before here)
 
-pub left_result : (all : Output) (a b d : Option (List ℕ)) (done : List ℕ) (c c' : Configuration) (n : ℕ) (lines : List (List ℕ)) (line : List ℕ) (r : Result Status RunStop)
+pub left_result : (all : Output) (a b d : Option (List ℕ)) (done : List ℕ) (c c' : IdleConfiguration) (n : ℕ) (lines : List (List ℕ)) (line : List ℕ) (r : Result Status RunStop)
     → all ≡ followed Good done (answers c n lines) → lines ≡ line ∷ [] → Appends a b done
     → IfOk r (λ s. (s ≡ (answer_to c n (line_of line)).status) × (c' ≡ (answer_to c n (line_of line)).config) × Appends b d (answer_to c n (line_of line)).text)
     → OnErr r (AppendsFront b d (answer_to c n (line_of line)).text) → IfErr r (λ s. s ≢ ReadFailed) → Leaves (λ o. o ≡ all) a d r

@@ -20,7 +20,8 @@ use Rattle.wave_layer.specs.declared.regs.Phase.TheVariants.{Normal, Initiate, R
 use Rattle.reset_machine.specs.declared.step.Reply.{Reply}
 use Rattle.reset_machine.specs.declared.step.Reply.TheVariants.{Applied, Complete}
 use Rattle.reset_machine.specs.declared.step.StepRefusal.{StepRefusal}
-use Rattle.reset_machine.specs.declared.step.StepRefusal.TheVariants.{StrangeNode, StrangeNeighbour, NotEnabled, SessionsSpent, NoMemory}
+use Rattle.reset_machine.specs.declared.step.StepRefusal.TheVariants.{StrangeNode, StrangeNeighbour, NoSuchCase, WantsNeighbour, TakesNoNeighbour, Disagrees, NotEnabled, SessionsSpent, NoMemory}
+use Rattle.app_interface.specs.Idle.{idle}
 use Rattle.reset_machine.specs.Configuration.{Configuration, tree_of, wave_of}
 use Rattle.reset_machine.specs.Outcome.{IsBoot, outcome_of}
 use Rattle.reset_machine.specs.Enabled.{enabled_rows, ready_of}
@@ -57,6 +58,10 @@ reply_text (Complete session) = numbered (codes "complete ") session
 abbrev pub refusal_text : StepRefusal → List ℕ
 refusal_text StrangeNode = ended (codes "refused StrangeNode")
 refusal_text StrangeNeighbour = ended (codes "refused StrangeNeighbour")
+refusal_text NoSuchCase = ended (codes "refused NoSuchCase")
+refusal_text WantsNeighbour = ended (codes "refused WantsNeighbour")
+refusal_text TakesNoNeighbour = ended (codes "refused TakesNoNeighbour")
+refusal_text (Disagrees n) = numbered (codes "refused Disagrees ") n
 refusal_text NotEnabled = ended (codes "refused NotEnabled")
 refusal_text SessionsSpent = ended (codes "refused SessionsSpent")
 refusal_text NoMemory = ended (codes "refused NoMemory")
@@ -117,26 +122,30 @@ bad_line_text n = numbered (codes "bad line ") n
 
 -- ---- answers
 
+-- a configuration of the application that idles: the program has no other yet
+abbrev pub IdleConfiguration : Type 0
+IdleConfiguration = Configuration (Unit {0})
+
 -- what a configuration becomes, and what is written
-abbrev pub stepped : Configuration → Result (Configuration × Reply) StepRefusal → Configuration × List ℕ
+abbrev pub stepped : IdleConfiguration → Result (IdleConfiguration × Reply) StepRefusal → IdleConfiguration × List ℕ
 stepped c (Ok r) = (r.0, reply_text r.1)
 stepped c (Err refusal) = (c, refusal_text refusal)
 
 -- the line of a node, as its registers stand
-abbrev pub shown : Configuration → ℕ → List ℕ
+abbrev pub shown : IdleConfiguration → ℕ → List ℕ
 shown c i = node_text i (tree_of c i) (wave_of c i)
 
 -- the line that names the enabled rows of a node. It stays folded: unfolded, it has both tables
-unfoldable pub enabled_line : Configuration → ℕ → List ℕ
-enabled_line c i = enabled_text i (enabled_rows c i)
+unfoldable pub enabled_line : IdleConfiguration → ℕ → List ℕ
+enabled_line c i = enabled_text i (enabled_rows idle c i)
 
 -- the line that names the nodes that have something to do
-unfoldable pub ready_line : Configuration → List ℕ
-ready_line c = ready_text (ready_of c)
+unfoldable pub ready_line : IdleConfiguration → List ℕ
+ready_line c = ready_text (ready_of idle c)
 
 -- the answer to a command
-abbrev pub answered : Configuration → Command → Configuration × List ℕ
-answered c (Step e) = stepped c (outcome_of c e)
+abbrev pub answered : IdleConfiguration → Command → IdleConfiguration × List ℕ
+answered c (Step e) = stepped c (outcome_of idle c e)
 answered c Show = (c, flat_map (shown c) c.graph.ids)
 answered c (ShowNode i) = (c, if list_any (λ k. k == i) c.graph.ids then shown c i else refusal_text StrangeNode)
 answered c (command.Enabled i) = (c, if list_any (λ k. k == i) c.graph.ids then enabled_line c i else refusal_text StrangeNode)
@@ -144,12 +153,12 @@ answered c Ready = (c, ready_line c)
 
 -- what a line leaves: the configuration, what is written, and whether the line is good
 pub record Answer : Type 0 where
-  pub config : Configuration
+  pub config : IdleConfiguration
   pub text : List ℕ
   pub status : Status
 
 -- the answer to the n-th line
-abbrev pub answer_to : Configuration → ℕ → Line → Answer
+abbrev pub answer_to : IdleConfiguration → ℕ → Line → Answer
 answer_to c n Silent = record { config = c; text = []; status = Good }
 answer_to c n (Asks command) = record { config = (answered c command).0; text = (answered c command).1; status = Good }
 answer_to c n Bad = record { config = c; text = bad_line_text n; status = BadInput }
@@ -160,25 +169,25 @@ followed Good text rest = (text ++ rest.0, rest.1)
 followed BadInput text rest = (text, BadInput)
 
 -- the answers to lines, of which the first has the number n
-unfoldable pub answers : Configuration → ℕ → List (List ℕ) → List ℕ × Status
+unfoldable pub answers : IdleConfiguration → ℕ → List (List ℕ) → List ℕ × Status
 answers c n [] = ([], Good)
 answers c n (line ∷ lines) =
     followed (answer_to c n (line_of line)).status (answer_to c n (line_of line)).text (answers (answer_to c n (line_of line)).config (n + 1) lines)
 
 -- the answers to a script
-abbrev pub script_output : Configuration → List ℕ → List ℕ × Status
+abbrev pub script_output : IdleConfiguration → List ℕ → List ℕ × Status
 script_output c script = if nat_lt MAX_TEXT (length script) then (too_long_text, BadInput) else answers c 1 (lines_of script)
 
 -- ---- the output of texts
 
 -- the booted configuration of a topology text
-abbrev pub IsBootOf : List ℕ → Configuration → Type 0
-IsBootOf topology c = (d : Description) × (g : Graph) × (description_of topology ≡ Ok d) × IsTopologyOf d.nodes d.links g × IsBoot g c
+abbrev pub IsBootOf : List ℕ → IdleConfiguration → Type 0
+IsBootOf topology c = (d : Description) × (g : Graph) × (description_of topology ≡ Ok d) × IsTopologyOf d.nodes d.links g × IsBoot idle g c
 
 -- what a run writes, and its status: the topology is judged before the script
 pub data IsOutput (topology script : List ℕ) (output : List ℕ × Status) : Type 0 where
   bad_topology : (f : ReadFault) → IsReadFault topology f → output ≡ (bad_topology_text f, BadInput) → IsOutput topology script output
-  replayed : (c : Configuration) → IsBootOf topology c → output ≡ script_output c script → IsOutput topology script output
+  replayed : (c : IdleConfiguration) → IsBootOf topology c → output ≡ script_output c script → IsOutput topology script output
 
 -- the same of a joined text, which is judged by its length before it is cut
 pub data IsJoinedOutput (joined : List ℕ) (output : List ℕ × Status) : Type 0 where

@@ -1,10 +1,11 @@
 -- The lines of a script, and the commands that they spell.
-use Rattle.std.specs.Prelude.{ℕ, ◌<◌, ◌^◌, nat_lt, ◌==◌, Bool, true, ◌&&◌, if◌then◌else◌, List, [], ◌∷◌, length, codes, slice_index_or, Option, Some, None}
+use Rattle.std.specs.Prelude.{◌≡◌, ℕ, ◌<◌, ◌^◌, nat_lt, ◌==◌, Bool, true, false, ◌&&◌, if◌then◌else◌, List, [], ◌∷◌, length, codes, slice_index_or, Option, Some, None}
 use Rattle.std.specs.Fmt.{decimal}
 use Rattle.std.specs.List.{find, join_with_byte}
 use Rattle.std.specs.Str.{bytes_eq}
 use Rattle.std.specs.Str.Parse.{digits_value}
 use Rattle.reset_machine.specs.EventText.{event_words, Fits}
+use Rattle.reset_machine.specs.Steps.{is_act}
 use Rattle.reset_machine.specs.Words.{words_of}
 use Rattle.reset_machine.specs.declared.event.Event.TheVariants.{Claim, Follow, Adopt, Request, Relay, Open, Join, Finish, Mend}
 use Rattle.service_main.specs.declared.script.Command.{Command}
@@ -25,9 +26,9 @@ command_words Ready = codes "ready" ∷ []
 abbrev pub command_line : Command → List ℕ
 command_line command = join_with_byte 32 (command_words command)
 
--- the numbers of a command are those of 32 bits
+-- the numbers of a command are those of 32 bits, and an event that is one is of the two tables
 abbrev pub CommandFits : Command → Type 0
-CommandFits (Step e) = Fits e
+CommandFits (Step e) = Fits e × (is_act e ≡ false)
 CommandFits Show = Unit {0}
 CommandFits (ShowNode at) = at < 2 ^ 32
 CommandFits (Enabled at) = at < 2 ^ 32

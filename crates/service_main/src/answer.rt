@@ -4,6 +4,7 @@ ghost use Rattle.std.specs.Prelude.{◌≡◌, ◌≢◌, ℕ, [], ◌∷◌, �
 ghost use Rattle.std.specs.List.{flat_map};
 ghost use Rattle.std.specs.Io.KnownBytes.{Appends};
 ghost use Rattle.action_tables.specs.Written.{AppendsFront};
+ghost use Rattle.app_interface.specs.Idle.{idle};
 ghost use Rattle.reset_machine.specs.Outcome.{outcome_of};
 ghost use Rattle.service_main.specs.declared.script.Command.TheVariants.{ShowNode};
 ghost use Rattle.service_main.specs.Output.{answered, shown, stepped, bad_line_text, bad_topology_text, graph_fault_text, node_text, numbered, phase_name, refusal_text, reply_text, too_long_text, numbered_twice};
@@ -12,6 +13,7 @@ use crate::rows::{answer_enabled, answer_ready};
 use crate::script::Command;
 use crate::status::RunStop;
 use action_tables::{Part, WriteFault, put_bytes, put_parts};
+use app_interface::Idle;
 use reset_machine::{Config, Event, Reply, StepRefusal};
 use std::alloc::Global;
 use std::io::Write;
@@ -111,7 +113,7 @@ pub fn put_bad_line<W: Write>(out: &mut W, number: u64) -> Result<(), WriteFault
 /// nothing.
 pub fn answer<W: Write>(
     alloc: Global,
-    config: &mut Config,
+    config: &mut Config<Idle>,
     command: Command,
     out: &mut W,
 ) -> Result<(), RunStop>
@@ -130,12 +132,12 @@ pub fn answer<W: Write>(
 
 fn answer_step<W: Write>(
     alloc: Global,
-    config: &mut Config,
+    config: &mut Config<Idle>,
     event: Event,
     out: &mut W,
 ) -> Result<(), RunStop>
-    ensures ok { OnOk result ((config.new ≡ (stepped config.old (outcome_of config.old event)).0) × Appends (W.contents out.old) (W.contents out.new) (stepped config.old (outcome_of config.old event)).1) }
-    ensures err { OnErr result (AppendsFront (W.contents out.old) (W.contents out.new) (stepped config.old (outcome_of config.old event)).1) }
+    ensures ok { OnOk result ((config.new ≡ (stepped config.old (outcome_of idle config.old event)).0) × Appends (W.contents out.old) (W.contents out.new) (stepped config.old (outcome_of idle config.old event)).1) }
+    ensures err { OnErr result (AppendsFront (W.contents out.old) (W.contents out.new) (stepped config.old (outcome_of idle config.old event)).1) }
     ensures stop { IfErr result (λ stop. stop ≢ RunStop.ReadFailed) }
 {
     match config.step(alloc, event) {
@@ -163,6 +165,10 @@ pub fn put_refusal<W: Write>(out: &mut W, refusal: StepRefusal) -> Result<(), Wr
     match refusal {
         StepRefusal::StrangeNode => put_bytes(out, b"refused StrangeNode\n"),
         StepRefusal::StrangeNeighbour => put_bytes(out, b"refused StrangeNeighbour\n"),
+        StepRefusal::NoSuchCase => put_bytes(out, b"refused NoSuchCase\n"),
+        StepRefusal::WantsNeighbour => put_bytes(out, b"refused WantsNeighbour\n"),
+        StepRefusal::TakesNoNeighbour => put_bytes(out, b"refused TakesNoNeighbour\n"),
+        StepRefusal::Disagrees(id) => put_node_fault(out, b"refused Disagrees ", id),
         StepRefusal::NotEnabled => put_bytes(out, b"refused NotEnabled\n"),
         StepRefusal::SessionsSpent => put_bytes(out, b"refused SessionsSpent\n"),
         StepRefusal::NoMemory => put_bytes(out, b"refused NoMemory\n"),
@@ -170,7 +176,7 @@ pub fn put_refusal<W: Write>(out: &mut W, refusal: StepRefusal) -> Result<(), Wr
 }
 
 // Writes the line of each node, ascending.
-fn show_all<W: Write>(config: &Config, out: &mut W) -> Result<(), WriteFault>
+fn show_all<W: Write>(config: &Config<Idle>, out: &mut W) -> Result<(), WriteFault>
     ensures ok { OnOk result (Appends (W.contents out.old) (W.contents out.new) (flat_map (shown config.now) config.now.graph.ids)) }
     ensures err { OnErr result (AppendsFront (W.contents out.old) (W.contents out.new) (flat_map (shown config.now) config.now.graph.ids)) }
 {
@@ -185,7 +191,7 @@ fn show_all<W: Write>(config: &Config, out: &mut W) -> Result<(), WriteFault>
 }
 
 // Writes the line of a node, or that there is no such node.
-fn show_node<W: Write>(config: &Config, id: u32, out: &mut W) -> Result<(), WriteFault>
+fn show_node<W: Write>(config: &Config<Idle>, id: u32, out: &mut W) -> Result<(), WriteFault>
     ensures ok { OnOk result (Appends (W.contents out.old) (W.contents out.new) (answered config.now (ShowNode id)).1) }
     ensures err { OnErr result (AppendsFront (W.contents out.old) (W.contents out.new) (answered config.now (ShowNode id)).1) }
 {

@@ -3,6 +3,8 @@
 #![tactic(auto)]
 
 mod answer;
+#[cfg(test)]
+mod applications;
 mod commands;
 mod files;
 mod gather;

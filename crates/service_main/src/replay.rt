@@ -12,6 +12,7 @@ use crate::answer::{answer, put_bad_line, put_too_long, put_topology_fault};
 use crate::input::{cut_joined, read_text, split_line};
 use crate::script::{Line, read_line};
 use crate::status::{RunStop, Status};
+use app_interface::Idle;
 use reset_machine::Config;
 use std::alloc::Global;
 use std::io::{Read, Write};
@@ -84,12 +85,12 @@ fn replay_whole<W: Write>(alloc: Global, joined: &[u8], out: &mut W) -> Result<S
 }
 
 // The booted configuration of a topology text.
-fn boot(alloc: Global, topology: &[u8]) -> Result<Config, ReadFault>
+fn boot(alloc: Global, topology: &[u8]) -> Result<Config<Idle>, ReadFault>
     ensures ok { IfOk result (IsBootOf topology.now) }
     ensures err { IfErr result (λ f. f ≢ ReadFault.NoMemory → IsReadFault topology.now f) }
 {
     match read_topology(alloc, topology) {
-        Ok((topology, _app)) => match Config::boot(alloc, topology) {
+        Ok((topology, _app)) => match Config::<Idle>::boot(alloc, topology) {
             Ok(config) => Ok(config),
             Err(_) => Err(ReadFault::NoMemory),
         },
@@ -118,7 +119,7 @@ fn refuse_script<W: Write>(out: &mut W) -> Result<Status, RunStop>
 
 fn replay_script<W: Write>(
     alloc: Global,
-    mut config: Config,
+    mut config: Config<Idle>,
     script: &[u8],
     out: &mut W,
 ) -> Result<Status, RunStop>
@@ -133,7 +134,7 @@ fn replay_script<W: Write>(
 // Answers the lines of a script in order, up to the first bad one.
 fn answer_lines<W: Write>(
     alloc: Global,
-    config: &mut Config,
+    config: &mut Config<Idle>,
     script: &[u8],
     out: &mut W,
 ) -> Result<Status, RunStop>
@@ -157,7 +158,7 @@ fn answer_lines<W: Write>(
 // Answers the line with this number.
 fn answer_line<W: Write>(
     alloc: Global,
-    config: &mut Config,
+    config: &mut Config<Idle>,
     number: u64,
     line: &[u8],
     out: &mut W,

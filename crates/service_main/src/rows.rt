@@ -10,6 +10,7 @@ ghost use Rattle.service_main.specs.Output.{answered, enabled_text, ready_text, 
 use crate::answer::put_refusal;
 use crate::status::RunStop;
 use action_tables::{Part, WriteFault, put_bytes, put_parts};
+use app_interface::Idle;
 use reset_machine::{Config, Enabled, StepRefusal};
 use std::alloc::{AllocError, Global};
 use std::io::Write;
@@ -17,7 +18,7 @@ use std::io::Write;
 /// Writes the enabled rows of a node, or that there is no such node. Want of memory writes nothing.
 pub fn answer_enabled<W: Write>(
     alloc: Global,
-    config: &Config,
+    config: &Config<Idle>,
     at: u32,
     out: &mut W,
 ) -> Result<(), RunStop>
@@ -53,7 +54,11 @@ fn put_enabled<W: Write>(out: &mut W, id: u32, rows: Enabled) -> Result<(), Writ
 }
 
 /// Writes the ids of the nodes that have something to do. Want of memory writes nothing.
-pub fn answer_ready<W: Write>(alloc: Global, config: &Config, out: &mut W) -> Result<(), RunStop>
+pub fn answer_ready<W: Write>(
+    alloc: Global,
+    config: &Config<Idle>,
+    out: &mut W,
+) -> Result<(), RunStop>
     ensures ok { OnOk result (Appends (W.contents out.old) (W.contents out.new) (answered config.now Ready).1) }
     ensures err { OnErr result (AppendsFront (W.contents out.old) (W.contents out.new) (answered config.now Ready).1) }
     ensures stop { IfErr result (λ stop. stop ≢ RunStop.ReadFailed) }

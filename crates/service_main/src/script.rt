@@ -1,10 +1,14 @@
 // The lines of a script.
 
-ghost use Rattle.std.specs.Prelude.{◌≡◌, ℕ, ◌<◌, ◌≤◌, [], ◌∷◌, ◌++◌, List, length, codes, IsTrue, ◌↔◌, IfSome, IfNone};
+ghost use Rattle.std.specs.Prelude.{◌≡◌, ℕ, false, ◌<◌, ◌≤◌, [], ◌∷◌, ◌++◌, List, length, codes, IsTrue, ◌↔◌, IfSome, IfNone};
+ghost use Rattle.reset_machine.specs.EventText.{event_line, Fits};
+ghost use Rattle.reset_machine.specs.Steps.{is_act};
+ghost use Rattle.reset_machine.specs.declared.event.Event.{Event};
 ghost use Rattle.service_main.specs.declared.script.Command.{Command};
 ghost use Rattle.service_main.specs.Script.{CommandFits, command_line, command_of, is_silent, line_of};
 
-use reset_machine::{Event, read_event, read_number, split_word};
+use action_tables::read_number;
+use reset_machine::{Event, read_event, split_word};
 
 /// The most bytes of a line, without its line feed.
 pub const MAX_LINE: usize = 256;
@@ -81,8 +85,20 @@ fn by_first_word(line: &[u8]) -> Option<Command>
         } else if is_enabled(word) {
             Command::Enabled(read_number(number)?)
         } else {
-            Command::Step(read_event(line)?)
+            Command::Step(read_step(line)?)
         }),
+    }
+}
+
+// The event that a line stands for. An action of the application isn't a command yet.
+fn read_step(line: &[u8]) -> Option<Event>
+    ensures found { IfSome result (λ e. line.now ≡ event_line e) }
+    ensures fits { IfSome result (λ e. Fits e × (is_act e ≡ false)) }
+    ensures only { IfNone result ((e : Event) → Fits e → is_act e ≡ false → line.now ≡ event_line e → ⊥) }
+{
+    match read_event(line)? {
+        Event::Act { .. } => None,
+        event => Some(event),
     }
 }
 

@@ -15,12 +15,12 @@ returns-in_err-read_number-in-Some-2-clause-only c =
     rw c.from_residual-in_err-read_number-in-Some-2.ensures
     (enabled_only c.args.line.now c.in-Some.word.now c.in-Some.number.now c.in-Some.ensures.found enabled c.in_err-read_number-in-Some-2.ensures.only)
 
-pub returns-in_err-read_event-in-Some-clause-only : goal.returns-in_err-read_event-in-Some-clause-only
-returns-in_err-read_event-in-Some-clause-only c =
+pub returns-in_err-read_step-in-Some-clause-only : goal.returns-in_err-read_step-in-Some-clause-only
+returns-in_err-read_step-in-Some-clause-only c =
     let show : c.in-Some.word.now ≢ codes "show" = search rules in
     let enabled : c.in-Some.word.now ≢ codes "enabled" = search rules in
-    rw c.from_residual-in_err-read_event-in-Some.ensures
-    (event_only c.args.line.now c.in-Some.word.now c.in-Some.number.now c.in-Some.ensures.found show enabled c.in_err-read_event-in-Some.ensures.only)
+    rw c.from_residual-in_err-read_step-in-Some.ensures
+    (event_only c.args.line.now c.in-Some.word.now c.in-Some.number.now c.in-Some.ensures.found show enabled c.in_err-read_step-in-Some.ensures.only)
 
 pub returns-in_ok-read_number-in-Some-clause-found : goal.returns-in_ok-read_number-in-Some-clause-found
 returns-in_ok-read_number-in-Some-clause-found c =
