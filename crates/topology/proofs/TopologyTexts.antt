@@ -11,7 +11,7 @@ use Rattle.toml.specs.View.{items_view, members_view}
 use Rattle.toml.specs.declared.value.Value.{Value}
 use Rattle.topology.specs.TopologyText.{◌>>=◌, IsReadFault, all_some, app_named, array_of, described, description_of, is_known, keys_of, list_of, no_other_key, number_of, numbers_of, pair_of, pairs_of, string_of, table_of, toml_of, value_at}
 use Rattle.topology.specs.declared.fault.TopoFault.TheVariants as topo
-use Rattle.topology.specs.declared.text.AppName.TheVariants.{Idle}
+use Rattle.topology.specs.declared.text.AppName.TheVariants.{Idle, Token, Mutex, Routes}
 use Rattle.topology.specs.declared.text.ReadFault.{ReadFault}
 use Rattle.topology.specs.declared.text.ReadFault.TheVariants.{TextTooLong, NotToml, MissingKey, UnknownKey, WrongKind, UnknownApp, Topology, NoMemory}
 use Rattle.topology.specs.declared.text.TheConstants.{MAX_TEXT}
@@ -91,7 +91,14 @@ string_of-own d = ok_or-own (as_str d) WrongKind tt
 
 app_named-own : (name : List ℕ) → IfErr (app_named name) IsOwn
 unfolding app_named
-app_named-own name = if-own (bytes_eq name (codes "idle")) (Ok Idle) (Err UnknownApp) tt tt
+app_named-own name =
+    let not_mutex = if-own (bytes_eq name (codes "routes")) (Ok Routes) (Err UnknownApp) tt tt in
+    let not_token = if-own (bytes_eq name (codes "mutex")) (Ok Mutex) (if bytes_eq name (codes "routes") then Ok Routes else Err UnknownApp) tt not_mutex in
+    let not_idle = if-own (bytes_eq name (codes "token")) (Ok Token)
+    (if bytes_eq name (codes "mutex") then Ok Mutex else (if bytes_eq name (codes "routes") then Ok Routes else Err UnknownApp)) tt not_token in
+    if-own (bytes_eq name (codes "idle")) (Ok Idle)
+    (if bytes_eq name (codes "token") then Ok Token
+    else (if bytes_eq name (codes "mutex") then Ok Mutex else (if bytes_eq name (codes "routes") then Ok Routes else Err UnknownApp))) tt not_idle
 
 table_of-own : (text : List ℕ) → IfErr (table_of text) IsOwn
 unfolding table_of

@@ -7,7 +7,7 @@ use Rattle.toml.specs.Data.{Data, Items, no_items, item, Members, no_members, me
 use Rattle.toml.specs.Parse.{parse_document}
 use Rattle.topology.specs.Faults.{IsFirstFault}
 use Rattle.topology.specs.declared.text.AppName.{AppName}
-use Rattle.topology.specs.declared.text.AppName.TheVariants.{Idle}
+use Rattle.topology.specs.declared.text.AppName.TheVariants.{Idle, Token, Mutex, Routes}
 use Rattle.topology.specs.declared.text.ReadFault.{ReadFault}
 use Rattle.topology.specs.declared.text.ReadFault.TheVariants.{TextTooLong, NotToml, MissingKey, UnknownKey, WrongKind, UnknownApp, Topology}
 use Rattle.topology.specs.declared.text.TheConstants.{MAX_TEXT}
@@ -95,7 +95,11 @@ string_of d = ok_or (as_str d) WrongKind
 
 -- the application of this name
 unfoldable pub app_named : List ℕ → Result AppName ReadFault
-app_named name = if bytes_eq name (codes "idle") then Ok Idle else Err UnknownApp
+app_named name =
+    if bytes_eq name (codes "idle") then Ok Idle
+    else (if bytes_eq name (codes "token") then Ok Token
+    else (if bytes_eq name (codes "mutex") then Ok Mutex
+    else (if bytes_eq name (codes "routes") then Ok Routes else Err UnknownApp)))
 
 -- what the members of the top level describe, or their first fault
 unfoldable pub described : Members → Result Description ReadFault

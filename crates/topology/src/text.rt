@@ -27,6 +27,12 @@ pub const MAX_TEXT: usize = 1_048_576;
 pub enum AppName {
     /// `idle`, which has nothing to do.
     Idle,
+    /// `token`, in which one node at a time holds a token.
+    Token,
+    /// `mutex`, in which no two neighbours are in at once.
+    Mutex,
+    /// `routes`, in which each node learns a way to every other.
+    Routes,
 }
 
 /// Why a text is no topology, in the order in which faults are named.
@@ -237,6 +243,9 @@ fn app_named(name: &str) -> Result<AppName, ReadFault>
 {
     match name {
         "idle" => Ok(AppName::Idle),
+        "token" => Ok(AppName::Token),
+        "mutex" => Ok(AppName::Mutex),
+        "routes" => Ok(AppName::Routes),
         _ => Err(ReadFault::UnknownApp),
     }
 }

@@ -79,8 +79,26 @@ fn refuses_values_of_another_kind(rt: HostRuntime) {
 }
 
 #[test]
+fn names_the_four_applications(rt: HostRuntime) {
+    let names = [
+        ("idle", AppName::Idle),
+        ("token", AppName::Token),
+        ("mutex", AppName::Mutex),
+        ("routes", AppName::Routes),
+    ];
+    for (name, app) in names {
+        let read = format!(in rt.alloc(); "nodes = [7]\nlinks = []\napp = \"{name}\"\n").map_or(
+            None,
+            |text| read_topology(rt.alloc(), text.as_bytes()).ok(),
+        );
+        assert_eq!(rt; read.map(|(_, named)| named), Some(app), "at {name}");
+    }
+}
+
+#[test]
 fn refuses_an_unknown_application_before_the_lists(rt: HostRuntime) {
     let texts = [
+        "nodes = [1]\nlinks = []\napp = \"Token\"",
         "nodes = [1]\nlinks = []\napp = \"idel\"",
         "nodes = []\nlinks = []\napp = \"\"",
     ];
