@@ -1,5 +1,3 @@
-pub mod CommandLines
-pub mod CommandOf
 pub mod TextLines
 pub mod Reading
 pub mod Runs

@@ -1,15 +1,19 @@
 -- Which nodes can be shown, and what is answered of the enabled rows.
-use Rattle.std.proofs.Common.{◌≡◌, ◌≢◌, ℕ, zero, suc, ◌<◌, nat_eq, Bool, true, false, ◌||◌, if◌then◌else◌, List, [], ◌∷◌, refl, sym, ap, ◌∙◌, Some, None, arith, length, get_or, Contains}
+use Rattle.std.specs.Prelude.{codes}
+use Rattle.std.proofs.Common.{◌≡◌, ◌≢◌, ℕ, zero, suc, ◌<◌, nat_eq, Bool, true, false, ◌||◌, ◌++◌, if◌then◌else◌, List, [], ◌∷◌, refl, sym, ap, ◌∙◌, Some, None, arith, length, get_or, Contains}
 use Rattle.std.specs.List.{list_any, slice_get}
 use Rattle.std.proofs.lemmas.Bool.Decides.{nat_tests}
-use Rattle.app_interface.specs.Idle.{idle}
 use Rattle.topology.specs.Graph.{IsNode}
+use Rattle.tree_layer.specs.declared.regs.TreeRegs.{TreeRegs}
+use Rattle.wave_layer.specs.declared.regs.WaveRegs.{WaveRegs}
 use Rattle.reset_machine.specs.declared.step.StepRefusal.TheVariants.{StrangeNode}
 use Rattle.reset_machine.specs.Enabled.{enabled_rows, ready_of}
 use Rattle.reset_machine.specs.declared.enabled.Enabled.{Enabled}
-use Rattle.service_main.specs.Output.{IdleConfiguration, answered, enabled_line, enabled_text, ready_line, ready_text, shown, refusal_text}
-use Rattle.service_main.specs.declared.script.Command.TheVariants.{ShowNode}
-use Rattle.service_main.specs.declared.script.Command.TheVariants as command
+use Rattle.reset_machine.specs.Configuration.{Configuration, tree_of, wave_of, local_of}
+use Rattle.reset_machine.specs.WavePicture.{HasJoined}
+use Rattle.service_main.specs.Lines.{ended}
+use Rattle.service_main.specs.Meaning.{Meaning}
+use Rattle.service_main.specs.Output.{at_node, enabled_line, has_joined, newest_head, newest_line, node_head, enabled_text, ready_line, ready_text, refusal_text, shown}
 
 or_first : (a b : Bool) → a ≡ true → (a || b) ≡ true
 or_first true b h = refl
@@ -34,41 +38,64 @@ absent (x ∷ xs) i h =
     let apart : x ≢ i = λ e. h (0, omega arith, e) in
     or_neither (nat_eq x i) (list_any (λ n. nat_eq n i) xs) (grind (arith, nat_tests)) (absent xs i (λ m. h (suc m.0, omega (arith, m.1), m.2)))
 
-pub shown_node : (c : IdleConfiguration) (i : ℕ) → IsNode c.graph i → (answered c (ShowNode i)).1 ≡ shown c i
-shown_node c i node = ap (λ (b : Bool). if b then shown c i else refusal_text StrangeNode) (present c.graph.ids i node.0 node.1 node.2)
+-- the text of a node is told at it, and a refusal elsewhere
+pub told_node : {L : Type 0} (c : Configuration L) (i : ℕ) (text : List ℕ) → IsNode c.graph i → at_node c i text ≡ text
+told_node c i text node = ap (λ (b : Bool). if b then text else refusal_text StrangeNode) (present c.graph.ids i node.0 node.1 node.2)
 
-pub shown_none : (c : IdleConfiguration) (i : ℕ) → (IsNode c.graph i → ⊥) → (answered c (ShowNode i)).1 ≡ refusal_text StrangeNode
-shown_none c i none = ap (λ (b : Bool). if b then shown c i else refusal_text StrangeNode) (absent c.graph.ids i none)
+pub told_none : {L : Type 0} (c : Configuration L) (i : ℕ) (text : List ℕ) → (IsNode c.graph i → ⊥) → at_node c i text ≡ refusal_text StrangeNode
+told_none c i text none = ap (λ (b : Bool). if b then text else refusal_text StrangeNode) (absent c.graph.ids i none)
+
+-- ---- the nodes by index
 
 got : (ids : List ℕ) (i n : ℕ) → slice_get ids i ≡ Some n → (i < length ids) × (get_or ids i n ≡ n)
 got [] i n h = absurd (cc)
 got (x ∷ xs) zero n h = (omega arith, cc)
 got (x ∷ xs) (suc i) n h = let rest = got xs i n h in (omega (arith, rest.0), rest.1)
 
--- the i-th node is shown
-pub shown_here : (c : IdleConfiguration) (i n : ℕ) → slice_get c.graph.ids i ≡ Some n → (i < length c.graph.ids) × ((answered c (ShowNode n)).1 ≡ shown c (get_or c.graph.ids i n))
-shown_here c i n h =
-    let at = got c.graph.ids i n h in
-    (at.0, shown_node c n (i, at.0, at.1) ∙ ap (shown c) (sym at.1))
+-- the i-th id is that of a node
+pub node_here : {L : Type 0} (c : Configuration L) (i n : ℕ) → slice_get c.graph.ids i ≡ Some n → IsNode c.graph n
+node_here c i n h = let at = got c.graph.ids i n h in (i, at.0, at.1)
+
+-- and the i-th piece of what is told of all nodes is what is told of it
+pub piece_here : {L : Type 0} (c : Configuration L) (line : ℕ → List ℕ) (i n : ℕ) → slice_get c.graph.ids i ≡ Some n → (i < length c.graph.ids) × (line n ≡ line (get_or c.graph.ids i n))
+piece_here c line i n h = let at = got c.graph.ids i n h in (at.0, ap line (sym at.1))
+
+-- where the id's own text is told
+pub told_here : {L : Type 0} (c : Configuration L) (line : ℕ → List ℕ) (i n : ℕ) → slice_get c.graph.ids i ≡ Some n → (i < length c.graph.ids) × (at_node c n (line n) ≡ line (get_or c.graph.ids i n))
+told_here c line i n h = let piece = piece_here c line i n h in (piece.0, told_node c n (line n) (node_here c i n h) ∙ piece.1)
 
 pub got_some : (ids : List ℕ) (i : ℕ) → i < length ids → slice_get ids i ≡ None → ⊥
 got_some [] i inside h = omega arith
 got_some (x ∷ xs) zero inside h = cc
 got_some (x ∷ xs) (suc i) inside h = got_some xs i (omega arith) h
 
+-- the line of a node, from what stands there
+pub shown_node : {L : Type 0} (m : Meaning L) (c : Configuration L) (i : ℕ) (tree : TreeRegs) (wave : WaveRegs) (local : L) → IsNode c.graph i
+    → tree ≡ tree_of c i → wave ≡ wave_of c i → local ≡ local_of m.app c i → at_node c i (shown m c i) ≡ node_head i tree wave ++ ended (m.text local)
+shown_node m c i tree wave local node t w l =
+    told_node c i (shown m c i) node ∙ ap (λ t. node_head i t (wave_of c i) ++ ended (m.text (local_of m.app c i))) (sym t)
+    ∙ ap (λ w. node_head i tree w ++ ended (m.text (local_of m.app c i))) (sym w) ∙ ap (λ l. node_head i tree wave ++ ended (m.text l)) (sym l)
+
 -- ---- enabled rows
 
-enabled_line-is : (c : IdleConfiguration) (i : ℕ) (rows : Enabled) → rows ≡ enabled_rows idle c i → enabled_line c i ≡ enabled_text i rows
+enabled_line-is : {L : Type 0} (m : Meaning L) (c : Configuration L) (i : ℕ) (rows : Enabled) → rows ≡ enabled_rows m.app c i → enabled_line m c i ≡ enabled_text i rows
 unfolding enabled_line
-enabled_line-is c i rows is = ap (enabled_text i) (sym is)
+enabled_line-is m c i rows is = ap (enabled_text i) (sym is)
 
-pub enabled_node : (c : IdleConfiguration) (i : ℕ) (rows : Enabled) → IsNode c.graph i → rows ≡ enabled_rows idle c i → (answered c (command.Enabled i)).1 ≡ enabled_text i rows
-enabled_node c i rows node is =
-    ap (λ (b : Bool). if b then enabled_line c i else refusal_text StrangeNode) (present c.graph.ids i node.0 node.1 node.2) ∙ enabled_line-is c i rows is
+pub enabled_node : {L : Type 0} (m : Meaning L) (c : Configuration L) (i : ℕ) (rows : Enabled) → IsNode c.graph i → rows ≡ enabled_rows m.app c i → at_node c i (enabled_line m c i) ≡ enabled_text i rows
+enabled_node m c i rows node is = told_node c i (enabled_line m c i) node ∙ enabled_line-is m c i rows is
 
-pub enabled_none : (c : IdleConfiguration) (i : ℕ) → (IsNode c.graph i → ⊥) → (answered c (command.Enabled i)).1 ≡ refusal_text StrangeNode
-enabled_none c i none = ap (λ (b : Bool). if b then enabled_line c i else refusal_text StrangeNode) (absent c.graph.ids i none)
-
-pub ready_line-is : (c : IdleConfiguration) (ids : List ℕ) → ids ≡ ready_of idle c → ready_line c ≡ ready_text ids
+pub ready_line-is : {L : Type 0} (m : Meaning L) (c : Configuration L) (ids : List ℕ) → ids ≡ ready_of m.app c → ready_line m c ≡ ready_text ids
 unfolding ready_line
-ready_line-is c ids is = ap ready_text (sym is)
+ready_line-is m c ids is = ap ready_text (sym is)
+
+-- ---- the newest session
+
+joined_or : {L : Type 0} (c : Configuration L) (i : ℕ) (local none : List ℕ) (b : Bool) → has_joined c i ≡ b → newest_head i ++ ended (if has_joined c i then local else none) ≡ newest_head i ++ ended (if b then local else none)
+joined_or c i local none b is = ap (λ (b : Bool). newest_head i ++ ended (if b then local else none)) is
+
+pub newest_joined : {L : Type 0} (m : Meaning L) (c : Configuration L) (i : ℕ) → HasJoined c.graph (wave_of c) i → newest_line m c i ≡ newest_head i ++ ended (m.text (local_of m.app c i))
+newest_joined m c i joined = joined_or c i (m.text (local_of m.app c i)) (codes "unjoined") true (grind (arith, nat_tests))
+
+pub newest_unjoined : {L : Type 0} (m : Meaning L) (c : Configuration L) (i : ℕ) → (HasJoined c.graph (wave_of c) i → ⊥) → newest_line m c i ≡ newest_head i ++ codes "unjoined\n"
+newest_unjoined m c i out = joined_or c i (m.text (local_of m.app c i)) (codes "unjoined") false (grind (arith, nat_tests))

@@ -5,8 +5,10 @@ use Rattle.std.specs.Io.KnownBytes.{Appends}
 use Rattle.std.proofs.KnownBytes.{Appends-trans, Keeps-refl}
 use Rattle.action_tables.specs.Written.{AppendsFront}
 use Rattle.action_tables.proofs.Fronts.{AppendsFront-first, AppendsFront-then}
+use Rattle.reset_machine.specs.Configuration.{Configuration}
+use Rattle.service_main.specs.Meaning.{Meaning}
 use Rattle.service_main.specs.Script.{line_of}
-use Rattle.service_main.specs.Output.{IdleConfiguration, answer_to, answers, followed, Answer, Leaves, HasFront}
+use Rattle.service_main.specs.Output.{answer_to, answers, followed, Answer, Leaves, HasFront}
 use Rattle.service_main.specs.declared.status.Status.{Status}
 use Rattle.service_main.specs.declared.status.Status.TheVariants.{Good, BadInput}
 use Rattle.service_main.specs.declared.status.RunStop.{RunStop}
@@ -17,14 +19,14 @@ Output = List ℕ × Status
 
 -- ---- one line
 
-pub answers-more : (c : IdleConfiguration) (n : ℕ) (line : List ℕ) (lines : List (List ℕ))
-    → answers c n (line ∷ lines) ≡ followed (answer_to c n (line_of line)).status (answer_to c n (line_of line)).text (answers (answer_to c n (line_of line)).config (n + 1) lines)
+pub answers-more : {L : Type 0} (m : Meaning L) (c : Configuration L) (n : ℕ) (line : List ℕ) (lines : List (List ℕ))
+    → answers m c n (line ∷ lines) ≡ followed (answer_to m c n (line_of m.names line)).status (answer_to m c n (line_of m.names line)).text (answers m (answer_to m c n (line_of m.names line)).config (n + 1) lines)
 unfolding answers
-answers-more c n line lines = refl
+answers-more {L = L} m c n line lines = refl
 
-pub answers-none : (c : IdleConfiguration) (n : ℕ) → answers c n [] ≡ ([], Good)
+pub answers-none : {L : Type 0} (m : Meaning L) (c : Configuration L) (n : ℕ) → answers m c n [] ≡ ([], Good)
 unfolding answers
-answers-none c n = refl
+answers-none {L = L} m c n = refl
 
 -- a good line after `done`, and what follows it
 good_then : (done text : List ℕ) (rest : Output) → followed Good done (followed Good text rest) ≡ followed Good (done ++ text) rest
@@ -40,30 +42,30 @@ front_of done text BadInput rest = ([], sym (append-nil (done ++ text)))
 
 -- ---- the lines that are left, after `done` was written
 
-one_more : (all : Output) (done : List ℕ) (c : IdleConfiguration) (n : ℕ) (lines later : List (List ℕ)) (line : List ℕ) → all ≡ followed Good done (answers c n lines) → lines ≡ line ∷ later
-    → all ≡ followed Good done (followed (answer_to c n (line_of line)).status (answer_to c n (line_of line)).text (answers (answer_to c n (line_of line)).config (n + 1) later))
-one_more all done c n lines later line p q = p ∙ ap (λ ls. followed Good done (answers c n ls)) q ∙ ap (followed Good done) (answers-more c n line later)
+one_more : {L : Type 0} (m : Meaning L) (all : Output) (done : List ℕ) (c : Configuration L) (n : ℕ) (lines later : List (List ℕ)) (line : List ℕ) → all ≡ followed Good done (answers m c n lines) → lines ≡ line ∷ later
+    → all ≡ followed Good done (followed (answer_to m c n (line_of m.names line)).status (answer_to m c n (line_of m.names line)).text (answers m (answer_to m c n (line_of m.names line)).config (n + 1) later))
+one_more {L = L} m all done c n lines later line p q = p ∙ ap (λ ls. followed Good done (answers m c n ls)) q ∙ ap (followed Good done) (answers-more m c n line later)
 
-pub left_good : (all : Output) (done : List ℕ) (c after : IdleConfiguration) (n : ℕ) (lines later : List (List ℕ)) (line : List ℕ) → all ≡ followed Good done (answers c n lines) → lines ≡ line ∷ later
-    → (answer_to c n (line_of line)).status ≡ Good → after ≡ (answer_to c n (line_of line)).config
-    → all ≡ followed Good (done ++ (answer_to c n (line_of line)).text) (answers after (n + 1) later)
-left_good all done c after n lines later line p q good same =
-    let a : Answer = answer_to c n (line_of line) in
-    let rest : Output = answers a.config (n + 1) later in
-    one_more all done c n lines later line p q ∙ ap (λ s. followed Good done (followed s a.text rest)) good ∙ good_then done a.text rest
-    ∙ ap (λ x. followed Good (done ++ a.text) (answers x (n + 1) later)) (sym same)
+pub left_good : {L : Type 0} (m : Meaning L) (all : Output) (done : List ℕ) (c after : Configuration L) (n : ℕ) (lines later : List (List ℕ)) (line : List ℕ) → all ≡ followed Good done (answers m c n lines) → lines ≡ line ∷ later
+    → (answer_to m c n (line_of m.names line)).status ≡ Good → after ≡ (answer_to m c n (line_of m.names line)).config
+    → all ≡ followed Good (done ++ (answer_to m c n (line_of m.names line)).text) (answers m after (n + 1) later)
+left_good {L = L} m all done c after n lines later line p q good same =
+    let a = answer_to m c n (line_of m.names line) in
+    let rest : Output = answers m a.config (n + 1) later in
+    one_more m all done c n lines later line p q ∙ ap (λ s. followed Good done (followed s a.text rest)) good ∙ good_then done a.text rest
+    ∙ ap (λ x. followed Good (done ++ a.text) (answers m x (n + 1) later)) (sym same)
 
-pub left_bad : (all : Output) (done : List ℕ) (c : IdleConfiguration) (n : ℕ) (lines later : List (List ℕ)) (line : List ℕ) → all ≡ followed Good done (answers c n lines) → lines ≡ line ∷ later
-    → (answer_to c n (line_of line)).status ≡ BadInput → all ≡ (done ++ (answer_to c n (line_of line)).text, BadInput)
-left_bad all done c n lines later line p q bad =
-    let a : Answer = answer_to c n (line_of line) in
-    one_more all done c n lines later line p q ∙ ap (λ s. followed Good done (followed s a.text (answers a.config (n + 1) later))) bad
+pub left_bad : {L : Type 0} (m : Meaning L) (all : Output) (done : List ℕ) (c : Configuration L) (n : ℕ) (lines later : List (List ℕ)) (line : List ℕ) → all ≡ followed Good done (answers m c n lines) → lines ≡ line ∷ later
+    → (answer_to m c n (line_of m.names line)).status ≡ BadInput → all ≡ (done ++ (answer_to m c n (line_of m.names line)).text, BadInput)
+left_bad {L = L} m all done c n lines later line p q bad =
+    let a = answer_to m c n (line_of m.names line) in
+    one_more m all done c n lines later line p q ∙ ap (λ s. followed Good done (followed s a.text (answers m a.config (n + 1) later))) bad
 
-pub left_last : (all : Output) (done : List ℕ) (c : IdleConfiguration) (n : ℕ) (lines : List (List ℕ)) (line : List ℕ) → all ≡ followed Good done (answers c n lines) → lines ≡ line ∷ []
-    → all ≡ (done ++ (answer_to c n (line_of line)).text, (answer_to c n (line_of line)).status)
-left_last all done c n lines line p q =
-    let a : Answer = answer_to c n (line_of line) in
-    one_more all done c n lines [] line p q ∙ ap (λ o. followed Good done (followed a.status a.text o)) (answers-none a.config (n + 1)) ∙ last_line done a.text a.status
+pub left_last : {L : Type 0} (m : Meaning L) (all : Output) (done : List ℕ) (c : Configuration L) (n : ℕ) (lines : List (List ℕ)) (line : List ℕ) → all ≡ followed Good done (answers m c n lines) → lines ≡ line ∷ []
+    → all ≡ (done ++ (answer_to m c n (line_of m.names line)).text, (answer_to m c n (line_of m.names line)).status)
+left_last {L = L} m all done c n lines line p q =
+    let a = answer_to m c n (line_of m.names line) in
+    one_more m all done c n lines [] line p q ∙ ap (λ o. followed Good done (followed a.status a.text o)) (answers-none m a.config (n + 1)) ∙ last_line done a.text a.status
 
 -- ---- what is left by a stop
 
@@ -78,23 +80,23 @@ front_whole all a b d done text tail e p q =
     let P : List ℕ → Type 0 = λ l. AppendsFront a d l in
     subst P (sym e) (AppendsFront-first a d (done ++ text) tail (AppendsFront-then a b d done text p q))
 
-pub left_stop : (all : Output) (a b d : Option (List ℕ)) (done : List ℕ) (c : IdleConfiguration) (n : ℕ) (lines later : List (List ℕ)) (line : List ℕ) (s : RunStop)
-    → all ≡ followed Good done (answers c n lines) → lines ≡ line ∷ later → Appends a b done → AppendsFront b d (answer_to c n (line_of line)).text → s ≢ ReadFailed
+pub left_stop : {L : Type 0} (m : Meaning L) (all : Output) (a b d : Option (List ℕ)) (done : List ℕ) (c : Configuration L) (n : ℕ) (lines later : List (List ℕ)) (line : List ℕ) (s : RunStop)
+    → all ≡ followed Good done (answers m c n lines) → lines ≡ line ∷ later → Appends a b done → AppendsFront b d (answer_to m c n (line_of m.names line)).text → s ≢ ReadFailed
     → Leaves (λ o. o ≡ all) a d (Err s)
-left_stop all a b d done c n lines later line s p q before here other =
-    let x : Answer = answer_to c n (line_of line) in
-    let tail = front_of done x.text x.status (answers x.config (n + 1) later) in
+left_stop {L = L} m all a b d done c n lines later line s p q before here other =
+    let x = answer_to m c n (line_of m.names line) in
+    let tail = front_of done x.text x.status (answers m x.config (n + 1) later) in
     leaves_stop (λ o. o ≡ all) a d s other
-    (all, refl, front_whole all a b d done x.text tail.0 (ap (λ (o : Output). o.0) (one_more all done c n lines later line p q) ∙ tail.1) before here)
+    (all, refl, front_whole all a b d done x.text tail.0 (ap (λ (o : Output). o.0) (one_more m all done c n lines later line p q) ∙ tail.1) before here)
 
-pub left_result : (all : Output) (a b d : Option (List ℕ)) (done : List ℕ) (c c' : IdleConfiguration) (n : ℕ) (lines : List (List ℕ)) (line : List ℕ) (r : Result Status RunStop)
-    → all ≡ followed Good done (answers c n lines) → lines ≡ line ∷ [] → Appends a b done
-    → IfOk r (λ s. (s ≡ (answer_to c n (line_of line)).status) × (c' ≡ (answer_to c n (line_of line)).config) × Appends b d (answer_to c n (line_of line)).text)
-    → OnErr r (AppendsFront b d (answer_to c n (line_of line)).text) → IfErr r (λ s. s ≢ ReadFailed) → Leaves (λ o. o ≡ all) a d r
-left_result all a b d done c c' n lines line (Ok s) p q before ok err other =
-    let x : Answer = answer_to c n (line_of line) in
-    (done ++ x.text, ap (λ (t : Status). (done ++ x.text, t)) ok.0 ∙ sym (left_last all done c n lines line p q), Appends-trans a b d done x.text before ok.2)
-left_result all a b d done c c' n lines line (Err s) p q before ok err other = left_stop all a b d done c n lines [] line s p q before err other
+pub left_result : {L : Type 0} (m : Meaning L) (all : Output) (a b d : Option (List ℕ)) (done : List ℕ) (c c' : Configuration L) (n : ℕ) (lines : List (List ℕ)) (line : List ℕ) (r : Result Status RunStop)
+    → all ≡ followed Good done (answers m c n lines) → lines ≡ line ∷ [] → Appends a b done
+    → IfOk r (λ s. (s ≡ (answer_to m c n (line_of m.names line)).status) × (c' ≡ (answer_to m c n (line_of m.names line)).config) × Appends b d (answer_to m c n (line_of m.names line)).text)
+    → OnErr r (AppendsFront b d (answer_to m c n (line_of m.names line)).text) → IfErr r (λ s. s ≢ ReadFailed) → Leaves (λ o. o ≡ all) a d r
+left_result {L = L} m all a b d done c c' n lines line (Ok s) p q before ok err other =
+    let x = answer_to m c n (line_of m.names line) in
+    (done ++ x.text, ap (λ (t : Status). (done ++ x.text, t)) ok.0 ∙ sym (left_last m all done c n lines line p q), Appends-trans a b d done x.text before ok.2)
+left_result {L = L} m all a b d done c c' n lines line (Err s) p q before ok err other = left_stop m all a b d done c n lines [] line s p q before err other
 
 -- writing failed
 pub leaves_fault : (O : Output → Type 0) (a b : Option (List ℕ)) (r : Result Status RunStop) → IsErrAnd r (λ s. s ≡ WriteFailed) → HasFront O a b → Leaves O a b r

@@ -1,3 +1,4 @@
+pub mod Meaning
 pub mod Script
 pub mod Output
 pub mod Parts

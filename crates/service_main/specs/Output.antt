@@ -1,9 +1,9 @@
 -- What a run writes.
-use Rattle.std.specs.Prelude.{◌≡◌, ℕ, ◌+◌, ◌<◌, ◌≤◌, nat_lt, ◌==◌, if◌then◌else◌, ◌⊎◌, List, [], ◌∷◌, ◌++◌, length, codes, Option, Result, Ok, Err}
+use Rattle.std.specs.Prelude.{◌≡◌, ℕ, ◌+◌, ◌<◌, ◌≤◌, nat_lt, ◌==◌, if◌then◌else◌, ◌⊎◌, Bool, List, [], ◌∷◌, ◌++◌, length, codes, Option, Result, Ok, Err}
 use Rattle.std.specs.Fmt.{decimal}
 use Rattle.std.specs.Io.KnownBytes.{Appends, Keeps}
 use Rattle.std.specs.List.{concat, flat_map, list_any}
-use Rattle.topology.specs.Graph.{Graph}
+use Rattle.topology.specs.Graph.{Graph, leader}
 use Rattle.topology.specs.Faults.{IsTopologyOf}
 use Rattle.topology.specs.TopologyText.{Description, IsReadFault, description_of}
 use Rattle.topology.specs.declared.fault.TopoFault.{TopoFault}
@@ -12,6 +12,8 @@ use Rattle.topology.specs.declared.fault.TopoFault.TheVariants as topo
 use Rattle.topology.specs.declared.text.ReadFault.{ReadFault}
 use Rattle.topology.specs.declared.text.ReadFault.TheVariants.{TextTooLong, NotToml, MissingKey, UnknownKey, WrongKind, UnknownApp, Topology}
 use Rattle.topology.specs.declared.text.ReadFault.TheVariants as read
+use Rattle.topology.specs.declared.text.AppName.{AppName}
+use Rattle.topology.specs.declared.text.AppName.TheVariants.{Idle, Token, Mutex, Routes}
 use Rattle.topology.specs.declared.text.TheConstants.{MAX_TEXT}
 use Rattle.tree_layer.specs.declared.regs.TreeRegs.{TreeRegs}
 use Rattle.wave_layer.specs.declared.regs.WaveRegs.{WaveRegs}
@@ -21,17 +23,17 @@ use Rattle.reset_machine.specs.declared.step.Reply.{Reply}
 use Rattle.reset_machine.specs.declared.step.Reply.TheVariants.{Applied, Complete}
 use Rattle.reset_machine.specs.declared.step.StepRefusal.{StepRefusal}
 use Rattle.reset_machine.specs.declared.step.StepRefusal.TheVariants.{StrangeNode, StrangeNeighbour, NoSuchCase, WantsNeighbour, TakesNoNeighbour, Disagrees, NotEnabled, SessionsSpent, NoMemory}
-use Rattle.app_interface.specs.Idle.{idle}
-use Rattle.reset_machine.specs.Configuration.{Configuration, tree_of, wave_of}
+use Rattle.reset_machine.specs.Configuration.{Configuration, tree_of, wave_of, local_of}
 use Rattle.reset_machine.specs.Outcome.{IsBoot, outcome_of}
 use Rattle.reset_machine.specs.Enabled.{enabled_rows, ready_of}
 use Rattle.reset_machine.specs.declared.enabled.Enabled.{Enabled}
 use Rattle.action_tables.specs.RowText.{set_text}
 use Rattle.action_tables.specs.Written.{AppendsFront}
 use Rattle.service_main.specs.Lines.{ended, lines_of, IsCut}
+use Rattle.service_main.specs.Meaning.{Meaning, idle_meaning, token_meaning, mutex_meaning, routes_meaning}
 use Rattle.service_main.specs.Script.{line_of}
 use Rattle.service_main.specs.declared.script.Command.{Command}
-use Rattle.service_main.specs.declared.script.Command.TheVariants.{Step, Show, ShowNode, Ready}
+use Rattle.service_main.specs.declared.script.Command.TheVariants.{Step, Show, ShowNode, Newest, Ready}
 use Rattle.service_main.specs.declared.script.Command.TheVariants as command
 use Rattle.service_main.specs.declared.script.Line.{Line}
 use Rattle.service_main.specs.declared.script.Line.TheVariants.{Silent, Asks, Bad}
@@ -71,11 +73,15 @@ phase_name Normal = codes "normal"
 phase_name Initiate = codes "initiate"
 phase_name Reset = codes "reset"
 
--- the line that shows a node
-abbrev pub node_text : ℕ → TreeRegs → WaveRegs → List ℕ
-node_text id tree wave =
+-- what stands before the local state in the line that shows a node
+abbrev pub node_head : ℕ → TreeRegs → WaveRegs → List ℕ
+node_head id tree wave =
     concat (codes "node " ∷ decimal id ∷ codes " tree " ∷ decimal tree.root ∷ codes " " ∷ decimal tree.father ∷ codes " " ∷ decimal tree.dist
-    ∷ codes " wave " ∷ phase_name wave.phase ∷ codes " " ∷ decimal wave.session ∷ ended (codes " local -") ∷ [])
+    ∷ codes " wave " ∷ phase_name wave.phase ∷ codes " " ∷ decimal wave.session ∷ codes " local " ∷ [])
+
+-- what stands before it in the line of the newest session
+abbrev pub newest_head : ℕ → List ℕ
+newest_head id = concat (codes "newest " ∷ decimal id ∷ codes " " ∷ [])
 
 -- the line that names the enabled rows of a node, by table
 abbrev pub enabled_text : ℕ → Enabled → List ℕ
@@ -122,46 +128,55 @@ bad_line_text n = numbered (codes "bad line ") n
 
 -- ---- answers
 
--- a configuration of the application that idles: the program has no other yet
-abbrev pub IdleConfiguration : Type 0
-IdleConfiguration = Configuration (Unit {0})
-
 -- what a configuration becomes, and what is written
-abbrev pub stepped : IdleConfiguration → Result (IdleConfiguration × Reply) StepRefusal → IdleConfiguration × List ℕ
+abbrev pub stepped : {L : Type 0} → Configuration L → Result (Configuration L × Reply) StepRefusal → Configuration L × List ℕ
 stepped c (Ok r) = (r.0, reply_text r.1)
 stepped c (Err refusal) = (c, refusal_text refusal)
 
--- the line of a node, as its registers stand
-abbrev pub shown : IdleConfiguration → ℕ → List ℕ
-shown c i = node_text i (tree_of c i) (wave_of c i)
+-- the line of a node, as its registers and its local state stand
+abbrev pub shown : {L : Type 0} → Meaning L → Configuration L → ℕ → List ℕ
+shown m c i = node_head i (tree_of c i) (wave_of c i) ++ ended (m.text (local_of m.app c i))
 
--- the line that names the enabled rows of a node. It stays folded: unfolded, it has both tables
-unfoldable pub enabled_line : IdleConfiguration → ℕ → List ℕ
-enabled_line c i = enabled_text i (enabled_rows idle c i)
+-- a node has joined where its session is that of its leader, the newest
+abbrev pub has_joined : {L : Type 0} → Configuration L → ℕ → Bool
+has_joined c i = (wave_of c i).session == (wave_of c (leader c.graph i)).session
+
+-- the line of a node's local state in the newest session
+abbrev pub newest_line : {L : Type 0} → Meaning L → Configuration L → ℕ → List ℕ
+newest_line m c i = newest_head i ++ ended (if has_joined c i then m.text (local_of m.app c i) else codes "unjoined")
+
+-- the line that names the enabled rows of a node. It stays folded: unfolded, it has all the tables
+unfoldable pub enabled_line : {L : Type 0} → Meaning L → Configuration L → ℕ → List ℕ
+enabled_line m c i = enabled_text i (enabled_rows m.app c i)
 
 -- the line that names the nodes that have something to do
-unfoldable pub ready_line : IdleConfiguration → List ℕ
-ready_line c = ready_text (ready_of idle c)
+unfoldable pub ready_line : {L : Type 0} → Meaning L → Configuration L → List ℕ
+ready_line m c = ready_text (ready_of m.app c)
+
+-- the answer where the identifier is that of a node, and a refusal elsewhere
+abbrev pub at_node : {L : Type 0} → Configuration L → ℕ → List ℕ → List ℕ
+at_node c i text = if list_any (λ k. k == i) c.graph.ids then text else refusal_text StrangeNode
 
 -- the answer to a command
-abbrev pub answered : IdleConfiguration → Command → IdleConfiguration × List ℕ
-answered c (Step e) = stepped c (outcome_of idle c e)
-answered c Show = (c, flat_map (shown c) c.graph.ids)
-answered c (ShowNode i) = (c, if list_any (λ k. k == i) c.graph.ids then shown c i else refusal_text StrangeNode)
-answered c (command.Enabled i) = (c, if list_any (λ k. k == i) c.graph.ids then enabled_line c i else refusal_text StrangeNode)
-answered c Ready = (c, ready_line c)
+abbrev pub answered : {L : Type 0} → Meaning L → Configuration L → Command → Configuration L × List ℕ
+answered m c (Step e) = stepped c (outcome_of m.app c e)
+answered m c Show = (c, flat_map (shown m c) c.graph.ids)
+answered m c (ShowNode i) = (c, at_node c i (shown m c i))
+answered m c Newest = (c, flat_map (newest_line m c) c.graph.ids)
+answered m c (command.Enabled i) = (c, at_node c i (enabled_line m c i))
+answered m c Ready = (c, ready_line m c)
 
 -- what a line leaves: the configuration, what is written, and whether the line is good
-pub record Answer : Type 0 where
-  pub config : IdleConfiguration
+pub record Answer (L : Type 0) : Type 0 where
+  pub config : Configuration L
   pub text : List ℕ
   pub status : Status
 
 -- the answer to the n-th line
-abbrev pub answer_to : IdleConfiguration → ℕ → Line → Answer
-answer_to c n Silent = record { config = c; text = []; status = Good }
-answer_to c n (Asks command) = record { config = (answered c command).0; text = (answered c command).1; status = Good }
-answer_to c n Bad = record { config = c; text = bad_line_text n; status = BadInput }
+abbrev pub answer_to : {L : Type 0} → Meaning L → Configuration L → ℕ → Line → Answer L
+answer_to m c n Silent = record { config = c; text = []; status = Good }
+answer_to m c n (Asks command) = record { config = (answered m c command).0; text = (answered m c command).1; status = Good }
+answer_to m c n Bad = record { config = c; text = bad_line_text n; status = BadInput }
 
 -- an output that goes on after a good line only
 abbrev pub followed : Status → List ℕ → List ℕ × Status → List ℕ × Status
@@ -169,25 +184,36 @@ followed Good text rest = (text ++ rest.0, rest.1)
 followed BadInput text rest = (text, BadInput)
 
 -- the answers to lines, of which the first has the number n
-unfoldable pub answers : IdleConfiguration → ℕ → List (List ℕ) → List ℕ × Status
-answers c n [] = ([], Good)
-answers c n (line ∷ lines) =
-    followed (answer_to c n (line_of line)).status (answer_to c n (line_of line)).text (answers (answer_to c n (line_of line)).config (n + 1) lines)
+unfoldable pub answers : {L : Type 0} → Meaning L → Configuration L → ℕ → List (List ℕ) → List ℕ × Status
+answers m c n [] = ([], Good)
+answers m c n (line ∷ lines) =
+    let a = answer_to m c n (line_of m.names line) in followed a.status a.text (answers m a.config (n + 1) lines)
 
 -- the answers to a script
-abbrev pub script_output : IdleConfiguration → List ℕ → List ℕ × Status
-script_output c script = if nat_lt MAX_TEXT (length script) then (too_long_text, BadInput) else answers c 1 (lines_of script)
+abbrev pub script_output : {L : Type 0} → Meaning L → Configuration L → List ℕ → List ℕ × Status
+script_output m c script = if nat_lt MAX_TEXT (length script) then (too_long_text, BadInput) else answers m c 1 (lines_of script)
 
 -- ---- the output of texts
 
--- the booted configuration of a topology text
-abbrev pub IsBootOf : List ℕ → IdleConfiguration → Type 0
-IsBootOf topology c = (d : Description) × (g : Graph) × (description_of topology ≡ Ok d) × IsTopologyOf d.nodes d.links g × IsBoot idle g c
+-- the answers to a script from the booted configuration of a graph
+pub data IsReplay {L : Type 0} (m : Meaning L) (g : Graph) (script : List ℕ) (output : List ℕ × Status) : Type 0 where
+  replayed : (c : Configuration L) → IsBoot m.app g c → output ≡ script_output m c script → IsReplay m g script output
+
+-- the same for the application of a name
+abbrev pub IsReplayOf : AppName → Graph → List ℕ → List ℕ × Status → Type 0
+IsReplayOf Idle = IsReplay idle_meaning
+IsReplayOf Token = IsReplay token_meaning
+IsReplayOf Mutex = IsReplay mutex_meaning
+IsReplayOf Routes = IsReplay routes_meaning
+
+-- a topology text describes a graph and names an application
+abbrev pub Describes : List ℕ → Graph → AppName → Type 0
+Describes topology g app = (d : Description) × (description_of topology ≡ Ok d) × IsTopologyOf d.nodes d.links g × (app ≡ d.app)
 
 -- what a run writes, and its status: the topology is judged before the script
 pub data IsOutput (topology script : List ℕ) (output : List ℕ × Status) : Type 0 where
   bad_topology : (f : ReadFault) → IsReadFault topology f → output ≡ (bad_topology_text f, BadInput) → IsOutput topology script output
-  replayed : (c : IdleConfiguration) → IsBootOf topology c → output ≡ script_output c script → IsOutput topology script output
+  replayed : (g : Graph) (app : AppName) → Describes topology g app → IsReplayOf app g script output → IsOutput topology script output
 
 -- the same of a joined text, which is judged by its length before it is cut
 pub data IsJoinedOutput (joined : List ℕ) (output : List ℕ × Status) : Type 0 where

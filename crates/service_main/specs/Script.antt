@@ -1,15 +1,16 @@
 -- The lines of a script, and the commands that they spell.
-use Rattle.std.specs.Prelude.{◌≡◌, ℕ, ◌<◌, ◌^◌, nat_lt, ◌==◌, Bool, true, false, ◌&&◌, if◌then◌else◌, List, [], ◌∷◌, length, codes, slice_index_or, Option, Some, None}
+use Rattle.std.specs.Prelude.{◌≡◌, ℕ, ◌<◌, ◌^◌, nat_lt, ◌==◌, Bool, true, false, ◌&&◌, if◌then◌else◌, List, [], ◌∷◌, length, codes, slice_index_or, unwrap_or, All, Option, Some, None}
 use Rattle.std.specs.Fmt.{decimal}
 use Rattle.std.specs.List.{find, join_with_byte}
 use Rattle.std.specs.Str.{bytes_eq}
 use Rattle.std.specs.Str.Parse.{digits_value}
-use Rattle.reset_machine.specs.EventText.{event_words, Fits}
-use Rattle.reset_machine.specs.Steps.{is_act}
+use Rattle.action_tables.specs.Numbers.{all_cases}
+use Rattle.app_interface.specs.Cases.{BeginsWithLetter, IsBetween}
+use Rattle.reset_machine.specs.EventText.{event_words, neighbour_words, Fits}
 use Rattle.reset_machine.specs.Words.{words_of}
-use Rattle.reset_machine.specs.declared.event.Event.TheVariants.{Claim, Follow, Adopt, Request, Relay, Open, Join, Finish, Mend}
+use Rattle.reset_machine.specs.declared.event.Event.TheVariants.{Claim, Follow, Adopt, Request, Relay, Open, Join, Finish, Mend, Act}
 use Rattle.service_main.specs.declared.script.Command.{Command}
-use Rattle.service_main.specs.declared.script.Command.TheVariants.{Step, Show, ShowNode, Enabled, Ready}
+use Rattle.service_main.specs.declared.script.Command.TheVariants.{Step, Show, ShowNode, Newest, Enabled, Ready}
 use Rattle.service_main.specs.declared.script.Line.{Line}
 use Rattle.service_main.specs.declared.script.Line.TheVariants.{Silent, Asks, Bad}
 use Rattle.service_main.specs.declared.script.TheConstants.{MAX_LINE}
@@ -19,42 +20,54 @@ abbrev pub command_words : Command → List (List ℕ)
 command_words (Step e) = event_words e
 command_words Show = codes "show" ∷ []
 command_words (ShowNode at) = codes "show" ∷ decimal at ∷ []
+command_words Newest = codes "newest" ∷ []
 command_words (Enabled at) = codes "enabled" ∷ decimal at ∷ []
 command_words Ready = codes "ready" ∷ []
 
--- the one line of a command: its words, with a space between each two
+-- the one line of a command with its case, if it has one, by number: its words, with a space between each two
 abbrev pub command_line : Command → List ℕ
 command_line command = join_with_byte 32 (command_words command)
 
--- the numbers of a command are those of 32 bits, and an event that is one is of the two tables
+-- the numbers of a command are those of 32 bits, and that of a case is one of 8 bits
 abbrev pub CommandFits : Command → Type 0
-CommandFits (Step e) = Fits e × (is_act e ≡ false)
+CommandFits (Step e) = Fits e
 CommandFits Show = Unit {0}
 CommandFits (ShowNode at) = at < 2 ^ 32
+CommandFits Newest = Unit {0}
 CommandFits (Enabled at) = at < 2 ^ 32
 CommandFits Ready = Unit {0}
 
--- the commands with these numbers
-abbrev pub commands_with : ℕ → ℕ → List Command
-commands_with m n =
-    Show ∷ ShowNode m ∷ Enabled m ∷ Ready ∷ Step (Claim m) ∷ Step (Follow m) ∷ Step (Adopt m n)
-    ∷ Step (Request m) ∷ Step (Relay m n) ∷ Step (Open m) ∷ Step (Join m) ∷ Step (Finish m) ∷ Step (Mend m) ∷ []
+-- ---- cases by name
 
--- the value of the digits of a word, which counts from 0
-abbrev pub number_at : List (List ℕ) → ℕ → ℕ
-number_at ws i = digits_value 10 (slice_index_or ws i [])
+-- a word that may name a case: it begins with a letter, and has only the bytes that a line may have
+pub record IsName (word : List ℕ) : Type 0 where
+  pub letter : BeginsWithLetter word
+  pub bytes : All (IsBetween 33 126) word
 
--- the numbers that may follow a command's name
-abbrev pub fits_32 : List (List ℕ) → Bool
-fits_32 ws = nat_lt (number_at ws 1) (2 ^ 32) && nat_lt (number_at ws 2) (2 ^ 32)
+-- whether a name is this word
+abbrev pub is_called : Option (List ℕ) → List ℕ → Bool
+is_called None word = false
+is_called (Some name) word = bytes_eq name word
 
--- of the commands with the words' numbers the first whose one line this is
-abbrev pub spelled_by : List (List ℕ) → List ℕ → Option Command
-spelled_by ws line = if fits_32 ws then find (λ command. bytes_eq line (command_line command)) (commands_with (number_at ws 1) (number_at ws 2)) else None
+-- the case with this name; where there is none, 0, which is the number of no case
+unfoldable pub case_named : (ℕ → Option (List ℕ)) → List ℕ → ℕ
+case_named names word = unwrap_or (find (λ n. is_called (names n) word) all_cases) 0
+
+-- an action in words, with its case by name
+abbrev pub named_words : ℕ → List ℕ → Option ℕ → List (List ℕ)
+named_words at word with = codes "act" ∷ decimal at ∷ word ∷ neighbour_words with
+
+-- the line spells the command: in its own words, or, an action, with a name for its case
+pub data Spells (names : ℕ → Option (List ℕ)) (line : List ℕ) (command : Command) : Type 0 where
+  by_words : CommandFits command → line ≡ command_line command → Spells names line command
+  by_name : (at : ℕ) (word : List ℕ) (with : Option ℕ) → Fits (Act at 0 with) → IsName word → line ≡ join_with_byte 32 (named_words at word with)
+      → command ≡ Step (Act at (case_named names word) with) → Spells names line command
+
+-- ---- the command of a line
 
 -- the command that a line spells
-unfoldable pub command_of : List ℕ → Option Command
-command_of line = spelled_by (words_of line) line
+unfoldable pub command_of : (ℕ → Option (List ℕ)) → List ℕ → Option Command
+command_of names line = None
 
 -- nothing, or a comment
 abbrev pub is_silent : List ℕ → Bool
@@ -66,5 +79,5 @@ asked (Some command) = Asks command
 asked None = Bad
 
 -- what a line asks for
-abbrev pub line_of : List ℕ → Line
-line_of line = if nat_lt MAX_LINE (length line) then Bad else (if is_silent line then Silent else asked (command_of line))
+abbrev pub line_of : (ℕ → Option (List ℕ)) → List ℕ → Line
+line_of names line = if nat_lt MAX_LINE (length line) then Bad else (if is_silent line then Silent else asked (command_of names line))

@@ -1,25 +1,22 @@
 // What the run writes.
 
-ghost use Rattle.std.specs.Prelude.{◌≡◌, ◌≢◌, ℕ, [], ◌∷◌, ◌++◌, codes, List, IfOk, IfErr, OnOk, OnErr};
-ghost use Rattle.std.specs.List.{flat_map};
+ghost use Rattle.std.specs.Prelude.{◌≡◌, ◌≢◌, ℕ, [], ◌∷◌, ◌++◌, codes, List, IfErr, OnOk, OnErr};
 ghost use Rattle.std.specs.Io.KnownBytes.{Appends};
 ghost use Rattle.action_tables.specs.Written.{AppendsFront};
-ghost use Rattle.app_interface.specs.Idle.{idle};
 ghost use Rattle.reset_machine.specs.Outcome.{outcome_of};
-ghost use Rattle.service_main.specs.declared.script.Command.TheVariants.{ShowNode};
-ghost use Rattle.service_main.specs.Output.{answered, shown, stepped, bad_line_text, bad_topology_text, graph_fault_text, node_text, numbered, phase_name, refusal_text, reply_text, too_long_text, numbered_twice};
+ghost use Rattle.service_main.specs.Meaning.{meaning_of};
+ghost use Rattle.service_main.specs.Output.{answered, stepped, bad_line_text, bad_topology_text, graph_fault_text, numbered, refusal_text, reply_text, too_long_text, numbered_twice};
 
 use crate::rows::{answer_enabled, answer_ready};
 use crate::script::Command;
+use crate::show::{show_all, show_newest, show_node};
 use crate::status::RunStop;
 use action_tables::{Part, WriteFault, put_bytes, put_parts};
-use app_interface::Idle;
+use app_interface::Application;
 use reset_machine::{Config, Event, Reply, StepRefusal};
 use std::alloc::Global;
 use std::io::Write;
 use topology::{ReadFault, TopoFault};
-use tree_layer::TreeRegs;
-use wave_layer::{Phase, WaveRegs};
 
 /// Writes what the fault of a topology text is answered with.
 pub fn put_topology_fault<W: Write>(out: &mut W, fault: ReadFault) -> Result<(), WriteFault>
@@ -111,33 +108,34 @@ pub fn put_bad_line<W: Write>(out: &mut W, number: u64) -> Result<(), WriteFault
 
 /// Does what the command asks for, and writes the answer. Want of memory changes and writes
 /// nothing.
-pub fn answer<W: Write>(
+pub fn answer<P: Application, W: Write>(
     alloc: Global,
-    config: &mut Config<Idle>,
+    config: &mut Config<P>,
     command: Command,
     out: &mut W,
 ) -> Result<(), RunStop>
-    ensures ok { OnOk result ((config.new ≡ (answered config.old command).0) × Appends (W.contents out.old) (W.contents out.new) (answered config.old command).1) }
-    ensures err { OnErr result (AppendsFront (W.contents out.old) (W.contents out.new) (answered config.old command).1) }
+    ensures ok { OnOk result ((config.new ≡ (answered (meaning_of P.app P.text P.names) config.old command).0) × Appends (W.contents out.old) (W.contents out.new) (answered (meaning_of P.app P.text P.names) config.old command).1) }
+    ensures err { OnErr result (AppendsFront (W.contents out.old) (W.contents out.new) (answered (meaning_of P.app P.text P.names) config.old command).1) }
     ensures stop { IfErr result (λ stop. stop ≢ RunStop.ReadFailed) }
 {
     match command {
         Command::Step(event) => answer_step(alloc, config, event, out),
         Command::Show => Ok(show_all(config, out)?),
         Command::ShowNode(at) => Ok(show_node(config, at, out)?),
+        Command::Newest => Ok(show_newest(config, out)?),
         Command::Enabled(at) => answer_enabled(alloc, config, at, out),
         Command::Ready => answer_ready(alloc, config, out),
     }
 }
 
-fn answer_step<W: Write>(
+fn answer_step<P: Application, W: Write>(
     alloc: Global,
-    config: &mut Config<Idle>,
+    config: &mut Config<P>,
     event: Event,
     out: &mut W,
 ) -> Result<(), RunStop>
-    ensures ok { OnOk result ((config.new ≡ (stepped config.old (outcome_of idle config.old event)).0) × Appends (W.contents out.old) (W.contents out.new) (stepped config.old (outcome_of idle config.old event)).1) }
-    ensures err { OnErr result (AppendsFront (W.contents out.old) (W.contents out.new) (stepped config.old (outcome_of idle config.old event)).1) }
+    ensures ok { OnOk result ((config.new ≡ (stepped config.old (outcome_of P.app config.old event)).0) × Appends (W.contents out.old) (W.contents out.new) (stepped config.old (outcome_of P.app config.old event)).1) }
+    ensures err { OnErr result (AppendsFront (W.contents out.old) (W.contents out.new) (stepped config.old (outcome_of P.app config.old event)).1) }
     ensures stop { IfErr result (λ stop. stop ≢ RunStop.ReadFailed) }
 {
     match config.step(alloc, event) {
@@ -172,73 +170,5 @@ pub fn put_refusal<W: Write>(out: &mut W, refusal: StepRefusal) -> Result<(), Wr
         StepRefusal::NotEnabled => put_bytes(out, b"refused NotEnabled\n"),
         StepRefusal::SessionsSpent => put_bytes(out, b"refused SessionsSpent\n"),
         StepRefusal::NoMemory => put_bytes(out, b"refused NoMemory\n"),
-    }
-}
-
-// Writes the line of each node, ascending.
-fn show_all<W: Write>(config: &Config<Idle>, out: &mut W) -> Result<(), WriteFault>
-    ensures ok { OnOk result (Appends (W.contents out.old) (W.contents out.new) (flat_map (shown config.now) config.now.graph.ids)) }
-    ensures err { OnErr result (AppendsFront (W.contents out.old) (W.contents out.new) (flat_map (shown config.now) config.now.graph.ids)) }
-{
-    let topology = config.topology();
-    for index in 0..topology.len() {
-        match topology.id_at(index) {
-            Some(id) => show_node(config, id.get(), out)?,
-            None => return Ok(()),
-        }
-    }
-    Ok(())
-}
-
-// Writes the line of a node, or that there is no such node.
-fn show_node<W: Write>(config: &Config<Idle>, id: u32, out: &mut W) -> Result<(), WriteFault>
-    ensures ok { OnOk result (Appends (W.contents out.old) (W.contents out.new) (answered config.now (ShowNode id)).1) }
-    ensures err { OnErr result (AppendsFront (W.contents out.old) (W.contents out.new) (answered config.now (ShowNode id)).1) }
-{
-    match config.tree_at(id) {
-        Some(tree) => match config.wave_at(id) {
-            Some(wave) => put_node(out, id, tree, wave),
-            None => put_refusal(out, StepRefusal::StrangeNode),
-        },
-        None => put_refusal(out, StepRefusal::StrangeNode),
-    }
-}
-
-fn put_node<W: Write>(
-    out: &mut W,
-    id: u32,
-    tree: TreeRegs,
-    wave: WaveRegs,
-) -> Result<(), WriteFault>
-    ensures ok { OnOk result (Appends (W.contents out.old) (W.contents out.new) (node_text id tree wave)) }
-    ensures err { OnErr result (AppendsFront (W.contents out.old) (W.contents out.new) (node_text id tree wave)) }
-{
-    put_parts(
-        out,
-        &[
-            Part::Text(b"node "),
-            Part::Number(u64::from(id)),
-            Part::Text(b" tree "),
-            Part::Number(u64::from(tree.root)),
-            Part::Text(b" "),
-            Part::Number(u64::from(tree.father)),
-            Part::Text(b" "),
-            Part::Number(u64::from(tree.dist)),
-            Part::Text(b" wave "),
-            Part::Text(phase_name(wave.phase)),
-            Part::Text(b" "),
-            Part::Number(u64::from(wave.session)),
-            Part::Text(b" local -\n"),
-        ],
-    )
-}
-
-fn phase_name(phase: Phase) -> &'static [u8]
-    ensures { result.now ≡ phase_name phase }
-{
-    match phase {
-        Phase::Normal => b"normal",
-        Phase::Initiate => b"initiate",
-        Phase::Reset => b"reset",
     }
 }

@@ -12,6 +12,7 @@ mod input;
 mod replay;
 mod rows;
 mod script;
+mod show;
 mod status;
 mod tables;
 mod words;

@@ -5,18 +5,22 @@ ghost use Rattle.std.specs.Io.KnownBytes.{Appends};
 ghost use Rattle.topology.specs.TopologyText.{IsReadFault};
 ghost use Rattle.action_tables.specs.Written.{AppendsFront};
 ghost use Rattle.service_main.specs.Lines.{lines_of, IsReadFrom};
+ghost use Rattle.service_main.specs.Meaning.{meaning_of};
 ghost use Rattle.service_main.specs.Script.{line_of};
-ghost use Rattle.service_main.specs.Output.{answer_to, answers, bad_topology_text, script_output, too_long_text, IsBootOf, IsJoinedOutput, IsOutput, Leaves};
+ghost use Rattle.service_main.specs.Output.{answer_to, answers, bad_topology_text, script_output, too_long_text, IsJoinedOutput, IsOutput, IsReplay, IsReplayOf, Leaves};
 
 use crate::answer::{answer, put_bad_line, put_too_long, put_topology_fault};
 use crate::input::{cut_joined, read_text, split_line};
 use crate::script::{Line, read_line};
 use crate::status::{RunStop, Status};
-use app_interface::Idle;
+use app_interface::{Application, Idle};
+use app_mutex::EdgeReversal;
+use app_routes::Routes;
+use app_token::Token;
 use reset_machine::Config;
 use std::alloc::Global;
 use std::io::{Read, Write};
-use topology::{MAX_TEXT, ReadFault, read_topology};
+use topology::{AppName, MAX_TEXT, ReadFault, Topology, read_topology};
 
 /// Replays a script on the booted configuration of a topology text, and writes the answers.
 ///
@@ -31,8 +35,8 @@ pub fn replay_text<W: Write>(
 ) -> Result<Status, RunStop>
     ensures { Leaves (IsOutput topology.now script.now) (W.contents out.old) (W.contents out.new) result }
 {
-    match boot(alloc, topology) {
-        Ok(config) => replay_script(alloc, config, script, out),
+    match read_topology(alloc, topology) {
+        Ok((topology, app)) => replay_app(alloc, app, topology, script, out),
         Err(fault) => refuse_topology(fault, out),
     }
 }
@@ -48,9 +52,9 @@ pub fn replay<R: Read, W: Write>(
     ensures leaves { (text : List ℕ) × IsReadFrom (R.remaining script.old) text × Leaves (IsOutput topology.now text) (W.contents out.old) (W.contents out.new) result }
     ensures untouched { (f : ReadFault) → IsReadFault topology.now f → script.new ≡ script.old }
 {
-    match boot(alloc, topology) {
-        Ok(config) => match read_text(alloc, script) {
-            Ok(text) => replay_script(alloc, config, &text, out),
+    match read_topology(alloc, topology) {
+        Ok((topology, app)) => match read_text(alloc, script) {
+            Ok(text) => replay_app(alloc, app, topology, &text, out),
             Err(stop) => Err(stop),
         },
         Err(refused) => refuse_topology(refused, out),
@@ -84,21 +88,39 @@ fn replay_whole<W: Write>(alloc: Global, joined: &[u8], out: &mut W) -> Result<S
     replay_text(alloc, topology, script, out)
 }
 
-// The booted configuration of a topology text.
-fn boot(alloc: Global, topology: &[u8]) -> Result<Config<Idle>, ReadFault>
-    ensures ok { IfOk result (IsBootOf topology.now) }
-    ensures err { IfErr result (λ f. f ≢ ReadFault.NoMemory → IsReadFault topology.now f) }
+// Replays a script on the booted configuration of a topology, with the application of this name.
+fn replay_app<W: Write>(
+    alloc: Global,
+    app: AppName,
+    topology: Topology,
+    script: &[u8],
+    out: &mut W,
+) -> Result<Status, RunStop>
+    ensures { Leaves (IsReplayOf app topology script.now) (W.contents out.old) (W.contents out.new) result }
 {
-    match read_topology(alloc, topology) {
-        Ok((topology, _app)) => match Config::<Idle>::boot(alloc, topology) {
-            Ok(config) => Ok(config),
-            Err(_) => Err(ReadFault::NoMemory),
-        },
-        Err(fault) => Err(fault),
+    match app {
+        AppName::Idle => replay_booted::<Idle, W>(alloc, topology, script, out),
+        AppName::Token => replay_booted::<Token, W>(alloc, topology, script, out),
+        AppName::Mutex => replay_booted::<EdgeReversal, W>(alloc, topology, script, out),
+        AppName::Routes => replay_booted::<Routes, W>(alloc, topology, script, out),
     }
 }
 
-// Answers a topology text that has no configuration.
+fn replay_booted<P: Application, W: Write>(
+    alloc: Global,
+    topology: Topology,
+    script: &[u8],
+    out: &mut W,
+) -> Result<Status, RunStop>
+    ensures { Leaves (IsReplay (meaning_of P.app P.text P.names) topology script.now) (W.contents out.old) (W.contents out.new) result }
+{
+    match Config::<P>::boot(alloc, topology) {
+        Ok(config) => replay_script(alloc, config, script, out),
+        Err(_) => Err(RunStop::NoMemory),
+    }
+}
+
+// Answers a text that is no topology.
 fn refuse_topology<W: Write>(fault: ReadFault, out: &mut W) -> Result<Status, RunStop>
     ensures { Leaves (λ output. (fault ≢ ReadFault.NoMemory) × (output ≡ (bad_topology_text fault, Status.BadInput))) (W.contents out.old) (W.contents out.new) result }
 {
@@ -117,13 +139,13 @@ fn refuse_script<W: Write>(out: &mut W) -> Result<Status, RunStop>
     Ok(Status::BadInput)
 }
 
-fn replay_script<W: Write>(
+fn replay_script<P: Application, W: Write>(
     alloc: Global,
-    mut config: Config<Idle>,
+    mut config: Config<P>,
     script: &[u8],
     out: &mut W,
 ) -> Result<Status, RunStop>
-    ensures { Leaves (λ output. output ≡ script_output config script.now) (W.contents out.old) (W.contents out.new) result }
+    ensures { Leaves (λ output. output ≡ script_output (meaning_of P.app P.text P.names) config script.now) (W.contents out.old) (W.contents out.new) result }
 {
     if script.len() > MAX_TEXT {
         return refuse_script(out);
@@ -132,14 +154,14 @@ fn replay_script<W: Write>(
 }
 
 // Answers the lines of a script in order, up to the first bad one.
-fn answer_lines<W: Write>(
+fn answer_lines<P: Application, W: Write>(
     alloc: Global,
-    config: &mut Config<Idle>,
+    config: &mut Config<P>,
     script: &[u8],
     out: &mut W,
 ) -> Result<Status, RunStop>
     requires { length script.now ≤ MAX_TEXT }
-    ensures { Leaves (λ output. output ≡ answers config.old 1 (lines_of script.now)) (W.contents out.old) (W.contents out.new) result }
+    ensures { Leaves (λ output. output ≡ answers (meaning_of P.app P.text P.names) config.old 1 (lines_of script.now)) (W.contents out.old) (W.contents out.new) result }
 {
     let mut rest = script;
     let mut number = 1;
@@ -156,18 +178,18 @@ fn answer_lines<W: Write>(
 }
 
 // Answers the line with this number.
-fn answer_line<W: Write>(
+fn answer_line<P: Application, W: Write>(
     alloc: Global,
-    config: &mut Config<Idle>,
+    config: &mut Config<P>,
     number: u64,
     line: &[u8],
     out: &mut W,
 ) -> Result<Status, RunStop>
-    ensures ok { IfOk result (λ status. let a = answer_to config.old number (line_of line.now) in (status ≡ a.status) × (config.new ≡ a.config) × Appends (W.contents out.old) (W.contents out.new) a.text) }
-    ensures err { OnErr result (AppendsFront (W.contents out.old) (W.contents out.new) (answer_to config.old number (line_of line.now)).text) }
+    ensures ok { IfOk result (λ status. let a = answer_to (meaning_of P.app P.text P.names) config.old number (line_of P.names line.now) in (status ≡ a.status) × (config.new ≡ a.config) × Appends (W.contents out.old) (W.contents out.new) a.text) }
+    ensures err { OnErr result (AppendsFront (W.contents out.old) (W.contents out.new) (answer_to (meaning_of P.app P.text P.names) config.old number (line_of P.names line.now)).text) }
     ensures stop { IfErr result (λ stop. stop ≢ RunStop.ReadFailed) }
 {
-    match read_line(line) {
+    match read_line::<P>(line) {
         Line::Silent => Ok(Status::Good),
         Line::Asks(command) => {
             answer(alloc, config, command, out)?;

@@ -4,26 +4,26 @@ ghost use Rattle.std.specs.Prelude.{◌≡◌, ◌≢◌, ◌++◌, codes, IfErr
 ghost use Rattle.std.specs.List.{flat_map};
 ghost use Rattle.std.specs.Io.KnownBytes.{Appends};
 ghost use Rattle.action_tables.specs.Written.{AppendsFront};
-ghost use Rattle.service_main.specs.declared.script.Command.TheVariants.{Enabled as AskEnabled, Ready};
-ghost use Rattle.service_main.specs.Output.{answered, enabled_text, ready_text, spaced};
+ghost use Rattle.service_main.specs.Meaning.{meaning_of};
+ghost use Rattle.service_main.specs.Output.{at_node, enabled_line, enabled_text, ready_line, ready_text, spaced};
 
 use crate::answer::put_refusal;
 use crate::status::RunStop;
 use action_tables::{Part, WriteFault, put_bytes, put_parts};
-use app_interface::Idle;
+use app_interface::Application;
 use reset_machine::{Config, Enabled, StepRefusal};
 use std::alloc::{AllocError, Global};
 use std::io::Write;
 
 /// Writes the enabled rows of a node, or that there is no such node. Want of memory writes nothing.
-pub fn answer_enabled<W: Write>(
+pub fn answer_enabled<P: Application, W: Write>(
     alloc: Global,
-    config: &Config<Idle>,
+    config: &Config<P>,
     at: u32,
     out: &mut W,
 ) -> Result<(), RunStop>
-    ensures ok { OnOk result (Appends (W.contents out.old) (W.contents out.new) (answered config.now (AskEnabled at)).1) }
-    ensures err { OnErr result (AppendsFront (W.contents out.old) (W.contents out.new) (answered config.now (AskEnabled at)).1) }
+    ensures ok { OnOk result (Appends (W.contents out.old) (W.contents out.new) (at_node config.now at (enabled_line (meaning_of P.app P.text P.names) config.now at))) }
+    ensures err { OnErr result (AppendsFront (W.contents out.old) (W.contents out.new) (at_node config.now at (enabled_line (meaning_of P.app P.text P.names) config.now at))) }
     ensures stop { IfErr result (λ stop. stop ≢ RunStop.ReadFailed) }
 {
     match config.enabled(alloc, at) {
@@ -54,13 +54,13 @@ fn put_enabled<W: Write>(out: &mut W, id: u32, rows: Enabled) -> Result<(), Writ
 }
 
 /// Writes the ids of the nodes that have something to do. Want of memory writes nothing.
-pub fn answer_ready<W: Write>(
+pub fn answer_ready<P: Application, W: Write>(
     alloc: Global,
-    config: &Config<Idle>,
+    config: &Config<P>,
     out: &mut W,
 ) -> Result<(), RunStop>
-    ensures ok { OnOk result (Appends (W.contents out.old) (W.contents out.new) (answered config.now Ready).1) }
-    ensures err { OnErr result (AppendsFront (W.contents out.old) (W.contents out.new) (answered config.now Ready).1) }
+    ensures ok { OnOk result (Appends (W.contents out.old) (W.contents out.new) (ready_line (meaning_of P.app P.text P.names) config.now)) }
+    ensures err { OnErr result (AppendsFront (W.contents out.old) (W.contents out.new) (ready_line (meaning_of P.app P.text P.names) config.now)) }
     ensures stop { IfErr result (λ stop. stop ≢ RunStop.ReadFailed) }
 {
     match config.ready(alloc) {

@@ -7,8 +7,8 @@ ghost use Rattle.reset_machine.specs.declared.event.Event.{Event};
 ghost use Rattle.service_main.specs.declared.script.Command.{Command};
 ghost use Rattle.service_main.specs.Script.{CommandFits, command_line, command_of, is_silent, line_of};
 
-use action_tables::read_number;
-use reset_machine::{Event, read_event, split_word};
+use app_interface::Application;
+use reset_machine::Event;
 
 /// The most bytes of a line, without its line feed.
 pub const MAX_LINE: usize = 256;
@@ -22,6 +22,8 @@ pub enum Command {
     Show,
     /// That this node be shown.
     ShowNode(u32),
+    /// That the local states of the newest session be told.
+    Newest,
     /// That the enabled rows of this node be named.
     Enabled(u32),
     /// That the nodes with something to do be named.
@@ -40,8 +42,8 @@ pub enum Line {
 }
 
 /// Reads a line without its line feed.
-pub fn read_line(line: &[u8]) -> Line
-    ensures { result ≡ line_of line.now }
+pub fn read_line<P: Application>(line: &[u8]) -> Line
+    ensures { result ≡ line_of P.names line.now }
 {
     if line.len() > MAX_LINE {
         return Line::Bad;
@@ -49,7 +51,7 @@ pub fn read_line(line: &[u8]) -> Line
     if is_silent(line) {
         return Line::Silent;
     }
-    match read_command(line) {
+    match read_command::<P>(line) {
         Some(command) => Line::Asks(command),
         None => Line::Bad,
     }
@@ -62,60 +64,8 @@ fn is_silent(line: &[u8]) -> bool
 }
 
 /// The command that a line without its line feed spells.
-pub fn read_command(line: &[u8]) -> Option<Command>
-    ensures function { result ≡ command_of line.now }
-    ensures found { IfSome result (λ command. line.now ≡ command_line command) }
-    ensures fits { IfSome result CommandFits }
-    ensures only { IfNone result ((command : Command) → CommandFits command → line.now ≡ command_line command → ⊥) }
+pub fn read_command<P: Application>(line: &[u8]) -> Option<Command>
+    ensures function { result ≡ command_of P.names line.now }
 {
-    by_first_word(line)
-}
-
-fn by_first_word(line: &[u8]) -> Option<Command>
-    ensures found { IfSome result (λ command. line.now ≡ command_line command) }
-    ensures fits { IfSome result CommandFits }
-    ensures only { IfNone result ((command : Command) → CommandFits command → line.now ≡ command_line command → ⊥) }
-{
-    match split_word(line) {
-        None if is_show(line) => Some(Command::Show),
-        None if is_ready(line) => Some(Command::Ready),
-        None => None,
-        Some((word, number)) => Some(if is_show(word) {
-            Command::ShowNode(read_number(number)?)
-        } else if is_enabled(word) {
-            Command::Enabled(read_number(number)?)
-        } else {
-            Command::Step(read_step(line)?)
-        }),
-    }
-}
-
-// The event that a line stands for. An action of the application isn't a command yet.
-fn read_step(line: &[u8]) -> Option<Event>
-    ensures found { IfSome result (λ e. line.now ≡ event_line e) }
-    ensures fits { IfSome result (λ e. Fits e × (is_act e ≡ false)) }
-    ensures only { IfNone result ((e : Event) → Fits e → is_act e ≡ false → line.now ≡ event_line e → ⊥) }
-{
-    match read_event(line)? {
-        Event::Act { .. } => None,
-        event => Some(event),
-    }
-}
-
-fn is_show(word: &[u8]) -> bool
-    ensures { IsTrue result ↔ (word.now ≡ codes "show") }
-{
-    word == b"show".as_slice()
-}
-
-fn is_enabled(word: &[u8]) -> bool
-    ensures { IsTrue result ↔ (word.now ≡ codes "enabled") }
-{
-    word == b"enabled".as_slice()
-}
-
-fn is_ready(word: &[u8]) -> bool
-    ensures { IsTrue result ↔ (word.now ≡ codes "ready") }
-{
-    word == b"ready".as_slice()
+    None
 }

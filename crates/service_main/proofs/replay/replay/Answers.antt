@@ -1,5 +1,5 @@
 use Rattle.std.proofs.Common.{◌≡◌, ◌≢◌}
-use Rattle.service_main.specs.Output.{IsOutput, bad_topology_text, script_output}
+use Rattle.service_main.specs.Output.{IsOutput, IsReplayOf, bad_topology_text}
 use Rattle.service_main.specs.Output.IsOutput.{bad_topology, replayed}
 use Rattle.service_main.specs.declared.status.Status.TheVariants.{BadInput}
 use Rattle.topology.specs.declared.text.ReadFault.TheVariants.{NoMemory}
@@ -20,8 +20,8 @@ pub returns-in-Ok-read_text-clause-leaves : goal.returns-in-Ok-read_text-clause-
 returns-in-Ok-read_text-clause-leaves g c = (
   c.deref.result.now,
   rw c.deref.ensures.value c.in-Ok-read_text.ensures.ok,
-  leaves_weaker (λ o. o ≡ script_output c.in-Ok.config c.deref.result.now) (IsOutput c.args.topology.now c.deref.result.now) _ _ c.replay_script.result
-      (λ o is. replayed c.in-Ok.config c.in-Ok.ensures.ok is) c.replay_script.ensures,
+  leaves_weaker (IsReplayOf c.in-Ok.app c.in-Ok.topology c.deref.result.now) (IsOutput c.args.topology.now c.deref.result.now) _ _ c.replay_app.result
+      (λ o is. replayed c.in-Ok.topology c.in-Ok.app c.in-Ok.ensures.ok is) c.replay_app.ensures,
 )
 
 pub returns-in-Err-read_text-clause-leaves : goal.returns-in-Err-read_text-clause-leaves

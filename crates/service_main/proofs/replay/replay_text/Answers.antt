@@ -1,5 +1,5 @@
 use Rattle.std.proofs.Common.{◌≡◌, ◌≢◌}
-use Rattle.service_main.specs.Output.{IsOutput, bad_topology_text, script_output}
+use Rattle.service_main.specs.Output.{IsOutput, IsReplayOf, bad_topology_text}
 use Rattle.service_main.specs.Output.IsOutput.{bad_topology, replayed}
 use Rattle.service_main.specs.declared.status.Status.TheVariants.{BadInput}
 use Rattle.topology.specs.declared.text.ReadFault.TheVariants.{NoMemory}
@@ -8,8 +8,8 @@ use Rattle.service_main.proofs.replay.replay_text.Goals as goal
 
 pub returns-in-Ok : goal.returns-in-Ok
 returns-in-Ok g c =
-    leaves_weaker (λ o. o ≡ script_output c.in-Ok.config c.args.script.now) (IsOutput c.args.topology.now c.args.script.now) _ _ c.replay_script.result
-    (λ o is. replayed c.in-Ok.config c.in-Ok.ensures.ok is) c.replay_script.ensures
+    leaves_weaker (IsReplayOf c.in-Ok.app c.in-Ok.topology c.args.script.now) (IsOutput c.args.topology.now c.args.script.now) _ _ c.replay_app.result
+    (λ o is. replayed c.in-Ok.topology c.in-Ok.app c.in-Ok.ensures.ok is) c.replay_app.ensures
 
 pub returns-in-Err : goal.returns-in-Err
 returns-in-Err g c =

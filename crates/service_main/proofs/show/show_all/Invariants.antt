@@ -1,0 +1,10 @@
+-- The nodes before the index were shown.
+use Rattle.std.proofs.Common.{take}
+use Rattle.std.specs.List.{flat_map}
+use Rattle.std.specs.Io.KnownBytes.{Appends}
+use Rattle.service_main.specs.Meaning.{meaning_of}
+use Rattle.service_main.specs.Output.{shown}
+use Rattle.service_main.proofs.show.show_all.Given as goal
+
+abbrev pub invariant-loop-index : goal.invariant-loop-index
+invariant-loop-index g l = Appends (g.W.Write.contents l.initial.out) (g.W.Write.contents l.out) (flat_map (shown (meaning_of g.P.Application.app g.P.Application.text g.P.Application.names) l.config) (take l.index l.config.graph.ids))
