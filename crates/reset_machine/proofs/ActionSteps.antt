@@ -1,7 +1,6 @@
 -- What a node judges of an action is a step of the application on the whole graph, or its first refusal.
-use Rattle.std.proofs.Common.{◌≡◌, ◌≢◌, ℕ, ◌<◌, ◌==◌, Bool, true, false, not, ◌&&◌, cond, nat_eq, List, [], ◌∷◌, filter, map, Option, Some, None, Result, Ok, Err, ◌⊎◌, inl, inr, refl, sym, ap, ap₂, subst, ◌∙◌, true≢false}
-use Rattle.std.specs.List.{find, list_any}
-use Rattle.std.proofs.lemmas.Bool.{eqb-true, eq-eqb}
+use Rattle.std.proofs.Common.{◌≡◌, ◌≢◌, ℕ, ◌==◌, Bool, true, false, not, ◌&&◌, cond, nat_eq, List, [], ◌∷◌, filter, map, Option, Some, None, Result, Ok, Err, ◌⊎◌, inl, inr, refl, sym, ap, ap₂, subst, ◌∙◌, true≢false}
+use Rattle.std.proofs.lemmas.Bool.{eq-eqb}
 use Rattle.std.proofs.lemmas.Bool.Decides.{eqb_tells}
 use Rattle.std.proofs.lemmas.List.Kept.{IsStrictlyIncreasing-filter}
 use Rattle.app_interface.specs.Application.{App, Fits, is_read, seen}
@@ -12,8 +11,7 @@ use Rattle.topology.proofs.Membership.{has-Contains, Contains-has, has-filter}
 use Rattle.topology.specs.Graph.{Graph, IsGraph, IsNode, AreLinked, are_linked, neighbours_of}
 use Rattle.wave_layer.specs.declared.regs.WaveRegs.{WaveRegs}
 use Rattle.reset_machine.specs.declared.step.StepRefusal.{StepRefusal}
-use Rattle.reset_machine.specs.declared.step.StepRefusal.TheVariants.{StrangeNode, StrangeNeighbour, NoSuchCase, WantsNeighbour, TakesNoNeighbour, Disagrees, NotEnabled}
-use Rattle.reset_machine.specs.Actions.{AllAgree, IsFirstApart, IsAimed, ActRefused, NamesOne, strange_node, strange_neighbour, no_such_case, wants_neighbour, takes_no_neighbour, disagrees, not_enabled, misfit, reads_near, first_apart, judged, fitted_of, acted_of}
+use Rattle.reset_machine.specs.Actions.{AllAgree, IsFirstApart, IsAimed, ActRefused, strange_node, strange_neighbour, no_such_case, wants_neighbour, takes_no_neighbour, disagrees, not_enabled, misfit, reads_near, first_apart, judged, fitted_of, acted_of}
 use Rattle.reset_machine.specs.LocalSteps.{is_neighbour}
 use Rattle.reset_machine.proofs.FirstFound.{find-first, find-none}
 

@@ -1,10 +1,9 @@
 -- Those of the neighbours, given by their indexes, that pass a test; the children among them.
-use Rattle.std.proofs.Common.{◌≡◌, ℕ, suc, ◌+◌, ◌<◌, ◌==◌, nat_eq, if◌then◌else◌, cond, Bool, true, false, List, ◌∷◌, map, filter, length, drop, slice_index, refl, sym, ap, ap₂, ◌∙◌, [], ◌++◌, ◌≢◌, subst, append_assoc, add-one, drop-cons}
+use Rattle.std.proofs.Common.{◌≡◌, ℕ, suc, ◌+◌, ◌<◌, ◌==◌, if◌then◌else◌, cond, Bool, true, false, List, ◌∷◌, map, filter, length, drop, slice_index, refl, sym, ap, ap₂, ◌∙◌, [], ◌++◌, subst, append_assoc, add-one, drop-cons}
 use Rattle.std.specs.List.Sorted.{IsStrictlyIncreasing}
 use Rattle.std.proofs.lemmas.List.Kept.{IsStrictlyIncreasing-filter}
 use Rattle.topology.specs.Graph.{Graph}
 use Rattle.reset_machine.specs.LocalSteps.{children_of}
-use Rattle.std.proofs.lemmas.Bool.{eq-eqb, ne_eqb}
 use Rattle.tree_layer.specs.declared.regs.TreeRegs.{TreeRegs}
 use Rattle.wave_layer.specs.declared.regs.WaveRegs.{WaveRegs}
 

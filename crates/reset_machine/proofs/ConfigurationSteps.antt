@@ -13,10 +13,10 @@ use Rattle.reset_machine.specs.declared.plan.Effect.TheVariants.{Tree, Wave}
 use Rattle.reset_machine.specs.declared.step.Reply.{Reply}
 use Rattle.reset_machine.specs.declared.step.Reply.TheVariants.{Applied}
 use Rattle.reset_machine.specs.declared.step.StepRefusal.{StepRefusal}
-use Rattle.reset_machine.specs.Configuration.{Configuration, IsShaped, put_at, value_at, tree_of, wave_of, local_of, tree_map, wave_map, local_map}
+use Rattle.reset_machine.specs.Configuration.{Configuration, IsShaped, tree_of, wave_of, local_of, tree_map, wave_map, local_map}
 use Rattle.reset_machine.specs.Steps.{event_node, is_act, reply_of}
 use Rattle.reset_machine.specs.MachineSteps.{IsStep, IsRefused, RowStep, row_step, row_refused, act_step, act_refused, local_effect}
-use Rattle.reset_machine.specs.Outcome.{outcome_of, row_outcome, act_outcome, acted, done, after_effect, effect_reply, effect_restarts, restarted}
+use Rattle.reset_machine.specs.Outcome.{outcome_of, row_outcome, act_outcome, acted, done, after_effect, effect_reply, restarted}
 use Rattle.reset_machine.specs.Actions.{acted_of}
 use Rattle.reset_machine.specs.LocalSteps.{planned_of}
 use Rattle.reset_machine.proofs.Places.{value_at-put_at, value_at-put_at_other, put_at-position}

@@ -18,6 +18,7 @@ mod WavePictures
 pub mod SoundSteps
 pub mod Completions
 pub mod RunLists
+pub mod RunMoments
 pub mod Readiness
 pub mod SoundConfigurations
 pub mod StepClauses

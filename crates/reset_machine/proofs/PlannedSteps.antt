@@ -1,6 +1,6 @@
 -- What is planned on a node's view is a step of the whole configuration, or its first refusal.
-use Rattle.std.proofs.Common.{◌≡◌, ℕ, Bool, true, false, cond, nat_eq, Option, Some, None, Result, Ok, Err, MatchResult, refl, sym, ap, subst, ◌∙◌, true≢false}
-use Rattle.topology.specs.Graph.{Graph, IsGraph, IsNode, AreLinked, are_linked}
+use Rattle.std.proofs.Common.{◌≡◌, ℕ, Bool, true, false, cond, Option, Some, None, Result, Ok, Err, MatchResult, refl, sym, ap, subst, ◌∙◌, true≢false}
+use Rattle.topology.specs.Graph.{Graph, IsGraph, IsNode, AreLinked}
 use Rattle.topology.specs.Building.{has}
 use Rattle.topology.proofs.Membership.{has-Contains, Contains-has}
 use Rattle.tree_layer.specs.declared.regs.TreeRegs.{TreeRegs}
@@ -9,16 +9,15 @@ use Rattle.reset_machine.specs.declared.event.Event.{Event}
 use Rattle.reset_machine.specs.declared.event.Event.TheVariants.{Claim, Follow, Adopt, Request, Relay, Open, Join, Finish, Mend, Act}
 use Rattle.reset_machine.specs.declared.plan.Effect.{Effect}
 use Rattle.reset_machine.specs.declared.plan.Effect.TheVariants.{Tree, Wave}
-use Rattle.reset_machine.specs.declared.step.Reply.{Reply}
 use Rattle.reset_machine.specs.declared.step.Reply.TheVariants.{Applied, Complete}
 use Rattle.reset_machine.specs.declared.step.StepRefusal.{StepRefusal}
 use Rattle.reset_machine.specs.declared.step.StepRefusal.TheVariants.{StrangeNode, StrangeNeighbour, NoSuchCase, WantsNeighbour, TakesNoNeighbour, Disagrees, NotEnabled, SessionsSpent, NoMemory}
 use Rattle.reset_machine.specs.Steps.{strange_node, strange_neighbour, not_enabled, sessions_spent, event_node, named_node, IsEnabled, IsSpent, IsNamed, RowRefused, reply_of, tree_effect, wave_effect}
-use Rattle.reset_machine.specs.LocalSteps.{is_neighbour, answer_of, planned_of, children_of}
+use Rattle.reset_machine.specs.LocalSteps.{is_neighbour, answer_of, planned_of}
 use Rattle.reset_machine.specs.Outcome.{tree_left, wave_left, effect_reply, effect_restarts}
 use Rattle.reset_machine.proofs.Planned.{planned_of-strange_node, planned_of-strange_neighbour, planned_of-named}
 use Rattle.reset_machine.proofs.WaveRows.{IsAnswer}
-use Rattle.reset_machine.proofs.WavePlans.{completes_of, restarts_of, WaveAnswers, request_is, relay_is, open_is, join_is, finish_is, mend_is}
+use Rattle.reset_machine.proofs.WavePlans.{completes_of, restarts_of, request_is, relay_is, open_is, join_is, finish_is, mend_is}
 use Rattle.reset_machine.proofs.TreePlans.{IsTreeAnswer, claim_is, follow_is, adopt_is}
 
 module _ (g : Graph) (K : ℕ) (t : ℕ → TreeRegs) (w : ℕ → WaveRegs) (graph : IsGraph g) where

@@ -1,5 +1,5 @@
 -- Sound configurations: the booted one, and what steps make of one.
-use Rattle.std.proofs.Common.{Option, Result, Ok, ◌≡◌, ◌≢◌, ℕ, zero, suc, ◌<◌, ◌≤◌, ◌==◌, Bool, true, false, cond, nat_eq, List, [], ◌∷◌, length, replicate, slice_index, slice_index_or, Contains, refl, sym, ap, subst, ◌∙◌, true≢false, arith}
+use Rattle.std.proofs.Common.{Option, Result, Ok, ◌≡◌, ℕ, zero, suc, Bool, true, false, cond, nat_eq, List, [], ◌∷◌, length, replicate, slice_index, slice_index_or, refl, sym, ap, subst, ◌∙◌, true≢false, arith}
 use Rattle.std.proofs.lemmas.Bool.{eqb-true}
 use Rattle.std.proofs.lemmas.List.{get_or_default}
 use Rattle.app_interface.specs.Application.{App}
@@ -13,7 +13,7 @@ use Rattle.wave_layer.specs.declared.regs.Phase.TheVariants.{Normal}
 use Rattle.reset_machine.specs.declared.event.Event.{Event}
 use Rattle.reset_machine.specs.declared.event.Event.TheVariants.{Claim, Follow, Adopt, Request, Relay, Open, Join, Finish, Mend, Act}
 use Rattle.reset_machine.specs.declared.step.Reply.TheVariants.{Applied, Complete}
-use Rattle.reset_machine.specs.Configuration.{Configuration, value_at, tree_of, wave_of, tree_map, wave_map}
+use Rattle.reset_machine.specs.Configuration.{Configuration, value_at, tree_of, wave_of, tree_map}
 use Rattle.wave_layer.specs.WaveTable.{is_reset}
 use Rattle.reset_machine.specs.Steps.{reply_of, reset_at}
 use Rattle.reset_machine.specs.MachineSteps.{IsStep, row_step, act_step}

@@ -1,11 +1,10 @@
 -- What the outcome of a step says of its answer.
-use Rattle.std.proofs.Common.{◌≡◌, ◌≢◌, ℕ, ◌==◌, Bool, true, false, cond, ◌+◌, ◌<◌, List, [], ◌∷◌, ◌++◌, length, slice_get, slice_index, slice_set, slice_index_or, map, take, position, add-one, Option, Some, IfSome, Result, Ok, Err, IfOk, IfErr, MatchResult, refl, sym, ap, ap₂, subst, ◌∙◌}
+use Rattle.std.proofs.Common.{◌≡◌, ◌≢◌, ℕ, ◌==◌, Bool, true, false, cond, ◌+◌, ◌<◌, List, [], ◌∷◌, ◌++◌, length, slice_get, slice_index, slice_set, slice_index_or, map, take, position, add-one, Option, Some, IfSome, Result, Ok, Err, IfOk, IfErr, MatchResult, refl, sym, ap, ap₂, ◌∙◌}
 use Rattle.std.proofs.lemmas.List.{get_or-map, map-append}
 use Rattle.std.proofs.lemmas.List.Quantifiers.{position-Some}
 use Rattle.std.proofs.lemmas.Option.{slice_get-get_or}
 use Rattle.app_interface.specs.Application.{App}
-use Rattle.topology.specs.Graph.{Graph, IsConnected, IsGraph, IsNode, node_bound}
-use Rattle.tree_layer.specs.declared.regs.TreeRegs.{TreeRegs}
+use Rattle.topology.specs.Graph.{Graph, IsConnected, IsGraph, node_bound}
 use Rattle.wave_layer.specs.declared.regs.WaveRegs.{WaveRegs}
 use Rattle.wave_layer.specs.declared.regs.WaveMove.{WaveMove}
 use Rattle.reset_machine.specs.declared.event.Event.{Event}

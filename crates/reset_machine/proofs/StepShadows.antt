@@ -1,9 +1,8 @@
 -- One step is a run of one event.
-use Rattle.std.proofs.Common.{◌≡◌, ◌≢◌, ℕ, ◌+◌, ◌<◌, Bool, true, false, cond, List, [], ◌∷◌, append-nil, Result, Ok, Err, IfOk, refl, subst, arith}
+use Rattle.std.proofs.Common.{◌≡◌, ◌<◌, true, List, [], ◌∷◌, append-nil, Result, Ok, Err, IfOk, refl, subst, arith}
 use Rattle.app_interface.specs.Application.{App}
 use Rattle.topology.specs.Graph.{IsConnected, IsGraph, node_bound}
 use Rattle.reset_machine.specs.declared.event.Event.{Event}
-use Rattle.reset_machine.specs.declared.step.Done.{Done}
 use Rattle.reset_machine.specs.declared.step.Done.TheVariants.{Did}
 use Rattle.reset_machine.specs.declared.step.Reply.{Reply}
 use Rattle.reset_machine.specs.declared.step.StepRefusal.{StepRefusal}

@@ -1,13 +1,12 @@
 -- What the rows of the wave table answer on a node's view is what the event does to the wave's registers.
-use Rattle.std.proofs.Common.{◌≡◌, ℕ, ◌≤◌, Bool, true, false, cond, nat_eq, List, map, Option, Some, None, Result, Ok, Err, MatchResult, refl, sym, ap, subst, ◌∙◌, ◌⊎◌, inl, inr, ⊎_elim, true≢false}
+use Rattle.std.proofs.Common.{◌≡◌, ℕ, ◌≤◌, Bool, true, false, cond, nat_eq, List, map, Some, None, Result, Ok, Err, refl, sym, ap, subst, ◌∙◌, ◌⊎◌, inl, inr, ⊎_elim, true≢false}
 use Rattle.std.proofs.lemmas.Bool.{eqb-true, eq-eqb}
-use Rattle.topology.specs.Graph.{Graph, IsGraph, IsNode, AreLinked, are_linked}
+use Rattle.topology.specs.Graph.{Graph, IsGraph, are_linked}
 use Rattle.tree_layer.specs.declared.regs.TreeRegs.{TreeRegs}
 use Rattle.wave_layer.specs.declared.regs.WaveRegs.{WaveRegs}
 use Rattle.wave_layer.specs.declared.regs.Phase.{Phase}
 use Rattle.wave_layer.specs.declared.regs.Phase.TheVariants.{Normal, Initiate, Reset}
 use Rattle.wave_layer.specs.declared.regs.FatherSeen.TheVariants.{Itself, Lost, Is}
-use Rattle.wave_layer.specs.declared.regs.WaveMove.{WaveMove}
 use Rattle.wave_layer.specs.WaveTable.{is_reset, is_root, father_regs, child_regs, children_done, next_session}
 use Rattle.reset_machine.specs.declared.event.Event.{Event}
 use Rattle.reset_machine.specs.declared.event.Event.TheVariants.{Claim, Follow, Adopt, Request, Relay, Open, Join, Finish, Mend, Act}
@@ -16,11 +15,10 @@ use Rattle.reset_machine.specs.declared.step.StepRefusal.TheVariants.{StrangeNod
 use Rattle.tree_layer.specs.TreeRows.{IsFather}
 use Rattle.reset_machine.specs.declared.plan.Effect.{Effect}
 use Rattle.reset_machine.specs.declared.plan.Effect.TheVariants as effect
-use Rattle.reset_machine.specs.Steps.{join_normal, join_asked, mend_reset, mend_number, mend_both, mend_late, event_node, named_node, IsEnabled, IsSpent, Joins, Finishes, Mends, wave_effect}
+use Rattle.reset_machine.specs.Steps.{join_normal, join_asked, mend_reset, mend_number, mend_both, mend_late, IsEnabled, IsSpent, Joins, Finishes, Mends, wave_effect}
 use Rattle.reset_machine.specs.LocalSteps.{father_seen, children_of, answer_of}
 use Rattle.reset_machine.proofs.WaveRows.{IsAnswer, IsInvited, IsTorn, Contradict, one_reset, other_number, both_reset, too_late, request_answers, relay_answers, relay_answers-stranger, open_answers, join_answers, finish_answers, mend_answers}
 use Rattle.topology.specs.Building.{has}
-use Rattle.topology.proofs.Membership.{has-Contains, Contains-has}
 use Rattle.reset_machine.proofs.Seen.{is_done, father_seen-itself, father_seen-IsFather, IsFather-father_seen, itself-father_seen, lookup-among, children_done-each, each-children_done, IsFather-is_child, is_child-IsFather}
 
 -- an answer under other names of its parts

@@ -1,5 +1,5 @@
 -- The enabled rows and cases of a node, and the nodes that have something to do.
-use Rattle.std.specs.Prelude.{ℕ, Bool, true, false, not, ◌||◌, ◌==◌, List, [], ◌∷◌, Option, Some, None, Result, is_ok, map, filter}
+use Rattle.std.specs.Prelude.{ℕ, Bool, true, not, ◌||◌, ◌==◌, List, [], ◌∷◌, Option, Some, None, is_ok, map, filter}
 use Rattle.std.specs.List.{list_any}
 use Rattle.action_tables.specs.Numbers.{all_cases}
 use Rattle.action_tables.specs.Table.{enabled_of}

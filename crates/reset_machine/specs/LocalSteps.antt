@@ -1,5 +1,5 @@
 -- The same steps as one node sees them: the rows of an event are tried on its local view.
-use Rattle.std.specs.Prelude.{◌≡◌, ℕ, Bool, true, not, ◌==◌, if◌then◌else◌, List, [], ◌∷◌, Option, Some, None, Result, Ok, Err, map, filter}
+use Rattle.std.specs.Prelude.{ℕ, Bool, true, not, ◌==◌, if◌then◌else◌, List, [], ◌∷◌, Option, Some, None, Result, Ok, Err, map, filter}
 use Rattle.std.specs.List.{list_any}
 use Rattle.topology.specs.Graph.{Graph, are_linked, neighbours_of}
 use Rattle.tree_layer.specs.declared.regs.TreeRegs.{TreeRegs}

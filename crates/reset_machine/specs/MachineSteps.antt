@@ -1,5 +1,5 @@
 -- The steps of a configuration: those of the two tables, and the actions of the application.
-use Rattle.std.specs.Prelude.{◌≡◌, ℕ, Bool, false, Option}
+use Rattle.std.specs.Prelude.{◌≡◌, ℕ, false, Option}
 use Rattle.app_interface.specs.Application.{App}
 use Rattle.topology.specs.Graph.{Graph, Changes, node_bound}
 use Rattle.reset_machine.specs.declared.event.Event.{Event}

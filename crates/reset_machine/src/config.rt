@@ -10,7 +10,7 @@ use crate::action::{Choice, acted};
 use crate::enabled::{Enabled, enabled_at, ready_ids};
 use crate::event::Event;
 use crate::plan::{Effect, planned};
-use crate::run_laws::{invariants, refinement};
+use crate::run_laws::{completions, invariants, refinement};
 use crate::step::{Done, Reply, StepRefusal, reply_to};
 use app_interface::Application;
 use std::alloc::{AllocError, AllocFailed, Global};
@@ -53,7 +53,7 @@ impl<P: Application> Config<P> {
     ghost use Rattle.reset_machine.specs.Configuration.{local_of, tree_of, wave_of, with_local, with_tree, with_wave};
     ghost use Rattle.reset_machine.specs.Enabled.{enabled_rows, ready_of};
     ghost use Rattle.reset_machine.specs.MachineSteps.{IsStep, IsRefused};
-    ghost use Rattle.reset_machine.specs.Completion.{applied, is_open, times};
+    ghost use Rattle.reset_machine.specs.Completion.{applied, CompletionsHold, is_open, moments, times};
     ghost use Rattle.reset_machine.specs.Refinement.{abstract_of, IsAbstractRun, shadow, shadow_of};
     ghost use Rattle.reset_machine.specs.Runs.{Answers, IsRun};
     ghost use Rattle.reset_machine.specs.Steps.{reply_of};
@@ -217,8 +217,13 @@ impl<P: Application> Config<P> {
             (shadow P.app self.old events.now answers.items) (abstract_of P.app self.old) (abstract_of P.app self.new)) }
         ensures invariant { IfOk result (λ _. IsSound self.old → P.Inv self.old.graph (abstract_of P.app self.old) → P.Inv self.new.graph (abstract_of P.app self.new)) }
         ensures restored { IfOk result (λ answers. IsSound self.old → 0 < times is_open (applied events.now answers.items) → P.Inv self.new.graph (abstract_of P.app self.new)) }
+
+        // Sound, each completion in it is true. Between the opening and it each other node joined once,
+        // from its start state on, and nobody else opened a session.
+        ensures completion { IfOk result (λ answers. IsSound self.old → CompletionsHold P.app self.old.graph (moments P.app self.old events.now answers.items)) }
     {
         self.is_graph();
+        completions::<P>();
         refinement::<P>();
         invariants::<P>();
         self.run_all(alloc, events)

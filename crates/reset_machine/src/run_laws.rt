@@ -8,7 +8,7 @@ ghost use Rattle.reset_machine.specs.declared.step.Done.{Done};
 ghost use Rattle.reset_machine.specs.declared.step.Done.TheVariants.{Did};
 ghost use Rattle.reset_machine.specs.declared.step.Reply.{Reply};
 ghost use Rattle.reset_machine.specs.declared.step.Reply.TheVariants.{Complete};
-ghost use Rattle.reset_machine.specs.Completion.{applied, is_open, is_open_at, JoinsOnce, times};
+ghost use Rattle.reset_machine.specs.Completion.{applied, CompletionsHold, is_open, is_open_at, JoinsOnce, moments, times};
 ghost use Rattle.reset_machine.specs.Configuration.{Configuration, IsShaped, local_of};
 ghost use Rattle.reset_machine.specs.Refinement.{abstract_of, IsAbstractRun, shadow};
 ghost use Rattle.reset_machine.specs.Runs.{Answers, IsRun};
@@ -56,4 +56,12 @@ pub fn joins_once<P: Application>()
         → (o ≡ p) × JoinsOnce c.graph p (applied es ds) }
     ensures restarts { (c c' : Configuration P.Local) (i : ℕ) (reply : Reply) → IsGraph c.graph → IsShaped c
         → Answers P.app c (Join i) (Did reply) c' → local_of P.app c' i ≡ P.app.start c.graph i }
+{}
+
+/// Whatever events are tried and however they are answered, each completion is true: right after it
+/// every node is in its session and none is reset. Between the opening and it each other node joined
+/// exactly once, and nobody opened another session. Right after it joins, a node has its start state.
+pub fn completions<P: Application>()
+    ensures { (c c' : Configuration P.Local) (es : List Event) (ds : List Done) → IsGraph c.graph → IsConnected c.graph
+        → IsShaped c → IsSound c → IsRun P.app c es ds c' → CompletionsHold P.app c.graph (moments P.app c es ds) }
 {}

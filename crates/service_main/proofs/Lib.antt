@@ -1,6 +1,9 @@
 pub mod TextLines
 pub mod Reading
 pub mod Runs
+pub mod CommandLines
+pub mod CommandOf
+pub mod CaseNames
 pub mod Nodes
 pub mod Jobs
 pub mod PathRows

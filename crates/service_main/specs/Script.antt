@@ -1,11 +1,11 @@
 -- The lines of a script, and the commands that they spell.
-use Rattle.std.specs.Prelude.{◌≡◌, ℕ, ◌<◌, ◌^◌, nat_lt, ◌==◌, Bool, true, false, ◌&&◌, if◌then◌else◌, List, [], ◌∷◌, length, codes, slice_index_or, unwrap_or, All, Option, Some, None}
+use Rattle.std.specs.Prelude.{◌≡◌, ℕ, ◌<◌, ◌^◌, ◌%◌, nat_lt, ◌==◌, Bool, true, false, ◌&&◌, if◌then◌else◌, List, [], ◌∷◌, ◌++◌, map, length, codes, slice_index_or, unwrap_or, option_map, IsTrue, Option, Some, None}
+use Rattle.std.specs.Char.{is_ascii_alphabetic, is_ascii_graphic}
 use Rattle.std.specs.Fmt.{decimal}
-use Rattle.std.specs.List.{find, join_with_byte}
+use Rattle.std.specs.List.{find, join_with_byte, list_all}
 use Rattle.std.specs.Str.{bytes_eq}
 use Rattle.std.specs.Str.Parse.{digits_value}
 use Rattle.action_tables.specs.Numbers.{all_cases}
-use Rattle.app_interface.specs.Cases.{BeginsWithLetter, IsBetween}
 use Rattle.reset_machine.specs.EventText.{event_words, neighbour_words, Fits}
 use Rattle.reset_machine.specs.Words.{words_of}
 use Rattle.reset_machine.specs.declared.event.Event.TheVariants.{Claim, Follow, Adopt, Request, Relay, Open, Join, Finish, Mend, Act}
@@ -39,10 +39,10 @@ CommandFits Ready = Unit {0}
 
 -- ---- cases by name
 
--- a word that may name a case: it begins with a letter, and has only the bytes that a line may have
-pub record IsName (word : List ℕ) : Type 0 where
-  pub letter : BeginsWithLetter word
-  pub bytes : All (IsBetween 33 126) word
+-- whether a word may name a case: it begins with a letter, and has only the bytes 33 to 126
+abbrev pub is_name : List ℕ → Bool
+is_name [] = false
+is_name (byte ∷ bytes) = is_ascii_alphabetic byte && list_all is_ascii_graphic (byte ∷ bytes)
 
 -- whether a name is this word
 abbrev pub is_called : Option (List ℕ) → List ℕ → Bool
@@ -60,14 +60,52 @@ named_words at word with = codes "act" ∷ decimal at ∷ word ∷ neighbour_wor
 -- the line spells the command: in its own words, or, an action, with a name for its case
 pub data Spells (names : ℕ → Option (List ℕ)) (line : List ℕ) (command : Command) : Type 0 where
   by_words : CommandFits command → line ≡ command_line command → Spells names line command
-  by_name : (at : ℕ) (word : List ℕ) (with : Option ℕ) → Fits (Act at 0 with) → IsName word → line ≡ join_with_byte 32 (named_words at word with)
+  by_name : (at : ℕ) (word : List ℕ) (with : Option ℕ) → Fits (Act at 0 with) → IsTrue (is_name word) → line ≡ join_with_byte 32 (named_words at word with)
       → command ≡ Step (Act at (case_named names word) with) → Spells names line command
 
 -- ---- the command of a line
 
--- the command that a line spells
+-- words, and the command that they spell
+pub record Spelling : Type 0 where
+  pub words : List (List ℕ)
+  pub command : Command
+
+-- a command in its own words
+abbrev pub in_words : Command → Spelling
+in_words command = record { words = command_words command; command = command }
+
+-- an action with a name for its case
+abbrev pub in_names : (ℕ → Option (List ℕ)) → ℕ → List ℕ → Option ℕ → Spelling
+in_names names at word with = record { words = named_words at word with; command = Step (Act at (case_named names word) with) }
+
+-- the word at a place, which counts from 0, or no bytes where there is none
+abbrev pub word_at : List (List ℕ) → ℕ → List ℕ
+word_at words i = slice_index_or words i []
+
+-- the number of 32 bits that its digits write, modulo 2 ^ 32
+abbrev pub number_at : List (List ℕ) → ℕ → ℕ
+number_at words i = digits_value 10 (word_at words i) % 2 ^ 32
+
+-- the commands with these numbers
+abbrev pub commands_with : ℕ → ℕ → ℕ → List Command
+commands_with m n k =
+    Show ∷ ShowNode m ∷ Newest ∷ Enabled m ∷ Ready ∷ Step (Claim m) ∷ Step (Follow m) ∷ Step (Adopt m n)
+    ∷ Step (Request m) ∷ Step (Relay m n) ∷ Step (Open m) ∷ Step (Join m) ∷ Step (Finish m) ∷ Step (Mend m)
+    ∷ Step (Act m (n % 2 ^ 8) None) ∷ Step (Act m (n % 2 ^ 8) (Some k)) ∷ []
+
+-- the actions with these numbers whose case has this name
+abbrev pub named_with : (ℕ → Option (List ℕ)) → ℕ → List ℕ → ℕ → List Spelling
+named_with names m word k = if is_name word then in_names names m word None ∷ in_names names m word (Some k) ∷ [] else []
+
+-- the spellings with the numbers and the name of these words
+abbrev pub spellings : (ℕ → Option (List ℕ)) → List (List ℕ) → List Spelling
+spellings names words =
+    named_with names (number_at words 1) (word_at words 2) (number_at words 3)
+    ++ map in_words (commands_with (number_at words 1) (number_at words 2) (number_at words 3))
+
+-- the command that a line spells: of the spellings with its numbers and its name the one that has its bytes
 unfoldable pub command_of : (ℕ → Option (List ℕ)) → List ℕ → Option Command
-command_of names line = None
+command_of names line = option_map (λ s. s.command) (find (λ s. bytes_eq line (join_with_byte 32 s.words)) (spellings names (words_of line)))
 
 -- nothing, or a comment
 abbrev pub is_silent : List ℕ → Bool

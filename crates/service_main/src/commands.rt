@@ -48,12 +48,15 @@ const REPLAY_AFTER_HELP: &str = "\
 A topology:
   nodes = [1, 2, 3]
   links = [[1, 2], [2, 3]]
-  app = \"idle\"
+  app = \"token\"
+The application is idle, token, mutex or routes.
 
 The commands of a script, at node I with its neighbour J and its child C:
   claim I, follow I, adopt I J
   request I, relay I C, open I, join I, finish I, mend I
-  show, show I, enabled I, ready
+  act I CASE, act I CASE J
+  show, show I, newest, enabled I, ready
+A CASE is the name of an action of the application, or its number.
 An empty line, or one that begins with #, does nothing.
 
 Example:
@@ -63,7 +66,8 @@ const TABLES_ABOUT: &str = "Prints the tables that the nodes act by";
 
 const TABLES_LONG_ABOUT: &str = "\
 Prints the tables that the nodes act by: the tree table, by which they build and mend the
-spanning tree, and the wave table, by which resets travel on it.
+spanning tree, the wave table, by which resets travel on it, and the tables of the
+applications token, mutex and routes.
 
 A table is a line `table TITLE`, and then a line `NUMBER NAME | GUARD | EFFECT` for each
 row. A node may take a row where its guard holds, and then its registers change as the

@@ -3,8 +3,6 @@
 #![tactic(auto)]
 
 mod answer;
-#[cfg(test)]
-mod applications;
 mod commands;
 mod files;
 mod gather;

@@ -203,6 +203,8 @@ fn answer_line<P: Application, W: Write>(
 }
 
 #[cfg(test)]
+mod applications;
+#[cfg(test)]
 mod spellings;
 #[cfg(test)]
 mod tests;

@@ -1,4 +1,4 @@
-use Rattle.std.proofs.Common.{◌≡◌, ◌==◌, ap, sym, ◌∙◌, map, cond}
+use Rattle.std.proofs.Common.{ap, sym, ◌∙◌, map, cond}
 use Rattle.topology.specs.Graph.{neighbours_of, node_bound}
 use Rattle.reset_machine.specs.Configuration.{tree_map, wave_map}
 use Rattle.reset_machine.specs.Steps.{event_node, named_node}

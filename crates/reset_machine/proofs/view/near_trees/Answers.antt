@@ -1,4 +1,4 @@
-use Rattle.std.proofs.Common.{◌<◌, ℕ, length, ap, sym, ◌∙◌, slice_index, arith}
+use Rattle.std.proofs.Common.{◌<◌, length, sym, ◌∙◌, slice_index, arith}
 use Rattle.std.proofs.lemmas.Option.{get_or_from_slice_get}
 use Rattle.reset_machine.specs.Configuration.{tree_map}
 use Rattle.reset_machine.proofs.Places.{value_at-place}

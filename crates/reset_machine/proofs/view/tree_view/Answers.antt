@@ -1,8 +1,7 @@
-use Rattle.std.proofs.Common.{◌≡◌, ◌<◌, List, ℕ, sym, ap, ◌∙◌, subst, Option, None, Some, IsSome, length, map}
-use Rattle.std.proofs.lemmas.Bool.{false≢true}
+use Rattle.std.proofs.Common.{◌<◌, List, ℕ, sym, ◌∙◌, subst}
 use Rattle.tree_layer.specs.declared.regs.TreeRegs.{TreeRegs}
 use Rattle.tree_layer.specs.TreeTable.{IsView}
-use Rattle.topology.specs.Graph.{neighbours_of, node_bound}
+use Rattle.topology.specs.Graph.{node_bound}
 use Rattle.reset_machine.specs.Configuration.{tree_map}
 use Rattle.reset_machine.proofs.Places.{value_at-position, none_is_no_some}
 use Rattle.reset_machine.proofs.NearTrees.{near_is_view}

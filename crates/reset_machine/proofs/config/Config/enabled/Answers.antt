@@ -1,4 +1,4 @@
-use Rattle.std.proofs.Common.{refl, sym, ◌∙◌}
+use Rattle.std.proofs.Common.{refl, sym}
 use Rattle.reset_machine.proofs.Places.{Contains-position, position-Contains}
 use Rattle.reset_machine.proofs.config.Config.enabled.Goals as goal
 

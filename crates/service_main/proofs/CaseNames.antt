@@ -1,0 +1,171 @@
+-- A name of a case in a line: it is one word, and no number.
+use Rattle.std.specs.Prelude.{codes, IsTrue}
+use Rattle.std.proofs.Common.{◌≡◌, ℕ, suc, ◌+◌, ◌-◌, ◌<◌, ◌≤◌, ◌^◌, Bool, cond, unwrap_or, true, false, ◌&&◌, List, [], ◌∷◌, ◌++◌, refl, sym, ap, ◌∙◌, true≢false, arith, length, Option, Some, None, IfSome, IfNone}
+use Rattle.std.specs.Char.{is_ascii_alphabetic, is_ascii_graphic}
+use Rattle.std.specs.Fmt.{decimal}
+use Rattle.std.specs.List.{find, join_with_byte, list_all, range_with_len}
+use Rattle.std.proofs.lemmas.Bool.Decides.{nat_tests}
+use Rattle.std.proofs.lemmas.Fmt.{decimal_injective, decimal_is_IsNumeral}
+use Rattle.std.proofs.lemmas.Str.Parse.{digit_from_value}
+use Rattle.std.specs.Str.Parse.{AllDigits}
+use Rattle.reset_machine.specs.EventText.{neighbour_words, Fits}
+use Rattle.reset_machine.specs.Words.{is_space, words_of}
+use Rattle.reset_machine.specs.declared.event.Event.{Event}
+use Rattle.reset_machine.specs.declared.event.Event.TheVariants.{Act}
+use Rattle.reset_machine.proofs.CaseChoices.{cases_from, cases_end, all_from_1}
+use Rattle.reset_machine.proofs.EventLines.{cut_twice, third_word, words_of-decimal}
+use Rattle.reset_machine.proofs.WordLines.{line-words, words_of-some, words_of-word, words_of-more, IsWord, IsWord-decimal}
+use Rattle.service_main.specs.declared.script.Command.{Command}
+use Rattle.service_main.specs.declared.script.Command.TheVariants.{Step}
+use Rattle.service_main.specs.Script.{case_named, command_words, is_called, is_name, named_words, CommandFits, Spells}
+use Rattle.service_main.specs.Script.Spells.{by_name}
+
+pub at_small : (at : ℕ) (with : Option ℕ) → Fits (Act at 0 with) → at < 2 ^ 32
+at_small at None fits = fits.0
+at_small at (Some j) fits = fits.0
+
+-- ---- a name is a word
+
+graphic_not_space : (b : ℕ) → is_ascii_graphic b ≡ true → is_space b ≡ false
+graphic_not_space b h = grind (arith, nat_tests)
+
+first_of : (a b : Bool) → (a && b) ≡ true → a ≡ true
+first_of true b h = refl
+first_of false b h = h
+
+second_of : (a b : Bool) → (a && b) ≡ true → b ≡ true
+second_of true b h = h
+second_of false b h = absurd (true≢false (sym h))
+
+IsWord-graphic : (w : List ℕ) → list_all is_ascii_graphic w ≡ true → IsWord w
+IsWord-graphic [] h = tt
+IsWord-graphic (b ∷ bs) h =
+    (graphic_not_space b (first_of (is_ascii_graphic b) (list_all is_ascii_graphic bs) h), IsWord-graphic bs (second_of (is_ascii_graphic b) (list_all is_ascii_graphic bs) h))
+
+IsWord-name : (w : List ℕ) → IsTrue (is_name w) → IsWord w
+IsWord-name [] h = tt
+IsWord-name (b ∷ bs) h = IsWord-graphic (b ∷ bs) (second_of (is_ascii_alphabetic b) (list_all is_ascii_graphic (b ∷ bs)) h)
+
+-- ---- a name is no number
+
+letter_no_digit : (b : ℕ) (ds : List ℕ) → AllDigits 10 (b ∷ ds) → is_ascii_alphabetic b ≡ true → ⊥
+letter_no_digit b ds digits letter = let digit = digit_from_value b digits.0 in grind (arith, nat_tests)
+
+name_no_digits : (w : List ℕ) → AllDigits 10 w → IsTrue (is_name w) → ⊥
+name_no_digits [] digits h = absurd (true≢false (sym h))
+name_no_digits (b ∷ bs) digits h = letter_no_digit b bs digits (first_of (is_ascii_alphabetic b) (list_all is_ascii_graphic (b ∷ bs)) h)
+
+pub name_no_number : (w : List ℕ) (n : ℕ) → n < 2 ^ 32 → w ≡ decimal n → IsTrue (is_name w) → ⊥
+name_no_number w n small is h = name_no_digits (decimal n) ((decimal_is_IsNumeral n (omega arith)).0.1) (rw (← is) h)
+
+-- ---- the words of an action with a name
+
+pub words_of-named : (line : List ℕ) (at : ℕ) (w : List ℕ) (with : Option ℕ) → Fits (Act at 0 with) → IsTrue (is_name w) → line ≡ join_with_byte 32 (named_words at w with)
+    → words_of line ≡ named_words at w with
+words_of-named line at w None fits name is =
+    ap words_of is ∙ ap (λ ws. codes "act" ∷ ws) (words_of-more (decimal at) w (IsWord-decimal at fits.0) ∙ ap (λ ws. decimal at ∷ ws) (words_of-word w (IsWord-name w name)))
+words_of-named line at w (Some j) fits name is =
+    let last = words_of-more w (decimal j) (IsWord-name w name) ∙ ap (λ ws. w ∷ ws) (words_of-decimal j fits.2) in
+    ap words_of is ∙ ap (λ ws. codes "act" ∷ ws) (words_of-more (decimal at) _ (IsWord-decimal at fits.0) ∙ ap (λ ws. decimal at ∷ ws) last)
+
+-- no command has them in its own words
+pub named_apart : (c : Command) → CommandFits c → (at : ℕ) (w : List ℕ) (with : Option ℕ) → Fits (Act at 0 with) → IsTrue (is_name w) → command_words c ≡ named_words at w with → ⊥
+named_apart (Step e) p at w None fits name h = let n = third_word e (codes "act") (decimal at) w [] p h in name_no_number w n.0 n.1 n.2 name
+named_apart (Step e) p at w (Some j) fits name h = let n = third_word e (codes "act") (decimal at) w (decimal j ∷ []) p h in name_no_number w n.0 n.1 n.2 name
+named_apart c p at w with fits name h = absurd (omega (arith, ap length h))
+
+-- and no two such actions have the same
+pub one_named : (names : ℕ → Option (List ℕ)) (m n : ℕ) (w x : List ℕ) (v u : Option ℕ) → Fits (Act m 0 v) → Fits (Act n 0 u) → named_words m w v ≡ named_words n x u
+    → Step (Act m (case_named names w) v) ≡ Step (Act n (case_named names x) u)
+one_named names m n w x None None p q h =
+    let same : m ≡ n = decimal_injective m n (omega (arith, p.0)) (omega (arith, q.0)) (cc) in
+    let word : w ≡ x = cc in
+    ap (λ k. Step (Act k (case_named names w) None)) same ∙ ap (λ y. Step (Act n (case_named names y) None)) word
+one_named names m n w x (Some j) (Some k) p q h =
+    let same : m ≡ n = decimal_injective m n (omega (arith, p.0)) (omega (arith, q.0)) (cc) in
+    let word : w ≡ x = cc in
+    let near : j ≡ k = decimal_injective j k (omega (arith, p.2)) (omega (arith, q.2)) (cc) in
+    ap (λ i. Step (Act i (case_named names w) (Some j))) same ∙ ap (λ y. Step (Act n (case_named names y) (Some j))) word ∙ ap (λ i. Step (Act n (case_named names x) (Some i))) near
+one_named names m n w x v u p q h = absurd (omega (arith, ap length h))
+
+-- ---- the case that is named, tried one after another
+
+-- the first from n on that has the name
+abbrev pub named_from : (ℕ → Option (List ℕ)) → List ℕ → ℕ → ℕ
+named_from names word n = unwrap_or (find (λ n. is_called (names n) word) (cases_from n)) 0
+
+cases_next : (n : ℕ) → n ≤ 16 → cases_from n ≡ n ∷ cases_from (n + 1)
+unfolding cases_from
+cases_next n low =
+    let more : 17 - n ≡ suc (17 - (n + 1)) = omega arith in
+    ap (λ k. range_with_len n k) more
+
+named_next : (names : ℕ → Option (List ℕ)) (word : List ℕ) (n : ℕ) → n ≤ 16 → named_from names word n ≡ unwrap_or (cond (is_called (names n) word) (Some n) (find (λ n. is_called (names n) word) (cases_from (n + 1)))) 0
+named_next names word n low = ap (λ ns. unwrap_or (find (λ n. is_called (names n) word) ns) 0) (cases_next n low)
+
+pub named_first : (names : ℕ → Option (List ℕ)) (word : List ℕ) → named_from names word 1 ≡ case_named names word
+unfolding case_named
+named_first names word = ap (λ ns. unwrap_or (find (λ n. is_called (names n) word) ns) 0) all_from_1
+
+pub named_here : (names : ℕ → Option (List ℕ)) (word : List ℕ) (n : ℕ) → n ≤ 16 → is_called (names n) word ≡ true → named_from names word n ≡ n
+named_here names word n low is = named_next names word n low ∙ rw is refl
+
+pub named_later : (names : ℕ → Option (List ℕ)) (word : List ℕ) (n : ℕ) → n ≤ 16 → is_called (names n) word ≡ false → named_from names word n ≡ named_from names word (n + 1)
+named_later names word n low is = named_next names word n low ∙ rw is refl
+
+pub named_nowhere : (names : ℕ → Option (List ℕ)) (word : List ℕ) (n : ℕ) → 16 < n → named_from names word n ≡ 0
+named_nowhere names word n high = ap (λ ns. unwrap_or (find (λ n. is_called (names n) word) ns) 0) (cases_end n high)
+
+-- ---- the action of a line by its words
+
+-- the line is no action with a name for its case
+abbrev pub IsNotNamed : List ℕ → Type 0
+IsNotNamed line = (at : ℕ) (word : List ℕ) (with : Option ℕ) → Fits (Act at 0 with) → IsTrue (is_name word) → line ≡ join_with_byte 32 (named_words at word with) → ⊥
+
+-- these words are the first two of an action at m
+abbrev pub BeginsAct : List ℕ → List ℕ → ℕ → Type 0
+BeginsAct command at m = command ∷ at ∷ [] ≡ codes "act" ∷ decimal m ∷ []
+
+not_named : (line : List ℕ) (ws : List (List ℕ)) → words_of line ≡ ws → ((at : ℕ) (word : List ℕ) (with : Option ℕ) → Fits (Act at 0 with) → IsTrue (is_name word) → named_words at word with ≡ ws → ⊥) → IsNotNamed line
+not_named line ws split apart at word with fits name is = apart at word with fits name (sym (words_of-named line at word with fits name is) ∙ split)
+
+-- a line of two words is none
+pub two_not_named : (line command rest : List ℕ) → words_of line ≡ command ∷ words_of rest → words_of rest ≡ rest ∷ [] → IsNotNamed line
+two_not_named line command rest split one = not_named line (command ∷ rest ∷ []) (cut_twice line command rest (rest ∷ []) split one) (λ at word with fits name h. omega (arith, ap length h))
+
+-- nor is one with no number after the third
+pub none_not_named : (line command at word last rest more : List ℕ) → words_of line ≡ command ∷ words_of rest → words_of rest ≡ at ∷ words_of more → words_of more ≡ word ∷ words_of last
+    → ((n : ℕ) → n < 2 ^ 32 → last ≡ decimal n → ⊥) → IsNotNamed line
+none_not_named line command at word last rest more first second third none =
+    not_named line (command ∷ at ∷ word ∷ words_of last) (cut_twice line command rest (at ∷ word ∷ words_of last) first (cut_twice rest at more (word ∷ words_of last) second third)) apart
+  where
+    apart : (m : ℕ) (w : List ℕ) (with : Option ℕ) → Fits (Act m 0 with) → IsTrue (is_name w) → named_words m w with ≡ command ∷ at ∷ word ∷ words_of last → ⊥
+    apart m w None fits name h = words_of-some last (cc)
+    apart m w (Some j) fits name h = none j fits.2 (line-words last (decimal j ∷ []) (cc))
+
+-- the words of a line that has three, and of one with a number after them
+pub three_words : (line command at word rest : List ℕ) → words_of line ≡ command ∷ words_of rest → words_of rest ≡ at ∷ words_of word → words_of word ≡ word ∷ [] → words_of line ≡ command ∷ at ∷ word ∷ []
+three_words line command at word rest first second third = cut_twice line command rest (at ∷ word ∷ []) first (cut_twice rest at word (word ∷ []) second third)
+
+pub four_words : (line command at word last rest more : List ℕ) (n : ℕ) → words_of line ≡ command ∷ words_of rest → words_of rest ≡ at ∷ words_of more → words_of more ≡ word ∷ words_of last
+    → last ≡ decimal n → n < 2 ^ 32 → words_of line ≡ command ∷ at ∷ word ∷ decimal n ∷ []
+four_words line command at word last rest more n first second third number small =
+    let end = cut_twice more word last (decimal n ∷ []) third (ap words_of number ∙ words_of-decimal n small) in
+    cut_twice line command rest (at ∷ word ∷ decimal n ∷ []) first (cut_twice rest at more (word ∷ decimal n ∷ []) second end)
+
+pub act_found : (names : ℕ → Option (List ℕ)) (line command at word : List ℕ) (with : Option ℕ) (o : Option Event) → words_of line ≡ command ∷ at ∷ word ∷ neighbour_words with → IfSome with (λ j. j < 2 ^ 32)
+    → IfSome o (λ e. (m : ℕ) × (m < 2 ^ 32) × BeginsAct command at m × IsTrue (is_name word) × (e ≡ Act m (case_named names word) with)) → IfSome o (λ e. Spells names line (Step e))
+act_found names line command at word with None split near h = tt
+act_found names line command at word None (Some e) split near h =
+    let is : line ≡ join_with_byte 32 (named_words h.0 word None) = line-words line (named_words h.0 word None) (split ∙ ap (λ ws. ws ++ word ∷ []) h.2) in
+    by_name h.0 word None (h.1, omega arith) h.3 is (ap Step h.4)
+act_found names line command at word (Some j) (Some e) split near h =
+    let is : line ≡ join_with_byte 32 (named_words h.0 word (Some j)) = line-words line (named_words h.0 word (Some j)) (split ∙ ap (λ ws. ws ++ word ∷ decimal j ∷ []) h.2) in
+    by_name h.0 word (Some j) (h.1, omega arith, near) h.3 is (ap Step h.4)
+
+pub act_only : (line command at word : List ℕ) (with : Option ℕ) (o : Option Event) → words_of line ≡ command ∷ at ∷ word ∷ neighbour_words with
+    → IfNone o ((m : ℕ) → m < 2 ^ 32 → BeginsAct command at m → IsTrue (is_name word) → ⊥) → IfNone o (IsNotNamed line)
+act_only line command at word with (Some e) split h = tt
+act_only line command at word with None split h =
+    not_named line (command ∷ at ∷ word ∷ neighbour_words with) split
+    (λ m w v fits name same. let third : w ≡ word = cc in h m (at_small m v fits) (cc) (rw (← third) name))
