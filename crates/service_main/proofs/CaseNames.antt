@@ -1,6 +1,6 @@
 -- A name of a case in a line: it is one word, and no number.
 use Rattle.std.specs.Prelude.{codes, IsTrue}
-use Rattle.std.proofs.Common.{◌≡◌, ℕ, suc, ◌+◌, ◌-◌, ◌<◌, ◌≤◌, ◌^◌, Bool, cond, unwrap_or, true, false, ◌&&◌, List, [], ◌∷◌, ◌++◌, refl, sym, ap, ◌∙◌, true≢false, arith, length, Option, Some, None, IfSome, IfNone}
+use Rattle.std.proofs.Common.{◌≡◌, ℕ, suc, ◌+◌, ◌-◌, ◌<◌, ◌≤◌, ◌^◌, Bool, cond, unwrap_or, true, false, ◌&&◌, List, [], ◌∷◌, refl, sym, ap, ◌∙◌, true≢false, arith, length, Option, Some, None, IfSome}
 use Rattle.std.specs.Char.{is_ascii_alphabetic, is_ascii_graphic}
 use Rattle.std.specs.Fmt.{decimal}
 use Rattle.std.specs.List.{find, join_with_byte, list_all, range_with_len}
@@ -10,7 +10,6 @@ use Rattle.std.proofs.lemmas.Str.Parse.{digit_from_value}
 use Rattle.std.specs.Str.Parse.{AllDigits}
 use Rattle.reset_machine.specs.EventText.{neighbour_words, Fits}
 use Rattle.reset_machine.specs.Words.{is_space, words_of}
-use Rattle.reset_machine.specs.declared.event.Event.{Event}
 use Rattle.reset_machine.specs.declared.event.Event.TheVariants.{Act}
 use Rattle.reset_machine.proofs.CaseChoices.{cases_from, cases_end, all_from_1}
 use Rattle.reset_machine.proofs.EventLines.{cut_twice, third_word, words_of-decimal}
@@ -100,7 +99,8 @@ cases_next n low =
     let more : 17 - n ≡ suc (17 - (n + 1)) = omega arith in
     ap (λ k. range_with_len n k) more
 
-named_next : (names : ℕ → Option (List ℕ)) (word : List ℕ) (n : ℕ) → n ≤ 16 → named_from names word n ≡ unwrap_or (cond (is_called (names n) word) (Some n) (find (λ n. is_called (names n) word) (cases_from (n + 1)))) 0
+named_next : (names : ℕ → Option (List ℕ)) (word : List ℕ) (n : ℕ) → n ≤ 16
+    → named_from names word n ≡ unwrap_or (cond (is_called (names n) word) (Some n) (find (λ n. is_called (names n) word) (cases_from (n + 1)))) 0
 named_next names word n low = ap (λ ns. unwrap_or (find (λ n. is_called (names n) word) ns) 0) (cases_next n low)
 
 pub named_first : (names : ℕ → Option (List ℕ)) (word : List ℕ) → named_from names word 1 ≡ case_named names word
@@ -122,50 +122,57 @@ named_nowhere names word n high = ap (λ ns. unwrap_or (find (λ n. is_called (n
 abbrev pub IsNotNamed : List ℕ → Type 0
 IsNotNamed line = (at : ℕ) (word : List ℕ) (with : Option ℕ) → Fits (Act at 0 with) → IsTrue (is_name word) → line ≡ join_with_byte 32 (named_words at word with) → ⊥
 
--- these words are the first two of an action at m
-abbrev pub BeginsAct : List ℕ → List ℕ → ℕ → Type 0
-BeginsAct command at m = command ∷ at ∷ [] ≡ codes "act" ∷ decimal m ∷ []
+near_small : (at : ℕ) (with : Option ℕ) → Fits (Act at 0 with) → IfSome with (λ j. j < 2 ^ 32)
+near_small at None fits = tt
+near_small at (Some j) fits = fits.2
 
-not_named : (line : List ℕ) (ws : List (List ℕ)) → words_of line ≡ ws → ((at : ℕ) (word : List ℕ) (with : Option ℕ) → Fits (Act at 0 with) → IsTrue (is_name word) → named_words at word with ≡ ws → ⊥) → IsNotNamed line
-not_named line ws split apart at word with fits name is = apart at word with fits name (sym (words_of-named line at word with fits name is) ∙ split)
+all_small : (at : ℕ) (with : Option ℕ) → at < 2 ^ 32 → IfSome with (λ j. j < 2 ^ 32) → Fits (Act at 0 with)
+all_small at None small near = (small, omega arith)
+all_small at (Some j) small near = (small, omega arith, near)
 
 -- a line of two words is none
 pub two_not_named : (line command rest : List ℕ) → words_of line ≡ command ∷ words_of rest → words_of rest ≡ rest ∷ [] → IsNotNamed line
-two_not_named line command rest split one = not_named line (command ∷ rest ∷ []) (cut_twice line command rest (rest ∷ []) split one) (λ at word with fits name h. omega (arith, ap length h))
+two_not_named line command rest split one at word with fits name is =
+    omega (arith, ap length (sym (words_of-named line at word with fits name is) ∙ cut_twice line command rest (rest ∷ []) split one))
 
--- nor is one with no number after the third
-pub none_not_named : (line command at word last rest more : List ℕ) → words_of line ≡ command ∷ words_of rest → words_of rest ≡ at ∷ words_of more → words_of more ≡ word ∷ words_of last
-    → ((n : ℕ) → n < 2 ^ 32 → last ≡ decimal n → ⊥) → IsNotNamed line
-none_not_named line command at word last rest more first second third none =
-    not_named line (command ∷ at ∷ word ∷ words_of last) (cut_twice line command rest (at ∷ word ∷ words_of last) first (cut_twice rest at more (word ∷ words_of last) second third)) apart
-  where
-    apart : (m : ℕ) (w : List ℕ) (with : Option ℕ) → Fits (Act m 0 with) → IsTrue (is_name w) → named_words m w with ≡ command ∷ at ∷ word ∷ words_of last → ⊥
-    apart m w None fits name h = words_of-some last (cc)
-    apart m w (Some j) fits name h = none j fits.2 (line-words last (decimal j ∷ []) (cc))
+-- nor is one where something else than a word and a number follows the second
+pub end_not_named : (line command rest at last : List ℕ) → words_of line ≡ command ∷ words_of rest → words_of rest ≡ at ∷ words_of last
+    → ((word : List ℕ) (with : Option ℕ) → IfSome with (λ j. j < 2 ^ 32) → words_of last ≡ word ∷ neighbour_words with → ⊥) → IsNotNamed line
+end_not_named line command rest at last first second none m word with fits name is =
+    let same = sym (cut_twice line command rest (at ∷ words_of last) first second) ∙ words_of-named line m word with fits name is in
+    none word with (near_small m with fits) (cc)
 
--- the words of a line that has three, and of one with a number after them
-pub three_words : (line command at word rest : List ℕ) → words_of line ≡ command ∷ words_of rest → words_of rest ≡ at ∷ words_of word → words_of word ≡ word ∷ [] → words_of line ≡ command ∷ at ∷ word ∷ []
-three_words line command at word rest first second third = cut_twice line command rest (at ∷ word ∷ []) first (cut_twice rest at word (word ∷ []) second third)
+-- the words of a line of three and perhaps a number
+three_words : (line command rest at last word : List ℕ) (with : Option ℕ)
+    → words_of line ≡ command ∷ words_of rest → words_of rest ≡ at ∷ words_of last → words_of last ≡ word ∷ neighbour_words with
+    → words_of line ≡ command ∷ at ∷ word ∷ neighbour_words with
+three_words line command rest at last word with first second third = cut_twice line command rest _ first (cut_twice rest at last _ second third)
 
-pub four_words : (line command at word last rest more : List ℕ) (n : ℕ) → words_of line ≡ command ∷ words_of rest → words_of rest ≡ at ∷ words_of more → words_of more ≡ word ∷ words_of last
-    → last ≡ decimal n → n < 2 ^ 32 → words_of line ≡ command ∷ at ∷ word ∷ decimal n ∷ []
-four_words line command at word last rest more n first second third number small =
-    let end = cut_twice more word last (decimal n ∷ []) third (ap words_of number ∙ words_of-decimal n small) in
-    cut_twice line command rest (at ∷ word ∷ decimal n ∷ []) first (cut_twice rest at more (word ∷ decimal n ∷ []) second end)
+-- such a line is an action with a name for its case where the first words are those of an action, and the third is a name
+pub three_found : (names : ℕ → Option (List ℕ)) (line command rest at last word : List ℕ) (with : Option ℕ) (m case : ℕ)
+    → words_of line ≡ command ∷ words_of rest → words_of rest ≡ at ∷ words_of last → words_of last ≡ word ∷ neighbour_words with → IfSome with (λ j. j < 2 ^ 32)
+    → command ≡ codes "act" → at ≡ decimal m → m < 2 ^ 32 → IsTrue (is_name word) → case ≡ case_named names word → Spells names line (Step (Act m case with))
+three_found names line command rest at last word with m case first second third near act number small name named =
+    let split = three_words line command rest at last word with first second third in
+    let ends = word ∷ neighbour_words with in
+    let is = line-words line (named_words m word with) (split ∙ ap (λ w. w ∷ at ∷ ends) act ∙ ap (λ w. codes "act" ∷ w ∷ ends) number) in
+    by_name m word with (all_small m with small near) name is (ap (λ n. Step (Act m n with)) named)
 
-pub act_found : (names : ℕ → Option (List ℕ)) (line command at word : List ℕ) (with : Option ℕ) (o : Option Event) → words_of line ≡ command ∷ at ∷ word ∷ neighbour_words with → IfSome with (λ j. j < 2 ^ 32)
-    → IfSome o (λ e. (m : ℕ) × (m < 2 ^ 32) × BeginsAct command at m × IsTrue (is_name word) × (e ≡ Act m (case_named names word) with)) → IfSome o (λ e. Spells names line (Step e))
-act_found names line command at word with None split near h = tt
-act_found names line command at word None (Some e) split near h =
-    let is : line ≡ join_with_byte 32 (named_words h.0 word None) = line-words line (named_words h.0 word None) (split ∙ ap (λ ws. ws ++ word ∷ []) h.2) in
-    by_name h.0 word None (h.1, omega arith) h.3 is (ap Step h.4)
-act_found names line command at word (Some j) (Some e) split near h =
-    let is : line ≡ join_with_byte 32 (named_words h.0 word (Some j)) = line-words line (named_words h.0 word (Some j)) (split ∙ ap (λ ws. ws ++ word ∷ decimal j ∷ []) h.2) in
-    by_name h.0 word (Some j) (h.1, omega arith, near) h.3 is (ap Step h.4)
+-- and nowhere else
+pub three_only : (line command rest at last word : List ℕ) (with : Option ℕ)
+    → words_of line ≡ command ∷ words_of rest → words_of rest ≡ at ∷ words_of last → words_of last ≡ word ∷ neighbour_words with
+    → ((m : ℕ) → m < 2 ^ 32 → command ≡ codes "act" → at ≡ decimal m → IsTrue (is_name word) → ⊥) → IsNotNamed line
+three_only line command rest at last word with first second third apart m w v fits name is =
+    let same = sym (three_words line command rest at last word with first second third) ∙ words_of-named line m w v fits name is in
+    let third : w ≡ word = cc in
+    apart m (at_small m v fits) (cc) (cc) (rw (← third) name)
 
-pub act_only : (line command at word : List ℕ) (with : Option ℕ) (o : Option Event) → words_of line ≡ command ∷ at ∷ word ∷ neighbour_words with
-    → IfNone o ((m : ℕ) → m < 2 ^ 32 → BeginsAct command at m → IsTrue (is_name word) → ⊥) → IfNone o (IsNotNamed line)
-act_only line command at word with (Some e) split h = tt
-act_only line command at word with None split h =
-    not_named line (command ∷ at ∷ word ∷ neighbour_words with) split
-    (λ m w v fits name same. let third : w ≡ word = cc in h m (at_small m v fits) (cc) (rw (← third) name))
+-- ---- a word and perhaps a number
+
+pub one_and_number : (text word last : List ℕ) (n : ℕ) → words_of text ≡ word ∷ words_of last → last ≡ decimal n → n < 2 ^ 32 → words_of text ≡ word ∷ decimal n ∷ []
+one_and_number text word last n first number small = cut_twice text word last (decimal n ∷ []) first (ap words_of number ∙ words_of-decimal n small)
+
+pub one_and_none : (text word last : List ℕ) → words_of text ≡ word ∷ words_of last → ((n : ℕ) → n < 2 ^ 32 → last ≡ decimal n → ⊥)
+    → (w : List ℕ) (with : Option ℕ) → IfSome with (λ j. j < 2 ^ 32) → words_of text ≡ w ∷ neighbour_words with → ⊥
+one_and_none text word last first none w None near is = let same = sym first ∙ is in words_of-some last (cc)
+one_and_none text word last first none w (Some j) near is = let same = sym first ∙ is in none j near (line-words last (decimal j ∷ []) (cc))

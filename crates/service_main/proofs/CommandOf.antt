@@ -15,7 +15,7 @@ use Rattle.reset_machine.specs.declared.event.Event.TheVariants.{Claim, Follow, 
 use Rattle.reset_machine.proofs.EventLines.{one_event}
 use Rattle.service_main.specs.declared.script.Command.{Command}
 use Rattle.service_main.specs.declared.script.Command.TheVariants.{Step, Show, ShowNode, Newest, Enabled, Ready}
-use Rattle.service_main.specs.Script.{case_named, command_words, command_line, command_of, commands_with, in_words, in_names, is_name, named_with, named_words, number_at, spellings, word_at, CommandFits, Spelling, Spells}
+use Rattle.service_main.specs.Script.{case_named, command_words, command_line, command_of, commands_with, in_words, with_name, is_name, actions_with, named_words, number_at, spellings, word_at, CommandFits, Spelling, Spells}
 use Rattle.service_main.specs.Script.Spells.{by_words, by_name}
 use Rattle.service_main.proofs.CommandLines.{same_words, event_not_one, event_not_show, event_not_enabled, first_byte}
 use Rattle.service_main.proofs.CaseNames.{at_small, words_of-named, IsNotNamed, named_apart, one_named}
@@ -43,8 +43,10 @@ one_by_words c d p q h = absurd (omega (arith, ap first_byte h, ap length h))
 
 spelled_once : (names : ℕ → Option (List ℕ)) (line : List ℕ) (c d : Command) → Spells names line c → Spells names line d → c ≡ d
 spelled_once names line c d (by_words p is) (by_words q is_too) = one_by_words c d p q (same_words line c p is ∙ sym (same_words line d q is_too))
-spelled_once names line c d (by_words p is) (by_name m w v fits name is_too made) = absurd (named_apart c p m w v fits name (same_words line c p is ∙ words_of-named line m w v fits name is_too))
-spelled_once names line c d (by_name m w v fits name is made) (by_words q is_too) = absurd (named_apart d q m w v fits name (same_words line d q is_too ∙ words_of-named line m w v fits name is))
+spelled_once names line c d (by_words p is) (by_name m w v fits name is_too made) =
+    absurd (named_apart c p m w v fits name (same_words line c p is ∙ words_of-named line m w v fits name is_too))
+spelled_once names line c d (by_name m w v fits name is made) (by_words q is_too) =
+    absurd (named_apart d q m w v fits name (same_words line d q is_too ∙ words_of-named line m w v fits name is))
 spelled_once names line c d (by_name m w v fits name is made) (by_name n x u fits_too name_too is_too made_too) =
     made ∙ one_named names m n w x v u fits fits_too (sym (words_of-named line m w v fits name is) ∙ words_of-named line n x u fits_too name_too is_too) ∙ sym made_too
 
@@ -72,7 +74,8 @@ none_or : (b : Bool) (s : Spelling) (rest : Option Spelling) → (b ≡ true →
 none_or true s rest p q = absurd (p refl)
 none_or false s rest p q = q
 
-search-some : (names : ℕ → Option (List ℕ)) (line : List ℕ) (ss : List Spelling) (c : Command) → AllSpell names line ss → Has line c ss → Spells names line c → search_for line ss ≡ Some c
+search-some : (names : ℕ → Option (List ℕ)) (line : List ℕ) (ss : List Spelling) (c : Command) → AllSpell names line ss → Has line c ss → Spells names line c
+    → search_for line ss ≡ Some c
 search-some names line [] c spell has spelled = absurd has
 search-some names line (s ∷ ss) c spell (inl here) spelled =
     here_or (bytes_eq line (join_with_byte 32 s.words)) s _ c (λ _. here.1) (λ off. absurd (cc ((bytes_eq-Decides line (join_with_byte 32 s.words)).1 here.0, off)))
@@ -128,7 +131,7 @@ words_spell names line m n k p q r =
     )
 
 name_spells : (names : ℕ → Option (List ℕ)) (line : List ℕ) (m : ℕ) (w : List ℕ) (k : ℕ) → m < 2 ^ 32 → k < 2 ^ 32 → (b : Bool) → is_name w ≡ b
-    → AllSpell names line (if b then in_names names m w None ∷ in_names names m w (Some k) ∷ [] else [])
+    → AllSpell names line (if b then with_name names m w None ∷ with_name names m w (Some k) ∷ [] else [])
 name_spells names line m w k p r true name = ((λ is. by_name m w None (p, omega arith) name is refl), ((λ is. by_name m w (Some k) (p, omega arith, r) name is refl), tt))
 name_spells names line m w k p r false name = tt
 
@@ -137,7 +140,7 @@ small ws i = mod_below (digits_value 10 (word_at ws i)) (2 ^ 32) (omega arith)
 
 all_spell : (names : ℕ → Option (List ℕ)) (line : List ℕ) (ws : List (List ℕ)) → AllSpell names line (spellings names ws)
 all_spell names line ws =
-    both_spell names line (named_with names (number_at ws 1) (word_at ws 2) (number_at ws 3)) _
+    both_spell names line (actions_with names (number_at ws 1) (word_at ws 2) (number_at ws 3)) _
     (name_spells names line (number_at ws 1) (word_at ws 2) (number_at ws 3) (small ws 1) (small ws 3) (is_name (word_at ws 2)) refl)
     (words_spell names line (number_at ws 1) (number_at ws 2) (number_at ws 3) (small ws 1) (small ws 2) (small ws 3))
 
@@ -186,8 +189,9 @@ among (Step (Mend a)) h = inr (inr (inr (inr (inr (inr (inr (inr (inr (inr (inr 
 among (Step (Act a b None)) h = inr (inr (inr (inr (inr (inr (inr (inr (inr (inr (inr (inr (inr (inr (inl (rw (value a h.0, case_value b h.1) refl)))))))))))))))
 among (Step (Act a b (Some j))) h = inr (inr (inr (inr (inr (inr (inr (inr (inr (inr (inr (inr (inr (inr (inr (inl (rw (value a h.0, case_value b h.1, value j h.2) refl))))))))))))))))
 
-names_among : (names : ℕ → Option (List ℕ)) (line : List ℕ) (at : ℕ) (w : List ℕ) (with : Option ℕ) (c : Command) → Fits (Act at 0 with) → (b : Bool) → b ≡ true → line ≡ join_with_byte 32 (named_words at w with)
-    → c ≡ Step (Act at (case_named names w) with) → (m k : ℕ) → m ≡ at → IfSome with (λ j. k ≡ j) → Has line c (if b then in_names names m w None ∷ in_names names m w (Some k) ∷ [] else [])
+names_among : (names : ℕ → Option (List ℕ)) (line : List ℕ) (at : ℕ) (w : List ℕ) (with : Option ℕ) (c : Command) → Fits (Act at 0 with) → (b : Bool) → b ≡ true
+    → line ≡ join_with_byte 32 (named_words at w with) → c ≡ Step (Act at (case_named names w) with) → (m k : ℕ) → m ≡ at → IfSome with (λ j. k ≡ j)
+    → Has line c (if b then with_name names m w None ∷ with_name names m w (Some k) ∷ [] else [])
 names_among names line at w with c fits false name is made m k same near = absurd (true≢false (sym name))
 names_among names line at w None c fits true name is made m k same near = inl (rw same is, rw same (sym made))
 names_among names line at w (Some j) c fits true name is made m k same near = inr (inl (rw (same, near) is, rw (same, near) (sym made)))
@@ -200,19 +204,23 @@ spelled_among : (names : ℕ → Option (List ℕ)) (line : List ℕ) (c : Comma
 spelled_among names line c (by_words fits is) =
     let ws = command_words c in
     rw (← same_words line c fits is)
-    (has_later line c (named_with names (number_at ws 1) (word_at ws 2) (number_at ws 3)) _ (has_in line c (commands_with (number_at ws 1) (number_at ws 2) (number_at ws 3)) is (among c fits)))
+    (has_later line c (actions_with names (number_at ws 1) (word_at ws 2) (number_at ws 3)) _
+    (has_in line c (commands_with (number_at ws 1) (number_at ws 2) (number_at ws 3)) is (among c fits)))
 spelled_among names line c (by_name at w with fits name is made) =
     let ws = named_words at w with in
     rw (words_of-named line at w with fits name is)
-    (has_first line c (named_with names (number_at ws 1) (word_at ws 2) (number_at ws 3)) (map in_words (commands_with (number_at ws 1) (number_at ws 2) (number_at ws 3)))
+    (has_first line c (actions_with names (number_at ws 1) (word_at ws 2) (number_at ws 3)) (map in_words (commands_with (number_at ws 1) (number_at ws 2) (number_at ws 3)))
     (names_among names line at w with c fits (is_name w) name is made (number_at ws 1) (number_at ws 3) (value at (at_small at with fits)) (near_value at w with fits)))
 
 -- ---- so the command that a line spells is the one that is found
 
-pub command_of-is : (names : ℕ → Option (List ℕ)) (line : List ℕ) (o : Option Command) → IfSome o (Spells names line) → IfNone o ((c : Command) → Spells names line c → ⊥) → o ≡ command_of names line
+pub command_of-is : (names : ℕ → Option (List ℕ)) (line : List ℕ) (o : Option Command) → IfSome o (Spells names line) → IfNone o ((c : Command) → Spells names line c → ⊥)
+    → o ≡ command_of names line
 unfolding command_of
-command_of-is names line (Some c) found none = sym (search-some names line (spellings names (words_of line)) c (all_spell names line (words_of line)) (spelled_among names line c found) found)
-command_of-is names line None found none = sym (search-none names line (spellings names (words_of line)) (all_spell names line (words_of line)) none)
+command_of-is names line (Some c) found none =
+    sym (search-some names line (spellings names (words_of line)) c (all_spell names line (words_of line)) (spelled_among names line c found) found)
+command_of-is names line None found none =
+    sym (search-none names line (spellings names (words_of line)) (all_spell names line (words_of line)) none)
 
 -- ---- a line that is no action with a name for its case is a command in its own words or none
 

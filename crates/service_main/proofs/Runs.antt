@@ -8,7 +8,7 @@ use Rattle.action_tables.proofs.Fronts.{AppendsFront-first, AppendsFront-then}
 use Rattle.reset_machine.specs.Configuration.{Configuration}
 use Rattle.service_main.specs.Meaning.{Meaning}
 use Rattle.service_main.specs.Script.{line_of}
-use Rattle.service_main.specs.Output.{answer_to, answers, followed, Answer, Leaves, HasFront}
+use Rattle.service_main.specs.Output.{answer_to, answers, followed, Leaves, HasFront}
 use Rattle.service_main.specs.declared.status.Status.{Status}
 use Rattle.service_main.specs.declared.status.Status.TheVariants.{Good, BadInput}
 use Rattle.service_main.specs.declared.status.RunStop.{RunStop}

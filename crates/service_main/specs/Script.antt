@@ -75,14 +75,14 @@ abbrev pub in_words : Command → Spelling
 in_words command = record { words = command_words command; command = command }
 
 -- an action with a name for its case
-abbrev pub in_names : (ℕ → Option (List ℕ)) → ℕ → List ℕ → Option ℕ → Spelling
-in_names names at word with = record { words = named_words at word with; command = Step (Act at (case_named names word) with) }
+abbrev pub with_name : (ℕ → Option (List ℕ)) → ℕ → List ℕ → Option ℕ → Spelling
+with_name names at word with = record { words = named_words at word with; command = Step (Act at (case_named names word) with) }
 
 -- the word at a place, which counts from 0, or no bytes where there is none
 abbrev pub word_at : List (List ℕ) → ℕ → List ℕ
 word_at words i = slice_index_or words i []
 
--- the number of 32 bits that its digits write, modulo 2 ^ 32
+-- the number that its digits write, modulo 2 ^ 32: the word's own where it spells one of 32 bits
 abbrev pub number_at : List (List ℕ) → ℕ → ℕ
 number_at words i = digits_value 10 (word_at words i) % 2 ^ 32
 
@@ -93,17 +93,17 @@ commands_with m n k =
     ∷ Step (Request m) ∷ Step (Relay m n) ∷ Step (Open m) ∷ Step (Join m) ∷ Step (Finish m) ∷ Step (Mend m)
     ∷ Step (Act m (n % 2 ^ 8) None) ∷ Step (Act m (n % 2 ^ 8) (Some k)) ∷ []
 
--- the actions with these numbers whose case has this name
-abbrev pub named_with : (ℕ → Option (List ℕ)) → ℕ → List ℕ → ℕ → List Spelling
-named_with names m word k = if is_name word then in_names names m word None ∷ in_names names m word (Some k) ∷ [] else []
+-- the actions with these numbers and with this name, if it is one
+abbrev pub actions_with : (ℕ → Option (List ℕ)) → ℕ → List ℕ → ℕ → List Spelling
+actions_with names m word k = if is_name word then with_name names m word None ∷ with_name names m word (Some k) ∷ [] else []
 
--- the spellings with the numbers and the name of these words
+-- what these words may spell: the third is a number or a name
 abbrev pub spellings : (ℕ → Option (List ℕ)) → List (List ℕ) → List Spelling
 spellings names words =
-    named_with names (number_at words 1) (word_at words 2) (number_at words 3)
+    actions_with names (number_at words 1) (word_at words 2) (number_at words 3)
     ++ map in_words (commands_with (number_at words 1) (number_at words 2) (number_at words 3))
 
--- the command that a line spells: of the spellings with its numbers and its name the one that has its bytes
+-- the command that a line spells: that of the first of the spellings whose words, with a space between each two, are the line
 unfoldable pub command_of : (ℕ → Option (List ℕ)) → List ℕ → Option Command
 command_of names line = option_map (λ s. s.command) (find (λ s. bytes_eq line (join_with_byte 32 s.words)) (spellings names (words_of line)))
 

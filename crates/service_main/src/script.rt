@@ -4,7 +4,8 @@ ghost use Rattle.std.specs.Prelude.{◌≡◌, ℕ, ◌<◌, ◌≤◌, ◌^◌,
 ghost use Rattle.std.specs.Fmt.{decimal};
 ghost use Rattle.std.specs.Char.{is_ascii_graphic};
 ghost use Rattle.std.specs.List.{join_with_byte, list_all};
-ghost use Rattle.reset_machine.specs.EventText.{Fits};
+ghost use Rattle.reset_machine.specs.EventText.{Fits, neighbour_words};
+ghost use Rattle.reset_machine.specs.Words.{words_of};
 ghost use Rattle.reset_machine.specs.declared.event.Event.TheVariants.{Act};
 ghost use Rattle.service_main.specs.declared.script.Command.{Command};
 ghost use Rattle.service_main.specs.declared.script.Command.TheVariants.{Step};
@@ -17,8 +18,11 @@ use reset_machine::{Event, read_event, split_word};
 /// The most bytes of a line, without its line feed.
 pub const MAX_LINE: usize = 256;
 
-/// The most cases that an application has.
-const MAX_CASES: u8 = 16;
+// No application has more cases.
+const MOST_CASES: u8 = 16;
+
+// The number of no case.
+const NO_CASE: u8 = 0;
 
 /// What a line of a script asks for.
 #[derive(Clone, Copy, Debug, PartialEq, Eq)]
@@ -85,26 +89,11 @@ pub fn read_command<P: Application>(line: &[u8]) -> Option<Command>
 // The action that a line stands for which has a name for its case.
 fn read_named<P: Application>(line: &[u8]) -> Option<Event>
     ensures found { IfSome result (λ e. Spells P.names line.now (Step e)) }
-    ensures only { IfNone result ((at : ℕ) (word : List ℕ) (with : Option ℕ) → Fits (Act at 0 with) → IsTrue (is_name word) → line.now ≡ join_with_byte 32 (named_words at word with) → ⊥) }
+    ensures only { IfNone result ((at : ℕ) (w : List ℕ) (with : Option ℕ) → Fits (Act at 0 with) → IsTrue (is_name w) → line.now ≡ join_with_byte 32 (named_words at w with) → ⊥) }
 {
     let (command, rest) = split_word(line)?;
     let (at, rest) = split_word(rest)?;
-    match split_word(rest) {
-        None => named_act::<P>(command, at, rest, None),
-        Some((word, with)) => named_act::<P>(command, at, word, Some(read_number(with)?)),
-    }
-}
-
-// The action whose first three words these are, if they are those of one with a name for its case.
-fn named_act<P: Application>(
-    command: &[u8],
-    at: &[u8],
-    word: &[u8],
-    with: Option<u32>,
-) -> Option<Event>
-    ensures found { IfSome result (λ e. (m : ℕ) × (m < 2 ^ 32) × (command.now ∷ at.now ∷ [] ≡ codes "act" ∷ decimal m ∷ []) × IsTrue (is_name word.now) × (e ≡ Act m (case_named P.names word.now) with)) }
-    ensures only { IfNone result ((m : ℕ) → m < 2 ^ 32 → command.now ∷ at.now ∷ [] ≡ codes "act" ∷ decimal m ∷ [] → IsTrue (is_name word.now) → ⊥) }
-{
+    let (word, with) = word_and_neighbour(rest)?;
     if command == b"act".as_slice() && is_name(word) {
         Some(Event::Act {
             at: read_number(at)?,
@@ -113,6 +102,18 @@ fn named_act<P: Application>(
         })
     } else {
         None
+    }
+}
+
+// A word and the number after it, if there is one, as the whole of a text.
+fn word_and_neighbour(text: &[u8]) -> Option<(&[u8], Option<u32>)>
+    ensures found { IfSome result (λ r. words_of text.now ≡ r.0.now ∷ neighbour_words r.1) }
+    ensures fits { IfSome result (λ r. IfSome r.1 (λ j. j < 2 ^ 32)) }
+    ensures only { IfNone result ((word : List ℕ) (with : Option ℕ) → IfSome with (λ j. j < 2 ^ 32) → words_of text.now ≡ word ∷ neighbour_words with → ⊥) }
+{
+    match split_word(text) {
+        None => Some((text, None)),
+        Some((word, number)) => Some((word, Some(read_number(number)?))),
     }
 }
 
@@ -129,20 +130,20 @@ fn is_graphic(word: &[u8]) -> bool
     word.iter().all(u8::is_ascii_graphic)
 }
 
-// The case that this word names, or 0 where it names none.
+// The case that this word names, if it names one.
 fn case_called<P: Application>(word: &[u8]) -> u8
     ensures { result ≡ case_named P.names word.now }
 {
-    for case in 1..=MAX_CASES {
+    for case in 1..=MOST_CASES {
         if is_called(P::case_name(case), word) {
             return case;
         }
     }
-    0
+    NO_CASE
 }
 
 // Whether the name is this word.
-fn is_called(name: Option<&'static str>, word: &[u8]) -> bool
+fn is_called(name: Option<&str>, word: &[u8]) -> bool
     ensures { result ≡ is_called (option_map (λ name. name.now) name.entry) word.now }
 {
     match name {
@@ -196,4 +197,76 @@ fn is_enabled(word: &[u8]) -> bool
     ensures { IsTrue result ↔ (word.now ≡ codes "enabled") }
 {
     word == b"enabled".as_slice()
+}
+
+#[cfg(test)]
+mod tests {
+    use super::*;
+    use app_interface::Idle;
+    use app_token::Token;
+
+    fn action(at: u32, case: u8, with: Option<u32>) -> Line {
+        Line::Asks(Command::Step(Event::Act { at, case, with }))
+    }
+
+    #[test]
+    fn reads_cases_by_number_and_by_name(rt: HostRuntime) {
+        let lines = [
+            (b"act 3 1 2".as_slice(), action(3, 1, Some(2))),
+            (b"act 3 255".as_slice(), action(3, 255, None)),
+            (b"act 3 pass 2".as_slice(), action(3, 1, Some(2))),
+            (
+                b"act 0 take 4294967295".as_slice(),
+                action(0, 2, Some(4_294_967_295)),
+            ),
+            (b"act 3 take".as_slice(), action(3, 2, None)),
+            (b"act 3 Take".as_slice(), action(3, 0, None)),
+            (b"act 3 passed 2".as_slice(), action(3, 0, Some(2))),
+            (b"act 3 p!~".as_slice(), action(3, 0, None)),
+        ];
+        for (line, answer) in lines {
+            assert_eq!(rt; read_line::<Token>(line), answer);
+        }
+        assert_eq!(rt; read_line::<Idle>(b"act 3 pass 2"), action(3, 0, Some(2)));
+    }
+
+    #[test]
+    fn reads_commands_of_one_word(rt: HostRuntime) {
+        assert_eq!(rt; read_line::<Idle>(b"show"), Line::Asks(Command::Show));
+        assert_eq!(rt; read_line::<Idle>(b"newest"), Line::Asks(Command::Newest));
+        assert_eq!(rt; read_line::<Idle>(b"ready"), Line::Asks(Command::Ready));
+    }
+
+    #[test]
+    fn refuses_other_lines(rt: HostRuntime) {
+        let lines = [
+            b"newest ".as_slice(),
+            b"newest 3".as_slice(),
+            b"Newest".as_slice(),
+            b"enabled".as_slice(),
+            b"act".as_slice(),
+            b"act 3".as_slice(),
+            b"act 3 ".as_slice(),
+            b"act 3 256".as_slice(),
+            b"act 3 01".as_slice(),
+            b"act 3 2nd".as_slice(),
+            b"act 3 -".as_slice(),
+            b"act 3 pa\tss".as_slice(),
+            b"act 3 pa\x7fss".as_slice(),
+            b"act 3 pass ".as_slice(),
+            b"act 3 pass 02".as_slice(),
+            b"act 3 pass 2 ".as_slice(),
+            b"act 3 pass 2 4".as_slice(),
+            b"act 3 pass 4294967296".as_slice(),
+            b"act 03 pass".as_slice(),
+            b"act pass 3".as_slice(),
+            b" act 3 pass".as_slice(),
+            b"acts 3 pass".as_slice(),
+            b"claim pass".as_slice(),
+            b"show pass".as_slice(),
+        ];
+        for line in lines {
+            assert_eq!(rt; read_line::<Token>(line), Line::Bad);
+        }
+    }
 }

@@ -1,5 +1,5 @@
 use Rattle.std.specs.Prelude.{codes}
-use Rattle.std.proofs.Common.{List, ℕ, Bool, ◌++◌, if◌then◌else◌, sym}
+use Rattle.std.proofs.Common.{if◌then◌else◌, sym}
 use Rattle.action_tables.proofs.Fronts.{AppendsFront-first, OnErr-always, OnErr-then, OnOk-then}
 use Rattle.reset_machine.specs.Configuration.{local_of}
 use Rattle.service_main.specs.Lines.{ended}

@@ -1,5 +1,5 @@
 use Rattle.std.specs.Prelude.{codes}
-use Rattle.std.proofs.Common.{◌≡◌, refl}
+use Rattle.std.proofs.Common.{refl}
 use Rattle.action_tables.proofs.Fronts.{AppendsFront-first, OnErr-always, OnErr-then}
 use Rattle.service_main.specs.Lines.{ended}
 use Rattle.service_main.proofs.show.put_local.Goals as goal

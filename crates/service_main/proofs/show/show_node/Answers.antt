@@ -1,4 +1,4 @@
-use Rattle.std.proofs.Common.{List, ℕ, ◌++◌, subst, sym}
+use Rattle.std.proofs.Common.{List, ℕ, subst, sym}
 use Rattle.action_tables.specs.Written.{AppendsFront}
 use Rattle.action_tables.proofs.Fronts.{AppendsFront-first, OnErr-always, OnErr-then}
 use Rattle.service_main.specs.Lines.{ended}
