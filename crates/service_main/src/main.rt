@@ -4,6 +4,8 @@
 
 mod answer;
 mod commands;
+#[cfg(test)]
+mod every_run;
 mod files;
 mod gather;
 mod input;
