@@ -114,7 +114,8 @@ pub fn answer<P: Application, W: Write>(
     command: Command,
     out: &mut W,
 ) -> Result<(), RunStop>
-    ensures ok { OnOk result ((config.new ≡ (answered (meaning_of P.app P.text P.names) config.old command).0) × Appends (W.contents out.old) (W.contents out.new) (answered (meaning_of P.app P.text P.names) config.old command).1) }
+    ensures ok { OnOk result ((config.new ≡ (answered (meaning_of P.app P.text P.names) config.old command).0)
+        × Appends (W.contents out.old) (W.contents out.new) (answered (meaning_of P.app P.text P.names) config.old command).1) }
     ensures err { OnErr result (AppendsFront (W.contents out.old) (W.contents out.new) (answered (meaning_of P.app P.text P.names) config.old command).1) }
     ensures stop { IfErr result (λ stop. stop ≢ RunStop.ReadFailed) }
 {
@@ -134,7 +135,8 @@ fn answer_step<P: Application, W: Write>(
     event: Event,
     out: &mut W,
 ) -> Result<(), RunStop>
-    ensures ok { OnOk result ((config.new ≡ (stepped config.old (outcome_of P.app config.old event)).0) × Appends (W.contents out.old) (W.contents out.new) (stepped config.old (outcome_of P.app config.old event)).1) }
+    ensures ok { OnOk result ((config.new ≡ (stepped config.old (outcome_of P.app config.old event)).0)
+        × Appends (W.contents out.old) (W.contents out.new) (stepped config.old (outcome_of P.app config.old event)).1) }
     ensures err { OnErr result (AppendsFront (W.contents out.old) (W.contents out.new) (stepped config.old (outcome_of P.app config.old event)).1) }
     ensures stop { IfErr result (λ stop. stop ≢ RunStop.ReadFailed) }
 {

@@ -185,7 +185,8 @@ fn answer_line<P: Application, W: Write>(
     line: &[u8],
     out: &mut W,
 ) -> Result<Status, RunStop>
-    ensures ok { IfOk result (λ status. let a = answer_to (meaning_of P.app P.text P.names) config.old number (line_of P.names line.now) in (status ≡ a.status) × (config.new ≡ a.config) × Appends (W.contents out.old) (W.contents out.new) a.text) }
+    ensures ok { IfOk result (λ status. let a = answer_to (meaning_of P.app P.text P.names) config.old number (line_of P.names line.now) in
+        (status ≡ a.status) × (config.new ≡ a.config) × Appends (W.contents out.old) (W.contents out.new) a.text) }
     ensures err { OnErr result (AppendsFront (W.contents out.old) (W.contents out.new) (answer_to (meaning_of P.app P.text P.names) config.old number (line_of P.names line.now)).text) }
     ensures stop { IfErr result (λ stop. stop ≢ RunStop.ReadFailed) }
 {
