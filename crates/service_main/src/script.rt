@@ -80,10 +80,10 @@ pub fn read_command<P: Application>(line: &[u8]) -> Option<Command>
     ensures found { IfSome result (Spells P.names line.now) }
     ensures only { IfNone result ((command : Command) → Spells P.names line.now command → ⊥) }
 {
-    match read_named::<P>(line) {
-        Some(action) => Some(Command::Step(action)),
-        None => by_first_word(line),
+    if let Some(command) = by_first_word(line) {
+        return Some(command);
     }
+    Some(Command::Step(read_named::<P>(line)?))
 }
 
 // The action that a line stands for which has a name for its case.
