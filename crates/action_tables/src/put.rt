@@ -1,5 +1,5 @@
 // Writing bytes and numbers, each of them whole or up to a fault.
-ghost use Rattle.std.specs.Prelude.{◌≡◌, [], IsOk, OnOk, OnErr};
+ghost use Rattle.std.specs.Prelude.{◌≡◌, [], IsOk, OnOk, OnErr, Some, codes};
 ghost use Rattle.std.specs.Fmt.{decimal};
 ghost use Rattle.std.specs.Io.KnownBytes.{Appends};
 ghost use Rattle.action_tables.specs.Written.{AppendsFront};
@@ -14,6 +14,8 @@ use std::io::Write;
 pub struct WriteFault;
 
 impl fmt::Display for WriteFault {
+    ghost output = { λ _. Some (codes "the output failed") };
+
     fn fmt<W: fmt::Write>(&self, f: &mut fmt::Formatter<W>) -> fmt::Result {
         f.write_str("the output failed")
     }

@@ -4,7 +4,6 @@ use Rattle.topology.specs.Graph.{Graph, IsNode, AreLinked, IsReached, IsGraph}
 use Rattle.topology.specs.Id.{IsId}
 use Rattle.topology.specs.declared.fault.TopoFault.{TopoFault}
 use Rattle.topology.specs.declared.fault.TopoFault.TheVariants.{NoNodes, TooManyNodes, BadId, TwiceNode, TooManyLinks, StrangeNode, SelfLink, TwiceLink, Disconnected, NoMemory}
-use Rattle.topology.specs.declared.fault.TheConstants.{MAX_NODES, MAX_LINKS}
 
 -- x is the first of the list that meets P
 pub record IsFirst {X : Type 0} (P : X → Type 0) (xs : List X) (x : X) : Type 0 where
@@ -51,10 +50,10 @@ pub record IsCutOff (g : Graph) (n : ℕ) : Type 0 where
 -- the lists have this fault
 abbrev pub HasFault : List ℕ → List (ℕ × ℕ) → TopoFault → Type 0
 HasFault nodes links NoNodes = nodes ≡ []
-HasFault nodes links TooManyNodes = MAX_NODES < length nodes
+HasFault nodes links TooManyNodes = 1024 < length nodes
 HasFault nodes links (BadId n) = IsFirst (λ i. IsId i → ⊥) nodes n
 HasFault nodes links (TwiceNode n) = IsFirstRepeat nodes n
-HasFault nodes links TooManyLinks = MAX_LINKS < length links
+HasFault nodes links TooManyLinks = 8192 < length links
 HasFault nodes links (StrangeNode n) = IsFirst (λ i. Contains nodes i → ⊥) (ends_of links) n
 HasFault nodes links (SelfLink n) = IsFirst (λ l. l.0 ≡ l.1) links (n, n)
 HasFault nodes links (TwiceLink a b) = IsFirstRepeat (ordered_links links) (a, b)

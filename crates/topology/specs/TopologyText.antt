@@ -10,7 +10,6 @@ use Rattle.topology.specs.declared.text.AppName.{AppName}
 use Rattle.topology.specs.declared.text.AppName.TheVariants.{Idle, Token, Mutex, Routes}
 use Rattle.topology.specs.declared.text.ReadFault.{ReadFault}
 use Rattle.topology.specs.declared.text.ReadFault.TheVariants.{TextTooLong, NotToml, MissingKey, UnknownKey, WrongKind, UnknownApp, Topology}
-use Rattle.topology.specs.declared.text.TheConstants.{MAX_TEXT}
 
 -- what a text of the right shape gives
 pub record Description : Type 0 where
@@ -30,7 +29,7 @@ toml_of text = if is_utf8 text then parse_document text else None
 
 -- the members of a text that is within the limit
 unfoldable pub table_of : List ℕ → Result Members ReadFault
-table_of text = if nat_lt MAX_TEXT (length text) then Err TextTooLong else ok_or (toml_of text) NotToml
+table_of text = if nat_lt 1048576 (length text) then Err TextTooLong else ok_or (toml_of text) NotToml
 
 -- the value at a key of the top level
 unfoldable pub value_at : Members → List ℕ → Result Data ReadFault
