@@ -1,7 +1,6 @@
 -- The lines of a text.
 use Rattle.std.specs.Prelude.{◌≡◌, ◌≢◌, ℕ, Bool, ◌==◌, List, [], ◌∷◌, ◌++◌, codes, take, All, Option, IfSome}
 use Rattle.std.specs.List.{flat_map, join_with_byte, slice_split}
-use Rattle.service_main.specs.declared.input.TheConstants.{READ_LIMIT}
 
 abbrev pub is_line_feed : ℕ → Bool
 is_line_feed byte = byte == 10
@@ -29,4 +28,4 @@ pub data IsCut (joined topology script : List ℕ) : Type 0 where
 
 -- the text is what a reader had, up to the limit, where it tells its bytes
 unfoldable pub IsReadFrom : Option (List ℕ) → List ℕ → Type 0
-IsReadFrom known text = IfSome known (λ bytes. text ≡ take READ_LIMIT bytes)
+IsReadFrom known text = IfSome known (λ bytes. text ≡ take 1048577 bytes)

@@ -14,7 +14,6 @@ use Rattle.topology.specs.declared.text.ReadFault.TheVariants.{TextTooLong, NotT
 use Rattle.topology.specs.declared.text.ReadFault.TheVariants as read
 use Rattle.topology.specs.declared.text.AppName.{AppName}
 use Rattle.topology.specs.declared.text.AppName.TheVariants.{Idle, Token, Mutex, Routes}
-use Rattle.topology.specs.declared.text.TheConstants.{MAX_TEXT}
 use Rattle.tree_layer.specs.declared.regs.TreeRegs.{TreeRegs}
 use Rattle.wave_layer.specs.declared.regs.WaveRegs.{WaveRegs}
 use Rattle.wave_layer.specs.declared.regs.Phase.{Phase}
@@ -191,7 +190,7 @@ answers m c n (line ∷ lines) =
 
 -- the answers to a script
 abbrev pub script_output : {L : Type 0} → Meaning L → Configuration L → List ℕ → List ℕ × Status
-script_output m c script = if nat_lt MAX_TEXT (length script) then (too_long_text, BadInput) else answers m c 1 (lines_of script)
+script_output m c script = if nat_lt 1048576 (length script) then (too_long_text, BadInput) else answers m c 1 (lines_of script)
 
 -- ---- the output of texts
 
@@ -217,8 +216,8 @@ pub data IsOutput (topology script : List ℕ) (output : List ℕ × Status) : T
 
 -- the same of a joined text, which is judged by its length before it is cut
 pub data IsJoinedOutput (joined : List ℕ) (output : List ℕ × Status) : Type 0 where
-  too_long : MAX_TEXT < length joined → output ≡ (too_long_text, BadInput) → IsJoinedOutput joined output
-  cut : (topology script : List ℕ) → length joined ≤ MAX_TEXT → IsCut joined topology script → IsOutput topology script output → IsJoinedOutput joined output
+  too_long : 1048576 < length joined → output ≡ (too_long_text, BadInput) → IsJoinedOutput joined output
+  cut : (topology script : List ℕ) → length joined ≤ 1048576 → IsCut joined topology script → IsOutput topology script output → IsJoinedOutput joined output
 
 -- ---- what a run leaves
 

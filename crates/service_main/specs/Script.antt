@@ -13,7 +13,6 @@ use Rattle.service_main.specs.declared.script.Command.{Command}
 use Rattle.service_main.specs.declared.script.Command.TheVariants.{Step, Show, ShowNode, Newest, Enabled, Ready}
 use Rattle.service_main.specs.declared.script.Line.{Line}
 use Rattle.service_main.specs.declared.script.Line.TheVariants.{Silent, Asks, Bad}
-use Rattle.service_main.specs.declared.script.TheConstants.{MAX_LINE}
 
 -- a command in words
 abbrev pub command_words : Command → List (List ℕ)
@@ -118,4 +117,4 @@ asked None = Bad
 
 -- what a line asks for
 abbrev pub line_of : (ℕ → Option (List ℕ)) → List ℕ → Line
-line_of names line = if nat_lt MAX_LINE (length line) then Bad else (if is_silent line then Silent else asked (command_of names line))
+line_of names line = if nat_lt 256 (length line) then Bad else (if is_silent line then Silent else asked (command_of names line))
