@@ -5,3 +5,4 @@ pub mod Parts
 pub mod Lines
 pub mod Words
 pub mod Tables
+pub mod Gathering
