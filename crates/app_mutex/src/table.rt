@@ -1,5 +1,5 @@
 // The table of neighbour exclusion, and what is asked of it.
-ghost use Rattle.std.specs.Prelude.{◌≡◌, ◌↔◌, Bool, None, Some, Err, IfOk, is_some, map, option_map};
+ghost use Rattle.std.specs.Prelude.{◌≡◌, ◌≢◌, ◌↔◌, Bool, None, Some, Err, IfOk, is_some, map, option_map};
 ghost use Rattle.action_tables.specs.RowText.{as_printed};
 ghost use Rattle.action_tables.specs.Table.{printed};
 ghost use Rattle.app_interface.specs.Views.{seen_values};
@@ -38,7 +38,7 @@ pub fn can(
     with.is_none() && mutex_table!(enabled_cases!(); own, held).has(case)
 }
 
-/// What the case leaves, or `NotEnabled` exactly where it isn't enabled.
+/// What the case leaves, or `NotEnabled` exactly where it isn't enabled. It wants no memory.
 pub fn on_clock(
     id: u32,
     case: u8,
@@ -48,6 +48,7 @@ pub fn on_clock(
 ) -> Result<MutexLocal, ClockRefusal>
     ensures ok { IfOk result (λ new. mutex_next id case with own.now (seen_values seen.now) ≡ Some new) }
     ensures not_enabled { result ≡ Err ClockRefusal.NotEnabled ↔ mutex_next id case with own.now (seen_values seen.now) ≡ None }
+    ensures memory { result ≢ Err ClockRefusal.NoMemory }
 {
     if with.is_some() {
         return Err(ClockRefusal::NotEnabled);

@@ -29,10 +29,11 @@ fn text_of(local: MutexLocal) -> &'static [u8]
     }
 }
 
-/// The local state with this text, `BadLocal` where there is none.
+/// The local state with this text, `BadLocal` where there is none. It wants no memory.
 pub fn read_local(text: &[u8]) -> Result<MutexLocal, LocalFault>
     ensures ok { IfOk result (λ local. local_text local ≡ text.now) }
     ensures bad { result ≡ Err LocalFault.BadLocal → (local : MutexLocal) → local_text local ≢ text.now }
+    ensures memory { result ≢ Err LocalFault.NoMemory }
 {
     let (inside, bit) = match text {
         b"out/0" => (false, false),
