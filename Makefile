@@ -1,6 +1,6 @@
-# Needs `rt`, the command of the Rattle kit, and make: nothing else.
+# Needs `rt`, the command of the Rattle kit, and make: nothing else, but for `make bench`.
 
-.PHONY: run build test
+.PHONY: run build test bench
 
 # Builds the program and replays one whole reset wave on the line of nodes 1, 2, 3.
 run: build
@@ -17,3 +17,8 @@ build:
 # it has built.
 test:
 	@bash tests/all
+
+# Compares the program with a plain Rust program of the same replay, bench/baseline.rs. Needs rustc,
+# valgrind and GNU time beside.
+bench: build
+	@bash bench/run build/reset-service
