@@ -14,7 +14,6 @@ use Rattle.topology.specs.declared.fault.TopoFault.TheVariants as topo
 use Rattle.topology.specs.declared.text.AppName.TheVariants.{Idle, Token, Mutex, Routes}
 use Rattle.topology.specs.declared.text.ReadFault.{ReadFault}
 use Rattle.topology.specs.declared.text.ReadFault.TheVariants.{TextTooLong, NotToml, MissingKey, UnknownKey, WrongKind, UnknownApp, Topology, NoMemory}
-use Rattle.topology.specs.declared.text.TheConstants.{MAX_TEXT}
 
 -- what the values from an index on give, if each is of the kind
 abbrev pub given_from : {X : Type 0} → (Data → Option X) → List Value → ℕ → Option (List X)
@@ -38,9 +37,9 @@ keys-known [] = refl
 keys-known (e ∷ es) = rw (keys-known es)
 
 -- a document that was read
-pub table_read : (text : List ℕ) (t : Members) → length text ≤ MAX_TEXT → IsUtf8 text → parse_document text ≡ Some t → table_of text ≡ Ok t
+pub table_read : (text : List ℕ) (t : Members) → length text ≤ 1048576 → IsUtf8 text → parse_document text ≡ Some t → table_of text ≡ Ok t
 unfolding table_of toml_of
-table_read text t short utf8 parsed = rw (le-ltb MAX_TEXT (length text) short, is_utf8-from_IsUtf8 text utf8, parsed)
+table_read text t short utf8 parsed = rw (le-ltb 1048576 (length text) short, is_utf8-from_IsUtf8 text utf8, parsed)
 
 no-document : (text : List ℕ) (b : Bool) → is_utf8 text ≡ b → (IsUtf8 text → parse_document text ≡ None) → toml_of text ≡ None
 unfolding toml_of
@@ -48,9 +47,9 @@ no-document text true is refused = rw (is, refused (IsUtf8-from_is_utf8 text is)
 no-document text false is refused = rw is
 
 -- a text that is no document
-pub table_refused : (text : List ℕ) → length text ≤ MAX_TEXT → (IsUtf8 text → parse_document text ≡ None) → table_of text ≡ Err NotToml
+pub table_refused : (text : List ℕ) → length text ≤ 1048576 → (IsUtf8 text → parse_document text ≡ None) → table_of text ≡ Err NotToml
 unfolding table_of
-table_refused text short refused = rw (le-ltb MAX_TEXT (length text) short, no-document text (is_utf8 text) refl refused)
+table_refused text short refused = rw (le-ltb 1048576 (length text) short, no-document text (is_utf8 text) refl refused)
 
 -- a fault of the text, and not of the lists that it describes
 abbrev IsOwn : ReadFault → Type 0
@@ -102,7 +101,7 @@ app_named-own name =
 
 table_of-own : (text : List ℕ) → IfErr (table_of text) IsOwn
 unfolding table_of
-table_of-own text = if-own (ltb MAX_TEXT (length text)) (Err TextTooLong) (ok_or (toml_of text) NotToml) tt (ok_or-own (toml_of text) NotToml tt)
+table_of-own text = if-own (ltb 1048576 (length text)) (Err TextTooLong) (ok_or (toml_of text) NotToml) tt (ok_or-own (toml_of text) NotToml tt)
 
 described-own : (t : Members) → IfErr (described t) IsOwn
 unfolding described
