@@ -6,3 +6,4 @@ pub mod Lines
 pub mod Words
 pub mod Tables
 pub mod Gathering
+pub mod ExitStatus

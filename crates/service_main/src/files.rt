@@ -1,6 +1,7 @@
 // Opening and reading the files that the command line names.
 
-ghost use Rattle.std.specs.Prelude.{◌≢◌, IfErr};
+ghost use Rattle.std.specs.Prelude.{◌≢◌, IfErr, IfOk};
+ghost use Rattle.service_main.specs.Lines.{IsReadFrom};
 
 use crate::input::read_text;
 use crate::status::RunStop;
@@ -20,7 +21,8 @@ pub fn open_file<R: Files>(rt: &R, path: &str) -> Result<R::File, RunStop>
 
 /// The text of a file, or its first `READ_LIMIT` bytes.
 pub fn read_file<R: Files + AllocGlobal>(rt: &R, path: &str) -> Result<Vec<u8>, RunStop>
-    ensures { IfErr result (λ stop. stop ≢ RunStop.WriteFailed) }
+    ensures ok { IfOk result (λ text. (file : R.File) × IsReadFrom (R.File.remaining file) text.items) }
+    ensures err { IfErr result (λ stop. stop ≢ RunStop.WriteFailed) }
 {
     let mut file = open_file(rt, path)?;
     read_text(rt.alloc(), &mut file)

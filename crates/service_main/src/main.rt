@@ -20,7 +20,7 @@ mod words;
 use crate::files::{open_file, read_file};
 use crate::gather::Gathered;
 use crate::replay::{replay, replay_joined};
-use crate::status::{RunStop, Status};
+use crate::status::{RunStop, Status, exit_code};
 use crate::tables::print_tables;
 use crate::words::{Job, LineFault, no_text, read_words};
 use action_tables::put_bytes;
@@ -29,17 +29,11 @@ use std::process::ExitCode;
 use std::{env, io};
 
 fn main(rt: HostRuntime) -> ExitCode {
-    match run(&rt) {
-        Ok(Status::Good) => ExitCode::SUCCESS,
-        Ok(Status::BadInput) => ExitCode::from(2),
-        Err(stop) => {
-            let _ = eprintln!(rt; "{stop}");
-            match stop {
-                RunStop::ReadFailed | RunStop::WriteFailed => ExitCode::from(3),
-                RunStop::NoMemory => ExitCode::from(4),
-            }
-        }
+    let ended = run(&rt);
+    if let Err(stop) = ended {
+        let _ = eprintln!(rt; "{stop}");
     }
+    exit_code(ended)
 }
 
 fn run(rt: &HostRuntime) -> Result<Status, RunStop> {

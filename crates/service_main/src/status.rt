@@ -1,12 +1,15 @@
 // How a run ends.
 
 ghost use Rattle.std.specs.Prelude.{◌≡◌};
+ghost use Rattle.std.specs.Process.{exit_status};
+ghost use Rattle.service_main.specs.ExitStatus.{status_of};
 ghost use Rattle.service_main.specs.declared.status.RunStop.TheVariants.{NoMemory, WriteFailed};
 
 use action_tables::WriteFault;
 use std::alloc::AllocError;
 use std::error::Error;
 use std::fmt;
+use std::process::ExitCode;
 
 /// How a run that came to its end judges its texts.
 #[derive(Clone, Copy, Debug, PartialEq, Eq)]
@@ -26,6 +29,18 @@ pub enum RunStop {
     WriteFailed,
     /// A growth was refused. What was written until then is a front of the output.
     NoMemory,
+}
+
+/// The status that the process exits with after a run that ended so.
+pub fn exit_code(ended: Result<Status, RunStop>) -> ExitCode
+    ensures { exit_status result ≡ status_of ended }
+{
+    match ended {
+        Ok(Status::Good) => ExitCode::from(0),
+        Ok(Status::BadInput) => ExitCode::from(2),
+        Err(RunStop::ReadFailed | RunStop::WriteFailed) => ExitCode::from(3),
+        Err(RunStop::NoMemory) => ExitCode::from(4),
+    }
 }
 
 impl From<WriteFault> for RunStop {

@@ -1,0 +1,13 @@
+-- The status that the process exits with.
+use Rattle.std.specs.Prelude.{ℕ, Result, Ok, Err}
+use Rattle.service_main.specs.declared.status.Status.{Status}
+use Rattle.service_main.specs.declared.status.Status.TheVariants.{Good, BadInput}
+use Rattle.service_main.specs.declared.status.RunStop.{RunStop}
+use Rattle.service_main.specs.declared.status.RunStop.TheVariants.{ReadFailed, WriteFailed, NoMemory}
+
+abbrev pub status_of : Result Status RunStop → ℕ
+status_of (Ok Good) = 0
+status_of (Ok BadInput) = 2
+status_of (Err ReadFailed) = 3
+status_of (Err WriteFailed) = 3
+status_of (Err NoMemory) = 4
