@@ -33,7 +33,8 @@ pub fn replay_text<W: Write>(
     script: &[u8],
     out: &mut W,
 ) -> Result<Status, RunStop>
-    ensures { Leaves (IsOutput topology.now script.now) (W.contents out.old) (W.contents out.new) result }
+    ensures leaves { Leaves (IsOutput topology.now script.now) (W.contents out.old) (W.contents out.new) result }
+    ensures stop { IfErr result (λ stop. stop ≢ RunStop.ReadFailed) }
 {
     match read_topology(alloc, topology) {
         Ok((topology, app)) => replay_app(alloc, app, topology, script, out),
@@ -79,7 +80,8 @@ pub fn replay_joined<R: Read, W: Write>(
 
 // The run of a joined text.
 fn replay_whole<W: Write>(alloc: Global, joined: &[u8], out: &mut W) -> Result<Status, RunStop>
-    ensures { Leaves (IsJoinedOutput joined.now) (W.contents out.old) (W.contents out.new) result }
+    ensures leaves { Leaves (IsJoinedOutput joined.now) (W.contents out.old) (W.contents out.new) result }
+    ensures stop { IfErr result (λ stop. stop ≢ RunStop.ReadFailed) }
 {
     if joined.len() > MAX_TEXT {
         return refuse_script(out);
@@ -96,7 +98,8 @@ fn replay_app<W: Write>(
     script: &[u8],
     out: &mut W,
 ) -> Result<Status, RunStop>
-    ensures { Leaves (IsReplayOf app topology script.now) (W.contents out.old) (W.contents out.new) result }
+    ensures leaves { Leaves (IsReplayOf app topology script.now) (W.contents out.old) (W.contents out.new) result }
+    ensures stop { IfErr result (λ stop. stop ≢ RunStop.ReadFailed) }
 {
     match app {
         AppName::Idle => replay_booted::<Idle, W>(alloc, topology, script, out),
@@ -112,7 +115,8 @@ fn replay_booted<P: Application, W: Write>(
     script: &[u8],
     out: &mut W,
 ) -> Result<Status, RunStop>
-    ensures { Leaves (IsReplay (meaning_of P.app P.text P.names) topology script.now) (W.contents out.old) (W.contents out.new) result }
+    ensures leaves { Leaves (IsReplay (meaning_of P.app P.text P.names) topology script.now) (W.contents out.old) (W.contents out.new) result }
+    ensures stop { IfErr result (λ stop. stop ≢ RunStop.ReadFailed) }
 {
     match Config::<P>::boot(alloc, topology) {
         Ok(config) => replay_script(alloc, config, script, out),
@@ -122,7 +126,8 @@ fn replay_booted<P: Application, W: Write>(
 
 // Answers a text that is no topology.
 fn refuse_topology<W: Write>(fault: ReadFault, out: &mut W) -> Result<Status, RunStop>
-    ensures { Leaves (λ output. (fault ≢ ReadFault.NoMemory) × (output ≡ (bad_topology_text fault, Status.BadInput))) (W.contents out.old) (W.contents out.new) result }
+    ensures leaves { Leaves (λ output. (fault ≢ ReadFault.NoMemory) × (output ≡ (bad_topology_text fault, Status.BadInput))) (W.contents out.old) (W.contents out.new) result }
+    ensures stop { IfErr result (λ stop. stop ≢ RunStop.ReadFailed) }
 {
     if fault == ReadFault::NoMemory {
         return Err(RunStop::NoMemory);
@@ -133,7 +138,8 @@ fn refuse_topology<W: Write>(fault: ReadFault, out: &mut W) -> Result<Status, Ru
 
 // Answers a script that is too long.
 fn refuse_script<W: Write>(out: &mut W) -> Result<Status, RunStop>
-    ensures { Leaves (λ output. output ≡ (too_long_text, Status.BadInput)) (W.contents out.old) (W.contents out.new) result }
+    ensures leaves { Leaves (λ output. output ≡ (too_long_text, Status.BadInput)) (W.contents out.old) (W.contents out.new) result }
+    ensures stop { IfErr result (λ stop. stop ≢ RunStop.ReadFailed) }
 {
     put_too_long(out)?;
     Ok(Status::BadInput)
@@ -145,7 +151,8 @@ fn replay_script<P: Application, W: Write>(
     script: &[u8],
     out: &mut W,
 ) -> Result<Status, RunStop>
-    ensures { Leaves (λ output. output ≡ script_output (meaning_of P.app P.text P.names) config script.now) (W.contents out.old) (W.contents out.new) result }
+    ensures leaves { Leaves (λ output. output ≡ script_output (meaning_of P.app P.text P.names) config script.now) (W.contents out.old) (W.contents out.new) result }
+    ensures stop { IfErr result (λ stop. stop ≢ RunStop.ReadFailed) }
 {
     if script.len() > MAX_TEXT {
         return refuse_script(out);
@@ -161,7 +168,8 @@ fn answer_lines<P: Application, W: Write>(
     out: &mut W,
 ) -> Result<Status, RunStop>
     requires { length script.now ≤ MAX_TEXT }
-    ensures { Leaves (λ output. output ≡ answers (meaning_of P.app P.text P.names) config.old 1 (lines_of script.now)) (W.contents out.old) (W.contents out.new) result }
+    ensures leaves { Leaves (λ output. output ≡ answers (meaning_of P.app P.text P.names) config.old 1 (lines_of script.now)) (W.contents out.old) (W.contents out.new) result }
+    ensures stop { IfErr result (λ stop. stop ≢ RunStop.ReadFailed) }
 {
     let mut rest = script;
     let mut number = 1;

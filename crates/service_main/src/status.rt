@@ -1,8 +1,8 @@
 // How a run ends.
 
-ghost use Rattle.std.specs.Prelude.{◌≡◌};
+ghost use Rattle.std.specs.Prelude.{◌≡◌, Some};
 ghost use Rattle.std.specs.Process.{exit_status};
-ghost use Rattle.service_main.specs.ExitStatus.{status_of};
+ghost use Rattle.service_main.specs.ExitStatus.{status_of, stop_text};
 ghost use Rattle.service_main.specs.declared.status.RunStop.TheVariants.{NoMemory, WriteFailed};
 
 use action_tables::WriteFault;
@@ -60,6 +60,8 @@ impl From<AllocError> for RunStop {
 }
 
 impl fmt::Display for RunStop {
+    ghost output = { λ stop. Some (stop_text stop) };
+
     fn fmt<W: fmt::Write>(&self, f: &mut fmt::Formatter<W>) -> fmt::Result {
         f.write_str(match self {
             RunStop::ReadFailed => "read fault",

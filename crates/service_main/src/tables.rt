@@ -1,6 +1,6 @@
 // The tables that the nodes act by.
 
-ghost use Rattle.std.specs.Prelude.{◌≡◌, OnOk, OnErr};
+ghost use Rattle.std.specs.Prelude.{◌≡◌, ◌≢◌, IfErr, OnOk, OnErr};
 ghost use Rattle.std.specs.Io.KnownBytes.{Appends};
 ghost use Rattle.std.specs.List.{flat_map};
 ghost use Rattle.action_tables.specs.Written.{AppendsFront};
@@ -24,7 +24,8 @@ struct TitledRows<'a> {
 /// Prints the table of the tree and that of the wave, and then those of the applications: the token,
 /// neighbour exclusion and the routes.
 pub fn print_tables<W: Write>(out: &mut W) -> Result<Status, RunStop>
-    ensures { (here : Standpoint) → Leaves (λ output. output ≡ (tables_text here, Good)) (W.contents out.old) (W.contents out.new) result }
+    ensures leaves { (here : Standpoint) → Leaves (λ output. output ≡ (tables_text here, Good)) (W.contents out.old) (W.contents out.new) result }
+    ensures stop { IfErr result (λ stop. stop ≢ RunStop.ReadFailed) }
 {
     let tables = [
         TitledRows {

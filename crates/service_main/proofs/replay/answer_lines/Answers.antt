@@ -7,8 +7,8 @@ use Rattle.service_main.specs.Output.{answer_to, answers}
 use Rattle.service_main.proofs.Runs.{left_bad, left_good, left_result, left_stop}
 use Rattle.service_main.proofs.replay.answer_lines.Goals as goal
 
-pub returns-in-Ok-BadInput : goal.returns-in-Ok-BadInput
-returns-in-Ok-BadInput g c =
+pub returns-in-Ok-BadInput-clause-leaves : goal.returns-in-Ok-BadInput-clause-leaves
+returns-in-Ok-BadInput-clause-leaves g c =
     let m = meaning_of g.P.Application.app g.P.Application.text g.P.Application.names in
     let (done, left, wrote, bound) = c.loop-line.invariant in
     let a = answer_to m c.loop-line.config c.loop-line.number (line_of m.names c.in-Some.line.now) in
@@ -19,8 +19,8 @@ returns-in-Ok-BadInput g c =
       Appends-trans _ _ _ done a.text wrote ok.2,
     )
 
-pub returns-in-Err : goal.returns-in-Err
-returns-in-Err g c =
+pub returns-in-Err-clause-leaves : goal.returns-in-Err-clause-leaves
+returns-in-Err-clause-leaves g c =
     let m = meaning_of g.P.Application.app g.P.Application.text g.P.Application.names in
     let (done, left, wrote, bound) = c.loop-line.invariant in
     left_stop m (answers m c.args.config.now 1 (lines_of c.args.script.now)) (g.W.Write.contents c.args.out.now) (g.W.Write.contents c.loop-line.out) (g.W.Write.contents c.answer_line.new.out)
@@ -41,8 +41,8 @@ loop-line-preserved g c =
       omega (arith, bound, shorter),
     )
 
-pub returns : goal.returns
-returns g c =
+pub returns-clause-leaves : goal.returns-clause-leaves
+returns-clause-leaves g c =
     let m = meaning_of g.P.Application.app g.P.Application.text g.P.Application.names in
     let (done, left, wrote, bound) = c.loop-line.invariant in
     left_result m (answers m c.args.config.now 1 (lines_of c.args.script.now)) (g.W.Write.contents c.args.out.now) (g.W.Write.contents c.loop-line.out) (g.W.Write.contents c.answer_line-2.new.out)

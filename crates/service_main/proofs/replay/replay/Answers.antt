@@ -13,7 +13,7 @@ returns-in-Err-clause-leaves g c =
       read.0,
       read.1,
       leaves_weaker (λ o. (c.in-Err.refused ≢ NoMemory) × (o ≡ (bad_topology_text c.in-Err.refused, BadInput))) (IsOutput c.args.topology.now read.0) _ _ c.refuse_topology.result
-          (λ o is. bad_topology c.in-Err.refused (c.in-Err.ensures.err is.0) is.1) c.refuse_topology.ensures,
+          (λ o is. bad_topology c.in-Err.refused (c.in-Err.ensures.err is.0) is.1) c.refuse_topology.ensures.leaves,
     )
 
 pub returns-in-Ok-read_text-clause-leaves : goal.returns-in-Ok-read_text-clause-leaves
@@ -21,7 +21,7 @@ returns-in-Ok-read_text-clause-leaves g c = (
   c.deref.result.now,
   rw c.deref.ensures.value c.in-Ok-read_text.ensures.ok,
   leaves_weaker (IsReplayOf c.in-Ok.app c.in-Ok.topology c.deref.result.now) (IsOutput c.args.topology.now c.deref.result.now) _ _ c.replay_app.result
-      (λ o is. replayed c.in-Ok.topology c.in-Ok.app c.in-Ok.ensures.ok is) c.replay_app.ensures,
+      (λ o is. replayed c.in-Ok.topology c.in-Ok.app c.in-Ok.ensures.ok is) c.replay_app.ensures.leaves,
 )
 
 pub returns-in-Err-read_text-clause-leaves : goal.returns-in-Err-read_text-clause-leaves

@@ -7,14 +7,14 @@ use Rattle.service_main.proofs.Runs.{leaves_fault}
 use Rattle.service_main.proofs.TableRuns.{tables_text-rows}
 use Rattle.service_main.proofs.tables.print_tables.Goals as goal
 
-pub returns-in_err-print_all : goal.returns-in_err-print_all
-returns-in_err-print_all g c here =
+pub returns-in_err-print_all-clause-leaves : goal.returns-in_err-print_all-clause-leaves
+returns-in_err-print_all-clause-leaves g c here =
     let stop : IsErrAnd c.from_residual.result (λ s. s ≡ WriteFailed) = search (rules, c.from_residual.ensures) in
     let text = tables_text-rows here _ _ _ _ _ c.tree_rows.ensures c.wave_rows.ensures c.app_rows.ensures c.app_rows-2.ensures c.app_rows-3.ensures in
     leaves_fault (λ output. output ≡ (tables_text here, Good)) _ _ c.from_residual.result stop
     ((tables_text here, Good), refl, rw text c.in_err-print_all.ensures.err)
 
-pub returns : goal.returns
-returns g c here =
+pub returns-clause-leaves : goal.returns-clause-leaves
+returns-clause-leaves g c here =
     let text = tables_text-rows here _ _ _ _ _ c.tree_rows.ensures c.wave_rows.ensures c.app_rows.ensures c.app_rows-2.ensures c.app_rows-3.ensures in
     (tables_text here, refl, rw text c.in_ok-print_all.ensures.ok)
