@@ -1,12 +1,12 @@
 -- An event's line has the event's words, and no other event has them.
 use Rattle.std.specs.Prelude.{codes}
-use Rattle.std.proofs.Common.{◌≡◌, ℕ, ◌+◌, ◌*◌, ◌<◌, ◌^◌, ◌≤◌, List, [], ◌∷◌, ◌++◌, map, refl, sym, ap, ◌∙◌, subst, append_assoc, arith, length, get_or, Option, None, Some, IfSome, IfNone}
+use Rattle.std.proofs.Common.{◌≡◌, ℕ, ◌+◌, ◌*◌, ◌<◌, ◌^◌, ◌≤◌, Bool, true, not, nat_eq, ◌||◌, true≢false, List, [], ◌∷◌, ◌++◌, refl, sym, ap, ◌∙◌, subst, append_assoc, arith, length, get_or, Option, None, Some, IfSome, IfNone}
 use Rattle.std.specs.Fmt.{decimal}
 use Rattle.std.specs.Io.KnownBytes.{Appends}
 use Rattle.std.proofs.lemmas.Fmt.{decimal_injective}
 use Rattle.action_tables.specs.Written.{AppendsFront}
 use Rattle.action_tables.proofs.Fronts.{AppendsFront-first, AppendsFront-then}
-use Rattle.reset_machine.specs.EventText.{event_words, event_line, Fits}
+use Rattle.reset_machine.specs.EventText.{event_words, event_line, neighbour_words, Fits}
 use Rattle.reset_machine.specs.Words.{words_of}
 use Rattle.reset_machine.specs.declared.event.Event.{Event}
 use Rattle.reset_machine.specs.declared.event.Event.TheVariants.{Claim, Follow, Adopt, Request, Relay, Open, Join, Finish, Mend, Act}
@@ -34,76 +34,17 @@ words_of-event_line (Act at case (Some j)) h =
     ap (λ ws. codes "act" ∷ ws) (words_of-more (decimal at) _ (IsWord-decimal at h.0) ∙ ap (λ ws. decimal at ∷ ws) last)
 
 -- a line whose words are not those of an event is not the line of one
-pub no_event : (line : List ℕ) (ws : List (List ℕ)) → words_of line ≡ ws → ((e : Event) → Fits e → event_words e ≡ ws → ⊥) → (e : Event) → Fits e → line ≡ event_line e → ⊥
-no_event line ws split apart e fits is = apart e fits (sym (words_of-event_line e fits) ∙ ap words_of (sym is) ∙ split)
+pub no_event : (line : List ℕ) (ws : List (List ℕ)) → words_of line ≡ ws → ((e : Event) → Fits e → ws ≡ event_words e → ⊥) → (e : Event) → Fits e → line ≡ event_line e → ⊥
+no_event line ws split apart e fits is = apart e fits (sym split ∙ ap words_of is ∙ words_of-event_line e fits)
 
 -- what an answer says of a line's words, it says of the line
-pub event_at : (line : List ℕ) (ws : List (List ℕ)) (o : Option Event) → words_of line ≡ ws → IfSome o (λ e. event_words e ≡ ws) → IfSome o (λ e. line ≡ event_line e)
+pub event_at : (line : List ℕ) (ws : List (List ℕ)) (o : Option Event) → words_of line ≡ ws → IfSome o (λ e. ws ≡ event_words e) → IfSome o (λ e. line ≡ event_line e)
 event_at line ws None split h = tt
-event_at line ws (Some e) split h = line-words line (event_words e) (split ∙ sym h)
+event_at line ws (Some e) split h = line-words line (event_words e) (split ∙ h)
 
-pub no_event_at : (line : List ℕ) (ws : List (List ℕ)) (o : Option Event) → words_of line ≡ ws → IfNone o ((e : Event) → Fits e → event_words e ≡ ws → ⊥) → IfNone o ((e : Event) → Fits e → line ≡ event_line e → ⊥)
+pub no_event_at : (line : List ℕ) (ws : List (List ℕ)) (o : Option Event) → words_of line ≡ ws → IfNone o ((e : Event) → Fits e → ws ≡ event_words e → ⊥) → IfNone o ((e : Event) → Fits e → line ≡ event_line e → ⊥)
 no_event_at line ws None split h = no_event line ws split h
 no_event_at line ws (Some e) split h = tt
-
--- numbers of 32 bits
-abbrev AreSmall : List ℕ → Type 0
-AreSmall [] = Unit {0}
-AreSmall (n ∷ ns) = (n < 2 ^ 32) × AreSmall ns
-
--- what follows the first word of an event are at most three numbers
-pub record IsTail (ws : List (List ℕ)) : Type 0 where
-  pub numbers : List ℕ
-  pub small : AreSmall numbers
-  pub words : ws ≡ map decimal numbers
-  pub few : length numbers ≤ 3
-
-after_command : (e : Event) (command : List ℕ) (ws : List (List ℕ)) → Fits e → event_words e ≡ command ∷ ws → IsTail ws
-after_command (Claim at) command ws h p = record { numbers = at ∷ []; small = (h, tt); words = cc; few = omega arith }
-after_command (Follow at) command ws h p = record { numbers = at ∷ []; small = (h, tt); words = cc; few = omega arith }
-after_command (Adopt at from) command ws h p = record { numbers = at ∷ from ∷ []; small = (h.0, (h.1, tt)); words = cc; few = omega arith }
-after_command (Request at) command ws h p = record { numbers = at ∷ []; small = (h, tt); words = cc; few = omega arith }
-after_command (Relay at child) command ws h p = record { numbers = at ∷ child ∷ []; small = (h.0, (h.1, tt)); words = cc; few = omega arith }
-after_command (Open at) command ws h p = record { numbers = at ∷ []; small = (h, tt); words = cc; few = omega arith }
-after_command (Join at) command ws h p = record { numbers = at ∷ []; small = (h, tt); words = cc; few = omega arith }
-after_command (Finish at) command ws h p = record { numbers = at ∷ []; small = (h, tt); words = cc; few = omega arith }
-after_command (Mend at) command ws h p = record { numbers = at ∷ []; small = (h, tt); words = cc; few = omega arith }
-after_command (Act at case None) command ws h p = record { numbers = at ∷ case ∷ []; small = (h.0, (omega (arith, h.1), tt)); words = cc; few = omega arith }
-after_command (Act at case (Some j)) command ws h p = record { numbers = at ∷ case ∷ j ∷ []; small = (h.0, (omega (arith, h.1), (h.2, tt))); words = cc; few = omega arith }
-
--- the word is the spelling of a number of 32 bits
-abbrev pub IsNumber : List ℕ → Type 0
-IsNumber w = (n : ℕ) × (n < 2 ^ 32) × (w ≡ decimal n)
-
-first_number : (ns : List ℕ) (w : List ℕ) (rest : List (List ℕ)) → AreSmall ns → w ∷ rest ≡ map decimal ns → IsNumber w
-first_number [] w rest h p = absurd (cc)
-first_number (n ∷ ns) w rest h p = (n, h.0, cc)
-
-second_number : (ns : List ℕ) (v w : List ℕ) (rest : List (List ℕ)) → AreSmall ns → v ∷ w ∷ rest ≡ map decimal ns → IsNumber w
-second_number [] v w rest h p = absurd (cc)
-second_number (n ∷ ns) v w rest h p = first_number ns w rest h.1 (cc)
-
-last_number : (ns : List ℕ) (rest : List ℕ) → AreSmall ns → length ns ≤ 1 → words_of rest ≡ map decimal ns → IsNumber rest
-last_number [] rest h few p = absurd (words_of-some rest p)
-last_number (n ∷ []) rest h few p = (n, h.0, line-words rest (decimal n ∷ []) p)
-last_number (n ∷ m ∷ ns) rest h few p = absurd (omega (arith, few))
-
-third_number : (ns : List ℕ) (v w rest : List ℕ) → AreSmall ns → length ns ≤ 3 → v ∷ w ∷ words_of rest ≡ map decimal ns → IsNumber rest
-third_number [] v w rest h few p = absurd (cc)
-third_number (n ∷ []) v w rest h few p = absurd (cc)
-third_number (n ∷ m ∷ ns) v w rest h few p = last_number ns rest h.1.1 (omega (arith, few)) (cc)
-
--- the second word of an event is a number
-pub second_word : (e : Event) (command w : List ℕ) (rest : List (List ℕ)) → Fits e → event_words e ≡ command ∷ w ∷ rest → IsNumber w
-second_word e command w rest h p = let tail = after_command e command (w ∷ rest) h p in first_number tail.numbers w rest tail.small tail.words
-
--- so is the third
-pub third_word : (e : Event) (command v w : List ℕ) (rest : List (List ℕ)) → Fits e → event_words e ≡ command ∷ v ∷ w ∷ rest → IsNumber w
-third_word e command v w rest h p = let tail = after_command e command (v ∷ w ∷ rest) h p in second_number tail.numbers v w rest tail.small tail.words
-
--- and what follows the third
-pub fourth_word : (e : Event) (command v w rest : List ℕ) → Fits e → event_words e ≡ command ∷ v ∷ w ∷ words_of rest → IsNumber rest
-fourth_word e command v w rest h p = let tail = after_command e command (v ∷ w ∷ words_of rest) h p in third_number tail.numbers v w rest tail.small tail.few tail.words
 
 same_number : (m n : ℕ) → m < 2 ^ 32 → n < 2 ^ 32 → decimal m ≡ decimal n → m ≡ n
 same_number m n p q h = decimal_injective m n (omega arith) (omega arith) h
@@ -113,11 +54,21 @@ abbrev first_bytes : List (List ℕ) → ℕ
 first_bytes [] = 0
 first_bytes (w ∷ ws) = 1000 * get_or w 0 0 + get_or w 1 0
 
--- no event has a case above 8 bits
-pub no_case : (e : Event) (at case : ℕ) (ws : List (List ℕ)) → case < 2 ^ 32 → 256 ≤ case → Fits e → event_words e ≡ codes "act" ∷ decimal at ∷ decimal case ∷ ws → ⊥
-no_case (Act a b None) at case ws small large h p = let same : b ≡ case = same_number b case (omega (arith, h.1)) small (cc) in omega (arith, h.1, same, large)
-no_case (Act a b (Some j)) at case ws small large h p = let same : b ≡ case = same_number b case (omega (arith, h.1)) small (cc) in omega (arith, h.1, same, large)
-no_case e at case ws small large h p = absurd (omega (arith, ap first_bytes p))
+-- an event whose words begin with `act` is an action
+pub record IsAction (ws : List (List ℕ)) : Type 0 where
+  pub at : ℕ
+  pub case : ℕ
+  pub with : Option ℕ
+  pub fits : Fits (Act at case with)
+  pub words : ws ≡ decimal at ∷ decimal case ∷ neighbour_words with
+
+pub action_words : (e : Event) (ws : List (List ℕ)) → Fits e → codes "act" ∷ ws ≡ event_words e → IsAction ws
+action_words (Act at case with) ws fits is = record { at = at; case = case; with = with; fits = fits; words = cc }
+action_words e ws fits is = absurd (omega (arith, ap first_bytes is))
+
+pub action_small : (at case : ℕ) (with : Option ℕ) → Fits (Act at case with) → (at < 2 ^ 32) × (case < 2 ^ 8) × IfSome with (λ j. j < 2 ^ 32)
+action_small at case None fits = (fits.0, fits.1, tt)
+action_small at case (Some j) fits = (fits.0, fits.1, fits.2)
 
 same_words : (e f : Event) → Fits e → Fits f → event_words e ≡ event_words f → e ≡ f
 same_words (Claim a) (Claim b) p q h = ap Claim (same_number a b p q (cc))
@@ -158,6 +109,81 @@ three_numbers line command numbers at rest case with m n k p q r first second th
     cut_twice line command numbers (at ∷ words_of rest) p q ∙ ap (λ ws. command ∷ at ∷ ws) r
     ∙ ap (λ w. command ∷ w ∷ case ∷ words_of with) first ∙ ap (λ w. command ∷ decimal m ∷ w ∷ words_of with) second ∙ ap (λ w. command ∷ decimal m ∷ decimal n ∷ words_of w) third
     ∙ ap (λ ws. command ∷ decimal m ∷ decimal n ∷ ws) (words_of-decimal k small)
+
+-- ---- the words of a command and of what follows it
+
+pub one_found : (command rest name : List ℕ) (n : ℕ) → command ≡ name → rest ≡ decimal n → n < 2 ^ 32 → command ∷ words_of rest ≡ name ∷ decimal n ∷ []
+one_found command rest name n is number small = ap (λ w. w ∷ words_of rest) is ∙ ap (λ r. name ∷ words_of r) number ∙ ap (λ ws. name ∷ ws) (words_of-decimal n small)
+
+pub both_found : (command rest name : List ℕ) (m n : ℕ) → command ≡ name → words_of rest ≡ decimal m ∷ decimal n ∷ [] → command ∷ words_of rest ≡ name ∷ decimal m ∷ decimal n ∷ []
+both_found command rest name m n is numbers = ap (λ w. w ∷ words_of rest) is ∙ ap (λ ws. name ∷ ws) numbers
+
+-- the first and the third byte of a command tell commands apart
+abbrev two_bytes : List ℕ → ℕ
+two_bytes w = 1000 * get_or w 0 0 + get_or w 2 0
+
+-- the command is not one of those that take more than one number
+abbrev pub takes_one : List ℕ → Bool
+takes_one w = not (nat_eq (two_bytes w) (two_bytes (codes "adopt")) || nat_eq (two_bytes w) (two_bytes (codes "relay")) || nat_eq (two_bytes w) (two_bytes (codes "act")))
+
+one_number_of : (e : Event) (name : List ℕ) (ws : List (List ℕ)) → takes_one name ≡ true → Fits e → name ∷ ws ≡ event_words e → (n : ℕ) × (n < 2 ^ 32) × (ws ≡ decimal n ∷ [])
+one_number_of (Claim at) name ws one fits is = (at, fits, cc)
+one_number_of (Follow at) name ws one fits is = (at, fits, cc)
+one_number_of (Request at) name ws one fits is = (at, fits, cc)
+one_number_of (Open at) name ws one fits is = (at, fits, cc)
+one_number_of (Join at) name ws one fits is = (at, fits, cc)
+one_number_of (Finish at) name ws one fits is = (at, fits, cc)
+one_number_of (Mend at) name ws one fits is = (at, fits, cc)
+one_number_of (Adopt at from) name ws one fits is = let same : name ≡ codes "adopt" = cc in absurd (true≢false (sym one ∙ ap takes_one same))
+one_number_of (Relay at child) name ws one fits is = let same : name ≡ codes "relay" = cc in absurd (true≢false (sym one ∙ ap takes_one same))
+one_number_of (Act at case with) name ws one fits is = let same : name ≡ codes "act" = cc in absurd (true≢false (sym one ∙ ap takes_one same))
+
+-- where no number follows such a command, it is no event
+pub one_only : (command rest name : List ℕ) → takes_one name ≡ true → command ≡ name → ((n : ℕ) → n < 2 ^ 32 → rest ≡ decimal n → ⊥)
+    → (e : Event) → Fits e → command ∷ words_of rest ≡ event_words e → ⊥
+one_only command rest name one is none e fits words =
+    let number = one_number_of e name (words_of rest) one fits (sym (ap (λ w. w ∷ words_of rest) is) ∙ words) in
+    none number.0 number.1 (line-words rest (decimal number.0 ∷ []) number.2)
+
+-- ---- two numbers
+
+pub two_found : (text first second : List ℕ) (m n : ℕ) → words_of text ≡ first ∷ words_of second → first ≡ decimal m → second ≡ decimal n → n < 2 ^ 32 → words_of text ≡ decimal m ∷ decimal n ∷ []
+two_found text first second m n split one two small = split ∙ ap (λ w. w ∷ words_of second) one ∙ ap (λ w. decimal m ∷ words_of w) two ∙ ap (λ ws. decimal m ∷ ws) (words_of-decimal n small)
+
+pub second_only : (text first second : List ℕ) → words_of text ≡ first ∷ words_of second → ((n : ℕ) → n < 2 ^ 32 → second ≡ decimal n → ⊥)
+    → (m n : ℕ) → m < 2 ^ 32 → n < 2 ^ 32 → words_of text ≡ decimal m ∷ decimal n ∷ [] → ⊥
+second_only text first second split none m n p q is = let same = sym split ∙ is in none n q (line-words second (decimal n ∷ []) (cc))
+
+-- ---- a word and perhaps a number
+
+pub one_and_number : (text word last : List ℕ) (n : ℕ) → words_of text ≡ word ∷ words_of last → last ≡ decimal n → n < 2 ^ 32 → words_of text ≡ word ∷ decimal n ∷ []
+one_and_number text word last n first number small = cut_twice text word last (decimal n ∷ []) first (ap words_of number ∙ words_of-decimal n small)
+
+pub one_and_none : (text word last : List ℕ) → words_of text ≡ word ∷ words_of last → ((n : ℕ) → n < 2 ^ 32 → last ≡ decimal n → ⊥)
+    → (w : List ℕ) (with : Option ℕ) → IfSome with (λ j. j < 2 ^ 32) → words_of text ≡ w ∷ neighbour_words with → ⊥
+one_and_none text word last first none w None near is = let same = sym first ∙ is in words_of-some last (cc)
+one_and_none text word last first none w (Some j) near is = let same = sym first ∙ is in none j near (line-words last (decimal j ∷ []) (cc))
+
+-- ---- the words of an action after the first
+
+-- where no case and perhaps a neighbour follows the node, there is no action
+pub end_only : (text at rest : List ℕ) → words_of text ≡ at ∷ words_of rest
+    → ((word : List ℕ) (with : Option ℕ) → IfSome with (λ j. j < 2 ^ 32) → words_of rest ≡ word ∷ neighbour_words with → ⊥)
+    → (e : Event) → Fits e → codes "act" ∷ words_of text ≡ event_words e → ⊥
+end_only text at rest split none e fits is =
+    let action = action_words e (words_of text) fits is in
+    let same = sym split ∙ action.words in
+    none (decimal action.case) action.with (action_small action.at action.case action.with action.fits).2 (cc)
+
+-- nor where the case has more than 8 bits
+pub case_only : (text at rest word : List ℕ) (with : Option ℕ) (n : ℕ) → words_of text ≡ at ∷ words_of rest → words_of rest ≡ word ∷ neighbour_words with → word ≡ decimal n → n < 2 ^ 32 → 256 ≤ n
+    → (e : Event) → Fits e → codes "act" ∷ words_of text ≡ event_words e → ⊥
+case_only text at rest word with n first second number small large e fits is =
+    let action = action_words e (words_of text) fits is in
+    let parts = action_small action.at action.case action.with action.fits in
+    let split = sym (cut_twice text at rest (word ∷ neighbour_words with) first second) ∙ action.words in
+    let same : action.case ≡ n = same_number action.case n (omega (arith, parts.1)) small (cc) in
+    omega (arith, parts.1, same, large)
 
 -- ---- the text of an action, where its neighbour is written last
 

@@ -23,4 +23,6 @@ pub use event::Event;
 pub use laws::outcomes_are_steps;
 pub use run_laws::{invariants, joins_once, refinement, runs_stay_sound};
 pub use step::{Done, Reply, StepRefusal};
-pub use text::{one_event_a_line, read_event, split_word, write_event};
+pub use text::{
+    event_of, one_event_a_line, read_event, split_word, word_and_neighbour, write_event,
+};

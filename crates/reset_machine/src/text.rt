@@ -1,8 +1,8 @@
 // The lines that stand for events, and the words that lines are made of.
-ghost use Rattle.std.specs.Prelude.{◌≡◌, ◌≤◌, [], ◌∷◌, ◌++◌, IfSome, IfNone, OnOk, OnErr};
+ghost use Rattle.std.specs.Prelude.{◌≡◌, ℕ, ◌<◌, ◌≤◌, ◌^◌, List, [], ◌∷◌, ◌++◌, Option, codes, IfSome, IfNone, OnOk, OnErr};
 ghost use Rattle.std.specs.Fmt.{decimal};
 ghost use Rattle.std.specs.Io.KnownBytes.{Appends};
-ghost use Rattle.reset_machine.specs.EventText.{event_line, event_words, Fits};
+ghost use Rattle.reset_machine.specs.EventText.{event_line, event_words, neighbour_words, Fits};
 ghost use Rattle.reset_machine.specs.Words.{words_of};
 ghost use Rattle.action_tables.specs.Written.{AppendsFront};
 ghost use Rattle.reset_machine.specs.declared.event.Event.{Event};
@@ -32,73 +32,81 @@ pub fn read_event(line: &[u8]) -> Option<Event>
     ensures fits { IfSome result Fits }
     ensures only { IfNone result ((e : Event) → Fits e → line.now ≡ event_line e → ⊥) }
 {
-    let (command, numbers) = split_word(line)?;
-    match split_word(numbers) {
-        None => event_of_one(command, read_number(numbers)?),
-        Some((at, rest)) => match split_word(rest) {
-            None => event_of_two(command, read_number(at)?, read_number(rest)?),
-            Some((case, with)) => event_of_three(
-                command,
-                read_number(at)?,
-                read_number(case)?,
-                read_number(with)?,
-            ),
-        },
+    let (command, rest) = split_word(line)?;
+    event_of(command, rest)
+}
+
+/// The event of a line that was cut at its first space, into a command and what follows it.
+pub fn event_of(command: &[u8], rest: &[u8]) -> Option<Event>
+    ensures found { IfSome result (λ e. command.now ∷ words_of rest.now ≡ event_words e) }
+    ensures fits { IfSome result Fits }
+    ensures only { IfNone result ((e : Event) → Fits e → command.now ∷ words_of rest.now ≡ event_words e → ⊥) }
+{
+    match command {
+        b"claim" => Some(Event::Claim {
+            at: read_number(rest)?,
+        }),
+        b"follow" => Some(Event::Follow {
+            at: read_number(rest)?,
+        }),
+        b"adopt" => {
+            let (at, from) = two_numbers(rest)?;
+            Some(Event::Adopt { at, from })
+        }
+        b"request" => Some(Event::Request {
+            at: read_number(rest)?,
+        }),
+        b"relay" => {
+            let (at, child) = two_numbers(rest)?;
+            Some(Event::Relay { at, child })
+        }
+        b"open" => Some(Event::Open {
+            at: read_number(rest)?,
+        }),
+        b"join" => Some(Event::Join {
+            at: read_number(rest)?,
+        }),
+        b"finish" => Some(Event::Finish {
+            at: read_number(rest)?,
+        }),
+        b"mend" => Some(Event::Mend {
+            at: read_number(rest)?,
+        }),
+        b"act" => action_of(rest),
+        _ => None,
     }
 }
 
-// The event of a command with one number.
-fn event_of_one(command: &[u8], at: u32) -> Option<Event>
-    ensures found { IfSome result (λ e. event_words e ≡ command.now ∷ decimal at ∷ []) }
-    ensures fits { IfSome result Fits }
-    ensures only { IfNone result ((e : Event) → Fits e → event_words e ≡ command.now ∷ decimal at ∷ [] → ⊥) }
+// Two numbers with a space between them.
+fn two_numbers(text: &[u8]) -> Option<(u32, u32)>
+    ensures found { IfSome result (λ ns. words_of text.now ≡ decimal ns.0 ∷ decimal ns.1 ∷ []) }
+    ensures small { IfSome result (λ ns. (ns.0 < 2 ^ 32) × (ns.1 < 2 ^ 32)) }
+    ensures only { IfNone result ((m n : ℕ) → m < 2 ^ 32 → n < 2 ^ 32 → words_of text.now ≡ decimal m ∷ decimal n ∷ [] → ⊥) }
 {
-    if command == b"claim".as_slice() {
-        Some(Event::Claim { at })
-    } else if command == b"follow".as_slice() {
-        Some(Event::Follow { at })
-    } else if command == b"request".as_slice() {
-        Some(Event::Request { at })
-    } else if command == b"open".as_slice() {
-        Some(Event::Open { at })
-    } else if command == b"join".as_slice() {
-        Some(Event::Join { at })
-    } else if command == b"finish".as_slice() {
-        Some(Event::Finish { at })
-    } else if command == b"mend".as_slice() {
-        Some(Event::Mend { at })
-    } else {
-        None
-    }
+    let (first, second) = split_word(text)?;
+    Some((read_number(first)?, read_number(second)?))
 }
 
-// The event of a command with two numbers.
-fn event_of_two(command: &[u8], at: u32, other: u32) -> Option<Event>
-    ensures found { IfSome result (λ e. event_words e ≡ command.now ∷ decimal at ∷ decimal other ∷ []) }
+// The action of a node and a case, and of a neighbour if one is named.
+fn action_of(text: &[u8]) -> Option<Event>
+    ensures found { IfSome result (λ e. codes "act" ∷ words_of text.now ≡ event_words e) }
     ensures fits { IfSome result Fits }
-    ensures only { IfNone result ((e : Event) → Fits e → event_words e ≡ command.now ∷ decimal at ∷ decimal other ∷ [] → ⊥) }
+    ensures only { IfNone result ((e : Event) → Fits e → codes "act" ∷ words_of text.now ≡ event_words e → ⊥) }
 {
-    if command == b"adopt".as_slice() {
-        Some(Event::Adopt { at, from: other })
-    } else if command == b"relay".as_slice() {
-        Some(Event::Relay { at, child: other })
-    } else if command == b"act".as_slice() {
-        act(at, other, None)
-    } else {
-        None
-    }
+    let (at, rest) = split_word(text)?;
+    let (case, with) = word_and_neighbour(rest)?;
+    act(read_number(at)?, read_number(case)?, with)
 }
 
-// The event of a command with three numbers.
-fn event_of_three(command: &[u8], at: u32, case: u32, with: u32) -> Option<Event>
-    ensures found { IfSome result (λ e. event_words e ≡ command.now ∷ decimal at ∷ decimal case ∷ decimal with ∷ []) }
-    ensures fits { IfSome result Fits }
-    ensures only { IfNone result ((e : Event) → Fits e → event_words e ≡ command.now ∷ decimal at ∷ decimal case ∷ decimal with ∷ [] → ⊥) }
+/// A word and the number after it, if there is one, as the whole of a text.
+pub fn word_and_neighbour(text: &[u8]) -> Option<(&[u8], Option<u32>)>
+    ensures found { IfSome result (λ r. words_of text.now ≡ r.0.now ∷ neighbour_words r.1) }
+    ensures fits { IfSome result (λ r. IfSome r.1 (λ j. j < 2 ^ 32)) }
+    ensures only { IfNone result ((word : List ℕ) (with : Option ℕ) → IfSome with (λ j. j < 2 ^ 32) → words_of text.now ≡ word ∷ neighbour_words with → ⊥) }
 {
-    if command == b"act".as_slice() {
-        act(at, case, Some(with))
-    } else {
-        None
+    match split_word(text) {
+        None => Some((text, None)),
+        Some((word, number)) => Some((word, Some(read_number(number)?))),
     }
 }
 

@@ -12,8 +12,8 @@ use Rattle.reset_machine.specs.EventText.{neighbour_words, Fits}
 use Rattle.reset_machine.specs.Words.{is_space, words_of}
 use Rattle.reset_machine.specs.declared.event.Event.TheVariants.{Act}
 use Rattle.reset_machine.proofs.CaseChoices.{cases_from, cases_end, all_from_1}
-use Rattle.reset_machine.proofs.EventLines.{cut_twice, third_word, words_of-decimal}
-use Rattle.reset_machine.proofs.WordLines.{line-words, words_of-some, words_of-word, words_of-more, IsWord, IsWord-decimal}
+use Rattle.reset_machine.proofs.EventLines.{action_small, action_words, cut_twice, words_of-decimal}
+use Rattle.reset_machine.proofs.WordLines.{line-words, words_of-word, words_of-more, IsWord, IsWord-decimal}
 use Rattle.service_main.specs.declared.script.Command.{Command}
 use Rattle.service_main.specs.declared.script.Command.TheVariants.{Step}
 use Rattle.service_main.specs.Script.{case_named, command_words, is_called, is_name, named_words, CommandFits, Spells}
@@ -69,8 +69,11 @@ words_of-named line at w (Some j) fits name is =
 
 -- no command has them in its own words
 pub named_apart : (c : Command) → CommandFits c → (at : ℕ) (w : List ℕ) (with : Option ℕ) → Fits (Act at 0 with) → IsTrue (is_name w) → command_words c ≡ named_words at w with → ⊥
-named_apart (Step e) p at w None fits name h = let n = third_word e (codes "act") (decimal at) w [] p h in name_no_number w n.0 n.1 n.2 name
-named_apart (Step e) p at w (Some j) fits name h = let n = third_word e (codes "act") (decimal at) w (decimal j ∷ []) p h in name_no_number w n.0 n.1 n.2 name
+named_apart (Step e) p at w with fits name h =
+    let action = action_words e (decimal at ∷ w ∷ neighbour_words with) p (sym h) in
+    let small = (action_small action.at action.case action.with action.fits).1 in
+    let same = action.words in
+    name_no_number w action.case (omega (arith, small)) (cc) name
 named_apart c p at w with fits name h = absurd (omega (arith, ap length h))
 
 -- and no two such actions have the same
@@ -166,13 +169,3 @@ three_only line command rest at last word with first second third apart m w v fi
     let same = sym (three_words line command rest at last word with first second third) ∙ words_of-named line m w v fits name is in
     let third : w ≡ word = cc in
     apart m (at_small m v fits) (cc) (cc) (rw (← third) name)
-
--- ---- a word and perhaps a number
-
-pub one_and_number : (text word last : List ℕ) (n : ℕ) → words_of text ≡ word ∷ words_of last → last ≡ decimal n → n < 2 ^ 32 → words_of text ≡ word ∷ decimal n ∷ []
-one_and_number text word last n first number small = cut_twice text word last (decimal n ∷ []) first (ap words_of number ∙ words_of-decimal n small)
-
-pub one_and_none : (text word last : List ℕ) → words_of text ≡ word ∷ words_of last → ((n : ℕ) → n < 2 ^ 32 → last ≡ decimal n → ⊥)
-    → (w : List ℕ) (with : Option ℕ) → IfSome with (λ j. j < 2 ^ 32) → words_of text ≡ w ∷ neighbour_words with → ⊥
-one_and_none text word last first none w None near is = let same = sym first ∙ is in words_of-some last (cc)
-one_and_none text word last first none w (Some j) near is = let same = sym first ∙ is in none j near (line-words last (decimal j ∷ []) (cc))

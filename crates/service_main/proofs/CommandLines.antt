@@ -1,9 +1,8 @@
 -- A command's line has the command's words, and no other command has them.
 use Rattle.std.specs.Prelude.{codes}
-use Rattle.std.proofs.Common.{◌≡◌, ◌≢◌, ℕ, ◌<◌, ◌^◌, List, [], ◌∷◌, refl, sym, ap, ◌∙◌, arith, get_or, Option, None, Some, IfSome, IfNone}
+use Rattle.std.proofs.Common.{◌≡◌, ◌⊎◌, inl, inr, ℕ, ◌<◌, ◌^◌, List, [], ◌∷◌, refl, sym, ap, ◌∙◌, arith, get_or, Option, None, Some, IfSome, IfNone}
 use Rattle.std.specs.Fmt.{decimal}
-use Rattle.std.specs.List.{join_with_byte}
-use Rattle.reset_machine.specs.EventText.{event_words, event_line, Fits}
+use Rattle.reset_machine.specs.EventText.{event_words, Fits}
 use Rattle.reset_machine.specs.Words.{words_of}
 use Rattle.reset_machine.specs.declared.event.Event.{Event}
 use Rattle.reset_machine.specs.declared.event.Event.TheVariants.{Claim, Follow, Adopt, Request, Relay, Open, Join, Finish, Mend, Act}
@@ -65,69 +64,42 @@ event_not_enabled (Finish at) ws h = omega (arith, ap first_byte h)
 event_not_enabled (Mend at) ws h = omega (arith, ap first_byte h)
 event_not_enabled (Act at case with) ws h = omega (arith, ap first_byte h)
 
--- ---- a line of one word
+-- ---- a line and its words
 
-pub one_word_found : (line : List ℕ) (o : Option Command) → IfSome o (λ c. line ∷ [] ≡ command_words c) → IfSome o (λ c. line ≡ command_line c)
-one_word_found line None h = tt
-one_word_found line (Some c) h = ap (join_with_byte 32) h
+-- what an answer says of a line's words, it says of the line
+pub found_at : (line : List ℕ) (ws : List (List ℕ)) (o : Option Command) → words_of line ≡ ws → IfSome o (λ c. ws ≡ command_words c) → IfSome o (λ c. line ≡ command_line c)
+found_at line ws None split h = tt
+found_at line ws (Some c) split h = line-words line (command_words c) (split ∙ h)
 
-pub one_word_only : (line : List ℕ) (o : Option Command) → words_of line ≡ line ∷ [] → IfNone o ((c : Command) → line ∷ [] ≡ command_words c → ⊥)
+pub only_at : (line : List ℕ) (ws : List (List ℕ)) (o : Option Command) → words_of line ≡ ws → IfNone o ((c : Command) → CommandFits c → ws ≡ command_words c → ⊥)
     → IfNone o ((c : Command) → CommandFits c → line ≡ command_line c → ⊥)
-one_word_only line (Some c) split h = tt
-one_word_only line None split h = λ c fits is. h c (sym (same_words line c fits is ∙ split))
+only_at line ws (Some c) split h = tt
+only_at line ws None split h = λ c fits is. h c fits (sym split ∙ sym (same_words line c fits is))
 
--- ---- a line of more words
+-- one word is a command of one word
+pub only_one : (ws : List (List ℕ)) (o : Option Command) → IfNone o ((c : Command) → ws ≡ command_words c → ⊥) → IfNone o ((c : Command) → CommandFits c → ws ≡ command_words c → ⊥)
+only_one ws (Some c) h = tt
+only_one ws None h = λ c fits. h c
 
--- the words of a line of which the first is known
-begins : (line word rest text : List ℕ) (ws : List (List ℕ)) → words_of line ≡ word ∷ words_of rest → word ≡ text → ws ≡ words_of line → ws ≡ text ∷ words_of rest
-begins line word rest text ws split is same = same ∙ split ∙ ap (λ w. w ∷ words_of rest) is
+-- ---- a word and more
 
--- a line that begins with `show` and has no number after it is no command
-pub show_only : (line word rest : List ℕ) → words_of line ≡ word ∷ words_of rest → word ≡ codes "show" → ((n : ℕ) → n < 2 ^ 32 → rest ≡ decimal n → ⊥)
-    → (c : Command) → CommandFits c → line ≡ command_line c → ⊥
-show_only line word rest split show none c fits is =
-    only c fits (begins line word rest (codes "show") (command_words c) split show (same_words line c fits is))
+-- a question of which no number follows the word is none
+pub no_question : (word rest : List ℕ) → ((n : ℕ) → n < 2 ^ 32 → rest ≡ decimal n → ⊥) → (at : ℕ) → at < 2 ^ 32
+    → (word ∷ words_of rest ≡ codes "show" ∷ decimal at ∷ []) ⊎ (word ∷ words_of rest ≡ codes "enabled" ∷ decimal at ∷ []) → ⊥
+no_question word rest none at small (inl is) = none at small (line-words rest (decimal at ∷ []) (cc))
+no_question word rest none at small (inr is) = none at small (line-words rest (decimal at ∷ []) (cc))
+
+-- what is neither an event nor a question is no command of a word and more
+pub no_command : (word rest : List ℕ) (o : Option Command) → ((e : Event) → Fits e → word ∷ words_of rest ≡ event_words e → ⊥)
+    → IfNone o ((at : ℕ) → at < 2 ^ 32 → (word ∷ words_of rest ≡ command_words (ShowNode at)) ⊎ (word ∷ words_of rest ≡ command_words (Enabled at)) → ⊥)
+    → IfNone o ((c : Command) → CommandFits c → word ∷ words_of rest ≡ command_words c → ⊥)
+no_command word rest (Some c) event question = tt
+no_command word rest None event question = none
   where
-    only : (c : Command) → CommandFits c → command_words c ≡ codes "show" ∷ words_of rest → ⊥
-    only (Step e) fits w = event_not_show e (words_of rest) w
-    only Show fits w = words_of-some rest (cc)
-    only Newest fits w = words_of-some rest (cc)
-    only (ShowNode at) fits w = none at fits (line-words rest (decimal at ∷ []) (cc))
-    only (Enabled at) fits w = omega (arith, ap first_byte w)
-    only Ready fits w = words_of-some rest (cc)
-
--- a line that begins with `enabled` and has no number after it is no command
-pub enabled_only : (line word rest : List ℕ) → words_of line ≡ word ∷ words_of rest → word ≡ codes "enabled" → ((n : ℕ) → n < 2 ^ 32 → rest ≡ decimal n → ⊥)
-    → (c : Command) → CommandFits c → line ≡ command_line c → ⊥
-enabled_only line word rest split enabled none c fits is =
-    only c fits (begins line word rest (codes "enabled") (command_words c) split enabled (same_words line c fits is))
-  where
-    only : (c : Command) → CommandFits c → command_words c ≡ codes "enabled" ∷ words_of rest → ⊥
-    only (Step e) fits w = event_not_enabled e (words_of rest) w
-    only Show fits w = words_of-some rest (cc)
-    only Newest fits w = words_of-some rest (cc)
-    only (ShowNode at) fits w = omega (arith, ap first_byte w)
-    only (Enabled at) fits w = none at fits (line-words rest (decimal at ∷ []) (cc))
-    only Ready fits w = words_of-some rest (cc)
-
--- a line of more words that begins with neither `show` nor `enabled` is a command only as an event
-pub event_only : (line word rest : List ℕ) → words_of line ≡ word ∷ words_of rest → word ≢ codes "show" → word ≢ codes "enabled" → ((e : Event) → Fits e → line ≡ event_line e → ⊥)
-    → (c : Command) → CommandFits c → line ≡ command_line c → ⊥
-event_only line word rest split show enabled none (Step e) fits is = none e fits is
-event_only line word rest split show enabled none Show fits is = let w = same_words line Show fits is ∙ split in words_of-some rest (cc)
-event_only line word rest split show enabled none Newest fits is = let w = same_words line Newest fits is ∙ split in words_of-some rest (cc)
-event_only line word rest split show enabled none (ShowNode at) fits is = let w = same_words line (ShowNode at) fits is ∙ split in show (cc)
-event_only line word rest split show enabled none (Enabled at) fits is = let w = same_words line (Enabled at) fits is ∙ split in enabled (cc)
-event_only line word rest split show enabled none Ready fits is = let w = same_words line Ready fits is ∙ split in words_of-some rest (cc)
-
--- the line of `show` and a number
-pub show_found : (line word rest : List ℕ) (n : ℕ) → words_of line ≡ word ∷ words_of rest → word ≡ codes "show" → rest ≡ decimal n → n < 2 ^ 32 → line ≡ command_line (ShowNode n)
-show_found line word rest n split show number small =
-    line-words line (command_words (ShowNode n))
-    (split ∙ ap (λ w. w ∷ words_of rest) show ∙ ap (λ r. codes "show" ∷ words_of r) number ∙ ap (λ ws. codes "show" ∷ ws) (words_of-decimal n small))
-
--- the line of `enabled` and a number
-pub enabled_found : (line word rest : List ℕ) (n : ℕ) → words_of line ≡ word ∷ words_of rest → word ≡ codes "enabled" → rest ≡ decimal n → n < 2 ^ 32 → line ≡ command_line (Enabled n)
-enabled_found line word rest n split enabled number small =
-    line-words line (command_words (Enabled n))
-    (split ∙ ap (λ w. w ∷ words_of rest) enabled ∙ ap (λ r. codes "enabled" ∷ words_of r) number ∙ ap (λ ws. codes "enabled" ∷ ws) (words_of-decimal n small))
+    none : (c : Command) → CommandFits c → word ∷ words_of rest ≡ command_words c → ⊥
+    none (Step e) fits is = event e fits is
+    none Show fits is = words_of-some rest (cc)
+    none (ShowNode at) fits is = question at fits (inl is)
+    none Newest fits is = words_of-some rest (cc)
+    none (Enabled at) fits is = question at fits (inr is)
+    none Ready fits is = words_of-some rest (cc)

@@ -1,5 +1,5 @@
 -- The lines of a text that is cut at its first line feed.
-use Rattle.std.proofs.Common.{◌≡◌, ◌≢◌, append-nil, ℕ, ◌+◌, ◌-◌, ◌<◌, ◌≤◌, Bool, true, false, List, [], ◌∷◌, ◌++◌, refl, sym, ap, ◌∙◌, subst, append_assoc, arith, length, take, drop, None, Some, cond, ltb}
+use Rattle.std.proofs.Common.{◌≡◌, ◌≢◌, append-nil, ℕ, ◌+◌, ◌-◌, ◌<◌, ◌≤◌, Bool, true, false, List, [], ◌∷◌, ◌++◌, refl, sym, ap, ◌∙◌, subst, append_assoc, arith, length, take, drop, Option, None, Some, cond, ltb}
 use Rattle.std.specs.List.{position, position_or_len, join_with_byte, flat_map}
 use Rattle.std.proofs.Math.Seq.{take-append_seam}
 use Rattle.std.proofs.lemmas.Bool.Decides.{nat_tests}
@@ -7,7 +7,8 @@ use Rattle.std.proofs.lemmas.Grind.{flat_map-append}
 use Rattle.std.proofs.lemmas.List.{length-append}
 use Rattle.std.proofs.lemmas.List.Elements.{All-append, All-cons, All-nil}
 use Rattle.std.proofs.lemmas.List.Splits.{slice_split_none, slice_split_first, length-slice_split, join_with_byte-slice_split}
-use Rattle.std.proofs.lemmas.List.Sums.{fails_before_first}
+use Rattle.std.proofs.lemmas.List.Sums.{fails_before_first, position_or_len_is}
+use Rattle.memchr.specs.Find.{is_byte, IsFirstByte}
 use Rattle.service_main.specs.Lines.{is_line_feed, lines_of, ended, separator, HasNoSeparator}
 
 some_at : (b : Bool) (n i : ℕ) → cond b (Some n) None ≡ Some i → (b ≡ true) × (n ≡ i)
@@ -17,6 +18,22 @@ some_at false n i h = absurd (cc)
 none_at : (b : Bool) (n : ℕ) → cond b (Some n) None ≡ None → b ≡ false
 none_at true n h = cc
 none_at false n h = refl
+
+-- ---- the first line feed
+
+not_true : (b : Bool) → (b ≡ true → ⊥) → b ≡ false
+not_true true h = absurd (h refl)
+not_true false h = refl
+
+-- the first place of a line feed is where a search for the byte finds one
+pub first_place : (text : List ℕ) (r : Option ℕ) → IsFirstByte (is_byte 10) text r → r ≡ position is_line_feed text
+first_place text None none =
+    let end = position_or_len_is is_line_feed text (length text) 0 (omega arith) (λ k below. not_true _ (none k (omega arith) below)) (λ h. absurd (omega (arith, h))) in
+    rw end (grind (arith, nat_tests))
+first_place text (Some k) (first, here) =
+    let place = position_or_len_is is_line_feed text k 0 (omega (arith, first.high)) (λ j below. not_true _ (first.before j (omega arith) below)) (λ _. here) in
+    let inside : ltb k (length text) ≡ true = let high = first.high in grind (arith, nat_tests) in
+    sym (rw (place, inside) refl)
 
 no_line_feed : (text : List ℕ) → length text ≤ position_or_len is_line_feed text → lines_of text ≡ text ∷ []
 no_line_feed text h = slice_split_none is_line_feed text (λ k d inside. fails_before_first is_line_feed text k d (omega arith))

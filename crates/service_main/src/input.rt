@@ -7,6 +7,7 @@ ghost use Rattle.service_main.specs.Lines.{is_line_feed, lines_of, separator, Is
 ghost use Rattle.service_main.specs.Parts.{ReadMore};
 
 use crate::status::RunStop;
+use memchr::memchr;
 use std::alloc::Global;
 use std::io::Read;
 use topology::MAX_TEXT;
@@ -68,7 +69,7 @@ pub fn split_line(text: &[u8]) -> Option<(&[u8], &[u8])>
 fn first_line_feed(text: &[u8]) -> Option<usize>
     ensures { result ≡ position is_line_feed text.now }
 {
-    text.iter().position(|byte| *byte == b'\n')
+    memchr(b'\n', text)
 }
 
 /// Cuts a joined text at its first line that is exactly `---`: the topology before that line, and

@@ -1,6 +1,6 @@
 // The lines of a script.
 
-ghost use Rattle.std.specs.Prelude.{◌≡◌, ℕ, ◌<◌, ◌≤◌, ◌^◌, [], ◌∷◌, ◌++◌, List, Option, length, codes, option_map, IsTrue, ◌↔◌, IfSome, IfNone};
+ghost use Rattle.std.specs.Prelude.{◌≡◌, ℕ, ◌<◌, ◌^◌, ◌⊎◌, [], ◌∷◌, List, Option, option_map, IsTrue, IfSome, IfNone};
 ghost use Rattle.std.specs.Fmt.{decimal};
 ghost use Rattle.std.specs.Char.{is_ascii_graphic};
 ghost use Rattle.std.specs.List.{join_with_byte, list_all};
@@ -8,12 +8,12 @@ ghost use Rattle.reset_machine.specs.EventText.{Fits, neighbour_words};
 ghost use Rattle.reset_machine.specs.Words.{words_of};
 ghost use Rattle.reset_machine.specs.declared.event.Event.TheVariants.{Act};
 ghost use Rattle.service_main.specs.declared.script.Command.{Command};
-ghost use Rattle.service_main.specs.declared.script.Command.TheVariants.{Step};
+ghost use Rattle.service_main.specs.declared.script.Command.TheVariants.{Enabled, ShowNode, Step};
 ghost use Rattle.service_main.specs.Script.{CommandFits, Spells, case_named, command_line, command_words, command_of, is_called, is_name, is_silent, line_of, named_words};
 
 use action_tables::read_number;
 use app_interface::Application;
-use reset_machine::{Event, read_event, split_word};
+use reset_machine::{Event, event_of, split_word, word_and_neighbour};
 
 /// The most bytes of a line, without its line feed.
 pub const MAX_LINE: usize = 256;
@@ -105,18 +105,6 @@ fn read_named<P: Application>(line: &[u8]) -> Option<Event>
     }
 }
 
-// A word and the number after it, if there is one, as the whole of a text.
-fn word_and_neighbour(text: &[u8]) -> Option<(&[u8], Option<u32>)>
-    ensures found { IfSome result (λ r. words_of text.now ≡ r.0.now ∷ neighbour_words r.1) }
-    ensures fits { IfSome result (λ r. IfSome r.1 (λ j. j < 2 ^ 32)) }
-    ensures only { IfNone result ((word : List ℕ) (with : Option ℕ) → IfSome with (λ j. j < 2 ^ 32) → words_of text.now ≡ word ∷ neighbour_words with → ⊥) }
-{
-    match split_word(text) {
-        None => Some((text, None)),
-        Some((word, number)) => Some((word, Some(read_number(number)?))),
-    }
-}
-
 // Whether the word may name a case.
 fn is_name(word: &[u8]) -> bool
     ensures { result ≡ is_name word.now }
@@ -160,13 +148,7 @@ fn by_first_word(line: &[u8]) -> Option<Command>
 {
     match split_word(line) {
         None => by_one_word(line),
-        Some((word, number)) => Some(if is_show(word) {
-            Command::ShowNode(read_number(number)?)
-        } else if is_enabled(word) {
-            Command::Enabled(read_number(number)?)
-        } else {
-            Command::Step(read_event(line)?)
-        }),
+        Some((word, rest)) => by_more_words(word, rest),
     }
 }
 
@@ -176,27 +158,37 @@ fn by_one_word(word: &[u8]) -> Option<Command>
     ensures fits { IfSome result CommandFits }
     ensures only { IfNone result ((command : Command) → word.now ∷ [] ≡ command_words command → ⊥) }
 {
-    if is_show(word) {
-        Some(Command::Show)
-    } else if word == b"newest".as_slice() {
-        Some(Command::Newest)
-    } else if word == b"ready".as_slice() {
-        Some(Command::Ready)
-    } else {
-        None
+    match word {
+        b"show" => Some(Command::Show),
+        b"newest" => Some(Command::Newest),
+        b"ready" => Some(Command::Ready),
+        _ => None,
     }
 }
 
-fn is_show(word: &[u8]) -> bool
-    ensures { IsTrue result ↔ (word.now ≡ codes "show") }
+// The command of a word and of what follows the space after it.
+fn by_more_words(word: &[u8], rest: &[u8]) -> Option<Command>
+    ensures found { IfSome result (λ command. word.now ∷ words_of rest.now ≡ command_words command) }
+    ensures fits { IfSome result CommandFits }
+    ensures only { IfNone result ((command : Command) → CommandFits command → word.now ∷ words_of rest.now ≡ command_words command → ⊥) }
 {
-    word == b"show".as_slice()
+    match event_of(word, rest) {
+        Some(event) => Some(Command::Step(event)),
+        None => question_of(word, rest),
+    }
 }
 
-fn is_enabled(word: &[u8]) -> bool
-    ensures { IsTrue result ↔ (word.now ≡ codes "enabled") }
+// The question about one node.
+fn question_of(word: &[u8], rest: &[u8]) -> Option<Command>
+    ensures found { IfSome result (λ command. word.now ∷ words_of rest.now ≡ command_words command) }
+    ensures fits { IfSome result CommandFits }
+    ensures only { IfNone result ((at : ℕ) → at < 2 ^ 32 → (word.now ∷ words_of rest.now ≡ command_words (ShowNode at)) ⊎ (word.now ∷ words_of rest.now ≡ command_words (Enabled at)) → ⊥) }
 {
-    word == b"enabled".as_slice()
+    match word {
+        b"show" => Some(Command::ShowNode(read_number(rest)?)),
+        b"enabled" => Some(Command::Enabled(read_number(rest)?)),
+        _ => None,
+    }
 }
 
 #[cfg(test)]

@@ -1,5 +1,5 @@
-use Rattle.service_main.proofs.CaseNames.{one_and_none, one_and_number}
-use Rattle.service_main.proofs.script.word_and_neighbour.Goals as goal
+use Rattle.reset_machine.proofs.EventLines.{one_and_none, one_and_number}
+use Rattle.reset_machine.proofs.text.word_and_neighbour.Goals as goal
 
 pub returns-in_err-read_number-in-Some-clause-only : goal.returns-in_err-read_number-in-Some-clause-only
 returns-in_err-read_number-in-Some-clause-only c =
