@@ -11,8 +11,10 @@ use Rattle.topology.proofs.Membership.{has-Contains, Contains-has, has-filter}
 use Rattle.topology.specs.Graph.{Graph, IsGraph, IsNode, AreLinked, are_linked, neighbours_of}
 use Rattle.wave_layer.specs.declared.regs.WaveRegs.{WaveRegs}
 use Rattle.reset_machine.specs.declared.step.StepRefusal.{StepRefusal}
-use Rattle.reset_machine.specs.Actions.{AllAgree, IsFirstApart, IsAimed, ActRefused, strange_node, strange_neighbour, no_such_case, wants_neighbour, takes_no_neighbour, disagrees, not_enabled, misfit, reads_near, first_apart, judged, fitted_of, acted_of}
+use Rattle.reset_machine.specs.Actions.{AllAgree, IsFirstApart, ActRefused, strange_node, strange_neighbour, no_such_case, wants_neighbour, takes_no_neighbour, disagrees, not_enabled, misfit, reads_near, first_apart, judged, fitted_of, acted_of}
+use Rattle.reset_machine.specs.declared.event.Event.TheVariants.{Act}
 use Rattle.reset_machine.specs.LocalSteps.{is_neighbour}
+use Rattle.reset_machine.specs.Steps.{IsNamed}
 use Rattle.reset_machine.proofs.FirstFound.{find-first, find-none}
 
 -- an action that is no refusal
@@ -85,7 +87,7 @@ abbrev IsFit : {L : Type 0} → App L → Graph → ℕ → (ℕ → WaveRegs) �
 IsFit app g K w l i case with r None = Fits g i r with
 IsFit app g K w l i case with r (Some f) = app.reads case ≡ r → ActRefused app g K w l i case with f
 
-fitting : {L : Type 0} (app : App L) (g : Graph) (K : ℕ) (w : ℕ → WaveRegs) (l : ℕ → L) (i case : ℕ) (r : Option Reads) (with : Option ℕ) → IsAimed g i with → IsFit app g K w l i case with r (misfit r with)
+fitting : {L : Type 0} (app : App L) (g : Graph) (K : ℕ) (w : ℕ → WaveRegs) (l : ℕ → L) (i case : ℕ) (r : Option Reads) (with : Option ℕ) → IsNamed g (Act i case with) → IsFit app g K w l i case with r (misfit r with)
 fitting app g K w l i case None with aimed = λ reads. no_such_case aimed reads
 fitting app g K w l i case (Some Alone) None aimed = tt
 fitting app g K w l i case (Some Alone) (Some j) aimed = λ reads. takes_no_neighbour Alone j aimed reads (λ h. h) refl
@@ -140,7 +142,7 @@ module _ {L : Type 0} (app : App L) (g : Graph) (graph : IsGraph g) (K : ℕ) (w
   judge node fits None found (Some new) next = record { node = node; fits = fits; agree = agree_is found; next = next }
   judge node fits None found None next = not_enabled node fits (agree_is found) next
 
-  fitted : IsAimed g i with → IsActed app g K w l i case with (fitted_of app g K w l i case with)
+  fitted : IsNamed g (Act i case with) → IsActed app g K w l i case with (fitted_of app g K w l i case with)
   fitted aimed = at (misfit (app.reads case) with) refl (fitting app g K w l i case (app.reads case) with aimed)
     where
       near : List ℕ

@@ -8,7 +8,9 @@ use Rattle.topology.specs.Graph.{Graph, IsNode, AreLinked, neighbours_of}
 use Rattle.wave_layer.specs.declared.regs.WaveRegs.{WaveRegs}
 use Rattle.reset_machine.specs.declared.step.StepRefusal.{StepRefusal}
 use Rattle.reset_machine.specs.declared.step.StepRefusal.TheVariants.{StrangeNode, StrangeNeighbour, NoSuchCase, WantsNeighbour, TakesNoNeighbour, Disagrees, NotEnabled}
+use Rattle.reset_machine.specs.declared.event.Event.TheVariants.{Act}
 use Rattle.reset_machine.specs.LocalSteps.{is_neighbour}
+use Rattle.reset_machine.specs.Steps.{IsNamed}
 
 -- each of the nodes that are read is in i's session
 abbrev pub AllAgree : Graph → (ℕ → WaveRegs) → ℕ → (ℕ → Bool) → Type 0
@@ -34,18 +36,13 @@ NamesOne Toward = Unit {0}
 NamesOne One = Unit {0}
 NamesOne All = ⊥
 
--- the action names nodes of the graph: its own, and where it names another, a neighbour of it
-pub record IsAimed (g : Graph) (i : ℕ) (with : Option ℕ) : Type 0 where
-  pub node : IsNode g i
-  pub neighbour : (j : ℕ) → with ≡ Some j → AreLinked g i j
-
 -- why an action isn't a step: the first that applies, in this order
 pub data ActRefused {L : Type 0} (app : App L) (g : Graph) (K : ℕ) (w : ℕ → WaveRegs) (l : ℕ → L) (i case : ℕ) (with : Option ℕ) : StepRefusal → Type 0 where
   strange_node : (IsNode g i → ⊥) → ActRefused app g K w l i case with StrangeNode
   strange_neighbour : (j : ℕ) → IsNode g i → with ≡ Some j → (AreLinked g i j → ⊥) → ActRefused app g K w l i case with StrangeNeighbour
-  no_such_case : IsAimed g i with → app.reads case ≡ None → ActRefused app g K w l i case with NoSuchCase
-  wants_neighbour : (reads : Reads) → IsAimed g i with → app.reads case ≡ Some reads → NamesOne reads → with ≡ None → ActRefused app g K w l i case with WantsNeighbour
-  takes_no_neighbour : (reads : Reads) (j : ℕ) → IsAimed g i with → app.reads case ≡ Some reads → (NamesOne reads → ⊥) → with ≡ Some j → ActRefused app g K w l i case with TakesNoNeighbour
+  no_such_case : IsNamed g (Act i case with) → app.reads case ≡ None → ActRefused app g K w l i case with NoSuchCase
+  wants_neighbour : (reads : Reads) → IsNamed g (Act i case with) → app.reads case ≡ Some reads → NamesOne reads → with ≡ None → ActRefused app g K w l i case with WantsNeighbour
+  takes_no_neighbour : (reads : Reads) (j : ℕ) → IsNamed g (Act i case with) → app.reads case ≡ Some reads → (NamesOne reads → ⊥) → with ≡ Some j → ActRefused app g K w l i case with TakesNoNeighbour
   disagrees : (j : ℕ) → IsNode g i → Fits g i (app.reads case) with → IsFirstApart g w i (is_read g i (app.reads case) with) j → ActRefused app g K w l i case with (Disagrees j)
   not_enabled : IsNode g i → Fits g i (app.reads case) with → AllAgree g w i (is_read g i (app.reads case) with)
       → app.next i K case with (l i) (seen (is_read g i (app.reads case) with) l g.ids) ≡ None → ActRefused app g K w l i case with NotEnabled

@@ -13,7 +13,8 @@ use Rattle.reset_machine.specs.Configuration.{Configuration, tree_of, wave_of, l
 use Rattle.reset_machine.specs.WavePicture.{HasJoined}
 use Rattle.service_main.specs.Lines.{ended}
 use Rattle.service_main.specs.Meaning.{Meaning}
-use Rattle.service_main.specs.Output.{at_node, enabled_line, has_joined, newest_head, newest_line, node_head, enabled_text, ready_line, ready_text, refusal_text, shown}
+use Rattle.reset_machine.specs.Refinement.{has_joined}
+use Rattle.service_main.specs.Output.{at_node, enabled_line, newest_head, newest_line, node_head, enabled_text, ready_line, ready_text, refusal_text, shown}
 
 or_first : (a b : Bool) → a ≡ true → (a || b) ≡ true
 or_first true b h = refl
@@ -91,7 +92,7 @@ ready_line-is m c ids is = ap ready_text (sym is)
 
 -- ---- the newest session
 
-joined_or : {L : Type 0} (c : Configuration L) (i : ℕ) (local none : List ℕ) (b : Bool) → has_joined c i ≡ b → newest_head i ++ ended (if has_joined c i then local else none) ≡ newest_head i ++ ended (if b then local else none)
+joined_or : {L : Type 0} (c : Configuration L) (i : ℕ) (local none : List ℕ) (b : Bool) → has_joined c.graph (wave_of c) i ≡ b → newest_head i ++ ended (if has_joined c.graph (wave_of c) i then local else none) ≡ newest_head i ++ ended (if b then local else none)
 joined_or c i local none b is = ap (λ (b : Bool). newest_head i ++ ended (if b then local else none)) is
 
 pub newest_joined : {L : Type 0} (m : Meaning L) (c : Configuration L) (i : ℕ) → HasJoined c.graph (wave_of c) i → newest_line m c i ≡ newest_head i ++ ended (m.text (local_of m.app c i))

@@ -3,7 +3,7 @@ use Rattle.std.specs.Prelude.{◌≡◌, ℕ, ◌+◌, ◌<◌, ◌≤◌, nat_l
 use Rattle.std.specs.Fmt.{decimal}
 use Rattle.std.specs.Io.KnownBytes.{Appends, Keeps}
 use Rattle.std.specs.List.{concat, flat_map, list_any}
-use Rattle.topology.specs.Graph.{Graph, leader}
+use Rattle.topology.specs.Graph.{Graph}
 use Rattle.topology.specs.Faults.{IsTopologyOf}
 use Rattle.topology.specs.TopologyText.{Description, IsReadFault, description_of}
 use Rattle.topology.specs.declared.fault.TopoFault.{TopoFault}
@@ -25,6 +25,7 @@ use Rattle.reset_machine.specs.declared.step.StepRefusal.TheVariants.{StrangeNod
 use Rattle.reset_machine.specs.Configuration.{Configuration, tree_of, wave_of, local_of}
 use Rattle.reset_machine.specs.Outcome.{IsBoot, outcome_of}
 use Rattle.reset_machine.specs.Enabled.{enabled_rows, ready_of}
+use Rattle.reset_machine.specs.Refinement.{has_joined}
 use Rattle.reset_machine.specs.declared.enabled.Enabled.{Enabled}
 use Rattle.action_tables.specs.RowText.{set_text}
 use Rattle.action_tables.specs.Written.{AppendsFront}
@@ -136,13 +137,9 @@ stepped c (Err refusal) = (c, refusal_text refusal)
 abbrev pub shown : {L : Type 0} → Meaning L → Configuration L → ℕ → List ℕ
 shown m c i = node_head i (tree_of c i) (wave_of c i) ++ ended (m.text (local_of m.app c i))
 
--- a node has joined where its session is that of its leader, the newest
-abbrev pub has_joined : {L : Type 0} → Configuration L → ℕ → Bool
-has_joined c i = (wave_of c i).session == (wave_of c (leader c.graph i)).session
-
 -- the line of a node's local state in the newest session
 abbrev pub newest_line : {L : Type 0} → Meaning L → Configuration L → ℕ → List ℕ
-newest_line m c i = newest_head i ++ ended (if has_joined c i then m.text (local_of m.app c i) else codes "unjoined")
+newest_line m c i = newest_head i ++ ended (if has_joined c.graph (wave_of c) i then m.text (local_of m.app c i) else codes "unjoined")
 
 -- the line that names the enabled rows of a node. It stays folded: unfolded, it has all the tables
 unfoldable pub enabled_line : {L : Type 0} → Meaning L → Configuration L → ℕ → List ℕ

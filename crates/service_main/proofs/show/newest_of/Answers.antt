@@ -4,7 +4,9 @@ use Rattle.action_tables.proofs.Fronts.{AppendsFront-first, OnErr-always, OnErr-
 use Rattle.reset_machine.specs.Configuration.{local_of}
 use Rattle.service_main.specs.Lines.{ended}
 use Rattle.service_main.specs.Meaning.{meaning_of}
-use Rattle.service_main.specs.Output.{has_joined, newest_head}
+use Rattle.reset_machine.specs.Configuration.{wave_of}
+use Rattle.reset_machine.specs.Refinement.{has_joined}
+use Rattle.service_main.specs.Output.{newest_head}
 use Rattle.service_main.proofs.Nodes.{newest_joined, newest_unjoined}
 use Rattle.service_main.proofs.show.newest_of.Goals as goal
 
@@ -12,7 +14,7 @@ pub returns-in_err-put_newest_head-clause-err : goal.returns-in_err-put_newest_h
 returns-in_err-put_newest_head-clause-err g c =
     let m = meaning_of g.P.Application.app g.P.Application.text g.P.Application.names in
     let config = c.args.config.now in
-    let local = ended (if has_joined config c.args.id then m.text (local_of m.app config c.args.id) else codes "unjoined") in
+    let local = ended (if has_joined config.graph (wave_of config) c.args.id then m.text (local_of m.app config c.args.id) else codes "unjoined") in
     OnErr-always _ _ (AppendsFront-first _ _ (newest_head c.args.id) local c.in_err-put_newest_head.ensures.err)
 
 pub returns-in-Some-clause-ok : goal.returns-in-Some-clause-ok
