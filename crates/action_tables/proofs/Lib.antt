@@ -6,3 +6,4 @@ pub mod EnabledSets
 pub mod SetTexts
 mod NumberWords
 mod CutTexts
+pub mod Ascending

@@ -1,6 +1,6 @@
 -- A command's line has the command's words, and no other command has them.
 use Rattle.std.specs.Prelude.{codes}
-use Rattle.std.proofs.Common.{◌≡◌, ◌⊎◌, inl, inr, ℕ, ◌<◌, ◌^◌, List, [], ◌∷◌, refl, sym, ap, ◌∙◌, arith, get_or, Option, None, Some, IfSome, IfNone}
+use Rattle.std.proofs.Common.{◌≡◌, ◌⊎◌, inl, inr, ℕ, ◌<◌, ◌^◌, List, [], ◌∷◌, refl, sym, ap, ◌∙◌, arith, get_or, Option, None, Some, IfSome, IfNone, Bool, true, ◌==◌, ◌||◌, true≢false}
 use Rattle.std.specs.Fmt.{decimal}
 use Rattle.reset_machine.specs.EventText.{event_words, Fits}
 use Rattle.reset_machine.specs.Words.{words_of}
@@ -40,29 +40,27 @@ abbrev pub first_byte : List (List ℕ) → ℕ
 first_byte [] = 0
 first_byte (w ∷ ws) = get_or w 0 0
 
+-- the first bytes of the words of events
+abbrev begins_event : ℕ → Bool
+begins_event b = b == 97 || (b == 99 || (b == 102 || (b == 106 || (b == 109 || (b == 111 || b == 114)))))
+
+event_begins : (e : Event) → begins_event (first_byte (event_words e)) ≡ true
+event_begins (Claim at) = refl
+event_begins (Follow at) = refl
+event_begins (Adopt at from) = refl
+event_begins (Request at) = refl
+event_begins (Relay at child) = refl
+event_begins (Open at) = refl
+event_begins (Join at) = refl
+event_begins (Finish at) = refl
+event_begins (Mend at) = refl
+event_begins (Act at case with) = refl
+
 pub event_not_show : (e : Event) (ws : List (List ℕ)) → event_words e ≡ codes "show" ∷ ws → ⊥
-event_not_show (Claim at) ws h = omega (arith, ap first_byte h)
-event_not_show (Follow at) ws h = omega (arith, ap first_byte h)
-event_not_show (Adopt at from) ws h = omega (arith, ap first_byte h)
-event_not_show (Request at) ws h = omega (arith, ap first_byte h)
-event_not_show (Relay at child) ws h = omega (arith, ap first_byte h)
-event_not_show (Open at) ws h = omega (arith, ap first_byte h)
-event_not_show (Join at) ws h = omega (arith, ap first_byte h)
-event_not_show (Finish at) ws h = omega (arith, ap first_byte h)
-event_not_show (Mend at) ws h = omega (arith, ap first_byte h)
-event_not_show (Act at case with) ws h = omega (arith, ap first_byte h)
+event_not_show e ws h = true≢false (sym (event_begins e) ∙ ap (λ vs. begins_event (first_byte vs)) h)
 
 pub event_not_enabled : (e : Event) (ws : List (List ℕ)) → event_words e ≡ codes "enabled" ∷ ws → ⊥
-event_not_enabled (Claim at) ws h = omega (arith, ap first_byte h)
-event_not_enabled (Follow at) ws h = omega (arith, ap first_byte h)
-event_not_enabled (Adopt at from) ws h = omega (arith, ap first_byte h)
-event_not_enabled (Request at) ws h = omega (arith, ap first_byte h)
-event_not_enabled (Relay at child) ws h = omega (arith, ap first_byte h)
-event_not_enabled (Open at) ws h = omega (arith, ap first_byte h)
-event_not_enabled (Join at) ws h = omega (arith, ap first_byte h)
-event_not_enabled (Finish at) ws h = omega (arith, ap first_byte h)
-event_not_enabled (Mend at) ws h = omega (arith, ap first_byte h)
-event_not_enabled (Act at case with) ws h = omega (arith, ap first_byte h)
+event_not_enabled e ws h = true≢false (sym (event_begins e) ∙ ap (λ vs. begins_event (first_byte vs)) h)
 
 -- ---- a line and its words
 

@@ -1,4 +1,3 @@
-mod Ascending
 mod Asked
 mod Booting
 pub mod Leaders

@@ -1,2 +1,1 @@
-mod Ascending
 pub mod NextSession
