@@ -9,6 +9,7 @@ use crate::fault::{MAX_NODES, TopoFault};
 use crate::id::NodeId;
 use crate::links::checked_rows;
 use crate::nodes::checked_ids;
+use crate::place::place_of;
 use crate::rows::copied_rows;
 use crate::search::{distances_to, first_free};
 use std::alloc::{AllocError, Global};
@@ -78,7 +79,7 @@ impl Topology {
     pub fn index_of(&self, id: u32) -> Option<usize>
         ensures { result ≡ position (λ i. i == id) self.now.ids }
     {
-        self.ids.binary_search(&id).ok()
+        place_of(&self.ids, id)
     }
 
     /// The indexes of the neighbours of the node at this index, ascending.

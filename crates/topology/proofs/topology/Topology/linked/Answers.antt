@@ -5,6 +5,7 @@ use Rattle.topology.specs.Graph.{are_linked}
 use Rattle.topology.proofs.RowLemmas.{unlinked_first}
 use Rattle.topology.proofs.topology.Topology.linked.Goals as goal
 
+-- what is said of a value and of none, as one test
 found_if : (P : ℕ → Type 0) (t : Bool) (o : Option ℕ) → IfSome o (λ n. P n × (t ≡ true)) → IfNone o (t ≡ false) → is_some o ≡ t
 found_if P t (Some n) found none = sym found.1
 found_if P t None found none = sym none
