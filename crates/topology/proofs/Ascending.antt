@@ -1,11 +1,12 @@
 -- Strictly ascending lists of numbers, and what a binary search finds in them.
-use Rattle.std.proofs.Common.{◌≡◌, ℕ, zero, suc, ◌+◌, ◌-◌, ◌<◌, ◌≤◌, ◌≢◌, Bool, true, false, cond, ◌||◌, eqb, ltb, List, [], ◌∷◌, map, length, get_or, filter, Contains, Option, Result, Ok, Err, Some, None, is_ok, position, MatchResult, sym, refl, ap, ap₂, subst, ◌∙◌, arith, nat_cmp, eqb-true, eq-eqb, ne_eqb, lt-ltb, le-ltb, ⊎_elim}
+use Rattle.std.proofs.Common.{◌≡◌, ℕ, zero, suc, ◌+◌, ◌-◌, ◌<◌, ◌≤◌, ◌≢◌, Bool, true, false, cond, ◌||◌, eqb, ltb, List, [], ◌∷◌, map, length, get_or, filter, Contains, Option, Result, Ok, Err, Some, None, is_ok, is_some, position, true≢false, MatchResult, sym, refl, ap, ap₂, subst, ◌∙◌, arith, nat_cmp, eqb-true, eq-eqb, ne_eqb, lt-ltb, le-ltb, ⊎_elim}
 use Rattle.std.specs.List.{list_any, position_or_len}
 use Rattle.std.specs.List.Sorted.{IsStrictlyIncreasing, IsBinarySearchResult}
 use Rattle.std.specs.Result.{result_ok}
 use Rattle.std.proofs.lemmas.List.Sums.{position_or_len_is, fails_before_first}
 use Rattle.std.proofs.lemmas.List.Sorted.{searched}
 use Rattle.std.proofs.lemmas.List.Folds.{list_any-from_Any}
+use Rattle.std.proofs.lemmas.List.Quantifiers.{position-Some}
 use Rattle.std.proofs.lemmas.List.{get_or_default}
 use Rattle.std.proofs.lemmas.Bool.{cases_order, cases_Bool, false_from_ne_true, cases_eq, cases_lt, ltb-false}
 use native.Mathlib.Numerals.{unary_clauses}
@@ -70,6 +71,14 @@ no_place p xs none k within =
   where
     Some-is_not_none : (i : ℕ) → ◌≡◌ {A = Option ℕ} (Some i) None → ⊥
     Some-is_not_none i e = cc
+
+-- a number is a member where it has a place
+pub member_by_place : (xs : List ℕ) (x : ℕ) (o : Option ℕ) → o ≡ position (λ i. eqb i x) xs → is_some o ≡ list_any (λ y. eqb y x) xs
+member_by_place xs x (Some k) at =
+    let found = position-Some (λ i. eqb i x) xs k 0 (sym at) in
+    sym (subst (λ z. list_any (λ y. eqb y z) xs ≡ true) (eqb-true (get_or xs k 0) x found.1) (member_at xs k found.0))
+member_by_place xs x None at =
+    sym (no_member xs x (λ k low e. absurd (true≢false (sym (eq-eqb (get_or xs k 0) x e) ∙ no_place (λ i. eqb i x) xs at k low))))
 
 -- ---- binary search
 

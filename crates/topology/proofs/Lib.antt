@@ -3,7 +3,7 @@ pub mod RowLemmas
 pub mod Inserting
 pub mod FirstItems
 pub mod Joining
-pub mod Levels
+pub mod BreadthFirst
 pub mod FaultOrder
 pub mod Walks
 pub mod Assembling

@@ -138,14 +138,11 @@ module _ (ids : List ℕ) (rows : List (List ℕ)) where
         filter_by_row (are_linked (graph_of ids rows) (get_or ids i 0)) ids (row_at rows i) (as_rows.ascending i) (λ j e. as_rows.within i j e)
         (λ k k_in. linked_at i k i_in k_in)
 
-    -- what the places of two numbers tell of their link
-    pub linked_at_places : (a b i j : ℕ) → Some i ≡ position (λ k. eqb k a) ids → Some j ≡ position (λ k. eqb k b) ids → near_has rows i j ≡ are_linked (graph_of ids rows) a b
-    linked_at_places a b i j at_a at_b =
-        let first = position-Some (λ k. eqb k a) ids i 0 (sym at_a) in
-        let second = position-Some (λ k. eqb k b) ids j 0 (sym at_b) in
-        let same_a : get_or ids i 0 ≡ a = eqb-true (get_or ids i 0) a first.1 in
-        let same_b : get_or ids j 0 ≡ b = eqb-true (get_or ids j 0) b second.1 in
-        sym (linked_at i j first.0 second.0) ∙ ap₂ (λ x y. are_linked (graph_of ids rows) x y) same_a same_b
+    -- what the place of a number tells of its link with the id at an index
+    pub linked_at_place : (i b j : ℕ) → i < length ids → Some j ≡ position (λ k. eqb k b) ids → near_has rows i j ≡ are_linked (graph_of ids rows) (get_or ids i 0) b
+    linked_at_place i b j i_in at_b =
+        let place = position-Some (λ k. eqb k b) ids j 0 (sym at_b) in
+        sym (linked_at i j i_in place.0) ∙ ap (are_linked (graph_of ids rows) (get_or ids i 0)) (eqb-true (get_or ids j 0) b place.1)
 
     pub unlinked_first : (a b : ℕ) → None ≡ position (λ k. eqb k a) ids → false ≡ are_linked (graph_of ids rows) a b
     unlinked_first a b none =
@@ -182,3 +179,9 @@ pub row_neighbours : (ids : List ℕ) (near : List (Vec ℕ Global)) → AreRows
     IsStrictlyIncreasing ids → map (λ n. get_or ids n 0) row.items ≡ neighbours_of (graph_of ids (map (λ r. r.items) near)) (get_or ids i 0)
 row_neighbours ids near as_rows i row within read up =
     ap (map (λ n. get_or ids n 0)) (sym (row_here (length ids) near as_rows i row within read)) ∙ neighbours_at ids (map (λ r. r.items) near) up as_rows i within
+
+-- a search for the place of a number, in the row of an index, tells whether the two are linked
+pub linked_by_search : (ids : List ℕ) (near : List (Vec ℕ Global)) → AreRows (length ids) (map (λ r. r.items) near) → IsStrictlyIncreasing ids → (i : ℕ) (row : Vec ℕ Global) → i < length ids → row ≡ get_or near i row →
+    (b j : ℕ) → Some j ≡ position (λ k. eqb k b) ids → (r : Result ℕ ℕ) → IsBinarySearchResult (λ y. nat_cmp y j) row.items r → is_ok r ≡ are_linked (graph_of ids (map (λ r. r.items) near)) (get_or ids i 0) b
+linked_by_search ids near as_rows up i row within read b j at_b r h =
+    found_in_row (length ids) near as_rows i row within read j r h ∙ linked_at_place ids (map (λ r. r.items) near) up as_rows i b j within at_b

@@ -6,6 +6,7 @@ mod id;
 mod laws;
 mod links;
 mod nodes;
+mod place;
 mod rows;
 mod search;
 #[cfg(test)]

@@ -5,6 +5,7 @@ ghost use Rattle.topology.specs.Faults.{IsFirst, IsFirstFault, IsFirstRepeat, en
 ghost use Rattle.topology.specs.Rows.{AreIds};
 
 use crate::fault::{MAX_LINKS, TopoFault};
+use crate::place::place_of;
 use crate::rows::{empty_rows, link};
 use std::alloc::Global;
 
@@ -15,10 +16,10 @@ fn first_strange_end(ids: &[u32], links: &[(u32, u32)]) -> Option<u32>
         (IsFirst (λ x. has ids.now x ≡ true → ⊥) (ends_of links.now)) }
 {
     for (a, b) in links {
-        if ids.binary_search(a).is_err() {
+        if place_of(ids, *a).is_none() {
             return Some(*a);
         }
-        if ids.binary_search(b).is_err() {
+        if place_of(ids, *b).is_none() {
             return Some(*b);
         }
     }
@@ -45,7 +46,7 @@ fn index_among(ids: &[u32], id: u32) -> usize
     ensures within { result < length ids.now }
     ensures value { slice_index ids.now result ≡ id }
 {
-    ids.binary_search(&id).unwrap()
+    place_of(ids, id).unwrap()
 }
 
 /// Puts each link into the rows, or answers `TwiceLink` of the first that repeats an earlier one.

@@ -1,54 +1,45 @@
-ghost use Rattle.std.specs.Prelude.{◌≡◌, ℕ, ◌+◌, ◌<◌, ◌≤◌, ◌==◌, All, IfOk, length, map, position};
+ghost use Rattle.std.specs.Prelude.{◌≡◌, ℕ, ◌+◌, ◌<◌, ◌≤◌, ◌==◌, [], All, IfOk, length, map, position, replicate};
+ghost use Rattle.std.specs.Vec.{vec_capacity};
 ghost use Rattle.topology.specs.Rows.{AreRows};
-ghost use Rattle.topology.specs.Searching.{AreDistances, AreMarked, MarksLevel, MarksRow, unmarked};
+ghost use Rattle.topology.specs.Searching.{AreDistances, MarksRow, QueuesMarked, unmarked};
 
 use std::alloc::{AllocError, Global};
 
-/// Puts a mark at the indexes of a row that have the mark `free`, and says whether there are some.
-fn mark_row(row: &[usize], free: usize, mark: usize, marks: &mut [usize]) -> bool
+/// Puts a mark at the indexes of a row that have the mark `free`, and puts these indexes behind those
+/// that were reached before.
+fn mark_row(row: &[usize], free: usize, mark: usize, marks: &mut [usize], reached: &mut Vec<usize>)
     requires within { All (λ j. j < length marks.old) row.now }
     requires room { mark + unmarked free marks.old ≤ free }
-    ensures { MarksRow free row.now mark marks.old marks.new result }
+    requires capacity { length reached.old.items + unmarked free marks.old ≤ vec_capacity reached.old }
+    ensures marked { MarksRow free row.now mark marks.old marks.new }
+    ensures queued { QueuesMarked free mark marks.old marks.new reached.old.items reached.new.items }
+    ensures capacity { vec_capacity reached.old ≤ vec_capacity reached.new }
 {
-    let mut more = false;
     for index in row {
         if marks[*index] == free {
             marks[*index] = mark;
-            more = true;
+            reached.push(*index).unwrap();
         }
     }
-    more
 }
 
-/// Marks the unmarked neighbours of each index with the mark `level`, and says whether there are
-/// some.
-fn mark_level(near: &[Vec<usize>], level: usize, marks: &mut [usize]) -> bool
+/// Marks the start with 0, and each index that a walk leads to with its distance. They are reached in
+/// the order of their distances, and in that order they have their turn: each row is read once.
+fn mark_all(near: &[Vec<usize>], start: usize, marks: &mut [usize], reached: &mut Vec<usize>)
     requires rows { AreRows (length near.now) (map (λ row. row.items) near.now) }
-    requires count { length marks.old ≡ length near.now }
-    requires room { level + 1 + unmarked (length near.now) marks.old ≤ length near.now }
-    ensures { MarksLevel (length near.now) (map (λ row. row.items) near.now) level (length near.now)
-        marks.old marks.new result }
-{
-    let mut more = false;
-    for index in 0..near.len() {
-        if marks[index] == level {
-            more |= mark_row(&near[index], near.len(), level + 1, marks);
-        }
-    }
-    more
-}
-
-/// Marks level by level, from a start with the mark 0.
-fn mark_all(near: &[Vec<usize>], start: usize, marks: &mut [usize])
-    requires rows { AreRows (length near.now) (map (λ row. row.items) near.now) }
-    requires begun { AreMarked (length near.now) (map (λ row. row.items) near.now) start 0 marks.old }
-    requires room { unmarked (length near.now) marks.old + 1 ≤ length near.now }
+    requires within { start < length near.now }
+    requires free { marks.old ≡ replicate (length near.now) (length near.now) }
+    requires empty { reached.old.items ≡ [] }
+    requires capacity { length near.now ≤ vec_capacity reached.old }
     ensures { AreDistances (length near.now) (map (λ row. row.items) near.now) start marks.new }
 {
-    for level in 0..near.len() {
-        if !mark_level(near, level, marks) {
-            return;
-        }
+    marks[start] = 0;
+    reached.push(start).unwrap();
+    let mut place = 0;
+    while place < reached.len() {
+        let index = reached[place];
+        mark_row(&near[index], near.len(), marks[index] + 1, marks, reached);
+        place += 1;
     }
 }
 
@@ -64,8 +55,8 @@ pub fn distances_to(
         start marks.items) }
 {
     let mut marks = vec![in alloc; near.len(); near.len()]?;
-    marks[start] = 0;
-    mark_all(near, start, &mut marks);
+    let mut reached = Vec::with_capacity(alloc, near.len())?;
+    mark_all(near, start, &mut marks, &mut reached);
     Ok(marks)
 }
 

@@ -25,6 +25,19 @@ fn reads_a_line_given_in_mixed_order(rt: HostRuntime) -> Result<(), Fail> {
 }
 
 #[test]
+fn finds_neighbours_by_identifier(rt: HostRuntime) -> Result<(), Fail> {
+    let star = Topology::build(rt.alloc(), &[5, 20, 40, 41], &[(41, 5), (41, 20), (40, 41)])?;
+    assert_eq!(rt; star.len(), 4);
+    assert_eq!(rt; star.neighbour_at(0, 41), Some(3));
+    assert_eq!(rt; star.neighbour_at(3, 5), Some(0));
+    assert_eq!(rt; star.neighbour_at(3, 40), Some(2));
+    assert_eq!(rt; star.neighbour_at(3, 41), None);
+    assert_eq!(rt; star.neighbour_at(0, 20), None);
+    assert_eq!(rt; star.neighbour_at(0, 6), None);
+    Ok(())
+}
+
+#[test]
 fn measures_a_cycle_of_four(rt: HostRuntime) -> Result<(), Fail> {
     let cycle = Topology::build(rt.alloc(), &[1, 2, 3, 4], &[(1, 2), (2, 3), (3, 4), (4, 1)])?;
     assert_eq!(rt; cycle.len(), 4);

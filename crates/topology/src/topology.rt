@@ -1,4 +1,4 @@
-ghost use Rattle.std.specs.Prelude.{◌≡◌, ◌≢◌, ℕ, ◌<◌, ◌≤◌, ◌*◌, ◌==◌, All, IfOk, IfErr, length, map, position, slice_get, slice_index};
+ghost use Rattle.std.specs.Prelude.{◌≡◌, ◌≢◌, ℕ, ◌<◌, ◌≤◌, ◌*◌, ◌==◌, true, false, Some, All, IfNone, IfOk, IfErr, IfSome, length, map, position, slice_get, slice_index};
 ghost use Rattle.std.specs.FinSet as set;
 ghost use Rattle.std.specs.List.Sorted.{IsStrictlyIncreasing};
 ghost use Rattle.topology.specs.Faults.{IsFirstFault, IsTopologyOf};
@@ -9,6 +9,7 @@ use crate::fault::{MAX_NODES, TopoFault};
 use crate::id::NodeId;
 use crate::links::checked_rows;
 use crate::nodes::checked_ids;
+use crate::place::place_of;
 use crate::rows::copied_rows;
 use crate::search::{distances_to, first_free};
 use std::alloc::{AllocError, Global};
@@ -78,7 +79,7 @@ impl Topology {
     pub fn index_of(&self, id: u32) -> Option<usize>
         ensures { result ≡ position (λ i. i == id) self.now.ids }
     {
-        self.ids.binary_search(&id).ok()
+        place_of(&self.ids, id)
     }
 
     /// The indexes of the neighbours of the node at this index, ascending.
@@ -93,14 +94,28 @@ impl Topology {
         near[index].as_slice()
     }
 
+    /// The index of this identifier among the neighbours of the node at `index`. None where it isn't
+    /// a neighbour's.
+    pub fn neighbour_at(&self, index: usize, id: u32) -> Option<usize>
+        requires { index < length self.now.ids }
+        ensures found { IfSome result (λ n. (position (λ i. i == id) self.now.ids ≡ Some n) × (are_linked self.now (slice_index self.now.ids index) id ≡ true)) }
+        ensures none { IfNone result (are_linked self.now (slice_index self.now.ids index) id ≡ false) }
+    {
+        let near = &self.near;
+        match self.index_of(id) {
+            Some(place) if near[index].binary_search(&place).is_ok() => Some(place),
+            _ => None,
+        }
+    }
+
     /// Whether these two are nodes with a link between them.
     pub fn linked(&self, a: u32, b: u32) -> bool
         ensures { result ≡ are_linked self.now a b }
     {
-        let near = &self.near;
-        match (self.index_of(a), self.index_of(b)) {
-            (Some(i), Some(j)) => near[i].binary_search(&j).is_ok(),
-            _ => false,
+        let _ = &self.ids;
+        match self.index_of(a) {
+            Some(index) => self.neighbour_at(index, b).is_some(),
+            None => false,
         }
     }
 

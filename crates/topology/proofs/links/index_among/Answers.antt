@@ -1,8 +1,13 @@
-use Rattle.std.proofs.Common.{◌≡◌, true, is_ok, ◌∙◌, rules}
-use Rattle.topology.proofs.Ascending.{member_by_search}
+use Rattle.std.proofs.Common.{◌≡◌, true, is_some, ◌∙◌, ◌==◌, eqb-true, rules, sym}
+use Rattle.std.proofs.lemmas.List.Quantifiers.{position-Some}
+use Rattle.topology.proofs.Ascending.{member_by_place}
 use Rattle.topology.proofs.links.index_among.Goals as goal
 
 pub unwrap-requires : goal.unwrap-requires
 unwrap-requires c =
-    let found : is_ok c.binary_search.result ≡ true = member_by_search c.args.ids.now c.args.id c.requires.ascending c.binary_search.result c.binary_search.ensures.position ∙ c.requires.member in
+    let found : is_some c.place_of.result ≡ true = member_by_place c.args.ids.now c.args.id c.place_of.result c.place_of.ensures ∙ c.requires.member in
     search rules
+
+pub returns-clause-value : goal.returns-clause-value
+returns-clause-value c =
+    eqb-true _ _ (position-Some (λ i. i == c.args.id) c.args.ids.now c.unwrap.result 0 (sym c.place_of.ensures ∙ c.unwrap.ensures)).1

@@ -1,7 +1,13 @@
-use Rattle.std.proofs.Common.{◌+◌, ◌≤◌, length, map}
-use Rattle.topology.specs.Searching.{AreMarked, unmarked}
+use Rattle.std.proofs.Common.{◌-◌, ◌≤◌, length, map}
+use Rattle.std.specs.Vec.{vec_capacity}
+use Rattle.topology.specs.Searching.{AreQueued}
 use Rattle.topology.proofs.search.mark_all.Given as goal
 
-abbrev pub invariant-loop-level : goal.invariant-loop-level
-invariant-loop-level l =
-    AreMarked (length l.near) (map (λ row. row.items) l.near) l.start l.level l.marks × (l.level + 1 + unmarked (length l.near) l.marks ≤ length l.near)
+abbrev pub invariant-loop-place : goal.invariant-loop-place
+invariant-loop-place l = record {
+  queued : AreQueued (length l.near) (map (λ row. row.items) l.near) l.start l.place l.marks l.reached.items;
+  capacity : length l.near ≤ vec_capacity l.reached;
+}
+
+abbrev pub decreases-loop-place : goal.decreases-loop-place
+decreases-loop-place l = length l.near - l.place
