@@ -1,4 +1,4 @@
-ghost use Rattle.std.specs.Prelude.{◌≡◌, ◌≢◌, ℕ, ◌<◌, ◌≤◌, ◌*◌, ◌==◌, All, IfOk, IfErr, length, map, position, slice_get, slice_index};
+ghost use Rattle.std.specs.Prelude.{◌≡◌, ◌≢◌, ℕ, ◌<◌, ◌≤◌, ◌*◌, ◌==◌, All, IfOk, IfErr, IfSome, IfNone, Some, true, false, length, map, position, slice_get, slice_index};
 ghost use Rattle.std.specs.FinSet as set;
 ghost use Rattle.std.specs.List.Sorted.{IsStrictlyIncreasing};
 ghost use Rattle.topology.specs.Faults.{IsFirstFault, IsTopologyOf};
@@ -91,6 +91,26 @@ impl Topology {
     {
         let near = &self.near;
         near[index].as_slice()
+    }
+
+    /// The index of this identifier among the neighbours of the node at `index`. None where it isn't
+    /// a neighbour's.
+    pub fn neighbour_at(&self, index: usize, id: u32) -> Option<usize>
+        requires { index < length self.now.ids }
+        ensures found { IfSome result (λ n. (position (λ i. i == id) self.now.ids ≡ Some n) × (are_linked self.now (slice_index self.now.ids index) id ≡ true)) }
+        ensures none { IfNone result (are_linked self.now (slice_index self.now.ids index) id ≡ false) }
+    {
+        let near = &self.near;
+        match self.index_of(id) {
+            Some(place) => {
+                if near[index].binary_search(&place).is_ok() {
+                    Some(place)
+                } else {
+                    None
+                }
+            }
+            None => None,
+        }
     }
 
     /// Whether these two are nodes with a link between them.
