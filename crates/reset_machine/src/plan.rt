@@ -48,7 +48,7 @@ pub fn planned(
     let Some(ix) = topology.index_of(event.node()) else {
         return Err(StepRefusal::StrangeNode);
     };
-    if !is_neighbour(topology, event.node(), event.named()) {
+    if !is_neighbour(topology, ix, event.named()) {
         return Err(StepRefusal::StrangeNeighbour);
     }
     match answer(alloc, topology, trees, waves, event, ix) {

@@ -115,15 +115,11 @@ fn father_seen(
     requires all_waves { length waves.now ≡ length topology.now.ids }
     ensures { result ≡ father_seen topology.now (tree_map topology.now trees.now) (wave_map topology.now waves.now) id }
 {
-    topology.is_graph();
     let father = trees[ix].father;
     if father == id {
         return FatherSeen::Itself;
     }
-    if !topology.linked(id, father) {
-        return FatherSeen::Lost;
-    }
-    match topology.index_of(father) {
+    match topology.neighbour_at(ix, father) {
         Some(father_ix) => FatherSeen::Is(waves[father_ix]),
         None => FatherSeen::Lost,
     }
