@@ -8,8 +8,9 @@ ghost use Rattle.reset_machine.specs.Steps.{event_node, is_of_tree, named_node};
 
 use crate::action::is_neighbour;
 use crate::event::Event;
+use crate::narrow::{child_looked_at, narrow_view};
 use crate::step::StepRefusal;
-use crate::view::{children, near_trees, tree_view, wave_view};
+use crate::view::{near_trees, tree_view};
 use std::alloc::Global;
 use topology::Topology;
 use tree_layer::{TreeRefusal, TreeRegs, TreeView, tree_fire};
@@ -72,14 +73,13 @@ fn answer(
     ensures exact { MatchResult result (λ does. answer_of topology.now (node_bound topology.now) (tree_map topology.now trees.now) (wave_map topology.now waves.now) event ≡ Ok does)
         (λ f. f ≢ StepRefusal.NoMemory → answer_of topology.now (node_bound topology.now) (tree_map topology.now trees.now) (wave_map topology.now waves.now) event ≡ Err f) }
 {
-    let id = event.node();
     if event.is_of_tree() {
         let near = near_trees(alloc, topology, trees, ix)?;
-        let view = tree_view(topology, trees, &near, id, ix);
+        let view = tree_view(topology, trees, &near, event.node(), ix);
         first_answer(&Seen::Tree(view), event.named(), event.cases())
     } else {
-        let children = children(alloc, topology, trees, waves, id, ix)?;
-        let view = wave_view(topology, trees, waves, &children, id, ix);
+        let child = child_looked_at(topology, trees, waves, event, ix);
+        let view = narrow_view(topology, trees, waves, child.as_slice(), event, ix);
         first_answer(&Seen::Wave(view), event.named(), event.cases())
     }
 }

@@ -102,8 +102,8 @@ pub fn wave_view<'a>(
     }
 }
 
-// What the father register of the node with this id and index names.
-fn father_seen(
+/// What the father register of the node with this id and index names.
+pub fn father_seen(
     topology: &Topology,
     trees: &[TreeRegs],
     waves: &[WaveRegs],
