@@ -10,7 +10,7 @@ use crate::action::is_neighbour;
 use crate::event::Event;
 use crate::narrow::{child_looked_at, narrow_view};
 use crate::step::StepRefusal;
-use crate::view::{near_trees, tree_view};
+use crate::view::{read_near_trees, tree_view};
 use std::alloc::Global;
 use topology::Topology;
 use tree_layer::{TreeRefusal, TreeRegs, TreeView, tree_fire};
@@ -74,7 +74,8 @@ fn answer(
         (λ f. f ≢ StepRefusal.NoMemory → answer_of topology.now (node_bound topology.now) (tree_map topology.now trees.now) (wave_map topology.now waves.now) event ≡ Err f) }
 {
     if event.is_of_tree() {
-        let near = near_trees(alloc, topology, trees, ix)?;
+        let mut near = Vec::new(alloc);
+        read_near_trees(topology, trees, ix, &mut near)?;
         let view = tree_view(topology, trees, &near, event.node(), ix);
         first_answer(&Seen::Tree(view), event.named(), event.cases())
     } else {

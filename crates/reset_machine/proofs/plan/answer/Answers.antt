@@ -14,7 +14,7 @@ tree_view-view-requires-clause-near c =
     let g = c.args.topology.now in
     let t = tree_map g c.args.trees.now in
     let id = id_at-position g.ids c.args.ix (event_node c.args.event) c.requires.place ∙ sym c.node.ensures in
-    c.deref.ensures.value ∙ c.in_ok-near.ensures ∙ ap (λ k. map (λ j. (j, t j)) (neighbours_of g k)) id
+    c.deref.ensures.value ∙ c.in_ok-read_near_trees.ensures ∙ ap (λ k. map (λ j. (j, t j)) (neighbours_of g k)) id
 
 pub returns-else-is_of_tree : goal.returns-else-is_of_tree
 returns-else-is_of_tree c =
