@@ -12,7 +12,7 @@ abbrev pub among : {X : Type 0} → List ℕ → (ℕ → Bool) → (ℕ → X) 
 among ids p f near = map f (filter p (map (λ n. slice_index ids n) near))
 
 -- the next id passes or it doesn't
-among-drop : {X : Type 0} (ids : List ℕ) (p : ℕ → Bool) (f : ℕ → X) (near : List ℕ) (i : ℕ) → i < length near →
+pub among-drop : {X : Type 0} (ids : List ℕ) (p : ℕ → Bool) (f : ℕ → X) (near : List ℕ) (i : ℕ) → i < length near →
     among ids p f (drop i near) ≡ (let c = slice_index ids (slice_index near i) in if p c then f c ∷ among ids p f (drop (i + 1) near) else among ids p f (drop (i + 1) near))
 among-drop {X} ids p f near i short =
     rw (drop-cons near i 0, add-one) (pushed (slice_index near i))

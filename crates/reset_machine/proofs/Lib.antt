@@ -2,6 +2,8 @@ pub mod Places
 pub mod Children
 pub mod NearTrees
 pub mod Planned
+pub mod NarrowChildren
+pub mod NarrowViews
 pub mod Seen
 pub mod WaveRows
 pub mod WavePlans

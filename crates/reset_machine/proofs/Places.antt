@@ -147,3 +147,7 @@ pub position-place : (ids : List ℕ) (ix : ℕ) → IsStrictlyIncreasing ids �
 position-place ids ix up short =
     let at = position_or_len-place ids ix (slice_index ids ix) short refl (λ k l e. absurd (omega (arith, AllPairs-from_increasing ids up k ix 0 l short))) in
     ap (λ n. cond (nat_lt n (length ids)) (Some n) None) at ∙ ap (λ b. cond b (Some ix) None) (lt-ltb ix (length ids) short)
+
+-- the same under another name of the id
+pub position-named : (ids : List ℕ) (ix id : ℕ) → IsStrictlyIncreasing ids → ix < length ids → slice_index ids ix ≡ id → position (λ i. i == id) ids ≡ Some ix
+position-named ids ix id up short at = subst (λ k. position (λ i. i == k) ids ≡ Some ix) at (position-place ids ix up short)

@@ -8,7 +8,7 @@ use Rattle.topology.specs.Graph.{Graph, IsGraph, AreLinked, are_linked, neighbou
 use Rattle.tree_layer.specs.declared.regs.TreeRegs.{TreeRegs}
 use Rattle.wave_layer.specs.declared.regs.WaveRegs.{WaveRegs}
 use Rattle.wave_layer.specs.declared.regs.FatherSeen.TheVariants.{Itself, Lost, Is}
-use Rattle.wave_layer.specs.WaveTable.{is_reset, children_done}
+use Rattle.wave_layer.specs.WaveTable.{is_reset, is_root, children_done}
 use Rattle.std.specs.Map.{lookup}
 use Rattle.tree_layer.specs.TreeRows.{IsFather}
 use Rattle.reset_machine.specs.LocalSteps.{father_seen, children_of}
@@ -35,6 +35,15 @@ module _ (g : Graph) (t : ℕ → TreeRegs) (w : ℕ → WaveRegs) (i : ℕ) whe
       own (inl e) b linked = let h = father_seen-itself e.1 in cc
       own (inr e) true linked = (record { named = refl; linked = linked }, let h = other_father e.1 ∙ ap (λ b. cond b (Is (w (t i).father)) Lost) linked in cc)
       own (inr e) false linked = let h = other_father e.1 ∙ ap (λ b. cond b (Is (w (t i).father)) Lost) linked in cc
+
+  -- a node is a root where it is its own father
+  pub is_root-father_seen : is_root (father_seen g t w i) ≡ nat_eq (t i).father i
+  is_root-father_seen = flag (nat_eq (t i).father i) (are_linked g i (t i).father) (w (t i).father)
+    where
+      flag : (b d : Bool) (up : WaveRegs) → is_root (cond b Itself (cond d (Is up) Lost)) ≡ b
+      flag true d up = refl
+      flag false true up = refl
+      flag false false up = refl
 
   -- only a root sees itself
   pub itself-father_seen : father_seen g t w i ≡ Itself → (t i).father ≡ i

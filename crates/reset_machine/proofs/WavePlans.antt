@@ -1,13 +1,12 @@
 -- What the rows of the wave table answer on a node's view is what the event does to the wave's registers.
 use Rattle.std.proofs.Common.{◌≡◌, ℕ, ◌≤◌, Bool, true, false, cond, nat_eq, List, map, Some, None, Result, Ok, Err, refl, sym, ap, subst, ◌∙◌, ◌⊎◌, inl, inr, ⊎_elim, true≢false}
 use Rattle.std.proofs.lemmas.Bool.{eqb-true, eq-eqb}
-use Rattle.topology.specs.Graph.{Graph, IsGraph, are_linked}
+use Rattle.topology.specs.Graph.{Graph, IsGraph}
 use Rattle.tree_layer.specs.declared.regs.TreeRegs.{TreeRegs}
 use Rattle.wave_layer.specs.declared.regs.WaveRegs.{WaveRegs}
 use Rattle.wave_layer.specs.declared.regs.Phase.{Phase}
 use Rattle.wave_layer.specs.declared.regs.Phase.TheVariants.{Normal, Initiate, Reset}
-use Rattle.wave_layer.specs.declared.regs.FatherSeen.TheVariants.{Itself, Lost, Is}
-use Rattle.wave_layer.specs.WaveTable.{is_reset, is_root, father_regs, child_regs, children_done, next_session}
+use Rattle.wave_layer.specs.WaveTable.{is_reset, father_regs, child_regs, children_done, next_session}
 use Rattle.reset_machine.specs.declared.event.Event.{Event}
 use Rattle.reset_machine.specs.declared.event.Event.TheVariants.{Claim, Follow, Adopt, Request, Relay, Open, Join, Finish, Mend, Act}
 use Rattle.reset_machine.specs.declared.step.StepRefusal.{StepRefusal}
@@ -19,7 +18,7 @@ use Rattle.reset_machine.specs.Steps.{join_normal, join_asked, mend_reset, mend_
 use Rattle.reset_machine.specs.LocalSteps.{father_seen, children_of, answer_of}
 use Rattle.reset_machine.proofs.WaveRows.{IsAnswer, IsInvited, IsTorn, Contradict, one_reset, other_number, both_reset, too_late, request_answers, relay_answers, relay_answers-stranger, open_answers, join_answers, finish_answers, mend_answers}
 use Rattle.topology.specs.Building.{has}
-use Rattle.reset_machine.proofs.Seen.{is_done, father_seen-itself, father_seen-IsFather, IsFather-father_seen, itself-father_seen, lookup-among, children_done-each, each-children_done, IsFather-is_child, is_child-IsFather}
+use Rattle.reset_machine.proofs.Seen.{is_done, father_seen-itself, father_seen-IsFather, IsFather-father_seen, is_root-father_seen, itself-father_seen, lookup-among, children_done-each, each-children_done, IsFather-is_child, is_child-IsFather}
 
 -- an answer under other names of its parts
 answer_as : (r : Result Effect StepRefusal) (S : Type 0) (d : Bool) {E E' : Type 0} {regs regs' : WaveRegs} {b b' : Bool} → IsAnswer r E S regs b d → (E → E') → (E' → E) → (E → regs ≡ regs') → b ≡ b' → IsAnswer r E' S regs' b' d
@@ -115,7 +114,7 @@ module _ (g : Graph) (K : ℕ) (t : ℕ → TreeRegs) (w : ℕ → WaveRegs) (gr
           ap (λ f. after (father_regs (w i) f)) h.father ∙ ap after (IsFather-father_seen g t w i h.up h.father).1
 
   pub finish_is : (i : ℕ) → WaveAnswers (Finish i)
-  finish_is i = answer_as (answer (Finish i)) ⊥ false (finish_answers (w i).phase (w i).session (father_seen g t w i) (children i) _ refl) there back (λ _. refl) root
+  finish_is i = answer_as (answer (Finish i)) ⊥ false (finish_answers (w i).phase (w i).session (father_seen g t w i) (children i) _ refl) there back (λ _. refl) (is_root-father_seen g t w i)
     where
       there : ((w i).phase ≡ Reset) × (children_done (w i).session (children i) ≡ true) → Finishes g t w i
       there h = record { reset = h.0; children = λ c father. parts (is_reset (w c).phase) refl (each-children_done w (w i).session (children_of g t i) h.1 c (IsFather-is_child g t i c graph father)) }
@@ -129,14 +128,6 @@ module _ (g : Graph) (K : ℕ) (t : ℕ → TreeRegs) (w : ℕ → WaveRegs) (gr
             let awake : is_reset (w c).phase ≡ false = done.0 in
             rw (awake, number) refl),
       )
-
-      flag : (b d : Bool) (up : WaveRegs) → is_root (cond b Itself (cond d (Is up) Lost)) ≡ b
-      flag true d up = refl
-      flag false true up = refl
-      flag false false up = refl
-
-      root : is_root (father_seen g t w i) ≡ nat_eq (t i).father i
-      root = flag (nat_eq (t i).father i) (are_linked g i (t i).father) (w (t i).father)
 
   pub mend_is : (i : ℕ) → WaveAnswers (Mend i)
   mend_is i = answer_as (answer (Mend i)) ⊥ false (mend_answers (w i).phase (w i).session (father_seen g t w i) (children i)) there back same refl

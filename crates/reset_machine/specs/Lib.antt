@@ -1,6 +1,7 @@
 pub mod Configuration
 pub mod Steps
 pub mod LocalSteps
+pub mod NarrowViews
 pub mod Actions
 pub mod MachineSteps
 pub mod Outcome

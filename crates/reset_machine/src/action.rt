@@ -1,6 +1,6 @@
 // What an action of the application does, from what its node reads.
 
-ghost use Rattle.std.specs.Prelude.{◌≡◌, ◌≢◌, ℕ, ◌==◌, true, length, position, filter, map, Err, Ok, Some, MatchResult, IfOk, is_ok};
+ghost use Rattle.std.specs.Prelude.{◌≡◌, ◌≢◌, ℕ, ◌<◌, ◌==◌, true, length, position, slice_index, filter, map, Err, Ok, Some, MatchResult, IfOk, is_ok};
 ghost use Rattle.app_interface.specs.Views.{seen_values};
 ghost use Rattle.topology.specs.Graph.{neighbours_of, node_bound};
 ghost use Rattle.reset_machine.specs.Actions.{acted_of, first_apart, fitted_of, misfit, reads_near};
@@ -38,7 +38,7 @@ pub fn acted<P: Application>(
     let Some(ix) = topology.index_of(at) else {
         return Err(StepRefusal::StrangeNode);
     };
-    if !is_neighbour(topology, at, choice.with) {
+    if !is_neighbour(topology, ix, choice.with) {
         return Err(StepRefusal::StrangeNeighbour);
     }
     match fitted::<P>(alloc, topology, waves, locals, at, ix, choice) {
@@ -47,13 +47,14 @@ pub fn acted<P: Application>(
     }
 }
 
-/// Whether the identifier, if there is one, is that of a neighbour.
-pub fn is_neighbour(topology: &Topology, at: u32, other: Option<u32>) -> bool
-    ensures { result ≡ is_neighbour topology.now at other }
+/// Whether the identifier, if there is one, is that of a neighbour of the node at an index.
+pub fn is_neighbour(topology: &Topology, ix: usize, other: Option<u32>) -> bool
+    requires { ix < length topology.now.ids }
+    ensures { result ≡ is_neighbour topology.now (slice_index topology.now.ids ix) other }
 {
     match other {
         None => true,
-        Some(near) => topology.linked(at, near),
+        Some(near) => topology.neighbour_at(ix, near).is_some(),
     }
 }
 

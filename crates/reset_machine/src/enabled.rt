@@ -3,13 +3,17 @@
 ghost use Rattle.std.specs.Prelude.{◌≡◌, ◌==◌, if◌then◌else◌, length, position, filter, map, Some, IfOk, is_ok};
 ghost use Rattle.std.specs.List.{list_any};
 ghost use Rattle.action_tables.specs.Numbers.{all_cases, is_among};
+ghost use Rattle.action_tables.specs.Table.{enabled_of};
 ghost use Rattle.topology.specs.Graph.{neighbours_of, node_bound};
 ghost use Rattle.reset_machine.specs.Actions.{fitted_of};
-ghost use Rattle.reset_machine.specs.Configuration.{local_map, wave_map};
+ghost use Rattle.reset_machine.specs.Configuration.{local_map, tree_map, wave_map};
 ghost use Rattle.reset_machine.specs.Enabled.{enabled_rows, has_work, is_taken, ready_of};
+ghost use Rattle.reset_machine.specs.LocalSteps.{tree_view_of, view_of};
+ghost use Rattle.tree_layer.specs.TreeTable.{tree_table};
+ghost use Rattle.wave_layer.specs.WaveTable.{wave_table};
 
 use crate::action::{Choice, is_taken};
-use crate::view::{children, near_trees, tree_view, wave_view};
+use crate::view::{read_children, read_near_trees, tree_view, wave_view};
 use action_tables::CaseSet;
 use app_interface::{Application, Reads};
 use std::alloc::{AllocError, Global};
@@ -69,12 +73,46 @@ pub fn enabled_at<P: Application>(
     requires all_locals { length locals.now ≡ length topology.now.ids }
     ensures { IfOk result (λ rows. rows ≡ enabled_rows P.app (record { graph = topology.now; trees = trees.now; waves = waves.now; locals = locals.now }) id) }
 {
-    let near = near_trees(alloc, topology, trees, ix)?;
-    let tree = tree_enabled(&tree_view(topology, trees, &near, id, ix));
-    let children = children(alloc, topology, trees, waves, id, ix)?;
-    let wave = wave_enabled(&wave_view(topology, trees, waves, &children, id, ix));
+    let tree = enabled_trees(topology, trees, id, ix, &mut Vec::new(alloc))?;
+    let wave = enabled_waves(topology, trees, waves, id, ix, &mut Vec::new(alloc))?;
     let act = enabled_acts::<P>(alloc, topology, waves, locals, id, ix)?;
     Ok(Enabled { tree, wave, act })
+}
+
+// The enabled rows of the tree table. The node's neighbours are read into the vector.
+fn enabled_trees(
+    topology: &Topology,
+    trees: &[TreeRegs],
+    id: u32,
+    ix: usize,
+    near: &mut Vec<(u32, TreeRegs)>,
+) -> Result<CaseSet, AllocError>
+    requires place { position (λ i. i == id) topology.now.ids ≡ Some ix }
+    requires all_trees { length trees.now ≡ length topology.now.ids }
+    ensures { let v = tree_view_of topology.now (node_bound topology.now) (tree_map topology.now trees.now) id in
+        IfOk result (λ rows. rows ≡ enabled_of (tree_table v v.near)) }
+{
+    read_near_trees(topology, trees, ix, near)?;
+    Ok(tree_enabled(&tree_view(topology, trees, near, id, ix)))
+}
+
+// The enabled rows of the wave table. The node's children are read into the vector.
+fn enabled_waves(
+    topology: &Topology,
+    trees: &[TreeRegs],
+    waves: &[WaveRegs],
+    id: u32,
+    ix: usize,
+    children: &mut Vec<(u32, WaveRegs)>,
+) -> Result<CaseSet, AllocError>
+    requires place { position (λ i. i == id) topology.now.ids ≡ Some ix }
+    requires all_trees { length trees.now ≡ length topology.now.ids }
+    requires all_waves { length waves.now ≡ length topology.now.ids }
+    ensures { let v = view_of topology.now (tree_map topology.now trees.now) (wave_map topology.now waves.now) id in
+        IfOk result (λ rows. rows ≡ enabled_of (wave_table v v.children)) }
+{
+    read_children(topology, trees, waves, id, ix, children)?;
+    Ok(wave_enabled(&wave_view(topology, trees, waves, children, id, ix)))
 }
 
 // The cases of the application that are enabled with some choice of a neighbour.
@@ -167,10 +205,16 @@ pub fn ready_ids<P: Application>(
     ensures { IfOk result (λ ids. ids.items ≡ ready_of P.app (record { graph = topology.now; trees = trees.now; waves = waves.now; locals = locals.now })) }
 {
     topology.is_graph();
+    let mut near = Vec::new(alloc);
+    let mut children = Vec::new(alloc);
     let mut ready = Vec::new(alloc);
     for ix in 0..topology.len() {
         let id = topology.id_at(ix).unwrap().get();
-        if enabled_at::<P>(alloc, topology, trees, waves, locals, id, ix)?.is_ready() {
+        let tree = enabled_trees(topology, trees, id, ix, &mut near)?;
+        let wave = enabled_waves(topology, trees, waves, id, ix, &mut children)?;
+        let act = enabled_acts::<P>(alloc, topology, waves, locals, id, ix)?;
+        let enabled = Enabled { tree, wave, act };
+        if enabled.is_ready() {
             ready.push(id)?;
         }
     }

@@ -7,6 +7,7 @@ mod config;
 mod enabled;
 mod event;
 mod laws;
+mod narrow;
 mod plan;
 mod run_laws;
 #[cfg(test)]

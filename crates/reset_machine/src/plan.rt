@@ -8,8 +8,9 @@ ghost use Rattle.reset_machine.specs.Steps.{event_node, is_of_tree, named_node};
 
 use crate::action::is_neighbour;
 use crate::event::Event;
+use crate::narrow::{child_looked_at, narrow_view};
 use crate::step::StepRefusal;
-use crate::view::{children, near_trees, tree_view, wave_view};
+use crate::view::{read_near_trees, tree_view};
 use std::alloc::Global;
 use topology::Topology;
 use tree_layer::{TreeRefusal, TreeRegs, TreeView, tree_fire};
@@ -48,7 +49,7 @@ pub fn planned(
     let Some(ix) = topology.index_of(event.node()) else {
         return Err(StepRefusal::StrangeNode);
     };
-    if !is_neighbour(topology, event.node(), event.named()) {
+    if !is_neighbour(topology, ix, event.named()) {
         return Err(StepRefusal::StrangeNeighbour);
     }
     match answer(alloc, topology, trees, waves, event, ix) {
@@ -72,14 +73,14 @@ fn answer(
     ensures exact { MatchResult result (λ does. answer_of topology.now (node_bound topology.now) (tree_map topology.now trees.now) (wave_map topology.now waves.now) event ≡ Ok does)
         (λ f. f ≢ StepRefusal.NoMemory → answer_of topology.now (node_bound topology.now) (tree_map topology.now trees.now) (wave_map topology.now waves.now) event ≡ Err f) }
 {
-    let id = event.node();
     if event.is_of_tree() {
-        let near = near_trees(alloc, topology, trees, ix)?;
-        let view = tree_view(topology, trees, &near, id, ix);
+        let mut near = Vec::new(alloc);
+        read_near_trees(topology, trees, ix, &mut near)?;
+        let view = tree_view(topology, trees, &near, event.node(), ix);
         first_answer(&Seen::Tree(view), event.named(), event.cases())
     } else {
-        let children = children(alloc, topology, trees, waves, id, ix)?;
-        let view = wave_view(topology, trees, waves, &children, id, ix);
+        let child = child_looked_at(topology, trees, waves, event, ix);
+        let view = narrow_view(topology, trees, waves, child.as_slice(), event, ix);
         first_answer(&Seen::Wave(view), event.named(), event.cases())
     }
 }

@@ -1,33 +1,34 @@
 // What one node sees of the tree and of the wave.
 
-ghost use Rattle.std.specs.Prelude.{◌≡◌, ℕ, ◌<◌, length, ◌==◌, position, Some, IfOk, map, slice_index};
+ghost use Rattle.std.specs.Prelude.{◌≡◌, ℕ, ◌<◌, length, ◌==◌, position, Some, OnOk, map, slice_index};
 ghost use Rattle.topology.specs.Graph.{neighbours_of, node_bound};
 ghost use Rattle.reset_machine.specs.Configuration.{tree_map, wave_map};
 ghost use Rattle.reset_machine.specs.LocalSteps.{father_seen, children_of, tree_view_of, view_of};
 
-use std::alloc::{AllocError, Global};
+use std::alloc::AllocError;
 use topology::Topology;
 use tree_layer::{TreeRegs, TreeView};
 use wave_layer::{FatherSeen, WaveRegs, WaveView};
 
-/// The neighbours of the node at an index, and their tree registers, by ascending id.
-pub fn near_trees(
-    alloc: Global,
+/// Reads the neighbours of the node at an index, and their tree registers, by ascending id, in place
+/// of what is in the vector. The room of one node serves the next.
+pub fn read_near_trees(
     topology: &Topology,
     trees: &[TreeRegs],
     ix: usize,
-) -> Result<Vec<(u32, TreeRegs)>, AllocError>
+    near_trees: &mut Vec<(u32, TreeRegs)>,
+) -> Result<(), AllocError>
     requires place { ix < length topology.now.ids }
     requires all_trees { length trees.now ≡ length topology.now.ids }
-    ensures { IfOk result (λ v. v.items ≡ map (λ j. (j, tree_map topology.now trees.now j)) (neighbours_of topology.now (slice_index topology.now.ids ix))) }
+    ensures { OnOk result (near_trees.new.items ≡ map (λ j. (j, tree_map topology.now trees.now j)) (neighbours_of topology.now (slice_index topology.now.ids ix))) }
 {
     topology.is_graph();
-    let mut near_trees = Vec::new(alloc);
+    near_trees.clear();
     for near in topology.neighbours(ix) {
         let id = topology.id_at(*near).unwrap().get();
         near_trees.push((id, trees[*near]))?;
     }
-    Ok(near_trees)
+    Ok(())
 }
 
 /// What the node with this id and index sees of the tree, from its neighbours' registers.
@@ -50,22 +51,23 @@ pub fn tree_view<'a>(
     }
 }
 
-/// The children of the node with this id and index, and their wave registers, by ascending id.
-pub fn children(
-    alloc: Global,
+/// Reads the children of the node with this id and index, and their wave registers, by ascending id,
+/// in place of what is in the vector.
+pub fn read_children(
     topology: &Topology,
     trees: &[TreeRegs],
     waves: &[WaveRegs],
     id: u32,
     ix: usize,
-) -> Result<Vec<(u32, WaveRegs)>, AllocError>
+    children: &mut Vec<(u32, WaveRegs)>,
+) -> Result<(), AllocError>
     requires place { position (λ i. i == id) topology.now.ids ≡ Some ix }
     requires all_trees { length trees.now ≡ length topology.now.ids }
     requires all_waves { length waves.now ≡ length topology.now.ids }
-    ensures { IfOk result (λ v. v.items ≡ map (λ c. (c, wave_map topology.now waves.now c)) (children_of topology.now (tree_map topology.now trees.now) id)) }
+    ensures { OnOk result (children.new.items ≡ map (λ c. (c, wave_map topology.now waves.now c)) (children_of topology.now (tree_map topology.now trees.now) id)) }
 {
     topology.is_graph();
-    let mut children = Vec::new(alloc);
+    children.clear();
     for near in topology.neighbours(ix) {
         if trees[*near].father == id {
             if let Some(child) = topology.id_at(*near) {
@@ -73,7 +75,7 @@ pub fn children(
             }
         }
     }
-    Ok(children)
+    Ok(())
 }
 
 /// What the node with this id and index sees of the wave, from its children's registers.
@@ -102,8 +104,8 @@ pub fn wave_view<'a>(
     }
 }
 
-// What the father register of the node with this id and index names.
-fn father_seen(
+/// What the father register of the node with this id and index names.
+pub fn father_seen(
     topology: &Topology,
     trees: &[TreeRegs],
     waves: &[WaveRegs],
@@ -115,15 +117,11 @@ fn father_seen(
     requires all_waves { length waves.now ≡ length topology.now.ids }
     ensures { result ≡ father_seen topology.now (tree_map topology.now trees.now) (wave_map topology.now waves.now) id }
 {
-    topology.is_graph();
     let father = trees[ix].father;
     if father == id {
         return FatherSeen::Itself;
     }
-    if !topology.linked(id, father) {
-        return FatherSeen::Lost;
-    }
-    match topology.index_of(father) {
+    match topology.neighbour_at(ix, father) {
         Some(father_ix) => FatherSeen::Is(waves[father_ix]),
         None => FatherSeen::Lost,
     }

@@ -1,20 +1,30 @@
-use Rattle.std.proofs.Common.{◌≡◌, ◌<◌, ◌==◌, ℕ, length, position, slice_index, Some, Vec, Global, filter, take, take_all, sym, ap, subst, ◌∙◌, arith}
+use Rattle.std.proofs.Common.{◌≡◌, ◌<◌, ℕ, length, slice_index, Vec, Global, filter, take, take_all, sym, ap, ◌∙◌, arith}
 use Rattle.std.proofs.lemmas.Option.{get_or_from_slice_get}
 use Rattle.reset_machine.specs.Configuration.{Configuration}
 use Rattle.reset_machine.specs.Enabled.{has_work, is_ready}
 use Rattle.reset_machine.specs.declared.enabled.Enabled.{Enabled}
-use Rattle.reset_machine.proofs.Readiness.{kept_next, left_next}
-use Rattle.reset_machine.proofs.Places.{position-place}
+use Rattle.reset_machine.proofs.Readiness.{kept_next, left_next, same_rows}
+use Rattle.reset_machine.proofs.Places.{position-named}
 use Rattle.reset_machine.proofs.enabled.ready_ids.Goals.{then-is_ready+in_ok-push, else-is_ready}
 use Rattle.reset_machine.proofs.enabled.ready_ids.Goals as goal
 
-pub enabled_at-requires-clause-place : goal.enabled_at-requires-clause-place
-enabled_at-requires-clause-place g c = λ κs within.
+pub enabled_trees-requires-clause-place : goal.enabled_trees-requires-clause-place
+enabled_trees-requires-clause-place g c =
     let ids = c.args.topology.now.ids in
-    let ix = c.loop-ix.ix in
-    let short : ix < length ids = omega (arith, c.loop-ix-test.true, c.len-ix-end.ensures) in
-    let at : slice_index ids ix ≡ c.get-id.result = get_or_from_slice_get ids ix _ 0 (sym c.id_at.ensures ∙ c.unwrap.ensures) ∙ sym c.get-id.ensures.number in
-    subst (λ id. position (λ i. i == id) ids ≡ Some ix) at (position-place ids ix c.is_graph.ensures.graph.ascending short)
+    let at : slice_index ids c.loop-ix.ix ≡ c.get-id.result = get_or_from_slice_get ids c.loop-ix.ix _ 0 (sym c.id_at.ensures ∙ c.unwrap.ensures) ∙ sym c.get-id.ensures.number in
+    position-named ids c.loop-ix.ix c.get-id.result c.is_graph.ensures.graph.ascending (omega (arith, c.loop-ix-test.true, c.len-ix-end.ensures)) at
+
+pub enabled_waves-requires-clause-place : goal.enabled_waves-requires-clause-place
+enabled_waves-requires-clause-place g c =
+    let ids = c.args.topology.now.ids in
+    let at : slice_index ids c.loop-ix.ix ≡ c.get-id.result = get_or_from_slice_get ids c.loop-ix.ix _ 0 (sym c.id_at.ensures ∙ c.unwrap.ensures) ∙ sym c.get-id.ensures.number in
+    position-named ids c.loop-ix.ix c.get-id.result c.is_graph.ensures.graph.ascending (omega (arith, c.loop-ix-test.true, c.len-ix-end.ensures)) at
+
+pub enabled_acts-requires-clause-place : goal.enabled_acts-requires-clause-place
+enabled_acts-requires-clause-place g c = λ κs within.
+    let ids = c.args.topology.now.ids in
+    let at : slice_index ids c.loop-ix.ix ≡ c.get-id.result = get_or_from_slice_get ids c.loop-ix.ix _ 0 (sym c.id_at.ensures ∙ c.unwrap.ensures) ∙ sym c.get-id.ensures.number in
+    position-named ids c.loop-ix.ix c.get-id.result c.is_graph.ensures.graph.ascending (omega (arith, c.loop-ix-test.true, c.len-ix-end.ensures)) at
 
 pub loop-ix-preserved : goal.loop-ix-preserved
 loop-ix-preserved g c =
@@ -24,8 +34,7 @@ loop-ix-preserved g c =
     let ix = c.loop-ix.ix in
     let short : ix < length ids = omega (arith, c.loop-ix-test.true, c.len-ix-end.ensures) in
     let at : slice_index ids ix ≡ c.get-id.result = get_or_from_slice_get ids ix _ 0 (sym c.id_at.ensures ∙ c.unwrap.ensures) ∙ sym c.get-id.ensures.number in
-    let rows = c.in_ok-enabled_at.field-0 in
-    let work : has_work rows.tree rows.wave rows.act ≡ is_ready app conf c.get-id.result = ap (λ (r : Enabled). has_work r.tree r.wave r.act) c.in_ok-enabled_at.ensures in
+    let work : has_work c.in_ok-tree.tree c.in_ok-wave.wave c.in_ok-act.act ≡ is_ready app conf c.get-id.result = ap (λ (r : Enabled). has_work r.tree r.wave r.act) (same_rows c.in_ok-tree.ensures c.in_ok-wave.ensures c.in_ok-act.ensures) in
     elim c.if-is_ready.branch [
       | then-is_ready+in_ok-push v ↦ kept_next (is_ready app conf) ids c.loop-ix.ready.items c.if-is_ready.ready.items ix c.get-id.result short at (sym (v.if-is_ready.ensures ∙ work)) c.loop-ix.invariant (ap (λ (x : Vec ℕ Global). x.items) v.ready-is ∙ v.in_ok-push.ensures.items)
       | else-is_ready v ↦ rw v.ready-is (left_next (is_ready app conf) ids c.loop-ix.ready.items ix c.get-id.result short at (sym (v.if-is_ready.ensures ∙ work)) c.loop-ix.invariant)

@@ -1,7 +1,7 @@
 use Rattle.std.proofs.Common.{◌≡◌, ◌++◌, drop}
 use Rattle.reset_machine.specs.Configuration.{tree_map, wave_map}
 use Rattle.reset_machine.proofs.Children.{children_among}
-use Rattle.reset_machine.proofs.view.children.Given as goal
+use Rattle.reset_machine.proofs.view.read_children.Given as goal
 
 -- the children so far, and those among the neighbours that are left, are those among all of them
 abbrev pub invariant-loop-near : goal.invariant-loop-near

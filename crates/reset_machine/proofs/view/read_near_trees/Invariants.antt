@@ -1,6 +1,6 @@
 use Rattle.std.proofs.Common.{◌≡◌, map, slice_index, take}
 use Rattle.reset_machine.specs.Configuration.{tree_map}
-use Rattle.reset_machine.proofs.view.near_trees.Given as goal
+use Rattle.reset_machine.proofs.view.read_near_trees.Given as goal
 
 -- the neighbours before the index have their registers
 abbrev pub invariant-loop-near : goal.invariant-loop-near

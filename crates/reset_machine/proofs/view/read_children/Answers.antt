@@ -8,8 +8,8 @@ use Rattle.wave_layer.specs.declared.regs.Phase.TheVariants.{Normal}
 use Rattle.reset_machine.specs.Configuration.{tree_map, wave_map}
 use Rattle.reset_machine.proofs.Places.{value_at-place}
 use Rattle.reset_machine.proofs.Children.{children_among, kept_more, left_more, same_pair}
-use Rattle.reset_machine.proofs.view.children.Goals.{then-trees-near+in-Some+in_ok-push, then-trees-near+in_default, else-trees-near}
-use Rattle.reset_machine.proofs.view.children.Goals as goal
+use Rattle.reset_machine.proofs.view.read_children.Goals.{then-trees-near+in-Some+in_ok-push, then-trees-near+in_default, else-trees-near}
+use Rattle.reset_machine.proofs.view.read_children.Goals as goal
 
 pub loop-near-preserved : goal.loop-near-preserved
 loop-near-preserved c =

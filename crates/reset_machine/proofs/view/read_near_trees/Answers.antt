@@ -3,7 +3,7 @@ use Rattle.std.proofs.lemmas.Option.{get_or_from_slice_get}
 use Rattle.reset_machine.specs.Configuration.{tree_map}
 use Rattle.reset_machine.proofs.Places.{value_at-place}
 use Rattle.reset_machine.proofs.NearTrees.{near_more}
-use Rattle.reset_machine.proofs.view.near_trees.Goals as goal
+use Rattle.reset_machine.proofs.view.read_near_trees.Goals as goal
 
 pub loop-near-preserved : goal.loop-near-preserved
 loop-near-preserved c =

@@ -1,0 +1,69 @@
+-- A view that shows the rows of an event the same is answered the same.
+use Rattle.std.proofs.Common.{◌≡◌, ℕ, false, List, Option, Some, None, Result, nat_eq, refl, sym, ap, subst, ◌∙◌, ◌⊎◌, inl, inr, ⊎_elim, true≢false}
+use Rattle.topology.specs.Graph.{Graph}
+use Rattle.tree_layer.specs.declared.regs.TreeRegs.{TreeRegs}
+use Rattle.wave_layer.specs.declared.regs.WaveRegs.{WaveRegs}
+use Rattle.wave_layer.specs.declared.regs.FatherSeen.{FatherSeen}
+use Rattle.wave_layer.specs.WaveTable.{LocalView, is_root, children_done, child_regs}
+use Rattle.reset_machine.specs.declared.event.Event.{Event}
+use Rattle.reset_machine.specs.declared.event.Event.TheVariants.{Claim, Follow, Adopt, Request, Relay, Open, Join, Finish, Mend, Act}
+use Rattle.reset_machine.specs.declared.plan.Effect.{Effect}
+use Rattle.reset_machine.specs.declared.step.StepRefusal.{StepRefusal}
+use Rattle.reset_machine.specs.declared.plan.Seen.TheVariants.{Wave}
+use Rattle.reset_machine.specs.LocalSteps.{first_answer, cases_of, view_of}
+use Rattle.reset_machine.specs.NarrowViews.{FatherSuffices, ChildrenSuffice, Suffices}
+use Rattle.reset_machine.specs.Steps.{event_node, named_node, is_of_tree}
+use Rattle.reset_machine.proofs.Seen.{is_root-father_seen}
+
+module _ (own : WaveRegs) (f f' : FatherSeen) (cs cs' : List (ℕ × WaveRegs)) where
+  -- what the rows of an event answer on a view of these parts
+  abbrev answer_on : FatherSeen → List (ℕ × WaveRegs) → Event → Result Effect StepRefusal
+  answer_on f cs e = first_answer (Wave (record { own = own; father = f; children = cs })) (named_node e) (cases_of e)
+
+  -- a relay looks at the child that it names
+  relay_alike : (i c : ℕ) → child_regs c cs ≡ child_regs c cs' → answer_on f cs (Relay i c) ≡ answer_on f' cs' (Relay i c)
+  relay_alike i c same = at (child_regs c cs') same refl
+    where
+      at : (o : Option WaveRegs) → child_regs c cs ≡ o → child_regs c cs' ≡ o → answer_on f cs (Relay i c) ≡ answer_on f' cs' (Relay i c)
+      at None here there = rw (here, there) refl
+      at (Some regs) here there = rw (here, there) refl
+
+  -- to open, a node asks whether it is a root
+  open_alike : (i : ℕ) → is_root f ≡ is_root f' → answer_on f cs (Open i) ≡ answer_on f' cs' (Open i)
+  open_alike i root = rw root refl
+
+  -- to finish, it asks whether all its children are done too
+  finish_alike : (i : ℕ) → is_root f ≡ is_root f' → children_done own.session cs ≡ children_done own.session cs' → answer_on f cs (Finish i) ≡ answer_on f' cs' (Finish i)
+  finish_alike i root done = rw (root, done) refl
+
+-- the rows of an event of the wave answer the same on a view that suffices
+pub narrow_answers : (e : Event) (v narrow : LocalView) → is_of_tree e ≡ false → Suffices e v narrow → first_answer (Wave narrow) (named_node e) (cases_of e) ≡ first_answer (Wave v) (named_node e) (cases_of e)
+narrow_answers (Claim i) v narrow wave same = absurd (true≢false wave)
+narrow_answers (Follow i) v narrow wave same = absurd (true≢false wave)
+narrow_answers (Adopt i j) v narrow wave same = absurd (true≢false wave)
+narrow_answers (Request i) v narrow wave same = rw same.own refl
+narrow_answers (Relay i c) v narrow wave same = rw same.own (relay_alike v.own narrow.father v.father narrow.children v.children i c same.children)
+narrow_answers (Open i) v narrow wave same = rw same.own (open_alike v.own narrow.father v.father narrow.children v.children i same.father)
+narrow_answers (Join i) v narrow wave same = rw (same.own, same.father) refl
+narrow_answers (Finish i) v narrow wave same = rw same.own (finish_alike v.own narrow.father v.father narrow.children v.children i same.father same.children)
+narrow_answers (Mend i) v narrow wave same = rw (same.own, same.father) refl
+narrow_answers (Act i case with) v narrow wave same = refl
+
+-- the event asks of its father only whether i is its own
+abbrev pub AsksForRoot : Event → ℕ → Type 0
+AsksForRoot e i = (e ≡ Open i) ⊎ (e ≡ Finish i)
+
+pub rooted_node : (e : Event) (i : ℕ) → AsksForRoot e i → event_node e ≡ i
+rooted_node e i (inl is) = ap event_node is
+rooted_node e i (inr is) = ap event_node is
+
+pub root_suffices : (g : Graph) (t : ℕ → TreeRegs) (w : ℕ → WaveRegs) (e : Event) (i : ℕ) (f : FatherSeen) → AsksForRoot e i → is_root f ≡ nat_eq (t i).father i → FatherSuffices e (view_of g t w (event_node e)) f
+root_suffices g t w e i f asks root =
+    let same = root ∙ sym (is_root-father_seen g t w i) in
+    let P : Event → Type 0 = λ e. FatherSuffices e (view_of g t w (event_node e)) f in
+    ⊎_elim (λ is. subst P (sym is) same) (λ is. subst P (sym is) same) asks
+
+-- a view of these parts suffices where they do
+pub suffices_of-parts : (e : Event) (v narrow : LocalView) (own : WaveRegs) (f : FatherSeen) (cs : List (ℕ × WaveRegs)) → narrow ≡ record { own = own; father = f; children = cs } →
+    own ≡ v.own → FatherSuffices e v f → ChildrenSuffice e v cs → Suffices e v narrow
+suffices_of-parts e v narrow own f cs is same father children = subst (Suffices e v) (sym is) (record { own = same; father = father; children = children })
