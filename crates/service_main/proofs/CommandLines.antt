@@ -1,6 +1,6 @@
 -- A command's line has the command's words, and no other command has them.
 use Rattle.std.specs.Prelude.{codes}
-use Rattle.std.proofs.Common.{◌≡◌, ◌⊎◌, inl, inr, ℕ, ◌<◌, ◌^◌, List, [], ◌∷◌, refl, sym, ap, ◌∙◌, arith, get_or, Option, None, Some, IfSome, IfNone, Bool, true, ◌==◌, ◌||◌, true≢false}
+use Rattle.std.proofs.Common.{◌≡◌, ◌⊎◌, inl, inr, ℕ, ◌<◌, ◌^◌, List, [], ◌∷◌, refl, sym, ap, ◌∙◌, get_or, Option, None, Some, IfSome, IfNone, Bool, true, ◌==◌, ◌||◌, true≢false}
 use Rattle.std.specs.Fmt.{decimal}
 use Rattle.reset_machine.specs.EventText.{event_words, Fits}
 use Rattle.reset_machine.specs.Words.{words_of}

@@ -1,8 +1,9 @@
 -- Which nodes can be shown, and what is answered of the enabled rows.
 use Rattle.std.specs.Prelude.{codes}
-use Rattle.std.proofs.Common.{◌≡◌, ◌≢◌, ℕ, zero, suc, ◌<◌, nat_eq, Bool, true, false, ◌||◌, ◌++◌, if◌then◌else◌, List, [], ◌∷◌, refl, sym, ap, ◌∙◌, Some, None, arith, length, get_or, Contains}
-use Rattle.std.specs.List.{list_any, slice_get}
+use Rattle.std.proofs.Common.{◌≡◌, ◌≢◌, ℕ, zero, suc, ◌<◌, nat_eq, Bool, true, false, ◌||◌, ◌++◌, if◌then◌else◌, List, [], ◌∷◌, refl, sym, ap, ◌∙◌, arith, length, get_or, Contains}
+use Rattle.std.specs.List.{list_any}
 use Rattle.std.proofs.lemmas.Bool.Decides.{nat_tests}
+use Rattle.std.proofs.lemmas.Grind.{get_or_default_zero}
 use Rattle.topology.specs.Graph.{IsNode}
 use Rattle.tree_layer.specs.declared.regs.TreeRegs.{TreeRegs}
 use Rattle.wave_layer.specs.declared.regs.WaveRegs.{WaveRegs}
@@ -48,27 +49,9 @@ told_none c i text none = ap (λ (b : Bool). if b then text else refusal_text St
 
 -- ---- the nodes by index
 
-got : (ids : List ℕ) (i n : ℕ) → slice_get ids i ≡ Some n → (i < length ids) × (get_or ids i n ≡ n)
-got [] i n h = absurd (cc)
-got (x ∷ xs) zero n h = (omega arith, cc)
-got (x ∷ xs) (suc i) n h = let rest = got xs i n h in (omega (arith, rest.0), rest.1)
-
--- the i-th id is that of a node
-pub node_here : {L : Type 0} (c : Configuration L) (i n : ℕ) → slice_get c.graph.ids i ≡ Some n → IsNode c.graph n
-node_here c i n h = let at = got c.graph.ids i n h in (i, at.0, at.1)
-
--- and the i-th piece of what is told of all nodes is what is told of it
-pub piece_here : {L : Type 0} (c : Configuration L) (line : ℕ → List ℕ) (i n : ℕ) → slice_get c.graph.ids i ≡ Some n → (i < length c.graph.ids) × (line n ≡ line (get_or c.graph.ids i n))
-piece_here c line i n h = let at = got c.graph.ids i n h in (at.0, ap line (sym at.1))
-
--- where the id's own text is told
-pub told_here : {L : Type 0} (c : Configuration L) (line : ℕ → List ℕ) (i n : ℕ) → slice_get c.graph.ids i ≡ Some n → (i < length c.graph.ids) × (at_node c n (line n) ≡ line (get_or c.graph.ids i n))
-told_here c line i n h = let piece = piece_here c line i n h in (piece.0, told_node c n (line n) (node_here c i n h) ∙ piece.1)
-
-pub got_some : (ids : List ℕ) (i : ℕ) → i < length ids → slice_get ids i ≡ None → ⊥
-got_some [] i inside h = omega arith
-got_some (x ∷ xs) zero inside h = cc
-got_some (x ∷ xs) (suc i) inside h = got_some xs i (omega arith) h
+-- of the i-th node its own text is told
+pub told_at : {L : Type 0} (c : Configuration L) (line : ℕ → List ℕ) (i : ℕ) → i < length c.graph.ids → at_node c (get_or c.graph.ids i 0) (line (get_or c.graph.ids i 0)) ≡ line (get_or c.graph.ids i 0)
+told_at c line i inside = told_node c (get_or c.graph.ids i 0) (line (get_or c.graph.ids i 0)) (i, inside, get_or_default_zero c.graph.ids i (get_or c.graph.ids i 0) inside)
 
 -- the line of a node, from what stands there
 pub shown_node : {L : Type 0} (m : Meaning L) (c : Configuration L) (i : ℕ) (tree : TreeRegs) (wave : WaveRegs) (local : L) → IsNode c.graph i

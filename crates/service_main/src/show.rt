@@ -23,12 +23,8 @@ pub fn show_all<P: Application, W: Write>(config: &Config<P>, out: &mut W) -> Re
     ensures ok { OnOk result (Appends (W.contents out.old) (W.contents out.new) (flat_map (shown (meaning_of P.app P.text P.names) config.now) config.now.graph.ids)) }
     ensures err { OnErr result (AppendsFront (W.contents out.old) (W.contents out.new) (flat_map (shown (meaning_of P.app P.text P.names) config.now) config.now.graph.ids)) }
 {
-    let topology = config.topology();
-    for index in 0..topology.len() {
-        match topology.id_at(index) {
-            Some(id) => show_node(config, id.get(), out)?,
-            None => return Ok(()),
-        }
+    for id in config.topology().ids() {
+        show_node(config, *id, out)?;
     }
     Ok(())
 }
@@ -119,12 +115,8 @@ pub fn show_newest<P: Application, W: Write>(
     ensures ok { OnOk result (Appends (W.contents out.old) (W.contents out.new) (flat_map (newest_line (meaning_of P.app P.text P.names) config.now) config.now.graph.ids)) }
     ensures err { OnErr result (AppendsFront (W.contents out.old) (W.contents out.new) (flat_map (newest_line (meaning_of P.app P.text P.names) config.now) config.now.graph.ids)) }
 {
-    let topology = config.topology();
-    for index in 0..topology.len() {
-        match topology.id_at(index) {
-            Some(id) => newest_of(config, id.get(), out)?,
-            None => return Ok(()),
-        }
+    for id in config.topology().ids() {
+        newest_of(config, *id, out)?;
     }
     Ok(())
 }

@@ -64,6 +64,13 @@ impl Topology {
         let _ = &self.ids;
     }
 
+    /// The identifiers, ascending.
+    pub fn ids(&self) -> &[u32]
+        ensures { result.now ≡ self.now.ids }
+    {
+        self.ids.as_slice()
+    }
+
     /// The identifier at this index. None from the number of nodes on.
     pub fn id_at(&self, index: usize) -> Option<NodeId>
         ensures { result ≡ slice_get self.now.ids index }

@@ -6,5 +6,5 @@ use Rattle.service_main.specs.Meaning.{meaning_of}
 use Rattle.service_main.specs.Output.{shown}
 use Rattle.service_main.proofs.show.show_all.Given as goal
 
-abbrev pub invariant-loop-index : goal.invariant-loop-index
-invariant-loop-index g l = Appends (g.W.Write.contents l.initial.out) (g.W.Write.contents l.out) (flat_map (shown (meaning_of g.P.Application.app g.P.Application.text g.P.Application.names) l.config) (take l.index l.config.graph.ids))
+abbrev pub invariant-loop-id : goal.invariant-loop-id
+invariant-loop-id g l = Appends (g.W.Write.contents l.initial.out) (g.W.Write.contents l.out) (flat_map (shown (meaning_of g.P.Application.app g.P.Application.text g.P.Application.names) l.config) (take l.id-index l.config.graph.ids))

@@ -1,4 +1,4 @@
-use Rattle.std.proofs.Common.{◌≡◌, ◌∙◌, sym}
+use Rattle.std.proofs.Common.{◌∙◌, sym}
 use Rattle.tree_layer.proofs.Asked.{below_greater_root, below_shorter_way}
 use Rattle.tree_layer.proofs.table.fire_row.Goals as goal
 
