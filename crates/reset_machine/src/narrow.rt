@@ -1,6 +1,6 @@
 // What the rows of an event look at of what its node sees of the wave. A node's neighbours may be
-// many, and no row but the relay and the finish looks at a child: so an event gathers no children,
-// and allocates nothing.
+// many, and no rows but those of the relay and of the finish look at a child, for which one is
+// enough: so an event of the wave gathers no children, and its rows are tried without an allocation.
 
 ghost use Rattle.std.specs.Prelude.{◌≡◌, ◌≤◌, ◌==◌, ◌&&◌, not, length, position, Some};
 ghost use Rattle.std.specs.Option.{option_to_list};
@@ -67,8 +67,8 @@ pub fn narrow_view<'a>(
     }
 }
 
-// What the rows of the event look at of the father. No other node's registers are read where they
-// ask only whether the node is its own father.
+// What the rows of the event look at of the father. Where they ask only whether the node is its own
+// father, any other father is as good as a lost one, and isn't looked for.
 fn father_looked_at(
     topology: &Topology,
     trees: &[TreeRegs],

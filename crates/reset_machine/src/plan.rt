@@ -58,7 +58,8 @@ pub fn planned(
     }
 }
 
-// What the rows of the event answer at its node, which has this index.
+// What the rows of the event answer at its node, which has this index. Rows of the wave table are
+// tried on the part of the node's view that they look at, since on it they answer as on the whole.
 fn answer(
     alloc: Global,
     topology: &Topology,
