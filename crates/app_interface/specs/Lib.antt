@@ -2,5 +2,6 @@ pub mod Cases
 pub mod Application
 pub mod Invariant
 pub mod Idle
+pub mod Ids
 pub mod Views
 pub mod ViewLaws

@@ -5,11 +5,12 @@ use Rattle.std.proofs.lemmas.Bool.{cases_eq}
 use Rattle.std.proofs.lemmas.Bool.Decides.{eqb_tells}
 use Rattle.topology.specs.Graph.{Graph, IsGraph, IsNode, AreLinked, Changes}
 use Rattle.app_interface.specs.Application.{Action, Fits, is_read, seen}
+use Rattle.app_interface.specs.Ids.{is_id}
 use Rattle.app_interface.specs.Invariant.{Keeps, SameAtNodes}
 use Rattle.app_interface.specs.declared.refusal.ClockRefusal.TheVariants.{NotEnabled}
 use Rattle.app_routes.specs.Entries.{IsAscending, over, pulled, some_better}
 use Rattle.app_routes.specs.EntryLaws.{HasWithin, none_in, only_one, taken_ascends, taken_from, taken_keeps}
-use Rattle.app_routes.specs.Routes.{entries_of, is_id, routes, routes_next, routes_reads, routes_start}
+use Rattle.app_routes.specs.Routes.{entries_of, routes, routes_next, routes_reads, routes_start}
 use Rattle.app_routes.specs.Ways.{HasRoutes, IsRoute}
 use Rattle.app_routes.specs.declared.entry.Entry.{Entry}
 

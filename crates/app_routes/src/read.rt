@@ -1,9 +1,7 @@
 // Reading the text of a local state.
 ghost use Rattle.std.specs.Prelude.{◌≡◌, ◌≢◌, ◌↔◌, ℕ, ◌-◌, ◌<◌, List, [], ◌∷◌, ◌++◌, Err, IfNone, IfOk, IfSome, IsTrue, OnOk, length};
-ghost use Rattle.std.specs.Fmt.{decimal};
 ghost use Rattle.std.specs.List.{HoldsAt};
 ghost use Rattle.app_interface.specs.declared.refusal.LocalFault.TheVariants.{BadLocal};
-ghost use Rattle.topology.specs.Id.{IsId};
 ghost use Rattle.app_routes.specs.Entries.{AreRoutes, IsEntry};
 ghost use Rattle.app_routes.specs.LocalText.{entry_text, routes_text};
 ghost use Rattle.app_routes.specs.Reading.{ReadsOn};
@@ -12,10 +10,9 @@ ghost use Rattle.app_routes.specs.declared.entry.Entry.{Entry};
 use crate::entry::Entry;
 use crate::local::RoutesLocal;
 use action_tables::{cut, read_number};
-use app_interface::LocalFault;
+use app_interface::{LocalFault, read_id};
 use smallvec::SmallVec;
 use std::alloc::Global;
-use topology::NodeId;
 
 /// The local state with this text, `BadLocal` where there is none.
 pub fn read_local(alloc: Global, text: &[u8]) -> Result<RoutesLocal, LocalFault>
@@ -70,19 +67,8 @@ fn read_entry(text: &[u8]) -> Option<Entry>
     let (destination, rest) = cut(text, b':')?;
     let (hops, next) = cut(rest, b':')?;
     Some(Entry {
-        destination: read_id(destination)?,
+        destination: read_id(destination)?.get(),
         hops: read_number(hops)?,
-        next: read_id(next)?,
+        next: read_id(next)?.get(),
     })
-}
-
-// The identifier that a text spells: a number from 1 to 65535.
-fn read_id(text: &[u8]) -> Option<u32>
-    ensures found { IfSome result (λ id. text.now ≡ decimal id) }
-    ensures id { IfSome result IsId }
-    ensures only { IfNone result ((id : ℕ) → IsId id → text.now ≡ decimal id → ⊥) }
-{
-    let number = read_number(text)?;
-    let id = NodeId::new(number)?;
-    Some(id.get())
 }

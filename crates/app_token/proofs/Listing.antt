@@ -1,11 +1,10 @@
 -- A text that lists identifiers, read from its front.
-use Rattle.std.proofs.Common.{◌≡◌, ◌≢◌, ℕ, ◌+◌, ◌-◌, ◌<◌, ◌^◌, true≢false, ◌↔◌, List, [], ◌∷◌, ◌++◌, All, Option, None, Some, IfNone, IsSome, length, length-append, get_or, refl, sym, ap, ap₂, ◌∙◌, subst, arith, append_assoc, ⊎_elim}
+use Rattle.std.proofs.Common.{◌≡◌, ◌≢◌, ℕ, ◌+◌, ◌-◌, ◌<◌, List, [], ◌∷◌, ◌++◌, All, length, length-append, get_or, refl, sym, ap, ap₂, ◌∙◌, subst, arith, append_assoc, ⊎_elim}
 use Rattle.std.specs.Fmt.{decimal}
 use Rattle.std.specs.List.{AllByRecursion}
 use Rattle.std.specs.List.Sorted.{IsStrictlyIncreasing}
 use Rattle.std.proofs.Math.Seq.{get_or-append_seam}
 use Rattle.std.proofs.lemmas.Bool.{cases_lt}
-use Rattle.std.proofs.lemmas.Fmt.{decimal_injective}
 use Rattle.std.proofs.lemmas.List.{get_or_append_left}
 use Rattle.std.proofs.lemmas.List.Elements.{recursion_from_All, All-append}
 use Rattle.topology.specs.Id.{IsId}
@@ -14,13 +13,6 @@ use Rattle.action_tables.specs.Cuts.{HasNo, SameCut, has_byte, same_cut}
 use Rattle.app_token.specs.LocalText.{ids_text}
 use Rattle.app_token.specs.Reading.{ReadsOn, with_commas}
 use Rattle.app_token.specs.Spelling.{listed, no_comma, same_id}
-
--- a number that is no identifier spells none
-pub no_id : (o : Option ℕ) (text : List ℕ) (n : ℕ) → n < 2 ^ 32 → text ≡ decimal n → (IsSome o ↔ IsId n) → IfNone o ((id : ℕ) → IsId id → text ≡ decimal id → ⊥)
-no_id (Some x) text n small spelled valid = tt
-no_id None text n small spelled valid = λ id is e.
-    let same : id ≡ n = decimal_injective id n (omega (arith, is.small)) (omega (arith, small)) (sym e ∙ spelled) in
-    absurd (true≢false (sym (valid.1 (subst IsId same is))))
 
 -- ---- ascending lists and their last number
 

@@ -9,9 +9,8 @@ ghost use Rattle.app_token.specs.declared.local.TokenLocal.{TokenLocal};
 
 use crate::bits::Bits;
 use crate::local::TokenLocal;
-use crate::number::read_id;
 use action_tables::cut;
-use app_interface::LocalFault;
+use app_interface::{LocalFault, read_id};
 use smallvec::SmallVec;
 use std::alloc::Global;
 
