@@ -1,5 +1,5 @@
 -- Texts that are cut at a byte.
-use Rattle.std.proofs.Common.{◌≡◌, ◌≢◌, ℕ, ◌<◌, ◌^◌, List, [], ◌∷◌, ◌++◌, refl, sym, ap, ◌∙◌, arith}
+use Rattle.std.proofs.Common.{◌≡◌, ◌≢◌, ℕ, ◌<◌, ◌^◌, List, [], ◌∷◌, ◌++◌, refl, sym, ap, ◌∙◌, subst}
 use Rattle.std.specs.Fmt.{decimal}
 use Rattle.std.specs.Int.{IsInRange}
 use Rattle.std.specs.Str.Parse.{AllDigits}
@@ -40,12 +40,10 @@ same_cut byte (x ∷ xs) (x' ∷ xs') ys ys' none none' e =
     let cut = same_cut byte xs xs' ys ys' none.1 none'.1 (rest_of x x' (xs ++ byte ∷ ys) (xs' ++ byte ∷ ys') e) in
     record { front = ap (λ l. x ∷ l) cut.front ∙ ap (λ c. c ∷ xs') first; back = cut.back }
 
--- the digits of a number have no byte below 48
-no_such_digit : (byte : ℕ) (ds : List ℕ) → byte < 48 → AllDigits 10 ds → HasNo byte ds
-no_such_digit byte [] low h = tt
-no_such_digit byte (d ∷ ds) low h =
-    let digit : IsInRange 48 57 d = digit_from_value d h.0 in
-    (λ e. absurd (omega (arith, digit, e)), no_such_digit byte ds low h.1)
+no_such_digit : (byte : ℕ) (ds : List ℕ) → (IsInRange 48 57 byte → ⊥) → AllDigits 10 ds → HasNo byte ds
+no_such_digit byte [] other h = tt
+no_such_digit byte (d ∷ ds) other h = (λ e. other (subst (IsInRange 48 57) e (digit_from_value d h.0)), no_such_digit byte ds other h.1)
 
-pub HasNo-decimal : (byte n : ℕ) → byte < 48 → n < 2 ^ 64 → HasNo byte (decimal n)
-HasNo-decimal byte n low small = no_such_digit byte (decimal n) low (decimal_is_IsNumeral n small).0.1
+-- the digits of a number are from 48 to 57
+pub HasNo-decimal : (byte n : ℕ) → (IsInRange 48 57 byte → ⊥) → n < 2 ^ 64 → HasNo byte (decimal n)
+HasNo-decimal byte n other small = no_such_digit byte (decimal n) other (decimal_is_IsNumeral n small).0.1

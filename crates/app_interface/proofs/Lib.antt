@@ -1,2 +1,4 @@
 pub mod Refusals
 mod IdTexts
+pub mod Rising
+pub mod Listings

@@ -5,3 +5,4 @@ pub mod Idle
 pub mod Ids
 pub mod Views
 pub mod ViewLaws
+pub mod Listing

@@ -4,6 +4,5 @@ mod Pulling
 mod RoutesTable
 mod SameEntries
 mod Listing
-mod EntryTexts
 mod EntryReading
 mod PulledRoutes

@@ -1,10 +1,9 @@
 // Reading the text of a local state.
-ghost use Rattle.std.specs.Prelude.{◌≡◌, ◌≢◌, ◌↔◌, ℕ, ◌-◌, ◌<◌, List, [], ◌∷◌, ◌++◌, Err, IfNone, IfOk, IfSome, IsTrue, OnOk, length};
-ghost use Rattle.std.specs.List.{HoldsAt};
+ghost use Rattle.std.specs.Prelude.{◌≡◌, ◌≢◌, ◌↔◌, List, Err, IfNone, IfOk, IfSome, IsTrue, OnOk, map};
+ghost use Rattle.app_interface.specs.Listing.{EndsBelow, NoNext, ReadsOn};
 ghost use Rattle.app_interface.specs.declared.refusal.LocalFault.TheVariants.{BadLocal};
 ghost use Rattle.app_routes.specs.Entries.{AreRoutes, IsEntry};
 ghost use Rattle.app_routes.specs.LocalText.{entry_text, routes_text};
-ghost use Rattle.app_routes.specs.Reading.{ReadsOn};
 ghost use Rattle.app_routes.specs.declared.entry.Entry.{Entry};
 
 use crate::entry::Entry;
@@ -35,8 +34,8 @@ pub fn read_local(alloc: Global, text: &[u8]) -> Result<RoutesLocal, LocalFault>
 // Puts the entry that the piece spells to the end of the list, which ascends.
 fn push_entry(entries: &mut SmallVec<Entry, 4>, piece: &[u8]) -> Result<(), LocalFault>
     requires { AreRoutes entries.old.items }
-    ensures ok { OnOk result (ReadsOn entries.old.items piece.now entries.new.items) }
-    ensures bad { result ≡ Err BadLocal → (e : Entry) → piece.now ≡ entry_text e → AreRoutes (entries.old.items ++ e ∷ []) → ⊥ }
+    ensures ok { OnOk result (ReadsOn AreRoutes entry_text entries.old.items piece.now entries.new.items) }
+    ensures bad { result ≡ Err BadLocal → NoNext AreRoutes entry_text entries.old.items piece.now }
 {
     let Some(entry) = read_entry(piece) else {
         return Err(LocalFault::BadLocal);
@@ -50,7 +49,7 @@ fn push_entry(entries: &mut SmallVec<Entry, 4>, piece: &[u8]) -> Result<(), Loca
 
 // Whether the destination is above that of the last entry.
 fn is_above(entries: &[Entry], destination: u32) -> bool
-    ensures { IsTrue result ↔ (0 < length entries.now → HoldsAt (λ e. e.destination < destination) entries.now (length entries.now - 1)) }
+    ensures { IsTrue result ↔ EndsBelow (map (λ e. e.destination) entries.now) destination }
 {
     match entries {
         [] => true,

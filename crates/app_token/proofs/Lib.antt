@@ -1,4 +1,3 @@
 mod BitLists
 mod TokenTable
-mod IdTexts
 mod Listing

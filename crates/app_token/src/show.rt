@@ -3,8 +3,9 @@ ghost use Rattle.std.specs.Prelude.{◌∷◌, ◌++◌, OnErr, OnOk};
 ghost use Rattle.std.specs.Fmt.{decimal};
 ghost use Rattle.std.specs.Io.KnownBytes.{Appends};
 ghost use Rattle.std.specs.List.{flat_map};
+ghost use Rattle.action_tables.specs.RowText.{set_text};
 ghost use Rattle.action_tables.specs.Written.{AppendsFront};
-ghost use Rattle.app_token.specs.LocalText.{hold_text, ids_text, local_text};
+ghost use Rattle.app_token.specs.LocalText.{hold_text, local_text};
 
 use crate::local::TokenLocal;
 use action_tables::{WriteFault, put_bytes, put_number};
@@ -35,8 +36,8 @@ fn put_hold<W: Write>(out: &mut W, hold: bool) -> Result<(), WriteFault>
 
 // Writes a slash and the identifiers.
 fn put_slash_ids<W: Write>(out: &mut W, ids: &[u32]) -> Result<(), WriteFault>
-    ensures ok { OnOk result (Appends (W.contents out.old) (W.contents out.new) (47 ∷ ids_text ids.now)) }
-    ensures err { OnErr result (AppendsFront (W.contents out.old) (W.contents out.new) (47 ∷ ids_text ids.now)) }
+    ensures ok { OnOk result (Appends (W.contents out.old) (W.contents out.new) (47 ∷ set_text ids.now)) }
+    ensures err { OnErr result (AppendsFront (W.contents out.old) (W.contents out.new) (47 ∷ set_text ids.now)) }
 {
     put_bytes(out, b"/")?;
     put_ids(out, ids)
@@ -44,8 +45,8 @@ fn put_slash_ids<W: Write>(out: &mut W, ids: &[u32]) -> Result<(), WriteFault>
 
 // Writes the identifiers joined by commas, or `-` where there is none.
 fn put_ids<W: Write>(out: &mut W, ids: &[u32]) -> Result<(), WriteFault>
-    ensures ok { OnOk result (Appends (W.contents out.old) (W.contents out.new) (ids_text ids.now)) }
-    ensures err { OnErr result (AppendsFront (W.contents out.old) (W.contents out.new) (ids_text ids.now)) }
+    ensures ok { OnOk result (Appends (W.contents out.old) (W.contents out.new) (set_text ids.now)) }
+    ensures err { OnErr result (AppendsFront (W.contents out.old) (W.contents out.new) (set_text ids.now)) }
 {
     match ids {
         [] => put_bytes(out, b"-"),
