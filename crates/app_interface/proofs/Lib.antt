@@ -1,4 +1,5 @@
 pub mod Refusals
 mod IdTexts
-pub mod Rising
+pub mod ListEnds
 pub mod Listings
+pub mod KeptByPlace

@@ -6,7 +6,7 @@ use Rattle.std.proofs.lemmas.List.Elements.{recursion_from_All}
 use Rattle.action_tables.specs.Cuts.{HasNo, HasNo-append, SameCut, has_byte, same_cut}
 use Rattle.action_tables.specs.Lists.{list_text}
 use Rattle.app_interface.specs.Listing.{NoNext, ReadsOn}
-use Rattle.app_interface.proofs.Rising.{item_at_seam}
+use Rattle.app_interface.proofs.ListEnds.{item_at_seam}
 
 -- the text of an item determines the item, and has no byte below the digits, as commas, dashes and slashes are
 pub record Spells {X : Type 0} (IsItem : X → Type 0) (text : X → List ℕ) : Type 0 where

@@ -5,4 +5,5 @@ pub mod Idle
 pub mod Ids
 pub mod Views
 pub mod ViewLaws
+pub mod SeenNeighbours
 pub mod Listing

@@ -1,3 +1,2 @@
 mod BitLists
-mod TokenTable
 mod Listing

@@ -4,7 +4,7 @@ use Rattle.std.proofs.lemmas.List.Elements.{All-append}
 use Rattle.topology.specs.Id.{IsId}
 use Rattle.app_interface.proofs.Listings.{HasFronts}
 use Rattle.app_interface.specs.Listing.{EndsBelow}
-use Rattle.app_interface.proofs.Rising.{all_one, front_all, front_rises, rises_push}
+use Rattle.app_interface.proofs.ListEnds.{all_one, front_all, front_rises, rises_push}
 use Rattle.app_token.specs.Bits.{IsBits}
 
 pub bits_push : (ids : List ℕ) (i : ℕ) → IsBits ids → IsId i → EndsBelow ids i → IsBits (ids ++ i ∷ [])

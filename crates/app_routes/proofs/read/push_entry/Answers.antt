@@ -1,6 +1,6 @@
 use Rattle.std.proofs.Common.{◌≡◌, [], ◌∷◌, ◌++◌, true≢false, refl, sym, ◌∙◌, subst}
 use Rattle.app_interface.specs.Listing.{EndsBelow}
-use Rattle.app_interface.proofs.Rising.{item_at_seam}
+use Rattle.app_interface.proofs.ListEnds.{item_at_seam}
 use Rattle.app_routes.specs.Entries.{AreRoutes, IsEntry}
 use Rattle.app_routes.specs.Spelling.{entries_spelled}
 use Rattle.app_routes.proofs.Listing.{destinations, routes_end_below, routes_push}

@@ -1,6 +1,6 @@
 use Rattle.std.proofs.Common.{◌≡◌, [], ◌∷◌, ◌++◌, true≢false, refl, sym, ap, ◌∙◌, subst}
 use Rattle.app_interface.specs.Listing.{EndsBelow}
-use Rattle.app_interface.proofs.Rising.{ends_below, item_at_seam}
+use Rattle.app_interface.proofs.ListEnds.{ends_below, item_at_seam}
 use Rattle.topology.specs.Id.{IsId}
 use Rattle.app_token.specs.Bits.{IsBits}
 use Rattle.app_token.specs.Spelling.{ids_spelled}
