@@ -3,5 +3,4 @@ mod Places
 mod Pulling
 mod SameEntries
 mod Listing
-mod EntryReading
 mod PulledRoutes

@@ -1,9 +1,9 @@
 -- The texts of local states, taken apart.
-use Rattle.std.proofs.Common.{◌≡◌, ◌≢◌, ℕ, ◌<◌, ◌^◌, List, ◌∷◌, ◌++◌, sym, ap, ◌∙◌, subst, arith}
+use Rattle.std.proofs.Common.{◌≡◌, ◌≢◌, ℕ, ◌<◌, ◌^◌, List, ◌∷◌, ◌++◌, refl, ap, ◌∙◌, arith}
 use Rattle.std.specs.Fmt.{decimal}
 use Rattle.std.proofs.lemmas.Fmt.{decimal_injective}
 use Rattle.topology.specs.Id.{IsId}
-use Rattle.action_tables.specs.Cuts.{HasNo, HasNo-append, HasNo-decimal, has_byte, same_cut}
+use Rattle.action_tables.specs.Cuts.{HasNo, HasNo-append, HasNo-decimal, SameParts, has_second, same_parts}
 use Rattle.app_interface.proofs.Listings.{Spells, same_list}
 use Rattle.app_routes.specs.Entries.{AreRoutes, IsEntry}
 use Rattle.app_routes.specs.LocalText.{entry_text, routes_text}
@@ -29,23 +29,17 @@ HasNo-entry byte e low is =
     no_byte : (n : ℕ) → n < 2 ^ 64 → HasNo byte (decimal n)
     no_byte n small = HasNo-decimal byte n (λ digit. omega (arith, digit, low)) small
 
--- what a text in three parts says of the entry that it spells
-pub record HasParts (e : Entry) (first second third : List ℕ) : Type 0 where
-  pub destination : decimal e.destination ≡ first
-  pub hops : decimal e.hops ≡ second
-  pub next : decimal e.next ≡ third
+module _ (e : Entry) (is : IsEntry e) (text first rest : List ℕ) (spelled : entry_text e ≡ text) (cut : text ≡ first ++ 58 ∷ rest) (none : HasNo 58 first) where
+  no_colon_before : HasNo 58 (decimal e.destination)
+  no_colon_before = no_colon e.destination (omega (arith, is.destination.small))
 
-pub parts_of : (e : Entry) (first second third : List ℕ) → IsEntry e → HasNo 58 first → HasNo 58 second → entry_text e ≡ first ++ 58 ∷ (second ++ 58 ∷ third) → HasParts e first second third
-parts_of e first second third is none none' text =
-    let front = same_cut 58 (decimal e.destination) first (decimal e.hops ++ 58 ∷ decimal e.next) (second ++ 58 ∷ third) (no_colon e.destination (omega (arith, is.destination.small))) none text in
-    let back = same_cut 58 (decimal e.hops) second (decimal e.next) third (no_colon e.hops is.hops) none' front.back in
-    record { destination = front.front; hops = back.front; next = back.back }
+  -- a text has a colon, and another after it
+  pub two_colons : HasNo 58 rest → ⊥
+  two_colons = has_second 58 (decimal e.destination) (decimal e.hops) (decimal e.next) text first rest no_colon_before spelled cut none
 
--- a text has a colon, and another after it
-pub two_colons : (e : Entry) (first rest : List ℕ) → IsEntry e → HasNo 58 first → HasNo 58 rest → entry_text e ≡ first ++ 58 ∷ rest → ⊥
-two_colons e first rest is none none' text =
-    let front = same_cut 58 (decimal e.destination) first (decimal e.hops ++ 58 ∷ decimal e.next) rest (no_colon e.destination (omega (arith, is.destination.small))) none text in
-    has_byte 58 (decimal e.hops) (decimal e.next) (subst (HasNo 58) (sym front.back) none')
+  pub parts_of : (second third : List ℕ) → rest ≡ second ++ 58 ∷ third → HasNo 58 second → SameParts (decimal e.destination) first (decimal e.hops) second (decimal e.next) third
+  parts_of second third cut' none' =
+      same_parts 58 (decimal e.destination) (decimal e.hops) (decimal e.next) text first rest no_colon_before spelled cut none second third (no_colon e.hops is.hops) cut' none'
 
 pub same_fields : (a b : Entry) → a.destination ≡ b.destination → a.hops ≡ b.hops → a.next ≡ b.next → a ≡ b
 same_fields a b d h n = ap (λ x. make x a.hops a.next) d ∙ ap (λ x. make b.destination x a.next) h ∙ ap (λ x. make b.destination b.hops x) n
@@ -56,12 +50,13 @@ same_fields a b d h n = ap (λ x. make x a.hops a.next) d ∙ ap (λ x. make b.d
 -- one entry a text
 pub same_entry_text : (a b : Entry) → IsEntry a → IsEntry b → entry_text a ≡ entry_text b → a ≡ b
 same_entry_text a b is is' text =
-    let parts : HasParts a (decimal b.destination) (decimal b.hops) (decimal b.next) =
-    parts_of a (decimal b.destination) (decimal b.hops) (decimal b.next) is (no_colon b.destination (omega (arith, is'.destination.small))) (no_colon b.hops is'.hops) text in
+    let parts =
+    parts_of a is (entry_text b) (decimal b.destination) (decimal b.hops ++ 58 ∷ decimal b.next) text refl (no_colon b.destination (omega (arith, is'.destination.small)))
+    (decimal b.hops) (decimal b.next) refl (no_colon b.hops is'.hops) in
     same_fields a b
-    (decimal_injective a.destination b.destination (small_id a.destination is.destination) (small_id b.destination is'.destination) parts.destination)
-    (decimal_injective a.hops b.hops (small_hops a.hops is.hops) (small_hops b.hops is'.hops) parts.hops)
-    (decimal_injective a.next b.next (small_id a.next is.next) (small_id b.next is'.next) parts.next)
+    (decimal_injective a.destination b.destination (small_id a.destination is.destination) (small_id b.destination is'.destination) parts.first)
+    (decimal_injective a.hops b.hops (small_hops a.hops is.hops) (small_hops b.hops is'.hops) parts.second)
+    (decimal_injective a.next b.next (small_id a.next is.next) (small_id b.next is'.next) parts.third)
 
 -- entries have texts of their own
 pub entries_spelled : Spells IsEntry entry_text

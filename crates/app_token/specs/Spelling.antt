@@ -1,10 +1,10 @@
 -- The texts of local states, taken apart.
-use Rattle.std.proofs.Common.{◌≡◌, ℕ, ◌<◌, ◌^◌, Bool, true, false, List, ◌∷◌, ◌++◌, get_or, refl, sym, ap, ◌∙◌, subst, arith}
+use Rattle.std.proofs.Common.{◌≡◌, ℕ, ◌<◌, ◌^◌, Bool, true, false, List, ◌∷◌, ◌++◌, get_or, refl, ap, ◌∙◌, arith}
 use Rattle.std.specs.Fmt.{decimal}
 use Rattle.std.proofs.lemmas.Fmt.{decimal_injective}
 use Rattle.topology.specs.Id.{IsId}
 use Rattle.app_token.specs.Bits.{IsBits}
-use Rattle.action_tables.specs.Cuts.{HasNo, HasNo-decimal, has_byte, same_cut}
+use Rattle.action_tables.specs.Cuts.{HasNo, HasNo-decimal, SameParts, has_second, same_parts}
 use Rattle.action_tables.specs.RowText.{set_text}
 use Rattle.app_interface.proofs.Listings.{HasNo-list, Spells, same_list}
 use Rattle.app_token.specs.LocalText.{IsTokenLocal, hold_text, local_text}
@@ -35,31 +35,24 @@ same_flag false true e = let first : 102 ≡ 104 = ap (λ l. get_or l 0 0) e in 
 
 -- ---- a text in three parts
 
--- what a text in three parts says of the local state that it spells
-pub record HasParts (v : TokenLocal) (first second third : List ℕ) : Type 0 where
-  pub hold : hold_text v.hold ≡ first
-  pub given : set_text v.given ≡ second
-  pub taken : set_text v.taken ≡ third
+module _ (v : TokenLocal) (are : IsTokenLocal v) (text hold lists : List ℕ) (spelled : local_text v ≡ text) (cut : text ≡ hold ++ 47 ∷ lists) (none : HasNo 47 hold) where
+  -- a text has a slash, and another after it
+  pub two_slashes : HasNo 47 lists → ⊥
+  two_slashes = has_second 47 (hold_text v.hold) (set_text v.given) (set_text v.taken) text hold lists (no_slash_flag v.hold) spelled cut none
 
-pub parts_of : (v : TokenLocal) (hold given taken : List ℕ) → IsTokenLocal v → HasNo 47 hold → HasNo 47 given →
-    local_text v ≡ hold ++ 47 ∷ (given ++ 47 ∷ taken) → HasParts v hold given taken
-parts_of v hold given taken are none none' e =
-    let first = same_cut 47 (hold_text v.hold) hold (set_text v.given ++ 47 ∷ set_text v.taken) (given ++ 47 ∷ taken) (no_slash_flag v.hold) none e in
-    let second = same_cut 47 (set_text v.given) given (set_text v.taken) taken (no_slash v.given are.given) none' first.back in
-    record { hold = first.front; given = second.front; taken = second.back }
-
--- a text has a slash, and another after it
-pub two_slashes : (v : TokenLocal) (hold lists : List ℕ) → HasNo 47 hold → HasNo 47 lists → local_text v ≡ hold ++ 47 ∷ lists → ⊥
-two_slashes v hold lists none none' e =
-    let cut = same_cut 47 (hold_text v.hold) hold (set_text v.given ++ 47 ∷ set_text v.taken) lists (no_slash_flag v.hold) none e in
-    has_byte 47 (set_text v.given) (set_text v.taken) (subst (HasNo 47) (sym cut.back) none')
+  pub parts_of : (given taken : List ℕ) → lists ≡ given ++ 47 ∷ taken → HasNo 47 given → SameParts (hold_text v.hold) hold (set_text v.given) given (set_text v.taken) taken
+  parts_of given taken cut' none' =
+      same_parts 47 (hold_text v.hold) (set_text v.given) (set_text v.taken) text hold lists (no_slash_flag v.hold) spelled cut none given taken (no_slash v.given are.given) cut' none'
 
 -- one local state a text
 pub one_token_text : (a b : TokenLocal) → IsTokenLocal a → IsTokenLocal b → local_text a ≡ local_text b → a ≡ b
 one_token_text a b are are' e =
-    let parts : HasParts a (hold_text b.hold) (set_text b.given) (set_text b.taken) =
-    parts_of a (hold_text b.hold) (set_text b.given) (set_text b.taken) are (no_slash_flag b.hold) (no_slash b.given are'.given) e in
-    same_fields (same_flag a.hold b.hold parts.hold) (same_list ids_spelled a.given b.given are.given.are_ids are'.given.are_ids parts.given) (same_list ids_spelled a.taken b.taken are.taken.are_ids are'.taken.are_ids parts.taken)
+    let parts =
+    parts_of a are (local_text b) (hold_text b.hold) (set_text b.given ++ 47 ∷ set_text b.taken) e refl (no_slash_flag b.hold)
+    (set_text b.given) (set_text b.taken) refl (no_slash b.given are'.given) in
+    same_fields (same_flag a.hold b.hold parts.first)
+    (same_list ids_spelled a.given b.given are.given.are_ids are'.given.are_ids parts.second)
+    (same_list ids_spelled a.taken b.taken are.taken.are_ids are'.taken.are_ids parts.third)
   where
     make : Bool → List ℕ → List ℕ → TokenLocal
     make h g t = record { hold = h; given = g; taken = t }
