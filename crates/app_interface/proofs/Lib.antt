@@ -1,5 +1,5 @@
 pub mod Refusals
 mod IdTexts
 pub mod ListEnds
-pub mod Listings
+pub mod ListingLaws
 pub mod KeptByPlace

@@ -4,7 +4,7 @@ use Rattle.std.specs.List.Sorted.{IsStrictlyIncreasing}
 use Rattle.std.proofs.lemmas.List.{map-append}
 use Rattle.std.proofs.lemmas.List.Elements.{All-append}
 use Rattle.app_interface.specs.Listing.{EndsBelow}
-use Rattle.app_interface.proofs.Listings.{HasFronts}
+use Rattle.app_interface.proofs.ListingLaws.{HasFronts}
 use Rattle.app_interface.proofs.ListEnds.{all_one, ends_below, front_all, front_rises, rises_push}
 use Rattle.app_routes.specs.Entries.{AreRoutes, IsEntry}
 use Rattle.app_routes.specs.declared.entry.Entry.{Entry}

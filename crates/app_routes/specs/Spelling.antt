@@ -4,7 +4,7 @@ use Rattle.std.specs.Fmt.{decimal}
 use Rattle.std.proofs.lemmas.Fmt.{decimal_injective}
 use Rattle.topology.specs.Id.{IsId}
 use Rattle.action_tables.specs.Cuts.{HasNo, HasNo-append, HasNo-decimal, SameParts, has_second, same_parts}
-use Rattle.app_interface.proofs.Listings.{Spells, same_list}
+use Rattle.app_interface.proofs.ListingLaws.{Spells, same_list}
 use Rattle.app_routes.specs.Entries.{AreRoutes, IsEntry}
 use Rattle.app_routes.specs.LocalText.{entry_text, routes_text}
 use Rattle.app_routes.specs.declared.entry.Entry.{Entry}

@@ -2,7 +2,7 @@
 use Rattle.std.proofs.Common.{ℕ, List, [], ◌∷◌, ◌++◌}
 use Rattle.std.proofs.lemmas.List.Elements.{All-append}
 use Rattle.topology.specs.Id.{IsId}
-use Rattle.app_interface.proofs.Listings.{HasFronts}
+use Rattle.app_interface.proofs.ListingLaws.{HasFronts}
 use Rattle.app_interface.specs.Listing.{EndsBelow}
 use Rattle.app_interface.proofs.ListEnds.{all_one, front_all, front_rises, rises_push}
 use Rattle.app_token.specs.Bits.{IsBits}

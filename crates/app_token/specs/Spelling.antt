@@ -6,7 +6,7 @@ use Rattle.topology.specs.Id.{IsId}
 use Rattle.app_token.specs.Bits.{IsBits}
 use Rattle.action_tables.specs.Cuts.{HasNo, HasNo-decimal, SameParts, has_second, same_parts}
 use Rattle.action_tables.specs.RowText.{set_text}
-use Rattle.app_interface.proofs.Listings.{HasNo-list, Spells, same_list}
+use Rattle.app_interface.proofs.ListingLaws.{HasNo-list, Spells, same_list}
 use Rattle.app_token.specs.LocalText.{IsTokenLocal, hold_text, local_text}
 use Rattle.app_token.specs.declared.local.TokenLocal.{TokenLocal}
 

@@ -1,7 +1,7 @@
 use Rattle.std.proofs.Common.{◌≢◌, [], ◌∷◌, ◌++◌, ap, ◌∙◌, rules}
 use Rattle.std.proofs.lemmas.Result.{err_from_is_err_and}
 use Rattle.app_interface.proofs.Refusals.{other_ok}
-use Rattle.app_interface.proofs.Listings.{bad_next, bad_last, read_on, read_last, with_commas}
+use Rattle.app_interface.proofs.ListingLaws.{bad_next, bad_last, read_on, read_last, with_commas}
 use Rattle.app_routes.specs.LocalText.{entry_text}
 use Rattle.app_routes.specs.Spelling.{entries_spelled}
 use Rattle.app_routes.proofs.Listing.{routes_fronts}

@@ -1,5 +1,5 @@
 use Rattle.std.proofs.Common.{◌≡◌, ◌++◌, length}
-use Rattle.app_interface.proofs.Listings.{with_commas}
+use Rattle.app_interface.proofs.ListingLaws.{with_commas}
 use Rattle.app_routes.specs.Entries.{AreRoutes}
 use Rattle.app_routes.specs.LocalText.{entry_text}
 use Rattle.app_routes.proofs.read.read_local.Given as goal

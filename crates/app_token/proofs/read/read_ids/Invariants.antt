@@ -1,6 +1,6 @@
 use Rattle.std.proofs.Common.{◌≡◌, ◌++◌, length}
 use Rattle.std.specs.Fmt.{decimal}
-use Rattle.app_interface.proofs.Listings.{with_commas}
+use Rattle.app_interface.proofs.ListingLaws.{with_commas}
 use Rattle.app_token.specs.Bits.{IsBits}
 use Rattle.app_token.proofs.read.read_ids.Given as goal
 
