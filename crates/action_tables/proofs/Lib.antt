@@ -3,6 +3,7 @@ pub mod TableTexts
 pub mod Fronts
 pub mod NumberSets
 pub mod EnabledSets
+pub mod ListTexts
 pub mod SetTexts
 mod NumberWords
 mod CutTexts

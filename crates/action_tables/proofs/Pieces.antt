@@ -1,5 +1,5 @@
 -- Texts that are written piece by piece.
-use Rattle.std.proofs.Common.{◌≡◌, ℕ, zero, suc, ◌+◌, ◌<◌, List, [], ◌∷◌, ◌++◌, refl, sym, ap, ◌∙◌, append_assoc, append-nil, add-one, arith, length, take, drop, get_or, map, Option}
+use Rattle.std.proofs.Common.{◌≡◌, ℕ, zero, suc, ◌+◌, ◌<◌, List, [], ◌∷◌, ◌++◌, refl, sym, ap, ◌∙◌, append_assoc, append-nil, add-one, arith, length, take, drop, get_or, Option}
 use Rattle.std.specs.List.{flat_map}
 use Rattle.std.specs.Io.KnownBytes.{Appends}
 use Rattle.std.proofs.KnownBytes.{Appends-trans}
@@ -31,8 +31,3 @@ pub Appends-piece : {X : Type 0} (a b c : Option (List ℕ)) (f : X → List ℕ
     → Appends a b (flat_map f (take i xs)) → Appends b c (f (get_or xs i d)) → Appends a c (flat_map f (take (i + 1) xs))
 Appends-piece a b c f xs i d h before here =
     rw (add-one, flat_map_next f xs i d h) (Appends-trans a b c (flat_map f (take i xs)) (f (get_or xs i d)) before here)
-
--- the pieces of what f makes of the items
-pub flat_map-map : {X Y : Type 0} (h : Y → List ℕ) (f : X → Y) (xs : List X) → flat_map h (map f xs) ≡ flat_map (λ x. h (f x)) xs
-flat_map-map h f [] = refl
-flat_map-map h f (x ∷ xs) = ap (λ l. h (f x) ++ l) (flat_map-map h f xs)

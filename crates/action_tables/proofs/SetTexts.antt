@@ -5,6 +5,7 @@ use Rattle.std.specs.Fmt.{decimal}
 use Rattle.std.proofs.lemmas.Bool.Decides.{nat_tests}
 use Rattle.action_tables.specs.Numbers.{is_among, all_cases}
 use Rattle.action_tables.specs.RowText.{case_above, set_text}
+use Rattle.action_tables.proofs.ListTexts.{list_text-cons}
 
 -- what f makes of x, where it is kept and above n
 abbrev above : (ℕ → Bool) → (ℕ → List ℕ) → ℕ → ℕ → List ℕ
@@ -67,5 +68,5 @@ pub text_from : (set cases : List ℕ) (n : ℕ) → cases ≡ all_cases → set
 text_from [] cases n is listed first = cc
 text_from (m ∷ ns) cases n is listed first =
     let same : m ≡ n = cc in
-    ap (λ x. decimal x ++ flat_map (λ y. 44 ∷ decimal y) ns) same
+    list_text-cons decimal m ns ∙ ap (λ x. decimal x ++ flat_map (λ y. 44 ∷ decimal y) ns) same
     ∙ ap (λ l. decimal n ++ l) (sym (others_of (λ c. is_among c (m ∷ ns)) (λ y. 44 ∷ decimal y) n ns cases (is ∙ cases_ranged) (ap (λ x. x ∷ ns) (sym same) ∙ listed ∙ ap (filter (λ c. is_among c (m ∷ ns))) (sym is))))

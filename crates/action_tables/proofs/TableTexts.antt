@@ -4,12 +4,13 @@ use Rattle.std.specs.List.{flat_map}
 use Rattle.std.specs.Io.KnownBytes.{Appends}
 use Rattle.std.proofs.KnownBytes.{Appends-trans}
 use Rattle.std.proofs.lemmas.List.{take_all}
+use Rattle.std.proofs.lemmas.List.Folds.{flat_map-map}
 use Rattle.action_tables.specs.declared.row.CaseRow.{CaseRow}
 use Rattle.action_tables.specs.RowText.{as_printed}
 use Rattle.action_tables.specs.Table.{row_line, title_line, table_text}
 use Rattle.action_tables.specs.Written.{AppendsFront}
 use Rattle.action_tables.proofs.Fronts.{AppendsFront-first, AppendsFront-then}
-use Rattle.action_tables.proofs.Pieces.{AppendsFront-piece, flat_map-map}
+use Rattle.action_tables.proofs.Pieces.{AppendsFront-piece}
 
 abbrev pub line_of : CaseRow → List ℕ
 line_of row = row_line (as_printed row)

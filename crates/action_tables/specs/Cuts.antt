@@ -1,5 +1,5 @@
 -- Texts that are cut at a byte.
-use Rattle.std.proofs.Common.{◌≡◌, ◌≢◌, ℕ, ◌<◌, ◌^◌, List, [], ◌∷◌, ◌++◌, refl, sym, ap, ◌∙◌, arith}
+use Rattle.std.proofs.Common.{◌≡◌, ◌≢◌, ℕ, ◌<◌, ◌^◌, List, [], ◌∷◌, ◌++◌, refl, sym, ap, ◌∙◌, subst}
 use Rattle.std.specs.Fmt.{decimal}
 use Rattle.std.specs.Int.{IsInRange}
 use Rattle.std.specs.Str.Parse.{AllDigits}
@@ -40,12 +40,31 @@ same_cut byte (x ∷ xs) (x' ∷ xs') ys ys' none none' e =
     let cut = same_cut byte xs xs' ys ys' none.1 none'.1 (rest_of x x' (xs ++ byte ∷ ys) (xs' ++ byte ∷ ys') e) in
     record { front = ap (λ l. x ∷ l) cut.front ∙ ap (λ c. c ∷ xs') first; back = cut.back }
 
--- the digits of a number have no byte below 48
-no_such_digit : (byte : ℕ) (ds : List ℕ) → byte < 48 → AllDigits 10 ds → HasNo byte ds
-no_such_digit byte [] low h = tt
-no_such_digit byte (d ∷ ds) low h =
-    let digit : IsInRange 48 57 d = digit_from_value d h.0 in
-    (λ e. absurd (omega (arith, digit, e)), no_such_digit byte ds low h.1)
+-- three texts that a text in three parts is made of
+pub record SameParts (xs xs' ys ys' zs zs' : List ℕ) : Type 0 where
+  pub first : xs ≡ xs'
+  pub second : ys ≡ ys'
+  pub third : zs ≡ zs'
 
-pub HasNo-decimal : (byte n : ℕ) → byte < 48 → n < 2 ^ 64 → HasNo byte (decimal n)
-HasNo-decimal byte n low small = no_such_digit byte (decimal n) low (decimal_is_IsNumeral n small).0.1
+-- a text in three parts that are joined by a byte, cut at the first such byte
+module _ (byte : ℕ) (xs ys zs text first rest : List ℕ) (none : HasNo byte xs) (joined : xs ++ byte ∷ (ys ++ byte ∷ zs) ≡ text) (cut : text ≡ first ++ byte ∷ rest) (none' : HasNo byte first) where
+  at_first : SameCut xs first (ys ++ byte ∷ zs) rest
+  at_first = same_cut byte xs first (ys ++ byte ∷ zs) rest none none' (joined ∙ cut)
+
+  -- what is left has another
+  pub has_second : HasNo byte rest → ⊥
+  has_second none'' = has_byte byte ys zs (subst (HasNo byte) (sym at_first.back) none'')
+
+  -- cut at the next one, it has the three parts
+  pub same_parts : (second third : List ℕ) → HasNo byte ys → rest ≡ second ++ byte ∷ third → HasNo byte second → SameParts xs first ys second zs third
+  same_parts second third none-ys cut' none-second =
+      let at_second = same_cut byte ys second zs third none-ys none-second (at_first.back ∙ cut') in
+      record { first = at_first.front; second = at_second.front; third = at_second.back }
+
+no_such_digit : (byte : ℕ) (ds : List ℕ) → (IsInRange 48 57 byte → ⊥) → AllDigits 10 ds → HasNo byte ds
+no_such_digit byte [] other h = tt
+no_such_digit byte (d ∷ ds) other h = (λ e. other (subst (IsInRange 48 57) e (digit_from_value d h.0)), no_such_digit byte ds other h.1)
+
+-- the digits of a number are from 48 to 57
+pub HasNo-decimal : (byte n : ℕ) → (IsInRange 48 57 byte → ⊥) → n < 2 ^ 64 → HasNo byte (decimal n)
+HasNo-decimal byte n other small = no_such_digit byte (decimal n) other (decimal_is_IsNumeral n small).0.1

@@ -1,6 +1,6 @@
 -- What parts of a line and rows in print write.
-use Rattle.std.specs.Prelude.{ℕ, ◌&&◌, nat_lt, if◌then◌else◌, List, [], ◌∷◌, ◌++◌, codes}
-use Rattle.std.specs.List.{flat_map}
+use Rattle.std.specs.Prelude.{ℕ, ◌&&◌, nat_lt, if◌then◌else◌, List, [], ◌∷◌}
+use Rattle.action_tables.specs.Lists.{list_text}
 use Rattle.action_tables.specs.Numbers.{is_among}
 use Rattle.std.specs.Fmt.{decimal}
 use Rattle.action_tables.specs.declared.part.Part.{Part}
@@ -14,8 +14,7 @@ as_printed row = record { number = row.number; name = row.name.now; guard = row.
 
 -- the numbers of a set, joined by commas, or a dash where there is none
 abbrev pub set_text : List ℕ → List ℕ
-set_text [] = codes "-"
-set_text (n ∷ ns) = decimal n ++ flat_map (λ m. 44 ∷ decimal m) ns
+set_text = list_text decimal
 
 -- what a part of a line writes
 abbrev pub part_text : Part → List ℕ

@@ -7,6 +7,7 @@
 
 mod case_set;
 mod cutting;
+mod list;
 mod number;
 mod part;
 mod put;
@@ -15,6 +16,7 @@ mod table;
 
 pub use case_set::CaseSet;
 pub use cutting::cut;
+pub use list::{ListItem, put_list};
 pub use number::read_number;
 pub use part::{Part, put_parts};
 pub use put::{WriteFault, put_bytes, put_number};

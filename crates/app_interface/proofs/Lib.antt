@@ -1,1 +1,5 @@
 pub mod Refusals
+mod IdTexts
+pub mod ListEnds
+pub mod ListingLaws
+pub mod KeptByPlace

@@ -51,7 +51,7 @@ pub trait Application: Send + Sync {
     fn reads(case: u8) -> Option<Reads>
         ensures { result ≡ app.reads case };
 
-    /// The declared start state of the node at this index.
+    /// The declared start state of the node at this index, and any where no node has it.
     fn on_start(alloc: Global, topology: &Topology, index: usize) -> Result<Self::Local, AllocError>
         ensures { IfSome (slice_get topology.now.ids index) (λ id. IfOk result (λ local. local ≡ app.start topology.now id)) };
 

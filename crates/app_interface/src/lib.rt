@@ -6,6 +6,7 @@
 #![tactic(auto)]
 
 mod application;
+mod identifier;
 mod idle;
 mod reads;
 mod refusal;
@@ -14,6 +15,7 @@ mod tests;
 mod view;
 
 pub use application::Application;
+pub use identifier::{is_id, read_id};
 pub use idle::Idle;
 pub use reads::Reads;
 pub use refusal::{ClockRefusal, LocalFault};

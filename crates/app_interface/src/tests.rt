@@ -1,7 +1,7 @@
 use super::*;
 use std::alloc::Global;
 use std::test::Fail;
-use topology::Topology;
+use topology::{NodeId, Topology};
 
 fn text_of<P: Application>(alloc: Global, local: &P::Local) -> Vec<u8> {
     let mut out = Vec::new(alloc);
@@ -61,4 +61,31 @@ fn sees_the_first_of_a_name(rt: HostRuntime) {
     assert_eq!(rt; seen_at(4, &near), Some(&one));
     assert_eq!(rt; seen_at(9, &near), Some(&two));
     assert_eq!(rt; seen_at(5, &near), None);
+}
+
+#[test]
+fn reads_identifiers(rt: HostRuntime) {
+    for (text, number) in [
+        (b"1".as_slice(), 1),
+        (b"10".as_slice(), 10),
+        (b"65535".as_slice(), 65535),
+    ] {
+        assert!(rt; is_id(number));
+        assert_eq!(rt; read_id(text), NodeId::new(number));
+    }
+    for number in [0, 65536, u32::MAX] {
+        assert!(rt; !is_id(number));
+    }
+    for text in [
+        b"".as_slice(),
+        b"0".as_slice(),
+        b"01".as_slice(),
+        b"65536".as_slice(),
+        b"4294967297".as_slice(),
+        b"+1".as_slice(),
+        b"1 ".as_slice(),
+        b"1\xff".as_slice(),
+    ] {
+        assert_eq!(rt; read_id(text), None);
+    }
 }

@@ -3,5 +3,4 @@ pub mod MutexCases
 pub mod LocalText
 pub mod Spelling
 pub mod Turns
-pub mod SeenNeighbours
 pub mod Laws

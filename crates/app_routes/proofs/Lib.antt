@@ -1,9 +1,6 @@
 mod Following
 mod Places
 mod Pulling
-mod RoutesTable
 mod SameEntries
 mod Listing
-mod EntryTexts
-mod EntryReading
 mod PulledRoutes

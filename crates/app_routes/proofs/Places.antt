@@ -1,5 +1,5 @@
 -- The place of a destination among ascending entries, and what stands there.
-use Rattle.std.proofs.Common.{◌≡◌, ℕ, zero, suc, ◌+◌, ◌<◌, ◌≤◌, Bool, true, false, eqb, ltb, List, [], ◌∷◌, ◌++◌, Some, None, Ok, Err, Result, map, length, get_or, set, take, drop, insert, All, refl, sym, ap, ap₂, ◌∙◌, subst, arith, nat_cmp, eq-eqb, ne_eqb, le-ltb, lt-ltb, ⊎_elim, take-append-drop, option_map}
+use Rattle.std.proofs.Common.{◌≡◌, ℕ, ◌+◌, ◌<◌, ◌≤◌, eqb, ltb, List, [], ◌∷◌, ◌++◌, Some, None, Ok, Err, Result, map, length, get_or, set, take, drop, insert, refl, sym, ap, ap₂, ◌∙◌, subst, arith, nat_cmp, eq-eqb, ne_eqb, le-ltb, lt-ltb, ⊎_elim, take-append-drop, option_map}
 use Rattle.std.specs.Cmp.{ranks}
 use Rattle.std.specs.List.{filter, refill}
 use Rattle.std.specs.List.Sorted.{IsBinarySearchResult, IsSearchInRange}
@@ -10,6 +10,8 @@ use Rattle.std.proofs.lemmas.Bool.{cases_eq, cases_lt}
 use Rattle.std.proofs.lemmas.List.{get_or-map, length-map, take-set, drop-set, drop_all, take_all, append-nil}
 use Rattle.std.proofs.lemmas.List.Elements.{All-append, All-filter}
 use Rattle.topology.proofs.Ascending.{rises}
+use Rattle.app_interface.proofs.KeptByPlace.{keeps_back, keeps_front}
+use Rattle.app_interface.proofs.ListEnds.{all_one}
 use Rattle.app_routes.specs.Entries.{AreRoutes, IsAscending, IsEntry, IsPlaceOf, route_of, set_route}
 use Rattle.app_routes.specs.EntryLaws.{find_first, find_none, set_ascends}
 use Rattle.app_routes.specs.declared.entry.Entry.{Entry}
@@ -40,31 +42,7 @@ ranks_up a b x le = at (nat_cmp a x) (nat_cmp b x) (ranks a x) (ranks b x)
     at Greater Equal h k = absurd (omega (arith, h, k, le))
     at Greater Greater h k = omega arith
 
--- ---- filters of a list by a place
-
--- what passes up to a place and nowhere from it on
-keeps_none : {X : Type 0} (p : X → Bool) (xs : List X) (x : X) → ((k : ℕ) → k < length xs → p (get_or xs k x) ≡ false) → filter p xs ≡ []
-keeps_none p [] x fails = refl
-keeps_none p (y ∷ xs) x fails = rw (fails 0 (omega arith)) (keeps_none p xs x (λ k lt. fails (suc k) (omega arith)))
-
-keeps_all : {X : Type 0} (p : X → Bool) (xs : List X) (x : X) → ((k : ℕ) → k < length xs → p (get_or xs k x) ≡ true) → filter p xs ≡ xs
-keeps_all p [] x passes = refl
-keeps_all p (y ∷ xs) x passes = rw (passes 0 (omega arith)) (ap (λ l. y ∷ l) (keeps_all p xs x (λ k lt. passes (suc k) (omega arith))))
-
-keeps_front : {X : Type 0} (p : X → Bool) (xs : List X) (i : ℕ) (x : X) → i ≤ length xs → ((k : ℕ) → k < i → p (get_or xs k x) ≡ true) →
-    ((k : ℕ) → i ≤ k → k < length xs → p (get_or xs k x) ≡ false) → filter p xs ≡ take i xs
-keeps_front p xs zero x le front back = keeps_none p xs x (λ k lt. back k (omega arith) lt)
-keeps_front p [] (suc i) x le front back = absurd (omega arith)
-keeps_front p (y ∷ xs) (suc i) x le front back =
-    rw (front 0 (omega arith)) (ap (λ l. y ∷ l) (keeps_front p xs i x (omega arith) (λ k lt. front (suc k) (omega arith)) (λ k ge lt. back (suc k) (omega arith) (omega arith))))
-
--- what passes from a place on and nowhere before it
-keeps_back : {X : Type 0} (p : X → Bool) (xs : List X) (i : ℕ) (x : X) → i ≤ length xs → ((k : ℕ) → k < i → p (get_or xs k x) ≡ false) →
-    ((k : ℕ) → i ≤ k → k < length xs → p (get_or xs k x) ≡ true) → filter p xs ≡ drop i xs
-keeps_back p xs zero x le front back = keeps_all p xs x (λ k lt. back k (omega arith) lt)
-keeps_back p [] (suc i) x le front back = absurd (omega arith)
-keeps_back p (y ∷ xs) (suc i) x le front back =
-    rw (front 0 (omega arith)) (keeps_back p xs i x (omega arith) (λ k lt. front (suc k) (omega arith)) (λ k ge lt. back (suc k) (omega arith) (omega arith)))
+-- ---- a list after a write
 
 -- a list after a write is its front, what was written, and its back
 set_split : {X : Type 0} (xs : List X) (i : ℕ) (y : X) → i < length xs → set xs i y ≡ take i xs ++ y ∷ drop (i + 1) xs
@@ -158,9 +136,5 @@ module _ (es : List Entry) (up : IsAscending es) where
 pub routes_set : (es : List Entry) (e : Entry) → AreRoutes es → IsEntry e → AreRoutes (set_route es e)
 routes_set es e are is = record {
   ascending = set_ascends es e are.ascending;
-  are_entries = All-append IsEntry _ (e ∷ _) (All-filter _ IsEntry es are.are_entries) (All-append IsEntry (e ∷ []) _ one (All-filter _ IsEntry es are.are_entries));
+  are_entries = All-append IsEntry _ (e ∷ _) (All-filter _ IsEntry es are.are_entries) (All-append IsEntry (e ∷ []) _ (all_one IsEntry e is) (All-filter _ IsEntry es are.are_entries));
 }
-  where
-    one : All IsEntry (e ∷ [])
-    one zero d lt = is
-    one (suc k) d lt = absurd (omega (arith, lt))

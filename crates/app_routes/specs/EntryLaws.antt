@@ -1,9 +1,9 @@
 -- Entries after one is set, and after better ones are taken, whatever the entries.
-use Rattle.std.proofs.Common.{◌≡◌, ◌≢◌, ◌⊎◌, ℕ, zero, suc, ◌+◌, ◌<◌, ◌≤◌, Bool, true, false, true≢false, ◌&&◌, cond, eqb, ltb, List, [], ◌∷◌, ◌++◌, Some, None, map, length, get_or, Contains, All, inl, inr, refl, sym, ap, ap₂, ◌∙◌, subst, arith, eq-eqb, ⊎_elim}
+use Rattle.std.proofs.Common.{◌≡◌, ◌≢◌, ◌⊎◌, ℕ, zero, suc, ◌+◌, ◌<◌, ◌≤◌, Bool, true, false, true≢false, cond, eqb, ltb, List, [], ◌∷◌, ◌++◌, Some, None, map, length, get_or, Contains, All, inl, inr, refl, sym, ap, ap₂, ◌∙◌, subst, arith, eq-eqb, ⊎_elim}
 use Rattle.std.specs.List.{filter, find, fold}
 use Rattle.std.specs.List.Sorted.{IsStrictlyIncreasing}
 use Rattle.std.specs.Option.{option_map_or}
-use Rattle.std.proofs.lemmas.Bool.{cases_eq, cases_order, ltb-true, lt-ltb}
+use Rattle.std.proofs.lemmas.Bool.{and_parts, cases_eq, cases_order, ltb-true, lt-ltb}
 use Rattle.std.proofs.lemmas.Bool.Decides.{eqb_tells}
 use Rattle.std.proofs.lemmas.List.{map-append, get_or-map, length-map}
 use Rattle.std.proofs.lemmas.List.Elements.{Contains-append_left, Contains-append_right, Contains-append_cases, filter_passes}
@@ -172,15 +172,10 @@ module _ (es : List Entry) (up : IsAscending es) where
 
 -- ---- better entries
 
-both : (a b : Bool) → (a && b) ≡ true → (a ≡ true) × (b ≡ true)
-both true true e = (refl, refl)
-both true false e = absurd (true≢false (sym e))
-both false b e = absurd (true≢false (sym e))
-
 -- a better entry has fewer hops than the own entry for its destination
 pub better_than : (K : ℕ) (own : List Entry) (e f : Entry) → IsAscending own → Contains own f → f.destination ≡ e.destination → is_better K own e ≡ true → e.hops + 1 < f.hops
 better_than K own e f up at same is =
-    let shorter : option_map_or (λ o. ltb (e.hops + 1) o.hops) (route_of own e.destination) true ≡ true = (both (ltb (e.hops + 1) K) _ is).1 in
+    let shorter : option_map_or (λ o. ltb (e.hops + 1) o.hops) (route_of own e.destination) true ≡ true = (and_parts (ltb (e.hops + 1) K) _ is).1 in
     let there : route_of own e.destination ≡ Some f = subst (λ d. route_of own d ≡ Some f) same (found own up f at) in
     ltb-true _ _ (rw there at shorter)
 

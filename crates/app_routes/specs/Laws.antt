@@ -1,15 +1,17 @@
 -- Each entry of each node is a route, at the start and after each pull.
-use Rattle.std.proofs.Common.{◌≡◌, ◌≢◌, ◌⊎◌, ℕ, ◌≤◌, Bool, true, false, ◌==◌, cond, eqb, List, [], ◌∷◌, Option, Some, None, Ok, Err, length, Contains, inl, inr, refl, sym, ◌∙◌, subst, arith, eqb-true, ⊎_elim}
+use Rattle.std.proofs.Common.{◌≡◌, ℕ, ◌≤◌, Bool, true, false, ◌==◌, cond, List, [], ◌∷◌, Option, Some, None, Ok, Err, length, unwrap_or, Contains, refl, sym, ◌∙◌, subst, arith, eqb-true, ⊎_elim}
 use Rattle.std.specs.Result.{result_ok}
 use Rattle.std.proofs.lemmas.Bool.{cases_eq}
-use Rattle.std.proofs.lemmas.Bool.Decides.{eqb_tells}
 use Rattle.topology.specs.Graph.{Graph, IsGraph, IsNode, AreLinked, Changes}
 use Rattle.app_interface.specs.Application.{Action, Fits, is_read, seen}
+use Rattle.app_interface.specs.Ids.{is_id}
 use Rattle.app_interface.specs.Invariant.{Keeps, SameAtNodes}
+use Rattle.app_interface.specs.ViewLaws.{seen_is}
+use Rattle.app_interface.specs.Views.{seen_at}
 use Rattle.app_interface.specs.declared.refusal.ClockRefusal.TheVariants.{NotEnabled}
 use Rattle.app_routes.specs.Entries.{IsAscending, over, pulled, some_better}
 use Rattle.app_routes.specs.EntryLaws.{HasWithin, none_in, only_one, taken_ascends, taken_from, taken_keeps}
-use Rattle.app_routes.specs.Routes.{entries_of, is_id, routes, routes_next, routes_reads, routes_start}
+use Rattle.app_routes.specs.Routes.{entries_of, routes, routes_next, routes_reads, routes_start}
 use Rattle.app_routes.specs.Ways.{HasRoutes, IsRoute}
 use Rattle.app_routes.specs.declared.entry.Entry.{Entry}
 
@@ -58,12 +60,11 @@ start_routes g = record {
 
 -- what is seen of j are entries of j
 seen_from : (j : ℕ) (v : ℕ → List Entry) (ids : List ℕ) (e : Entry) → Contains (entries_of j (seen (λ k. k == j) v ids)) e → Contains (v j) e
-seen_from j v [] e at = absurd (none_in e at)
-seen_from j v (k ∷ ids) e at = by (eqb_tells k j) (seen_from j v ids e)
+seen_from j v ids e = by (seen_at j (seen (λ k. k == j) v ids)) refl
   where
-    by : ((eqb k j ≡ true) × (k ≡ j)) ⊎ ((eqb k j ≡ false) × (k ≢ j)) → (Contains (entries_of j (seen (λ k. k == j) v ids)) e → Contains (v j) e) → Contains (v j) e
-    by (inl here) more = let here_at : Contains (v k) e = rw (here.0, here.0) at at in subst (λ n. Contains (v n) e) here.1 here_at
-    by (inr other) more = more (rw other.0 at at)
+    by : (o : Option (List Entry)) → seen_at j (seen (λ k. k == j) v ids) ≡ o → Contains (unwrap_or o []) e → Contains (v j) e
+    by None is at = absurd (none_in e at)
+    by (Some w) is at = subst (λ es. Contains es e) (seen_is j v ids w is) at
 
 -- an enabled case is a pull
 pub record Pulls (K case j : ℕ) (own : List Entry) (near : List (ℕ × List Entry)) (new : List Entry) : Type 0 where

@@ -3,7 +3,6 @@ pub mod Routes
 pub mod Ways
 pub mod Pulled
 pub mod LocalText
-pub mod Reading
 pub mod EntryLaws
 pub mod Laws
 pub mod RoutesCases

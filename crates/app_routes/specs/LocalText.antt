@@ -1,7 +1,8 @@
 -- The text of a local state.
-use Rattle.std.specs.Prelude.{ℕ, List, [], ◌∷◌, map, codes}
+use Rattle.std.specs.Prelude.{ℕ, List, [], ◌∷◌}
 use Rattle.std.specs.Fmt.{decimal}
 use Rattle.std.specs.List.{join_with_byte}
+use Rattle.action_tables.specs.Lists.{list_text}
 use Rattle.app_routes.specs.declared.entry.Entry.{Entry}
 
 -- the three numbers, joined by colons
@@ -10,5 +11,4 @@ entry_text e = join_with_byte 58 (decimal e.destination ∷ decimal e.hops ∷ d
 
 -- the entries joined by commas, or - where there is none
 abbrev pub routes_text : List Entry → List ℕ
-routes_text [] = codes "-"
-routes_text (e ∷ es) = join_with_byte 44 (entry_text e ∷ map entry_text es)
+routes_text = list_text entry_text

@@ -1,8 +1,9 @@
 -- What the one case of the routes does, and the start states.
-use Rattle.std.specs.Prelude.{ℕ, ◌==◌, ◌&&◌, if◌then◌else◌, Bool, ltb, List, [], ◌∷◌, Option, Some, None, Result, Ok, unwrap_or, codes}
+use Rattle.std.specs.Prelude.{ℕ, ◌==◌, if◌then◌else◌, List, [], ◌∷◌, Option, Some, None, Result, Ok, unwrap_or, codes}
 use Rattle.std.specs.Result.{result_ok}
 use Rattle.action_tables.specs.Table.{Row, fired_of}
 use Rattle.app_interface.specs.Application.{App}
+use Rattle.app_interface.specs.Ids.{is_id}
 use Rattle.app_interface.specs.Views.{seen_at}
 use Rattle.app_interface.specs.declared.reads.Reads.{Reads}
 use Rattle.app_interface.specs.declared.reads.Reads.TheVariants.{One}
@@ -11,9 +12,6 @@ use Rattle.app_interface.specs.declared.refusal.ClockRefusal.TheVariants.{NotEna
 use Rattle.topology.specs.Graph.{Graph}
 use Rattle.app_routes.specs.Entries.{pulled, some_better}
 use Rattle.app_routes.specs.declared.entry.Entry.{Entry}
-
-abbrev pub is_id : ℕ → Bool
-is_id j = ltb 0 j && ltb j 65536
 
 -- the entries of j, none where j isn't seen
 abbrev pub entries_of : ℕ → List (ℕ × List Entry) → List Entry

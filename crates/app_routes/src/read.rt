@@ -1,21 +1,17 @@
 // Reading the text of a local state.
-ghost use Rattle.std.specs.Prelude.{◌≡◌, ◌≢◌, ◌↔◌, ℕ, ◌-◌, ◌<◌, List, [], ◌∷◌, ◌++◌, Err, IfNone, IfOk, IfSome, IsTrue, OnOk, length};
-ghost use Rattle.std.specs.Fmt.{decimal};
-ghost use Rattle.std.specs.List.{HoldsAt};
+ghost use Rattle.std.specs.Prelude.{◌≡◌, ◌≢◌, ◌↔◌, List, Err, IfNone, IfOk, IfSome, IsTrue, OnOk, map};
+ghost use Rattle.app_interface.specs.Listing.{EndsBelow, NoNext, ReadsOn};
 ghost use Rattle.app_interface.specs.declared.refusal.LocalFault.TheVariants.{BadLocal};
-ghost use Rattle.topology.specs.Id.{IsId};
 ghost use Rattle.app_routes.specs.Entries.{AreRoutes, IsEntry};
 ghost use Rattle.app_routes.specs.LocalText.{entry_text, routes_text};
-ghost use Rattle.app_routes.specs.Reading.{ReadsOn};
 ghost use Rattle.app_routes.specs.declared.entry.Entry.{Entry};
 
 use crate::entry::Entry;
 use crate::local::RoutesLocal;
 use action_tables::{cut, read_number};
-use app_interface::LocalFault;
+use app_interface::{LocalFault, read_id};
 use smallvec::SmallVec;
 use std::alloc::Global;
-use topology::NodeId;
 
 /// The local state with this text, `BadLocal` where there is none.
 pub fn read_local(alloc: Global, text: &[u8]) -> Result<RoutesLocal, LocalFault>
@@ -38,8 +34,8 @@ pub fn read_local(alloc: Global, text: &[u8]) -> Result<RoutesLocal, LocalFault>
 // Puts the entry that the piece spells to the end of the list, which ascends.
 fn push_entry(entries: &mut SmallVec<Entry, 4>, piece: &[u8]) -> Result<(), LocalFault>
     requires { AreRoutes entries.old.items }
-    ensures ok { OnOk result (ReadsOn entries.old.items piece.now entries.new.items) }
-    ensures bad { result ≡ Err BadLocal → (e : Entry) → piece.now ≡ entry_text e → AreRoutes (entries.old.items ++ e ∷ []) → ⊥ }
+    ensures ok { OnOk result (ReadsOn AreRoutes entry_text entries.old.items piece.now entries.new.items) }
+    ensures bad { result ≡ Err BadLocal → NoNext AreRoutes entry_text entries.old.items piece.now }
 {
     let Some(entry) = read_entry(piece) else {
         return Err(LocalFault::BadLocal);
@@ -53,7 +49,7 @@ fn push_entry(entries: &mut SmallVec<Entry, 4>, piece: &[u8]) -> Result<(), Loca
 
 // Whether the destination is above that of the last entry.
 fn is_above(entries: &[Entry], destination: u32) -> bool
-    ensures { IsTrue result ↔ (0 < length entries.now → HoldsAt (λ e. e.destination < destination) entries.now (length entries.now - 1)) }
+    ensures { IsTrue result ↔ EndsBelow (map (λ e. e.destination) entries.now) destination }
 {
     match entries {
         [] => true,
@@ -70,19 +66,8 @@ fn read_entry(text: &[u8]) -> Option<Entry>
     let (destination, rest) = cut(text, b':')?;
     let (hops, next) = cut(rest, b':')?;
     Some(Entry {
-        destination: read_id(destination)?,
+        destination: read_id(destination)?.get(),
         hops: read_number(hops)?,
-        next: read_id(next)?,
+        next: read_id(next)?.get(),
     })
-}
-
-// The identifier that a text spells: a number from 1 to 65535.
-fn read_id(text: &[u8]) -> Option<u32>
-    ensures found { IfSome result (λ id. text.now ≡ decimal id) }
-    ensures id { IfSome result IsId }
-    ensures only { IfNone result ((id : ℕ) → IsId id → text.now ≡ decimal id → ⊥) }
-{
-    let number = read_number(text)?;
-    let id = NodeId::new(number)?;
-    Some(id.get())
 }

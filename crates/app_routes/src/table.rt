@@ -7,16 +7,15 @@ ghost use Rattle.app_interface.specs.Views.{seen_values};
 ghost use Rattle.app_interface.specs.declared.refusal.ClockRefusal.TheVariants.{NotEnabled};
 ghost use Rattle.topology.specs.Id.{IsId};
 ghost use Rattle.app_routes.specs.Entries.{AreRoutes, pulled, some_better};
-ghost use Rattle.app_routes.specs.Routes.{entries_of, is_id, routes_names, routes_next, routes_table};
+ghost use Rattle.app_routes.specs.Routes.{entries_of, routes_names, routes_next, routes_table};
 ghost use Rattle.app_routes.specs.declared.entry.Entry.{Entry};
 
 use crate::entry::Entry;
 use crate::local::RoutesLocal;
 use crate::pull;
 use action_tables::{CaseRow, case_rows, enabled_cases, fire_case};
-use app_interface::{ClockRefusal, Here, Seen, seen_at};
+use app_interface::{ClockRefusal, Here, Seen, is_id, seen_at};
 use std::alloc::Global;
-use topology::NodeId;
 
 // The row, for the macro that is named. `$better` says whether some entry of the neighbour `$j`, of
 // those in `$theirs`, is better than what the node has.
@@ -119,13 +118,6 @@ fn entries_of<'a>(j: u32, seen: &[Seen<'a, RoutesLocal>]) -> &'a [Entry]
         Some(theirs) => theirs.entries(),
         None => &[],
     }
-}
-
-// Whether an identifier has this number.
-fn is_id(number: u32) -> bool
-    ensures { result ≡ is_id number }
-{
-    NodeId::new(number).is_some()
 }
 
 /// The row of the routes' table as it is printed.

@@ -1,5 +1,5 @@
 -- An ascending list after a removal or an insertion at the place that a binary search finds.
-use Rattle.std.proofs.Common.{◌≡◌, ◌≢◌, ℕ, zero, suc, ◌<◌, ◌≤◌, Bool, true, false, not, ltb, eqb, List, [], ◌∷◌, ◌++◌, length, get_or, take, drop, insert, All, Ok, Err, refl, sym, ap, ap₂, ◌∙◌, subst, arith, nat_cmp, eq-eqb, ne_eqb, lt-ltb, le-ltb}
+use Rattle.std.proofs.Common.{◌≡◌, ◌≢◌, ℕ, zero, suc, ◌<◌, Bool, true, false, not, ltb, eqb, List, [], ◌∷◌, ◌++◌, length, get_or, take, drop, insert, All, Ok, Err, refl, sym, ap, ap₂, ◌∙◌, subst, arith, nat_cmp, eq-eqb, ne_eqb, lt-ltb, le-ltb}
 use Rattle.std.specs.List.{filter, remove}
 use Rattle.std.specs.List.Sorted.{IsBinarySearchResult}
 use Rattle.std.proofs.lemmas.List.Elements.{All-append, All-filter}
@@ -7,37 +7,15 @@ use Rattle.std.proofs.lemmas.List.Kept.{IsStrictlyIncreasing-filter}
 use Rattle.topology.specs.Id.{IsId}
 use Rattle.topology.proofs.Ascending.{finds, member_by_search, index_once}
 use Rattle.topology.proofs.Inserting.{inserted}
+use Rattle.app_interface.proofs.KeptByPlace.{keeps_all, keeps_back, keeps_front}
+use Rattle.app_interface.proofs.ListEnds.{all_one}
 use Rattle.app_token.specs.Bits.{IsBits, bit_of, toggled, without_id}
-
-keeps_all : (p : ℕ → Bool) (xs : List ℕ) → ((k : ℕ) → k < length xs → p (get_or xs k 0) ≡ true) → filter p xs ≡ xs
-keeps_all p [] h = refl
-keeps_all p (x ∷ xs) h = rw (h 0 (omega arith)) (ap (λ l. x ∷ l) (keeps_all p xs (λ k lt. h (suc k) (omega arith))))
-
-keeps_none : (p : ℕ → Bool) (xs : List ℕ) → ((k : ℕ) → k < length xs → p (get_or xs k 0) ≡ false) → filter p xs ≡ []
-keeps_none p [] h = refl
-keeps_none p (x ∷ xs) h = rw (h 0 (omega arith)) (keeps_none p xs (λ k lt. h (suc k) (omega arith)))
-
--- what passes up to a place and nowhere from it on
-keeps_front : (p : ℕ → Bool) (xs : List ℕ) (i : ℕ) → i ≤ length xs → ((k : ℕ) → k < i → p (get_or xs k 0) ≡ true) →
-    ((k : ℕ) → i ≤ k → k < length xs → p (get_or xs k 0) ≡ false) → filter p xs ≡ take i xs
-keeps_front p xs zero le front back = keeps_none p xs (λ k lt. back k (omega arith) lt)
-keeps_front p [] (suc i) le front back = absurd (omega arith)
-keeps_front p (x ∷ xs) (suc i) le front back =
-    rw (front 0 (omega arith)) (ap (λ l. x ∷ l) (keeps_front p xs i (omega arith) (λ k lt. front (suc k) (omega arith)) (λ k ge lt. back (suc k) (omega arith) (omega arith))))
-
--- what passes from a place on and nowhere before it
-keeps_back : (p : ℕ → Bool) (xs : List ℕ) (i : ℕ) → i ≤ length xs → ((k : ℕ) → k < i → p (get_or xs k 0) ≡ false) →
-    ((k : ℕ) → i ≤ k → k < length xs → p (get_or xs k 0) ≡ true) → filter p xs ≡ drop i xs
-keeps_back p xs zero le front back = keeps_all p xs (λ k lt. back k (omega arith) lt)
-keeps_back p [] (suc i) le front back = absurd (omega arith)
-keeps_back p (x ∷ xs) (suc i) le front back =
-    rw (front 0 (omega arith)) (keeps_back p xs i (omega arith) (λ k lt. front (suc k) (omega arith)) (λ k ge lt. back (suc k) (omega arith) (omega arith)))
 
 -- what passes everywhere but at one place
 keeps_others : (p : ℕ → Bool) (xs : List ℕ) (i : ℕ) → i < length xs → p (get_or xs i 0) ≡ false →
     ((k : ℕ) → k ≢ i → k < length xs → p (get_or xs k 0) ≡ true) → filter p xs ≡ remove xs i
 keeps_others p [] i lt here others = absurd (omega arith)
-keeps_others p (x ∷ xs) zero lt here others = rw here (keeps_all p xs (λ k lt. others (suc k) (omega arith) (omega arith)))
+keeps_others p (x ∷ xs) zero lt here others = rw here (keeps_all p xs 0 (λ k lt. others (suc k) (omega arith) (omega arith)))
 keeps_others p (x ∷ xs) (suc i) lt here others =
     rw (others 0 (omega arith) (omega arith)) (ap (λ l. x ∷ l) (keeps_others p xs i (omega arith) here (λ k ne lt. others (suc k) (omega (arith, ne)) (omega arith))))
 
@@ -63,9 +41,9 @@ module _ (xs : List ℕ) (x : ℕ) (are : IsBits xs) where
       let place = finds xs x are.ascending (Err i) h in
       let absent : false ≡ bit_of xs x = member_by_search xs x are.ascending (Err i) h in
       let lesser : filter (λ y. ltb y x) xs ≡ take i xs =
-      keeps_front (λ y. ltb y x) xs i place.0 (λ k lt. lt-ltb _ _ (place.1 k lt)) (λ k ge lt. le-ltb _ _ (omega (arith, place.2 k ge lt))) in
+      keeps_front (λ y. ltb y x) xs i 0 place.0 (λ k lt. lt-ltb _ _ (place.1 k lt)) (λ k ge lt. le-ltb _ _ (omega (arith, place.2 k ge lt))) in
       let greater : filter (λ y. ltb x y) xs ≡ drop i xs =
-      keeps_back (λ y. ltb x y) xs i place.0 (λ k lt. le-ltb _ _ (omega (arith, place.1 k lt))) (λ k ge lt. lt-ltb _ _ (place.2 k ge lt)) in
+      keeps_back (λ y. ltb x y) xs i 0 place.0 (λ k lt. le-ltb _ _ (omega (arith, place.1 k lt))) (λ k ge lt. lt-ltb _ _ (place.2 k ge lt)) in
       rw (← absent) (sym (ap₂ (λ a b. a ++ x ∷ b) lesser greater))
 
   pub IsBits-put_in : (i : ℕ) → IsId x → IsBinarySearchResult {X = ℕ} (λ y. nat_cmp y x) xs (Err i) → IsBits (insert xs i x)
@@ -74,12 +52,8 @@ module _ (xs : List ℕ) (x : ℕ) (are : IsBits xs) where
       let lesser : List ℕ = filter (λ y. ltb y x) xs in
       let greater : List ℕ = filter (λ y. ltb x y) xs in
       let all : All IsId (lesser ++ x ∷ greater) =
-      All-append IsId lesser (x ∷ greater) (All-filter _ IsId xs are.are_ids) (All-append IsId (x ∷ []) greater (one id) (All-filter _ IsId xs are.are_ids)) in
+      All-append IsId lesser (x ∷ greater) (All-filter _ IsId xs are.are_ids) (All-append IsId (x ∷ []) greater (all_one IsId x id) (All-filter _ IsId xs are.are_ids)) in
       record {
         ascending = (inserted xs x are.ascending i h).ascending;
         are_ids = subst (All IsId) (sym (put_in i h ∙ rw (← absent) refl)) all;
       }
-    where
-      one : {y : ℕ} → IsId y → All IsId (y ∷ [])
-      one id zero d lt = id
-      one id (suc k) d lt = absurd (omega arith)

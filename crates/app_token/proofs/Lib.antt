@@ -1,4 +1,2 @@
 mod BitLists
-mod TokenTable
-mod IdTexts
 mod Listing

@@ -6,5 +6,4 @@ pub mod Sums
 pub mod BitLaws
 pub mod Laws
 pub mod Spelling
-pub mod Reading
 pub mod TokenCases

@@ -1,9 +1,10 @@
 -- What the two cases of the token do, and the start states.
-use Rattle.std.specs.Prelude.{ℕ, ◌==◌, ◌&&◌, if◌then◌else◌, Bool, true, false, not, ltb, List, [], ◌∷◌, Option, Some, None, Result, Ok, codes}
+use Rattle.std.specs.Prelude.{ℕ, ◌==◌, ◌&&◌, if◌then◌else◌, Bool, true, false, not, List, [], ◌∷◌, Option, Some, None, Result, Ok, codes}
 use Rattle.std.specs.Option.{option_map_or}
 use Rattle.std.specs.Result.{result_ok}
 use Rattle.action_tables.specs.Table.{Row, fired_of}
 use Rattle.app_interface.specs.Application.{App}
+use Rattle.app_interface.specs.Ids.{is_id}
 use Rattle.app_interface.specs.Views.{seen_at}
 use Rattle.app_interface.specs.declared.reads.Reads.{Reads}
 use Rattle.app_interface.specs.declared.reads.Reads.TheVariants.{Toward, One}
@@ -17,9 +18,6 @@ use Rattle.app_token.specs.declared.local.TokenLocal.{TokenLocal}
 abbrev pub differ : Bool → Bool → Bool
 differ true b = not b
 differ false b = b
-
-abbrev pub is_id : ℕ → Bool
-is_id j = ltb 0 j && ltb j 65536
 
 -- whether the token is on its way from j to node i: j's given bit for i and i's taken bit for j differ
 abbrev pub arrives : ℕ → ℕ → TokenLocal → List (ℕ × TokenLocal) → Bool

@@ -8,7 +8,6 @@
 
 mod bits;
 mod local;
-mod number;
 mod read;
 mod show;
 mod table;

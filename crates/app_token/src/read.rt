@@ -1,17 +1,17 @@
 // Reading the text of a local state.
-ghost use Rattle.std.specs.Prelude.{◌≡◌, ◌≢◌, ◌↔◌, ℕ, ◌-◌, ◌<◌, Bool, List, [], ◌∷◌, ◌++◌, Err, IfNone, IfOk, IfSome, IsTrue, OnOk, length, slice_index};
+ghost use Rattle.std.specs.Prelude.{◌≡◌, ◌≢◌, ◌↔◌, ℕ, Bool, List, Err, IfNone, IfOk, IfSome, IsTrue, OnOk};
 ghost use Rattle.std.specs.Fmt.{decimal};
+ghost use Rattle.action_tables.specs.RowText.{set_text};
+ghost use Rattle.app_interface.specs.Listing.{EndsBelow, NoNext, ReadsOn};
 ghost use Rattle.app_interface.specs.declared.refusal.LocalFault.TheVariants.{BadLocal};
 ghost use Rattle.app_token.specs.Bits.{IsBits};
-ghost use Rattle.app_token.specs.LocalText.{IsTokenLocal, hold_text, ids_text, local_text};
-ghost use Rattle.app_token.specs.Reading.{ReadsOn};
+ghost use Rattle.app_token.specs.LocalText.{IsTokenLocal, hold_text, local_text};
 ghost use Rattle.app_token.specs.declared.local.TokenLocal.{TokenLocal};
 
 use crate::bits::Bits;
 use crate::local::TokenLocal;
-use crate::number::read_id;
 use action_tables::cut;
-use app_interface::LocalFault;
+use app_interface::{LocalFault, read_id};
 use smallvec::SmallVec;
 use std::alloc::Global;
 
@@ -50,8 +50,8 @@ fn read_hold(text: &[u8]) -> Option<bool>
 
 // The identifiers that a text lists.
 fn read_ids(alloc: Global, text: &[u8]) -> Result<Bits, LocalFault>
-    ensures ok { IfOk result (λ ids. ids_text ids ≡ text.now) }
-    ensures bad { result ≡ Err BadLocal → (ids : List ℕ) → IsBits ids → ids_text ids ≢ text.now }
+    ensures ok { IfOk result (λ ids. set_text ids ≡ text.now) }
+    ensures bad { result ≡ Err BadLocal → (ids : List ℕ) → IsBits ids → set_text ids ≢ text.now }
 {
     if text == b"-".as_slice() {
         return Ok(Bits::none(alloc));
@@ -69,8 +69,8 @@ fn read_ids(alloc: Global, text: &[u8]) -> Result<Bits, LocalFault>
 // Puts the identifier that the piece spells to the end of the list, which ascends.
 fn push_id(ids: &mut SmallVec<u32, 4>, piece: &[u8]) -> Result<(), LocalFault>
     requires { IsBits ids.old.items }
-    ensures ok { OnOk result (ReadsOn ids.old.items piece.now ids.new.items) }
-    ensures bad { result ≡ Err BadLocal → (id : ℕ) → piece.now ≡ decimal id → IsBits (ids.old.items ++ id ∷ []) → ⊥ }
+    ensures ok { OnOk result (ReadsOn IsBits decimal ids.old.items piece.now ids.new.items) }
+    ensures bad { result ≡ Err BadLocal → NoNext IsBits decimal ids.old.items piece.now }
 {
     let Some(id) = read_id(piece) else {
         return Err(LocalFault::BadLocal);
@@ -84,7 +84,7 @@ fn push_id(ids: &mut SmallVec<u32, 4>, piece: &[u8]) -> Result<(), LocalFault>
 
 // Whether the identifier is above the last of the list.
 fn is_above(ids: &[u32], id: u32) -> bool
-    ensures { IsTrue result ↔ (0 < length ids.now → slice_index ids.now (length ids.now - 1) < id) }
+    ensures { IsTrue result ↔ EndsBelow ids.now id }
 {
     match ids {
         [] => true,

@@ -1,13 +1,12 @@
 // Writing the text of a local state.
-ghost use Rattle.std.specs.Prelude.{◌∷◌, ◌++◌, OnErr, OnOk};
-ghost use Rattle.std.specs.Fmt.{decimal};
+ghost use Rattle.std.specs.Prelude.{◌∷◌, OnErr, OnOk};
 ghost use Rattle.std.specs.Io.KnownBytes.{Appends};
-ghost use Rattle.std.specs.List.{flat_map};
+ghost use Rattle.action_tables.specs.RowText.{set_text};
 ghost use Rattle.action_tables.specs.Written.{AppendsFront};
-ghost use Rattle.app_token.specs.LocalText.{hold_text, ids_text, local_text};
+ghost use Rattle.app_token.specs.LocalText.{hold_text, local_text};
 
 use crate::local::TokenLocal;
-use action_tables::{WriteFault, put_bytes, put_number};
+use action_tables::{WriteFault, put_bytes, put_list};
 use std::io::Write;
 
 /// Writes `hold` or `free`, and after a slash each the identifiers whose given bit is one and those
@@ -35,49 +34,9 @@ fn put_hold<W: Write>(out: &mut W, hold: bool) -> Result<(), WriteFault>
 
 // Writes a slash and the identifiers.
 fn put_slash_ids<W: Write>(out: &mut W, ids: &[u32]) -> Result<(), WriteFault>
-    ensures ok { OnOk result (Appends (W.contents out.old) (W.contents out.new) (47 ∷ ids_text ids.now)) }
-    ensures err { OnErr result (AppendsFront (W.contents out.old) (W.contents out.new) (47 ∷ ids_text ids.now)) }
+    ensures ok { OnOk result (Appends (W.contents out.old) (W.contents out.new) (47 ∷ set_text ids.now)) }
+    ensures err { OnErr result (AppendsFront (W.contents out.old) (W.contents out.new) (47 ∷ set_text ids.now)) }
 {
     put_bytes(out, b"/")?;
-    put_ids(out, ids)
-}
-
-// Writes the identifiers joined by commas, or `-` where there is none.
-fn put_ids<W: Write>(out: &mut W, ids: &[u32]) -> Result<(), WriteFault>
-    ensures ok { OnOk result (Appends (W.contents out.old) (W.contents out.new) (ids_text ids.now)) }
-    ensures err { OnErr result (AppendsFront (W.contents out.old) (W.contents out.new) (ids_text ids.now)) }
-{
-    match ids {
-        [] => put_bytes(out, b"-"),
-        [first, rest @ ..] => put_some_ids(out, *first, rest),
-    }
-}
-
-// Writes the first identifier, and each other after a comma.
-fn put_some_ids<W: Write>(out: &mut W, first: u32, rest: &[u32]) -> Result<(), WriteFault>
-    ensures ok { OnOk result (Appends (W.contents out.old) (W.contents out.new) (decimal first ++ flat_map (λ id. 44 ∷ decimal id) rest.now)) }
-    ensures err { OnErr result (AppendsFront (W.contents out.old) (W.contents out.new) (decimal first ++ flat_map (λ id. 44 ∷ decimal id) rest.now)) }
-{
-    put_number(out, u64::from(first))?;
-    put_more_ids(out, rest)
-}
-
-// Writes each identifier after a comma.
-fn put_more_ids<W: Write>(out: &mut W, ids: &[u32]) -> Result<(), WriteFault>
-    ensures ok { OnOk result (Appends (W.contents out.old) (W.contents out.new) (flat_map (λ id. 44 ∷ decimal id) ids.now)) }
-    ensures err { OnErr result (AppendsFront (W.contents out.old) (W.contents out.new) (flat_map (λ id. 44 ∷ decimal id) ids.now)) }
-{
-    for id in ids {
-        put_comma_id(out, *id)?;
-    }
-    Ok(())
-}
-
-// Writes a comma and the identifier.
-fn put_comma_id<W: Write>(out: &mut W, id: u32) -> Result<(), WriteFault>
-    ensures ok { OnOk result (Appends (W.contents out.old) (W.contents out.new) (44 ∷ decimal id)) }
-    ensures err { OnErr result (AppendsFront (W.contents out.old) (W.contents out.new) (44 ∷ decimal id)) }
-{
-    put_bytes(out, b",")?;
-    put_number(out, u64::from(id))
+    put_list(out, ids)
 }

@@ -7,14 +7,13 @@ ghost use Rattle.app_interface.specs.Views.{seen_values};
 ghost use Rattle.app_interface.specs.declared.refusal.ClockRefusal.TheVariants.{NotEnabled};
 ghost use Rattle.topology.specs.Id.{IsId};
 ghost use Rattle.app_token.specs.Bits.{toggled};
-ghost use Rattle.app_token.specs.Token.{arrives, is_id, token_names, token_next, token_table};
+ghost use Rattle.app_token.specs.Token.{arrives, token_names, token_next, token_table};
 ghost use Rattle.app_token.specs.declared.local.TokenLocal.{TokenLocal};
 
 use crate::local::TokenLocal;
 use action_tables::{CaseRow, case_rows, enabled_cases, fire_case};
-use app_interface::{ClockRefusal, Here, Seen, seen_at};
+use app_interface::{ClockRefusal, Here, Seen, is_id, seen_at};
 use std::alloc::Global;
-use topology::NodeId;
 
 // The rows, for the macro that is named. `$arrives` says whether the token is on its way from the
 // neighbour `$j`.
@@ -124,13 +123,6 @@ fn arrives(id: u32, j: u32, own: &TokenLocal, seen: &[Seen<'_, TokenLocal>]) -> 
         Some(theirs) => theirs.given.has(id) != own.taken.has(j),
         None => false,
     }
-}
-
-// Whether an identifier has this number.
-fn is_id(number: u32) -> bool
-    ensures { result ≡ is_id number }
-{
-    NodeId::new(number).is_some()
 }
 
 /// The rows of the token table as they are printed.

@@ -1,10 +1,18 @@
-// Reading identifiers.
+// Identifiers, as numbers and as texts.
 ghost use Rattle.std.specs.Prelude.{◌≡◌, ℕ, IfNone, IfSome};
 ghost use Rattle.std.specs.Fmt.{decimal};
 ghost use Rattle.topology.specs.Id.{IsId};
+ghost use Rattle.app_interface.specs.Ids.{is_id};
 
 use action_tables::read_number;
 use topology::NodeId;
+
+/// Whether an identifier has this number.
+pub fn is_id(number: u32) -> bool
+    ensures { result ≡ is_id number }
+{
+    NodeId::new(number).is_some()
+}
 
 /// The identifier that a text spells: a number from 1 to 65535 in decimal digits, without leading zeros.
 pub fn read_id(text: &[u8]) -> Option<NodeId>
@@ -12,8 +20,5 @@ pub fn read_id(text: &[u8]) -> Option<NodeId>
     ensures id { IfSome result IsId }
     ensures only { IfNone result ((id : ℕ) → IsId id → text.now ≡ decimal id → ⊥) }
 {
-    match read_number(text) {
-        Some(number) => NodeId::new(number),
-        None => None,
-    }
+    NodeId::new(read_number(text)?)
 }

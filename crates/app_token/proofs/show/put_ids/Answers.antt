@@ -1,8 +1,0 @@
-use Rattle.app_token.proofs.IdTexts.{some_ids}
-use Rattle.app_token.proofs.show.put_ids.Goals as goal
-
-pub returns-in-len1-up-clause-ok : goal.returns-in-len1-up-clause-ok
-returns-in-len1-up-clause-ok g c = rw (some_ids c.args.ids.now c.in-len1-up.len_at_least) c.put_some_ids.ensures.ok
-
-pub returns-in-len1-up-clause-err : goal.returns-in-len1-up-clause-err
-returns-in-len1-up-clause-err g c = rw (some_ids c.args.ids.now c.in-len1-up.len_at_least) c.put_some_ids.ensures.err
