@@ -18,6 +18,7 @@ use wave_layer::{FatherSeen, Phase, WaveRegs, WaveView};
 
 /// The one child that the rows of the event look at, with its registers. A relay looks at the child
 /// that it names. To finish, a child that isn't done tells as much as all of them.
+#[inline(always)]
 pub fn child_looked_at(
     topology: &Topology,
     trees: &[TreeRegs],
@@ -45,6 +46,7 @@ pub fn child_looked_at(
 }
 
 /// The view that suffices for the rows of the event, from the child that they look at.
+#[inline(always)]
 pub fn narrow_view<'a>(
     topology: &Topology,
     trees: &[TreeRegs],
@@ -69,6 +71,7 @@ pub fn narrow_view<'a>(
 
 // What the rows of the event look at of the father. Where they ask only whether the node is its own
 // father, any other father is as good as a lost one, and isn't looked for.
+#[inline(always)]
 fn father_looked_at(
     topology: &Topology,
     trees: &[TreeRegs],

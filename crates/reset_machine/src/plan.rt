@@ -58,8 +58,8 @@ pub fn planned(
     }
 }
 
-// What the rows of the event answer at its node, which has this index. Rows of the wave table are
-// tried on the part of the node's view that they look at, since on it they answer as on the whole.
+// What the rows of the event answer at its node, which has this index. Each event of the wave has an
+// arm of its own, so that the code which is inlined there knows its rows and what they look at.
 fn answer(
     alloc: Global,
     topology: &Topology,
@@ -74,19 +74,65 @@ fn answer(
     ensures exact { MatchResult result (λ does. answer_of topology.now (node_bound topology.now) (tree_map topology.now trees.now) (wave_map topology.now waves.now) event ≡ Ok does)
         (λ f. f ≢ StepRefusal.NoMemory → answer_of topology.now (node_bound topology.now) (tree_map topology.now trees.now) (wave_map topology.now waves.now) event ≡ Err f) }
 {
-    if event.is_of_tree() {
-        let mut near = Vec::new(alloc);
-        read_near_trees(topology, trees, ix, &mut near)?;
-        let view = tree_view(topology, trees, &near, event.node(), ix);
-        first_answer(&Seen::Tree(view), event.named(), event.cases())
-    } else {
-        let child = child_looked_at(topology, trees, waves, event, ix);
-        let view = narrow_view(topology, trees, waves, child.as_slice(), event, ix);
-        first_answer(&Seen::Wave(view), event.named(), event.cases())
+    match event {
+        Event::Claim { .. } | Event::Follow { .. } | Event::Adopt { .. } => {
+            tree_answer(alloc, topology, trees, waves, event, ix)
+        }
+        Event::Request { .. } => wave_answer(topology, trees, waves, event, ix),
+        Event::Relay { .. } => wave_answer(topology, trees, waves, event, ix),
+        Event::Open { .. } => wave_answer(topology, trees, waves, event, ix),
+        Event::Join { .. } => wave_answer(topology, trees, waves, event, ix),
+        Event::Finish { .. } => wave_answer(topology, trees, waves, event, ix),
+        Event::Mend { .. } => wave_answer(topology, trees, waves, event, ix),
+        Event::Act { .. } => Err(StepRefusal::NotEnabled),
     }
 }
 
+// What the rows of an event of the tree answer.
+fn tree_answer(
+    alloc: Global,
+    topology: &Topology,
+    trees: &[TreeRegs],
+    waves: &[WaveRegs],
+    event: Event,
+    ix: usize,
+) -> Result<Effect, StepRefusal>
+    requires tree { is_of_tree event ≡ true }
+    requires place { position (λ i. i == event_node event) topology.now.ids ≡ Some ix }
+    requires all_trees { length trees.now ≡ length topology.now.ids }
+    ensures exact { MatchResult result (λ does. answer_of topology.now (node_bound topology.now) (tree_map topology.now trees.now) (wave_map topology.now waves.now) event ≡ Ok does)
+        (λ f. f ≢ StepRefusal.NoMemory → answer_of topology.now (node_bound topology.now) (tree_map topology.now trees.now) (wave_map topology.now waves.now) event ≡ Err f) }
+{
+    let mut near = Vec::new(alloc);
+    read_near_trees(topology, trees, ix, &mut near)?;
+    let view = tree_view(topology, trees, &near, event.node(), ix);
+    first_answer(&Seen::Tree(view), event.named(), event.cases())
+}
+
+// What the rows of an event of the wave answer. They are tried on the part of the node's view that
+// they look at, since on it they answer as on the whole.
+#[inline(always)]
+fn wave_answer(
+    topology: &Topology,
+    trees: &[TreeRegs],
+    waves: &[WaveRegs],
+    event: Event,
+    ix: usize,
+) -> Result<Effect, StepRefusal>
+    requires wave { is_of_tree event ≡ false }
+    requires place { position (λ i. i == event_node event) topology.now.ids ≡ Some ix }
+    requires all_trees { length trees.now ≡ length topology.now.ids }
+    requires all_waves { length waves.now ≡ length topology.now.ids }
+    ensures exact { MatchResult result (λ does. answer_of topology.now (node_bound topology.now) (tree_map topology.now trees.now) (wave_map topology.now waves.now) event ≡ Ok does)
+        (λ f. f ≢ StepRefusal.NoMemory → answer_of topology.now (node_bound topology.now) (tree_map topology.now trees.now) (wave_map topology.now waves.now) event ≡ Err f) }
+{
+    let child = child_looked_at(topology, trees, waves, event, ix);
+    let view = narrow_view(topology, trees, waves, child.as_slice(), event, ix);
+    first_answer(&Seen::Wave(view), event.named(), event.cases())
+}
+
 // Fires the first of the rows whose guard holds.
+#[inline(always)]
 fn first_answer(seen: &Seen<'_>, named: Option<u32>, cases: &[u8]) -> Result<Effect, StepRefusal>
     ensures { result ≡ first_answer seen.now named cases.now }
 {
@@ -100,6 +146,7 @@ fn first_answer(seen: &Seen<'_>, named: Option<u32>, cases: &[u8]) -> Result<Eff
 }
 
 // Fires a row of the layer's table.
+#[inline(always)]
 fn row_answer(seen: &Seen<'_>, named: Option<u32>, case: u8) -> Result<Effect, StepRefusal>
     ensures { result ≡ row_answer seen.now named case }
 {
