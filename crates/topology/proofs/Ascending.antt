@@ -103,9 +103,6 @@ module _ (xs : List ℕ) (x : ℕ) (up : IsStrictlyIncreasing xs) where
       (λ lt. absurd (omega arith)) in
       rw at (rw (le-ltb (length xs) (length xs) (omega arith)) refl)
 
-  pub position_by_search : (r : Result ℕ ℕ) → IsBinarySearchResult (λ y. nat_cmp y x) xs r → result_ok r ≡ position (λ i. eqb i x) xs
-  position_by_search r h = place_of_found r (finds r h)
-
   -- a number at an index has a place
   pub place_of_member : (k : ℕ) → k < length xs → get_or xs k 0 ≡ x → Some k ≡ position (λ i. eqb i x) xs
   place_of_member k within e = place_of_found (Ok k) (within, e)

@@ -1,6 +1,6 @@
 -- From checked lists and the marks of a search to a topology, or to a node that is cut off.
 use Rattle.std.proofs.Common.{◌≡◌, ℕ, ◌<◌, ◌≤◌, eqb, List, length, get_or, Option, Some, None, Vec, Global, vec_len, position, refl, sym, subst, subst₂, ◌∙◌, arith}
-use Rattle.std.proofs.lemmas.List.{length-map, get_or_read}
+use Rattle.std.proofs.lemmas.List.{length-map}
 use Rattle.std.proofs.lemmas.Bool.{eqb-true, eqb-false}
 use Rattle.std.proofs.lemmas.List.Quantifiers.{position-Some}
 use Rattle.std.proofs.lemmas.List.Elements.{Contains-get_or}
@@ -62,19 +62,19 @@ module _ (nodes ids : List ℕ) (links : List (ℕ × ℕ)) (rows : List (List �
             (λ k low. eqb-false (get_or marks k 0) (length ids) (place.2 k low)),
       )
 
--- the same, where the parts are vectors that were lent to the calls
-module _ (nodes ids : List ℕ) (links : List (ℕ × ℕ)) (near : Vec (Vec ℕ Global) Global) (as_ids : AreIds ids) (sorted : AreSorted nodes ids) (few : length links ≤ MAX_LINKS)
-    (lent_ids : List ℕ) (ids_are : lent_ids ≡ ids) (apart : AreApart lent_ids links) (joined : AreJoined lent_ids links (rows_of near.items))
+-- the same, where the ids are the list that was checked, and the rows and the marks were lent to the calls
+module _ (nodes ids : List ℕ) (links : List (ℕ × ℕ)) (near : Vec (Vec ℕ Global) Global) (made : List ℕ) (made_are : ids ≡ made) (as_made : AreIds made) (sorted_made : AreSorted nodes made)
+    (few : length links ≤ MAX_LINKS) (apart : AreApart ids links) (joined : AreJoined ids links (rows_of near.items))
     (lent_near : List (Vec ℕ Global)) (near_is : lent_near ≡ near.items) (marks : List ℕ) (found : AreDistances (length lent_near) (rows_of lent_near) 0 marks)
     (lent_marks : List ℕ) (marks_are : lent_marks ≡ marks) (count : ℕ) (count_is : count ≡ vec_len near) where
-  apart_ids : AreApart ids links
-  apart_ids = subst (λ xs. AreApart xs links) ids_are apart
+  as_ids : AreIds ids
+  as_ids = subst AreIds (sym made_are) as_made
 
-  joined_ids : AreJoined ids links (rows_of near.items)
-  joined_ids = subst (λ xs. AreJoined xs links (rows_of near.items)) ids_are joined
+  sorted : AreSorted nodes ids
+  sorted = subst (AreSorted nodes) (sym made_are) sorted_made
 
   rows_count : length near.items ≡ length ids
-  rows_count = sym (length-map near.items (λ row. row.items)) ∙ joined_ids.as_rows.count
+  rows_count = sym (length-map near.items (λ row. row.items)) ∙ joined.as_rows.count
 
   found_ids : AreDistances (length ids) (rows_of near.items) 0 marks
   found_ids =
@@ -85,18 +85,13 @@ module _ (nodes ids : List ℕ) (links : List (ℕ × ℕ)) (near : Vec (Vec ℕ
       subst₂ (λ n xs. o ≡ position (λ m. eqb m n) xs) (omega (arith, count_is, near.ok.0, rows_count)) marks_are at
 
   pub lent_parts : None ≡ position (λ m. eqb m count) lent_marks → AreParts ids (rows_of near.items) (length links)
-  lent_parts none = parts nodes ids links (rows_of near.items) as_ids sorted few apart_ids joined_ids marks found_ids (place_of_count None none)
+  lent_parts none = parts nodes ids links (rows_of near.items) as_ids sorted few apart joined marks found_ids (place_of_count None none)
 
   pub lent_topology : None ≡ position (λ m. eqb m count) lent_marks → IsTopologyOf nodes links (graph_of ids (rows_of near.items))
-  lent_topology none =
-      topology_of_lists nodes ids links (rows_of near.items) as_ids sorted few apart_ids joined_ids marks found_ids (place_of_count None none)
+  lent_topology none = topology_of_lists nodes ids links (rows_of near.items) as_ids sorted few apart joined marks found_ids (place_of_count None none)
 
-  pub lent_cut_off : (i x : ℕ) → Some i ≡ position (λ m. eqb m count) lent_marks → x ≡ get_or ids i x → IsFirstFault nodes links (Disconnected x)
-  lent_cut_off i x at read =
-      let place = place_of_count (Some i) at in
-      let within : i < length ids = omega (arith, (position-Some (λ m. eqb m (length ids)) marks i 0 (sym place)).0, found_ids.are_reached.count) in
-      subst (λ y. IsFirstFault nodes links (Disconnected y)) (sym (get_or_read ids i x within read 0))
-      (cut_off_first nodes ids links (rows_of near.items) as_ids sorted few apart_ids joined_ids marks found_ids i place)
+  pub lent_cut_off : (i : ℕ) → Some i ≡ position (λ m. eqb m count) lent_marks → IsFirstFault nodes links (Disconnected (get_or ids i 0))
+  lent_cut_off i at = cut_off_first nodes ids links (rows_of near.items) as_ids sorted few apart joined marks found_ids i (place_of_count (Some i) at)
 
 -- the marks of a search in a topology are distances
 pub distance_in : (ids : List ℕ) (rows : List (List ℕ)) (count : ℕ) → AreParts ids rows count → (start : ℕ) → start < length ids → (marks : List ℕ) → AreDistances (length ids) rows start marks → (k : ℕ) → k < length ids →

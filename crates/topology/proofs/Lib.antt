@@ -1,4 +1,5 @@
 pub mod Ascending
+pub mod Places
 pub mod RowLemmas
 pub mod Inserting
 pub mod FirstItems

@@ -1,5 +1,5 @@
 -- A graph kept as rows: for each index of an id, the indexes of its neighbours.
-use Rattle.std.specs.Prelude.{◌≡◌, ℕ, ◌<◌, ◌≤◌, Bool, true, false, List, [], All, map, length, slice_index, slice_index_or, ◌==◌, ◌*◌}
+use Rattle.std.specs.Prelude.{◌≡◌, ℕ, ◌<◌, ◌≤◌, Bool, true, false, List, [], All, Option, None, map, length, position, slice_index, slice_index_or, ◌==◌, ◌*◌}
 use Rattle.std.specs.List.{list_any, flat_map, range_with_len}
 use Rattle.std.specs.List.Sorted.{IsStrictlyIncreasing}
 use Rattle.std.specs.FinSet as set
@@ -40,6 +40,10 @@ pub record AreIds (ids : List ℕ) : Type 0 where
   pub small : length ids ≤ MAX_NODES
   pub valid : All IsId ids
   pub ascending : IsStrictlyIncreasing ids
+
+-- the table has at each id its index, and at no other number anything
+abbrev pub ArePlaces : List ℕ → List (Option ℕ) → Type 0
+ArePlaces ids places = (id : ℕ) → slice_index_or places id None ≡ position (λ i. i == id) ids
 
 -- what the fields of a topology are: connected rows, with two pairs for each link that is counted
 pub record AreParts (ids : List ℕ) (rows : List (List ℕ)) (count : ℕ) : Type 0 where

@@ -3,10 +3,10 @@
 
 mod fault;
 mod id;
+mod ids;
 mod laws;
 mod links;
 mod nodes;
-mod place;
 mod rows;
 mod search;
 #[cfg(test)]

@@ -5,21 +5,20 @@ ghost use Rattle.topology.specs.Faults.{IsFirst, IsFirstFault, IsFirstRepeat, en
 ghost use Rattle.topology.specs.Rows.{AreIds};
 
 use crate::fault::{MAX_LINKS, TopoFault};
-use crate::place::place_of;
+use crate::ids::Ids;
 use crate::rows::{empty_rows, link};
 use std::alloc::Global;
 
-/// The first end of a link that isn't one of the ids, which ascend.
-fn first_strange_end(ids: &[u32], links: &[(u32, u32)]) -> Option<u32>
-    requires { IsStrictlyIncreasing ids.now }
+/// The first end of a link that isn't one of the ids.
+fn first_strange_end(ids: &Ids, links: &[(u32, u32)]) -> Option<u32>
     ensures { MatchOption result (All (λ x. has ids.now x ≡ true) (ends_of links.now))
         (IsFirst (λ x. has ids.now x ≡ true → ⊥) (ends_of links.now)) }
 {
     for (a, b) in links {
-        if place_of(ids, *a).is_none() {
+        if ids.place_of(*a).is_none() {
             return Some(*a);
         }
-        if place_of(ids, *b).is_none() {
+        if ids.place_of(*b).is_none() {
             return Some(*b);
         }
     }
@@ -39,18 +38,17 @@ fn first_self_link(links: &[(u32, u32)]) -> Option<u32>
     None
 }
 
-/// The index of one of the ids, which ascend.
-fn index_among(ids: &[u32], id: u32) -> usize
-    requires ascending { IsStrictlyIncreasing ids.now }
-    requires member { has ids.now id ≡ true }
+/// The index of one of the ids.
+fn index_among(ids: &Ids, id: u32) -> usize
+    requires { has ids.now id ≡ true }
     ensures within { result < length ids.now }
     ensures value { slice_index ids.now result ≡ id }
 {
-    place_of(ids, id).unwrap()
+    ids.place_of(id).unwrap()
 }
 
 /// Puts each link into the rows, or answers `TwiceLink` of the first that repeats an earlier one.
-fn link_all(ids: &[u32], links: &[(u32, u32)], near: &mut [Vec<usize>]) -> Result<(), TopoFault>
+fn link_all(ids: &Ids, links: &[(u32, u32)], near: &mut [Vec<usize>]) -> Result<(), TopoFault>
     requires ascending { IsStrictlyIncreasing ids.now }
     requires apart { AreApart ids.now links.now }
     requires empty { AreJoined ids.now [] (map (λ row. row.items) near.old) }
@@ -69,18 +67,14 @@ fn link_all(ids: &[u32], links: &[(u32, u32)], near: &mut [Vec<usize>]) -> Resul
 }
 
 /// The rows of these links of the ids, or `TwiceLink` of the first that repeats an earlier one.
-fn linked_rows(
-    alloc: Global,
-    ids: &[u32],
-    links: &[(u32, u32)],
-) -> Result<Vec<Vec<usize>>, TopoFault>
+fn linked_rows(alloc: Global, ids: &Ids, links: &[(u32, u32)]) -> Result<Vec<Vec<usize>>, TopoFault>
     requires ascending { IsStrictlyIncreasing ids.now }
     requires apart { AreApart ids.now links.now }
     ensures ok { IfOk result (λ near. AreJoined ids.now links.now (map (λ row. row.items) near.items)) }
     ensures err { IfErr result (λ f. f ≢ TopoFault.NoMemory → (p : ℕ × ℕ)
         × (f ≡ TopoFault.TwiceLink p.0 p.1) × IsFirstRepeat (ordered_links links.now) p) }
 {
-    let mut near = empty_rows(alloc, ids.len())?;
+    let mut near = empty_rows(alloc, ids.as_slice().len())?;
     match link_all(ids, links, &mut near) {
         Ok(()) => Ok(near),
         Err(fault) => Err(fault),
@@ -90,7 +84,7 @@ fn linked_rows(
 /// The rows of these links of the ids, which ascend, or the first fault of the links.
 pub fn checked_rows(
     alloc: Global,
-    ids: &[u32],
+    ids: &Ids,
     links: &[(u32, u32)],
 ) -> Result<Vec<Vec<usize>>, TopoFault>
     requires { IsStrictlyIncreasing ids.now }

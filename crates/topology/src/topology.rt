@@ -7,9 +7,9 @@ ghost use Rattle.topology.specs.Id.{IsId};
 
 use crate::fault::{MAX_NODES, TopoFault};
 use crate::id::NodeId;
+use crate::ids::Ids;
 use crate::links::checked_rows;
 use crate::nodes::checked_ids;
-use crate::place::place_of;
 use crate::rows::copied_rows;
 use crate::search::{distances_to, first_free};
 use std::alloc::{AllocError, Global};
@@ -19,7 +19,7 @@ use std::marker::Model;
 /// the ascending order of the identifiers.
 #[derive(Drop)]
 pub struct Topology {
-    ids: Vec<u32>,
+    ids: Ids,
     near: Vec<Vec<usize>>,
     link_count: usize,
 }
@@ -34,9 +34,9 @@ impl Model for Topology {
     ghost use Rattle.std.specs.Prelude.{map};
     ghost use Rattle.topology.specs.Rows.{graph_of, AreParts};
 
-    ghost view = { λ t. graph_of t.ids.items (map (λ row. row.items) t.near.items) };
+    ghost view = { λ t. graph_of t.ids (map (λ row. row.items) t.near.items) };
 
-    ghost invariant = { λ t. AreParts t.ids.items (map (λ row. row.items) t.near.items) t.link_count };
+    ghost invariant = { λ t. AreParts t.ids (map (λ row. row.items) t.near.items) t.link_count };
 }
 
 impl Topology {
@@ -44,7 +44,7 @@ impl Topology {
     pub fn len(&self) -> usize
         ensures { result ≡ length self.now.ids }
     {
-        self.ids.len()
+        self.ids().len()
     }
 
     /// The number of links.
@@ -75,7 +75,8 @@ impl Topology {
     pub fn id_at(&self, index: usize) -> Option<NodeId>
         ensures { result ≡ slice_get self.now.ids index }
     {
-        let ids = &self.ids;
+        self.is_graph();
+        let ids = self.ids();
         match ids.get(index) {
             Some(id) => NodeId::new(*id),
             None => None,
@@ -86,7 +87,7 @@ impl Topology {
     pub fn index_of(&self, id: u32) -> Option<usize>
         ensures { result ≡ position (λ i. i == id) self.now.ids }
     {
-        place_of(&self.ids, id)
+        self.ids.place_of(id)
     }
 
     /// The indexes of the neighbours of the node at this index, ascending.
@@ -130,7 +131,8 @@ impl Topology {
     pub fn greatest(&self) -> NodeId
         ensures { result ≡ greatest self.now }
     {
-        let ids = &self.ids;
+        self.is_graph();
+        let ids = self.ids();
         NodeId::new(ids[ids.len() - 1]).unwrap()
     }
 
@@ -140,7 +142,7 @@ impl Topology {
         ensures err { IfErr result (λ f. f ≢ TopoFault.NoMemory → IsFirstFault nodes.now links.now f) }
     {
         let ids = match checked_ids(alloc, nodes) {
-            Ok(ids) => ids,
+            Ok(ids) => Ids::new(alloc, ids)?,
             Err(fault) => return Err(fault),
         };
         let near = match checked_rows(alloc, &ids, links) {
@@ -149,7 +151,7 @@ impl Topology {
         };
         let distances = distances_to(alloc, &near, 0)?;
         match first_free(&distances, near.len()) {
-            Some(index) => Err(TopoFault::Disconnected(ids[index])),
+            Some(index) => Err(TopoFault::Disconnected(ids.as_slice()[index])),
             None => Ok(Topology {
                 ids,
                 near,
@@ -165,7 +167,7 @@ impl Topology {
         let ids = &self.ids;
         let near = &self.near;
         Ok(Topology {
-            ids: ids.to_vec(alloc)?,
+            ids: ids.copy(alloc)?,
             near: copied_rows(alloc, near)?,
             link_count: self.link_count,
         })

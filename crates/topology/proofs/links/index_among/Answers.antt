@@ -5,7 +5,7 @@ use Rattle.topology.proofs.links.index_among.Goals as goal
 
 pub unwrap-requires : goal.unwrap-requires
 unwrap-requires c =
-    let found : is_some c.place_of.result ≡ true = member_by_place c.args.ids.now c.args.id c.place_of.result c.place_of.ensures ∙ c.requires.member in
+    let found : is_some c.place_of.result ≡ true = member_by_place c.args.ids.now c.args.id c.place_of.result c.place_of.ensures ∙ c.requires in
     search rules
 
 pub returns-clause-value : goal.returns-clause-value

@@ -8,12 +8,12 @@ use Rattle.topology.proofs.Inserting.{rows_of}
 use Rattle.topology.proofs.Joining.{joined_more, link_repeated, ordered_whole}
 use Rattle.topology.proofs.links.link_all.Goals as goal
 
-pub index_among-i-requires-clause-member : goal.index_among-i-requires-clause-member
-index_among-i-requires-clause-member c =
+pub index_among-i-requires : goal.index_among-i-requires
+index_among-i-requires c =
     (ends_known c.args.links.now c.loop-a.a-index c.loop-a-test.true (λ x. has c.args.ids.now x ≡ true) c.requires.apart.known).0
 
-pub index_among-j-requires-clause-member : goal.index_among-j-requires-clause-member
-index_among-j-requires-clause-member c =
+pub index_among-j-requires : goal.index_among-j-requires
+index_among-j-requires c =
     (ends_known c.args.links.now c.loop-a.a-index c.loop-a-test.true (λ x. has c.args.ids.now x ≡ true) c.requires.apart.known).1
 
 pub returns-then-not-branch-clause-err : goal.returns-then-not-branch-clause-err

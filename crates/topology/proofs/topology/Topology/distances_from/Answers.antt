@@ -11,7 +11,7 @@ use Rattle.topology.proofs.topology.Topology.distances_from.Goals as goal
 pub returns-clause-distances : goal.returns-clause-distances
 returns-clause-distances c =
     let near = c.self.inside.near.items in
-    let ids = c.self.inside.ids.items in
+    let ids = c.self.inside.ids in
     let within : c.args.index < length ids = subst (λ (g : Graph). c.args.index < length g.ids) (sym c.self.view_is) c.requires in
     let count : length near ≡ length ids = sym (length-map near (λ row. row.items)) ∙ c.self.invariant.as_rows.count in
     rw (← c.self.view_is)
@@ -25,7 +25,7 @@ returns-clause-distances c =
 pub returns-clause-below : goal.returns-clause-below
 returns-clause-below c =
     let near = c.self.inside.near.items in
-    let ids = c.self.inside.ids.items in
+    let ids = c.self.inside.ids in
     let within : c.args.index < length ids = subst (λ (g : Graph). c.args.index < length g.ids) (sym c.self.view_is) c.requires in
     let count : length near ≡ length ids = sym (length-map near (λ row. row.items)) ∙ c.self.invariant.as_rows.count in
     rw (← c.self.view_is)

@@ -1,0 +1,81 @@
+ghost use Rattle.std.specs.Prelude.{◌≡◌, ◌==◌, IfOk, position};
+ghost use Rattle.topology.specs.Rows.{AreIds, ArePlaces};
+
+use std::alloc::{AllocError, Global};
+use std::marker::Model;
+
+/// Identifiers, with a table of their indexes.
+#[derive(Drop)]
+pub struct Ids {
+    ascending: Vec<u32>,
+    places: Vec<Option<u16>>,
+}
+
+impl Model for Ids {
+    ghost use Rattle.std.specs.Prelude.{ℕ, List};
+    ghost use Rattle.std.specs.Coded.{coded_list, coded_ℕ};
+
+    ghost Value = { List ℕ };
+
+    ghost coded = { coded_list coded_ℕ };
+
+    ghost use Rattle.topology.specs.Rows.{ArePlaces};
+
+    ghost view = { λ ids. ids.ascending.items };
+
+    ghost invariant = { λ ids. ArePlaces ids.ascending.items ids.places.items };
+}
+
+impl Ids {
+    /// One to `MAX_NODES` identifiers, which ascend.
+    pub fn new(alloc: Global, ascending: Vec<u32>) -> Result<Ids, AllocError>
+        requires { AreIds ascending.items }
+        ensures { IfOk result (λ ids. ids ≡ ascending.items) }
+    {
+        let places = places_of(alloc, &ascending)?;
+        Ok(Ids { ascending, places })
+    }
+
+    /// The identifiers in their order.
+    pub fn as_slice(&self) -> &[u32]
+        ensures { result.now ≡ self.now }
+    {
+        self.ascending.as_slice()
+    }
+
+    /// The index of this identifier. None where it is none of them.
+    pub fn place_of(&self, id: u32) -> Option<usize>
+        ensures { result ≡ position (λ i. i == id) self.now }
+    {
+        let places = &self.places;
+        match places.get(id as usize) {
+            Some(Some(place)) => Some(usize::from(*place)),
+            _ => None,
+        }
+    }
+
+    /// The same identifiers.
+    pub fn copy(&self, alloc: Global) -> Result<Ids, AllocError>
+        ensures { IfOk result (λ copy. copy ≡ self.now) }
+    {
+        let ascending = &self.ascending;
+        let places = &self.places;
+        Ok(Ids {
+            ascending: ascending.to_vec(alloc)?,
+            places: places.to_vec(alloc)?,
+        })
+    }
+}
+
+// The table of the places of these identifiers, as long as the greatest needs.
+fn places_of(alloc: Global, ids: &[u32]) -> Result<Vec<Option<u16>>, AllocError>
+    requires { AreIds ids.now }
+    ensures { IfOk result (λ places. ArePlaces ids.now places.items) }
+{
+    let greatest = ids[ids.len() - 1];
+    let mut places = vec![in alloc; None; greatest as usize + 1]?;
+    for (place, id) in ids.iter().enumerate() {
+        places[*id as usize] = Some(place as u16);
+    }
+    Ok(places)
+}
