@@ -5,10 +5,10 @@ use Rattle.topology.specs.Building.{has}
 use Rattle.topology.specs.Graph.{Graph, are_linked}
 use Rattle.tree_layer.specs.declared.regs.TreeRegs.{TreeRegs}
 use Rattle.wave_layer.specs.declared.regs.WaveRegs.{WaveRegs}
-use Rattle.wave_layer.specs.WaveTable.{child_regs, children_done}
+use Rattle.wave_layer.specs.WaveTable.{child_regs, children_done, is_done}
 use Rattle.reset_machine.specs.LocalSteps.{children_of}
 use Rattle.reset_machine.proofs.Children.{among-drop, children_among}
-use Rattle.reset_machine.proofs.Seen.{has-children_of, is_done, lookup-among}
+use Rattle.reset_machine.proofs.Seen.{has-children_of, lookup-among}
 
 -- ---- the child that a relay names
 
@@ -48,11 +48,11 @@ module _ (ids : List ℕ) (t : ℕ → TreeRegs) (w : ℕ → WaveRegs) (i s : �
   turn b father = ap (children_done s) (among-drop ids (λ k. (t k).father == i) (λ k. (k, w k)) near n short ∙ ap (λ d. cond d ((c, w c) ∷ later) later) father)
 
   -- a child that isn't done
-  pub undone_here : ((t c).father == i) ≡ true → is_done w s c ≡ false → children_done s (children_among ids t w i (drop n near)) ≡ false
+  pub undone_here : ((t c).father == i) ≡ true → is_done s (w c) ≡ false → children_done s (children_among ids t w i (drop n near)) ≡ false
   undone_here father undone = turn true father ∙ ap (λ b. b && children_done s later) undone
 
   -- one that is
-  pub done_here : ((t c).father == i) ≡ true → is_done w s c ≡ true → children_done s later ≡ children_done s (children_among ids t w i (drop n near))
+  pub done_here : ((t c).father == i) ≡ true → is_done s (w c) ≡ true → children_done s later ≡ children_done s (children_among ids t w i (drop n near))
   done_here father done = sym (turn true father ∙ ap (λ b. b && children_done s later) done)
 
   -- no child

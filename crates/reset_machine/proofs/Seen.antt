@@ -1,5 +1,5 @@
 -- What a node sees of its father and of its children.
-use Rattle.std.proofs.Common.{◌≡◌, ◌≢◌, ℕ, ◌==◌, Bool, true, false, not, cond, ◌&&◌, ◌||◌, nat_eq, List, [], ◌∷◌, map, Some, None, refl, sym, ap, subst, ◌∙◌, ◌⊎◌, inl, inr, true≢false}
+use Rattle.std.proofs.Common.{◌≡◌, ◌≢◌, ℕ, ◌==◌, Bool, true, false, cond, ◌&&◌, ◌||◌, nat_eq, List, [], ◌∷◌, map, Some, None, refl, sym, ap, subst, ◌∙◌, ◌⊎◌, inl, inr, true≢false}
 use Rattle.std.proofs.lemmas.Bool.{eq-eqb, ne_eqb, eqb-true}
 use Rattle.std.proofs.lemmas.Bool.Decides.{eqb_tells}
 use Rattle.topology.specs.Building.{has}
@@ -8,7 +8,7 @@ use Rattle.topology.specs.Graph.{Graph, IsGraph, AreLinked, are_linked, neighbou
 use Rattle.tree_layer.specs.declared.regs.TreeRegs.{TreeRegs}
 use Rattle.wave_layer.specs.declared.regs.WaveRegs.{WaveRegs}
 use Rattle.wave_layer.specs.declared.regs.FatherSeen.TheVariants.{Itself, Lost, Is}
-use Rattle.wave_layer.specs.WaveTable.{is_reset, is_root, children_done}
+use Rattle.wave_layer.specs.WaveTable.{is_root, children_done, is_done}
 use Rattle.std.specs.Map.{lookup}
 use Rattle.tree_layer.specs.TreeRows.{IsFather}
 use Rattle.reset_machine.specs.LocalSteps.{father_seen, children_of}
@@ -67,25 +67,21 @@ lookup-among {X} w (y ∷ ys) c = at (eqb_tells y c) (lookup-among w ys c)
     at (inl e) rest = rw e.0 (ap (λ k. Some (w k)) e.1)
     at (inr e) rest = rw e.0 rest
 
--- a child that is done
-abbrev pub is_done : (ℕ → WaveRegs) → ℕ → ℕ → Bool
-is_done w s c = not (is_reset (w c).phase) && ((w c).session == s)
-
 -- all are done where each is
-pub children_done-each : (w : ℕ → WaveRegs) (s : ℕ) (cs : List ℕ) → ((c : ℕ) → has cs c ≡ true → is_done w s c ≡ true) → children_done s (map (λ i. (i, w i)) cs) ≡ true
+pub children_done-each : (w : ℕ → WaveRegs) (s : ℕ) (cs : List ℕ) → ((c : ℕ) → has cs c ≡ true → is_done s (w c) ≡ true) → children_done s (map (λ i. (i, w i)) cs) ≡ true
 children_done-each w s [] each = refl
 children_done-each w s (y ∷ ys) each =
-    let here : is_done w s y ≡ true = each y (ap (λ b. b || has ys y) (eq-eqb y y refl)) in
+    let here : is_done s (w y) ≡ true = each y (ap (λ b. b || has ys y) (eq-eqb y y refl)) in
     let rest = children_done-each w s ys (λ c among. each c (ap (λ b. nat_eq y c || b) among ∙ or-true (nat_eq y c))) in
     rw here rest
 
 -- and each is where all are
-pub each-children_done : (w : ℕ → WaveRegs) (s : ℕ) (cs : List ℕ) → children_done s (map (λ i. (i, w i)) cs) ≡ true → (c : ℕ) → has cs c ≡ true → is_done w s c ≡ true
+pub each-children_done : (w : ℕ → WaveRegs) (s : ℕ) (cs : List ℕ) → children_done s (map (λ i. (i, w i)) cs) ≡ true → (c : ℕ) → has cs c ≡ true → is_done s (w c) ≡ true
 each-children_done w s [] all c among = absurd (true≢false (sym among))
-each-children_done w s (y ∷ ys) all c among = at (is_done w s y) refl (eqb_tells y c) (each-children_done w s ys)
+each-children_done w s (y ∷ ys) all c among = at (is_done s (w y)) refl (eqb_tells y c) (each-children_done w s ys)
   where
-    at : (b : Bool) → is_done w s y ≡ b → ((nat_eq y c ≡ true) × (y ≡ c)) ⊎ ((nat_eq y c ≡ false) × (y ≢ c)) → (children_done s (map (λ i. (i, w i)) ys) ≡ true → (c : ℕ) → has ys c ≡ true → is_done w s c ≡ true) → is_done w s c ≡ true
-    at true is (inl e) rest = ap (is_done w s) (sym e.1) ∙ is
+    at : (b : Bool) → is_done s (w y) ≡ b → ((nat_eq y c ≡ true) × (y ≡ c)) ⊎ ((nat_eq y c ≡ false) × (y ≢ c)) → (children_done s (map (λ i. (i, w i)) ys) ≡ true → (c : ℕ) → has ys c ≡ true → is_done s (w c) ≡ true) → is_done s (w c) ≡ true
+    at true is (inl e) rest = ap (λ k. is_done s (w k)) (sym e.1) ∙ is
     at true is (inr e) rest = rest (rw is at all) c (rw e.0 at among)
     at false is e rest = absurd (true≢false (sym (rw is at all)))
 

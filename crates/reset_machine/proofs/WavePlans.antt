@@ -6,7 +6,7 @@ use Rattle.tree_layer.specs.declared.regs.TreeRegs.{TreeRegs}
 use Rattle.wave_layer.specs.declared.regs.WaveRegs.{WaveRegs}
 use Rattle.wave_layer.specs.declared.regs.Phase.{Phase}
 use Rattle.wave_layer.specs.declared.regs.Phase.TheVariants.{Normal, Initiate, Reset}
-use Rattle.wave_layer.specs.WaveTable.{is_reset, father_regs, child_regs, children_done, next_session}
+use Rattle.wave_layer.specs.WaveTable.{is_reset, father_regs, child_regs, children_done, is_done, next_session}
 use Rattle.reset_machine.specs.declared.event.Event.{Event}
 use Rattle.reset_machine.specs.declared.event.Event.TheVariants.{Claim, Follow, Adopt, Request, Relay, Open, Join, Finish, Mend, Act}
 use Rattle.reset_machine.specs.declared.step.StepRefusal.{StepRefusal}
@@ -18,7 +18,7 @@ use Rattle.reset_machine.specs.Steps.{join_normal, join_asked, mend_reset, mend_
 use Rattle.reset_machine.specs.LocalSteps.{father_seen, children_of, answer_of}
 use Rattle.reset_machine.proofs.WaveRows.{IsAnswer, IsInvited, IsTorn, Contradict, one_reset, other_number, both_reset, too_late, request_answers, relay_answers, relay_answers-stranger, open_answers, join_answers, finish_answers, mend_answers}
 use Rattle.topology.specs.Building.{has}
-use Rattle.reset_machine.proofs.Seen.{is_done, father_seen-itself, father_seen-IsFather, IsFather-father_seen, is_root-father_seen, itself-father_seen, lookup-among, children_done-each, each-children_done, IsFather-is_child, is_child-IsFather}
+use Rattle.reset_machine.proofs.Seen.{father_seen-itself, father_seen-IsFather, IsFather-father_seen, is_root-father_seen, itself-father_seen, lookup-among, children_done-each, each-children_done, IsFather-is_child, is_child-IsFather}
 
 -- an answer under other names of its parts
 answer_as : (r : Result Effect StepRefusal) (S : Type 0) (d : Bool) {E E' : Type 0} {regs regs' : WaveRegs} {b b' : Bool} → IsAnswer r E S regs b d → (E → E') → (E' → E) → (E → regs ≡ regs') → b ≡ b' → IsAnswer r E' S regs' b' d
@@ -81,7 +81,7 @@ module _ (g : Graph) (K : ℕ) (t : ℕ → TreeRegs) (w : ℕ → WaveRegs) (gr
   mended j father (both_reset above own number) = mend_both j father above own number
   mended j father (too_late above own number next) = mend_late j father above own number next
 
-  parts : {c s : ℕ} (b : Bool) → is_reset (w c).phase ≡ b → is_done w s c ≡ true → (is_reset (w c).phase ≡ false) × ((w c).session ≡ s)
+  parts : {c s : ℕ} (b : Bool) → is_reset (w c).phase ≡ b → is_done s (w c) ≡ true → (is_reset (w c).phase ≡ false) × ((w c).session ≡ s)
   parts true is done = absurd (true≢false (sym (rw is at done)))
   parts false is done = (is, eqb-true _ _ (rw is at done))
 

@@ -2,9 +2,9 @@
 // many, and no rows but those of the relay and of the finish look at a child, for which one is
 // enough: so an event of the wave gathers no children, and its rows are tried without an allocation.
 
-ghost use Rattle.std.specs.Prelude.{◌≡◌, ◌≤◌, ◌==◌, ◌&&◌, not, length, position, Some};
+ghost use Rattle.std.specs.Prelude.{◌≡◌, ◌≤◌, ◌==◌, length, position, Some};
 ghost use Rattle.std.specs.Option.{option_to_list};
-ghost use Rattle.wave_layer.specs.WaveTable.{child_regs, children_done, is_reset};
+ghost use Rattle.wave_layer.specs.WaveTable.{child_regs, children_done};
 ghost use Rattle.reset_machine.specs.Configuration.{tree_map, wave_map};
 ghost use Rattle.reset_machine.specs.LocalSteps.{view_of};
 ghost use Rattle.reset_machine.specs.NarrowViews.{ChildrenSuffice, FatherSuffices, Suffices};
@@ -14,7 +14,7 @@ use crate::event::Event;
 use crate::view::father_seen;
 use topology::Topology;
 use tree_layer::TreeRegs;
-use wave_layer::{FatherSeen, Phase, WaveRegs, WaveView};
+use wave_layer::{FatherSeen, WaveRegs, WaveView};
 
 /// The one child that the rows of the event look at, with its registers. A relay looks at the child
 /// that it names. To finish, a child that isn't done tells as much as all of them.
@@ -144,17 +144,10 @@ fn unfinished_child(
 {
     topology.is_graph();
     for near in topology.neighbours(ix) {
-        if trees[*near].father == id && !is_done(waves[*near], waves[ix].session) {
+        if trees[*near].father == id && !waves[*near].is_done(waves[ix].session) {
             let child = topology.id_at(*near).unwrap().get();
             return Some((child, waves[*near]));
         }
     }
     None
-}
-
-// Whether a child with these registers is done, where its father is in this session.
-fn is_done(child: WaveRegs, session: u32) -> bool
-    ensures { result ≡ (not (is_reset child.phase) && child.session == session) }
-{
-    child.phase != Phase::Reset && child.session == session
 }

@@ -63,9 +63,13 @@ father_regs own Itself = own
 father_regs own Lost = own
 father_regs own (Is up) = up
 
--- every child is not reset and has the session
+-- a child is done where it is not reset and has its father's session
+abbrev pub is_done : ℕ → WaveRegs → Bool
+is_done session child = not (is_reset child.phase) && child.session == session
+
+-- every child is done
 abbrev pub children_done : ℕ → List (ℕ × WaveRegs) → Bool
-children_done session children = list_all (λ child. not (is_reset child.1.phase) && child.1.session == session) children
+children_done session children = list_all (λ child. is_done session child.1) children
 
 -- some child that is asked is initiate
 abbrev pub any_initiate : List (ℕ × WaveRegs) → Bool

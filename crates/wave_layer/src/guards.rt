@@ -109,12 +109,14 @@ fn is_behind(view: &WaveView) -> bool
     is_next(father_regs(view).session, view.own().session)
 }
 
-// Whether every child is not reset and has the node's session.
+// Whether every child is done.
 fn children_done(view: &WaveView) -> bool
     ensures { result ≡ children_done view.now.own.session view.now.children }
 {
     let session = view.own().session;
-    view.children().iter().all(|(_, child)| !child.phase.is_reset() & (child.session == session))
+    view.children()
+        .iter()
+        .all(|(_, child)| child.is_done(session))
 }
 
 // The registers of the child with this id.

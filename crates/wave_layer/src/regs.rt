@@ -51,6 +51,18 @@ pub struct WaveRegs {
     pub session: u32,
 }
 
+impl WaveRegs {
+    ghost use Rattle.wave_layer.specs.WaveTable.{is_done};
+
+    /// Whether a child with these registers is done, where its father has this session: it isn't
+    /// reset, and has the session too.
+    pub fn is_done(self, session: u32) -> bool
+        ensures { result ≡ is_done session self }
+    {
+        !self.phase.is_reset() & (self.session == session)
+    }
+}
+
 /// What a node's father register names.
 #[derive(Clone, Copy, Debug, PartialEq, Eq)]
 pub enum FatherSeen {

@@ -1,9 +1,8 @@
-use Rattle.std.proofs.Common.{◌<◌, ◌==◌, ◌&&◌, not, Bool, true, ℕ, List, length, ap, sym, ◌∙◌, slice_index, map, filter, arith}
+use Rattle.std.proofs.Common.{◌≡◌, ◌<◌, ◌==◌, ◌&&◌, false, true, ℕ, List, length, ap, sym, ◌∙◌, slice_index, map, filter, arith}
 use Rattle.std.proofs.lemmas.Bool.{eq-eqb, ne_eqb}
 use Rattle.std.proofs.lemmas.List.{at_drop_all}
 use Rattle.topology.specs.Graph.{neighbours_of}
-use Rattle.wave_layer.specs.WaveTable.{children_done, is_reset}
-use Rattle.wave_layer.specs.declared.regs.WaveRegs.{WaveRegs}
+use Rattle.wave_layer.specs.WaveTable.{children_done, is_done}
 use Rattle.wave_layer.specs.declared.regs.Phase.TheVariants.{Normal}
 use Rattle.reset_machine.specs.Configuration.{tree_map, wave_map}
 use Rattle.reset_machine.proofs.Places.{id_at-position, value_at-place, value_at-position}
@@ -24,10 +23,9 @@ returns-then-not-is_done c =
     let t_at = value_at-place (record { root = 0; father = 0; dist = 0 }) g.ids c.args.trees.now n c.is_graph.ensures.graph.ascending c.requires.all_trees short in
     let w_at = value_at-place (record { phase = Normal; session = 0 }) g.ids c.args.waves.now n c.is_graph.ensures.graph.ascending c.requires.all_waves short in
     let own = value_at-position (record { phase = Normal; session = 0 }) g.ids c.args.waves.now c.args.ix c.args.id c.requires.all_waves c.requires.place in
-    let done : WaveRegs → WaveRegs → Bool = λ r u. not (is_reset r.phase) && (r.session == u.session) in
-    let undone = ap (done _) own ∙ sym c.is_done.ensures ∙ c.if-not-is_done.true in
-    ap (λ b. b && true) undone
-    ∙ sym (undone_here g.ids t w c.args.id s near c.loop-near.near-index (omega arith) (eq-eqb _ _ (ap (λ r. r.father) t_at ∙ c.if-trees-near.true)) (ap (λ r. done r (w c.args.id)) w_at ∙ undone))
+    let undone : is_done s (w (slice_index g.ids n)) ≡ false = cc in
+    ap (λ b. b && true) (sym (ap (is_done s) w_at) ∙ undone)
+    ∙ sym (undone_here g.ids t w c.args.id s near c.loop-near.near-index (omega arith) (eq-eqb _ _ (ap (λ r. r.father) t_at ∙ c.if-trees-near.true)) undone)
     ∙ c.loop-near.invariant
     ∙ ap (λ (ns : List ℕ). children_done s (map (λ i. (i, w i)) (filter (λ i. (t i).father == c.args.id) ns))) (c.neighbours-near-items.ensures.ids ∙ ap (neighbours_of g) (id_at-position g.ids c.args.ix c.args.id c.requires.place))
 
@@ -43,11 +41,9 @@ loop-near-preserved c =
     let t_at = value_at-place (record { root = 0; father = 0; dist = 0 }) g.ids c.args.trees.now n c.is_graph.ensures.graph.ascending c.requires.all_trees short in
     let w_at = value_at-place (record { phase = Normal; session = 0 }) g.ids c.args.waves.now n c.is_graph.ensures.graph.ascending c.requires.all_waves short in
     let own = value_at-position (record { phase = Normal; session = 0 }) g.ids c.args.waves.now c.args.ix c.args.id c.requires.all_waves c.requires.place in
-    let done : WaveRegs → WaveRegs → Bool = λ r u. not (is_reset r.phase) && (r.session == u.session) in
     elim c.else-trees-near.branch [
       | else-trees-near-via-then-trees-near+else-not-is_done v ↦
-          done_here g.ids t w c.args.id s near c.loop-near.near-index (omega arith) (eq-eqb _ _ (ap (λ r. r.father) t_at ∙ v.if-trees-near.true))
-          (ap (λ r. done r (w c.args.id)) w_at ∙ ap (done _) own ∙ sym v.is_done.ensures ∙ v.if-not-is_done.false)
+          done_here g.ids t w c.args.id s near c.loop-near.near-index (omega arith) (eq-eqb _ _ (ap (λ r. r.father) t_at ∙ v.if-trees-near.true)) (cc)
           ∙ c.loop-near.invariant
       | else-trees-near-via-else-trees-near v ↦
           another_here g.ids t w c.args.id s near c.loop-near.near-index (omega arith) (ne_eqb _ _ (λ same. absurd (v.if-trees-near.false (sym (ap (λ r. r.father) t_at) ∙ same)))) ∙ c.loop-near.invariant
