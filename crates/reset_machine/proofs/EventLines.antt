@@ -1,6 +1,6 @@
 -- An event's line has the event's words, and no other event has them.
 use Rattle.std.specs.Prelude.{codes}
-use Rattle.std.proofs.Common.{◌≡◌, ℕ, ◌+◌, ◌*◌, ◌<◌, ◌^◌, ◌≤◌, Bool, true, not, nat_eq, ◌||◌, true≢false, List, [], ◌∷◌, ◌++◌, refl, sym, ap, ◌∙◌, subst, append_assoc, arith, length, get_or, Option, None, Some, IfSome, IfNone}
+use Rattle.std.proofs.Common.{◌≡◌, ℕ, ◌+◌, ◌*◌, ◌<◌, ◌^◌, ◌≤◌, Bool, true, not, nat_eq, ◌||◌, true≢false, List, [], ◌∷◌, ◌++◌, refl, sym, ap, ◌∙◌, subst, append_assoc, arith, length, get_or, Option, None, Some, IfSome}
 use Rattle.std.specs.Fmt.{decimal}
 use Rattle.std.specs.Io.KnownBytes.{Appends}
 use Rattle.std.proofs.lemmas.Fmt.{decimal_injective}
@@ -15,44 +15,34 @@ use Rattle.reset_machine.proofs.WordLines.{words_of-word, words_of-more, words_o
 pub words_of-decimal : (n : ℕ) → n < 2 ^ 32 → words_of (decimal n) ≡ decimal n ∷ []
 words_of-decimal n h = words_of-word (decimal n) (IsWord-decimal n h)
 
+words_of-decimals : (m n : ℕ) → m < 2 ^ 32 → n < 2 ^ 32 → words_of (decimal m ++ (32 ∷ decimal n)) ≡ decimal m ∷ decimal n ∷ []
+words_of-decimals m n p q = words_of-more (decimal m) (decimal n) (IsWord-decimal m p) ∙ ap (λ ws. decimal m ∷ ws) (words_of-decimal n q)
+
 pub words_of-event_line : (e : Event) → Fits e → words_of (event_line e) ≡ event_words e
 words_of-event_line (Claim at) h = ap (λ ws. codes "claim" ∷ ws) (words_of-decimal at h)
 words_of-event_line (Follow at) h = ap (λ ws. codes "follow" ∷ ws) (words_of-decimal at h)
-words_of-event_line (Adopt at from) h =
-    ap (λ ws. codes "adopt" ∷ ws) (words_of-more (decimal at) (decimal from) (IsWord-decimal at h.0) ∙ ap (λ ws. decimal at ∷ ws) (words_of-decimal from h.1))
+words_of-event_line (Adopt at from) h = ap (λ ws. codes "adopt" ∷ ws) (words_of-decimals at from h.0 h.1)
 words_of-event_line (Request at) h = ap (λ ws. codes "request" ∷ ws) (words_of-decimal at h)
-words_of-event_line (Relay at child) h =
-    ap (λ ws. codes "relay" ∷ ws) (words_of-more (decimal at) (decimal child) (IsWord-decimal at h.0) ∙ ap (λ ws. decimal at ∷ ws) (words_of-decimal child h.1))
+words_of-event_line (Relay at child) h = ap (λ ws. codes "relay" ∷ ws) (words_of-decimals at child h.0 h.1)
 words_of-event_line (Open at) h = ap (λ ws. codes "open" ∷ ws) (words_of-decimal at h)
 words_of-event_line (Join at) h = ap (λ ws. codes "join" ∷ ws) (words_of-decimal at h)
 words_of-event_line (Finish at) h = ap (λ ws. codes "finish" ∷ ws) (words_of-decimal at h)
 words_of-event_line (Mend at) h = ap (λ ws. codes "mend" ∷ ws) (words_of-decimal at h)
-words_of-event_line (Act at case None) h =
-    ap (λ ws. codes "act" ∷ ws) (words_of-more (decimal at) (decimal case) (IsWord-decimal at h.0) ∙ ap (λ ws. decimal at ∷ ws) (words_of-decimal case (omega (arith, h.1))))
+words_of-event_line (Act at case None) h = ap (λ ws. codes "act" ∷ ws) (words_of-decimals at case h.0 (omega (arith, h.1)))
 words_of-event_line (Act at case (Some j)) h =
-    let last = words_of-more (decimal case) (decimal j) (IsWord-decimal case (omega (arith, h.1))) ∙ ap (λ ws. decimal case ∷ ws) (words_of-decimal j h.2) in
-    ap (λ ws. codes "act" ∷ ws) (words_of-more (decimal at) _ (IsWord-decimal at h.0) ∙ ap (λ ws. decimal at ∷ ws) last)
+    ap (λ ws. codes "act" ∷ ws) (words_of-more (decimal at) _ (IsWord-decimal at h.0) ∙ ap (λ ws. decimal at ∷ ws) (words_of-decimals case j (omega (arith, h.1)) h.2))
 
--- a line whose words are not those of an event is not the line of one
-pub no_event : (line : List ℕ) (ws : List (List ℕ)) → words_of line ≡ ws → ((e : Event) → Fits e → ws ≡ event_words e → ⊥) → (e : Event) → Fits e → line ≡ event_line e → ⊥
-no_event line ws split apart e fits is = apart e fits (sym split ∙ ap words_of is ∙ words_of-event_line e fits)
-
--- what an answer says of a line's words, it says of the line
-pub event_at : (line : List ℕ) (ws : List (List ℕ)) (o : Option Event) → words_of line ≡ ws → IfSome o (λ e. ws ≡ event_words e) → IfSome o (λ e. line ≡ event_line e)
-event_at line ws None split h = tt
-event_at line ws (Some e) split h = line-words line (event_words e) (split ∙ h)
-
-pub no_event_at : (line : List ℕ) (ws : List (List ℕ)) (o : Option Event) → words_of line ≡ ws → IfNone o ((e : Event) → Fits e → ws ≡ event_words e → ⊥) → IfNone o ((e : Event) → Fits e → line ≡ event_line e → ⊥)
-no_event_at line ws None split h = no_event line ws split h
-no_event_at line ws (Some e) split h = tt
-
-same_number : (m n : ℕ) → m < 2 ^ 32 → n < 2 ^ 32 → decimal m ≡ decimal n → m ≡ n
+pub same_number : (m n : ℕ) → m < 2 ^ 32 → n < 2 ^ 32 → decimal m ≡ decimal n → m ≡ n
 same_number m n p q h = decimal_injective m n (omega arith) (omega arith) h
 
--- with the number of words, the first two bytes of the first word tell events apart
-abbrev first_bytes : List (List ℕ) → ℕ
+-- the first and the third byte of a command tell commands apart, also from those of a script
+abbrev pub two_bytes : List ℕ → ℕ
+two_bytes w = 1000 * get_or w 0 0 + get_or w 2 0
+
+-- and with the number of words those of the first word tell events apart
+abbrev pub first_bytes : List (List ℕ) → ℕ
 first_bytes [] = 0
-first_bytes (w ∷ ws) = 1000 * get_or w 0 0 + get_or w 1 0
+first_bytes (w ∷ ws) = two_bytes w
 
 -- an event whose words begin with `act` is an action
 pub record IsAction (ws : List (List ℕ)) : Type 0 where
@@ -94,33 +84,13 @@ one_event e f p q h = same_words e f p q (sym (words_of-event_line e p) ∙ ap w
 pub cut_twice : (line command numbers : List ℕ) (ws : List (List ℕ)) → words_of line ≡ command ∷ words_of numbers → words_of numbers ≡ ws → words_of line ≡ command ∷ ws
 cut_twice line command numbers ws p q = p ∙ ap (λ rest. command ∷ rest) q
 
-pub one_number : (line command numbers : List ℕ) (n : ℕ) → words_of line ≡ command ∷ words_of numbers → words_of numbers ≡ numbers ∷ [] → numbers ≡ decimal n → words_of line ≡ command ∷ decimal n ∷ []
-one_number line command numbers n p q is = cut_twice line command numbers (numbers ∷ []) p q ∙ ap (λ w. command ∷ w ∷ []) is
-
-pub two_numbers : (line command numbers at child : List ℕ) (m n : ℕ) → words_of line ≡ command ∷ words_of numbers → words_of numbers ≡ at ∷ words_of child
-    → at ≡ decimal m → child ≡ decimal n → n < 2 ^ 32 → words_of line ≡ command ∷ decimal m ∷ decimal n ∷ []
-two_numbers line command numbers at child m n p q first second small =
-    cut_twice line command numbers (at ∷ words_of child) p q ∙ ap (λ w. command ∷ w ∷ words_of child) first ∙ ap (λ w. command ∷ decimal m ∷ words_of w) second
-    ∙ ap (λ ws. command ∷ decimal m ∷ ws) (words_of-decimal n small)
-
-pub three_numbers : (line command numbers at rest case with : List ℕ) (m n k : ℕ) → words_of line ≡ command ∷ words_of numbers → words_of numbers ≡ at ∷ words_of rest → words_of rest ≡ case ∷ words_of with
-    → at ≡ decimal m → case ≡ decimal n → with ≡ decimal k → k < 2 ^ 32 → words_of line ≡ command ∷ decimal m ∷ decimal n ∷ decimal k ∷ []
-three_numbers line command numbers at rest case with m n k p q r first second third small =
-    cut_twice line command numbers (at ∷ words_of rest) p q ∙ ap (λ ws. command ∷ at ∷ ws) r
-    ∙ ap (λ w. command ∷ w ∷ case ∷ words_of with) first ∙ ap (λ w. command ∷ decimal m ∷ w ∷ words_of with) second ∙ ap (λ w. command ∷ decimal m ∷ decimal n ∷ words_of w) third
-    ∙ ap (λ ws. command ∷ decimal m ∷ decimal n ∷ ws) (words_of-decimal k small)
-
 -- ---- the words of a command and of what follows it
 
+pub both_found : (command rest name : List ℕ) (ws : List (List ℕ)) → command ≡ name → words_of rest ≡ ws → command ∷ words_of rest ≡ name ∷ ws
+both_found command rest name ws is more = cc
+
 pub one_found : (command rest name : List ℕ) (n : ℕ) → command ≡ name → rest ≡ decimal n → n < 2 ^ 32 → command ∷ words_of rest ≡ name ∷ decimal n ∷ []
-one_found command rest name n is number small = ap (λ w. w ∷ words_of rest) is ∙ ap (λ r. name ∷ words_of r) number ∙ ap (λ ws. name ∷ ws) (words_of-decimal n small)
-
-pub both_found : (command rest name : List ℕ) (m n : ℕ) → command ≡ name → words_of rest ≡ decimal m ∷ decimal n ∷ [] → command ∷ words_of rest ≡ name ∷ decimal m ∷ decimal n ∷ []
-both_found command rest name m n is numbers = ap (λ w. w ∷ words_of rest) is ∙ ap (λ ws. name ∷ ws) numbers
-
--- the first and the third byte of a command tell commands apart
-abbrev two_bytes : List ℕ → ℕ
-two_bytes w = 1000 * get_or w 0 0 + get_or w 2 0
+one_found command rest name n is number small = both_found command rest name (decimal n ∷ []) is (ap words_of number ∙ words_of-decimal n small)
 
 -- the command is not one of those that take more than one number
 abbrev pub takes_one : List ℕ → Bool
@@ -145,19 +115,7 @@ one_only command rest name one is none e fits words =
     let number = one_number_of e name (words_of rest) one fits (sym (ap (λ w. w ∷ words_of rest) is) ∙ words) in
     none number.0 number.1 (line-words rest (decimal number.0 ∷ []) number.2)
 
--- ---- two numbers
-
-pub two_found : (text first second : List ℕ) (m n : ℕ) → words_of text ≡ first ∷ words_of second → first ≡ decimal m → second ≡ decimal n → n < 2 ^ 32 → words_of text ≡ decimal m ∷ decimal n ∷ []
-two_found text first second m n split one two small = split ∙ ap (λ w. w ∷ words_of second) one ∙ ap (λ w. decimal m ∷ words_of w) two ∙ ap (λ ws. decimal m ∷ ws) (words_of-decimal n small)
-
-pub second_only : (text first second : List ℕ) → words_of text ≡ first ∷ words_of second → ((n : ℕ) → n < 2 ^ 32 → second ≡ decimal n → ⊥)
-    → (m n : ℕ) → m < 2 ^ 32 → n < 2 ^ 32 → words_of text ≡ decimal m ∷ decimal n ∷ [] → ⊥
-second_only text first second split none m n p q is = let same = sym split ∙ is in none n q (line-words second (decimal n ∷ []) (cc))
-
 -- ---- a word and perhaps a number
-
-pub one_and_number : (text word last : List ℕ) (n : ℕ) → words_of text ≡ word ∷ words_of last → last ≡ decimal n → n < 2 ^ 32 → words_of text ≡ word ∷ decimal n ∷ []
-one_and_number text word last n first number small = cut_twice text word last (decimal n ∷ []) first (ap words_of number ∙ words_of-decimal n small)
 
 pub one_and_none : (text word last : List ℕ) → words_of text ≡ word ∷ words_of last → ((n : ℕ) → n < 2 ^ 32 → last ≡ decimal n → ⊥)
     → (w : List ℕ) (with : Option ℕ) → IfSome with (λ j. j < 2 ^ 32) → words_of text ≡ w ∷ neighbour_words with → ⊥

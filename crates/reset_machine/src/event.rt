@@ -51,7 +51,7 @@ pub enum Event {
 
 impl Event {
     ghost use Rattle.std.specs.Prelude.{◌≡◌};
-    ghost use Rattle.reset_machine.specs.Steps.{event_node, is_of_tree, named_node};
+    ghost use Rattle.reset_machine.specs.Steps.{event_node, named_node};
     ghost use Rattle.reset_machine.specs.LocalSteps.{cases_of};
 
     /// The identifier of the node at which the event happens, which alone it changes.
@@ -87,22 +87,6 @@ impl Event {
             | Event::Join { .. }
             | Event::Finish { .. }
             | Event::Mend { .. } => None,
-        }
-    }
-
-    // Whether the event is one of the tree layer, and not of the wave layer.
-    pub(crate) fn is_of_tree(self) -> bool
-        ensures { result ≡ is_of_tree self }
-    {
-        match self {
-            Event::Claim { .. } | Event::Follow { .. } | Event::Adopt { .. } => true,
-            Event::Request { .. }
-            | Event::Relay { .. }
-            | Event::Open { .. }
-            | Event::Join { .. }
-            | Event::Finish { .. }
-            | Event::Mend { .. }
-            | Event::Act { .. } => false,
         }
     }
 

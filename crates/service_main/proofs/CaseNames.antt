@@ -1,32 +1,28 @@
 -- A name of a case in a line: it is one word, and no number.
 use Rattle.std.specs.Prelude.{codes, IsTrue}
-use Rattle.std.proofs.Common.{◌≡◌, ℕ, suc, ◌+◌, ◌-◌, ◌<◌, ◌≤◌, ◌^◌, Bool, cond, unwrap_or, true, false, ◌&&◌, List, [], ◌∷◌, refl, sym, ap, ◌∙◌, true≢false, arith, length, Option, Some, None, IfSome}
+use Rattle.std.proofs.Common.{◌≡◌, ◌≢◌, ℕ, suc, ◌+◌, ◌-◌, ◌<◌, ◌≤◌, ◌^◌, Bool, cond, unwrap_or, true, false, ◌&&◌, List, [], ◌∷◌, refl, sym, ap, ◌∙◌, true≢false, arith, length, Option, Some, None, IfSome}
 use Rattle.std.specs.Char.{is_ascii_alphabetic, is_ascii_graphic}
 use Rattle.std.specs.Fmt.{decimal}
 use Rattle.std.specs.List.{find, join_with_byte, list_all, range_with_len}
 use Rattle.std.proofs.lemmas.Bool.Decides.{nat_tests}
-use Rattle.std.proofs.lemmas.Fmt.{decimal_injective, decimal_is_IsNumeral}
+use Rattle.std.proofs.lemmas.Fmt.{decimal_is_IsNumeral}
 use Rattle.std.proofs.lemmas.Str.Parse.{digit_from_value}
 use Rattle.std.specs.Str.Parse.{AllDigits}
 use Rattle.reset_machine.specs.EventText.{neighbour_words, Fits}
-use Rattle.reset_machine.specs.Words.{is_space, words_of}
+use Rattle.reset_machine.specs.Words.{words_of}
 use Rattle.reset_machine.specs.declared.event.Event.TheVariants.{Act}
 use Rattle.reset_machine.proofs.CaseChoices.{cases_from, cases_end, all_from_1}
-use Rattle.reset_machine.proofs.EventLines.{action_small, action_words, cut_twice, words_of-decimal}
+use Rattle.reset_machine.proofs.EventLines.{action_small, action_words, cut_twice, same_number, words_of-decimal}
 use Rattle.reset_machine.proofs.WordLines.{line-words, words_of-word, words_of-more, IsWord, IsWord-decimal}
 use Rattle.service_main.specs.declared.script.Command.{Command}
 use Rattle.service_main.specs.declared.script.Command.TheVariants.{Step}
 use Rattle.service_main.specs.Script.{case_named, command_words, is_called, is_name, named_words, CommandFits, Spells}
 use Rattle.service_main.specs.Script.Spells.{by_name}
 
-pub at_small : (at : ℕ) (with : Option ℕ) → Fits (Act at 0 with) → at < 2 ^ 32
-at_small at None fits = fits.0
-at_small at (Some j) fits = fits.0
-
 -- ---- a name is a word
 
-graphic_not_space : (b : ℕ) → is_ascii_graphic b ≡ true → is_space b ≡ false
-graphic_not_space b h = grind (arith, nat_tests)
+graphic_not_space : (b : ℕ) → is_ascii_graphic b ≡ true → b ≢ 32
+graphic_not_space b h is = true≢false (sym h ∙ ap is_ascii_graphic is)
 
 first_of : (a b : Bool) → (a && b) ≡ true → a ≡ true
 first_of true b h = refl
@@ -80,13 +76,13 @@ named_apart c p at w with fits name h = absurd (omega (arith, ap length h))
 pub one_named : (names : ℕ → Option (List ℕ)) (m n : ℕ) (w x : List ℕ) (v u : Option ℕ) → Fits (Act m 0 v) → Fits (Act n 0 u) → named_words m w v ≡ named_words n x u
     → Step (Act m (case_named names w) v) ≡ Step (Act n (case_named names x) u)
 one_named names m n w x None None p q h =
-    let same : m ≡ n = decimal_injective m n (omega (arith, p.0)) (omega (arith, q.0)) (cc) in
+    let same : m ≡ n = same_number m n p.0 q.0 (cc) in
     let word : w ≡ x = cc in
     ap (λ k. Step (Act k (case_named names w) None)) same ∙ ap (λ y. Step (Act n (case_named names y) None)) word
 one_named names m n w x (Some j) (Some k) p q h =
-    let same : m ≡ n = decimal_injective m n (omega (arith, p.0)) (omega (arith, q.0)) (cc) in
+    let same : m ≡ n = same_number m n p.0 q.0 (cc) in
     let word : w ≡ x = cc in
-    let near : j ≡ k = decimal_injective j k (omega (arith, p.2)) (omega (arith, q.2)) (cc) in
+    let near : j ≡ k = same_number j k p.2 q.2 (cc) in
     ap (λ i. Step (Act i (case_named names w) (Some j))) same ∙ ap (λ y. Step (Act n (case_named names y) (Some j))) word ∙ ap (λ i. Step (Act n (case_named names x) (Some i))) near
 one_named names m n w x v u p q h = absurd (omega (arith, ap length h))
 
@@ -125,10 +121,6 @@ named_nowhere names word n high = ap (λ ns. unwrap_or (find (λ n. is_called (n
 abbrev pub IsNotNamed : List ℕ → Type 0
 IsNotNamed line = (at : ℕ) (word : List ℕ) (with : Option ℕ) → Fits (Act at 0 with) → IsTrue (is_name word) → line ≡ join_with_byte 32 (named_words at word with) → ⊥
 
-near_small : (at : ℕ) (with : Option ℕ) → Fits (Act at 0 with) → IfSome with (λ j. j < 2 ^ 32)
-near_small at None fits = tt
-near_small at (Some j) fits = fits.2
-
 all_small : (at : ℕ) (with : Option ℕ) → at < 2 ^ 32 → IfSome with (λ j. j < 2 ^ 32) → Fits (Act at 0 with)
 all_small at None small near = (small, omega arith)
 all_small at (Some j) small near = (small, omega arith, near)
@@ -143,7 +135,7 @@ pub end_not_named : (line command rest at last : List ℕ) → words_of line ≡
     → ((word : List ℕ) (with : Option ℕ) → IfSome with (λ j. j < 2 ^ 32) → words_of last ≡ word ∷ neighbour_words with → ⊥) → IsNotNamed line
 end_not_named line command rest at last first second none m word with fits name is =
     let same = sym (cut_twice line command rest (at ∷ words_of last) first second) ∙ words_of-named line m word with fits name is in
-    none word with (near_small m with fits) (cc)
+    none word with (action_small m 0 with fits).2 (cc)
 
 -- the words of a line of three and perhaps a number
 three_words : (line command rest at last word : List ℕ) (with : Option ℕ)
@@ -168,4 +160,4 @@ pub three_only : (line command rest at last word : List ℕ) (with : Option ℕ)
 three_only line command rest at last word with first second third apart m w v fits name is =
     let same = sym (three_words line command rest at last word with first second third) ∙ words_of-named line m w v fits name is in
     let third : w ≡ word = cc in
-    apart m (at_small m v fits) (cc) (cc) (rw (← third) name)
+    apart m (action_small m 0 v fits).0 (cc) (cc) (rw (← third) name)

@@ -1,12 +1,12 @@
 -- A command's line has the command's words, and no other command has them.
 use Rattle.std.specs.Prelude.{codes}
-use Rattle.std.proofs.Common.{◌≡◌, ◌⊎◌, inl, inr, ℕ, ◌<◌, ◌^◌, List, [], ◌∷◌, refl, sym, ap, ◌∙◌, get_or, Option, None, Some, IfSome, IfNone, Bool, true, ◌==◌, ◌||◌, true≢false}
+use Rattle.std.proofs.Common.{◌≡◌, ◌⊎◌, inl, inr, ℕ, ◌<◌, ◌^◌, List, [], ◌∷◌, refl, sym, ap, ◌∙◌, Option, None, Some, IfNone, Bool, true, false, ◌==◌, ◌||◌, true≢false}
 use Rattle.std.specs.Fmt.{decimal}
 use Rattle.reset_machine.specs.EventText.{event_words, Fits}
 use Rattle.reset_machine.specs.Words.{words_of}
 use Rattle.reset_machine.specs.declared.event.Event.{Event}
 use Rattle.reset_machine.specs.declared.event.Event.TheVariants.{Claim, Follow, Adopt, Request, Relay, Open, Join, Finish, Mend, Act}
-use Rattle.reset_machine.proofs.EventLines.{words_of-decimal, words_of-event_line}
+use Rattle.reset_machine.proofs.EventLines.{first_bytes, two_bytes, words_of-decimal, words_of-event_line}
 use Rattle.reset_machine.proofs.WordLines.{words_of-some, line-words}
 use Rattle.service_main.specs.declared.script.Command.{Command}
 use Rattle.service_main.specs.declared.script.Command.TheVariants.{Step, Show, ShowNode, Newest, Enabled, Ready}
@@ -24,27 +24,12 @@ words_of-command_line Ready h = refl
 pub same_words : (line : List ℕ) (c : Command) → CommandFits c → line ≡ command_line c → command_words c ≡ words_of line
 same_words line c fits is = sym (words_of-command_line c fits) ∙ ap words_of (sym is)
 
-pub event_not_one : (e : Event) (w : List ℕ) → event_words e ≡ w ∷ [] → ⊥
-event_not_one (Claim at) w h = cc
-event_not_one (Follow at) w h = cc
-event_not_one (Adopt at from) w h = cc
-event_not_one (Request at) w h = cc
-event_not_one (Relay at child) w h = cc
-event_not_one (Open at) w h = cc
-event_not_one (Join at) w h = cc
-event_not_one (Finish at) w h = cc
-event_not_one (Mend at) w h = cc
-event_not_one (Act at case with) w h = cc
+-- the words begin as those of a command that is no event
+abbrev pub begins_no_event : List (List ℕ) → Bool
+begins_no_event ws =
+    first_bytes ws == two_bytes (codes "show") || first_bytes ws == two_bytes (codes "newest") || first_bytes ws == two_bytes (codes "enabled") || first_bytes ws == two_bytes (codes "ready")
 
-abbrev pub first_byte : List (List ℕ) → ℕ
-first_byte [] = 0
-first_byte (w ∷ ws) = get_or w 0 0
-
--- the first bytes of the words of events
-abbrev begins_event : ℕ → Bool
-begins_event b = b == 97 || (b == 99 || (b == 102 || (b == 106 || (b == 109 || (b == 111 || b == 114)))))
-
-event_begins : (e : Event) → begins_event (first_byte (event_words e)) ≡ true
+event_begins : (e : Event) → begins_no_event (event_words e) ≡ false
 event_begins (Claim at) = refl
 event_begins (Follow at) = refl
 event_begins (Adopt at from) = refl
@@ -56,28 +41,8 @@ event_begins (Finish at) = refl
 event_begins (Mend at) = refl
 event_begins (Act at case with) = refl
 
-pub event_not_show : (e : Event) (ws : List (List ℕ)) → event_words e ≡ codes "show" ∷ ws → ⊥
-event_not_show e ws h = true≢false (sym (event_begins e) ∙ ap (λ vs. begins_event (first_byte vs)) h)
-
-pub event_not_enabled : (e : Event) (ws : List (List ℕ)) → event_words e ≡ codes "enabled" ∷ ws → ⊥
-event_not_enabled e ws h = true≢false (sym (event_begins e) ∙ ap (λ vs. begins_event (first_byte vs)) h)
-
--- ---- a line and its words
-
--- what an answer says of a line's words, it says of the line
-pub found_at : (line : List ℕ) (ws : List (List ℕ)) (o : Option Command) → words_of line ≡ ws → IfSome o (λ c. ws ≡ command_words c) → IfSome o (λ c. line ≡ command_line c)
-found_at line ws None split h = tt
-found_at line ws (Some c) split h = line-words line (command_words c) (split ∙ h)
-
-pub only_at : (line : List ℕ) (ws : List (List ℕ)) (o : Option Command) → words_of line ≡ ws → IfNone o ((c : Command) → CommandFits c → ws ≡ command_words c → ⊥)
-    → IfNone o ((c : Command) → CommandFits c → line ≡ command_line c → ⊥)
-only_at line ws (Some c) split h = tt
-only_at line ws None split h = λ c fits is. h c fits (sym split ∙ sym (same_words line c fits is))
-
--- one word is a command of one word
-pub only_one : (ws : List (List ℕ)) (o : Option Command) → IfNone o ((c : Command) → ws ≡ command_words c → ⊥) → IfNone o ((c : Command) → CommandFits c → ws ≡ command_words c → ⊥)
-only_one ws (Some c) h = tt
-only_one ws None h = λ c fits. h c
+pub no_event : (e : Event) {ws : List (List ℕ)} → event_words e ≡ ws → begins_no_event ws ≡ true → ⊥
+no_event e is other = true≢false (sym other ∙ ap begins_no_event (sym is) ∙ event_begins e)
 
 -- ---- a word and more
 

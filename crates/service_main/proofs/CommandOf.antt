@@ -1,45 +1,36 @@
 -- The command of a line is the one that it spells.
-use Rattle.std.specs.Prelude.{codes}
 use Rattle.std.proofs.Common.{◌≡◌, ℕ, ◌<◌, ◌^◌, ◌%◌, Bool, true, false, ◌⊎◌, inl, inr, List, [], ◌∷◌, ◌++◌, map, refl, sym, ap, ◌∙◌, true≢false, arith, length, Option, Some, None, IfSome, IfNone, cond, option_map, if◌then◌else◌}
 use Rattle.std.specs.Fmt.{decimal}
 use Rattle.std.specs.List.{find, join_with_byte}
 use Rattle.std.specs.Str.{bytes_eq}
 use Rattle.std.specs.Str.Parse.{digits_value}
 use Rattle.std.proofs.Math.Nat.{mod-eq_of_lt}
-use Rattle.std.proofs.lemmas.Fmt.{decimal_injective, decimal_is_IsNumeral}
+use Rattle.std.proofs.lemmas.Fmt.{decimal_is_IsNumeral}
 use Rattle.std.proofs.lemmas.Nat.{mod_below}
 use Rattle.std.proofs.lemmas.Slice.Eq.{bytes_eq-Decides}
 use Rattle.reset_machine.specs.EventText.{Fits}
 use Rattle.reset_machine.specs.Words.{words_of}
 use Rattle.reset_machine.specs.declared.event.Event.TheVariants.{Claim, Follow, Adopt, Request, Relay, Open, Join, Finish, Mend, Act}
-use Rattle.reset_machine.proofs.EventLines.{one_event}
+use Rattle.reset_machine.proofs.EventLines.{action_small, first_bytes, one_event, same_number}
 use Rattle.service_main.specs.declared.script.Command.{Command}
 use Rattle.service_main.specs.declared.script.Command.TheVariants.{Step, Show, ShowNode, Newest, Enabled, Ready}
 use Rattle.service_main.specs.Script.{case_named, command_words, command_line, command_of, commands_with, in_words, with_name, is_name, actions_with, named_words, number_at, spellings, word_at, CommandFits, Spelling, Spells}
 use Rattle.service_main.specs.Script.Spells.{by_words, by_name}
-use Rattle.service_main.proofs.CommandLines.{same_words, event_not_one, event_not_show, event_not_enabled, first_byte}
-use Rattle.service_main.proofs.CaseNames.{at_small, words_of-named, IsNotNamed, named_apart, one_named}
+use Rattle.service_main.proofs.CommandLines.{same_words, no_event}
+use Rattle.service_main.proofs.CaseNames.{words_of-named, IsNotNamed, named_apart, one_named}
 
 -- ---- no two commands have one line
 
 one_by_words : (c d : Command) → CommandFits c → CommandFits d → command_words c ≡ command_words d → c ≡ d
 one_by_words (Step e) (Step f) p q h = ap Step (one_event e f p q (ap (join_with_byte 32) h))
-one_by_words (Step e) Show p q h = absurd (event_not_show e [] h)
-one_by_words (Step e) (ShowNode b) p q h = absurd (event_not_show e (decimal b ∷ []) h)
-one_by_words (Step e) Newest p q h = absurd (event_not_one e (codes "newest") h)
-one_by_words (Step e) (Enabled b) p q h = absurd (event_not_enabled e (decimal b ∷ []) h)
-one_by_words (Step e) Ready p q h = absurd (event_not_one e (codes "ready") h)
-one_by_words Show (Step f) p q h = absurd (event_not_show f [] (sym h))
-one_by_words (ShowNode a) (Step f) p q h = absurd (event_not_show f (decimal a ∷ []) (sym h))
-one_by_words Newest (Step f) p q h = absurd (event_not_one f (codes "newest") (sym h))
-one_by_words (Enabled a) (Step f) p q h = absurd (event_not_enabled f (decimal a ∷ []) (sym h))
-one_by_words Ready (Step f) p q h = absurd (event_not_one f (codes "ready") (sym h))
+one_by_words (Step e) d p q h = absurd (no_event e h refl)
+one_by_words c (Step f) p q h = absurd (no_event f (sym h) refl)
 one_by_words Show Show p q h = refl
-one_by_words (ShowNode a) (ShowNode b) p q h = ap ShowNode (decimal_injective a b (omega arith) (omega arith) (cc))
+one_by_words (ShowNode a) (ShowNode b) p q h = ap ShowNode (same_number a b p q (cc))
 one_by_words Newest Newest p q h = refl
-one_by_words (Enabled a) (Enabled b) p q h = ap Enabled (decimal_injective a b (omega arith) (omega arith) (cc))
+one_by_words (Enabled a) (Enabled b) p q h = ap Enabled (same_number a b p q (cc))
 one_by_words Ready Ready p q h = refl
-one_by_words c d p q h = absurd (omega (arith, ap first_byte h, ap length h))
+one_by_words c d p q h = absurd (omega (arith, ap first_bytes h, ap length h))
 
 spelled_once : (names : ℕ → Option (List ℕ)) (line : List ℕ) (c d : Command) → Spells names line c → Spells names line d → c ≡ d
 spelled_once names line c d (by_words p is) (by_words q is_too) = one_by_words c d p q (same_words line c p is ∙ sym (same_words line d q is_too))
@@ -210,7 +201,7 @@ spelled_among names line c (by_name at w with fits name is made) =
     let ws = named_words at w with in
     rw (words_of-named line at w with fits name is)
     (has_first line c (actions_with names (number_at ws 1) (word_at ws 2) (number_at ws 3)) (map in_words (commands_with (number_at ws 1) (number_at ws 2) (number_at ws 3)))
-    (names_among names line at w with c fits (is_name w) name is made (number_at ws 1) (number_at ws 3) (value at (at_small at with fits)) (near_value at w with fits)))
+    (names_among names line at w with c fits (is_name w) name is made (number_at ws 1) (number_at ws 3) (value at (action_small at 0 with fits).0) (near_value at w with fits)))
 
 -- ---- so the command that a line spells is the one that is found
 

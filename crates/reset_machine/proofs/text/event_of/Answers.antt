@@ -69,8 +69,8 @@ returns-in_ok-read_number-in-request-clause-found c =
 
 pub returns-in_ok-at-in-adopt-clause-found : goal.returns-in_ok-at-in-adopt-clause-found
 returns-in_ok-at-in-adopt-clause-found c =
-    both_found c.args.command.now c.args.rest.now (codes "adopt") c.in_ok-at-in-adopt.at c.in_ok-at-in-adopt.from (text_from_reads c.args.command.now (codes "adopt") (omega arith) (omega arith, (omega arith, (omega arith, (omega arith, (omega arith, tt)))))) c.in_ok-at-in-adopt.ensures.found
+    both_found c.args.command.now c.args.rest.now (codes "adopt") _ (text_from_reads c.args.command.now (codes "adopt") (omega arith) (omega arith, (omega arith, (omega arith, (omega arith, (omega arith, tt)))))) c.in_ok-at-in-adopt.ensures.found
 
 pub returns-in_ok-at-in-relay-clause-found : goal.returns-in_ok-at-in-relay-clause-found
 returns-in_ok-at-in-relay-clause-found c =
-    both_found c.args.command.now c.args.rest.now (codes "relay") c.in_ok-at-in-relay.at c.in_ok-at-in-relay.child (text_from_reads c.args.command.now (codes "relay") (omega arith) (omega arith, (omega arith, (omega arith, (omega arith, (omega arith, tt)))))) c.in_ok-at-in-relay.ensures.found
+    both_found c.args.command.now c.args.rest.now (codes "relay") _ (text_from_reads c.args.command.now (codes "relay") (omega arith) (omega arith, (omega arith, (omega arith, (omega arith, (omega arith, tt)))))) c.in_ok-at-in-relay.ensures.found

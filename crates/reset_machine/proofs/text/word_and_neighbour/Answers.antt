@@ -1,4 +1,5 @@
-use Rattle.reset_machine.proofs.EventLines.{one_and_none, one_and_number}
+use Rattle.std.proofs.Common.{◌∙◌, refl}
+use Rattle.reset_machine.proofs.EventLines.{one_and_none, one_found}
 use Rattle.reset_machine.proofs.text.word_and_neighbour.Goals as goal
 
 pub returns-in_err-read_number-in-Some-clause-only : goal.returns-in_err-read_number-in-Some-clause-only
@@ -8,5 +9,5 @@ returns-in_err-read_number-in-Some-clause-only c =
 
 pub returns-in_ok-read_number-in-Some-clause-found : goal.returns-in_ok-read_number-in-Some-clause-found
 returns-in_ok-read_number-in-Some-clause-found c =
-    one_and_number c.args.text.now c.in-Some.word.now c.in-Some.number.now c.in_ok-read_number-in-Some.field-0 c.in-Some.ensures.found
-    c.in_ok-read_number-in-Some.ensures.found c.in_ok-read_number-in-Some.ensures.small
+    c.in-Some.ensures.found
+    ∙ one_found c.in-Some.word.now c.in-Some.number.now c.in-Some.word.now c.in_ok-read_number-in-Some.field-0 refl c.in_ok-read_number-in-Some.ensures.found c.in_ok-read_number-in-Some.ensures.small
