@@ -9,6 +9,7 @@ run: build
 # Leaves the proved program at build/reset-service.
 build:
 	@mkdir -p build
+	@[ -e build/reset-service ] || echo 'Proves and builds for the first time: five to fifteen minutes without a word.'
 	@cd crates/service_main && rt run < stdin > out.log 2>&1 || { cat out.log; rm -f out.log; exit 1; }
 	@rm -f crates/service_main/out.log
 	@cp crates/service_main/out/service_main build/reset-service

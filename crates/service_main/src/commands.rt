@@ -49,15 +49,21 @@ A topology:
   nodes = [1, 2, 3]
   links = [[1, 2], [2, 3]]
   app = \"token\"
-The application is idle, token, mutex or routes.
+All three keys are needed; the application is \"idle\", \"token\", \"mutex\" or \"routes\".
 
 The commands of a script, at node I with its neighbour J and its child C:
   claim I, follow I, adopt I J
   request I, relay I C, open I, join I, finish I, mend I
   act I CASE, act I CASE J
   show, show I, newest, enabled I, ready
-A CASE is the name of an action of the application, or its number.
-An empty line, or one that begins with #, does nothing.
+A CASE is the name of an action of the application, or its number. They are
+  act I pass J, act I take J    of token
+  act I enter, act I leave      of mutex
+  act I pull J                  of routes
+Words have one space between them. An empty line, or one that begins with #, does nothing.
+In any other line a tab, a space at either end, a carriage return, a command in capital
+letters, a zero before a number or a comment behind the command makes the line bad;
+`cat -A SCRIPT` shows what the eye misses.
 
 Example:
   reset-service replay examples/one-wave/topology.toml examples/one-wave/script";
@@ -71,7 +77,7 @@ applications token, mutex and routes.
 
 A table is a line `table TITLE`, and then a line `NUMBER NAME | GUARD | EFFECT` for each
 row. A node may take a row where its guard holds, and then its registers change as the
-effect says. `enabled I` in a script names the rows that node I may take.";
+effect says. `enabled I` in a script gives the numbers of the rows that node I may take.";
 
 /// The command line: the program and its subcommands.
 pub fn command_line<'a>(alloc: Global) -> Result<Command<'a>, AllocError>
