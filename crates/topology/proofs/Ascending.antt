@@ -60,9 +60,9 @@ contains_from_test xs x e = let at = index_of_member xs x e in (at.0, at.1, get_
 pub test_from_contains : (xs : List ℕ) (x : ℕ) → Contains xs x → list_any (λ y. eqb y x) xs ≡ true
 test_from_contains xs x at = list_any-from_Any (λ y. eqb y x) xs (at.0, x, at.1, at.2, eq-eqb x x refl)
 
--- a test with no place passes at no index
-pub no_place : (p : ℕ → Bool) (xs : List ℕ) → None ≡ position p xs → (k : ℕ) → k < length xs → p (get_or xs k 0) ≡ false
-no_place p xs none k within =
+-- a test with no first index passes at no index
+pub no_index : (p : ℕ → Bool) (xs : List ℕ) → None ≡ position p xs → (k : ℕ) → k < length xs → p (get_or xs k 0) ≡ false
+no_index p xs none k within =
     fails_before_first p xs k 0
     (⊎_elim
     (λ (e : ltb (position_or_len p xs) (length xs) ≡ true). absurd (Some-is_not_none (position_or_len p xs) (sym (none ∙ ap (λ b. cond b (Some (position_or_len p xs)) None) e))))
@@ -72,40 +72,40 @@ no_place p xs none k within =
     Some-is_not_none : (i : ℕ) → ◌≡◌ {A = Option ℕ} (Some i) None → ⊥
     Some-is_not_none i e = cc
 
--- a number is a member where it has a place
-pub member_by_place : (xs : List ℕ) (x : ℕ) (o : Option ℕ) → o ≡ position (λ i. eqb i x) xs → is_some o ≡ list_any (λ y. eqb y x) xs
-member_by_place xs x (Some k) at =
+-- a number is a member where it has an index
+pub member_by_index : (xs : List ℕ) (x : ℕ) (o : Option ℕ) → o ≡ position (λ i. eqb i x) xs → is_some o ≡ list_any (λ y. eqb y x) xs
+member_by_index xs x (Some k) at =
     let found = position-Some (λ i. eqb i x) xs k 0 (sym at) in
     sym (subst (λ z. list_any (λ y. eqb y z) xs ≡ true) (eqb-true (get_or xs k 0) x found.1) (member_at xs k found.0))
-member_by_place xs x None at =
-    sym (no_member xs x (λ k low e. absurd (true≢false (sym (eq-eqb (get_or xs k 0) x e) ∙ no_place (λ i. eqb i x) xs at k low))))
+member_by_index xs x None at =
+    sym (no_member xs x (λ k low e. absurd (true≢false (sym (eq-eqb (get_or xs k 0) x e) ∙ no_index (λ i. eqb i x) xs at k low))))
 
 -- ---- binary search
 
 module _ (xs : List ℕ) (x : ℕ) (up : IsStrictlyIncreasing xs) where
-  -- what a search answers: the place of x, or the place between the lesser and the greater
+  -- what a search answers: the index of x, or the place between the lesser and the greater
   abbrev pub Finds : Result ℕ ℕ → Type 0
   Finds r = MatchResult r (λ i. (i < length xs) × (get_or xs i 0 ≡ x)) (λ i. (i ≤ length xs) × ((k : ℕ) → k < i → get_or xs k 0 < x) × ((k : ℕ) → i ≤ k → k < length xs → x < get_or xs k 0))
 
   pub finds : (r : Result ℕ ℕ) → IsBinarySearchResult (λ y. nat_cmp y x) xs r → Finds r
   finds r h = searched xs x r h (rises_weakly xs up)
 
-  place_of_found : (r : Result ℕ ℕ) → Finds r → result_ok r ≡ position (λ i. eqb i x) xs
-  place_of_found (Ok i) h =
+  index_of_found : (r : Result ℕ ℕ) → Finds r → result_ok r ≡ position (λ i. eqb i x) xs
+  index_of_found (Ok i) h =
       let at : position_or_len (λ i. eqb i x) xs ≡ i =
       position_or_len_is (λ i. eqb i x) xs i 0 (omega (arith, h.0))
       (λ k lt. ne_eqb _ _ (λ e. absurd (omega (arith, rises xs up k i lt h.0, h.1, e)))) (λ _. eq-eqb _ _ h.1) in
       rw at (rw (lt-ltb i (length xs) h.0) refl)
-  place_of_found (Err i) h =
+  index_of_found (Err i) h =
       let at : position_or_len (λ i. eqb i x) xs ≡ length xs =
       position_or_len_is (λ i. eqb i x) xs (length xs) 0 (omega arith)
       (λ k lt. ne_eqb _ _ (λ e. ⊎_elim (λ low. absurd (omega (arith, h.1 k low, e))) (λ high. absurd (omega (arith, h.2 k high lt, e))) (cases_lt k i)))
       (λ lt. absurd (omega arith)) in
       rw at (rw (le-ltb (length xs) (length xs) (omega arith)) refl)
 
-  -- a number at an index has a place
-  pub place_of_member : (k : ℕ) → k < length xs → get_or xs k 0 ≡ x → Some k ≡ position (λ i. eqb i x) xs
-  place_of_member k within e = place_of_found (Ok k) (within, e)
+  -- what stands at an index has this index
+  pub index_of_item : (k : ℕ) → k < length xs → get_or xs k 0 ≡ x → Some k ≡ position (λ i. eqb i x) xs
+  index_of_item k within e = index_of_found (Ok k) (within, e)
 
   member_if_found : (r : Result ℕ ℕ) → Finds r → is_ok r ≡ list_any (λ y. eqb y x) xs
   member_if_found (Ok i) h = sym (subst (λ z. list_any (λ y. eqb y z) xs ≡ true) h.1 (member_at xs i h.0))
@@ -115,9 +115,9 @@ module _ (xs : List ℕ) (x : ℕ) (up : IsStrictlyIncreasing xs) where
   pub member_by_search : (r : Result ℕ ℕ) → IsBinarySearchResult (λ y. nat_cmp y x) xs r → is_ok r ≡ list_any (λ y. eqb y x) xs
   member_by_search r h = member_if_found r (finds r h)
 
--- ---- the elements of a list at ascending places
+-- ---- the elements of a list at ascending indexes
 
--- the places ascend from `low` on and are below `high`
+-- the indexes ascend from `low` on and are below `high`
 abbrev AreBetween : ℕ → ℕ → List ℕ → Type 0
 AreBetween low high [] = Unit {0}
 AreBetween low high (x ∷ xs) = (low ≤ x) × (x < high) × AreBetween (x + 1) high xs
@@ -131,21 +131,21 @@ between_from (x ∷ xs) low high up within = (
       (λ k h. (omega (arith, rises (x ∷ xs) up 0 (suc k) (omega arith) (omega arith)), (within (suc k) (omega arith)).1)),
 )
 
--- a place below all of them is none of them
+-- an index below all of them is none of them
 above_low : (xs : List ℕ) (low high k : ℕ) → k < low → AreBetween low high xs → list_any (λ y. eqb y k) xs ≡ false
 above_low [] low high k less all = refl
 above_low (x ∷ xs) low high k less all =
     rw (ne_eqb x k (λ e. absurd (omega (arith, all.0)))) (above_low xs (x + 1) high k (omega (arith, all.0)) all.2)
 
--- a place later on, in a list with one element more in front
-one_place_on : (a : ℕ) (rest xs : List ℕ) (low from high : ℕ) → low + 1 ≤ from → AreBetween from high xs →
+-- an index later on, in a list with one element more in front
+one_index_on : (a : ℕ) (rest xs : List ℕ) (low from high : ℕ) → low + 1 ≤ from → AreBetween from high xs →
     map (λ n. get_or (a ∷ rest) (n - low) 0) xs ≡ map (λ n. get_or rest (n - (low + 1)) 0) xs
-one_place_on a rest [] low from high le all = refl
-one_place_on a rest (x ∷ xs) low from high le all =
+one_index_on a rest [] low from high le all = refl
+one_index_on a rest (x ∷ xs) low from high le all =
     let e : x - low ≡ suc (x - (low + 1)) = omega (arith, all.0) in
-    ap₂ (λ y ys. y ∷ ys) (ap (λ n. get_or (a ∷ rest) n 0) e) (one_place_on a rest xs low (x + 1) high (omega (arith, all.0)) all.2)
+    ap₂ (λ y ys. y ∷ ys) (ap (λ n. get_or (a ∷ rest) n 0) e) (one_index_on a rest xs low (x + 1) high (omega (arith, all.0)) all.2)
 
--- the ids at the places from `low` on are those that pass a test which passes exactly there
+-- the ids at the indexes from `low` on are those that pass a test which passes exactly there
 filter_at : (p : ℕ → Bool) (ids row : List ℕ) (low : ℕ) → AreBetween low (low + length ids) row →
     ((k : ℕ) → k < length ids → p (get_or ids k 0) ≡ list_any (λ y. eqb y (low + k)) row) → map (λ n. get_or ids (n - low) 0) row ≡ filter p ids
 filter_at p [] [] low all passes = refl
@@ -163,7 +163,7 @@ filter_at p (a ∷ rest) (x ∷ xs) low all passes =
     λ k h. passes (suc k) (omega arith) ∙ ap (λ b. b || list_any (λ y. eqb y (low + suc k)) xs) (ne_eqb x (low + suc k) (λ e. absurd (omega arith))) ∙ ap (λ n. list_any (λ y. eqb y n) xs) (omega arith) in
     let head : get_or (a ∷ rest) (x - low) 0 ≡ a = ap (λ n. get_or (a ∷ rest) n 0) first in
     let others : map (λ n. get_or (a ∷ rest) (n - low) 0) xs ≡ filter p rest =
-    one_place_on a rest xs low (low + 1) ((low + 1) + length rest) le tail ∙ filter_at p rest xs (low + 1) tail later in
+    one_index_on a rest xs low (low + 1) ((low + 1) + length rest) le tail ∙ filter_at p rest xs (low + 1) tail later in
     rw here (ap₂ (λ y ys. y ∷ ys) head others))
     (λ other.
     let le : low + 1 ≤ low + 1 = omega arith in
@@ -172,10 +172,10 @@ filter_at p (a ∷ rest) (x ∷ xs) low all passes =
     let here : p a ≡ false = passes 0 (omega arith) ∙ above_low (x ∷ xs) (low + 1) ((low + 1) + length rest) (low + 0) (omega arith) row_on in
     let later : (k : ℕ) → k < length rest → p (get_or rest k 0) ≡ list_any (λ y. eqb y ((low + 1) + k)) (x ∷ xs) =
     λ k h. passes (suc k) (omega arith) ∙ ap (λ n. list_any (λ y. eqb y n) (x ∷ xs)) (omega arith) in
-    rw here (one_place_on a rest (x ∷ xs) low (low + 1) ((low + 1) + length rest) le row_on ∙ filter_at p rest (x ∷ xs) (low + 1) row_on later))
+    rw here (one_index_on a rest (x ∷ xs) low (low + 1) ((low + 1) + length rest) le row_on ∙ filter_at p rest (x ∷ xs) (low + 1) row_on later))
     (cases_eq x low)
 
--- the ids at the places of an ascending row are those that pass a test which passes exactly there
+-- the ids at the indexes of an ascending row are those that pass a test which passes exactly there
 pub filter_by_row : (p : ℕ → Bool) (ids row : List ℕ) → IsStrictlyIncreasing row →
     ((j : ℕ) → list_any (λ y. eqb y j) row ≡ true → j < length ids) →
     ((k : ℕ) → k < length ids → p (get_or ids k 0) ≡ list_any (λ y. eqb y k) row) → map (λ n. get_or ids n 0) row ≡ filter p ids

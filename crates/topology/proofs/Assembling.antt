@@ -11,7 +11,7 @@ use Rattle.topology.specs.Rows.{graph_of, AreIds, AreParts}
 use Rattle.topology.specs.Searching.{AreDistances}
 use Rattle.topology.specs.declared.fault.TopoFault.TheVariants.{Disconnected}
 use Rattle.topology.specs.declared.fault.TheConstants.{MAX_LINKS}
-use Rattle.topology.proofs.Ascending.{no_place}
+use Rattle.topology.proofs.Ascending.{no_index}
 use Rattle.topology.proofs.Counting.{links_counted}
 use Rattle.topology.proofs.FaultOrder.{clean_lists, clean_all, first_fault, graph_of_lists}
 use Rattle.topology.proofs.Inserting.{rows_of}
@@ -26,7 +26,7 @@ module _ (nodes ids : List ℕ) (links : List (ℕ × ℕ)) (rows : List (List �
   module _ (none : None ≡ position (λ m. eqb m (length ids)) marks) where
     all_marked : (i : ℕ) → i < length ids → get_or marks i 0 < length ids
     all_marked i i_in =
-        let other = eqb-false (get_or marks i 0) (length ids) (no_place (λ m. eqb m (length ids)) marks none i (omega (arith, found.are_reached.count))) in
+        let other = eqb-false (get_or marks i 0) (length ids) (no_index (λ m. eqb m (length ids)) marks none i (omega (arith, found.are_reached.count))) in
         omega (arith, found.are_reached.small i i_in)
 
     connected : IsConnected (graph_of ids rows)
@@ -51,15 +51,15 @@ module _ (nodes ids : List ℕ) (links : List (ℕ × ℕ)) (rows : List (List �
 
   pub cut_off_first : (i : ℕ) → Some i ≡ position (λ m. eqb m (length ids)) marks → IsFirstFault nodes links (Disconnected (get_or ids i 0))
   cut_off_first i at =
-      let place = position-Some (λ m. eqb m (length ids)) marks i 0 (sym at) in
+      let index = position-Some (λ m. eqb m (length ids)) marks i 0 (sym at) in
       first_fault nodes links (Disconnected (get_or ids i 0)) 8 refl
       (clean_lists nodes ids as_ids sorted links few apart.known apart.different joined.distinct) (
         graph_of ids rows,
         are_graph,
         graph_of_lists nodes ids as_ids sorted links apart rows joined,
-        cut_off_from_marks ids rows as_ids joined.as_rows are_graph marks found i (omega (arith, place.0, found.are_reached.count))
-            (eqb-true (get_or marks i 0) (length ids) place.1)
-            (λ k low. eqb-false (get_or marks k 0) (length ids) (place.2 k low)),
+        cut_off_from_marks ids rows as_ids joined.as_rows are_graph marks found i (omega (arith, index.0, found.are_reached.count))
+            (eqb-true (get_or marks i 0) (length ids) index.1)
+            (λ k low. eqb-false (get_or marks k 0) (length ids) (index.2 k low)),
       )
 
 -- the same, where the ids are the list that was checked, and the rows and the marks were lent to the calls
@@ -80,18 +80,18 @@ module _ (nodes ids : List ℕ) (links : List (ℕ × ℕ)) (near : Vec (Vec ℕ
   found_ids =
       subst (λ n. AreDistances n (rows_of near.items) 0 marks) rows_count (subst (λ v. AreDistances (length v) (rows_of v) 0 marks) near_is found)
 
-  place_of_count : (o : Option ℕ) → o ≡ position (λ m. eqb m count) lent_marks → o ≡ position (λ m. eqb m (length ids)) marks
-  place_of_count o at =
+  index_of_count : (o : Option ℕ) → o ≡ position (λ m. eqb m count) lent_marks → o ≡ position (λ m. eqb m (length ids)) marks
+  index_of_count o at =
       subst₂ (λ n xs. o ≡ position (λ m. eqb m n) xs) (omega (arith, count_is, near.ok.0, rows_count)) marks_are at
 
   pub lent_parts : None ≡ position (λ m. eqb m count) lent_marks → AreParts ids (rows_of near.items) (length links)
-  lent_parts none = parts nodes ids links (rows_of near.items) as_ids sorted few apart joined marks found_ids (place_of_count None none)
+  lent_parts none = parts nodes ids links (rows_of near.items) as_ids sorted few apart joined marks found_ids (index_of_count None none)
 
   pub lent_topology : None ≡ position (λ m. eqb m count) lent_marks → IsTopologyOf nodes links (graph_of ids (rows_of near.items))
-  lent_topology none = topology_of_lists nodes ids links (rows_of near.items) as_ids sorted few apart joined marks found_ids (place_of_count None none)
+  lent_topology none = topology_of_lists nodes ids links (rows_of near.items) as_ids sorted few apart joined marks found_ids (index_of_count None none)
 
   pub lent_cut_off : (i : ℕ) → Some i ≡ position (λ m. eqb m count) lent_marks → IsFirstFault nodes links (Disconnected (get_or ids i 0))
-  lent_cut_off i at = cut_off_first nodes ids links (rows_of near.items) as_ids sorted few apart joined marks found_ids i (place_of_count (Some i) at)
+  lent_cut_off i at = cut_off_first nodes ids links (rows_of near.items) as_ids sorted few apart joined marks found_ids i (index_of_count (Some i) at)
 
 -- the marks of a search in a topology are distances
 pub distance_in : (ids : List ℕ) (rows : List (List ℕ)) (count : ℕ) → AreParts ids rows count → (start : ℕ) → start < length ids → (marks : List ℕ) → AreDistances (length ids) rows start marks → (k : ℕ) → k < length ids →

@@ -1,5 +1,5 @@
 pub mod Ascending
-pub mod Places
+pub mod Indexes
 pub mod RowLemmas
 pub mod Inserting
 pub mod FirstItems

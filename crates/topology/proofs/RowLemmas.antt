@@ -15,7 +15,7 @@ use Rattle.std.proofs.lemmas.List.Quantifiers.{position-Some}
 use Rattle.std.specs.Cmp.{both_ways as same_tests}
 use Rattle.topology.specs.Graph.{pair_cmp, are_linked, AreLinked, IsGraph, neighbours_of}
 use Rattle.topology.specs.Rows.{row_at, near_has, pairs_at, links_of, graph_of, AreRows}
-use Rattle.topology.proofs.Ascending.{member_at, index_once, filter_by_row, place_of_member, member_by_search}
+use Rattle.topology.proofs.Ascending.{member_at, index_once, filter_by_row, index_of_item, member_by_search}
 
 -- ---- pairs as keys of a set
 
@@ -138,18 +138,18 @@ module _ (ids : List ℕ) (rows : List (List ℕ)) where
         filter_by_row (are_linked (graph_of ids rows) (get_or ids i 0)) ids (row_at rows i) (as_rows.ascending i) (λ j e. as_rows.within i j e)
         (λ k k_in. linked_at i k i_in k_in)
 
-    -- what the place of a number tells of its link with the id at an index
-    pub linked_at_place : (i b j : ℕ) → i < length ids → Some j ≡ position (λ k. eqb k b) ids → near_has rows i j ≡ are_linked (graph_of ids rows) (get_or ids i 0) b
-    linked_at_place i b j i_in at_b =
-        let place = position-Some (λ k. eqb k b) ids j 0 (sym at_b) in
-        sym (linked_at i j i_in place.0) ∙ ap (are_linked (graph_of ids rows) (get_or ids i 0)) (eqb-true (get_or ids j 0) b place.1)
+    -- what the index of a number tells of its link with the id at another
+    pub linked_at_index : (i b j : ℕ) → i < length ids → Some j ≡ position (λ k. eqb k b) ids → near_has rows i j ≡ are_linked (graph_of ids rows) (get_or ids i 0) b
+    linked_at_index i b j i_in at_b =
+        let index = position-Some (λ k. eqb k b) ids j 0 (sym at_b) in
+        sym (linked_at i j i_in index.0) ∙ ap (are_linked (graph_of ids rows) (get_or ids i 0)) (eqb-true (get_or ids j 0) b index.1)
 
     pub unlinked_first : (a b : ℕ) → None ≡ position (λ k. eqb k a) ids → false ≡ are_linked (graph_of ids rows) a b
     unlinked_first a b none =
         sym (false_from_ne_true _ (λ e.
         let l = linked_from a b e in
-        let place : Some l.i ≡ position (λ k. eqb k a) ids = place_of_member ids a up l.i l.within l.first in
-        absurd (Some-is_not_none l.i (place ∙ sym none))))
+        let index : Some l.i ≡ position (λ k. eqb k a) ids = index_of_item ids a up l.i l.within l.first in
+        absurd (Some-is_not_none l.i (index ∙ sym none))))
 
     pub unlinked_second : (a b : ℕ) → None ≡ position (λ k. eqb k b) ids → false ≡ are_linked (graph_of ids rows) a b
     unlinked_second a b none =
@@ -180,8 +180,8 @@ pub row_neighbours : (ids : List ℕ) (near : List (Vec ℕ Global)) → AreRows
 row_neighbours ids near as_rows i row within read up =
     ap (map (λ n. get_or ids n 0)) (sym (row_here (length ids) near as_rows i row within read)) ∙ neighbours_at ids (map (λ r. r.items) near) up as_rows i within
 
--- a search for the place of a number, in the row of an index, tells whether the two are linked
+-- a search for the index of a number, in the row of another, tells whether the two are linked
 pub linked_by_search : (ids : List ℕ) (near : List (Vec ℕ Global)) → AreRows (length ids) (map (λ r. r.items) near) → IsStrictlyIncreasing ids → (i : ℕ) (row : Vec ℕ Global) → i < length ids → row ≡ get_or near i row →
     (b j : ℕ) → Some j ≡ position (λ k. eqb k b) ids → (r : Result ℕ ℕ) → IsBinarySearchResult (λ y. nat_cmp y j) row.items r → is_ok r ≡ are_linked (graph_of ids (map (λ r. r.items) near)) (get_or ids i 0) b
 linked_by_search ids near as_rows up i row within read b j at_b r h =
-    found_in_row (length ids) near as_rows i row within read j r h ∙ linked_at_place ids (map (λ r. r.items) near) up as_rows i b j within at_b
+    found_in_row (length ids) near as_rows i row within read j r h ∙ linked_at_index ids (map (λ r. r.items) near) up as_rows i b j within at_b

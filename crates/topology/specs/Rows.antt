@@ -42,8 +42,8 @@ pub record AreIds (ids : List ℕ) : Type 0 where
   pub ascending : IsStrictlyIncreasing ids
 
 -- the table has at each id its index, and at no other number anything
-abbrev pub ArePlaces : List ℕ → List (Option ℕ) → Type 0
-ArePlaces ids places = (id : ℕ) → slice_index_or places id None ≡ position (λ i. i == id) ids
+abbrev pub AreIndexes : List ℕ → List (Option ℕ) → Type 0
+AreIndexes ids indexes = (id : ℕ) → slice_index_or indexes id None ≡ position (λ i. i == id) ids
 
 -- what the fields of a topology are: connected rows, with two pairs for each link that is counted
 pub record AreParts (ids : List ℕ) (rows : List (List ℕ)) (count : ℕ) : Type 0 where

@@ -1,5 +1,5 @@
 ghost use Rattle.std.specs.Prelude.{◌≡◌, ◌==◌, IfOk, position};
-ghost use Rattle.topology.specs.Rows.{AreIds, ArePlaces};
+ghost use Rattle.topology.specs.Rows.{AreIds, AreIndexes};
 
 use std::alloc::{AllocError, Global};
 use std::marker::Model;
@@ -8,7 +8,7 @@ use std::marker::Model;
 #[derive(Drop)]
 pub struct Ids {
     ascending: Vec<u32>,
-    places: Vec<Option<u16>>,
+    indexes: Vec<Option<u16>>,
 }
 
 impl Model for Ids {
@@ -19,11 +19,11 @@ impl Model for Ids {
 
     ghost coded = { coded_list coded_ℕ };
 
-    ghost use Rattle.topology.specs.Rows.{ArePlaces};
+    ghost use Rattle.topology.specs.Rows.{AreIndexes};
 
     ghost view = { λ ids. ids.ascending.items };
 
-    ghost invariant = { λ ids. ArePlaces ids.ascending.items ids.places.items };
+    ghost invariant = { λ ids. AreIndexes ids.ascending.items ids.indexes.items };
 }
 
 impl Ids {
@@ -32,8 +32,8 @@ impl Ids {
         requires { AreIds ascending.items }
         ensures { IfOk result (λ ids. ids ≡ ascending.items) }
     {
-        let places = places_of(alloc, &ascending)?;
-        Ok(Ids { ascending, places })
+        let indexes = indexes_of(alloc, &ascending)?;
+        Ok(Ids { ascending, indexes })
     }
 
     /// The identifiers in their order.
@@ -44,12 +44,12 @@ impl Ids {
     }
 
     /// The index of this identifier. None where it is none of them.
-    pub fn place_of(&self, id: u32) -> Option<usize>
+    pub fn index_of(&self, id: u32) -> Option<usize>
         ensures { result ≡ position (λ i. i == id) self.now }
     {
-        let places = &self.places;
-        match places.get(id as usize) {
-            Some(Some(place)) => Some(usize::from(*place)),
+        let indexes = &self.indexes;
+        match indexes.get(id as usize) {
+            Some(Some(index)) => Some(usize::from(*index)),
             _ => None,
         }
     }
@@ -59,23 +59,23 @@ impl Ids {
         ensures { IfOk result (λ copy. copy ≡ self.now) }
     {
         let ascending = &self.ascending;
-        let places = &self.places;
+        let indexes = &self.indexes;
         Ok(Ids {
             ascending: ascending.to_vec(alloc)?,
-            places: places.to_vec(alloc)?,
+            indexes: indexes.to_vec(alloc)?,
         })
     }
 }
 
-// The table of the places of these identifiers, as long as the greatest needs.
-fn places_of(alloc: Global, ids: &[u32]) -> Result<Vec<Option<u16>>, AllocError>
+// The table of the indexes of these identifiers, as long as the greatest needs.
+fn indexes_of(alloc: Global, ids: &[u32]) -> Result<Vec<Option<u16>>, AllocError>
     requires { AreIds ids.now }
-    ensures { IfOk result (λ places. ArePlaces ids.now places.items) }
+    ensures { IfOk result (λ indexes. AreIndexes ids.now indexes.items) }
 {
     let greatest = ids[ids.len() - 1];
-    let mut places = vec![in alloc; None; greatest as usize + 1]?;
-    for (place, id) in ids.iter().enumerate() {
-        places[*id as usize] = Some(place as u16);
+    let mut indexes = vec![in alloc; None; greatest as usize + 1]?;
+    for (index, id) in ids.iter().enumerate() {
+        indexes[*id as usize] = Some(index as u16);
     }
-    Ok(places)
+    Ok(indexes)
 }

@@ -15,10 +15,10 @@ fn first_strange_end(ids: &Ids, links: &[(u32, u32)]) -> Option<u32>
         (IsFirst (λ x. has ids.now x ≡ true → ⊥) (ends_of links.now)) }
 {
     for (a, b) in links {
-        if ids.place_of(*a).is_none() {
+        if ids.index_of(*a).is_none() {
             return Some(*a);
         }
-        if ids.place_of(*b).is_none() {
+        if ids.index_of(*b).is_none() {
             return Some(*b);
         }
     }
@@ -44,7 +44,7 @@ fn index_among(ids: &Ids, id: u32) -> usize
     ensures within { result < length ids.now }
     ensures value { slice_index ids.now result ≡ id }
 {
-    ids.place_of(id).unwrap()
+    ids.index_of(id).unwrap()
 }
 
 /// Puts each link into the rows, or answers `TwiceLink` of the first that repeats an earlier one.

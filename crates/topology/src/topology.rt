@@ -87,7 +87,7 @@ impl Topology {
     pub fn index_of(&self, id: u32) -> Option<usize>
         ensures { result ≡ position (λ i. i == id) self.now.ids }
     {
-        self.ids.place_of(id)
+        self.ids.index_of(id)
     }
 
     /// The indexes of the neighbours of the node at this index, ascending.
@@ -111,7 +111,7 @@ impl Topology {
     {
         let near = &self.near;
         match self.index_of(id) {
-            Some(place) if near[index].binary_search(&place).is_ok() => Some(place),
+            Some(id_index) if near[index].binary_search(&id_index).is_ok() => Some(id_index),
             _ => None,
         }
     }

@@ -8,12 +8,12 @@ pub returns-in-Some-clause-found : goal.returns-in-Some-clause-found
 returns-in-Some-clause-found c =
     let are = c.self.invariant in
     let ids = c.self.inside.ids in
-    let j = c.in-Some.place in
+    let j = c.in-Some.id_index in
     let within : c.args.index < length ids = subst (λ (g : Graph). c.args.index < length g.ids) (sym c.self.view_is) c.requires in
-    let place : Some j ≡ position (λ i. i == c.args.id) ids = c.in-Some.ensures ∙ ap (λ g. position (λ i. i == c.args.id) g.ids) (sym c.self.view_is) in
+    let is_index : Some j ≡ position (λ i. i == c.args.id) ids = c.in-Some.ensures ∙ ap (λ g. position (λ i. i == c.args.id) g.ids) (sym c.self.view_is) in
     rw (← c.self.view_is) (
-      sym place,
-      sym (linked_by_search ids _ are.as_rows are.as_ids.ascending c.args.index c.index.result.now within c.index.ensures c.args.id j place c.binary_search.result
+      sym is_index,
+      sym (linked_by_search ids _ are.as_rows are.as_ids.ascending c.args.index c.index.result.now within c.index.ensures c.args.id j is_index c.binary_search.result
           (subst (λ xs. IsBinarySearchResult (λ y. nat_cmp y j) xs c.binary_search.result) c.deref.ensures.value c.binary_search.ensures.position))
           ∙ sym c.is_ok.ensures.value ∙ c.if-is_ok.true,
     )
@@ -22,11 +22,11 @@ pub returns-in_default-clause-none : goal.returns-in_default-clause-none
 returns-in_default-clause-none c =
     let are = c.self.invariant in
     let ids = c.self.inside.ids in
-    let j = c.in-Some.place in
+    let j = c.in-Some.id_index in
     let within : c.args.index < length ids = subst (λ (g : Graph). c.args.index < length g.ids) (sym c.self.view_is) c.requires in
-    let place : Some j ≡ position (λ i. i == c.args.id) ids = c.in-Some.ensures ∙ ap (λ g. position (λ i. i == c.args.id) g.ids) (sym c.self.view_is) in
+    let is_index : Some j ≡ position (λ i. i == c.args.id) ids = c.in-Some.ensures ∙ ap (λ g. position (λ i. i == c.args.id) g.ids) (sym c.self.view_is) in
     rw (← c.self.view_is)
-    (sym (linked_by_search ids _ are.as_rows are.as_ids.ascending c.args.index c.index.result.now within c.index.ensures c.args.id j place c.binary_search.result
+    (sym (linked_by_search ids _ are.as_rows are.as_ids.ascending c.args.index c.index.result.now within c.index.ensures c.args.id j is_index c.binary_search.result
     (subst (λ xs. IsBinarySearchResult (λ y. nat_cmp y j) xs c.binary_search.result) c.deref.ensures.value c.binary_search.ensures.position))
     ∙ sym c.is_ok.ensures.value ∙ c.if-is_ok.false)
 
