@@ -45,6 +45,11 @@ pub record AreIds (ids : List ℕ) : Type 0 where
 abbrev pub AreIndexes : List ℕ → List (Option ℕ) → Type 0
 AreIndexes ids indexes = (id : ℕ) → slice_index_or indexes id None ≡ position (λ i. i == id) ids
 
+-- identifiers, and the table of their indexes
+pub record AreIndexed (ids : List ℕ) (indexes : List (Option ℕ)) : Type 0 where
+  pub as_ids : AreIds ids
+  pub as_indexes : AreIndexes ids indexes
+
 -- what the fields of a topology are: connected rows, with two pairs for each link that is counted
 pub record AreParts (ids : List ℕ) (rows : List (List ℕ)) (count : ℕ) : Type 0 where
   pub as_ids : AreIds ids

@@ -19,11 +19,11 @@ impl Model for Ids {
 
     ghost coded = { coded_list coded_ℕ };
 
-    ghost use Rattle.topology.specs.Rows.{AreIndexes};
+    ghost use Rattle.topology.specs.Rows.{AreIndexed};
 
     ghost view = { λ ids. ids.ascending.items };
 
-    ghost invariant = { λ ids. AreIndexes ids.ascending.items ids.indexes.items };
+    ghost invariant = { λ ids. AreIndexed ids.ascending.items ids.indexes.items };
 }
 
 impl Ids {
@@ -34,6 +34,13 @@ impl Ids {
     {
         let indexes = indexes_of(alloc, &ascending)?;
         Ok(Ids { ascending, indexes })
+    }
+
+    /// What they are: one to `MAX_NODES` identifiers, which ascend.
+    pub fn are_ids(&self)
+        ensures { AreIds self.now }
+    {
+        let _ = &self.ascending;
     }
 
     /// The identifiers in their order.

@@ -1,8 +1,6 @@
 ghost use Rattle.std.specs.Prelude.{◌≡◌, ◌≢◌, ℕ, ◌<◌, ◌≤◌, List, [], true, All, IfErr, IfOk, MatchOption, OnOk, length, map, slice_index};
-ghost use Rattle.std.specs.List.Sorted.{IsStrictlyIncreasing};
 ghost use Rattle.topology.specs.Building.{AreApart, AreJoined, AreSorted, has};
 ghost use Rattle.topology.specs.Faults.{IsFirst, IsFirstFault, IsFirstRepeat, ends_of, ordered_links};
-ghost use Rattle.topology.specs.Rows.{AreIds};
 
 use crate::fault::{MAX_LINKS, TopoFault};
 use crate::ids::Ids;
@@ -49,13 +47,13 @@ fn index_among(ids: &Ids, id: u32) -> usize
 
 /// Puts each link into the rows, or answers `TwiceLink` of the first that repeats an earlier one.
 fn link_all(ids: &Ids, links: &[(u32, u32)], near: &mut [Vec<usize>]) -> Result<(), TopoFault>
-    requires ascending { IsStrictlyIncreasing ids.now }
     requires apart { AreApart ids.now links.now }
     requires empty { AreJoined ids.now [] (map (λ row. row.items) near.old) }
     ensures ok { OnOk result (AreJoined ids.now links.now (map (λ row. row.items) near.new)) }
     ensures err { IfErr result (λ f. f ≢ TopoFault.NoMemory → (p : ℕ × ℕ)
         × (f ≡ TopoFault.TwiceLink p.0 p.1) × IsFirstRepeat (ordered_links links.now) p) }
 {
+    ids.are_ids();
     for (a, b) in links {
         let i = index_among(ids, *a);
         let j = index_among(ids, *b);
@@ -68,7 +66,6 @@ fn link_all(ids: &Ids, links: &[(u32, u32)], near: &mut [Vec<usize>]) -> Result<
 
 /// The rows of these links of the ids, or `TwiceLink` of the first that repeats an earlier one.
 fn linked_rows(alloc: Global, ids: &Ids, links: &[(u32, u32)]) -> Result<Vec<Vec<usize>>, TopoFault>
-    requires ascending { IsStrictlyIncreasing ids.now }
     requires apart { AreApart ids.now links.now }
     ensures ok { IfOk result (λ near. AreJoined ids.now links.now (map (λ row. row.items) near.items)) }
     ensures err { IfErr result (λ f. f ≢ TopoFault.NoMemory → (p : ℕ × ℕ)
@@ -81,20 +78,20 @@ fn linked_rows(alloc: Global, ids: &Ids, links: &[(u32, u32)]) -> Result<Vec<Vec
     }
 }
 
-/// The rows of these links of the ids, which ascend, or the first fault of the links.
+/// The rows of these links of the ids, or the first fault of the links.
 pub fn checked_rows(
     alloc: Global,
     ids: &Ids,
     links: &[(u32, u32)],
 ) -> Result<Vec<Vec<usize>>, TopoFault>
-    requires { IsStrictlyIncreasing ids.now }
     ensures few { OnOk result (length links.now ≤ MAX_LINKS) }
     ensures apart { OnOk result (AreApart ids.now links.now) }
     ensures joined { IfOk result (λ near.
         AreJoined ids.now links.now (map (λ row. row.items) near.items)) }
     ensures err { IfErr result (λ f. f ≢ TopoFault.NoMemory → (nodes : List ℕ)
-        → AreIds ids.now → AreSorted nodes ids.now → IsFirstFault nodes links.now f) }
+        → AreSorted nodes ids.now → IsFirstFault nodes links.now f) }
 {
+    ids.are_ids();
     if links.len() > MAX_LINKS {
         return Err(TopoFault::TooManyLinks);
     }
