@@ -62,7 +62,13 @@ module _ (nodes ids : List ℕ) (links : List (ℕ × ℕ)) (rows : List (List �
             (λ k low. eqb-false (get_or marks k 0) (length ids) (index.2 k low)),
       )
 
--- the same, where the ids are the list that was checked, and the rows and the marks were lent to the calls
+-- what the index of the first free mark tells of two lists: a topology where there is none, and else a fault
+pub record MarksTell (nodes ids : List ℕ) (links : List (ℕ × ℕ)) (rows : List (List ℕ)) (marks : List ℕ) (free : ℕ) : Type 0 where
+  pub parts : None ≡ position (λ m. eqb m free) marks → AreParts ids rows (length links)
+  pub topology : None ≡ position (λ m. eqb m free) marks → IsTopologyOf nodes links (graph_of ids rows)
+  pub cut_off : (i : ℕ) → Some i ≡ position (λ m. eqb m free) marks → IsFirstFault nodes links (Disconnected (get_or ids i 0))
+
+-- where the ids are the list that was checked, and the rows and the marks were lent to the calls
 module _ (nodes ids : List ℕ) (links : List (ℕ × ℕ)) (near : Vec (Vec ℕ Global) Global) (made : List ℕ) (made_are : ids ≡ made) (as_made : AreIds made) (sorted_made : AreSorted nodes made)
     (few : length links ≤ MAX_LINKS) (apart : AreApart ids links) (joined : AreJoined ids links (rows_of near.items))
     (lent_near : List (Vec ℕ Global)) (near_is : lent_near ≡ near.items) (marks : List ℕ) (found : AreDistances (length lent_near) (rows_of lent_near) 0 marks)
@@ -84,14 +90,12 @@ module _ (nodes ids : List ℕ) (links : List (ℕ × ℕ)) (near : Vec (Vec ℕ
   index_of_count o at =
       subst₂ (λ n xs. o ≡ position (λ m. eqb m n) xs) (omega (arith, count_is, near.ok.0, rows_count)) marks_are at
 
-  pub lent_parts : None ≡ position (λ m. eqb m count) lent_marks → AreParts ids (rows_of near.items) (length links)
-  lent_parts none = parts nodes ids links (rows_of near.items) as_ids sorted few apart joined marks found_ids (index_of_count None none)
-
-  pub lent_topology : None ≡ position (λ m. eqb m count) lent_marks → IsTopologyOf nodes links (graph_of ids (rows_of near.items))
-  lent_topology none = topology_of_lists nodes ids links (rows_of near.items) as_ids sorted few apart joined marks found_ids (index_of_count None none)
-
-  pub lent_cut_off : (i : ℕ) → Some i ≡ position (λ m. eqb m count) lent_marks → IsFirstFault nodes links (Disconnected (get_or ids i 0))
-  lent_cut_off i at = cut_off_first nodes ids links (rows_of near.items) as_ids sorted few apart joined marks found_ids i (index_of_count (Some i) at)
+  pub marks_tell : MarksTell nodes ids links (rows_of near.items) lent_marks count
+  marks_tell = record {
+    parts = λ none. parts nodes ids links (rows_of near.items) as_ids sorted few apart joined marks found_ids (index_of_count None none);
+    topology = λ none. topology_of_lists nodes ids links (rows_of near.items) as_ids sorted few apart joined marks found_ids (index_of_count None none);
+    cut_off = λ i at. cut_off_first nodes ids links (rows_of near.items) as_ids sorted few apart joined marks found_ids i (index_of_count (Some i) at);
+  }
 
 -- the marks of a search in a topology are distances
 pub distance_in : (ids : List ℕ) (rows : List (List ℕ)) (count : ℕ) → AreParts ids rows count → (start : ℕ) → start < length ids → (marks : List ℕ) → AreDistances (length ids) rows start marks → (k : ℕ) → k < length ids →

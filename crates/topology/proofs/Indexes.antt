@@ -1,11 +1,11 @@
 -- The table of the indexes of ascending ids, while it is filled in their order.
-use Rattle.std.proofs.Common.{◌≡◌, ℕ, ◌+◌, ◌<◌, ◌≢◌, List, length, get_or, set, Option, Some, None, eqb, position, refl, sym, ap, subst, ◌∙◌, arith, ⊎_elim}
+use Rattle.std.proofs.Common.{◌≡◌, ℕ, ◌+◌, ◌-◌, ◌<◌, ◌≤◌, ◌≢◌, List, length, get_or, set, Option, Some, None, eqb, position, refl, sym, ap, subst, ◌∙◌, arith, ⊎_elim}
 use Rattle.std.specs.List.Sorted.{IsStrictlyIncreasing}
 use Rattle.std.proofs.lemmas.List.{get_or-set_same, get_or-set_other}
 use Rattle.std.proofs.lemmas.List.Quantifiers.{position-Some}
 use Rattle.std.proofs.lemmas.Bool.{cases_eq, eqb-true}
 use Rattle.topology.specs.Rows.{AreIndexes}
-use Rattle.topology.proofs.Ascending.{index_of_item, rises}
+use Rattle.topology.proofs.Ascending.{index_of_item, rises, rises_weakly}
 
 -- the table has the indexes of the first n ids, and no other
 pub record HasFirst (ids : List ℕ) (n : ℕ) (indexes : List (Option ℕ)) : Type 0 where
@@ -17,6 +17,10 @@ none_or_some k e = cc
 
 same_index : (j k : ℕ) → ◌≡◌ {A = Option ℕ} (Some j) (Some k) → j ≡ k
 same_index j k e = cc
+
+-- the last id is the greatest
+pub at_most_last : (ids : List ℕ) → IsStrictlyIncreasing ids → (k : ℕ) → k < length ids → get_or ids k 0 ≤ get_or ids (length ids - 1) 0
+at_most_last ids up k within = rises_weakly ids up k (length ids - 1) (omega (arith, within)) (omega (arith, within))
 
 module _ (ids : List ℕ) (up : IsStrictlyIncreasing ids) (n : ℕ) (indexes : List (Option ℕ)) (has : HasFirst ids n indexes) where
   -- with the index of one more
