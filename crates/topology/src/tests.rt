@@ -25,6 +25,23 @@ fn reads_a_line_given_in_mixed_order(rt: HostRuntime) -> Result<(), Fail> {
 }
 
 #[test]
+fn finds_indexes_of_identifiers_with_gaps(rt: HostRuntime) -> Result<(), Fail> {
+    let line = Topology::build(rt.alloc(), &[9, 3, 7], &[(3, 7), (9, 7)])?;
+    assert_eq!(rt; line.index_of(3), Some(0));
+    assert_eq!(rt; line.index_of(7), Some(1));
+    assert_eq!(rt; line.index_of(9), Some(2));
+    assert_eq!(rt; line.index_of(0), None);
+    assert_eq!(rt; line.index_of(1), None);
+    assert_eq!(rt; line.index_of(4), None);
+    assert_eq!(rt; line.index_of(8), None);
+    assert_eq!(rt; line.index_of(10), None);
+    assert_eq!(rt; line.index_of(65535), None);
+    assert_eq!(rt; line.index_of(65536), None);
+    assert_eq!(rt; line.index_of(u32::MAX), None);
+    Ok(())
+}
+
+#[test]
 fn finds_neighbours_by_identifier(rt: HostRuntime) -> Result<(), Fail> {
     let star = Topology::build(rt.alloc(), &[5, 20, 40, 41], &[(41, 5), (41, 20), (40, 41)])?;
     assert_eq!(rt; star.len(), 4);
