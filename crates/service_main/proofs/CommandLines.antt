@@ -21,8 +21,8 @@ words_of-command_line (Enabled at) h = ap (λ ws. codes "enabled" ∷ ws) (words
 words_of-command_line Ready h = refl
 
 -- the words of a command's line
-pub same_words : (line : List ℕ) (c : Command) → CommandFits c → line ≡ command_line c → command_words c ≡ words_of line
-same_words line c fits is = sym (words_of-command_line c fits) ∙ ap words_of (sym is)
+pub words_of_line : (line : List ℕ) (c : Command) → CommandFits c → line ≡ command_line c → command_words c ≡ words_of line
+words_of_line line c fits is = sym (words_of-command_line c fits) ∙ ap words_of (sym is)
 
 -- the words begin as those of a command that is no event
 abbrev pub begins_no_event : List (List ℕ) → Bool

@@ -16,7 +16,7 @@ use Rattle.service_main.specs.declared.script.Command.{Command}
 use Rattle.service_main.specs.declared.script.Command.TheVariants.{Step, Show, ShowNode, Newest, Enabled, Ready}
 use Rattle.service_main.specs.Script.{case_named, command_words, command_line, command_of, commands_with, in_words, with_name, is_name, actions_with, named_words, number_at, spellings, word_at, CommandFits, Spelling, Spells}
 use Rattle.service_main.specs.Script.Spells.{by_words, by_name}
-use Rattle.service_main.proofs.CommandLines.{same_words, no_event}
+use Rattle.service_main.proofs.CommandLines.{words_of_line, no_event}
 use Rattle.service_main.proofs.CaseNames.{words_of-named, IsNotNamed, named_apart, one_named}
 
 -- ---- no two commands have one line
@@ -33,11 +33,11 @@ one_by_words Ready Ready p q h = refl
 one_by_words c d p q h = absurd (omega (arith, ap first_bytes h, ap length h))
 
 spelled_once : (names : ℕ → Option (List ℕ)) (line : List ℕ) (c d : Command) → Spells names line c → Spells names line d → c ≡ d
-spelled_once names line c d (by_words p is) (by_words q is_too) = one_by_words c d p q (same_words line c p is ∙ sym (same_words line d q is_too))
+spelled_once names line c d (by_words p is) (by_words q is_too) = one_by_words c d p q (words_of_line line c p is ∙ sym (words_of_line line d q is_too))
 spelled_once names line c d (by_words p is) (by_name m w v fits name is_too made) =
-    absurd (named_apart c p m w v fits name (same_words line c p is ∙ words_of-named line m w v fits name is_too))
+    absurd (named_apart c p m w v fits name (words_of_line line c p is ∙ words_of-named line m w v fits name is_too))
 spelled_once names line c d (by_name m w v fits name is made) (by_words q is_too) =
-    absurd (named_apart d q m w v fits name (same_words line d q is_too ∙ words_of-named line m w v fits name is))
+    absurd (named_apart d q m w v fits name (words_of_line line d q is_too ∙ words_of-named line m w v fits name is))
 spelled_once names line c d (by_name m w v fits name is made) (by_name n x u fits_too name_too is_too made_too) =
     made ∙ one_named names m n w x v u fits fits_too (sym (words_of-named line m w v fits name is) ∙ words_of-named line n x u fits_too name_too is_too) ∙ sym made_too
 
@@ -194,7 +194,7 @@ near_value at w (Some j) fits = value j fits.2
 spelled_among : (names : ℕ → Option (List ℕ)) (line : List ℕ) (c : Command) → Spells names line c → Has line c (spellings names (words_of line))
 spelled_among names line c (by_words fits is) =
     let ws = command_words c in
-    rw (← same_words line c fits is)
+    rw (← words_of_line line c fits is)
     (has_later line c (actions_with names (number_at ws 1) (word_at ws 2) (number_at ws 3)) _
     (has_in line c (commands_with (number_at ws 1) (number_at ws 2) (number_at ws 3)) is (among c fits)))
 spelled_among names line c (by_name at w with fits name is made) =

@@ -53,6 +53,7 @@ fn put_graph_fault<W: Write>(out: &mut W, fault: TopoFault) -> Result<(), WriteF
     }
 }
 
+// Writes a line that ends with the two identifiers of a link.
 fn put_link_fault<W: Write>(out: &mut W, text: &[u8], a: u32, b: u32) -> Result<(), WriteFault>
     ensures ok { OnOk result (Appends (W.contents out.old) (W.contents out.new) (numbered_twice text.now a b)) }
     ensures err { OnErr result (AppendsFront (W.contents out.old) (W.contents out.new) (numbered_twice text.now a b)) }
@@ -71,7 +72,7 @@ fn put_link_fault<W: Write>(out: &mut W, text: &[u8], a: u32, b: u32) -> Result<
     )
 }
 
-// Writes a line that ends with a number.
+// Writes a line that ends with an identifier.
 fn put_node_fault<W: Write>(out: &mut W, text: &[u8], id: u32) -> Result<(), WriteFault>
     ensures ok { OnOk result (Appends (W.contents out.old) (W.contents out.new) (numbered text.now id)) }
     ensures err { OnErr result (AppendsFront (W.contents out.old) (W.contents out.new) (numbered text.now id)) }
