@@ -111,7 +111,7 @@ impl Topology {
     {
         let near = &self.near;
         match self.index_of(id) {
-            Some(id_index) if near[index].binary_search(&id_index).is_ok() => Some(id_index),
+            Some(neighbour) if near[index].binary_search(&neighbour).is_ok() => Some(neighbour),
             _ => None,
         }
     }

@@ -8,7 +8,7 @@ pub returns-in-Some-clause-found : goal.returns-in-Some-clause-found
 returns-in-Some-clause-found c =
     let are = c.self.invariant in
     let ids = c.self.inside.ids in
-    let j = c.in-Some.id_index in
+    let j = c.in-Some.neighbour in
     let within : c.args.index < length ids = subst (λ (g : Graph). c.args.index < length g.ids) (sym c.self.view_is) c.requires in
     let is_index : Some j ≡ position (λ i. i == c.args.id) ids = c.in-Some.ensures ∙ ap (λ g. position (λ i. i == c.args.id) g.ids) (sym c.self.view_is) in
     rw (← c.self.view_is) (
@@ -22,7 +22,7 @@ pub returns-in_default-clause-none : goal.returns-in_default-clause-none
 returns-in_default-clause-none c =
     let are = c.self.invariant in
     let ids = c.self.inside.ids in
-    let j = c.in-Some.id_index in
+    let j = c.in-Some.neighbour in
     let within : c.args.index < length ids = subst (λ (g : Graph). c.args.index < length g.ids) (sym c.self.view_is) c.requires in
     let is_index : Some j ≡ position (λ i. i == c.args.id) ids = c.in-Some.ensures ∙ ap (λ g. position (λ i. i == c.args.id) g.ids) (sym c.self.view_is) in
     rw (← c.self.view_is)
