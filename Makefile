@@ -10,8 +10,7 @@ run: build
 build:
 	@mkdir -p build
 	@[ -e build/reset-service ] || echo 'Proves and builds for the first time: five to fifteen minutes without a word.'
-	@cd crates/service_main && rt run < stdin > out.log 2>&1 || { cat out.log; rm -f out.log; exit 1; }
-	@rm -f crates/service_main/out.log
+	@cd crates/service_main && rt run < stdin > ../../build/log 2>&1 || { cat ../../build/log; exit 1; }
 	@cp crates/service_main/out/service_main build/reset-service
 
 # Everything that decides: the gate `rt ci`, and then the examples and the words on the program that
