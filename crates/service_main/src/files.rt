@@ -1,10 +1,9 @@
 // Opening and reading the files that the command line names.
 
 ghost use Rattle.std.specs.Prelude.{◌≢◌, IfErr, IfOk};
-ghost use Rattle.service_main.specs.Lines.{IsReadFrom};
+ghost use Rattle.reset_service.specs.Lines.{IsReadFrom};
 
-use crate::input::read_text;
-use crate::status::RunStop;
+use reset_service::{RunStop, read_text};
 use std::rt::Files;
 use std::{fs, io};
 

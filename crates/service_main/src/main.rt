@@ -1,29 +1,18 @@
 //! The program of the distributed reset service: it replays a script of reset events on the booted
-//! configuration of a topology, and writes an answer to each.
+//! configuration of a topology, and writes an answer to each. Here stand the files and the streams that
+//! it opens and its exit status; all else is the library `reset_service`.
 #![tactic(auto)]
 
-mod answer;
-mod commands;
-#[cfg(test)]
-mod every_run;
 mod files;
-mod gather;
-mod input;
-mod replay;
-mod rows;
-mod script;
-mod show;
 mod status;
-mod tables;
-mod words;
 
 use crate::files::{open_file, read_file};
-use crate::gather::Gathered;
-use crate::replay::{replay, replay_joined};
-use crate::status::{RunStop, Status, exit_code};
-use crate::tables::print_tables;
-use crate::words::{Job, LineFault, no_text, read_words};
+use crate::status::exit_code;
 use action_tables::put_bytes;
+use reset_service::{
+    Gathered, Job, LineFault, RunStop, Status, no_text, print_tables, read_words, replay,
+    replay_joined,
+};
 use std::io::Write;
 use std::process::ExitCode;
 use std::{env, io};
@@ -68,26 +57,15 @@ fn answer_fault(rt: &HostRuntime, fault: LineFault) -> Result<Status, RunStop> {
             let help = format!(in rt.alloc(); "{error}")?;
             let mut out = Gathered::new(rt.alloc(), io::writer(rt))?;
             put_bytes(&mut out, help.as_bytes())?;
-            out.finish()?;
-            Ok(Status::Good)
+            out.end(Ok(Status::Good))
         }
     }
 }
 
-// What was written before the job stopped is handed on, unless it stopped because that failed.
 fn do_job(rt: &HostRuntime, job: Job<'_>) -> Result<Status, RunStop> {
     let mut out = Gathered::new(rt.alloc(), io::writer(rt))?;
-    match job_output(rt, job, &mut out) {
-        Ok(status) => {
-            out.finish()?;
-            Ok(status)
-        }
-        Err(RunStop::WriteFailed) => Err(RunStop::WriteFailed),
-        Err(stop) => {
-            let _ = out.finish();
-            Err(stop)
-        }
-    }
+    let ended = job_output(rt, job, &mut out);
+    out.end(ended)
 }
 
 fn job_output<W: Write>(rt: &HostRuntime, job: Job<'_>, out: &mut W) -> Result<Status, RunStop> {

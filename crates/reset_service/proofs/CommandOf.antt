@@ -1,0 +1,229 @@
+-- The command of a line is the one that it spells.
+use Rattle.std.proofs.Common.{◌≡◌, ℕ, ◌<◌, ◌^◌, ◌%◌, Bool, true, false, ◌⊎◌, inl, inr, List, [], ◌∷◌, ◌++◌, map, refl, sym, ap, ◌∙◌, true≢false, arith, length, Option, Some, None, IfSome, IfNone, cond, option_map, if◌then◌else◌}
+use Rattle.std.specs.Fmt.{decimal}
+use Rattle.std.specs.List.{find, join_with_byte}
+use Rattle.std.specs.Str.{bytes_eq}
+use Rattle.std.specs.Str.Parse.{digits_value}
+use Rattle.std.proofs.Math.Nat.{mod-eq_of_lt}
+use Rattle.std.proofs.lemmas.Fmt.{decimal_is_IsNumeral}
+use Rattle.std.proofs.lemmas.Nat.{mod_below}
+use Rattle.std.proofs.lemmas.Slice.Eq.{bytes_eq-Decides}
+use Rattle.reset_machine.specs.EventText.{Fits}
+use Rattle.reset_machine.specs.Words.{words_of}
+use Rattle.reset_machine.specs.declared.event.Event.TheVariants.{Claim, Follow, Adopt, Request, Relay, Open, Join, Finish, Mend, Act}
+use Rattle.reset_machine.proofs.EventLines.{action_small, first_bytes, one_event, same_number}
+use Rattle.reset_service.specs.declared.script.Command.{Command}
+use Rattle.reset_service.specs.declared.script.Command.TheVariants.{Step, Show, ShowNode, Newest, Enabled, Ready}
+use Rattle.reset_service.specs.Script.{case_named, command_words, command_line, command_of, commands_with, in_words, with_name, is_name, actions_with, named_words, number_at, spellings, word_at, CommandFits, Spelling, Spells}
+use Rattle.reset_service.specs.Script.Spells.{by_words, by_name}
+use Rattle.reset_service.proofs.CommandLines.{words_of_line, no_event}
+use Rattle.reset_service.proofs.CaseNames.{words_of-named, IsNotNamed, named_apart, one_named}
+
+-- ---- no two commands have one line
+
+one_by_words : (c d : Command) → CommandFits c → CommandFits d → command_words c ≡ command_words d → c ≡ d
+one_by_words (Step e) (Step f) p q h = ap Step (one_event e f p q (ap (join_with_byte 32) h))
+one_by_words (Step e) d p q h = absurd (no_event e h refl)
+one_by_words c (Step f) p q h = absurd (no_event f (sym h) refl)
+one_by_words Show Show p q h = refl
+one_by_words (ShowNode a) (ShowNode b) p q h = ap ShowNode (same_number a b p q (cc))
+one_by_words Newest Newest p q h = refl
+one_by_words (Enabled a) (Enabled b) p q h = ap Enabled (same_number a b p q (cc))
+one_by_words Ready Ready p q h = refl
+one_by_words c d p q h = absurd (omega (arith, ap first_bytes h, ap length h))
+
+spelled_once : (names : ℕ → Option (List ℕ)) (line : List ℕ) (c d : Command) → Spells names line c → Spells names line d → c ≡ d
+spelled_once names line c d (by_words p is) (by_words q is_too) = one_by_words c d p q (words_of_line line c p is ∙ sym (words_of_line line d q is_too))
+spelled_once names line c d (by_words p is) (by_name m w v fits name is_too made) =
+    absurd (named_apart c p m w v fits name (words_of_line line c p is ∙ words_of-named line m w v fits name is_too))
+spelled_once names line c d (by_name m w v fits name is made) (by_words q is_too) =
+    absurd (named_apart d q m w v fits name (words_of_line line d q is_too ∙ words_of-named line m w v fits name is))
+spelled_once names line c d (by_name m w v fits name is made) (by_name n x u fits_too name_too is_too made_too) =
+    made ∙ one_named names m n w x v u fits fits_too (sym (words_of-named line m w v fits name is) ∙ words_of-named line n x u fits_too name_too is_too) ∙ sym made_too
+
+-- ---- what the search for a line finds
+
+-- one of the spellings is the command's, and has the line's words
+abbrev Has : List ℕ → Command → List Spelling → Type 0
+Has line c [] = ⊥
+Has line c (s ∷ ss) = ((line ≡ join_with_byte 32 s.words) × (s.command ≡ c)) ⊎ Has line c ss
+
+-- each spelling that has the line's words is a spelling of the line
+abbrev AllSpell : (ℕ → Option (List ℕ)) → List ℕ → List Spelling → Type 0
+AllSpell names line [] = Unit {0}
+AllSpell names line (s ∷ ss) = (line ≡ join_with_byte 32 s.words → Spells names line s.command) × AllSpell names line ss
+
+abbrev search_for : List ℕ → List Spelling → Option Command
+search_for line ss = option_map (λ s. s.command) (find (λ s. bytes_eq line (join_with_byte 32 s.words)) ss)
+
+here_or : (b : Bool) (s : Spelling) (rest : Option Spelling) (c : Command) → (b ≡ true → s.command ≡ c) → (b ≡ false → option_map (λ s. s.command) rest ≡ Some c)
+    → option_map (λ s. s.command) (cond b (Some s) rest) ≡ Some c
+here_or true s rest c p q = ap Some (p refl)
+here_or false s rest c p q = q refl
+
+none_or : (b : Bool) (s : Spelling) (rest : Option Spelling) → (b ≡ true → ⊥) → option_map (λ s. s.command) rest ≡ None → option_map (λ s. s.command) (cond b (Some s) rest) ≡ None
+none_or true s rest p q = absurd (p refl)
+none_or false s rest p q = q
+
+search-some : (names : ℕ → Option (List ℕ)) (line : List ℕ) (ss : List Spelling) (c : Command) → AllSpell names line ss → Has line c ss → Spells names line c
+    → search_for line ss ≡ Some c
+search-some names line [] c spell has spelled = absurd has
+search-some names line (s ∷ ss) c spell (inl here) spelled =
+    here_or (bytes_eq line (join_with_byte 32 s.words)) s _ c (λ _. here.1) (λ off. absurd (cc ((bytes_eq-Decides line (join_with_byte 32 s.words)).1 here.0, off)))
+search-some names line (s ∷ ss) c spell (inr later) spelled =
+    here_or (bytes_eq line (join_with_byte 32 s.words)) s _ c
+    (λ here. spelled_once names line s.command c (spell.0 ((bytes_eq-Decides line (join_with_byte 32 s.words)).0 here)) spelled)
+    (λ _. search-some names line ss c spell.1 later spelled)
+
+search-none : (names : ℕ → Option (List ℕ)) (line : List ℕ) (ss : List Spelling) → AllSpell names line ss → ((c : Command) → Spells names line c → ⊥) → search_for line ss ≡ None
+search-none names line [] spell none = refl
+search-none names line (s ∷ ss) spell none =
+    none_or (bytes_eq line (join_with_byte 32 s.words)) s _ (λ here. none s.command (spell.0 ((bytes_eq-Decides line (join_with_byte 32 s.words)).0 here)))
+    (search-none names line ss spell.1 none)
+
+-- ---- the spellings with the numbers and the name of a line's words spell it
+
+both_spell : (names : ℕ → Option (List ℕ)) (line : List ℕ) (ss ts : List Spelling) → AllSpell names line ss → AllSpell names line ts → AllSpell names line (ss ++ ts)
+both_spell names line [] ts p q = q
+both_spell names line (s ∷ ss) ts p q = (p.0, both_spell names line ss ts p.1 q)
+
+words_spell : (names : ℕ → Option (List ℕ)) (line : List ℕ) (m n k : ℕ) → m < 2 ^ 32 → n < 2 ^ 32 → k < 2 ^ 32 → AllSpell names line (map in_words (commands_with m n k))
+words_spell names line m n k p q r =
+    let case : n % 2 ^ 8 < 2 ^ 8 = mod_below n (2 ^ 8) (omega arith) in (
+      by_words tt,
+      (
+        by_words p,
+        (
+          by_words tt,
+          (
+            by_words p,
+            (
+              by_words tt,
+              (
+                by_words p,
+                (
+                  by_words p,
+                  (
+                    by_words (p, q),
+                    (
+                      by_words p,
+                      (
+                        by_words (p, q),
+                        (by_words p, (by_words p, (by_words p, (by_words p, (by_words (p, case), (by_words (p, case, r), tt)))))),
+                      ),
+                    ),
+                  ),
+                ),
+              ),
+            ),
+          ),
+        ),
+      ),
+    )
+
+name_spells : (names : ℕ → Option (List ℕ)) (line : List ℕ) (m : ℕ) (w : List ℕ) (k : ℕ) → m < 2 ^ 32 → k < 2 ^ 32 → (b : Bool) → is_name w ≡ b
+    → AllSpell names line (if b then with_name names m w None ∷ with_name names m w (Some k) ∷ [] else [])
+name_spells names line m w k p r true name = ((λ is. by_name m w None (p, omega arith) name is refl), ((λ is. by_name m w (Some k) (p, omega arith, r) name is refl), tt))
+name_spells names line m w k p r false name = tt
+
+small : (ws : List (List ℕ)) (i : ℕ) → number_at ws i < 2 ^ 32
+small ws i = mod_below (digits_value 10 (word_at ws i)) (2 ^ 32) (omega arith)
+
+all_spell : (names : ℕ → Option (List ℕ)) (line : List ℕ) (ws : List (List ℕ)) → AllSpell names line (spellings names ws)
+all_spell names line ws =
+    both_spell names line (actions_with names (number_at ws 1) (word_at ws 2) (number_at ws 3)) _
+    (name_spells names line (number_at ws 1) (word_at ws 2) (number_at ws 3) (small ws 1) (small ws 3) (is_name (word_at ws 2)) refl)
+    (words_spell names line (number_at ws 1) (number_at ws 2) (number_at ws 3) (small ws 1) (small ws 2) (small ws 3))
+
+-- ---- the command that a line spells is among them
+
+has_first : (line : List ℕ) (c : Command) (ss ts : List Spelling) → Has line c ss → Has line c (ss ++ ts)
+has_first line c [] ts h = absurd h
+has_first line c (s ∷ ss) ts (inl here) = inl here
+has_first line c (s ∷ ss) ts (inr later) = inr (has_first line c ss ts later)
+
+has_later : (line : List ℕ) (c : Command) (ss ts : List Spelling) → Has line c ts → Has line c (ss ++ ts)
+has_later line c [] ts h = h
+has_later line c (s ∷ ss) ts h = inr (has_later line c ss ts h)
+
+value : (n : ℕ) → n < 2 ^ 32 → digits_value 10 (decimal n) % 2 ^ 32 ≡ n
+value n h = ap (λ v. v % 2 ^ 32) ((decimal_is_IsNumeral n (omega arith)).1) ∙ mod-eq_of_lt h
+
+case_value : (n : ℕ) → n < 2 ^ 8 → (digits_value 10 (decimal n) % 2 ^ 32) % 2 ^ 8 ≡ n
+case_value n h = ap (λ v. v % 2 ^ 8) (value n (omega (arith, h))) ∙ mod-eq_of_lt h
+
+-- the command is one of those
+abbrev IsIn : Command → List Command → Type 0
+IsIn c [] = ⊥
+IsIn c (d ∷ ds) = (d ≡ c) ⊎ IsIn c ds
+
+has_in : (line : List ℕ) (c : Command) (cs : List Command) → line ≡ command_line c → IsIn c cs → Has line c (map in_words cs)
+has_in line c [] is h = absurd h
+has_in line c (d ∷ ds) is (inl same) = inl (is ∙ ap command_line (sym same), same)
+has_in line c (d ∷ ds) is (inr later) = inr (has_in line c ds is later)
+
+among : (c : Command) → CommandFits c → IsIn c (commands_with (number_at (command_words c) 1) (number_at (command_words c) 2) (number_at (command_words c) 3))
+among Show h = inl refl
+among (ShowNode a) h = inr (inl (ap ShowNode (value a h)))
+among Newest h = inr (inr (inl refl))
+among (Enabled a) h = inr (inr (inr (inl (ap Enabled (value a h)))))
+among Ready h = inr (inr (inr (inr (inl refl))))
+among (Step (Claim a)) h = inr (inr (inr (inr (inr (inl (ap (λ n. Step (Claim n)) (value a h)))))))
+among (Step (Follow a)) h = inr (inr (inr (inr (inr (inr (inl (ap (λ n. Step (Follow n)) (value a h))))))))
+among (Step (Adopt a b)) h = inr (inr (inr (inr (inr (inr (inr (inl (rw (value a h.0, value b h.1) refl))))))))
+among (Step (Request a)) h = inr (inr (inr (inr (inr (inr (inr (inr (inl (ap (λ n. Step (Request n)) (value a h))))))))))
+among (Step (Relay a b)) h = inr (inr (inr (inr (inr (inr (inr (inr (inr (inl (rw (value a h.0, value b h.1) refl))))))))))
+among (Step (Open a)) h = inr (inr (inr (inr (inr (inr (inr (inr (inr (inr (inl (ap (λ n. Step (Open n)) (value a h))))))))))))
+among (Step (Join a)) h = inr (inr (inr (inr (inr (inr (inr (inr (inr (inr (inr (inl (ap (λ n. Step (Join n)) (value a h)))))))))))))
+among (Step (Finish a)) h = inr (inr (inr (inr (inr (inr (inr (inr (inr (inr (inr (inr (inl (ap (λ n. Step (Finish n)) (value a h))))))))))))))
+among (Step (Mend a)) h = inr (inr (inr (inr (inr (inr (inr (inr (inr (inr (inr (inr (inr (inl (ap (λ n. Step (Mend n)) (value a h)))))))))))))))
+among (Step (Act a b None)) h = inr (inr (inr (inr (inr (inr (inr (inr (inr (inr (inr (inr (inr (inr (inl (rw (value a h.0, case_value b h.1) refl)))))))))))))))
+among (Step (Act a b (Some j))) h = inr (inr (inr (inr (inr (inr (inr (inr (inr (inr (inr (inr (inr (inr (inr (inl (rw (value a h.0, case_value b h.1, value j h.2) refl))))))))))))))))
+
+names_among : (names : ℕ → Option (List ℕ)) (line : List ℕ) (at : ℕ) (w : List ℕ) (with : Option ℕ) (c : Command) → Fits (Act at 0 with) → (b : Bool) → b ≡ true
+    → line ≡ join_with_byte 32 (named_words at w with) → c ≡ Step (Act at (case_named names w) with) → (m k : ℕ) → m ≡ at → IfSome with (λ j. k ≡ j)
+    → Has line c (if b then with_name names m w None ∷ with_name names m w (Some k) ∷ [] else [])
+names_among names line at w with c fits false name is made m k same near = absurd (true≢false (sym name))
+names_among names line at w None c fits true name is made m k same near = inl (rw same is, rw same (sym made))
+names_among names line at w (Some j) c fits true name is made m k same near = inr (inl (rw (same, near) is, rw (same, near) (sym made)))
+
+near_value : (at : ℕ) (w : List ℕ) (with : Option ℕ) → Fits (Act at 0 with) → IfSome with (λ j. number_at (named_words at w with) 3 ≡ j)
+near_value at w None fits = tt
+near_value at w (Some j) fits = value j fits.2
+
+spelled_among : (names : ℕ → Option (List ℕ)) (line : List ℕ) (c : Command) → Spells names line c → Has line c (spellings names (words_of line))
+spelled_among names line c (by_words fits is) =
+    let ws = command_words c in
+    rw (← words_of_line line c fits is)
+    (has_later line c (actions_with names (number_at ws 1) (word_at ws 2) (number_at ws 3)) _
+    (has_in line c (commands_with (number_at ws 1) (number_at ws 2) (number_at ws 3)) is (among c fits)))
+spelled_among names line c (by_name at w with fits name is made) =
+    let ws = named_words at w with in
+    rw (words_of-named line at w with fits name is)
+    (has_first line c (actions_with names (number_at ws 1) (word_at ws 2) (number_at ws 3)) (map in_words (commands_with (number_at ws 1) (number_at ws 2) (number_at ws 3)))
+    (names_among names line at w with c fits (is_name w) name is made (number_at ws 1) (number_at ws 3) (value at (action_small at 0 with fits).0) (near_value at w with fits)))
+
+-- ---- so the command that a line spells is the one that is found
+
+pub command_of-is : (names : ℕ → Option (List ℕ)) (line : List ℕ) (o : Option Command) → IfSome o (Spells names line) → IfNone o ((c : Command) → Spells names line c → ⊥)
+    → o ≡ command_of names line
+unfolding command_of
+command_of-is names line (Some c) found none =
+    sym (search-some names line (spellings names (words_of line)) c (all_spell names line (words_of line)) (spelled_among names line c found) found)
+command_of-is names line None found none =
+    sym (search-none names line (spellings names (words_of line)) (all_spell names line (words_of line)) none)
+
+-- ---- a line that is no action with a name for its case is a command in its own words or none
+
+pub own_words_found : (names : ℕ → Option (List ℕ)) (line : List ℕ) (o : Option Command) → IfSome o (λ c. line ≡ command_line c) → IfSome o CommandFits → IfSome o (Spells names line)
+own_words_found names line None found fits = tt
+own_words_found names line (Some c) found fits = by_words fits found
+
+pub own_words_only : (names : ℕ → Option (List ℕ)) (line : List ℕ) (o : Option Command) → IsNotNamed line → IfNone o ((c : Command) → CommandFits c → line ≡ command_line c → ⊥)
+    → IfNone o ((c : Command) → Spells names line c → ⊥)
+own_words_only names line (Some c) apart only = tt
+own_words_only names line None apart only = none
+  where
+    none : (c : Command) → Spells names line c → ⊥
+    none c (by_words fits is) = only c fits is
+    none c (by_name at word with fits name is made) = apart at word with fits name is

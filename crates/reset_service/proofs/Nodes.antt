@@ -1,0 +1,85 @@
+-- Which nodes can be shown, and what is answered of the enabled rows.
+use Rattle.std.specs.Prelude.{codes}
+use Rattle.std.proofs.Common.{◌≡◌, ◌≢◌, ℕ, zero, suc, ◌<◌, nat_eq, Bool, true, false, ◌||◌, ◌++◌, if◌then◌else◌, List, [], ◌∷◌, refl, sym, ap, ◌∙◌, arith, length, get_or, Contains}
+use Rattle.std.specs.List.{list_any}
+use Rattle.std.proofs.lemmas.Bool.Decides.{nat_tests}
+use Rattle.std.proofs.lemmas.Grind.{get_or_default_zero}
+use Rattle.topology.specs.Graph.{IsNode}
+use Rattle.tree_layer.specs.declared.regs.TreeRegs.{TreeRegs}
+use Rattle.wave_layer.specs.declared.regs.WaveRegs.{WaveRegs}
+use Rattle.reset_machine.specs.declared.step.StepRefusal.TheVariants.{StrangeNode}
+use Rattle.reset_machine.specs.Enabled.{enabled_rows, ready_of}
+use Rattle.reset_machine.specs.declared.enabled.Enabled.{Enabled}
+use Rattle.reset_machine.specs.Configuration.{Configuration, tree_of, wave_of, local_of}
+use Rattle.reset_machine.specs.WavePicture.{HasJoined}
+use Rattle.reset_service.specs.Lines.{ended}
+use Rattle.reset_service.specs.Meaning.{Meaning}
+use Rattle.reset_machine.specs.Refinement.{has_joined}
+use Rattle.reset_service.specs.Output.{at_node, enabled_line, newest_head, newest_line, node_head, enabled_text, ready_line, ready_text, refusal_text, shown}
+
+or_first : (a b : Bool) → a ≡ true → (a || b) ≡ true
+or_first true b h = refl
+or_first false b h = absurd (cc)
+
+or_second : (a b : Bool) → b ≡ true → (a || b) ≡ true
+or_second true b h = refl
+or_second false b h = h
+
+or_neither : (a b : Bool) → a ≡ false → b ≡ false → (a || b) ≡ false
+or_neither true b p q = absurd (cc)
+or_neither false b p q = q
+
+present : (ids : List ℕ) (i k : ℕ) → k < length ids → get_or ids k i ≡ i → list_any (λ n. nat_eq n i) ids ≡ true
+present [] i k inside here = absurd (omega arith)
+present (x ∷ xs) i zero inside here = or_first (nat_eq x i) (list_any (λ n. nat_eq n i) xs) (grind (arith, nat_tests))
+present (x ∷ xs) i (suc k) inside here = or_second (nat_eq x i) (list_any (λ n. nat_eq n i) xs) (present xs i k (omega arith) here)
+
+absent : (ids : List ℕ) (i : ℕ) → (Contains ids i → ⊥) → list_any (λ n. nat_eq n i) ids ≡ false
+absent [] i h = refl
+absent (x ∷ xs) i h =
+    let apart : x ≢ i = λ e. h (0, omega arith, e) in
+    or_neither (nat_eq x i) (list_any (λ n. nat_eq n i) xs) (grind (arith, nat_tests)) (absent xs i (λ m. h (suc m.0, omega (arith, m.1), m.2)))
+
+-- the text of a node is told at it, and a refusal elsewhere
+pub told_node : {L : Type 0} (c : Configuration L) (i : ℕ) (text : List ℕ) → IsNode c.graph i → at_node c i text ≡ text
+told_node c i text node = ap (λ (b : Bool). if b then text else refusal_text StrangeNode) (present c.graph.ids i node.0 node.1 node.2)
+
+pub told_none : {L : Type 0} (c : Configuration L) (i : ℕ) (text : List ℕ) → (IsNode c.graph i → ⊥) → at_node c i text ≡ refusal_text StrangeNode
+told_none c i text none = ap (λ (b : Bool). if b then text else refusal_text StrangeNode) (absent c.graph.ids i none)
+
+-- ---- the nodes by index
+
+-- of the i-th node its own text is told
+pub told_at : {L : Type 0} (c : Configuration L) (line : ℕ → List ℕ) (i : ℕ) → i < length c.graph.ids → at_node c (get_or c.graph.ids i 0) (line (get_or c.graph.ids i 0)) ≡ line (get_or c.graph.ids i 0)
+told_at c line i inside = told_node c (get_or c.graph.ids i 0) (line (get_or c.graph.ids i 0)) (i, inside, get_or_default_zero c.graph.ids i (get_or c.graph.ids i 0) inside)
+
+-- the line of a node, from what stands there
+pub shown_node : {L : Type 0} (m : Meaning L) (c : Configuration L) (i : ℕ) (tree : TreeRegs) (wave : WaveRegs) (local : L) → IsNode c.graph i
+    → tree ≡ tree_of c i → wave ≡ wave_of c i → local ≡ local_of m.app c i → at_node c i (shown m c i) ≡ node_head i tree wave ++ ended (m.text local)
+shown_node m c i tree wave local node t w l =
+    told_node c i (shown m c i) node ∙ ap (λ t. node_head i t (wave_of c i) ++ ended (m.text (local_of m.app c i))) (sym t)
+    ∙ ap (λ w. node_head i tree w ++ ended (m.text (local_of m.app c i))) (sym w) ∙ ap (λ l. node_head i tree wave ++ ended (m.text l)) (sym l)
+
+-- ---- enabled rows
+
+enabled_line-is : {L : Type 0} (m : Meaning L) (c : Configuration L) (i : ℕ) (rows : Enabled) → rows ≡ enabled_rows m.app c i → enabled_line m c i ≡ enabled_text i rows
+unfolding enabled_line
+enabled_line-is m c i rows is = ap (enabled_text i) (sym is)
+
+pub enabled_node : {L : Type 0} (m : Meaning L) (c : Configuration L) (i : ℕ) (rows : Enabled) → IsNode c.graph i → rows ≡ enabled_rows m.app c i → at_node c i (enabled_line m c i) ≡ enabled_text i rows
+enabled_node m c i rows node is = told_node c i (enabled_line m c i) node ∙ enabled_line-is m c i rows is
+
+pub ready_line-is : {L : Type 0} (m : Meaning L) (c : Configuration L) (ids : List ℕ) → ids ≡ ready_of m.app c → ready_line m c ≡ ready_text ids
+unfolding ready_line
+ready_line-is m c ids is = ap ready_text (sym is)
+
+-- ---- the newest session
+
+joined_or : {L : Type 0} (c : Configuration L) (i : ℕ) (local none : List ℕ) (b : Bool) → has_joined c.graph (wave_of c) i ≡ b → newest_head i ++ ended (if has_joined c.graph (wave_of c) i then local else none) ≡ newest_head i ++ ended (if b then local else none)
+joined_or c i local none b is = ap (λ (b : Bool). newest_head i ++ ended (if b then local else none)) is
+
+pub newest_joined : {L : Type 0} (m : Meaning L) (c : Configuration L) (i : ℕ) → HasJoined c.graph (wave_of c) i → newest_line m c i ≡ newest_head i ++ ended (m.text (local_of m.app c i))
+newest_joined m c i joined = joined_or c i (m.text (local_of m.app c i)) (codes "unjoined") true (grind (arith, nat_tests))
+
+pub newest_unjoined : {L : Type 0} (m : Meaning L) (c : Configuration L) (i : ℕ) → (HasJoined c.graph (wave_of c) i → ⊥) → newest_line m c i ≡ newest_head i ++ codes "unjoined\n"
+newest_unjoined m c i out = joined_or c i (m.text (local_of m.app c i)) (codes "unjoined") false (grind (arith, nat_tests))

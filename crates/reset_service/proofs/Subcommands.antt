@@ -1,0 +1,219 @@
+-- The subcommand of words in which clap finds no fault is one of the program's own, with its values.
+use Rattle.std.proofs.Common.{◌≡◌, ◌∙◌, ◌&&◌, ◌||◌, not, ℕ, Bool, cond, true, false, refl, sym, ap, subst, List, [], ◌∷◌, codes, Option, Some, None, inl, inr, true≢false}
+use Rattle.std.specs.List.{fold, slice_index_or}
+use Rattle.std.specs.Option.{option_map_or}
+use Rattle.std.specs.Str.{bytes_eq}
+use Rattle.std.specs.Prelude.{⊤, IsSome, is_some, option_map}
+use Rattle.std.proofs.lemmas.Slice.Eq.{bytes_eq-Decides}
+use Rattle.clap.specs.Lexer.{long_of, short_of}
+use Rattle.clap.specs.Words.{App, Kinds, Row, Rule, Shape, Text, built, fault_of, first_of, is_simple, is_simple_and_free, new_rule, subcommand_of}
+use Rattle.clap.specs.Kinds.{or_else}
+use Rattle.clap.specs.Simple.{argument_words, entered, label_of, names_of, rows_at}
+use Rattle.clap.specs.Takes.{is_given}
+use Rattle.clap.specs.Faults.{entered_fault, level_fault, other_fault, settle_fault, defaults_fault, step_fault, turn_fault, walk_fault, word_fault}
+use Rattle.clap.specs.declared.error.ErrorKind.{ErrorKind}
+use Rattle.clap.specs.declared.error.ErrorKind.TheVariants.{DisplayHelp, InvalidSubcommand, MissingRequiredArgument}
+use Rattle.clap.specs.Walk.{Held, Names, Outcome, Step, Waiting, Walk, after_flag, after_step, answers_to, arg_by_index, bundle, has_long, has_short, settled, long_met, arg_by_long, long_or_other, nothing_held, plain_word, short_or_plain, subcommand_met, subcommand_or_other, to_positional, walk, walk_from, walked, walked_from, word_met}
+use Rattle.clap.specs.Walk.{done, waits, plain, refused, idle, option, positional, next, trailing, subcommand, value}
+use Rattle.clap.proofs.OnLiterals.{clap_on_literals}
+use Rattle.reset_service.specs.Words.{HasJob, faults_of, program, replay_command, tables_command}
+use Rattle.reset_service.proofs.PathRows.{HasQuietFlags, MakesNoRow, Filled-finished, IsFilled-walk, given_has_value}
+
+-- ---- no kind of error
+
+or_else-nil : (a b : Kinds) → or_else a b ≡ [] → (a ≡ []) × (b ≡ [])
+or_else-nil [] b e = (refl, e)
+or_else-nil (k ∷ ks) b e = absurd (cc)
+
+-- ---- the walk meets no `help`
+
+-- where the walk stopped it wasn't at `help`
+abbrev IsNoHelp : Option (Text × List Text) → Type 0
+IsNoHelp None = ⊤
+IsNoHelp (Some p) = bytes_eq p.0 (codes "help") ≡ false
+
+abbrev StepsToNoHelp : Step → Type 0
+StepsToNoHelp (subcommand name) = bytes_eq name (codes "help") ≡ false
+StepsToNoHelp (next waiting) = ⊤
+StepsToNoHelp (trailing position) = ⊤
+StepsToNoHelp value = ⊤
+
+plain_word-step : (c : List Rule) (waiting : Waiting) (word : Text) (h : Held) → StepsToNoHelp (plain_word c waiting word h).1
+plain_word-step c idle word h = tt
+plain_word-step c (option id) word h = tt
+plain_word-step c positional word h = tt
+
+after_flag-step : (c : List Rule) (waiting : Waiting) (word : Text) (h : Held) (o : Outcome) → StepsToNoHelp (after_flag c waiting word h o).1
+after_flag-step c waiting word h done = tt
+after_flag-step c waiting word h (waits id) = tt
+after_flag-step c waiting word h plain = plain_word-step c waiting word h
+after_flag-step c waiting word h refused = plain_word-step c waiting word h
+
+short_or_plain-step : (c : List Rule) (waiting : Waiting) (word : Text) (o : Option Text) (h : Held) → StepsToNoHelp (short_or_plain c waiting word o h).1
+short_or_plain-step c waiting word None h = plain_word-step c waiting word h
+short_or_plain-step c waiting word (Some flags) h = after_flag-step c waiting word (bundle c flags h).0 (bundle c flags h).1
+
+long_or_other-step : (c : List Rule) (waiting : Waiting) (word : Text) (o : Option (Text × Option Text)) (h : Held) → StepsToNoHelp (long_or_other c waiting word o h).1
+long_or_other-step c waiting word None h = short_or_plain-step c waiting word (short_of word) h
+long_or_other-step c waiting word (Some p) h =
+    after_flag-step c waiting word (long_met c (arg_by_long c p.0) p.1 h).0 (long_met c (arg_by_long c p.0) p.1 h).1
+
+-- the fault of a turn that goes on
+abbrev plain_fault : Shape → Names → Walk → Text → Kinds
+plain_fault s names w word =
+    let met = word_met s.rules names w.is_trailing w.waiting w.position word w.held in
+    or_else (word_fault s names w.is_trailing w.waiting word w.held) (step_fault s w.position met.0 met.1)
+
+module _ (s : Shape) (has_help : s.disable_help_subcommand ≡ false) where
+  subcommand_or_other-step : (o : Option Text) (waiting : Waiting) (position : ℕ) (word : Text) (h : Held) → other_fault s o word h ≡ []
+      → StepsToNoHelp (subcommand_or_other s.rules o waiting position word h).1
+  subcommand_or_other-step (Some name) waiting position word h e = go (bytes_eq name (codes "help")) (rw has_help at e)
+    where
+      go : (b : Bool) → cond (b && true) (DisplayHelp ∷ InvalidSubcommand ∷ []) [] ≡ [] → b ≡ false
+      go true e = absurd (cc)
+      go false e = refl
+  subcommand_or_other-step None waiting position word h e = go (bytes_eq word (45 ∷ 45 ∷ []))
+    where
+      go : (b : Bool) → StepsToNoHelp (cond b (h, trailing position) (long_or_other s.rules waiting word (long_of word) h)).1
+      go true = tt
+      go false = long_or_other-step s.rules waiting word (long_of word) h
+
+  word_met-step : (names : Names) (is_trailing : Bool) (waiting : Waiting) (position : ℕ) (word : Text) (h : Held)
+      → word_fault s names is_trailing waiting word h ≡ [] → StepsToNoHelp (word_met s.rules names is_trailing waiting position word h).1
+  word_met-step names true waiting position word h e = tt
+  word_met-step names false waiting position word h e = subcommand_or_other-step (subcommand_met names waiting word) waiting position word h e
+
+  to_positional-stop : (found : Option Rule) (word : Text) (w : Walk) (h : Held) → IsNoHelp w.stopped → IsNoHelp (to_positional s.rules found word w h).stopped
+  to_positional-stop None word w h n = n
+  to_positional-stop (Some a) word w h n = tt
+
+  after_step-stop : (word : Text) (w : Walk) (h : Held) (step : Step) → StepsToNoHelp step → IsNoHelp w.stopped → IsNoHelp (after_step s.rules word w h step).stopped
+  after_step-stop word w h (next waiting) ok n = n
+  after_step-stop word w h (trailing position) ok n = n
+  after_step-stop word w h (subcommand name) ok n = ok
+  after_step-stop word w h value ok n = to_positional-stop (arg_by_index s.rules w.position) word w h n
+
+  walked_from-stop : (names : Names) (stop : Option (Text × List Text)) (w : Walk) (word : Text) → cond (is_some stop) [] (plain_fault s names w word) ≡ []
+      → IsNoHelp stop → IsNoHelp w.stopped → IsNoHelp (walked_from s.rules names stop w word).stopped
+  walked_from-stop names (Some p) w word e m n = m
+  walked_from-stop names None w word e m n =
+      let met = word_met s.rules names w.is_trailing w.waiting w.position word w.held in
+      after_step-stop word w met.0 met.1 (word_met-step names w.is_trailing w.waiting w.position word w.held (or_else-nil _ _ e).0) n
+
+  walked-stop : (names : Names) (w : Walk) (word : Text) → turn_fault s names w word ≡ [] → IsNoHelp w.stopped → IsNoHelp (walked s.rules names w word).stopped
+  unfolding walked
+  walked-stop names w word e n = walked_from-stop names w.stopped w word e n n
+
+  walk-stop : (names : Names) (w : Walk) (words : List Text) → walk_fault s names w words ≡ [] → IsNoHelp w.stopped
+      → IsNoHelp (fold (walked s.rules names) w words).stopped
+  unfolding walk_fault
+  walk-stop names w [] e n = n
+  walk-stop names w (word ∷ words) e n =
+      let parts = or_else-nil (turn_fault s names w word) (walk_fault s names (walked s.rules names w word) words) e in
+      walk-stop names (walked s.rules names w word) words parts.1 (walked-stop names w word parts.0 n)
+
+-- ---- the program
+
+abbrev the_replay : Shape
+the_replay = slice_index_or (built program).subs 0 replay_command.top
+
+abbrev the_tables : Shape
+the_tables = slice_index_or (built program).subs 1 replay_command.top
+
+abbrev the_help : Shape
+the_help = slice_index_or (built program).subs 2 replay_command.top
+
+abbrev help_flag : Rule
+help_flag = slice_index_or the_replay.rules 2 (new_rule [])
+
+-- the flags of `replay` are those of help, which make no row
+quiet_help : (b : Bool) → MakesNoRow (cond b (Some help_flag) None)
+unfolding program replay_command tables_command
+quiet_help true = (refl, λ rows. refl)
+quiet_help false = tt
+
+quiet_flags : HasQuietFlags the_replay.rules
+unfolding program replay_command tables_command
+quiet_flags = record { long = λ name. quiet_help (has_long help_flag name); short = λ x. quiet_help (has_short help_flag x) }
+
+both_given : (a b : Bool) (k : ErrorKind) → cond (not a || (not b || false)) (k ∷ []) [] ≡ [] → (a ≡ true) × (b ≡ true)
+both_given true true k e = (refl, refl)
+both_given true false k e = absurd (cc)
+both_given false b k e = absurd (cc)
+
+-- the rows of a replay without a fault
+abbrev rows_of_replay : List Text → List Row
+rows_of_replay words = (rows_at the_replay words).1
+
+paths_given : (words : List Text) → level_fault the_replay [] nothing_held words false [] ≡ []
+    → (is_given (codes "TOPOLOGY") (rows_of_replay words) ≡ true) × (is_given (codes "SCRIPT") (rows_of_replay words) ≡ true)
+unfolding program replay_command tables_command
+paths_given words e =
+    let walked_well = or_else-nil (walk_fault the_replay [] (walk_from nothing_held) words) _ e in
+    let settled_well = or_else-nil (settle_fault the_replay.rules false (walk the_replay.rules [] nothing_held words).held) _ walked_well.1 in
+    let filled_well = or_else-nil (defaults_fault (settled the_replay.rules (walk the_replay.rules [] nothing_held words).held).rows the_replay.rules) _ settled_well.1 in
+    both_given (is_given (codes "TOPOLOGY") (rows_of_replay words)) (is_given (codes "SCRIPT") (rows_of_replay words)) MissingRequiredArgument filled_well.1
+
+paths_valued : (words : List Text) → level_fault the_replay [] nothing_held words false [] ≡ []
+    → IsSome (first_of (codes "TOPOLOGY") (rows_of_replay words)) × IsSome (first_of (codes "SCRIPT") (rows_of_replay words))
+paths_valued words e =
+    let filled = Filled-finished the_replay.rules (walk the_replay.rules [] nothing_held words).held
+    (IsFilled-walk the_replay.rules quiet_flags [] (walk_from nothing_held) words (tt, tt)) in
+    let given = paths_given words e in
+    (given_has_value (codes "TOPOLOGY") (rows_of_replay words) filled given.0, given_has_value (codes "SCRIPT") (rows_of_replay words) filled given.1)
+
+-- `==` of texts reads both ways
+bytes_eq-swap : (xs ys : List ℕ) → bytes_eq xs ys ≡ false → (bytes_eq ys xs || false) ≡ true → ⊥
+bytes_eq-swap xs ys differs same = true≢false (sym ((bytes_eq-Decides xs ys).1 (sym ((bytes_eq-Decides ys xs).0 (go (bytes_eq ys xs) same)))) ∙ differs)
+  where
+    go : (b : Bool) → (b || false) ≡ true → b ≡ true
+    go true e = refl
+    go false e = e
+
+abbrev sub_met : Bool → Bool → Bool → Option Shape
+sub_met a b c = cond a (Some the_replay) (cond b (Some the_tables) (cond c (Some the_help) None))
+
+abbrev fault_at : List Text → Option Shape → Kinds
+fault_at words sub = option_map_or (λ s. level_fault s [] nothing_held words false []) sub []
+
+job_of_sub : (p : Text × List Text) → bytes_eq p.0 (codes "help") ≡ false → (a b c : Bool) → answers_to p.0 (label_of the_help) ≡ c
+    → fault_at p.1 (sub_met a b c) ≡ [] → HasJob (option_map (λ s. rows_at s p.1) (sub_met a b c))
+unfolding program replay_command tables_command
+job_of_sub p no_help true b c h f = let valued = paths_valued p.1 f in inl (refl, valued.0, valued.1)
+job_of_sub p no_help false true c h f = inr refl
+job_of_sub p no_help false false true h f = absurd (bytes_eq-swap p.0 (codes "help") no_help h)
+job_of_sub p no_help false false false h f = tt
+
+job_at : (stop : Option (Text × List Text)) → IsNoHelp stop → entered_fault (built program) stop ≡ [] → HasJob (entered (built program) stop)
+unfolding program replay_command tables_command
+job_at None no_help e = tt
+job_at (Some p) no_help e =
+    job_of_sub p no_help (answers_to p.0 (label_of the_replay)) (answers_to p.0 (label_of the_tables)) (answers_to p.0 (label_of the_help)) refl e
+
+-- words in which clap finds no fault ask for a job
+pub has_job : (words : List Text) → fault_of program words ≡ [] → HasJob (subcommand_of program words)
+unfolding program replay_command tables_command
+has_job words e =
+    let a : App = built program in
+    let given : List Text = argument_words program words in
+    let stop : Option (Text × List Text) = (walk (built program).top.rules (names_of (built program)) nothing_held given).stopped in
+    let walked_well = or_else-nil (walk_fault (built program).top (names_of (built program)) (walk_from nothing_held) given) _ e in
+    let entered_well = or_else-nil (entered_fault (built program) stop) _ walked_well.1 in
+    job_at stop (walk-stop (built program).top refl (names_of (built program)) (walk_from nothing_held) given walked_well.0 tt) entered_well.0
+
+-- ---- the answer of clap for a command that is the program
+
+program_is_simple : is_simple program ≡ true
+unfolding program replay_command tables_command clap_on_literals
+program_is_simple = refl
+
+program_is_free : is_simple_and_free program ≡ true
+unfolding program replay_command tables_command clap_on_literals
+program_is_free = refl
+
+pub faults_are : (a : App) (words : List Text) (P : Kinds → Type 0) → a ≡ program → (is_simple_and_free a ≡ true → P (fault_of a words)) → P (faults_of words)
+faults_are a words P is kinds = subst P (ap (λ (x : App). fault_of x words) is) (kinds (ap is_simple_and_free is ∙ program_is_free))
+
+pub found_is : (a : App) (words : List Text) (P : Type 0) (found : Option (Text × List Row)) → a ≡ program → (is_simple a ≡ true → P × (found ≡ subcommand_of a words))
+    → found ≡ subcommand_of program words
+found_is a words P found is matches = (matches (ap is_simple is ∙ program_is_simple)).1 ∙ ap (λ (x : App). subcommand_of x words) is

@@ -1,0 +1,20 @@
+use Rattle.std.specs.Prelude.{codes}
+use Rattle.std.proofs.Common.{arith, rules}
+use Rattle.std.proofs.lemmas.Slice.Eq.{text_from_reads}
+use Rattle.reset_machine.proofs.EventLines.{one_found}
+use Rattle.reset_service.proofs.CommandLines.{no_question}
+use Rattle.reset_service.proofs.script.question_of.Goals as goal
+
+pub returns-in_err-read_number-in-show-clause-only : goal.returns-in_err-read_number-in-show-clause-only
+returns-in_err-read_number-in-show-clause-only c = rw c.from_residual.ensures (no_question c.args.word.now c.args.rest.now c.in_err-read_number-in-show.ensures.only)
+
+pub returns-in_ok-read_number-in-show-clause-found : goal.returns-in_ok-read_number-in-show-clause-found
+returns-in_ok-read_number-in-show-clause-found c =
+    one_found c.args.word.now c.args.rest.now (codes "show") c.in_ok-read_number-in-show.field-0 (text_from_reads c.args.word.now (codes "show") (omega arith) (omega arith, (omega arith, (omega arith, (omega arith, tt))))) c.in_ok-read_number-in-show.ensures.found (search rules)
+
+pub returns-in_err-read_number-in-enabled-clause-only : goal.returns-in_err-read_number-in-enabled-clause-only
+returns-in_err-read_number-in-enabled-clause-only c = rw c.from_residual-in_err-read_number-in-enabled.ensures (no_question c.args.word.now c.args.rest.now c.in_err-read_number-in-enabled.ensures.only)
+
+pub returns-in_ok-read_number-in-enabled-clause-found : goal.returns-in_ok-read_number-in-enabled-clause-found
+returns-in_ok-read_number-in-enabled-clause-found c =
+    one_found c.args.word.now c.args.rest.now (codes "enabled") c.in_ok-read_number-in-enabled.field-0 (text_from_reads c.args.word.now (codes "enabled") (omega arith) (omega arith, (omega arith, (omega arith, (omega arith, (omega arith, (omega arith, (omega arith, tt)))))))) c.in_ok-read_number-in-enabled.ensures.found (search rules)

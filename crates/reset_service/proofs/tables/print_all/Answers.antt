@@ -1,0 +1,9 @@
+use Rattle.std.proofs.Common.{arith}
+use Rattle.action_tables.proofs.Fronts.{OnErr-always}
+use Rattle.action_tables.proofs.Pieces.{AppendsFront-piece}
+use Rattle.reset_service.specs.Tables.{titled_rows_text}
+use Rattle.reset_service.proofs.tables.print_all.Goals as goal
+
+pub returns-in_err-print_rows-clause-err : goal.returns-in_err-print_rows-clause-err
+returns-in_err-print_rows-clause-err g c =
+    OnErr-always _ _ (AppendsFront-piece _ _ _ titled_rows_text c.args.tables.now c.loop-table.table-index _ (omega arith) c.loop-table.invariant c.in_err-print_rows.ensures.err)

@@ -1,0 +1,230 @@
+-- What a run writes.
+use Rattle.std.specs.Prelude.{◌≡◌, ℕ, ◌+◌, ◌<◌, ◌≤◌, nat_lt, ◌==◌, if◌then◌else◌, ◌⊎◌, List, [], ◌∷◌, ◌++◌, length, codes, Option, Result, Ok, Err}
+use Rattle.std.specs.Fmt.{decimal}
+use Rattle.std.specs.Io.KnownBytes.{Appends, Keeps}
+use Rattle.std.specs.List.{concat, flat_map, list_any}
+use Rattle.topology.specs.Graph.{Graph}
+use Rattle.topology.specs.Faults.{IsTopologyOf}
+use Rattle.topology.specs.TopologyText.{Description, IsReadFault, description_of}
+use Rattle.topology.specs.declared.fault.TopoFault.{TopoFault}
+use Rattle.topology.specs.declared.fault.TopoFault.TheVariants.{NoNodes, TooManyNodes, BadId, TwiceNode, TooManyLinks, SelfLink, TwiceLink, Disconnected}
+use Rattle.topology.specs.declared.fault.TopoFault.TheVariants as topo
+use Rattle.topology.specs.declared.text.ReadFault.{ReadFault}
+use Rattle.topology.specs.declared.text.ReadFault.TheVariants.{TextTooLong, NotToml, MissingKey, UnknownKey, WrongKind, UnknownApp, Topology}
+use Rattle.topology.specs.declared.text.ReadFault.TheVariants as read
+use Rattle.topology.specs.declared.text.AppName.{AppName}
+use Rattle.topology.specs.declared.text.AppName.TheVariants.{Idle, Token, Mutex, Routes}
+use Rattle.tree_layer.specs.declared.regs.TreeRegs.{TreeRegs}
+use Rattle.wave_layer.specs.declared.regs.WaveRegs.{WaveRegs}
+use Rattle.wave_layer.specs.declared.regs.Phase.{Phase}
+use Rattle.wave_layer.specs.declared.regs.Phase.TheVariants.{Normal, Initiate, Reset}
+use Rattle.reset_machine.specs.declared.step.Reply.{Reply}
+use Rattle.reset_machine.specs.declared.step.Reply.TheVariants.{Applied, Complete}
+use Rattle.reset_machine.specs.declared.step.StepRefusal.{StepRefusal}
+use Rattle.reset_machine.specs.declared.step.StepRefusal.TheVariants.{StrangeNode, StrangeNeighbour, NoSuchCase, WantsNeighbour, TakesNoNeighbour, Disagrees, NotEnabled, SessionsSpent, NoMemory}
+use Rattle.reset_machine.specs.Configuration.{Configuration, tree_of, wave_of, local_of}
+use Rattle.reset_machine.specs.Outcome.{IsBoot, outcome_of}
+use Rattle.reset_machine.specs.Enabled.{enabled_rows, ready_of}
+use Rattle.reset_machine.specs.Refinement.{has_joined}
+use Rattle.reset_machine.specs.declared.enabled.Enabled.{Enabled}
+use Rattle.action_tables.specs.RowText.{set_text}
+use Rattle.action_tables.specs.Written.{AppendsFront}
+use Rattle.reset_service.specs.Lines.{ended, lines_of, IsCut}
+use Rattle.reset_service.specs.Meaning.{Meaning, idle_meaning, token_meaning, mutex_meaning, routes_meaning}
+use Rattle.reset_service.specs.Script.{line_of}
+use Rattle.reset_service.specs.declared.script.Command.{Command}
+use Rattle.reset_service.specs.declared.script.Command.TheVariants.{Step, Show, ShowNode, Newest, Ready}
+use Rattle.reset_service.specs.declared.script.Command.TheVariants as command
+use Rattle.reset_service.specs.declared.script.Line.{Line}
+use Rattle.reset_service.specs.declared.script.Line.TheVariants.{Silent, Asks, Bad}
+use Rattle.reset_service.specs.declared.status.Status.{Status}
+use Rattle.reset_service.specs.declared.status.Status.TheVariants.{Good, BadInput}
+use Rattle.reset_service.specs.declared.status.RunStop.{RunStop}
+use Rattle.reset_service.specs.declared.status.RunStop.TheVariants.{ReadFailed, WriteFailed}
+use Rattle.reset_service.specs.declared.status.RunStop.TheVariants as stop
+
+-- ---- lines
+
+-- a line that ends with a number
+abbrev pub numbered : List ℕ → ℕ → List ℕ
+numbered text n = concat (text ∷ decimal n ∷ ended [] ∷ [])
+
+-- a line that ends with two numbers
+abbrev pub numbered_twice : List ℕ → ℕ → ℕ → List ℕ
+numbered_twice text a b = concat (text ∷ decimal a ∷ codes " " ∷ decimal b ∷ ended [] ∷ [])
+
+abbrev pub reply_text : Reply → List ℕ
+reply_text Applied = ended (codes "applied")
+reply_text (Complete session) = numbered (codes "complete ") session
+
+abbrev pub refusal_text : StepRefusal → List ℕ
+refusal_text StrangeNode = ended (codes "refused StrangeNode")
+refusal_text StrangeNeighbour = ended (codes "refused StrangeNeighbour")
+refusal_text NoSuchCase = ended (codes "refused NoSuchCase")
+refusal_text WantsNeighbour = ended (codes "refused WantsNeighbour")
+refusal_text TakesNoNeighbour = ended (codes "refused TakesNoNeighbour")
+refusal_text (Disagrees n) = numbered (codes "refused Disagrees ") n
+refusal_text NotEnabled = ended (codes "refused NotEnabled")
+refusal_text SessionsSpent = ended (codes "refused SessionsSpent")
+refusal_text NoMemory = ended (codes "refused NoMemory")
+
+abbrev pub phase_name : Phase → List ℕ
+phase_name Normal = codes "normal"
+phase_name Initiate = codes "initiate"
+phase_name Reset = codes "reset"
+
+-- what stands before the local state in the line that shows a node
+abbrev pub node_head : ℕ → TreeRegs → WaveRegs → List ℕ
+node_head id tree wave =
+    concat (codes "node " ∷ decimal id ∷ codes " tree " ∷ decimal tree.root ∷ codes " " ∷ decimal tree.father ∷ codes " " ∷ decimal tree.dist
+    ∷ codes " wave " ∷ phase_name wave.phase ∷ codes " " ∷ decimal wave.session ∷ codes " local " ∷ [])
+
+-- what stands before it in the line of the newest session
+abbrev pub newest_head : ℕ → List ℕ
+newest_head id = concat (codes "newest " ∷ decimal id ∷ codes " " ∷ [])
+
+-- the line that names the enabled rows of a node, by table
+abbrev pub enabled_text : ℕ → Enabled → List ℕ
+enabled_text id rows =
+    concat (codes "enabled " ∷ decimal id ∷ codes " tree " ∷ set_text rows.tree ∷ codes " wave " ∷ set_text rows.wave ∷ codes " act " ∷ set_text rows.act ∷ ended [] ∷ [])
+
+-- a number after a space
+abbrev pub spaced : ℕ → List ℕ
+spaced n = codes " " ++ decimal n
+
+-- the line that names nodes, each after a space, or has a dash where there is none
+abbrev pub ready_text : List ℕ → List ℕ
+ready_text [] = ended (codes "ready -")
+ready_text (id ∷ ids) = ended (codes "ready" ++ flat_map spaced (id ∷ ids))
+
+abbrev pub graph_fault_text : TopoFault → List ℕ
+graph_fault_text NoNodes = ended (codes "bad topology NoNodes")
+graph_fault_text TooManyNodes = ended (codes "bad topology TooManyNodes")
+graph_fault_text (BadId n) = numbered (codes "bad topology BadId ") n
+graph_fault_text (TwiceNode n) = numbered (codes "bad topology TwiceNode ") n
+graph_fault_text TooManyLinks = ended (codes "bad topology TooManyLinks")
+graph_fault_text (topo.StrangeNode n) = numbered (codes "bad topology StrangeNode ") n
+graph_fault_text (SelfLink n) = numbered (codes "bad topology SelfLink ") n
+graph_fault_text (TwiceLink a b) = numbered_twice (codes "bad topology TwiceLink ") a b
+graph_fault_text (Disconnected n) = numbered (codes "bad topology Disconnected ") n
+graph_fault_text topo.NoMemory = ended (codes "bad topology NoMemory")
+
+-- the line of a text's fault
+abbrev pub bad_topology_text : ReadFault → List ℕ
+bad_topology_text TextTooLong = ended (codes "bad topology TextTooLong")
+bad_topology_text NotToml = ended (codes "bad topology NotToml")
+bad_topology_text MissingKey = ended (codes "bad topology MissingKey")
+bad_topology_text UnknownKey = ended (codes "bad topology UnknownKey")
+bad_topology_text WrongKind = ended (codes "bad topology WrongKind")
+bad_topology_text UnknownApp = ended (codes "bad topology UnknownApp")
+bad_topology_text (Topology f) = graph_fault_text f
+bad_topology_text read.NoMemory = ended (codes "bad topology NoMemory")
+
+abbrev pub too_long_text : List ℕ
+too_long_text = ended (codes "bad script TooLong")
+
+abbrev pub bad_line_text : ℕ → List ℕ
+bad_line_text n = numbered (codes "bad line ") n
+
+-- ---- answers
+
+-- what a configuration becomes, and what is written
+abbrev pub stepped : {L : Type 0} → Configuration L → Result (Configuration L × Reply) StepRefusal → Configuration L × List ℕ
+stepped c (Ok r) = (r.0, reply_text r.1)
+stepped c (Err refusal) = (c, refusal_text refusal)
+
+-- the line of a node, as its registers and its local state stand
+abbrev pub shown : {L : Type 0} → Meaning L → Configuration L → ℕ → List ℕ
+shown m c i = node_head i (tree_of c i) (wave_of c i) ++ ended (m.text (local_of m.app c i))
+
+-- the line of a node's local state in the newest session
+abbrev pub newest_line : {L : Type 0} → Meaning L → Configuration L → ℕ → List ℕ
+newest_line m c i = newest_head i ++ ended (if has_joined c.graph (wave_of c) i then m.text (local_of m.app c i) else codes "unjoined")
+
+-- the line that names the enabled rows of a node. It stays folded: unfolded, it has all the tables
+unfoldable pub enabled_line : {L : Type 0} → Meaning L → Configuration L → ℕ → List ℕ
+enabled_line m c i = enabled_text i (enabled_rows m.app c i)
+
+-- the line that names the nodes that have something to do
+unfoldable pub ready_line : {L : Type 0} → Meaning L → Configuration L → List ℕ
+ready_line m c = ready_text (ready_of m.app c)
+
+-- the answer where the identifier is that of a node, and a refusal elsewhere
+abbrev pub at_node : {L : Type 0} → Configuration L → ℕ → List ℕ → List ℕ
+at_node c i text = if list_any (λ k. k == i) c.graph.ids then text else refusal_text StrangeNode
+
+-- the answer to a command
+abbrev pub answered : {L : Type 0} → Meaning L → Configuration L → Command → Configuration L × List ℕ
+answered m c (Step e) = stepped c (outcome_of m.app c e)
+answered m c Show = (c, flat_map (shown m c) c.graph.ids)
+answered m c (ShowNode i) = (c, at_node c i (shown m c i))
+answered m c Newest = (c, flat_map (newest_line m c) c.graph.ids)
+answered m c (command.Enabled i) = (c, at_node c i (enabled_line m c i))
+answered m c Ready = (c, ready_line m c)
+
+-- what a line leaves: the configuration, what is written, and whether the line is good
+pub record Answer (L : Type 0) : Type 0 where
+  pub config : Configuration L
+  pub text : List ℕ
+  pub status : Status
+
+-- the answer to the n-th line
+abbrev pub answer_to : {L : Type 0} → Meaning L → Configuration L → ℕ → Line → Answer L
+answer_to m c n Silent = record { config = c; text = []; status = Good }
+answer_to m c n (Asks command) = record { config = (answered m c command).0; text = (answered m c command).1; status = Good }
+answer_to m c n Bad = record { config = c; text = bad_line_text n; status = BadInput }
+
+-- an output that goes on after a good line only
+abbrev pub followed : Status → List ℕ → List ℕ × Status → List ℕ × Status
+followed Good text rest = (text ++ rest.0, rest.1)
+followed BadInput text rest = (text, BadInput)
+
+-- the answers to lines, of which the first has the number n
+unfoldable pub answers : {L : Type 0} → Meaning L → Configuration L → ℕ → List (List ℕ) → List ℕ × Status
+answers m c n [] = ([], Good)
+answers m c n (line ∷ lines) =
+    let a = answer_to m c n (line_of m.names line) in followed a.status a.text (answers m a.config (n + 1) lines)
+
+-- the answers to a script
+abbrev pub script_output : {L : Type 0} → Meaning L → Configuration L → List ℕ → List ℕ × Status
+script_output m c script = if nat_lt 1048576 (length script) then (too_long_text, BadInput) else answers m c 1 (lines_of script)
+
+-- ---- the output of texts
+
+-- the answers to a script from the booted configuration of a graph
+pub data IsReplay {L : Type 0} (m : Meaning L) (g : Graph) (script : List ℕ) (output : List ℕ × Status) : Type 0 where
+  replayed : (c : Configuration L) → IsBoot m.app g c → output ≡ script_output m c script → IsReplay m g script output
+
+-- the same for the application of a name
+abbrev pub IsReplayOf : AppName → Graph → List ℕ → List ℕ × Status → Type 0
+IsReplayOf Idle = IsReplay idle_meaning
+IsReplayOf Token = IsReplay token_meaning
+IsReplayOf Mutex = IsReplay mutex_meaning
+IsReplayOf Routes = IsReplay routes_meaning
+
+-- a topology text describes a graph and names an application
+abbrev pub Describes : List ℕ → Graph → AppName → Type 0
+Describes topology g app = (d : Description) × (description_of topology ≡ Ok d) × IsTopologyOf d.nodes d.links g × (app ≡ d.app)
+
+-- what a run writes, and its status: the topology is judged before the script
+pub data IsOutput (topology script : List ℕ) (output : List ℕ × Status) : Type 0 where
+  bad_topology : (f : ReadFault) → IsReadFault topology f → output ≡ (bad_topology_text f, BadInput) → IsOutput topology script output
+  replayed : (g : Graph) (app : AppName) → Describes topology g app → IsReplayOf app g script output → IsOutput topology script output
+
+-- the same of a joined text, which is judged by its length before it is cut
+pub data IsJoinedOutput (joined : List ℕ) (output : List ℕ × Status) : Type 0 where
+  too_long : 1048576 < length joined → output ≡ (too_long_text, BadInput) → IsJoinedOutput joined output
+  cut : (topology script : List ℕ) → length joined ≤ 1048576 → IsCut joined topology script → IsOutput topology script output → IsJoinedOutput joined output
+
+-- ---- what a run leaves
+
+-- a front of an output was written
+abbrev pub HasFront : (List ℕ × Status → Type 0) → Option (List ℕ) → Option (List ℕ) → Type 0
+HasFront O old new = (output : List ℕ × Status) × O output × AppendsFront old new output.0
+
+-- the run wrote an output and answers its status, or it was cut short
+abbrev pub Leaves : (List ℕ × Status → Type 0) → Option (List ℕ) → Option (List ℕ) → Result Status RunStop → Type 0
+Leaves O old new (Ok status) = (written : List ℕ) × O (written, status) × Appends old new written
+Leaves O old new (Err ReadFailed) = Keeps old new
+Leaves O old new (Err WriteFailed) = HasFront O old new
+Leaves O old new (Err stop.NoMemory) = Keeps old new ⊎ HasFront O old new

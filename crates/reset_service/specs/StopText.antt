@@ -1,0 +1,9 @@
+-- What the program says on standard error of what cut a run short, without the line feed.
+use Rattle.std.specs.Prelude.{ℕ, List, codes}
+use Rattle.reset_service.specs.declared.status.RunStop.{RunStop}
+use Rattle.reset_service.specs.declared.status.RunStop.TheVariants.{ReadFailed, WriteFailed, NoMemory}
+
+abbrev pub stop_text : RunStop → List ℕ
+stop_text ReadFailed = codes "read fault"
+stop_text WriteFailed = codes "write fault"
+stop_text NoMemory = codes "out of memory"

@@ -1,0 +1,77 @@
+-- What the words of the command line ask for, by clap's own definition of what a command makes of words.
+use Rattle.std.specs.Prelude.{◌≡◌, ◌≢◌, ◌⊎◌, ⊤, true, List, codes, Option, Some, None, IsSome, option_map, option_and_then}
+use Rattle.clap.specs.Words.{App, Kinds, Row, Rule, Text, IsAmong, fault_of, first_of, kind_of, new_app, new_rule, subcommand_of, with_rule, with_subcommand}
+use Rattle.clap.specs.declared.error.Error.{Error}
+use Rattle.clap.specs.declared.error.ErrorKind.TheVariants.{InvalidValue, OutOfMemory}
+use Rattle.reset_service.specs.declared.words.Job.{Job}
+use Rattle.reset_service.specs.declared.words.Job.TheVariants.{Joined, Replay, Tables}
+use Rattle.reset_service.specs.declared.words.LineFault.{LineFault}
+use Rattle.reset_service.specs.declared.words.LineFault.TheVariants.{BadWords, NoMemory}
+
+-- ---- the command line
+
+-- a path that has to be given
+abbrev pub path : Text → Rule
+path name = record (new_rule name) { required = true }
+
+-- `replay TOPOLOGY SCRIPT`
+unfoldable pub replay_command : App
+replay_command = with_rule (with_rule (new_app (codes "replay")) (path (codes "TOPOLOGY"))) (path (codes "SCRIPT"))
+
+-- `tables`
+unfoldable pub tables_command : App
+tables_command = new_app (codes "tables")
+
+-- the program with its two subcommands
+unfoldable pub program : App
+program = with_subcommand (with_subcommand (new_app (codes "reset-service")) replay_command.top) tables_command.top
+
+-- ---- what words ask for
+
+-- the subcommand that clap finds, with what it found for the arguments
+abbrev pub Found : Type 0
+Found = Option (Text × List Row)
+
+abbrev pub name_in : Found → Option Text
+name_in = option_map (λ s. s.0)
+
+abbrev pub value_in : Found → Text → Option Text
+value_in found argument = option_and_then (λ s. first_of argument s.1) found
+
+-- the subcommand and its values are those of the job
+abbrev pub AskedBy : Found → Job → Type 0
+AskedBy found Joined = found ≡ None
+AskedBy found (Replay topology script) = (name_in found ≡ Some (codes "replay"))
+    × (value_in found (codes "TOPOLOGY") ≡ Some topology.now) × (value_in found (codes "SCRIPT") ≡ Some script.now)
+AskedBy found Tables = name_in found ≡ Some (codes "tables")
+
+-- what clap finds in the words asks for the job
+abbrev pub AskFor : List Text → Job → Type 0
+AskFor words = AskedBy (subcommand_of program words)
+
+-- the kinds that clap's error at the words may have, a request for help included: none where it takes them
+abbrev pub faults_of : List Text → Kinds
+faults_of = fault_of program
+
+-- the fault is one that clap has at the words, or memory was wanting
+abbrev pub IsFaultOf : List Text → LineFault → Type 0
+IsFaultOf words (BadWords error) = IsAmong (kind_of error) (faults_of words)
+IsFaultOf words NoMemory = ⊤
+
+-- the fault of a word that is no text, or memory was wanting
+abbrev pub IsInvalidValue : LineFault → Type 0
+IsInvalidValue (BadWords error) = kind_of error ≡ InvalidValue
+IsInvalidValue NoMemory = ⊤
+
+-- ---- what private clauses cite
+
+-- a subcommand of the program with the values that it needs, or none
+abbrev pub HasJob : Found → Type 0
+HasJob None = ⊤
+HasJob (Some s) = ((s.0 ≡ codes "replay") × IsSome (first_of (codes "TOPOLOGY") s.1) × IsSome (first_of (codes "SCRIPT") s.1))
+    ⊎ (s.0 ≡ codes "tables")
+
+-- clap's error as a fault
+abbrev pub StandsFor : Error → LineFault → Type 0
+StandsFor error (BadWords kept) = (kept ≡ error) × (kind_of error ≢ OutOfMemory)
+StandsFor error NoMemory = kind_of error ≡ OutOfMemory

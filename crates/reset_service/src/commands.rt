@@ -1,0 +1,121 @@
+// The commands of the program and their help, as `clap` reads and prints them.
+
+ghost use Rattle.std.specs.Prelude.{◌≡◌, IfOk, false};
+ghost use Rattle.clap.specs.Words.{app_of, rule_of};
+ghost use Rattle.clap.specs.declared.builder.command.Command.TheViews.{out-Command as fields_of};
+ghost use Rattle.reset_service.specs.Words.{path, program, replay_command, tables_command};
+
+use clap::{Arg, Command};
+use std::alloc::{AllocError, Global};
+
+const ABOUT: &str =
+    "Replays scripts of reset events on a network of nodes, and writes an answer to each event.";
+
+const LONG_ABOUT: &str = "\
+Replays scripts of reset events on a network of nodes, and writes an answer to each event.
+
+A reset restarts all nodes of a network while they run: a request travels up a spanning
+tree to its leader, the leader opens a new session, and the session travels down the tree.
+
+Without a subcommand the program reads one text from standard input: a topology, a line
+that is `---`, and a script. `reset-service replay --help` tells what these are.";
+
+const AFTER_HELP: &str = "\
+Examples:
+  reset-service replay examples/one-wave/topology.toml examples/one-wave/script
+  { cat topology.toml; echo ---; cat script; } | reset-service
+
+Exit status:
+  0  good, refused commands included
+  2  a bad topology, script or command line
+  3  a file or a standard stream could not be read or written
+  4  out of memory";
+
+const REPLAY_ABOUT: &str = "Runs a script on a topology, from its booted configuration";
+
+const REPLAY_LONG_ABOUT: &str = "\
+Runs a script on a topology, from its booted configuration.
+
+Each command writes its answer to standard output. A command that is refused changes
+nothing, and the run goes on; a bad line ends it.";
+
+const TOPOLOGY_HELP: &str =
+    "A file in TOML that names the nodes, the links between them, and the application";
+
+const SCRIPT_HELP: &str = "A file with one command a line";
+
+const REPLAY_AFTER_HELP: &str = "\
+A topology:
+  nodes = [1, 2, 3]
+  links = [[1, 2], [2, 3]]
+  app = \"token\"
+All three keys are needed; the application is \"idle\", \"token\", \"mutex\" or \"routes\".
+
+The commands of a script, at node I with its neighbour J and its child C:
+  claim I, follow I, adopt I J
+  request I, relay I C, open I, join I, finish I, mend I
+  act I CASE, act I CASE J
+  show, show I, newest, enabled I, ready
+A CASE is the name of an action of the application, or its number. They are
+  act I pass J, act I take J    of token
+  act I enter, act I leave      of mutex
+  act I pull J                  of routes
+Words have one space between them. An empty line, or one that begins with #, does nothing.
+In any other line a tab, a space at either end, a carriage return, a command in capital
+letters, a zero before a number or a comment behind the command makes the line bad;
+`cat -A SCRIPT` shows what the eye misses.
+
+Example:
+  reset-service replay examples/one-wave/topology.toml examples/one-wave/script";
+
+const TABLES_ABOUT: &str = "Prints the tables that the nodes act by";
+
+const TABLES_LONG_ABOUT: &str = "\
+Prints the tables that the nodes act by: the tree table, by which they build and mend the
+spanning tree, the wave table, by which resets travel on it, and the tables of the
+applications token, mutex and routes.
+
+A table is a line `table TITLE`, and then a line `NUMBER NAME | GUARD | EFFECT` for each
+row. A node may take a row where its guard holds, and then its registers change as the
+effect says. `enabled I` in a script gives the numbers of the rows that node I may take.";
+
+/// The command line: the program and its subcommands.
+pub fn command_line<'a>(alloc: Global) -> Result<Command<'a>, AllocError>
+    ensures { IfOk result (λ command. app_of command ≡ program) }
+{
+    Command::new(alloc, "reset-service")
+        .about(ABOUT)
+        .long_about(LONG_ABOUT)
+        .after_help(AFTER_HELP)
+        .subcommand(replay_words(alloc)?)?
+        .subcommand(tables_words(alloc))
+}
+
+fn replay_words<'a>(alloc: Global) -> Result<Command<'a>, AllocError>
+    ensures app { IfOk result (λ command. app_of command ≡ replay_command) }
+    ensures local { IfOk result (λ command. (fields_of command).has_globals ≡ false) }
+{
+    Command::new(alloc, "replay")
+        .about(REPLAY_ABOUT)
+        .long_about(REPLAY_LONG_ABOUT)
+        .after_help(REPLAY_AFTER_HELP)
+        .arg(path_word(alloc, "TOPOLOGY", TOPOLOGY_HELP))?
+        .arg(path_word(alloc, "SCRIPT", SCRIPT_HELP))
+}
+
+fn tables_words<'a>(alloc: Global) -> Command<'a>
+    ensures app { app_of result ≡ tables_command }
+    ensures local { (fields_of result).has_globals ≡ false }
+{
+    Command::new(alloc, "tables")
+        .about(TABLES_ABOUT)
+        .long_about(TABLES_LONG_ABOUT)
+}
+
+// The path of a file, which has to be given.
+fn path_word<'a>(alloc: Global, name: &'a str, help: &'a str) -> Arg<'a>
+    ensures rule { rule_of result ≡ path name.entry.now }
+    ensures local { result.global ≡ false }
+{
+    Arg::new(alloc, name).required(true).help(help)
+}

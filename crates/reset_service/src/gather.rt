@@ -1,0 +1,112 @@
+// A writer that gathers small writes.
+
+ghost use Rattle.std.specs.Prelude.{◌≡◌, ◌<◌, ◌≤◌, ◌⊎◌, [], drop, length, Err, IfErr, IfOk, OnOk};
+ghost use Rattle.std.specs.Io.KnownBytes.{Keeps};
+ghost use Rattle.reset_service.specs.Gathering.{gathered_contents};
+
+use crate::status::{RunStop, Status};
+use std::alloc::{AllocError, Global};
+use std::io;
+use std::io::Write;
+
+// How many bytes are gathered.
+const ROOM: usize = 8192;
+
+/// A writer that hands its bytes on by thousands. It hands nothing on when it is dropped. A failure
+/// loses and doubles no byte: what was not handed on is still held.
+#[derive(Drop)]
+pub struct Gathered<W: Write + Drop> {
+    out: W,
+    held: Vec<u8>,
+}
+
+impl<W: Write + Drop> Gathered<W> {
+    /// A writer with nothing gathered.
+    pub fn new(alloc: Global, out: W) -> Result<Gathered<W>, AllocError>
+        ensures out { IfOk result (λ gathered. gathered.out ≡ out) }
+        ensures empty { IfOk result (λ gathered. gathered.held.items ≡ []) }
+    {
+        let held = Vec::with_capacity(alloc, ROOM)?;
+        Ok(Gathered { out, held })
+    }
+
+    /// Hands on what is gathered.
+    pub fn finish(&mut self) -> Result<(), RunStop>
+        ensures ok { OnOk result (self.new.held.items ≡ []) }
+        ensures stop { IfErr result (λ stop. stop ≡ RunStop.WriteFailed) }
+        ensures kept { Keeps (gathered_contents W.contents self.old) (gathered_contents W.contents self.new) }
+    {
+        while !self.held.is_empty() {
+            self.hand_on()?;
+        }
+        Ok(())
+    }
+
+    /// Ends a run that writes here and ended so: hands on what is gathered, unless it was a write that
+    /// failed. The answer is how the run ended, or that its last bytes could not be written.
+    pub fn end(&mut self, ended: Result<Status, RunStop>) -> Result<Status, RunStop>
+        ensures stopped { IfErr ended (λ stop. result ≡ Err stop) }
+        ensures ok { IfOk result (λ _. (result ≡ ended) × (self.new.held.items ≡ [])) }
+        ensures failed { IfErr result (λ stop. (result ≡ ended) ⊎ (stop ≡ RunStop.WriteFailed)) }
+        ensures after_fault { ended ≡ Err RunStop.WriteFailed → self.new ≡ self.old }
+        ensures kept { Keeps (gathered_contents W.contents self.old) (gathered_contents W.contents self.new) }
+    {
+        match ended {
+            Ok(status) => {
+                self.finish()?;
+                Ok(status)
+            }
+            Err(RunStop::WriteFailed) => Err(RunStop::WriteFailed),
+            Err(stop) => {
+                let _ = self.finish();
+                Err(stop)
+            }
+        }
+    }
+
+    // Hands on as much as one write takes.
+    fn hand_on(&mut self) -> Result<(), RunStop>
+        ensures ok { OnOk result (length self.new.held.items < length self.old.held.items) }
+        ensures stop { IfErr result (λ stop. stop ≡ RunStop.WriteFailed) }
+        ensures kept { Keeps (gathered_contents W.contents self.old) (gathered_contents W.contents self.new) }
+    {
+        match self.out.write(&self.held) {
+            Ok(0) | Err(_) => Err(RunStop::WriteFailed),
+            Ok(count) => {
+                remove_front(&mut self.held, count);
+                Ok(())
+            }
+        }
+    }
+}
+
+fn remove_front(bytes: &mut Vec<u8>, count: usize)
+    requires { count ≤ length bytes.old.items }
+    ensures { bytes.new.items ≡ drop count bytes.old.items }
+{
+    let left = bytes.len() - count;
+    bytes.as_mut_slice().copy_within(count.., 0);
+    bytes.truncate(left);
+}
+
+impl<W: Write + Drop> Write for Gathered<W> {
+    ghost use Rattle.reset_service.specs.Gathering.{gathered_contents};
+
+    ghost contents = { gathered_contents W.contents };
+
+    fn write(&mut self, buf: &[u8]) -> io::Result<usize> {
+        if self.held.len() >= ROOM {
+            self.flush()?;
+        }
+        let count = buf.len().min(ROOM);
+        self.held.extend_from_slice(&buf[..count])?;
+        Ok(count)
+    }
+
+    fn flush(&mut self) -> io::Result<()> {
+        match self.finish() {
+            Ok(()) => Ok(()),
+            Err(_) => Err(io::Error::from(io::ErrorKind::Other)),
+        }
+    }
+}

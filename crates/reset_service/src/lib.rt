@@ -1,0 +1,23 @@
+//! What the program of the distributed reset service does, as calls on texts, readers and writers: it
+//! replays scripts of reset events on the booted configuration of a topology and writes an answer to
+//! each line, prints the tables that the nodes act by, and reads the words of its command line.
+#![tactic(auto)]
+
+mod answer;
+mod commands;
+mod gather;
+mod input;
+mod replays;
+mod rows;
+mod script;
+mod show;
+mod status;
+mod tables;
+mod words;
+
+pub use gather::Gathered;
+pub use input::{READ_LIMIT, read_text};
+pub use replays::{replay, replay_joined, replay_text};
+pub use status::{RunStop, Status};
+pub use tables::print_tables;
+pub use words::{Job, LineFault, no_text, read_words};

@@ -1,0 +1,219 @@
+// The replay of a script on a booted configuration.
+
+ghost use Rattle.std.specs.Prelude.{◌≡◌, ◌≢◌, ℕ, ◌≤◌, List, length, IfOk, IfErr, OnErr};
+ghost use Rattle.std.specs.Io.KnownBytes.{Appends};
+ghost use Rattle.topology.specs.TopologyText.{IsReadFault};
+ghost use Rattle.action_tables.specs.Written.{AppendsFront};
+ghost use Rattle.reset_service.specs.Lines.{lines_of, IsReadFrom};
+ghost use Rattle.reset_service.specs.Meaning.{meaning_of};
+ghost use Rattle.reset_service.specs.Script.{line_of};
+ghost use Rattle.reset_service.specs.Output.{answer_to, answers, bad_topology_text, script_output, too_long_text, IsJoinedOutput, IsOutput, IsReplay, IsReplayOf, Leaves};
+
+use crate::answer::{answer, put_bad_line, put_too_long, put_topology_fault};
+use crate::input::{cut_joined, read_text, split_line};
+use crate::script::{Line, read_line};
+use crate::status::{RunStop, Status};
+use app_interface::{Application, Idle};
+use app_mutex::EdgeReversal;
+use app_routes::Routes;
+use app_token::Token;
+use reset_machine::Config;
+use std::alloc::Global;
+use std::io::{Read, Write};
+use topology::{AppName, MAX_TEXT, ReadFault, Topology, read_topology};
+
+/// Replays a script on the booted configuration of a topology text, and writes the answers.
+///
+/// The topology is judged first, then the length of the script, then its lines in order, each
+/// with its answer before the next. The first bad line ends the run, and what was answered before
+/// it stays.
+pub fn replay_text<W: Write>(
+    alloc: Global,
+    topology: &[u8],
+    script: &[u8],
+    out: &mut W,
+) -> Result<Status, RunStop>
+    ensures leaves { Leaves (IsOutput topology.now script.now) (W.contents out.old) (W.contents out.new) result }
+    ensures stop { IfErr result (λ stop. stop ≢ RunStop.ReadFailed) }
+{
+    match read_topology(alloc, topology) {
+        Ok((topology, app)) => replay_app(alloc, app, topology, script, out),
+        Err(fault) => refuse_topology(fault, out),
+    }
+}
+
+/// As `replay_text`, with the script from a reader, of which at most 1,048,577 bytes are read. The
+/// topology is judged before the reader is touched.
+pub fn replay<R: Read, W: Write>(
+    alloc: Global,
+    topology: &[u8],
+    script: &mut R,
+    out: &mut W,
+) -> Result<Status, RunStop>
+    ensures leaves { (text : List ℕ) × IsReadFrom (R.remaining script.old) text × Leaves (IsOutput topology.now text) (W.contents out.old) (W.contents out.new) result }
+    ensures untouched { (f : ReadFault) → IsReadFault topology.now f → script.new ≡ script.old }
+{
+    match read_topology(alloc, topology) {
+        Ok((topology, app)) => match read_text(alloc, script) {
+            Ok(text) => replay_app(alloc, app, topology, &text, out),
+            Err(stop) => Err(stop),
+        },
+        Err(refused) => refuse_topology(refused, out),
+    }
+}
+
+/// As `replay_text`, with both texts from one reader: the topology up to the first line that is
+/// exactly `---`, and the script after it. At most 1,048,577 bytes are read, and a joined text of
+/// that length is a script that is too long.
+pub fn replay_joined<R: Read, W: Write>(
+    alloc: Global,
+    joined: &mut R,
+    out: &mut W,
+) -> Result<Status, RunStop>
+    ensures { (text : List ℕ) × IsReadFrom (R.remaining joined.old) text × Leaves (IsJoinedOutput text) (W.contents out.old) (W.contents out.new) result }
+{
+    match read_text(alloc, joined) {
+        Ok(text) => replay_whole(alloc, &text, out),
+        Err(stop) => Err(stop),
+    }
+}
+
+// The run of a joined text.
+fn replay_whole<W: Write>(alloc: Global, joined: &[u8], out: &mut W) -> Result<Status, RunStop>
+    ensures leaves { Leaves (IsJoinedOutput joined.now) (W.contents out.old) (W.contents out.new) result }
+    ensures stop { IfErr result (λ stop. stop ≢ RunStop.ReadFailed) }
+{
+    if joined.len() > MAX_TEXT {
+        return refuse_script(out);
+    }
+    let (topology, script) = cut_joined(joined);
+    replay_text(alloc, topology, script, out)
+}
+
+// Replays a script on the booted configuration of a topology, with the application of this name.
+fn replay_app<W: Write>(
+    alloc: Global,
+    app: AppName,
+    topology: Topology,
+    script: &[u8],
+    out: &mut W,
+) -> Result<Status, RunStop>
+    ensures leaves { Leaves (IsReplayOf app topology script.now) (W.contents out.old) (W.contents out.new) result }
+    ensures stop { IfErr result (λ stop. stop ≢ RunStop.ReadFailed) }
+{
+    match app {
+        AppName::Idle => replay_booted::<Idle, W>(alloc, topology, script, out),
+        AppName::Token => replay_booted::<Token, W>(alloc, topology, script, out),
+        AppName::Mutex => replay_booted::<EdgeReversal, W>(alloc, topology, script, out),
+        AppName::Routes => replay_booted::<Routes, W>(alloc, topology, script, out),
+    }
+}
+
+fn replay_booted<P: Application, W: Write>(
+    alloc: Global,
+    topology: Topology,
+    script: &[u8],
+    out: &mut W,
+) -> Result<Status, RunStop>
+    ensures leaves { Leaves (IsReplay (meaning_of P.app P.text P.names) topology script.now) (W.contents out.old) (W.contents out.new) result }
+    ensures stop { IfErr result (λ stop. stop ≢ RunStop.ReadFailed) }
+{
+    match Config::<P>::boot(alloc, topology) {
+        Ok(config) => replay_script(alloc, config, script, out),
+        Err(_) => Err(RunStop::NoMemory),
+    }
+}
+
+// Answers a text that is no topology.
+fn refuse_topology<W: Write>(fault: ReadFault, out: &mut W) -> Result<Status, RunStop>
+    ensures leaves { Leaves (λ output. (fault ≢ ReadFault.NoMemory) × (output ≡ (bad_topology_text fault, Status.BadInput))) (W.contents out.old) (W.contents out.new) result }
+    ensures stop { IfErr result (λ stop. stop ≢ RunStop.ReadFailed) }
+{
+    if fault == ReadFault::NoMemory {
+        return Err(RunStop::NoMemory);
+    }
+    put_topology_fault(out, fault)?;
+    Ok(Status::BadInput)
+}
+
+// Answers a script that is too long.
+fn refuse_script<W: Write>(out: &mut W) -> Result<Status, RunStop>
+    ensures leaves { Leaves (λ output. output ≡ (too_long_text, Status.BadInput)) (W.contents out.old) (W.contents out.new) result }
+    ensures stop { IfErr result (λ stop. stop ≢ RunStop.ReadFailed) }
+{
+    put_too_long(out)?;
+    Ok(Status::BadInput)
+}
+
+fn replay_script<P: Application, W: Write>(
+    alloc: Global,
+    mut config: Config<P>,
+    script: &[u8],
+    out: &mut W,
+) -> Result<Status, RunStop>
+    ensures leaves { Leaves (λ output. output ≡ script_output (meaning_of P.app P.text P.names) config script.now) (W.contents out.old) (W.contents out.new) result }
+    ensures stop { IfErr result (λ stop. stop ≢ RunStop.ReadFailed) }
+{
+    if script.len() > MAX_TEXT {
+        return refuse_script(out);
+    }
+    answer_lines(alloc, &mut config, script, out)
+}
+
+// Answers the lines of a script in order, up to the first bad one.
+fn answer_lines<P: Application, W: Write>(
+    alloc: Global,
+    config: &mut Config<P>,
+    script: &[u8],
+    out: &mut W,
+) -> Result<Status, RunStop>
+    requires { length script.now ≤ MAX_TEXT }
+    ensures leaves { Leaves (λ output. output ≡ answers (meaning_of P.app P.text P.names) config.old 1 (lines_of script.now)) (W.contents out.old) (W.contents out.new) result }
+    ensures stop { IfErr result (λ stop. stop ≢ RunStop.ReadFailed) }
+{
+    let mut rest = script;
+    let mut number = 1;
+    while let Some((line, after)) = split_line(rest) {
+        match answer_line(alloc, config, number, line, out) {
+            Ok(Status::Good) => {}
+            Ok(Status::BadInput) => return Ok(Status::BadInput),
+            Err(stop) => return Err(stop),
+        }
+        rest = after;
+        number += 1;
+    }
+    answer_line(alloc, config, number, rest, out)
+}
+
+// Answers the line with this number.
+fn answer_line<P: Application, W: Write>(
+    alloc: Global,
+    config: &mut Config<P>,
+    number: u64,
+    line: &[u8],
+    out: &mut W,
+) -> Result<Status, RunStop>
+    ensures ok { IfOk result (λ status. let a = answer_to (meaning_of P.app P.text P.names) config.old number (line_of P.names line.now) in
+        (status ≡ a.status) × (config.new ≡ a.config) × Appends (W.contents out.old) (W.contents out.new) a.text) }
+    ensures err { OnErr result (AppendsFront (W.contents out.old) (W.contents out.new) (answer_to (meaning_of P.app P.text P.names) config.old number (line_of P.names line.now)).text) }
+    ensures stop { IfErr result (λ stop. stop ≢ RunStop.ReadFailed) }
+{
+    match read_line::<P>(line) {
+        Line::Silent => Ok(Status::Good),
+        Line::Asks(command) => {
+            answer(alloc, config, command, out)?;
+            Ok(Status::Good)
+        }
+        Line::Bad => {
+            put_bad_line(out, number)?;
+            Ok(Status::BadInput)
+        }
+    }
+}
+
+#[cfg(test)]
+mod applications;
+#[cfg(test)]
+mod spellings;
+#[cfg(test)]
+mod tests;

@@ -1,0 +1,175 @@
+// What the words of the command line ask for.
+
+ghost use Rattle.std.specs.Prelude.{◌≡◌, [], map, IfOk, IfErr};
+ghost use Rattle.clap.specs.Words.{kind_of, subcommand_rows_of};
+ghost use Rattle.reset_service.specs.declared.words.LineFault.TheVariants.{NoMemory};
+ghost use Rattle.reset_service.specs.Words.{faults_of, AskFor, AskedBy, HasJob, IsFaultOf, IsInvalidValue, StandsFor};
+
+use crate::commands::command_line;
+use clap::error::ErrorKind;
+use clap::{ArgMatches, Error};
+use std::alloc::{AllocError, Global};
+use std::convert::AsStr;
+use std::{error, fmt};
+
+/// What the program is to do.
+#[derive(Clone, Copy, Debug, PartialEq, Eq)]
+pub enum Job<'a> {
+    /// Replay the joined text of the standard input.
+    Joined,
+    /// Replay the script of a file on the topology of another.
+    Replay {
+        /// The path of the topology.
+        topology: &'a str,
+        /// The path of the script.
+        script: &'a str,
+    },
+    /// Print the tables.
+    Tables,
+}
+
+/// Why words give no job.
+#[derive(Debug, Drop)]
+pub enum LineFault {
+    /// The words are a mistake, or they ask for help: clap's error has the text for the user.
+    BadWords(Error),
+    /// A growth was refused.
+    NoMemory,
+}
+
+impl From<Error> for LineFault {
+    ghost from_gives = { StandsFor };
+
+    fn from(error: Error) -> LineFault {
+        if error.kind() == ErrorKind::OutOfMemory {
+            LineFault::NoMemory
+        } else {
+            LineFault::BadWords(error)
+        }
+    }
+}
+
+impl From<AllocError> for LineFault {
+    ghost from_gives = { λ _ fault. fault ≡ NoMemory };
+
+    fn from(_error: AllocError) -> LineFault {
+        LineFault::NoMemory
+    }
+}
+
+impl fmt::Display for LineFault {
+    fn fmt<W: fmt::Write>(&self, f: &mut fmt::Formatter<W>) -> fmt::Result {
+        match self {
+            LineFault::BadWords(error) => write!(f, "{error}"),
+            LineFault::NoMemory => f.write_str("out of memory"),
+        }
+    }
+}
+
+impl error::Error for LineFault {}
+
+/// The job that the words ask for, of which the first is the program's name.
+pub fn read_words<'a, S: AsStr>(alloc: Global, words: &'a [S]) -> Result<Job<'a>, LineFault>
+    ensures taken { IfOk result (λ job. faults_of (map S.text words.entry.now) ≡ []) }
+    ensures job { IfOk result (AskFor (map S.text words.entry.now)) }
+    ensures fault { IfErr result (IsFaultOf (map S.text words.entry.now)) }
+{
+    let matches = command_line(alloc)?.try_get_matches_from(words)?;
+    Ok(job_of(&matches))
+}
+
+// The job of matches, in which a subcommand has the values that it needs.
+fn job_of<'a>(matches: &ArgMatches<'a>) -> Job<'a>
+    requires { HasJob (subcommand_rows_of matches.now) }
+    ensures { AskedBy (subcommand_rows_of matches.now) result }
+{
+    match matches.subcommand() {
+        None => Job::Joined,
+        Some(("replay", values)) => Job::Replay {
+            topology: values.get_str("TOPOLOGY").unwrap(),
+            script: values.get_str("SCRIPT").unwrap(),
+        },
+        Some(_) => Job::Tables,
+    }
+}
+
+/// The fault of words that aren't text.
+pub fn no_text(alloc: Global) -> LineFault
+    ensures { IsInvalidValue result }
+{
+    match no_text_error(alloc) {
+        Ok(error) => LineFault::from(error),
+        Err(_) => LineFault::NoMemory,
+    }
+}
+
+fn no_text_error(alloc: Global) -> Result<Error, AllocError>
+    ensures { IfOk result (λ error. kind_of error ≡ ErrorKind.InvalidValue) }
+{
+    command_line(alloc)?.error(
+        ErrorKind::InvalidValue,
+        "a word of the command line is not UTF-8",
+    )
+}
+
+#[cfg(test)]
+mod tests {
+    use super::{Job, LineFault, no_text, read_words};
+    use clap::Error;
+    use clap::error::ErrorKind;
+    use std::alloc::{AllocError, Global};
+
+    // The kind of clap's error at these words.
+    fn kind_at(alloc: Global, words: &[&str]) -> Option<ErrorKind> {
+        match read_words(alloc, words) {
+            Err(LineFault::BadWords(error)) => Some(error.kind()),
+            _ => None,
+        }
+    }
+
+    #[test]
+    fn jobs(rt: HostRuntime) {
+        let alloc = rt.alloc();
+        let paths = Job::Replay {
+            topology: "a",
+            script: "b c",
+        };
+        assert!(rt; matches!(read_words(alloc, &["reset-service"]), Ok(Job::Joined)));
+        assert!(rt;
+            matches!(
+                read_words(alloc, &["reset-service", "tables"]),
+                Ok(Job::Tables)
+            )
+        );
+        let words = ["reset-service", "replay", "a", "b c"];
+        assert!(rt; matches!(read_words(alloc, &words), Ok(job) if job == paths));
+    }
+
+    #[test]
+    fn mistakes_and_help(rt: HostRuntime) {
+        let alloc = rt.alloc();
+        let program = "reset-service";
+        let mistake = Some(ErrorKind::UnknownArgument);
+        let missing = Some(ErrorKind::MissingRequiredArgument);
+        let help = Some(ErrorKind::DisplayHelp);
+        assert!(rt;
+            kind_at(alloc, &[program, "check", "a", "b"]) == Some(ErrorKind::InvalidSubcommand)
+        );
+        assert!(rt; kind_at(alloc, &[program, "replay", "a", "b", "c"]) == mistake);
+        assert!(rt; kind_at(alloc, &[program, "replay", "a"]) == missing);
+        assert!(rt; kind_at(alloc, &[program, "--help"]) == help);
+        assert!(rt; kind_at(alloc, &[program, "replay", "--help"]) == help);
+    }
+
+    #[test]
+    fn faults(rt: HostRuntime) {
+        assert!(rt; matches!(no_text(rt.alloc()), LineFault::BadWords(_)));
+        assert!(rt; matches!(LineFault::from(AllocError), LineFault::NoMemory));
+        assert!(rt;
+            matches!(
+                LineFault::from(Error::from(AllocError)),
+                LineFault::NoMemory
+            )
+        );
+    }
+}
