@@ -1,6 +1,7 @@
-# Needs `rt`, the command of the Rattle kit, and make: nothing else, but for `make bench`.
+# Needs `rt`, the command of the Rattle kit, make and python3, which rt needs too: nothing else, but for
+# `make bench`.
 
-.PHONY: run build test bench
+.PHONY: run build test mutants gate-times bench
 
 # Builds the program and replays one whole reset wave on the line of nodes 1, 2, 3.
 run: build
@@ -8,15 +9,21 @@ run: build
 
 # Leaves the proved program at build/reset-service.
 build:
-	@mkdir -p build
-	@[ -e build/reset-service ] || echo 'Proves and builds for the first time: five to fifteen minutes without a word.'
-	@cd crates/service_main && rt run < stdin > ../../build/log 2>&1 || { cat ../../build/log; exit 1; }
-	@cp crates/service_main/out/service_main build/reset-service
+	@tools/build
 
 # Everything that decides: the gate `rt ci`, and then the examples and the words on the program that
 # it has built.
 test:
 	@bash tests/all
+
+# Tries the wrong bodies that the gate leaves out, of one crate or of all: make mutants CRATE=topology
+mutants:
+	@bash tools/mutants $(CRATE)
+
+# Runs the gate and prints where its time goes, and then the functions that are proved slowly.
+gate-times:
+	@tools/gate-times
+	@tools/gate-times functions
 
 # Compares the program with a plain Rust program of the same replay, bench/baseline.rs. Needs rustc,
 # valgrind and GNU time beside.

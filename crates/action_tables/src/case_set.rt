@@ -96,25 +96,3 @@ impl CaseSet {
         let _bits = self.bits;
     }
 }
-
-#[cfg(test)]
-mod tests {
-    use super::*;
-
-    #[test]
-    fn holds_its_cases(rt: HostRuntime) {
-        let set = CaseSet::empty()
-            .with(16)
-            .with(3)
-            .with_if(5, true)
-            .with_if(4, false);
-        assert_eq!(rt; set.first(), Some(3));
-        assert_eq!(rt; set.count(), 3);
-        for case in 0..=255 {
-            assert_eq!(rt; set.has(case), case == 3 || case == 5 || case == 16);
-        }
-        assert_eq!(rt; CaseSet::empty().first(), None);
-        assert_eq!(rt; set, CaseSet::empty().with(3).with(5).with(16));
-        set.is_listed();
-    }
-}

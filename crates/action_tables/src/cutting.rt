@@ -19,18 +19,3 @@ fn place_of(text: &[u8], byte: u8) -> Option<usize>
 {
     text.iter().position(|b| *b == byte)
 }
-
-#[cfg(test)]
-mod tests {
-    use super::*;
-
-    #[test]
-    fn cuts_at_the_first(rt: HostRuntime) {
-        let parts = (b"1".as_slice(), b"0:1".as_slice());
-        assert_eq!(rt; cut(b"1:0:1", b':'), Some(parts));
-        let parts = (b"".as_slice(), b"".as_slice());
-        assert_eq!(rt; cut(b",", b','), Some(parts));
-        assert_eq!(rt; cut(b"1:0", b','), None);
-        assert_eq!(rt; cut(b"", b','), None);
-    }
-}

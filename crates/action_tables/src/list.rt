@@ -64,18 +64,3 @@ fn put_after_comma<W: Write, T: ListItem>(out: &mut W, item: &T) -> Result<(), W
     put_bytes(out, b",")?;
     item.put(out)
 }
-
-#[cfg(test)]
-mod tests {
-    use super::*;
-
-    #[test]
-    fn writes_lists(rt: HostRuntime) {
-        let mut out = Vec::new(rt.alloc());
-        let none: [u32; 0] = [];
-        assert_eq!(rt; put_list(&mut out, &none), Ok(()));
-        assert_eq!(rt; put_list(&mut out, &[7_u32]), Ok(()));
-        assert_eq!(rt; put_list(&mut out, &[1_u32, 20, 4294967295]), Ok(()));
-        assert_eq!(rt; out.as_slice(), b"-71,20,4294967295".as_slice());
-    }
-}

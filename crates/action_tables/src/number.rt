@@ -24,33 +24,3 @@ fn has_sign_or_zeros(word: &[u8]) -> bool
 {
     matches!(word, [b'+', ..] | [b'0', _, ..])
 }
-
-#[cfg(test)]
-mod tests {
-    use super::*;
-
-    #[test]
-    fn reads_numbers(rt: HostRuntime) {
-        assert_eq!(rt; read_number(b"0"), Some(0));
-        assert_eq!(rt; read_number(b"10"), Some(10));
-        assert_eq!(rt; read_number(b"4294967295"), Some(u32::MAX));
-    }
-
-    #[test]
-    fn refuses_other_words(rt: HostRuntime) {
-        for word in [
-            b"".as_slice(),
-            b"4294967296".as_slice(),
-            b"99999999999999999999999".as_slice(),
-            b"-0".as_slice(),
-            b"+1".as_slice(),
-            b"00".as_slice(),
-            b"01".as_slice(),
-            b" 1".as_slice(),
-            b"1a".as_slice(),
-            b"1\xff".as_slice(),
-        ] {
-            assert_eq!(rt; read_number(word), None);
-        }
-    }
-}

@@ -93,25 +93,3 @@ fn put_case_above<W: Write>(
         Ok(())
     }
 }
-
-#[cfg(test)]
-mod tests {
-    use super::*;
-
-    #[test]
-    fn writes_sets(rt: HostRuntime) {
-        let none = CaseSet::empty();
-        let one = none.with(3);
-        let some = one.with(16).with(1);
-        let mut out = Vec::new(rt.alloc());
-        let parts = [
-            Part::Cases(none),
-            Part::Text(b" "),
-            Part::Cases(one),
-            Part::Text(b" "),
-            Part::Cases(some),
-        ];
-        assert_eq!(rt; put_parts(&mut out, &parts), Ok(()));
-        assert_eq!(rt; out.as_slice(), b"- 3 1,3,16".as_slice());
-    }
-}

@@ -66,30 +66,3 @@ fn print_row<W: Write>(row: &CaseRow<'_>, out: &mut W) -> Result<(), WriteFault>
         ],
     )
 }
-
-#[cfg(test)]
-mod tests {
-    use super::*;
-    use crate::put::tests::{Fault, Slow};
-
-    #[test]
-    fn stops_at_the_first_fault(rt: HostRuntime) {
-        let row = CaseRow {
-            number: 12,
-            name: "rest",
-            guard: "tired",
-            effect: "sleep",
-        };
-        let text = b"table day\n12 rest | tired | sleep\n";
-        let mut out = Slow::new(rt.alloc(), 3, 0, Fault::Error);
-        assert_eq!(rt; print_rows("day", &[row], &mut out), Ok(()));
-        assert_eq!(rt; out.taken(), text.as_slice());
-        for fault in [Fault::Error, Fault::Zero] {
-            for stop in 1..=text.len() {
-                let mut out = Slow::new(rt.alloc(), 1, stop, fault);
-                assert_eq!(rt; print_rows("day", &[row], &mut out), Err(WriteFault));
-                assert_eq!(rt; out.taken(), &text[..stop - 1]);
-            }
-        }
-    }
-}

@@ -10,8 +10,6 @@ mod identifier;
 mod idle;
 mod reads;
 mod refusal;
-#[cfg(test)]
-mod tests;
 mod view;
 
 pub use application::Application;

@@ -10,8 +10,6 @@ mod laws;
 mod local;
 mod mutex;
 mod table;
-#[cfg(test)]
-mod tests;
 mod text;
 
 pub use laws::{

@@ -13,8 +13,6 @@ mod read;
 mod routes;
 mod show;
 mod table;
-#[cfg(test)]
-mod tests;
 
 pub use entry::Entry;
 pub use laws::{entries_are_found, pulls_take_better_entries, routes_arrive};

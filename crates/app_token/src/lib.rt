@@ -11,8 +11,6 @@ mod local;
 mod read;
 mod show;
 mod table;
-#[cfg(test)]
-mod tests;
 mod token;
 
 pub use bits::Bits;

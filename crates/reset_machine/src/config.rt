@@ -160,8 +160,8 @@ impl<P: Application> Config<P> {
     {
         match planned(alloc, &self.topology, &self.trees, &self.waves, event) {
             Ok((ix, effect)) => match effect {
-                Effect::Tree(regs) => {
-                    self.trees[ix] = regs;
+                Effect::Tree(after) => {
+                    self.trees[ix] = after;
                     Ok(Reply::Applied)
                 }
                 Effect::Wave(fired) => self.write_wave(alloc, event.node(), ix, fired),

@@ -10,11 +10,7 @@ mod laws;
 mod narrow;
 mod plan;
 mod run_laws;
-#[cfg(test)]
-mod slow;
 mod step;
-#[cfg(test)]
-mod tests;
 mod text;
 mod view;
 

@@ -210,10 +210,3 @@ fn answer_line<P: Application, W: Write>(
         }
     }
 }
-
-#[cfg(test)]
-mod applications;
-#[cfg(test)]
-mod spellings;
-#[cfg(test)]
-mod tests;

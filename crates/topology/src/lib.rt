@@ -9,8 +9,6 @@ mod links;
 mod nodes;
 mod rows;
 mod search;
-#[cfg(test)]
-mod tests;
 mod text;
 mod topology;
 

@@ -114,6 +114,3 @@ pub fn tree_rows() -> [CaseRow<'static>; 8]
 {
     tree_table!(case_rows!(); view, asked)
 }
-
-#[cfg(test)]
-mod tests;

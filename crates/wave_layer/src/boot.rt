@@ -15,20 +15,3 @@ pub fn boot_wave(alloc: Global, count: usize) -> Result<Vec<WaveRegs>, AllocErro
         session: 0
     }; count]
 }
-
-#[cfg(test)]
-mod tests {
-    use super::*;
-    use std::test::Fail;
-
-    #[test]
-    fn boots_three_nodes(rt: HostRuntime) -> Result<(), Fail> {
-        let nodes = boot_wave(rt.alloc(), 3)?;
-        assert_eq!(rt; nodes.len(), 3);
-        for regs in &nodes {
-            assert_eq!(rt; regs.phase, Phase::Normal);
-            assert_eq!(rt; regs.session, 0);
-        }
-        Ok(())
-    }
-}

@@ -31,29 +31,3 @@ fn fits(own: WaveRegs, up: WaveRegs) -> bool
         !own.phase.is_reset() & same
     }
 }
-
-#[cfg(test)]
-mod tests {
-    use super::*;
-    use crate::regs::Phase;
-
-    #[test]
-    fn fits_a_father_that_is_one_session_ahead(rt: HostRuntime) {
-        let up = WaveRegs {
-            phase: Phase::Reset,
-            session: 6,
-        };
-        for (phase, session, good) in [
-            (Phase::Normal, 5, true),
-            (Phase::Reset, 5, false),
-            (Phase::Reset, 6, true),
-        ] {
-            let view = WaveView::new(WaveRegs { phase, session }, FatherSeen::Is(up), &[]);
-            assert_eq!(rt;
-                view.map(|view| wave_good(&view)),
-                Some(good),
-                "session {session}"
-            );
-        }
-    }
-}

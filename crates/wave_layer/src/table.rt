@@ -112,6 +112,3 @@ pub fn wave_rows() -> [CaseRow<'static>; 11]
 {
     wave_table!(case_rows!(); view, children)
 }
-
-#[cfg(test)]
-mod tests;

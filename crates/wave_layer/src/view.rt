@@ -78,22 +78,3 @@ fn ids_ascend(children: &[(u32, WaveRegs)]) -> bool
 {
     children.is_sorted_by(|one, next| one.0 < next.0)
 }
-
-#[cfg(test)]
-mod tests {
-    use super::*;
-    use crate::regs::Phase;
-
-    #[test]
-    fn takes_strictly_ascending_ids(rt: HostRuntime) {
-        let regs = WaveRegs {
-            phase: Phase::Normal,
-            session: 0,
-        };
-        for (first, second, taken) in [(3, 8, true), (3, 3, false), (8, 3, false)] {
-            let children = [(first, regs), (second, regs)];
-            let view = WaveView::new(regs, FatherSeen::Lost, &children);
-            assert_eq!(rt; view.is_some(), taken, "{first} before {second}");
-        }
-    }
-}

@@ -1,8 +1,7 @@
-use super::{AppName, ReadFault, read_topology};
-use crate::fault::TopoFault;
 use std::alloc::{AllocError, Global};
 use std::process::Abort;
 use std::test::Fail;
+use topology::{AppName, ReadFault, TopoFault, read_topology};
 
 #[test]
 fn reads_a_line_of_three(rt: HostRuntime) -> Result<(), Fail> {

@@ -1,6 +1,6 @@
-use super::*;
 use action_tables::print_rows;
 use app_interface::{Application, ClockRefusal, Here, LocalFault, Reads, Seen};
+use app_token::{Bits, Token, TokenLocal, app_rows};
 use std::alloc::Global;
 use std::test::Fail;
 use topology::Topology;

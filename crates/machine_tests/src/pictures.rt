@@ -1,7 +1,7 @@
 // The local predicates and the pictures of the whole network, over every assignment of registers.
 
-use crate::{Config, Event};
 use app_interface::Idle;
+use reset_machine::{Config, Event};
 use std::alloc::Global;
 use std::process::Abort;
 use topology::Topology;

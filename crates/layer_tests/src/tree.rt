@@ -1,10 +1,8 @@
 // The table agrees with a plain one, written apart, at the edges of the registers, and prints as it
 // is documented.
 
-use super::{tree_enabled, tree_fire, tree_good, tree_rows};
-use crate::regs::{TreeRefusal, TreeRegs};
-use crate::view::TreeView;
 use action_tables::print_rows;
+use tree_layer::{TreeRefusal, TreeRegs, TreeView, tree_enabled, tree_fire, tree_good, tree_rows};
 
 const ID: u32 = 2;
 

@@ -1,6 +1,6 @@
-use super::*;
 use std::alloc::Global;
 use std::test::Fail;
+use topology::{NodeId, TopoFault, Topology};
 
 fn fault_of(alloc: Global, nodes: &[u32], links: &[(u32, u32)]) -> Option<TopoFault> {
     Topology::build(alloc, nodes, links).err()

@@ -1,11 +1,13 @@
 // Each row once with its guard true and once with it false, each refusal, the whole table against a
 // plain one that is written apart, and the table in print.
 
-use super::{wave_enabled, wave_fire, wave_rows};
-use crate::regs::FatherSeen::{self, Is, Itself, Lost};
-use crate::regs::{Phase, WaveMove, WaveRefusal, WaveRegs};
-use crate::view::WaveView;
 use action_tables::print_rows;
+use std::test::Fail;
+use wave_layer::FatherSeen::{self, Is, Itself, Lost};
+use wave_layer::{
+    Phase, WaveMove, WaveRefusal, WaveRegs, WaveView, boot_wave, wave_enabled, wave_fire,
+    wave_good, wave_rows,
+};
 
 fn regs(phase: Phase, session: u32) -> WaveRegs {
     WaveRegs { phase, session }
@@ -297,4 +299,48 @@ table wave
 ";
     assert_eq!(rt; print_rows("wave", &wave_rows(), &mut out), Ok(()));
     assert_eq!(rt; out.as_slice(), expected.as_slice());
+}
+
+#[test]
+fn boots_three_nodes(rt: HostRuntime) -> Result<(), Fail> {
+    let nodes = boot_wave(rt.alloc(), 3)?;
+    assert_eq!(rt; nodes.len(), 3);
+    for regs in &nodes {
+        assert_eq!(rt; regs.phase, Phase::Normal);
+        assert_eq!(rt; regs.session, 0);
+    }
+    Ok(())
+}
+
+#[test]
+fn takes_strictly_ascending_ids(rt: HostRuntime) {
+    let regs = WaveRegs {
+        phase: Phase::Normal,
+        session: 0,
+    };
+    for (first, second, taken) in [(3, 8, true), (3, 3, false), (8, 3, false)] {
+        let children = [(first, regs), (second, regs)];
+        let view = WaveView::new(regs, FatherSeen::Lost, &children);
+        assert_eq!(rt; view.is_some(), taken, "{first} before {second}");
+    }
+}
+
+#[test]
+fn fits_a_father_that_is_one_session_ahead(rt: HostRuntime) {
+    let up = WaveRegs {
+        phase: Phase::Reset,
+        session: 6,
+    };
+    for (phase, session, good) in [
+        (Phase::Normal, 5, true),
+        (Phase::Reset, 5, false),
+        (Phase::Reset, 6, true),
+    ] {
+        let view = WaveView::new(WaveRegs { phase, session }, FatherSeen::Is(up), &[]);
+        assert_eq!(rt;
+            view.map(|view| wave_good(&view)),
+            Some(good),
+            "session {session}"
+        );
+    }
 }

@@ -1,4 +1,6 @@
-use super::*;
+use app_interface::{
+    Application, ClockRefusal, Here, Idle, LocalFault, Seen, is_id, read_id, seen_at,
+};
 use std::alloc::Global;
 use std::test::Fail;
 use topology::{NodeId, Topology};

@@ -1,12 +1,10 @@
-use super::*;
 use app_interface::Idle;
+use reset_machine::{Config, Done, Event, Reply, StepRefusal};
 use std::alloc::Global;
 use std::process::Abort;
 use topology::Topology;
 use tree_layer::TreeRegs;
 use wave_layer::{Phase, WaveRegs};
-
-mod pictures;
 
 // The booted line of the nodes 1, 2 and 3.
 fn line(rt: &impl Abort, alloc: Global) -> Config<Idle> {

@@ -1,0 +1,11 @@
+//! Tests of the applications by their public calls.
+#![tactic(auto)]
+
+#[cfg(test)]
+mod idle;
+#[cfg(test)]
+mod mutex;
+#[cfg(test)]
+mod routes;
+#[cfg(test)]
+mod token;

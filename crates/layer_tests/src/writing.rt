@@ -1,0 +1,103 @@
+// What is written, on writers that take it in pieces and on writers that fail.
+
+use crate::slow::{Fault, Slow};
+use action_tables::{
+    CaseRow, CaseSet, Part, WriteFault, print_rows, put_bytes, put_list, put_number, put_parts,
+};
+use std::test::Fail;
+
+#[test]
+fn writes_all_bytes_in_pieces(rt: HostRuntime) {
+    for (step, calls) in [(1, 5), (2, 3), (9, 1)] {
+        let mut out = Slow::new(rt.alloc(), step, 0, Fault::Error);
+        assert_eq!(rt; put_bytes(&mut out, b"hello"), Ok(()));
+        assert_eq!(rt; out.taken(), b"hello".as_slice());
+        assert_eq!(rt; out.calls(), calls);
+    }
+}
+
+#[test]
+fn writes_no_bytes_without_a_call(rt: HostRuntime) {
+    let mut out = Slow::new(rt.alloc(), 1, 1, Fault::Error);
+    assert_eq!(rt; put_bytes(&mut out, b""), Ok(()));
+    assert_eq!(rt; out.calls(), 0);
+}
+
+#[test]
+fn tries_nothing_again(rt: HostRuntime) {
+    for fault in [Fault::Error, Fault::Zero] {
+        for stop in 1..=5 {
+            let mut out = Slow::new(rt.alloc(), 1, stop, fault);
+            assert_eq!(rt; put_bytes(&mut out, b"hello"), Err(WriteFault));
+            assert_eq!(rt; out.taken(), &b"hello"[..stop - 1]);
+            assert_eq!(rt; out.calls(), stop);
+        }
+    }
+}
+
+#[test]
+fn writes_numbers(rt: HostRuntime) -> Result<(), Fail> {
+    let mut out = Vec::new(rt.alloc());
+    for number in [0, 7, 10, 100, u64::MAX] {
+        assert_eq!(rt; put_number(&mut out, number), Ok(()));
+        assert_eq!(rt; put_bytes(&mut out, b";"), Ok(()));
+    }
+    let expected = b"0;7;10;100;18446744073709551615;";
+    assert_eq!(rt; out.as_slice(), expected.as_slice());
+    Ok(())
+}
+
+#[test]
+fn names_the_fault(rt: HostRuntime) -> Result<(), Fail> {
+    let text = format!(in rt.alloc(); "{WriteFault}")?;
+    assert_eq!(rt; text.as_str(), "the output failed");
+    Ok(())
+}
+
+#[test]
+fn stops_at_the_first_fault(rt: HostRuntime) {
+    let row = CaseRow {
+        number: 12,
+        name: "rest",
+        guard: "tired",
+        effect: "sleep",
+    };
+    let text = b"table day\n12 rest | tired | sleep\n";
+    let mut out = Slow::new(rt.alloc(), 3, 0, Fault::Error);
+    assert_eq!(rt; print_rows("day", &[row], &mut out), Ok(()));
+    assert_eq!(rt; out.taken(), text.as_slice());
+    for fault in [Fault::Error, Fault::Zero] {
+        for stop in 1..=text.len() {
+            let mut out = Slow::new(rt.alloc(), 1, stop, fault);
+            assert_eq!(rt; print_rows("day", &[row], &mut out), Err(WriteFault));
+            assert_eq!(rt; out.taken(), &text[..stop - 1]);
+        }
+    }
+}
+
+#[test]
+fn writes_lists(rt: HostRuntime) {
+    let mut out = Vec::new(rt.alloc());
+    let none: [u32; 0] = [];
+    assert_eq!(rt; put_list(&mut out, &none), Ok(()));
+    assert_eq!(rt; put_list(&mut out, &[7_u32]), Ok(()));
+    assert_eq!(rt; put_list(&mut out, &[1_u32, 20, 4294967295]), Ok(()));
+    assert_eq!(rt; out.as_slice(), b"-71,20,4294967295".as_slice());
+}
+
+#[test]
+fn writes_sets(rt: HostRuntime) {
+    let none = CaseSet::empty();
+    let one = none.with(3);
+    let some = one.with(16).with(1);
+    let mut out = Vec::new(rt.alloc());
+    let parts = [
+        Part::Cases(none),
+        Part::Text(b" "),
+        Part::Cases(one),
+        Part::Text(b" "),
+        Part::Cases(some),
+    ];
+    assert_eq!(rt; put_parts(&mut out, &parts), Ok(()));
+    assert_eq!(rt; out.as_slice(), b"- 3 1,3,16".as_slice());
+}

@@ -1,0 +1,12 @@
+//! Tests of the service's library by its public calls. What it answers to single lines is shown on the
+//! program itself.
+#![tactic(auto)]
+
+#[cfg(test)]
+mod buffer;
+#[cfg(test)]
+mod devices;
+#[cfg(test)]
+mod replays;
+#[cfg(test)]
+mod words;

@@ -1,0 +1,60 @@
+// The words of the command line.
+
+use clap::Error;
+use clap::error::ErrorKind;
+use reset_service::{Job, LineFault, no_text, read_words};
+use std::alloc::{AllocError, Global};
+
+// The kind of clap's error at these words.
+fn kind_at(alloc: Global, words: &[&str]) -> Option<ErrorKind> {
+    match read_words(alloc, words) {
+        Err(LineFault::BadWords(error)) => Some(error.kind()),
+        _ => None,
+    }
+}
+
+#[test]
+fn jobs(rt: HostRuntime) {
+    let alloc = rt.alloc();
+    let paths = Job::Replay {
+        topology: "a",
+        script: "b c",
+    };
+    assert!(rt; matches!(read_words(alloc, &["reset-service"]), Ok(Job::Joined)));
+    assert!(rt;
+        matches!(
+            read_words(alloc, &["reset-service", "tables"]),
+            Ok(Job::Tables)
+        )
+    );
+    let words = ["reset-service", "replay", "a", "b c"];
+    assert!(rt; matches!(read_words(alloc, &words), Ok(job) if job == paths));
+}
+
+#[test]
+fn mistakes_and_help(rt: HostRuntime) {
+    let alloc = rt.alloc();
+    let program = "reset-service";
+    let mistake = Some(ErrorKind::UnknownArgument);
+    let missing = Some(ErrorKind::MissingRequiredArgument);
+    let help = Some(ErrorKind::DisplayHelp);
+    assert!(rt;
+        kind_at(alloc, &[program, "check", "a", "b"]) == Some(ErrorKind::InvalidSubcommand)
+    );
+    assert!(rt; kind_at(alloc, &[program, "replay", "a", "b", "c"]) == mistake);
+    assert!(rt; kind_at(alloc, &[program, "replay", "a"]) == missing);
+    assert!(rt; kind_at(alloc, &[program, "--help"]) == help);
+    assert!(rt; kind_at(alloc, &[program, "replay", "--help"]) == help);
+}
+
+#[test]
+fn faults(rt: HostRuntime) {
+    assert!(rt; matches!(no_text(rt.alloc()), LineFault::BadWords(_)));
+    assert!(rt; matches!(LineFault::from(AllocError), LineFault::NoMemory));
+    assert!(rt;
+        matches!(
+            LineFault::from(Error::from(AllocError)),
+            LineFault::NoMemory
+        )
+    );
+}
