@@ -1,15 +1,9 @@
+use crate::texts::text_of;
 use app_interface::{
     Application, ClockRefusal, Here, Idle, LocalFault, Seen, is_id, read_id, seen_at,
 };
-use std::alloc::Global;
 use std::test::Fail;
 use topology::{NodeId, Topology};
-
-fn text_of<P: Application>(alloc: Global, local: &P::Local) -> Vec<u8> {
-    let mut out = Vec::new(alloc);
-    let _ = P::show(local, &mut out);
-    out
-}
 
 #[test]
 fn idles(rt: HostRuntime) -> Result<(), Fail> {

@@ -8,4 +8,6 @@ mod mutex;
 #[cfg(test)]
 mod routes;
 #[cfg(test)]
+mod texts;
+#[cfg(test)]
 mod token;

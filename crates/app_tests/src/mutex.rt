@@ -1,7 +1,6 @@
-use action_tables::print_rows;
-use app_interface::{Application, ClockRefusal, Here, LocalFault, Reads, Seen};
-use app_mutex::{EdgeReversal, MutexLocal, app_rows};
-use std::alloc::Global;
+use crate::texts::text_of;
+use app_interface::{Application, Here, LocalFault, Reads, Seen};
+use app_mutex::{EdgeReversal, MutexLocal};
 use std::test::Fail;
 use topology::Topology;
 
@@ -24,12 +23,6 @@ const IN_1: MutexLocal = MutexLocal {
     inside: true,
     bit: true,
 };
-
-fn text_of<P: Application>(alloc: Global, local: &P::Local) -> Vec<u8> {
-    let mut out = Vec::new(alloc);
-    let _ = P::show(local, &mut out);
-    out
-}
 
 fn at(id: u32) -> Here {
     Here { id, k: 3 }
@@ -98,52 +91,6 @@ fn hands_the_turns_on(rt: HostRuntime) -> Result<(), Fail> {
 }
 
 #[test]
-fn enters_alone(rt: HostRuntime) {
-    for (own, entered) in [(OUT_0, IN_0), (OUT_1, IN_1)] {
-        assert!(rt; EdgeReversal::can(at(7), 1, None, &own, &[]));
-        assert_eq!(rt;
-            EdgeReversal::on_clock(rt.alloc(), at(7), 1, None, &own, &[]),
-            Ok(entered)
-        );
-    }
-}
-
-#[test]
-fn turns_its_bit_back(rt: HostRuntime) {
-    assert_eq!(rt;
-        EdgeReversal::on_clock(rt.alloc(), at(7), 2, None, &IN_1, &[]),
-        Ok(OUT_0)
-    );
-}
-
-#[test]
-fn refuses_what_is_not_enabled(rt: HostRuntime) {
-    let alloc = rt.alloc();
-    let near = [Seen {
-        id: 9,
-        local: &OUT_0,
-    }];
-    for (case, with, own) in [
-        (1, None, &IN_0),
-        (1, None, &OUT_1),
-        (2, None, &OUT_0),
-        (2, None, &OUT_1),
-        (0, None, &OUT_0),
-        (0, None, &IN_0),
-        (3, None, &OUT_0),
-        (3, None, &IN_0),
-        (1, Some(9), &OUT_0),
-        (2, Some(9), &IN_0),
-    ] {
-        assert!(rt; !EdgeReversal::can(at(7), case, with, own, &near));
-        assert_eq!(rt;
-            EdgeReversal::on_clock(alloc, at(7), case, with, own, &near),
-            Err(ClockRefusal::NotEnabled)
-        );
-    }
-}
-
-#[test]
 fn reads_what_it_shows(rt: HostRuntime) -> Result<(), Fail> {
     let alloc = rt.alloc();
     for (local, text) in [
@@ -193,16 +140,6 @@ fn tells_local_states_apart(rt: HostRuntime) -> Result<(), Fail> {
         assert!(rt; !EdgeReversal::same(&IN_0, other));
     }
     Ok(())
-}
-
-#[test]
-fn prints_its_table(rt: HostRuntime) {
-    let mut out = Vec::new(rt.alloc());
-    assert_eq!(rt; print_rows("mutex", &app_rows(), &mut out), Ok(()));
-    let table = b"table mutex\n\
-        1 enter | not in, every link's turn is held | in := yes\n\
-        2 leave | in | in := no; bit := not bit\n";
-    assert_eq!(rt; out.as_slice(), table.as_slice());
 }
 
 #[test]

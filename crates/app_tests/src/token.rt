@@ -1,23 +1,8 @@
-use action_tables::print_rows;
-use app_interface::{Application, ClockRefusal, Here, LocalFault, Reads, Seen};
-use app_token::{Bits, Token, TokenLocal, app_rows};
-use std::alloc::Global;
+use crate::texts::text_of;
+use app_interface::{Application, Here, LocalFault, Reads, Seen};
+use app_token::Token;
 use std::test::Fail;
 use topology::Topology;
-
-fn text_of<P: Application>(alloc: Global, local: &P::Local) -> Vec<u8> {
-    let mut out = Vec::new(alloc);
-    let _ = P::show(local, &mut out);
-    out
-}
-
-// The text of what a pass of node 7 leaves; none where it is refused.
-fn text_after_pass(alloc: Global, own: &TokenLocal, neighbour: u32) -> Vec<u8> {
-    match Token::on_clock(alloc, at(7), 1, Some(neighbour), own, &[]) {
-        Ok(passed) => text_of::<Token>(alloc, &passed),
-        Err(_) => Vec::new(alloc),
-    }
-}
 
 fn at(id: u32) -> Here {
     Here { id, k: 3 }
@@ -62,75 +47,6 @@ fn passes_the_token_and_takes_it(rt: HostRuntime) -> Result<(), Fail> {
         b"hold/-/3".as_slice()
     );
     assert!(rt; !Token::can(at(2), 2, Some(3), &taken, &near));
-    Ok(())
-}
-
-#[test]
-fn turns_a_bit_back(rt: HostRuntime) -> Result<(), Fail> {
-    let alloc = rt.alloc();
-    let holder = Token::read_local(alloc, b"hold/1,2,5,9,12/3")?;
-    for (neighbour, text) in [
-        (5, b"free/1,2,9,12/3".as_slice()),
-        (1, b"free/2,5,9,12/3".as_slice()),
-        (3, b"free/1,2,3,5,9,12/3".as_slice()),
-        (65535, b"free/1,2,5,9,12,65535/3".as_slice()),
-    ] {
-        assert_eq!(rt; text_after_pass(alloc, &holder, neighbour).as_slice(), text);
-    }
-    Ok(())
-}
-
-#[test]
-fn refuses_what_is_not_enabled(rt: HostRuntime) -> Result<(), Fail> {
-    let alloc = rt.alloc();
-    let holder = Token::read_local(alloc, b"hold/-/-")?;
-    let free = Token::read_local(alloc, b"free/-/-")?;
-    let near = [Seen {
-        id: 2,
-        local: &holder,
-    }];
-    for (case, with, own) in [
-        (1, Some(2), &free),
-        (1, None, &holder),
-        (1, Some(0), &holder),
-        (1, Some(65536), &holder),
-        (2, Some(2), &free),
-        (2, Some(2), &holder),
-        (2, Some(4), &free),
-        (2, None, &free),
-        (0, Some(2), &holder),
-        (3, Some(2), &holder),
-    ] {
-        assert!(rt; !Token::can(at(3), case, with, own, &near));
-        let answer = Token::on_clock(alloc, at(3), case, with, own, &near);
-        assert_eq!(rt; answer.err(), Some(ClockRefusal::NotEnabled));
-    }
-    Ok(())
-}
-
-#[test]
-fn keeps_identifiers_that_are_no_nodes(rt: HostRuntime) -> Result<(), Fail> {
-    let alloc = rt.alloc();
-    let holder = Token::read_local(alloc, b"hold/8/9")?;
-    assert!(rt; Token::can(at(7), 1, Some(2), &holder, &[]));
-    let passed = text_after_pass(alloc, &holder, 2);
-    assert_eq!(rt; passed.as_slice(), b"free/2,8/9".as_slice());
-
-    let free = Token::read_local(alloc, b"free/8/9")?;
-    let sent = Token::read_local(alloc, b"free/7,99/98")?;
-    let near = [Seen {
-        id: 2,
-        local: &sent,
-    }];
-    assert!(rt; Token::can(at(7), 2, Some(2), &free, &near));
-    let taken = Token::on_clock(alloc, at(7), 2, Some(2), &free, &near)?;
-    let text = text_of::<Token>(alloc, &taken);
-    assert_eq!(rt; text.as_slice(), b"hold/8/2,9".as_slice());
-    for stranger in [8, 9, 98, 99] {
-        assert!(rt; !Token::can(at(7), 2, Some(stranger), &free, &near));
-        let answer = Token::on_clock(alloc, at(7), 2, Some(stranger), &free, &near);
-        assert_eq!(rt; answer.err(), Some(ClockRefusal::NotEnabled));
-    }
     Ok(())
 }
 
@@ -214,16 +130,6 @@ fn refuses_other_texts(rt: HostRuntime) {
         let answer = Token::read_local(alloc, text);
         assert_eq!(rt; answer.err(), Some(LocalFault::BadLocal));
     }
-}
-
-#[test]
-fn prints_its_table(rt: HostRuntime) {
-    let mut out = Vec::new(rt.alloc());
-    assert_eq!(rt; print_rows("token", &app_rows(), &mut out), Ok(()));
-    let table = b"table token\n\
-        1 pass | hold | hold := no; given[j] := not given[j]\n\
-        2 take | not hold, given.j[id] != taken[j] | hold := yes; taken[j] := not taken[j]\n";
-    assert_eq!(rt; out.as_slice(), table.as_slice());
 }
 
 #[test]

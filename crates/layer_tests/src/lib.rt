@@ -11,8 +11,6 @@ mod slow;
 #[cfg(test)]
 mod topologies;
 #[cfg(test)]
-mod topology_texts;
-#[cfg(test)]
 mod tree;
 #[cfg(test)]
 mod wave;

@@ -27,24 +27,6 @@ fn reads_numbers(rt: HostRuntime) {
 }
 
 #[test]
-fn refuses_other_words(rt: HostRuntime) {
-    for word in [
-        b"".as_slice(),
-        b"4294967296".as_slice(),
-        b"99999999999999999999999".as_slice(),
-        b"-0".as_slice(),
-        b"+1".as_slice(),
-        b"00".as_slice(),
-        b"01".as_slice(),
-        b" 1".as_slice(),
-        b"1a".as_slice(),
-        b"1\xff".as_slice(),
-    ] {
-        assert_eq!(rt; read_number(word), None);
-    }
-}
-
-#[test]
 fn cuts_at_the_first(rt: HostRuntime) {
     let parts = (b"1".as_slice(), b"0:1".as_slice());
     assert_eq!(rt; cut(b"1:0:1", b':'), Some(parts));

@@ -1,10 +1,7 @@
-use std::alloc::Global;
-use std::test::Fail;
-use topology::{NodeId, TopoFault, Topology};
+// Graphs and what their readers tell. What a bad topology is answered with is shown on the program itself.
 
-fn fault_of(alloc: Global, nodes: &[u32], links: &[(u32, u32)]) -> Option<TopoFault> {
-    Topology::build(alloc, nodes, links).err()
-}
+use std::test::Fail;
+use topology::{AppName, NodeId, Topology, read_topology};
 
 #[test]
 fn reads_a_line_given_in_mixed_order(rt: HostRuntime) -> Result<(), Fail> {
@@ -21,23 +18,6 @@ fn reads_a_line_given_in_mixed_order(rt: HostRuntime) -> Result<(), Fail> {
     assert!(rt; line.linked(1, 2) && line.linked(3, 2));
     assert!(rt; !line.linked(1, 3) && !line.linked(2, 2) && !line.linked(2, 9));
     assert_eq!(rt; line.greatest().get(), 3);
-    Ok(())
-}
-
-#[test]
-fn finds_indexes_of_identifiers_with_gaps(rt: HostRuntime) -> Result<(), Fail> {
-    let line = Topology::build(rt.alloc(), &[9, 3, 7], &[(3, 7), (9, 7)])?;
-    assert_eq!(rt; line.index_of(3), Some(0));
-    assert_eq!(rt; line.index_of(7), Some(1));
-    assert_eq!(rt; line.index_of(9), Some(2));
-    assert_eq!(rt; line.index_of(0), None);
-    assert_eq!(rt; line.index_of(1), None);
-    assert_eq!(rt; line.index_of(4), None);
-    assert_eq!(rt; line.index_of(8), None);
-    assert_eq!(rt; line.index_of(10), None);
-    assert_eq!(rt; line.index_of(65535), None);
-    assert_eq!(rt; line.index_of(65536), None);
-    assert_eq!(rt; line.index_of(u32::MAX), None);
     Ok(())
 }
 
@@ -64,77 +44,11 @@ fn measures_a_cycle_of_four(rt: HostRuntime) -> Result<(), Fail> {
 }
 
 #[test]
-fn takes_one_node_with_no_link(rt: HostRuntime) -> Result<(), Fail> {
-    let single = Topology::build(rt.alloc(), &[65535], &[])?;
-    assert_eq!(rt; single.len(), 1);
-    assert_eq!(rt; single.link_count(), 0);
-    assert_eq!(rt; single.greatest().get(), 65535);
-    assert_eq!(rt; single.neighbours(0), [].as_slice());
-    Ok(())
-}
-
-#[test]
-fn names_the_faults_of_nodes(rt: HostRuntime) -> Result<(), Fail> {
-    let alloc = rt.alloc();
-    let most: Vec<u32> = (1..1025).collect(alloc)?;
-    let more: Vec<u32> = (1..1026).collect(alloc)?;
-    assert_eq!(rt; fault_of(alloc, &[], &[]), Some(TopoFault::NoNodes));
-    assert_eq!(rt; fault_of(alloc, &more, &[]), Some(TopoFault::TooManyNodes));
-    assert_eq!(rt;
-        fault_of(alloc, &most, &[]),
-        Some(TopoFault::Disconnected(2))
-    );
-    assert_eq!(rt; fault_of(alloc, &[1, 1, 0], &[]), Some(TopoFault::BadId(0)));
-    assert_eq!(rt;
-        fault_of(alloc, &[65535, 65536], &[]),
-        Some(TopoFault::BadId(65536))
-    );
-    assert_eq!(rt;
-        fault_of(alloc, &[4294967295, 0], &[]),
-        Some(TopoFault::BadId(4294967295))
-    );
-    assert_eq!(rt;
-        fault_of(alloc, &[1, 1], &[(2, 2)]),
-        Some(TopoFault::TwiceNode(1))
-    );
-    Ok(())
-}
-
-#[test]
-fn names_the_faults_of_links(rt: HostRuntime) -> Result<(), Fail> {
-    let alloc = rt.alloc();
-    let many = vec![in alloc; (1, 1); 8193]?;
-    assert_eq!(rt; fault_of(alloc, &[1], &many), Some(TopoFault::TooManyLinks));
-    assert_eq!(rt;
-        fault_of(alloc, &[1, 2], &[(1, 1), (1, 9)]),
-        Some(TopoFault::StrangeNode(9))
-    );
-    assert_eq!(rt;
-        fault_of(alloc, &[1], &[(1, 1)]),
-        Some(TopoFault::SelfLink(1))
-    );
-    assert_eq!(rt;
-        fault_of(alloc, &[1, 2], &[(1, 2), (2, 1)]),
-        Some(TopoFault::TwiceLink(1, 2))
-    );
-    assert_eq!(rt;
-        fault_of(alloc, &[1, 2, 4], &[(1, 2)]),
-        Some(TopoFault::Disconnected(4))
-    );
-    Ok(())
-}
-
-#[test]
-fn writes_faults(rt: HostRuntime) -> Result<(), Fail> {
-    let alloc = rt.alloc();
-    assert_eq!(rt; TopoFault::NoNodes.to_string(alloc)?.as_str(), "NoNodes");
-    assert_eq!(rt;
-        TopoFault::BadId(70000).to_string(alloc)?.as_str(),
-        "BadId 70000"
-    );
-    assert_eq!(rt;
-        TopoFault::TwiceLink(1, 2).to_string(alloc)?.as_str(),
-        "TwiceLink 1 2"
-    );
+fn reads_the_text_of_a_line(rt: HostRuntime) -> Result<(), Fail> {
+    let text = b"nodes = [1, 2, 3]\nlinks = [[1, 2], [2, 3]]\napp = \"routes\"\n";
+    let (topology, app) = read_topology(rt.alloc(), text)?;
+    assert_eq!(rt; topology.len(), 3);
+    assert!(rt; topology.linked(1, 2) && topology.linked(3, 2) && !topology.linked(1, 3));
+    assert_eq!(rt; app, AppName::Routes);
     Ok(())
 }

@@ -1,8 +1,6 @@
-// The table agrees with a plain one, written apart, at the edges of the registers, and prints as it
-// is documented.
+// The table of the tree agrees with a plain one, written apart, at the edges of the registers.
 
-use action_tables::print_rows;
-use tree_layer::{TreeRefusal, TreeRegs, TreeView, tree_enabled, tree_fire, tree_good, tree_rows};
+use tree_layer::{TreeRefusal, TreeRegs, TreeView, tree_enabled, tree_fire, tree_good};
 
 const ID: u32 = 2;
 
@@ -141,22 +139,4 @@ fn agrees_with_a_plain_table(rt: HostRuntime) {
             }
         }
     }
-}
-
-#[test]
-fn prints_its_rows(rt: HostRuntime) {
-    let mut out = Vec::new(rt.alloc());
-    let expected = b"\
-table tree
-1 claim-low | root < id | root, father, dist := id, id, 0
-2 claim-self | father = id, and root != id or dist != 0 | root, father, dist := id, id, 0
-3 claim-stray | father is neither id nor a neighbour | root, father, dist := id, id, 0
-4 claim-far | dist >= K | root, father, dist := id, id, 0
-5 follow-root | father = j a neighbour, dist < K, root != root.j | root, dist := root.j, min(dist.j + 1, K)
-6 follow-dist | father = j a neighbour, dist < K, root = root.j, dist != dist.j + 1 | root, dist := root.j, min(dist.j + 1, K)
-7 adopt-root | j a neighbour, dist.j < K, root < root.j | root, father, dist := root.j, j, dist.j + 1
-8 adopt-short | j a neighbour, dist.j < K, root = root.j, dist.j + 1 < dist | root, father, dist := root.j, j, dist.j + 1
-";
-    assert_eq!(rt; print_rows("tree", &tree_rows(), &mut out), Ok(()));
-    assert_eq!(rt; out.as_slice(), expected.as_slice());
 }

@@ -48,13 +48,6 @@ fn writes_numbers(rt: HostRuntime) -> Result<(), Fail> {
 }
 
 #[test]
-fn names_the_fault(rt: HostRuntime) -> Result<(), Fail> {
-    let text = format!(in rt.alloc(); "{WriteFault}")?;
-    assert_eq!(rt; text.as_str(), "the output failed");
-    Ok(())
-}
-
-#[test]
 fn stops_at_the_first_fault(rt: HostRuntime) {
     let row = CaseRow {
         number: 12,

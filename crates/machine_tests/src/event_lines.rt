@@ -42,47 +42,6 @@ fn action(at: u32, case: u8, with: Option<u32>) -> Event {
 }
 
 #[test]
-fn refuses_other_lines(rt: HostRuntime) {
-    let lines = [
-        b"".as_slice(),
-        b"open".as_slice(),
-        b"open ".as_slice(),
-        b"open 03".as_slice(),
-        b"open  3".as_slice(),
-        b" open 3".as_slice(),
-        b"open 3 ".as_slice(),
-        b"open 3\n".as_slice(),
-        b"open 3 4".as_slice(),
-        b"Open 3".as_slice(),
-        b"open +3".as_slice(),
-        b"open 3x".as_slice(),
-        b"open 4294967296".as_slice(),
-        b"claim 3 4".as_slice(),
-        b"adopt 3".as_slice(),
-        b"relay 2".as_slice(),
-        b"relay 2 01".as_slice(),
-        b"relay 2 1 1".as_slice(),
-        b"opens 3".as_slice(),
-        b"act".as_slice(),
-        b"act 3".as_slice(),
-        b"act 3 256".as_slice(),
-        b"act 3 256 2".as_slice(),
-        b"act 3 pass 2".as_slice(),
-        b"act 3 1 2 4".as_slice(),
-        b"act 3 01".as_slice(),
-        b"act 3 1 ".as_slice(),
-        b"act 3 1 02".as_slice(),
-        b"act 3  1".as_slice(),
-        b"act 3 1  2".as_slice(),
-        b"act 3 1 4294967296".as_slice(),
-        b"adopt 3 1 2".as_slice(),
-    ];
-    for line in lines {
-        assert_eq!(rt; read_event(line), None);
-    }
-}
-
-#[test]
 fn cuts_at_the_first_space(rt: HostRuntime) {
     let cut = (b"show".as_slice(), b"3".as_slice());
     assert_eq!(rt; split_word(b"show 3"), Some(cut));

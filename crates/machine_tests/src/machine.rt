@@ -41,55 +41,6 @@ fn boots_the_line(rt: HostRuntime) {
 }
 
 #[test]
-fn one_wave_completes(rt: HostRuntime) {
-    let mut config = line(&rt, rt.alloc());
-    let events = [
-        Event::Request { at: 1 },
-        Event::Relay { at: 2, child: 1 },
-        Event::Relay { at: 3, child: 2 },
-        Event::Open { at: 3 },
-        Event::Join { at: 2 },
-        Event::Join { at: 1 },
-        Event::Finish { at: 1 },
-        Event::Finish { at: 2 },
-    ];
-    for event in events {
-        assert_eq!(rt; config.step(rt.alloc(), event), Ok(Reply::Applied));
-    }
-    let last = config.step(rt.alloc(), Event::Finish { at: 3 });
-    assert_eq!(rt; last, Ok(Reply::Complete(1)));
-    assert_eq!(rt; config.newest_session(), 1);
-    let done = WaveRegs {
-        phase: Phase::Normal,
-        session: 1,
-    };
-    assert_eq!(rt; waves(&rt, &config), [done, done, done]);
-}
-
-#[test]
-fn refuses_in_order(rt: HostRuntime) {
-    let mut config = line(&rt, rt.alloc());
-    let refused = [
-        (Event::Request { at: 9 }, StepRefusal::StrangeNode),
-        (Event::Relay { at: 9, child: 9 }, StepRefusal::StrangeNode),
-        (
-            Event::Relay { at: 3, child: 1 },
-            StepRefusal::StrangeNeighbour,
-        ),
-        (Event::Relay { at: 1, child: 2 }, StepRefusal::NotEnabled),
-        (Event::Open { at: 3 }, StepRefusal::NotEnabled),
-        (Event::Join { at: 1 }, StepRefusal::NotEnabled),
-        (Event::Finish { at: 3 }, StepRefusal::NotEnabled),
-        (Event::Mend { at: 1 }, StepRefusal::NotEnabled),
-    ];
-    let before = waves(&rt, &config);
-    for (event, refusal) in refused {
-        assert_eq!(rt; config.step(rt.alloc(), event), Err(refusal));
-        assert_eq!(rt; waves(&rt, &config), before);
-    }
-}
-
-#[test]
 fn a_copy_keeps_its_session(rt: HostRuntime) {
     let mut config = line(&rt, rt.alloc());
     let copy = match config.copy(rt.alloc()) {
@@ -122,45 +73,6 @@ fn a_copy_keeps_its_session(rt: HostRuntime) {
 }
 
 #[test]
-fn a_run_goes_on_after_a_refusal(rt: HostRuntime) {
-    let mut config = line(&rt, rt.alloc());
-    let events = [
-        Event::Open { at: 3 },
-        Event::Request { at: 9 },
-        Event::Request { at: 1 },
-    ];
-    let answers = match config.run(rt.alloc(), &events) {
-        Ok(answers) => answers,
-        Err(_) => panic!(rt; "memory for the answers"),
-    };
-    let expected = [
-        Done::Refused(StepRefusal::NotEnabled),
-        Done::Refused(StepRefusal::StrangeNode),
-        Done::Did(Reply::Applied),
-    ];
-    assert_eq!(rt; answers.as_slice(), expected.as_slice());
-}
-
-#[test]
-fn a_request_makes_its_father_ready(rt: HostRuntime) {
-    let mut config = line(&rt, rt.alloc());
-    assert_eq!(rt;
-        config.ready(rt.alloc()).expect(&rt, "memory").as_slice(),
-        [].as_slice()
-    );
-    assert!(rt; config.step(rt.alloc(), Event::Request { at: 1 }).is_ok());
-    assert_eq!(rt;
-        config.ready(rt.alloc()).expect(&rt, "memory").as_slice(),
-        [2].as_slice()
-    );
-    let enabled = config.enabled(rt.alloc(), 2).expect(&rt, "a node");
-    assert_eq!(rt; enabled.tree.count(), 0);
-    assert_eq!(rt; enabled.wave.count(), 2);
-    assert!(rt; enabled.wave.has(1) && enabled.wave.has(2));
-    assert_eq!(rt; enabled.act.count(), 0);
-}
-
-#[test]
 fn strangers_have_no_registers(rt: HostRuntime) {
     let mut config = line(&rt, rt.alloc());
     let tree = config.tree_at(1).expect(&rt, "a node");
@@ -171,22 +83,6 @@ fn strangers_have_no_registers(rt: HostRuntime) {
         config.enabled(rt.alloc(), 4),
         Err(StepRefusal::StrangeNode)
     );
-}
-
-#[test]
-fn acts_are_refused_in_order(rt: HostRuntime) {
-    let mut config = line(&rt, rt.alloc());
-    let act = |at, case, with| Event::Act { at, case, with };
-    let refused = [
-        (act(9, 1, Some(2)), StepRefusal::StrangeNode),
-        (act(1, 1, Some(3)), StepRefusal::StrangeNeighbour),
-        (act(1, 0, None), StepRefusal::NoSuchCase),
-        (act(1, 1, Some(2)), StepRefusal::NoSuchCase),
-        (act(3, 255, None), StepRefusal::NoSuchCase),
-    ];
-    for (event, refusal) in refused {
-        assert_eq!(rt; config.step(rt.alloc(), event), Err(refusal));
-    }
 }
 
 #[test]
