@@ -1,35 +1,29 @@
-use crate::texts::text_of;
-use app_interface::{
-    Application, ClockRefusal, Here, Idle, LocalFault, Seen, is_id, read_id, seen_at,
-};
+// The application without cases, and what all applications use: identifiers, and what is seen of a name.
+
+use crate::texts::{Step, acted, are_same, is_bad, shown, started};
+use app_interface::{Application, Idle, Seen, is_id, read_id, seen_at};
 use std::test::Fail;
-use topology::{NodeId, Topology};
+use topology::NodeId;
 
 #[test]
 fn idles(rt: HostRuntime) -> Result<(), Fail> {
-    let alloc = rt.alloc();
-    let single = Topology::build(alloc, &[7], &[])?;
-    let here = Here { id: 7, k: 1 };
-    assert_eq!(rt; Idle::cases(), 0);
-    assert_eq!(rt; Idle::case_name(1), None);
-    assert_eq!(rt; Idle::reads(1), None);
-    let own = Idle::on_start(alloc, &single, 0)?;
-    assert!(rt; !Idle::can(here, 1, None, &own, &[]));
-    assert_eq!(rt;
-        Idle::on_clock(alloc, here, 1, None, &own, &[]),
-        Err(ClockRefusal::NotEnabled)
-    );
-    let copy = Idle::copy(alloc, &own)?;
-    assert!(rt; Idle::same(&own, &copy));
-    Idle::known(&own);
-    assert_eq!(rt; text_of::<Idle>(alloc, &own).as_slice(), b"-".as_slice());
+    let step = Step {
+        id: 7,
+        case: 1,
+        with: None,
+        own: b"-",
+        seen: None,
+    };
+    assert!(rt; Idle::cases() == 0 && Idle::case_name(1).is_none() && Idle::reads(1).is_none());
+    assert!(rt; started::<Idle>(rt.alloc(), 0)?.as_slice() == b"-".as_slice());
+    assert!(rt; acted::<Idle>(rt.alloc(), step)?.is_empty());
+    assert!(rt; are_same::<Idle>(rt.alloc(), b"-", b"-")?);
+    assert!(rt; shown::<Idle>(rt.alloc(), b"-")?.as_slice() == b"-".as_slice());
     Ok(())
 }
 
 #[test]
 fn reads_a_dash_alone(rt: HostRuntime) {
-    let alloc = rt.alloc();
-    assert_eq!(rt; Idle::read_local(alloc, b"-"), Ok(()));
     for text in [
         b"".as_slice(),
         b"--".as_slice(),
@@ -39,7 +33,7 @@ fn reads_a_dash_alone(rt: HostRuntime) {
         b"0".as_slice(),
         b"hold/-/-".as_slice(),
     ] {
-        assert_eq!(rt; Idle::read_local(alloc, text), Err(LocalFault::BadLocal));
+        assert!(rt; is_bad::<Idle>(rt.alloc(), text));
     }
 }
 

@@ -1,106 +1,103 @@
-use crate::texts::text_of;
-use app_interface::{Application, Here, LocalFault, Reads, Seen};
-use app_mutex::{EdgeReversal, MutexLocal};
+// Nodes enter and leave by turns.
+
+use crate::texts::{Step, acted, are_same, is_bad, shown, started};
+use app_interface::{Application, Reads};
+use app_mutex::EdgeReversal;
 use std::test::Fail;
-use topology::Topology;
-
-const OUT_0: MutexLocal = MutexLocal {
-    inside: false,
-    bit: false,
-};
-
-const OUT_1: MutexLocal = MutexLocal {
-    inside: false,
-    bit: true,
-};
-
-const IN_0: MutexLocal = MutexLocal {
-    inside: true,
-    bit: false,
-};
-
-const IN_1: MutexLocal = MutexLocal {
-    inside: true,
-    bit: true,
-};
-
-fn at(id: u32) -> Here {
-    Here { id, k: 3 }
-}
 
 #[test]
-fn starts_out(rt: HostRuntime) -> Result<(), Fail> {
-    let alloc = rt.alloc();
-    let line = Topology::build(alloc, &[1, 2, 3], &[(1, 2), (2, 3)])?;
-    for index in 0..3 {
-        let local = EdgeReversal::on_start(alloc, &line, index)?;
-        assert_eq!(rt; local, OUT_0);
-        assert_eq!(rt;
-            text_of::<EdgeReversal>(alloc, &local).as_slice(),
-            b"out/0".as_slice()
+fn starts(rt: HostRuntime) -> Result<(), Fail> {
+    for (index, text) in [
+        b"out/0".as_slice(),
+        b"out/0".as_slice(),
+        b"out/0".as_slice(),
+    ]
+    .into_iter()
+    .enumerate()
+    {
+        assert!(rt;
+            started::<EdgeReversal>(rt.alloc(), index)?.as_slice() == text,
+            "node {index}"
         );
     }
     Ok(())
 }
 
-// On the line 1, 2, 3 node 1 enters and leaves, and then node 2 may enter.
 #[test]
 fn hands_the_turns_on(rt: HostRuntime) -> Result<(), Fail> {
-    let alloc = rt.alloc();
-    let second = [Seen {
-        id: 2,
-        local: &OUT_0,
-    }];
-    let around = [
-        Seen {
-            id: 1,
-            local: &OUT_0,
-        },
-        Seen {
-            id: 3,
-            local: &OUT_0,
-        },
-    ];
-    assert!(rt; EdgeReversal::can(at(1), 1, None, &OUT_0, &second));
-    assert!(rt; !EdgeReversal::can(at(2), 1, None, &OUT_0, &around));
-    assert!(rt; !EdgeReversal::can(at(3), 1, None, &OUT_0, &second));
+    for (id, case, with, own, seen, left) in [
+        (
+            1,
+            1,
+            None,
+            b"out/0".as_slice(),
+            Some((2, b"out/0".as_slice())),
+            b"in/0".as_slice(),
+        ),
+        (
+            3,
+            1,
+            None,
+            b"out/0".as_slice(),
+            Some((2, b"out/0".as_slice())),
+            b"".as_slice(),
+        ),
+        (1, 2, None, b"in/0".as_slice(), None, b"out/1".as_slice()),
+        (
+            1,
+            1,
+            None,
+            b"out/1".as_slice(),
+            Some((2, b"out/0".as_slice())),
+            b"".as_slice(),
+        ),
+        (
+            2,
+            1,
+            None,
+            b"out/0".as_slice(),
+            Some((1, b"out/1".as_slice())),
+            b"in/0".as_slice(),
+        ),
+        (7, 2, None, b"in/1".as_slice(), None, b"out/0".as_slice()),
+    ] {
+        let step = Step {
+            id,
+            case,
+            with,
+            own,
+            seen,
+        };
+        assert!(rt;
+            acted::<EdgeReversal>(rt.alloc(), step)?.as_slice() == left,
+            "node {id}, case {case}"
+        );
+    }
+    Ok(())
+}
 
-    let entered = EdgeReversal::on_clock(alloc, at(1), 1, None, &OUT_0, &second)?;
-    assert_eq!(rt; entered, IN_0);
-    assert!(rt; EdgeReversal::can(at(1), 2, None, &entered, &[]));
-    let left = EdgeReversal::on_clock(alloc, at(1), 2, None, &entered, &[])?;
-    assert_eq!(rt; left, OUT_1);
-
-    let around = [
-        Seen {
-            id: 1,
-            local: &left,
-        },
-        Seen {
-            id: 3,
-            local: &OUT_0,
-        },
-    ];
-    assert!(rt; !EdgeReversal::can(at(1), 1, None, &left, &second));
-    assert!(rt; EdgeReversal::can(at(2), 1, None, &OUT_0, &around));
-    assert_eq!(rt;
-        EdgeReversal::on_clock(alloc, at(2), 1, None, &OUT_0, &around),
-        Ok(IN_0)
-    );
+#[test]
+fn tells_local_states_apart(rt: HostRuntime) -> Result<(), Fail> {
+    for (other, same) in [
+        (b"in/0".as_slice(), true),
+        (b"in/1".as_slice(), false),
+        (b"out/0".as_slice(), false),
+        (b"out/1".as_slice(), false),
+    ] {
+        assert!(rt; are_same::<EdgeReversal>(rt.alloc(), b"in/0", other)? == same);
+    }
     Ok(())
 }
 
 #[test]
 fn reads_what_it_shows(rt: HostRuntime) -> Result<(), Fail> {
-    let alloc = rt.alloc();
-    for (local, text) in [
-        (OUT_0, b"out/0".as_slice()),
-        (OUT_1, b"out/1".as_slice()),
-        (IN_0, b"in/0".as_slice()),
-        (IN_1, b"in/1".as_slice()),
+    for text in [
+        b"out/0".as_slice(),
+        b"out/1".as_slice(),
+        b"in/0".as_slice(),
+        b"in/1".as_slice(),
     ] {
-        assert_eq!(rt; EdgeReversal::read_local(alloc, text), Ok(local));
-        assert_eq!(rt; text_of::<EdgeReversal>(alloc, &local).as_slice(), text);
+        assert!(rt; shown::<EdgeReversal>(rt.alloc(), text)?.as_slice() == text);
     }
     Ok(())
 }
@@ -124,33 +121,20 @@ fn refuses_other_texts(rt: HostRuntime) {
         b"out 0".as_slice(),
         b"in/\xff".as_slice(),
     ] {
-        assert_eq!(rt;
-            EdgeReversal::read_local(rt.alloc(), text),
-            Err(LocalFault::BadLocal)
-        );
+        assert!(rt; is_bad::<EdgeReversal>(rt.alloc(), text));
     }
-}
-
-#[test]
-fn tells_local_states_apart(rt: HostRuntime) -> Result<(), Fail> {
-    let copy = EdgeReversal::copy(rt.alloc(), &IN_0)?;
-    assert!(rt; EdgeReversal::same(&IN_0, &copy));
-    EdgeReversal::known(&copy);
-    for other in [&IN_1, &OUT_0, &OUT_1] {
-        assert!(rt; !EdgeReversal::same(&IN_0, other));
-    }
-    Ok(())
 }
 
 #[test]
 fn names_its_cases(rt: HostRuntime) {
-    assert_eq!(rt; EdgeReversal::cases(), 2);
-    assert_eq!(rt; EdgeReversal::case_name(0), None);
-    assert_eq!(rt; EdgeReversal::case_name(1), Some("enter"));
-    assert_eq!(rt; EdgeReversal::case_name(2), Some("leave"));
-    assert_eq!(rt; EdgeReversal::case_name(3), None);
-    assert_eq!(rt; EdgeReversal::reads(0), None);
-    assert_eq!(rt; EdgeReversal::reads(1), Some(Reads::All));
-    assert_eq!(rt; EdgeReversal::reads(2), Some(Reads::Alone));
-    assert_eq!(rt; EdgeReversal::reads(3), None);
+    assert!(rt; EdgeReversal::cases() == 2);
+    for (case, name, reads) in [
+        (0, None, None),
+        (1, Some("enter"), Some(Reads::All)),
+        (2, Some("leave"), Some(Reads::Alone)),
+        (3, None, None),
+    ] {
+        assert!(rt; EdgeReversal::case_name(case) == name);
+        assert!(rt; EdgeReversal::reads(case) == reads);
+    }
 }

@@ -1,76 +1,110 @@
-use crate::texts::text_of;
-use app_interface::{Application, Here, LocalFault, Reads, Seen};
+// The token passes over the line 1, 2, 3.
+
+use crate::texts::{Step, acted, are_same, is_bad, shown, started};
+use app_interface::{Application, Reads};
 use app_token::Token;
 use std::test::Fail;
-use topology::Topology;
-
-fn at(id: u32) -> Here {
-    Here { id, k: 3 }
-}
 
 #[test]
-fn starts_with_the_token_at_the_greatest(rt: HostRuntime) -> Result<(), Fail> {
-    let alloc = rt.alloc();
-    let line = Topology::build(alloc, &[1, 2, 3], &[(1, 2), (2, 3)])?;
-    let texts = [
+fn starts(rt: HostRuntime) -> Result<(), Fail> {
+    for (index, text) in [
         b"free/-/-".as_slice(),
         b"free/-/-".as_slice(),
         b"hold/-/-".as_slice(),
-    ];
-    for (index, text) in texts.into_iter().enumerate() {
-        let local = Token::on_start(alloc, &line, index)?;
-        assert_eq!(rt; text_of::<Token>(alloc, &local).as_slice(), text);
+    ]
+    .into_iter()
+    .enumerate()
+    {
+        assert!(rt;
+            started::<Token>(rt.alloc(), index)?.as_slice() == text,
+            "node {index}"
+        );
     }
     Ok(())
 }
 
 #[test]
 fn passes_the_token_and_takes_it(rt: HostRuntime) -> Result<(), Fail> {
-    let alloc = rt.alloc();
-    let holder = Token::read_local(alloc, b"hold/-/-")?;
-    let free = Token::read_local(alloc, b"free/-/-")?;
-    assert!(rt; Token::can(at(3), 1, Some(2), &holder, &[]));
-    let passed = Token::on_clock(alloc, at(3), 1, Some(2), &holder, &[])?;
-    assert_eq!(rt;
-        text_of::<Token>(alloc, &passed).as_slice(),
-        b"free/2/-".as_slice()
-    );
-
-    let near = [Seen {
-        id: 3,
-        local: &passed,
-    }];
-    assert!(rt; Token::can(at(2), 2, Some(3), &free, &near));
-    let taken = Token::on_clock(alloc, at(2), 2, Some(3), &free, &near)?;
-    assert_eq!(rt;
-        text_of::<Token>(alloc, &taken).as_slice(),
-        b"hold/-/3".as_slice()
-    );
-    assert!(rt; !Token::can(at(2), 2, Some(3), &taken, &near));
+    for (id, case, with, own, seen, left) in [
+        (
+            3,
+            1,
+            Some(2),
+            b"hold/-/-".as_slice(),
+            None,
+            b"free/2/-".as_slice(),
+        ),
+        (
+            2,
+            2,
+            Some(3),
+            b"free/-/-".as_slice(),
+            Some((3, b"free/2/-".as_slice())),
+            b"hold/-/3".as_slice(),
+        ),
+        (
+            2,
+            2,
+            Some(3),
+            b"hold/-/3".as_slice(),
+            Some((3, b"free/2/-".as_slice())),
+            b"".as_slice(),
+        ),
+        (
+            7,
+            1,
+            Some(5),
+            b"hold/1,2,5,9,12/3".as_slice(),
+            None,
+            b"free/1,2,9,12/3".as_slice(),
+        ),
+        (
+            7,
+            1,
+            Some(65535),
+            b"hold/1,2,5,9,12/3".as_slice(),
+            None,
+            b"free/1,2,5,9,12,65535/3".as_slice(),
+        ),
+        (
+            7,
+            2,
+            Some(2),
+            b"free/8/9".as_slice(),
+            Some((2, b"free/7,99/98".as_slice())),
+            b"hold/8/2,9".as_slice(),
+        ),
+    ] {
+        let step = Step {
+            id,
+            case,
+            with,
+            own,
+            seen,
+        };
+        assert!(rt;
+            acted::<Token>(rt.alloc(), step)?.as_slice() == left,
+            "node {id}, case {case}"
+        );
+    }
     Ok(())
 }
 
 #[test]
 fn tells_local_states_apart(rt: HostRuntime) -> Result<(), Fail> {
-    let alloc = rt.alloc();
-    let local = Token::read_local(alloc, b"free/2,5/3")?;
-    let copy = Token::copy(alloc, &local)?;
-    assert!(rt; Token::same(&local, &copy));
-    Token::known(&copy);
-    for text in [
-        b"hold/2,5/3".as_slice(),
-        b"free/2/3".as_slice(),
-        b"free/2,5/3,4".as_slice(),
+    for (other, same) in [
+        (b"free/2,5/3".as_slice(), true),
+        (b"hold/2,5/3".as_slice(), false),
+        (b"free/2/3".as_slice(), false),
+        (b"free/2,5/3,4".as_slice(), false),
     ] {
-        let other = Token::read_local(alloc, text)?;
-        assert!(rt; !Token::same(&local, &other));
+        assert!(rt; are_same::<Token>(rt.alloc(), b"free/2,5/3", other)? == same);
     }
     Ok(())
 }
 
 #[test]
 fn reads_what_it_shows(rt: HostRuntime) -> Result<(), Fail> {
-    let alloc = rt.alloc();
     for text in [
         b"hold/-/-".as_slice(),
         b"free/2,5/3".as_slice(),
@@ -78,15 +112,13 @@ fn reads_what_it_shows(rt: HostRuntime) -> Result<(), Fail> {
         b"free/2,3/2,3".as_slice(),
         b"hold/1,2,3,4,5,6/1,10,100,1000,10000".as_slice(),
     ] {
-        let local = Token::read_local(alloc, text)?;
-        assert_eq!(rt; text_of::<Token>(alloc, &local).as_slice(), text);
+        assert!(rt; shown::<Token>(rt.alloc(), text)?.as_slice() == text);
     }
     Ok(())
 }
 
 #[test]
 fn refuses_other_texts(rt: HostRuntime) {
-    let alloc = rt.alloc();
     for text in [
         b"".as_slice(),
         b"hold".as_slice(),
@@ -127,20 +159,20 @@ fn refuses_other_texts(rt: HostRuntime) {
         b"free/2a/3".as_slice(),
         b"free/2/\xff".as_slice(),
     ] {
-        let answer = Token::read_local(alloc, text);
-        assert_eq!(rt; answer.err(), Some(LocalFault::BadLocal));
+        assert!(rt; is_bad::<Token>(rt.alloc(), text));
     }
 }
 
 #[test]
 fn names_its_cases(rt: HostRuntime) {
-    assert_eq!(rt; Token::cases(), 2);
-    assert_eq!(rt; Token::case_name(0), None);
-    assert_eq!(rt; Token::case_name(1), Some("pass"));
-    assert_eq!(rt; Token::case_name(2), Some("take"));
-    assert_eq!(rt; Token::case_name(3), None);
-    assert_eq!(rt; Token::reads(0), None);
-    assert_eq!(rt; Token::reads(1), Some(Reads::Toward));
-    assert_eq!(rt; Token::reads(2), Some(Reads::One));
-    assert_eq!(rt; Token::reads(3), None);
+    assert!(rt; Token::cases() == 2);
+    for (case, name, reads) in [
+        (0, None, None),
+        (1, Some("pass"), Some(Reads::Toward)),
+        (2, Some("take"), Some(Reads::One)),
+        (3, None, None),
+    ] {
+        assert!(rt; Token::case_name(case) == name);
+        assert!(rt; Token::reads(case) == reads);
+    }
 }

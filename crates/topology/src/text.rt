@@ -9,7 +9,6 @@ ghost use Rattle.topology.specs.TopologyText.{Description, IsReadFault, app_name
 ghost use Rattle.topology.specs.declared.text.ReadFault.TheVariants.{NoMemory, Topology as TopologyFault};
 ghost use Rattle.topology.specs.declared.fault.TopoFault.TheVariants as topo;
 
-
 use crate::fault::TopoFault;
 use crate::topology::Topology;
 use std::alloc::{AllocError, AllocFailed, Global};

@@ -1,0 +1,108 @@
+"""Proofs of several crates side by side.
+
+`rt check` locks a crate and all that it stands on, so that two crates over one library are proved one
+after the other. Here each crate is proved in a room of its own: a copy of its files and of those of the
+libraries below it, with what was built of these.
+"""
+import os
+import re
+import shutil
+import subprocess
+import threading
+import time
+
+PARTS = ("src", "specs", "proofs")
+
+
+def crates():
+    """The crates in the order of crates.txt, each with those of the repository that it stands on."""
+    found = {}
+    with open("crates.txt", encoding="utf-8") as file:
+        for line in file:
+            name, colon, below = line.partition("#")[0].partition(":")
+            if colon:
+                found[name.split()[0]] = below.split()
+    return {name: [it for it in below if it in found] for name, below in found.items()}
+
+
+def all_below(below, name):
+    found = set(below[name])
+    for it in below[name]:
+        found |= all_below(below, it)
+    return found
+
+
+def processors():
+    return len(os.sched_getaffinity(0))
+
+
+class Proof:
+    """A crate that is being proved in a room: how far its check is, and all that it said."""
+
+    def __init__(self, base, below, name, jobs, tests):
+        self.name, self.jobs, self.count, self.said, self.failed = name, jobs, "", [], False
+        self.times, self.base, self.tests = [], base, tests
+        self.folder = f"{base}/{name}/crates/{name}"
+        for it in {name} | all_below(below, name):
+            self.furnish(it)
+        self.worker = threading.Thread(target=self.work)
+        self.worker.start()
+
+    def furnish(self, name):
+        room = f"{self.base}/{self.name}"
+        os.makedirs(f"{room}/crates/{name}", exist_ok=True)
+        shutil.copyfile("crates.txt", f"{room}/crates.txt")
+        for part in PARTS:
+            if os.path.isdir(f"crates/{name}/{part}"):
+                shutil.copytree(f"crates/{name}/{part}", f"{room}/crates/{name}/{part}")
+        built = f"{self.base}/{name}/crates/{name}/out/rlib"
+        if name != self.name:
+            shutil.copytree(built, f"{room}/crates/{name}/out/rlib", copy_function=os.link)
+        elif os.path.isdir(f"crates/{name}/out/incremental"):
+            shutil.copytree(f"crates/{name}/out/incremental", f"{self.folder}/out/incremental")
+
+    def work(self):
+        words = [["rt", "check", "--jobs", str(self.jobs), *["--test"] * self.tests]]
+        if os.path.isfile(f"{self.folder}/src/lib.rt"):
+            words.append(["rt", "lib", "--jobs", "1"])
+        self.failed = any(self.run(it) for it in words)
+
+    def run(self, words):
+        how = {"stdin": subprocess.DEVNULL, "stdout": subprocess.PIPE, "stderr": subprocess.STDOUT}
+        with subprocess.Popen(words, cwd=self.folder, text=True, errors="replace", **how) as run:
+            before = time.monotonic()
+            for line in run.stdout:
+                now = time.monotonic()
+                self.said.append(line)
+                at = re.match(r"checked (\S+), (\d+ of \d+)", line)
+                if at:
+                    self.count = at[2]
+                    self.times.append((now - before, f"{self.name}: {at[1]}"))
+                before = now
+        return run.returncode
+
+    def has_ended(self):
+        return not self.worker.is_alive()
+
+
+def prove(base, names, jobs_at_most=4, tests=False, told=lambda running, done: None):
+    """Proves the crates named, lowest first, each when those below it are. Yields each as it ends."""
+    below = crates()
+    left, running, done = [it for it in below if it in names], [], set()
+    while left or running:
+        ready = [it for it in left if set(below[it]) <= done]
+        for at, name in enumerate(ready):
+            idle = processors() - sum(it.jobs for it in running)
+            if idle <= 0:
+                break
+            left.remove(name)
+            jobs = max(1, min(jobs_at_most, idle // (len(ready) - at)))
+            running.append(Proof(base, below, name, jobs, tests))
+        time.sleep(0.2)
+        for proof in [it for it in running if it.has_ended()]:
+            running.remove(proof)
+            done.add(proof.name)
+            yield proof
+            if proof.failed:
+                left = []
+        told(running, done)
