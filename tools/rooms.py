@@ -43,15 +43,17 @@ class Proof:
         self.name, self.jobs, self.count, self.said, self.failed = name, jobs, "", [], False
         self.times, self.base, self.tests = [], base, tests
         self.folder = f"{base}/{name}/crates/{name}"
-        for it in {name} | all_below(below, name):
+        needed = {name} | all_below(below, name)
+        for it in needed:
             self.furnish(it)
+        with open("crates.txt", encoding="utf-8") as all_of_them, open(f"{base}/{name}/crates.txt", "w", encoding="utf-8") as file:
+            file.writelines(it for it in all_of_them if re.split(r"[ :]", it)[0] in needed)
         self.worker = threading.Thread(target=self.work)
         self.worker.start()
 
     def furnish(self, name):
         room = f"{self.base}/{self.name}"
         os.makedirs(f"{room}/crates/{name}", exist_ok=True)
-        shutil.copyfile("crates.txt", f"{room}/crates.txt")
         for part in PARTS:
             if os.path.isdir(f"crates/{name}/{part}"):
                 shutil.copytree(f"crates/{name}/{part}", f"{room}/crates/{name}/{part}")
