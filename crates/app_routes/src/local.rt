@@ -30,7 +30,7 @@ impl Model for RoutesLocal {
 
 impl RoutesLocal {
     /// No entry.
-    pub fn none(alloc: Global) -> RoutesLocal
+    pub(crate) fn none(alloc: Global) -> RoutesLocal
         ensures { result ≡ [] }
     {
         RoutesLocal {
@@ -39,7 +39,7 @@ impl RoutesLocal {
     }
 
     /// The start state of a node: the way to itself.
-    pub fn start(alloc: Global, id: NodeId) -> Result<RoutesLocal, AllocError>
+    pub(crate) fn start(alloc: Global, id: NodeId) -> Result<RoutesLocal, AllocError>
         ensures { IfOk result (λ local. local ≡ record { destination = id; hops = 0; next = id } ∷ []) }
     {
         let mut entries = SmallVec::new(alloc);
@@ -52,7 +52,7 @@ impl RoutesLocal {
     }
 
     /// These entries.
-    pub fn from_ascending(entries: SmallVec<Entry, 4>) -> RoutesLocal
+    pub(crate) fn from_ascending(entries: SmallVec<Entry, 4>) -> RoutesLocal
         requires { AreRoutes entries.items }
         ensures { result ≡ entries.items }
     {
@@ -60,7 +60,7 @@ impl RoutesLocal {
     }
 
     /// The entries, in ascending order of their destinations.
-    pub fn entries(&self) -> &[Entry]
+    pub(crate) fn entries(&self) -> &[Entry]
         ensures value { result.now ≡ self.now }
         ensures routes { AreRoutes self.now }
     {
@@ -69,7 +69,7 @@ impl RoutesLocal {
     }
 
     /// How many hops the entry for this destination has.
-    pub fn hops_to(&self, destination: u32) -> Option<u32>
+    pub(crate) fn hops_to(&self, destination: u32) -> Option<u32>
         ensures { result ≡ option_map (λ e. e.hops) (route_of self.now destination) }
     {
         let entries = self.entries();
@@ -80,14 +80,14 @@ impl RoutesLocal {
     }
 
     /// Whether the two are equal.
-    pub fn same(&self, other: &RoutesLocal) -> bool
+    pub(crate) fn same(&self, other: &RoutesLocal) -> bool
         ensures { IsTrue result ↔ self.now ≡ other.now }
     {
         self.entries() == other.entries()
     }
 
     /// A copy.
-    pub fn copy(&self, alloc: Global) -> Result<RoutesLocal, AllocError>
+    pub(crate) fn copy(&self, alloc: Global) -> Result<RoutesLocal, AllocError>
         ensures { IfOk result (λ copy. copy ≡ self.now) }
     {
         Ok(RoutesLocal {

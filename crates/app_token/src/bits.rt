@@ -27,7 +27,7 @@ impl Model for Bits {
 
 impl Bits {
     /// All bits zero.
-    pub fn none(alloc: Global) -> Bits
+    pub(crate) fn none(alloc: Global) -> Bits
         ensures { result ≡ [] }
     {
         Bits {
@@ -36,7 +36,7 @@ impl Bits {
     }
 
     /// The bits that are one at these identifiers.
-    pub fn from_ascending(ids: SmallVec<u32, 4>) -> Bits
+    pub(crate) fn from_ascending(ids: SmallVec<u32, 4>) -> Bits
         requires { IsBits ids.items }
         ensures { result ≡ ids.items }
     {
@@ -44,7 +44,7 @@ impl Bits {
     }
 
     /// The identifiers whose bit is one, ascending.
-    pub fn ids(&self) -> &[u32]
+    pub(crate) fn ids(&self) -> &[u32]
         ensures value { result.now ≡ self.now }
         ensures bits { IsBits self.now }
     {
@@ -53,14 +53,14 @@ impl Bits {
     }
 
     /// The bit of this identifier.
-    pub fn has(&self, id: u32) -> bool
+    pub(crate) fn has(&self, id: u32) -> bool
         ensures { result ≡ bit_of self.now id }
     {
         self.ids().binary_search(&id).is_ok()
     }
 
     /// The bits with that of this identifier turned over.
-    pub fn toggled(&self, alloc: Global, id: u32) -> Result<Bits, AllocError>
+    pub(crate) fn toggled(&self, alloc: Global, id: u32) -> Result<Bits, AllocError>
         requires { IsId id }
         ensures { IfOk result (λ bits. bits ≡ toggled self.now id) }
     {
@@ -78,14 +78,14 @@ impl Bits {
     }
 
     /// Whether all bits are the same.
-    pub fn same(&self, other: &Bits) -> bool
+    pub(crate) fn same(&self, other: &Bits) -> bool
         ensures { IsTrue result ↔ self.now ≡ other.now }
     {
         self.ids() == other.ids()
     }
 
     /// A copy.
-    pub fn copy(&self, alloc: Global) -> Result<Bits, AllocError>
+    pub(crate) fn copy(&self, alloc: Global) -> Result<Bits, AllocError>
         ensures { IfOk result (λ bits. bits ≡ self.now) }
     {
         Ok(Bits {

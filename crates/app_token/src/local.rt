@@ -16,7 +16,7 @@ pub struct TokenLocal {
 
 impl TokenLocal {
     /// A node with all bits zero.
-    pub fn start(alloc: Global, hold: bool) -> TokenLocal
+    pub(crate) fn start(alloc: Global, hold: bool) -> TokenLocal
         ensures { result ≡ record { hold = hold; given = []; taken = [] } }
     {
         TokenLocal {
@@ -27,14 +27,14 @@ impl TokenLocal {
     }
 
     /// Whether the two are equal.
-    pub fn same(&self, other: &TokenLocal) -> bool
+    pub(crate) fn same(&self, other: &TokenLocal) -> bool
         ensures { IsTrue result ↔ self.now ≡ other.now }
     {
         self.hold == other.hold && self.given.same(&other.given) && self.taken.same(&other.taken)
     }
 
     /// A copy.
-    pub fn copy(&self, alloc: Global) -> Result<TokenLocal, AllocError>
+    pub(crate) fn copy(&self, alloc: Global) -> Result<TokenLocal, AllocError>
         ensures { IfOk result (λ copy. copy ≡ self.now) }
     {
         Ok(TokenLocal {
@@ -45,7 +45,7 @@ impl TokenLocal {
     }
 
     /// Both lists ascend.
-    pub fn is_local(&self)
+    pub(crate) fn is_local(&self)
         ensures given { IsBits self.now.given }
         ensures taken { IsBits self.now.taken }
     {

@@ -55,7 +55,7 @@ impl Event {
     ghost use Rattle.reset_machine.specs.LocalSteps.{cases_of};
 
     /// The identifier of the node at which the event happens, which alone it changes.
-    pub fn node(self) -> u32
+    pub(crate) fn node(self) -> u32
         ensures { result ≡ event_node self }
     {
         match self {
@@ -73,7 +73,7 @@ impl Event {
     }
 
     /// The identifier of the other node that the event names, if it names one.
-    pub fn named(self) -> Option<u32>
+    pub(crate) fn named(self) -> Option<u32>
         ensures { result ≡ named_node self }
     {
         match self {

@@ -46,14 +46,14 @@ impl<'a> TreeView<'a> {
     }
 
     /// The node's id.
-    pub fn id(&self) -> u32
+    pub(crate) fn id(&self) -> u32
         ensures { result ≡ self.now.id }
     {
         self.id
     }
 
     /// The bound of the distances.
-    pub fn k(&self) -> u32
+    pub(crate) fn k(&self) -> u32
         ensures value { result ≡ self.now.bound }
         ensures bounded { 0 < result }
     {
@@ -61,14 +61,14 @@ impl<'a> TreeView<'a> {
     }
 
     /// The node's own registers.
-    pub fn own(&self) -> TreeRegs
+    pub(crate) fn own(&self) -> TreeRegs
         ensures { result ≡ self.now.own }
     {
         self.own
     }
 
     /// The neighbours' ids and registers, by strictly ascending id.
-    pub fn near(&self) -> &[(u32, TreeRegs)]
+    pub(crate) fn near(&self) -> &[(u32, TreeRegs)]
         ensures value { result.now ≡ self.now.near }
         ensures ascending { IsStrictlyIncreasing (near_ids self.now.near) }
     {

@@ -50,21 +50,21 @@ impl<'a> WaveView<'a> {
     }
 
     /// The node's own registers.
-    pub fn own(&self) -> WaveRegs
+    pub(crate) fn own(&self) -> WaveRegs
         ensures { result ≡ self.now.own }
     {
         self.own
     }
 
     /// What the node's father register names.
-    pub fn father(&self) -> FatherSeen
+    pub(crate) fn father(&self) -> FatherSeen
         ensures { result ≡ self.now.father }
     {
         self.father
     }
 
     /// The children's ids and registers, by strictly ascending id.
-    pub fn children(&self) -> &[(u32, WaveRegs)]
+    pub(crate) fn children(&self) -> &[(u32, WaveRegs)]
         ensures value { result.now ≡ self.now.children }
         ensures ascending { IsStrictlyIncreasing (map (λ c. c.0) self.now.children) }
     {
