@@ -32,6 +32,22 @@ def all_below(below, name):
     return found
 
 
+def sources(names):
+    """When the sources of the crates named were last changed."""
+    times = [os.stat("crates.txt").st_mtime]
+    for name in names:
+        for part in PARTS:
+            for at, _, files in os.walk(f"crates/{name}/{part}"):
+                times += [os.stat(at).st_mtime, *(os.stat(f"{at}/{it}").st_mtime for it in files)]
+    return max(times)
+
+
+def built(below, name):
+    """Whether the library stands in its out/ as it was built from what its sources are now."""
+    stamp = f"crates/{name}/out/rlib/stamp"
+    return os.path.isfile(stamp) and os.stat(stamp).st_mtime > sources({name} | all_below(below, name))
+
+
 def processors():
     return len(os.sched_getaffinity(0))
 
@@ -57,9 +73,11 @@ class Proof:
         for part in PARTS:
             if os.path.isdir(f"crates/{name}/{part}"):
                 shutil.copytree(f"crates/{name}/{part}", f"{room}/crates/{name}/{part}")
-        built = f"{self.base}/{name}/crates/{name}/out/rlib"
         if name != self.name:
-            shutil.copytree(built, f"{room}/crates/{name}/out/rlib", copy_function=os.link)
+            library = f"{self.base}/{name}/crates/{name}/out/rlib"
+            if not os.path.isdir(library):
+                library = f"crates/{name}/out/rlib"
+            shutil.copytree(library, f"{room}/crates/{name}/out/rlib", copy_function=os.link)
         elif os.path.isdir(f"crates/{name}/out/incremental"):
             shutil.copytree(f"crates/{name}/out/incremental", f"{self.folder}/out/incremental")
 
@@ -87,10 +105,12 @@ class Proof:
         return not self.worker.is_alive()
 
 
-def prove(base, names, jobs_at_most=4, tests=False, told=lambda running, done: None):
-    """Proves the crates named, lowest first, each when those below it are. Yields each as it ends."""
+def prove(base, names, done=(), jobs_at_most=4, tests=False, told=lambda running, done: None):
+    """Proves the crates named, lowest first, each when those below it are, but for those that are done.
+    Yields each as it ends."""
     below = crates()
-    left, running, done = [it for it in below if it in names], [], set()
+    done = set(done)
+    left, running = [it for it in below if it in names and it not in done], []
     while left or running:
         ready = [it for it in left if set(below[it]) <= done]
         for at, name in enumerate(ready):
