@@ -60,14 +60,6 @@ fn passes_the_token_and_takes_it(rt: HostRuntime) -> Result<(), Fail> {
         ),
         (
             7,
-            1,
-            Some(65535),
-            b"hold/1,2,5,9,12/3".as_slice(),
-            None,
-            b"free/1,2,5,9,12,65535/3".as_slice(),
-        ),
-        (
-            7,
             2,
             Some(2),
             b"free/8/9".as_slice(),
