@@ -105,20 +105,30 @@ class Proof:
         return not self.worker.is_alive()
 
 
+def chains(below):
+    """How much is to be proved from each crate on, up the longest way of crates that wait for one another."""
+    found = {}
+    for name in reversed(below):
+        above = [found[it] for it in found if name in below[it]]
+        found[name] = size(name) + max(above, default=0)
+    return found
+
+
+def size(name):
+    return sum(os.path.getsize(f"{at}/{it}") for part in PARTS for at, _, files in os.walk(f"crates/{name}/{part}") for it in files)
+
+
 def prove(base, names, done=(), jobs_at_most=4, tests=False, told=lambda running, done: None):
     """Proves the crates named, lowest first, each when those below it are, but for those that are done.
-    Yields each as it ends."""
+    Yields each as it ends. What has the longest way above it comes first, and may use all processors."""
     below = crates()
-    done = set(done)
-    left, running = [it for it in below if it in names and it not in done], []
+    chain, done = chains({it: below[it] for it in below if it in names}), set(done)
+    left, running = sorted(set(names) - done, key=chain.get, reverse=True), []
     while left or running:
-        ready = [it for it in left if set(below[it]) <= done]
-        for at, name in enumerate(ready):
-            idle = processors() - sum(it.jobs for it in running)
-            if idle <= 0:
-                break
+        longest = max((chain[it] for it in [*left, *(proof.name for proof in running)]), default=0)
+        for name in [it for it in left if set(below[it]) <= done][:processors() - len(running)]:
             left.remove(name)
-            jobs = max(1, min(jobs_at_most, idle // (len(ready) - at)))
+            jobs = min(jobs_at_most, processors()) if chain[name] == longest else 1
             running.append(Proof(base, below, name, jobs, tests))
         time.sleep(0.2)
         for proof in [it for it in running if it.has_ended()]:
