@@ -1,5 +1,5 @@
-//! Tests of the reset machine by its public calls: its configurations and pictures, the lines of its
-//! events, and its runs beside an abstract machine that is written here apart.
+//! Tests of the reset machine by its public calls: its configurations and pictures, and the lines of
+//! its events. Its runs are tested from outside, by `tests/runs`.
 #![tactic(auto)]
 
 #[cfg(test)]
@@ -8,7 +8,5 @@ mod event_lines;
 mod machine;
 #[cfg(test)]
 mod pictures;
-#[cfg(test)]
-mod runs;
 #[cfg(test)]
 mod slow;
