@@ -8,20 +8,22 @@ use Rattle.wave_layer.specs.declared.regs.WaveMove.{WaveMove}
 use Rattle.wave_layer.specs.declared.regs.Phase.TheVariants.{Normal}
 use Rattle.reset_machine.specs.declared.event.Event.{Event}
 use Rattle.reset_machine.specs.declared.event.Event.TheVariants.{Claim, Follow, Adopt, Request, Relay, Open, Join, Finish, Mend, Act}
-use Rattle.reset_machine.specs.declared.plan.Effect.{Effect}
-use Rattle.reset_machine.specs.declared.plan.Effect.TheVariants.{Tree, Wave}
+use Rattle.reset_machine.specs.declared.plan.Fired.{Fired}
+use Rattle.reset_machine.specs.declared.plan.Fired.TheVariants.{Tree, Wave}
 use Rattle.reset_machine.specs.declared.step.Reply.{Reply}
 use Rattle.reset_machine.specs.declared.step.Reply.TheVariants.{Applied}
 use Rattle.reset_machine.specs.declared.step.StepRefusal.{StepRefusal}
 use Rattle.reset_machine.specs.Configuration.{Configuration, IsShaped, tree_of, wave_of, local_of, tree_map, wave_map, local_map}
 use Rattle.reset_machine.specs.Steps.{event_node, is_act, reply_of}
 use Rattle.reset_machine.specs.MachineSteps.{IsStep, IsRefused, RowStep, row_step, row_refused, act_step, act_refused, local_effect}
-use Rattle.reset_machine.specs.Outcome.{outcome_of, row_outcome, act_outcome, acted, done, after_effect, effect_reply, restarted}
+use Rattle.reset_machine.specs.Outcome.{map_outcome, row_outcome, act_outcome, acted, done, after_fired, fired_reply, restarted}
 use Rattle.reset_machine.specs.Actions.{acted_of}
+use Rattle.reset_machine.specs.Planned.{outcome_of}
 use Rattle.reset_machine.specs.LocalSteps.{planned_of}
 use Rattle.reset_machine.proofs.Places.{value_at-put_at, value_at-put_at_other, put_at-position}
 use Rattle.reset_machine.proofs.PlannedSteps.{IsPlannedStep, planned_steps}
 use Rattle.reset_machine.proofs.WavePlans.{restarts_of}
+use Rattle.reset_machine.proofs.ViewedOutcomes.{outcome-is}
 use Rattle.reset_machine.proofs.ActionSteps.{acted_steps, IsActed}
 
 -- ---- the events of the two tables
@@ -55,8 +57,8 @@ module _ {L : Type 0} (app : App L) (c : Configuration L) (graph : IsGraph c.gra
       subst Steps (ap (λ d. cond d (app.start c.graph (event_node e)) (local_of app c (event_node e))) is ∙ sym (local_effect-restarts app c.graph (local_of app c) e)) (restarts_one app c (event_node e) b shaped node)
 
   -- what is planned in a configuration is a step
-  effect_is_step : (e : Event) (does : Effect) → IsPlannedStep c.graph (node_bound c.graph) (tree_of c) (wave_of c) graph e does → RowStep app c e (after_effect app c (event_node e) does)
-  effect_is_step e (Tree regs) step =
+  fired_is_step : (e : Event) (does : Fired) → IsPlannedStep c.graph (node_bound c.graph) (tree_of c) (wave_of c) graph e does → RowStep app c e (after_fired app c (event_node e) does)
+  fired_is_step e (Tree regs) step =
       record {
         graph = refl;
         regs = record {
@@ -71,7 +73,7 @@ module _ {L : Type 0} (app : App L) (c : Configuration L) (graph : IsGraph c.gra
         };
         locals = locals_step e false step.node step.leaves.restarts;
       }
-  effect_is_step e (Wave move) step =
+  fired_is_step e (Wave move) step =
       record {
         graph = refl;
         regs = record {
@@ -91,11 +93,11 @@ module _ {L : Type 0} (app : App L) (c : Configuration L) (graph : IsGraph c.gra
   abbrev IsJudged : Event → Result (Configuration L × Reply) StepRefusal → Type 0
   IsJudged e r = MatchResult r (λ after. IsStep app c e after.0 × (after.1 ≡ reply_of (tree_of c) (wave_of c) e)) (IsRefused app c e)
 
-  done_steps : (e : Event) (r : Result Effect StepRefusal) → is_act e ≡ false → planned_of c.graph (node_bound c.graph) (tree_of c) (wave_of c) e ≡ r → IsJudged e (done app c (event_node e) r)
+  done_steps : (e : Event) (r : Result Fired StepRefusal) → is_act e ≡ false → planned_of c.graph (node_bound c.graph) (tree_of c) (wave_of c) e ≡ r → IsJudged e (done app c (event_node e) r)
   done_steps e (Err f) row planned = row_refused row (planned_steps c.graph (node_bound c.graph) (tree_of c) (wave_of c) graph e (Err f) planned)
   done_steps e (Ok does) row planned =
       let step : IsPlannedStep c.graph (node_bound c.graph) (tree_of c) (wave_of c) graph e does = planned_steps c.graph (node_bound c.graph) (tree_of c) (wave_of c) graph e (Ok does) planned in
-      (row_step (effect_is_step e does step), step.leaves.reply)
+      (row_step (fired_is_step e does step), step.leaves.reply)
 
   row_steps : (e : Event) → is_act e ≡ false → IsJudged e (row_outcome app c e)
   row_steps e row = done_steps e (planned_of c.graph (node_bound c.graph) (tree_of c) (wave_of c) e) row refl
@@ -129,17 +131,20 @@ module _ {L : Type 0} (app : App L) (c : Configuration L) (graph : IsGraph c.gra
   act_steps : (i case : ℕ) (with : Option ℕ) → IsJudged (Act i case with) (act_outcome app c i case with)
   act_steps i case with = acted_is_step i case with _ (acted_steps app c.graph graph (node_bound c.graph) (wave_of c) (local_of app c) i case with)
 
+  map_steps : (e : Event) → IsJudged e (map_outcome app c e)
+  map_steps (Claim i) = row_steps (Claim i) refl
+  map_steps (Follow i) = row_steps (Follow i) refl
+  map_steps (Adopt i j) = row_steps (Adopt i j) refl
+  map_steps (Request i) = row_steps (Request i) refl
+  map_steps (Relay i k) = row_steps (Relay i k) refl
+  map_steps (Open i) = row_steps (Open i) refl
+  map_steps (Join i) = row_steps (Join i) refl
+  map_steps (Finish i) = row_steps (Finish i) refl
+  map_steps (Mend i) = row_steps (Mend i) refl
+  map_steps (Act i case with) = act_steps i case with
+
   pub outcome_steps : (e : Event) → IsJudged e (outcome_of app c e)
-  outcome_steps (Claim i) = row_steps (Claim i) refl
-  outcome_steps (Follow i) = row_steps (Follow i) refl
-  outcome_steps (Adopt i j) = row_steps (Adopt i j) refl
-  outcome_steps (Request i) = row_steps (Request i) refl
-  outcome_steps (Relay i k) = row_steps (Relay i k) refl
-  outcome_steps (Open i) = row_steps (Open i) refl
-  outcome_steps (Join i) = row_steps (Join i) refl
-  outcome_steps (Finish i) = row_steps (Finish i) refl
-  outcome_steps (Mend i) = row_steps (Mend i) refl
-  outcome_steps (Act i case with) = act_steps i case with
+  outcome_steps e = subst (IsJudged e) (sym (outcome-is app c graph e)) (map_steps e)
 
   pub outcome_is_step : (e : Event) (c' : Configuration L) (reply : Reply) → outcome_of app c e ≡ Ok (c', reply) → IsStep app c e c' × (reply ≡ reply_of (tree_of c) (wave_of c) e)
   outcome_is_step e c' reply is = subst (IsJudged e) is (outcome_steps e)
@@ -148,17 +153,20 @@ module _ {L : Type 0} (app : App L) (c : Configuration L) (graph : IsGraph c.gra
   outcome_is_refused e f is = subst (IsJudged e) is (outcome_steps e)
 
 -- an event that is no action is one of the two tables
-pub outcome-rows : {L : Type 0} (app : App L) (c : Configuration L) (e : Event) → is_act e ≡ false → outcome_of app c e ≡ row_outcome app c e
-outcome-rows app c (Claim i) row = refl
-outcome-rows app c (Follow i) row = refl
-outcome-rows app c (Adopt i j) row = refl
-outcome-rows app c (Request i) row = refl
-outcome-rows app c (Relay i k) row = refl
-outcome-rows app c (Open i) row = refl
-outcome-rows app c (Join i) row = refl
-outcome-rows app c (Finish i) row = refl
-outcome-rows app c (Mend i) row = refl
-outcome-rows app c (Act i case with) row = absurd (cc)
+map-rows : {L : Type 0} (app : App L) (c : Configuration L) (e : Event) → is_act e ≡ false → map_outcome app c e ≡ row_outcome app c e
+map-rows app c (Claim i) row = refl
+map-rows app c (Follow i) row = refl
+map-rows app c (Adopt i j) row = refl
+map-rows app c (Request i) row = refl
+map-rows app c (Relay i k) row = refl
+map-rows app c (Open i) row = refl
+map-rows app c (Join i) row = refl
+map-rows app c (Finish i) row = refl
+map-rows app c (Mend i) row = refl
+map-rows app c (Act i case with) row = absurd (cc)
+
+pub outcome-rows : {L : Type 0} (app : App L) (c : Configuration L) (e : Event) → IsGraph c.graph → is_act e ≡ false → outcome_of app c e ≡ row_outcome app c e
+outcome-rows app c e graph row = outcome-is app c graph e ∙ map-rows app c e row
 
 -- ---- what is written at the place of the event's node is the outcome
 
@@ -169,10 +177,10 @@ put_tree_outcome {L} app g trees waves locals e ix regs same found planned =
     ap (done app (record { graph = g; trees = trees; waves = waves; locals = locals }) (event_node e)) planned ∙ ap after (put_at-position g.ids trees ix (event_node e) regs same found)
 
 pub put_wave_outcome : {L : Type 0} (app : App L) (c c' : Configuration L) (e : Event) (move : WaveMove) (reply : Reply) → planned_of c.graph (node_bound c.graph) (tree_of c) (wave_of c) e ≡ Ok (Wave move)
-    → reply ≡ effect_reply (Wave move) → c' ≡ after_effect app c (event_node e) (Wave move) → row_outcome app c e ≡ Ok (c', reply)
+    → reply ≡ fired_reply (Wave move) → c' ≡ after_fired app c (event_node e) (Wave move) → row_outcome app c e ≡ Ok (c', reply)
 put_wave_outcome {L} app c c' e move reply planned replied written =
     let after : Configuration L → Reply → Result (Configuration L × Reply) StepRefusal = λ d r. Ok (d, r) in
-    ap (done app c (event_node e)) planned ∙ ap (λ r. after (after_effect app c (event_node e) (Wave move)) r) (sym replied) ∙ ap (λ d. after d reply) (sym written)
+    ap (done app c (event_node e)) planned ∙ ap (λ r. after (after_fired app c (event_node e) (Wave move)) r) (sym replied) ∙ ap (λ d. after d reply) (sym written)
 
 pub refused_outcome : {L : Type 0} (app : App L) (c : Configuration L) (e : Event) (f : StepRefusal) → planned_of c.graph (node_bound c.graph) (tree_of c) (wave_of c) e ≡ Err f → row_outcome app c e ≡ Err f
 refused_outcome app c e f planned = ap (done app c (event_node e)) planned

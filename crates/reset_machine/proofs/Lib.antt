@@ -32,3 +32,4 @@ pub mod RunShadows
 pub mod RunInvariants
 pub mod JoinCounts
 pub mod StepShadows
+pub mod ViewedOutcomes

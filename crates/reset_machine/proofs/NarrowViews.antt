@@ -7,7 +7,7 @@ use Rattle.wave_layer.specs.declared.regs.FatherSeen.{FatherSeen}
 use Rattle.wave_layer.specs.WaveTable.{LocalView, is_root, children_done, child_regs}
 use Rattle.reset_machine.specs.declared.event.Event.{Event}
 use Rattle.reset_machine.specs.declared.event.Event.TheVariants.{Claim, Follow, Adopt, Request, Relay, Open, Join, Finish, Mend, Act}
-use Rattle.reset_machine.specs.declared.plan.Effect.{Effect}
+use Rattle.reset_machine.specs.declared.plan.Fired.{Fired}
 use Rattle.reset_machine.specs.declared.step.StepRefusal.{StepRefusal}
 use Rattle.reset_machine.specs.declared.plan.Seen.TheVariants.{Wave}
 use Rattle.reset_machine.specs.LocalSteps.{first_answer, cases_of, view_of}
@@ -17,7 +17,7 @@ use Rattle.reset_machine.proofs.Seen.{is_root-father_seen}
 
 module _ (own : WaveRegs) (f f' : FatherSeen) (cs cs' : List (ℕ × WaveRegs)) where
   -- what the rows of an event answer on a view of these parts
-  abbrev answer_on : FatherSeen → List (ℕ × WaveRegs) → Event → Result Effect StepRefusal
+  abbrev answer_on : FatherSeen → List (ℕ × WaveRegs) → Event → Result Fired StepRefusal
   answer_on f cs e = first_answer (Wave (record { own = own; father = f; children = cs })) (named_node e) (cases_of e)
 
   -- a relay looks at the child that it names

@@ -1,7 +1,7 @@
 -- The three ends of planning an event: a strange node, a strange neighbour, and what the rows answer.
 use Rattle.std.proofs.Common.{◌≡◌, ◌≢◌, ℕ, ◌==◌, not, true, false, cond, Result, Ok, Err, MatchResult, List, length, map, refl, subst, ap, ◌∙◌}
 use Rattle.std.specs.List.{list_any}
-use Rattle.topology.specs.Graph.{Graph, neighbours_of, node_bound}
+use Rattle.topology.specs.Graph.{Graph, neighbours_of}
 use Rattle.tree_layer.specs.declared.regs.TreeRegs.{TreeRegs}
 use Rattle.wave_layer.specs.declared.regs.WaveRegs.{WaveRegs}
 use Rattle.wave_layer.specs.declared.regs.FatherSeen.{FatherSeen}
@@ -9,7 +9,7 @@ use Rattle.wave_layer.specs.WaveTable.{LocalView}
 use Rattle.reset_machine.specs.declared.event.Event.{Event}
 use Rattle.reset_machine.specs.declared.step.StepRefusal.{StepRefusal}
 use Rattle.reset_machine.specs.declared.step.StepRefusal.TheVariants.{StrangeNode, StrangeNeighbour, NoMemory}
-use Rattle.reset_machine.specs.declared.plan.Effect.{Effect}
+use Rattle.reset_machine.specs.declared.plan.Fired.{Fired}
 use Rattle.reset_machine.specs.Steps.{event_node, named_node}
 use Rattle.tree_layer.specs.TreeTable as tree
 use Rattle.reset_machine.specs.LocalSteps.{planned_of, answer_of, is_neighbour, father_seen, children_of, view_of, tree_view_of}
@@ -37,13 +37,9 @@ view_of-parts g t w at id v own father children same is own_is father_is childre
     subst P same parts
 
 -- what is answered is exactly what is
-pub exact_of : (r r' : Result Effect StepRefusal) → r ≡ r' → MatchResult r' (λ does. r ≡ Ok does) (λ f. f ≢ NoMemory → r ≡ Err f)
+pub exact_of : (r r' : Result Fired StepRefusal) → r ≡ r' → MatchResult r' (λ does. r ≡ Ok does) (λ f. f ≢ NoMemory → r ≡ Err f)
 exact_of r (Ok does) is = is
 exact_of r (Err f) is = λ _. is
-
-pub bound_is : (g : Graph) → length g.ids ≡ node_bound g
-unfolding node_bound
-bound_is g = refl
 
 -- a view of these parts is what the node sees of the tree
 pub tree_view_of-parts : (g : Graph) (K : ℕ) (t : ℕ → TreeRegs) (id bound : ℕ) (v : tree.LocalView) (own : TreeRegs) (near : List (ℕ × TreeRegs)) → v ≡ record { id = id; bound = bound; own = own; near = near } →

@@ -7,14 +7,14 @@ use Rattle.tree_layer.specs.declared.regs.TreeRegs.{TreeRegs}
 use Rattle.wave_layer.specs.declared.regs.WaveRegs.{WaveRegs}
 use Rattle.reset_machine.specs.declared.event.Event.{Event}
 use Rattle.reset_machine.specs.declared.event.Event.TheVariants.{Claim, Follow, Adopt, Request, Relay, Open, Join, Finish, Mend, Act}
-use Rattle.reset_machine.specs.declared.plan.Effect.{Effect}
-use Rattle.reset_machine.specs.declared.plan.Effect.TheVariants.{Tree, Wave}
+use Rattle.reset_machine.specs.declared.plan.Fired.{Fired}
+use Rattle.reset_machine.specs.declared.plan.Fired.TheVariants.{Tree, Wave}
 use Rattle.reset_machine.specs.declared.step.Reply.TheVariants.{Applied, Complete}
 use Rattle.reset_machine.specs.declared.step.StepRefusal.{StepRefusal}
 use Rattle.reset_machine.specs.declared.step.StepRefusal.TheVariants.{StrangeNode, StrangeNeighbour, NoSuchCase, WantsNeighbour, TakesNoNeighbour, Disagrees, NotEnabled, SessionsSpent, NoMemory}
 use Rattle.reset_machine.specs.Steps.{strange_node, strange_neighbour, not_enabled, sessions_spent, event_node, named_node, IsEnabled, IsSpent, IsNamed, RowRefused, reply_of, tree_effect, wave_effect}
 use Rattle.reset_machine.specs.LocalSteps.{is_neighbour, answer_of, planned_of}
-use Rattle.reset_machine.specs.Outcome.{tree_left, wave_left, effect_reply, effect_restarts}
+use Rattle.reset_machine.specs.Outcome.{tree_left, wave_left, fired_reply, fired_restarts}
 use Rattle.reset_machine.proofs.Planned.{planned_of-strange_node, planned_of-strange_neighbour, planned_of-named}
 use Rattle.reset_machine.proofs.WaveRows.{IsAnswer}
 use Rattle.reset_machine.proofs.WavePlans.{completes_of, restarts_of, request_is, relay_is, open_is, join_is, finish_is, mend_is}
@@ -22,15 +22,15 @@ use Rattle.reset_machine.proofs.TreePlans.{IsTreeAnswer, claim_is, follow_is, ad
 
 module _ (g : Graph) (K : ℕ) (t : ℕ → TreeRegs) (w : ℕ → WaveRegs) (graph : IsGraph g) where
   -- what an effect leaves is what the event leaves
-  pub record IsEffect (e : Event) (does : Effect) : Type 0 where
+  pub record IsFired (e : Event) (does : Fired) : Type 0 where
     pub tree : tree_left (t (event_node e)) does ≡ tree_effect K t e
     pub wave : wave_left (w (event_node e)) does ≡ wave_effect t w e
-    pub reply : effect_reply does ≡ reply_of t w e
-    pub restarts : effect_restarts does ≡ restarts_of e
+    pub reply : fired_reply does ≡ reply_of t w e
+    pub restarts : fired_restarts does ≡ restarts_of e
 
   -- what an event's rows answer, of an event that names nodes of the graph
-  abbrev IsAnswered : Event → Result Effect StepRefusal → Type 0
-  IsAnswered e (Ok does) = IsEnabled g K t w e × (IsSpent w e → ⊥) × IsEffect e does
+  abbrev IsAnswered : Event → Result Fired StepRefusal → Type 0
+  IsAnswered e (Ok does) = IsEnabled g K t w e × (IsSpent w e → ⊥) × IsFired e does
   IsAnswered e (Err StrangeNode) = ⊥
   IsAnswered e (Err StrangeNeighbour) = ⊥
   IsAnswered e (Err NoSuchCase) = ⊥
@@ -43,7 +43,7 @@ module _ (g : Graph) (K : ℕ) (t : ℕ → TreeRegs) (w : ℕ → WaveRegs) (gr
 
   -- a wave event leaves the tree registers, and its reply says whether it completes a reset
   by_wave : (e : Event) → tree_effect K t e ≡ t (event_node e) → reply_of t w e ≡ cond (completes_of t e) (Complete (wave_effect t w e).session) Applied
-      → (r : Result Effect StepRefusal) → IsAnswer r (IsEnabled g K t w e) (IsSpent w e) (wave_effect t w e) (completes_of t e) (restarts_of e) → IsAnswered e r
+      → (r : Result Fired StepRefusal) → IsAnswer r (IsEnabled g K t w e) (IsSpent w e) (wave_effect t w e) (completes_of t e) (restarts_of e) → IsAnswered e r
   by_wave e stays reply (Ok (Tree regs)) h = absurd h
   by_wave e stays reply (Ok (Wave move)) h = (
     h.0,
@@ -67,7 +67,7 @@ module _ (g : Graph) (K : ℕ) (t : ℕ → TreeRegs) (w : ℕ → WaveRegs) (gr
 
   -- a tree event leaves the wave registers, and opens no session
   by_tree : (e : Event) → wave_effect t w e ≡ w (event_node e) → reply_of t w e ≡ Applied → restarts_of e ≡ false → (IsSpent w e → ⊥)
-      → (r : Result Effect StepRefusal) → IsTreeAnswer r (IsEnabled g K t w e) (tree_effect K t e) → IsAnswered e r
+      → (r : Result Fired StepRefusal) → IsTreeAnswer r (IsEnabled g K t w e) (tree_effect K t e) → IsAnswered e r
   by_tree e stays reply kept unspent (Ok (Tree regs)) h = (h.0, unspent, record { tree = h.1; wave = sym stays; reply = sym reply; restarts = sym kept })
   by_tree e stays reply kept unspent (Ok (Wave move)) h = absurd h
   by_tree e stays reply kept unspent (Err StrangeNode) h = h
@@ -93,13 +93,13 @@ module _ (g : Graph) (K : ℕ) (t : ℕ → TreeRegs) (w : ℕ → WaveRegs) (gr
   answered (Act i case with) named = λ enabled. enabled
 
   -- what a plan does is a step
-  pub record IsPlannedStep (e : Event) (does : Effect) : Type 0 where
+  pub record IsPlannedStep (e : Event) (does : Fired) : Type 0 where
     pub node : IsNode g (event_node e)
     pub enabled : IsEnabled g K t w e
     pub unspent : IsSpent w e → ⊥
-    pub leaves : IsEffect e does
+    pub leaves : IsFired e does
 
-  step_of : (e : Event) → IsNamed g e → (r : Result Effect StepRefusal) → IsAnswered e r → MatchResult r (IsPlannedStep e) (RowRefused g K t w e)
+  step_of : (e : Event) → IsNamed g e → (r : Result Fired StepRefusal) → IsAnswered e r → MatchResult r (IsPlannedStep e) (RowRefused g K t w e)
   step_of e named (Ok does) h = record { node = named.node; enabled = h.0; unspent = h.1; leaves = h.2 }
   step_of e named (Err StrangeNode) h = absurd h
   step_of e named (Err StrangeNeighbour) h = absurd h
@@ -118,10 +118,10 @@ module _ (g : Graph) (K : ℕ) (t : ℕ → TreeRegs) (w : ℕ → WaveRegs) (gr
   neighbour : (i : ℕ) (o : Option ℕ) → is_neighbour g i o ≡ true → (j : ℕ) → o ≡ Some j → AreLinked g i j
   neighbour i o is j named = let P : Option ℕ → Type 0 = λ o. is_neighbour g i o ≡ true in subst P named is
 
-  pub planned_steps : (e : Event) (r : Result Effect StepRefusal) → planned_of g K t w e ≡ r → MatchResult r (IsPlannedStep e) (RowRefused g K t w e)
+  pub planned_steps : (e : Event) (r : Result Fired StepRefusal) → planned_of g K t w e ≡ r → MatchResult r (IsPlannedStep e) (RowRefused g K t w e)
   planned_steps e r is = at (has g.ids (event_node e)) (is_neighbour g (event_node e) (named_node e)) refl refl
     where
-      Steps : Result Effect StepRefusal → Type 0
+      Steps : Result Fired StepRefusal → Type 0
       Steps r = MatchResult r (IsPlannedStep e) (RowRefused g K t w e)
 
       at : (b d : Bool) → has g.ids (event_node e) ≡ b → is_neighbour g (event_node e) (named_node e) ≡ d → MatchResult r (IsPlannedStep e) (RowRefused g K t w e)

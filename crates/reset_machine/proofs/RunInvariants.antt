@@ -14,7 +14,6 @@ use Rattle.reset_machine.specs.Refinement.{AbstractStep, Reset_all, Do, IsAbstra
 use Rattle.reset_machine.specs.Runs.{Answers, IsRun}
 use Rattle.reset_machine.specs.Sound.{IsSound}
 use Rattle.reset_machine.proofs.ConfigurationSteps.{outcome_is_step}
-use Rattle.reset_machine.proofs.Planned.{bound_is}
 use Rattle.reset_machine.proofs.RunShadows.{run_shadow, step_graph}
 use Rattle.reset_machine.proofs.Shapes.{outcome_shaped}
 use Rattle.reset_machine.proofs.SoundConfigurations.{step_sound}
@@ -87,7 +86,7 @@ opened_resets app (Act i case with ∷ es) (Did reply ∷ ds) c some =
 
 module _ {L : Type 0} (app : App L) (Inv : Graph → (ℕ → L) → Type 0) (keeps : (g : Graph) (bound : ℕ) → IsGraph g → length g.ids ≤ bound → Keeps app g bound (Inv g)) (c c' : Configuration L) (es : List Event) (ds : List Done) (graph : IsGraph c.graph) (whole : IsConnected c.graph) (shaped : IsShaped c) (sound : IsSound c) (run : IsRun app c es ds c') where
   here : Keeps app c.graph (node_bound c.graph) (Inv c.graph)
-  here = keeps c.graph (node_bound c.graph) graph (omega (arith, bound_is c.graph))
+  here = keeps c.graph (node_bound c.graph) graph graph.bounded
 
   on_graph_of_end : Inv c.graph (abstract_of app c') → Inv c'.graph (abstract_of app c')
   on_graph_of_end inv =

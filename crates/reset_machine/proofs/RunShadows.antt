@@ -10,7 +10,7 @@ use Rattle.reset_machine.specs.declared.step.Done.{Done}
 use Rattle.reset_machine.specs.declared.step.Done.TheVariants.{Did, Refused}
 use Rattle.reset_machine.specs.Configuration.{Configuration, IsShaped, tree_of, wave_of, local_of}
 use Rattle.reset_machine.specs.MachineSteps.{IsStep, IsActStep, row_step, act_step, local_effect}
-use Rattle.reset_machine.specs.Outcome.{outcome_of}
+use Rattle.reset_machine.specs.Planned.{outcome_of}
 use Rattle.reset_machine.specs.Refinement.{AbstractStep, Do, IsAbstractRun, abstract_of, has_joined, left_of, shadow, shadow_of}
 use Rattle.reset_machine.specs.Runs.{IsRun}
 use Rattle.reset_machine.specs.Sound.{IsSound, claims, follows, adopts, mends}

@@ -21,7 +21,6 @@ use Rattle.reset_machine.specs.WavePicture.{WavePicture}
 use Rattle.reset_machine.specs.Sound.{Sound, IsSound, IsComplete, Repairs, claims, follows, adopts, mends}
 use Rattle.reset_machine.specs.Outcome.{IsBoot}
 use Rattle.reset_machine.proofs.Places.{value_at-place}
-use Rattle.reset_machine.proofs.Planned.{bound_is}
 use Rattle.reset_machine.proofs.WavePictures.{sound_where_picture}
 use Rattle.reset_machine.proofs.SoundSteps.{sound_stays, sound_rests}
 use Rattle.reset_machine.proofs.Completions.{completed}
@@ -66,7 +65,7 @@ boot_wave_picture app g c boot =
 pub pictures_sound : {L : Type 0} (c : Configuration L) → IsGraph c.graph → IsConnected c.graph → TreePicture c.graph (tree_of c) → WavePicture c.graph (tree_of c) (wave_of c) → IsSound c
 pictures_sound c graph whole tree wave =
     record {
-      tree = (rests_where_picture c.graph (node_bound c.graph) (tree_of c) graph (omega (arith, bound_is c.graph))).1 tree;
+      tree = (rests_where_picture c.graph (node_bound c.graph) (tree_of c) graph graph.bounded).1 tree;
       wave = (sound_where_picture c.graph (tree_of c) (wave_of c) graph whole tree).1 wave;
     }
 

@@ -9,7 +9,7 @@ use Rattle.wave_layer.specs.declared.regs.WaveRegs.{WaveRegs}
 use Rattle.wave_layer.specs.declared.regs.WaveMove.{WaveMove}
 use Rattle.reset_machine.specs.declared.event.Event.{Event}
 use Rattle.reset_machine.specs.declared.event.Event.TheVariants.{Claim, Follow, Adopt, Request, Relay, Open, Join, Finish, Mend, Act}
-use Rattle.reset_machine.specs.declared.plan.Effect.TheVariants.{Wave}
+use Rattle.reset_machine.specs.declared.plan.Fired.TheVariants.{Wave}
 use Rattle.reset_machine.specs.declared.step.Reply.{Reply}
 use Rattle.reset_machine.specs.declared.step.Reply.TheVariants.{Complete}
 use Rattle.reset_machine.specs.declared.step.StepRefusal.{StepRefusal}
@@ -17,10 +17,12 @@ use Rattle.reset_machine.specs.declared.step.StepRefusal.TheVariants.{NoMemory}
 use Rattle.reset_machine.specs.Configuration.{Configuration, IsShaped, put_at, start_list, tree_of, wave_of, with_locals, with_wave}
 use Rattle.reset_machine.specs.LocalSteps.{planned_of}
 use Rattle.reset_machine.specs.MachineSteps.{IsStep, IsRefused}
-use Rattle.reset_machine.specs.Outcome.{act_outcome, after_effect, effect_reply, outcome_of, restarted, row_outcome}
+use Rattle.reset_machine.specs.Outcome.{act_outcome, after_fired, fired_reply, restarted, row_outcome}
+use Rattle.reset_machine.specs.Planned.{outcome_of}
 use Rattle.reset_machine.specs.Sound.{IsComplete, IsSound, Repairs}
 use Rattle.reset_machine.specs.Steps.{event_node, is_act, reply_of}
 use Rattle.reset_machine.proofs.ConfigurationSteps.{outcome_is_step, outcome_is_refused, outcome-rows, put_wave_outcome}
+use Rattle.reset_machine.proofs.ViewedOutcomes.{outcome-is}
 use Rattle.reset_machine.proofs.Places.{id_at-position, put_at-position}
 use Rattle.reset_machine.proofs.RunLists.{take_more}
 use Rattle.reset_machine.proofs.SoundConfigurations.{step_complete, step_quiet, step_sound, same_value}
@@ -43,15 +45,15 @@ module _ {L : Type 0} (app : App L) (c c' : Configuration L) (e : Event) where
   abbrev pub IsOutcome : Result Reply StepRefusal → Type 0
   IsOutcome r = MatchResult r (λ reply. outcome_of app c e ≡ Ok (c', reply)) (λ f. f ≢ NoMemory → outcome_of app c e ≡ Err f)
 
-  pub act_is_outcome : (i case : ℕ) (with : Option ℕ) → e ≡ Act i case with → (r : Result Reply StepRefusal)
+  pub act_is_outcome : IsGraph c.graph → (i case : ℕ) (with : Option ℕ) → e ≡ Act i case with → (r : Result Reply StepRefusal)
       → MatchResult r (λ reply. act_outcome app c i case with ≡ Ok (c', reply)) (λ f. f ≢ NoMemory → act_outcome app c i case with ≡ Err f) → IsOutcome r
-  act_is_outcome i case with is (Ok reply) h = ap (outcome_of app c) is ∙ h
-  act_is_outcome i case with is (Err f) h = λ other. ap (outcome_of app c) is ∙ h other
+  act_is_outcome graph i case with is (Ok reply) h = ap (outcome_of app c) is ∙ outcome-is app c graph (Act i case with) ∙ h
+  act_is_outcome graph i case with is (Err f) h = λ other. ap (outcome_of app c) is ∙ outcome-is app c graph (Act i case with) ∙ h other
 
-  pub row_is_outcome : is_act e ≡ false → (r : Result Reply StepRefusal)
+  pub row_is_outcome : IsGraph c.graph → is_act e ≡ false → (r : Result Reply StepRefusal)
       → MatchResult r (λ reply. row_outcome app c e ≡ Ok (c', reply)) (λ f. f ≢ NoMemory → row_outcome app c e ≡ Err f) → IsOutcome r
-  row_is_outcome row (Ok reply) h = outcome-rows app c e row ∙ h
-  row_is_outcome row (Err f) h = λ other. outcome-rows app c e row ∙ h other
+  row_is_outcome graph row (Ok reply) h = outcome-rows app c e graph row ∙ h
+  row_is_outcome graph row (Err f) h = λ other. outcome-rows app c e graph row ∙ h other
 
   module _ (graph : IsGraph c.graph) (shaped : IsShaped c) where
     pub answer_step : (r : Result Reply StepRefusal) → IsOutcome r → IfOk r (λ reply. IsStep app c e c')
@@ -82,9 +84,9 @@ module _ {L : Type 0} (app : App L) (c c' : Configuration L) (e : Event) where
 
   -- what a row of the wave table leaves is the outcome
   pub wave_is_outcome : (move : WaveMove) (at : ℕ) → planned_of c.graph (node_bound c.graph) (tree_of c) (wave_of c) e ≡ Ok (Wave move) → at ≡ event_node e → (r : Result Reply StepRefusal)
-      → IfOk r (λ reply. (reply ≡ effect_reply (Wave move)) × (c' ≡ after_effect app c at (Wave move))) → IfErr r (λ f. f ≡ NoMemory)
+      → IfOk r (λ reply. (reply ≡ fired_reply (Wave move)) × (c' ≡ after_fired app c at (Wave move))) → IfErr r (λ f. f ≡ NoMemory)
       → MatchResult r (λ reply. row_outcome app c e ≡ Ok (c', reply)) (λ f. f ≢ NoMemory → row_outcome app c e ≡ Err f)
-  wave_is_outcome move at planned here (Ok reply) h none = put_wave_outcome app c c' e move reply planned h.0 (h.1 ∙ ap (λ i. after_effect app c i (Wave move)) here)
+  wave_is_outcome move at planned here (Ok reply) h none = put_wave_outcome app c c' e move reply planned h.0 (h.1 ∙ ap (λ i. after_fired app c i (Wave move)) here)
   wave_is_outcome move at planned here (Err f) h none = λ other. absurd (other none)
 
 -- ---- start states

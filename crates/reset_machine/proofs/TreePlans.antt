@@ -9,15 +9,15 @@ use Rattle.tree_layer.specs.TreeRows.{IsFather, Claims, claim_low, claim_self, c
 use Rattle.tree_layer.specs.TreeTable.{near_regs}
 use Rattle.wave_layer.specs.declared.regs.WaveRegs.{WaveRegs}
 use Rattle.reset_machine.specs.declared.event.Event.TheVariants.{Claim, Follow, Adopt}
-use Rattle.reset_machine.specs.declared.plan.Effect.{Effect}
-use Rattle.reset_machine.specs.declared.plan.Effect.TheVariants.{Tree, Wave}
+use Rattle.reset_machine.specs.declared.plan.Fired.{Fired}
+use Rattle.reset_machine.specs.declared.plan.Fired.TheVariants.{Tree, Wave}
 use Rattle.reset_machine.specs.declared.step.StepRefusal.{StepRefusal}
 use Rattle.reset_machine.specs.declared.step.StepRefusal.TheVariants.{StrangeNode, StrangeNeighbour, NoSuchCase, WantsNeighbour, TakesNoNeighbour, Disagrees, NotEnabled, SessionsSpent, NoMemory}
 use Rattle.reset_machine.specs.LocalSteps.{answer_of}
 use Rattle.reset_machine.proofs.Seen.{lookup-among}
 
 -- an event that is enabled where E holds leaves these registers
-abbrev pub IsTreeAnswer : Result Effect StepRefusal → Type 0 → TreeRegs → Type 0
+abbrev pub IsTreeAnswer : Result Fired StepRefusal → Type 0 → TreeRegs → Type 0
 IsTreeAnswer (Ok (Tree own)) E regs = E × (own ≡ regs)
 IsTreeAnswer (Ok (Wave move)) E regs = ⊥
 IsTreeAnswer (Err StrangeNode) E regs = ⊥

@@ -12,8 +12,8 @@ use Rattle.reset_machine.specs.declared.event.Event.TheVariants.{Claim, Follow, 
 use Rattle.reset_machine.specs.declared.step.StepRefusal.{StepRefusal}
 use Rattle.reset_machine.specs.declared.step.StepRefusal.TheVariants.{StrangeNode, StrangeNeighbour, NoSuchCase, WantsNeighbour, TakesNoNeighbour, Disagrees, NotEnabled, SessionsSpent, NoMemory}
 use Rattle.tree_layer.specs.TreeRows.{IsFather}
-use Rattle.reset_machine.specs.declared.plan.Effect.{Effect}
-use Rattle.reset_machine.specs.declared.plan.Effect.TheVariants as effect
+use Rattle.reset_machine.specs.declared.plan.Fired.{Fired}
+use Rattle.reset_machine.specs.declared.plan.Fired.TheVariants as fired
 use Rattle.reset_machine.specs.Steps.{join_normal, join_asked, mend_reset, mend_number, mend_both, mend_late, IsEnabled, IsSpent, Joins, Finishes, Mends, wave_effect}
 use Rattle.reset_machine.specs.LocalSteps.{father_seen, children_of, answer_of}
 use Rattle.reset_machine.proofs.WaveRows.{IsAnswer, IsInvited, IsTorn, Contradict, one_reset, other_number, both_reset, too_late, request_answers, relay_answers, relay_answers-stranger, open_answers, join_answers, finish_answers, mend_answers}
@@ -21,9 +21,9 @@ use Rattle.topology.specs.Building.{has}
 use Rattle.reset_machine.proofs.Seen.{father_seen-itself, father_seen-IsFather, IsFather-father_seen, is_root-father_seen, itself-father_seen, lookup-among, children_done-each, each-children_done, IsFather-is_child, is_child-IsFather}
 
 -- an answer under other names of its parts
-answer_as : (r : Result Effect StepRefusal) (S : Type 0) (d : Bool) {E E' : Type 0} {regs regs' : WaveRegs} {b b' : Bool} → IsAnswer r E S regs b d → (E → E') → (E' → E) → (E → regs ≡ regs') → b ≡ b' → IsAnswer r E' S regs' b' d
-answer_as (Ok (effect.Tree regs)) S d h there back same flag = h
-answer_as (Ok (effect.Wave move)) S d h there back same flag = (there h.0, h.1, h.2 ∙ same h.0, h.3 ∙ flag, h.4)
+answer_as : (r : Result Fired StepRefusal) (S : Type 0) (d : Bool) {E E' : Type 0} {regs regs' : WaveRegs} {b b' : Bool} → IsAnswer r E S regs b d → (E → E') → (E' → E) → (E → regs ≡ regs') → b ≡ b' → IsAnswer r E' S regs' b' d
+answer_as (Ok (fired.Tree regs)) S d h there back same flag = h
+answer_as (Ok (fired.Wave move)) S d h there back same flag = (there h.0, h.1, h.2 ∙ same h.0, h.3 ∙ flag, h.4)
 answer_as (Err NotEnabled) S d h there back same flag = λ e. h (back e)
 answer_as (Err SessionsSpent) S d h there back same flag = (there h.0, h.1)
 answer_as (Err StrangeNode) S d h there back same flag = h
@@ -66,7 +66,7 @@ awake_phase Initiate is = inr refl
 awake_phase Reset is = absurd (true≢false is)
 
 module _ (g : Graph) (K : ℕ) (t : ℕ → TreeRegs) (w : ℕ → WaveRegs) (graph : IsGraph g) where
-  abbrev answer : Event → Result Effect StepRefusal
+  abbrev answer : Event → Result Fired StepRefusal
   answer e = answer_of g K t w e
 
   abbrev children : ℕ → List (ℕ × WaveRegs)

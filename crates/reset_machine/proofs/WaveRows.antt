@@ -10,15 +10,15 @@ use Rattle.wave_layer.specs.declared.regs.FatherSeen.TheVariants.{Itself, Lost, 
 use Rattle.wave_layer.specs.WaveTable.{LocalView, is_reset, is_root, father_regs, children_done, child_regs, next_session}
 use Rattle.reset_machine.specs.declared.step.StepRefusal.{StepRefusal}
 use Rattle.reset_machine.specs.declared.step.StepRefusal.TheVariants.{StrangeNode, StrangeNeighbour, NoSuchCase, WantsNeighbour, TakesNoNeighbour, Disagrees, NotEnabled, SessionsSpent, NoMemory}
-use Rattle.reset_machine.specs.declared.plan.Effect.{Effect}
-use Rattle.reset_machine.specs.declared.plan.Effect.TheVariants as effect
+use Rattle.reset_machine.specs.declared.plan.Fired.{Fired}
+use Rattle.reset_machine.specs.declared.plan.Fired.TheVariants as fired
 use Rattle.reset_machine.specs.declared.plan.Seen.TheVariants.{Wave}
 use Rattle.reset_machine.specs.LocalSteps.{first_answer}
 
 -- an event that is enabled where E holds and spent where S does leaves these registers, and completes a reset, and restarts the local state, or not
-abbrev pub IsAnswer : Result Effect StepRefusal → Type 0 → Type 0 → WaveRegs → Bool → Bool → Type 0
-IsAnswer (Ok (effect.Tree own)) E S regs completes restarts = ⊥
-IsAnswer (Ok (effect.Wave move)) E S regs completes restarts = E × (S → ⊥) × (move.regs ≡ regs) × (move.completes ≡ completes) × (move.restarts ≡ restarts)
+abbrev pub IsAnswer : Result Fired StepRefusal → Type 0 → Type 0 → WaveRegs → Bool → Bool → Type 0
+IsAnswer (Ok (fired.Tree own)) E S regs completes restarts = ⊥
+IsAnswer (Ok (fired.Wave move)) E S regs completes restarts = E × (S → ⊥) × (move.regs ≡ regs) × (move.completes ≡ completes) × (move.restarts ≡ restarts)
 IsAnswer (Err NotEnabled) E S regs completes restarts = E → ⊥
 IsAnswer (Err SessionsSpent) E S regs completes restarts = E × S
 IsAnswer (Err StrangeNode) E S regs completes restarts = ⊥

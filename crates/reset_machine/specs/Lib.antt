@@ -13,3 +13,5 @@ pub mod Sound
 pub mod Enabled
 pub mod Refinement
 pub mod Completion
+pub mod View
+pub mod Planned

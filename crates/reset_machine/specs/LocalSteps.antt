@@ -16,8 +16,8 @@ use Rattle.wave_layer.specs.declared.regs.WaveRefusal.TheVariants as wave_refusa
 use Rattle.wave_layer.specs.WaveTable.{LocalView, wave_fired}
 use Rattle.reset_machine.specs.declared.event.Event.{Event}
 use Rattle.reset_machine.specs.declared.event.Event.TheVariants.{Claim, Follow, Adopt, Request, Relay, Open, Join, Finish, Mend, Act}
-use Rattle.reset_machine.specs.declared.plan.Effect.{Effect}
-use Rattle.reset_machine.specs.declared.plan.Effect.TheVariants as effect
+use Rattle.reset_machine.specs.declared.plan.Fired.{Fired}
+use Rattle.reset_machine.specs.declared.plan.Fired.TheVariants as fired
 use Rattle.reset_machine.specs.declared.plan.Seen.{Seen}
 use Rattle.reset_machine.specs.declared.plan.Seen.TheVariants.{Tree, Wave}
 use Rattle.reset_machine.specs.declared.step.StepRefusal.{StepRefusal}
@@ -58,27 +58,27 @@ cases_of (Mend i) = 8 ∷ 9 ∷ 10 ∷ 11 ∷ []
 cases_of (Act i case with) = []
 
 -- an answer of the tree table
-abbrev pub tree_answer : Result TreeRegs TreeRefusal → Result Effect StepRefusal
-tree_answer (Ok regs) = Ok (effect.Tree regs)
+abbrev pub tree_answer : Result TreeRegs TreeRefusal → Result Fired StepRefusal
+tree_answer (Ok regs) = Ok (fired.Tree regs)
 tree_answer (Err tree_refusal.NoSuchCase) = Err NotEnabled
 tree_answer (Err tree_refusal.StrangeNeighbour) = Err StrangeNeighbour
 tree_answer (Err tree_refusal.NotEnabled) = Err NotEnabled
 
 -- an answer of the wave table. A neighbour that is no child can't have asked
-abbrev pub wave_answer : Result WaveMove WaveRefusal → Result Effect StepRefusal
-wave_answer (Ok move) = Ok (effect.Wave move)
+abbrev pub wave_answer : Result WaveMove WaveRefusal → Result Fired StepRefusal
+wave_answer (Ok move) = Ok (fired.Wave move)
 wave_answer (Err wave_refusal.NoSuchCase) = Err NotEnabled
 wave_answer (Err wave_refusal.NotChild) = Err NotEnabled
 wave_answer (Err wave_refusal.NotEnabled) = Err NotEnabled
 wave_answer (Err wave_refusal.SessionsSpent) = Err SessionsSpent
 
 -- row n of the layer's table
-abbrev pub row_answer : Seen → Option ℕ → ℕ → Result Effect StepRefusal
+abbrev pub row_answer : Seen → Option ℕ → ℕ → Result Fired StepRefusal
 row_answer (Tree v) named n = tree_answer (tree_fired v n named)
 row_answer (Wave v) named n = wave_answer (wave_fired v n named)
 
 -- the answer, unless no guard held
-abbrev pub or_next : Result Effect StepRefusal → Result Effect StepRefusal → Result Effect StepRefusal
+abbrev pub or_next : Result Fired StepRefusal → Result Fired StepRefusal → Result Fired StepRefusal
 or_next (Ok does) next = Ok does
 or_next (Err StrangeNode) next = Err StrangeNode
 or_next (Err StrangeNeighbour) next = Err StrangeNeighbour
@@ -91,7 +91,7 @@ or_next (Err SessionsSpent) next = Err SessionsSpent
 or_next (Err NoMemory) next = Err NoMemory
 
 -- the first of these rows whose guard holds
-abbrev pub first_answer : Seen → Option ℕ → List ℕ → Result Effect StepRefusal
+abbrev pub first_answer : Seen → Option ℕ → List ℕ → Result Fired StepRefusal
 first_answer v named [] = Err NotEnabled
 first_answer v named (n ∷ ns) = or_next (row_answer v named n) (first_answer v named ns)
 
@@ -101,11 +101,11 @@ is_neighbour g i None = true
 is_neighbour g i (Some j) = are_linked g i j
 
 -- what the rows of the event answer at its node
-abbrev pub answer_of : Graph → ℕ → (ℕ → TreeRegs) → (ℕ → WaveRegs) → Event → Result Effect StepRefusal
+abbrev pub answer_of : Graph → ℕ → (ℕ → TreeRegs) → (ℕ → WaveRegs) → Event → Result Fired StepRefusal
 answer_of g K t w e = first_answer (seen_of g K t w e) (named_node e) (cases_of e)
 
 -- what the event's node does, or the first refusal
-abbrev pub planned_of : Graph → ℕ → (ℕ → TreeRegs) → (ℕ → WaveRegs) → Event → Result Effect StepRefusal
+abbrev pub planned_of : Graph → ℕ → (ℕ → TreeRegs) → (ℕ → WaveRegs) → Event → Result Fired StepRefusal
 planned_of g K t w e =
     if not (list_any (λ i. i == event_node e) g.ids) then Err StrangeNode
     else (if not (is_neighbour g (event_node e) (named_node e)) then Err StrangeNeighbour

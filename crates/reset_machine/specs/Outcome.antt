@@ -8,8 +8,8 @@ use Rattle.wave_layer.specs.declared.regs.WaveRegs.{WaveRegs}
 use Rattle.wave_layer.specs.declared.regs.Phase.TheVariants.{Normal}
 use Rattle.reset_machine.specs.declared.event.Event.{Event}
 use Rattle.reset_machine.specs.declared.event.Event.TheVariants.{Claim, Follow, Adopt, Request, Relay, Open, Join, Finish, Mend, Act}
-use Rattle.reset_machine.specs.declared.plan.Effect.{Effect}
-use Rattle.reset_machine.specs.declared.plan.Effect.TheVariants.{Tree, Wave}
+use Rattle.reset_machine.specs.declared.plan.Fired.{Fired}
+use Rattle.reset_machine.specs.declared.plan.Fired.TheVariants.{Tree, Wave}
 use Rattle.reset_machine.specs.declared.step.Reply.{Reply}
 use Rattle.reset_machine.specs.declared.step.Reply.TheVariants.{Applied, Complete}
 use Rattle.reset_machine.specs.declared.step.StepRefusal.{StepRefusal}
@@ -23,32 +23,32 @@ abbrev pub restarted : {L : Type 0} → App L → Configuration L → ℕ → Bo
 restarted app c i restarts = if restarts then put_at c.graph.ids c.locals i (app.start c.graph i) else c.locals
 
 -- the configuration in which i has done this
-abbrev pub after_effect : {L : Type 0} → App L → Configuration L → ℕ → Effect → Configuration L
-after_effect app c i (Tree regs) = with_tree c i regs
-after_effect app c i (Wave move) = with_wave (with_locals c (restarted app c i move.restarts)) i move.regs
+abbrev pub after_fired : {L : Type 0} → App L → Configuration L → ℕ → Fired → Configuration L
+after_fired app c i (Tree regs) = with_tree c i regs
+after_fired app c i (Wave move) = with_wave (with_locals c (restarted app c i move.restarts)) i move.regs
 
 -- the tree registers that an effect leaves of a node's own
-abbrev pub tree_left : TreeRegs → Effect → TreeRegs
+abbrev pub tree_left : TreeRegs → Fired → TreeRegs
 tree_left own (Tree regs) = regs
 tree_left own (Wave move) = own
 
 -- the wave registers that it leaves
-abbrev pub wave_left : WaveRegs → Effect → WaveRegs
+abbrev pub wave_left : WaveRegs → Fired → WaveRegs
 wave_left own (Tree regs) = own
 wave_left own (Wave move) = move.regs
 
 -- whether it restarts the local state
-abbrev pub effect_restarts : Effect → Bool
-effect_restarts (Tree regs) = false
-effect_restarts (Wave move) = move.restarts
+abbrev pub fired_restarts : Fired → Bool
+fired_restarts (Tree regs) = false
+fired_restarts (Wave move) = move.restarts
 
 -- what the node replies
-abbrev pub effect_reply : Effect → Reply
-effect_reply (Tree regs) = Applied
-effect_reply (Wave move) = if move.completes then Complete move.regs.session else Applied
+abbrev pub fired_reply : Fired → Reply
+fired_reply (Tree regs) = Applied
+fired_reply (Wave move) = if move.completes then Complete move.regs.session else Applied
 
-abbrev pub done : {L : Type 0} → App L → Configuration L → ℕ → Result Effect StepRefusal → Result (Configuration L × Reply) StepRefusal
-done app c i (Ok does) = Ok (after_effect app c i does, effect_reply does)
+abbrev pub done : {L : Type 0} → App L → Configuration L → ℕ → Result Fired StepRefusal → Result (Configuration L × Reply) StepRefusal
+done app c i (Ok does) = Ok (after_fired app c i does, fired_reply does)
 done app c i (Err refusal) = Err refusal
 
 -- the outcome of an event of the two tables
@@ -64,17 +64,17 @@ abbrev pub act_outcome : {L : Type 0} → App L → Configuration L → ℕ → 
 act_outcome app c i case with = acted c i (acted_of app c.graph (node_bound c.graph) (wave_of c) (local_of app c) i case with)
 
 -- the configuration after the event, with the reply
-abbrev pub outcome_of : {L : Type 0} → App L → Configuration L → Event → Result (Configuration L × Reply) StepRefusal
-outcome_of app c (Claim i) = row_outcome app c (Claim i)
-outcome_of app c (Follow i) = row_outcome app c (Follow i)
-outcome_of app c (Adopt i j) = row_outcome app c (Adopt i j)
-outcome_of app c (Request i) = row_outcome app c (Request i)
-outcome_of app c (Relay i k) = row_outcome app c (Relay i k)
-outcome_of app c (Open i) = row_outcome app c (Open i)
-outcome_of app c (Join i) = row_outcome app c (Join i)
-outcome_of app c (Finish i) = row_outcome app c (Finish i)
-outcome_of app c (Mend i) = row_outcome app c (Mend i)
-outcome_of app c (Act i case with) = act_outcome app c i case with
+abbrev pub map_outcome : {L : Type 0} → App L → Configuration L → Event → Result (Configuration L × Reply) StepRefusal
+map_outcome app c (Claim i) = row_outcome app c (Claim i)
+map_outcome app c (Follow i) = row_outcome app c (Follow i)
+map_outcome app c (Adopt i j) = row_outcome app c (Adopt i j)
+map_outcome app c (Request i) = row_outcome app c (Request i)
+map_outcome app c (Relay i k) = row_outcome app c (Relay i k)
+map_outcome app c (Open i) = row_outcome app c (Open i)
+map_outcome app c (Join i) = row_outcome app c (Join i)
+map_outcome app c (Finish i) = row_outcome app c (Finish i)
+map_outcome app c (Mend i) = row_outcome app c (Mend i)
+map_outcome app c (Act i case with) = act_outcome app c i case with
 
 -- the booted configuration of a graph: the tree of shortest ways to the leader, no reset, session 0,
 -- and the start states

@@ -12,7 +12,7 @@ use Rattle.reset_machine.specs.declared.step.Done.TheVariants.{Did, Refused}
 use Rattle.reset_machine.specs.declared.step.Reply.{Reply}
 use Rattle.reset_machine.specs.declared.step.StepRefusal.{StepRefusal}
 use Rattle.reset_machine.specs.Configuration.{Configuration, wave_of, local_of}
-use Rattle.reset_machine.specs.Outcome.{outcome_of}
+use Rattle.reset_machine.specs.Planned.{outcome_of}
 
 -- ---- the abstract machine, whose state is the local states of the nodes
 

@@ -6,7 +6,7 @@ use Rattle.reset_machine.specs.declared.step.Done.{Done}
 use Rattle.reset_machine.specs.declared.step.Done.TheVariants.{Did, Refused}
 use Rattle.reset_machine.specs.declared.step.StepRefusal.TheVariants.{NoMemory}
 use Rattle.reset_machine.specs.Configuration.{Configuration}
-use Rattle.reset_machine.specs.Outcome.{outcome_of}
+use Rattle.reset_machine.specs.Planned.{outcome_of}
 
 -- the event was answered so, and c became c'; want of memory may stand in place of any answer
 abbrev pub Answers : {L : Type 0} → App L → Configuration L → Event → Done → Configuration L → Type 0

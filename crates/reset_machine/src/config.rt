@@ -3,13 +3,13 @@
 ghost use Rattle.std.specs.Prelude.{◌≡◌, ◌≢◌, ℕ, ◌<◌, true, ◌==◌, position, Some, IfOk, IfErr, IfSome, IfNone, OnOk, OnErr, MatchResult, Ok, Err};
 ghost use Rattle.topology.specs.Graph.{IsConnected, IsGraph, IsNode, greatest, node_bound};
 ghost use Rattle.reset_machine.specs.Configuration.{IsShaped, start_list};
-ghost use Rattle.reset_machine.specs.Outcome.{after_effect, effect_reply};
-ghost use Rattle.reset_machine.specs.declared.plan.Effect.TheVariants.{Wave};
+ghost use Rattle.reset_machine.specs.Outcome.{after_fired, fired_reply};
+ghost use Rattle.reset_machine.specs.declared.plan.Fired.TheVariants.{Wave};
 
 use crate::action::{Choice, acted};
 use crate::enabled::{Enabled, enabled_at, ready_ids};
 use crate::event::Event;
-use crate::plan::{Effect, planned};
+use crate::plan::{Fired, planned};
 use crate::run_laws::{completions, invariants, refinement};
 use crate::step::{Done, Reply, StepRefusal, reply_to};
 use app_interface::Application;
@@ -57,7 +57,8 @@ impl<P: Application> Config<P> {
     ghost use Rattle.reset_machine.specs.Refinement.{abstract_of, IsAbstractRun, shadow, shadow_of};
     ghost use Rattle.reset_machine.specs.Runs.{Answers, IsRun};
     ghost use Rattle.reset_machine.specs.Steps.{reply_of};
-    ghost use Rattle.reset_machine.specs.Outcome.{IsBoot, act_outcome, outcome_of, row_outcome};
+    ghost use Rattle.reset_machine.specs.Outcome.{IsBoot, act_outcome, row_outcome};
+    ghost use Rattle.reset_machine.specs.Planned.{outcome_of};
     ghost use Rattle.reset_machine.specs.Sound.{IsComplete, IsSound, Repairs};
     ghost use Rattle.reset_machine.specs.WavePicture.{HasJoined, WavePicture};
     ghost use Rattle.tree_layer.specs.TreePicture.{TreePicture};
@@ -160,11 +161,11 @@ impl<P: Application> Config<P> {
     {
         match planned(alloc, &self.topology, &self.trees, &self.waves, event) {
             Ok((ix, effect)) => match effect {
-                Effect::Tree(after) => {
+                Fired::Tree(after) => {
                     self.trees[ix] = after;
                     Ok(Reply::Applied)
                 }
-                Effect::Wave(fired) => self.write_wave(alloc, event.node(), ix, fired),
+                Fired::Wave(fired) => self.write_wave(alloc, event.node(), ix, fired),
             },
             Err(refusal) => Err(refusal),
         }
@@ -180,7 +181,7 @@ impl<P: Application> Config<P> {
         fired: WaveMove,
     ) -> Result<Reply, StepRefusal>
         requires place { position (λ i. i == at) self.old.graph.ids ≡ Some ix }
-        ensures ok { IfOk result (λ reply. (reply ≡ effect_reply (Wave fired)) × (self.new ≡ after_effect P.app self.old at (Wave fired))) }
+        ensures ok { IfOk result (λ reply. (reply ≡ fired_reply (Wave fired)) × (self.new ≡ after_fired P.app self.old at (Wave fired))) }
         ensures memory { IfErr result (λ f. f ≡ StepRefusal.NoMemory) }
         ensures kept { OnErr result (self.new ≡ self.old) }
     {

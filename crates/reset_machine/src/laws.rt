@@ -9,7 +9,8 @@ ghost use Rattle.reset_machine.specs.declared.event.Event.{Event};
 ghost use Rattle.reset_machine.specs.Configuration.{Configuration, IsShaped, tree_of, wave_of};
 ghost use Rattle.reset_machine.specs.Steps.{event_node, IsEnabled, Mends, RegsStep, reply_of, reset_at};
 ghost use Rattle.reset_machine.specs.MachineSteps.{IsStep, IsRefused};
-ghost use Rattle.reset_machine.specs.Outcome.{outcome_of};
+ghost use Rattle.reset_machine.specs.Outcome.{map_outcome};
+ghost use Rattle.reset_machine.specs.Planned.{outcome_of};
 ghost use Rattle.reset_machine.specs.Sound.{Repairs, Sound};
 ghost use Rattle.reset_machine.specs.WavePicture.{WavePicture, WaveSound};
 ghost use Rattle.reset_machine.specs.declared.event.Event.TheVariants.{Finish};
@@ -21,6 +22,11 @@ pub fn outcomes_are_steps<P: Application>()
     ensures { (c : Configuration P.Local) (e : Event) → IsGraph c.graph → IsShaped c → MatchResult (outcome_of P.app c e)
         (λ after. IsStep P.app c e after.0 × (after.1 ≡ reply_of (tree_of c) (wave_of c) e))
         (IsRefused P.app c e) }
+{}
+
+/// The outcome of an event is what its node's view says of it, written at the node.
+pub fn views_decide<P: Application>()
+    ensures { (c : Configuration P.Local) (e : Event) → IsGraph c.graph → outcome_of P.app c e ≡ map_outcome P.app c e }
 {}
 
 /// No mending row is enabled at any node exactly where the predicate holds at every father link.

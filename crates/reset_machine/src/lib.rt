@@ -17,7 +17,7 @@ mod view;
 pub use config::Config;
 pub use enabled::Enabled;
 pub use event::Event;
-pub use laws::outcomes_are_steps;
+pub use laws::{outcomes_are_steps, views_decide};
 pub use run_laws::{invariants, joins_once, refinement, runs_stay_sound};
 pub use step::{Done, Reply, StepRefusal};
 pub use text::{

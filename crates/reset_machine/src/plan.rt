@@ -17,8 +17,19 @@ use tree_layer::{TreeRefusal, TreeRegs, TreeView, tree_fire};
 use wave_layer::{WaveMove, WaveRefusal, WaveRegs, WaveView, wave_fire};
 
 /// What an event does at its node.
+#[derive(Drop)]
+pub enum Effect<L> {
+    /// The tree registers become these.
+    Tree(TreeRegs),
+    /// The wave registers become these and, where the node restarts, the local state becomes that.
+    Wave(WaveRegs, Option<L>),
+    /// The local state becomes this.
+    Local(L),
+}
+
+/// What a row of one of the two tables leaves.
 #[derive(Clone, Copy)]
-pub enum Effect {
+pub enum Fired {
     /// The tree registers become these.
     Tree(TreeRegs),
     /// A row of the wave table was fired.
@@ -39,7 +50,7 @@ pub fn planned(
     trees: &[TreeRegs],
     waves: &[WaveRegs],
     event: Event,
-) -> Result<(usize, Effect), StepRefusal>
+) -> Result<(usize, Fired), StepRefusal>
     requires all_trees { length trees.now ≡ length topology.now.ids }
     requires all_waves { length waves.now ≡ length topology.now.ids }
     ensures place { IfOk result (λ p. position (λ i. i == event_node event) topology.now.ids ≡ Some p.0) }
@@ -67,7 +78,7 @@ fn answer(
     waves: &[WaveRegs],
     event: Event,
     ix: usize,
-) -> Result<Effect, StepRefusal>
+) -> Result<Fired, StepRefusal>
     requires place { position (λ i. i == event_node event) topology.now.ids ≡ Some ix }
     requires all_trees { length trees.now ≡ length topology.now.ids }
     requires all_waves { length waves.now ≡ length topology.now.ids }
@@ -96,7 +107,7 @@ fn tree_answer(
     waves: &[WaveRegs],
     event: Event,
     ix: usize,
-) -> Result<Effect, StepRefusal>
+) -> Result<Fired, StepRefusal>
     requires tree { is_of_tree event ≡ true }
     requires place { position (λ i. i == event_node event) topology.now.ids ≡ Some ix }
     requires all_trees { length trees.now ≡ length topology.now.ids }
@@ -118,7 +129,7 @@ fn wave_answer(
     waves: &[WaveRegs],
     event: Event,
     ix: usize,
-) -> Result<Effect, StepRefusal>
+) -> Result<Fired, StepRefusal>
     requires wave { is_of_tree event ≡ false }
     requires place { position (λ i. i == event_node event) topology.now.ids ≡ Some ix }
     requires all_trees { length trees.now ≡ length topology.now.ids }
@@ -133,7 +144,7 @@ fn wave_answer(
 
 // Fires the first of the rows whose guard holds.
 #[inline(always)]
-fn first_answer(seen: &Seen<'_>, named: Option<u32>, cases: &[u8]) -> Result<Effect, StepRefusal>
+fn first_answer(seen: &Seen<'_>, named: Option<u32>, cases: &[u8]) -> Result<Fired, StepRefusal>
     ensures { result ≡ first_answer seen.now named cases.now }
 {
     for case in cases {
@@ -147,17 +158,17 @@ fn first_answer(seen: &Seen<'_>, named: Option<u32>, cases: &[u8]) -> Result<Eff
 
 // Fires a row of the layer's table.
 #[inline(always)]
-fn row_answer(seen: &Seen<'_>, named: Option<u32>, case: u8) -> Result<Effect, StepRefusal>
+fn row_answer(seen: &Seen<'_>, named: Option<u32>, case: u8) -> Result<Fired, StepRefusal>
     ensures { result ≡ row_answer seen.now named case }
 {
     match seen {
         Seen::Tree(view) => match tree_fire(view, case, named) {
-            Ok(regs) => Ok(Effect::Tree(regs)),
+            Ok(regs) => Ok(Fired::Tree(regs)),
             Err(TreeRefusal::StrangeNeighbour) => Err(StepRefusal::StrangeNeighbour),
             Err(TreeRefusal::NoSuchCase | TreeRefusal::NotEnabled) => Err(StepRefusal::NotEnabled),
         },
         Seen::Wave(view) => match wave_fire(view, case, named) {
-            Ok(fired) => Ok(Effect::Wave(fired)),
+            Ok(fired) => Ok(Fired::Wave(fired)),
             Err(WaveRefusal::SessionsSpent) => Err(StepRefusal::SessionsSpent),
             Err(WaveRefusal::NoSuchCase | WaveRefusal::NotChild | WaveRefusal::NotEnabled) => {
                 Err(StepRefusal::NotEnabled)

@@ -2,8 +2,8 @@
 
 ghost use Rattle.std.specs.Prelude.{◌≡◌};
 ghost use Rattle.reset_machine.specs.declared.step.StepRefusal.TheVariants.{NoMemory};
-ghost use Rattle.reset_machine.specs.declared.plan.Effect.TheVariants.{Wave};
-ghost use Rattle.reset_machine.specs.Outcome.{effect_reply};
+ghost use Rattle.reset_machine.specs.declared.plan.Fired.TheVariants.{Wave};
+ghost use Rattle.reset_machine.specs.Outcome.{fired_reply};
 
 use std::alloc::{AllocError, AllocFailed};
 use wave_layer::WaveMove;
@@ -67,7 +67,7 @@ impl<T: Drop> From<AllocFailed<T>> for StepRefusal {
 
 // What a node that fired this row of the wave table replies.
 pub(crate) fn reply_to(fired: WaveMove) -> Reply
-    ensures { result ≡ effect_reply (Wave fired) }
+    ensures { result ≡ fired_reply (Wave fired) }
 {
     if fired.completes {
         Reply::Complete(fired.regs.session)

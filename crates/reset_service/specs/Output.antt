@@ -23,7 +23,8 @@ use Rattle.reset_machine.specs.declared.step.Reply.TheVariants.{Applied, Complet
 use Rattle.reset_machine.specs.declared.step.StepRefusal.{StepRefusal}
 use Rattle.reset_machine.specs.declared.step.StepRefusal.TheVariants.{StrangeNode, StrangeNeighbour, NoSuchCase, WantsNeighbour, TakesNoNeighbour, Disagrees, NotEnabled, SessionsSpent, NoMemory}
 use Rattle.reset_machine.specs.Configuration.{Configuration, tree_of, wave_of, local_of}
-use Rattle.reset_machine.specs.Outcome.{IsBoot, outcome_of}
+use Rattle.reset_machine.specs.Outcome.{IsBoot}
+use Rattle.reset_machine.specs.Planned.{outcome_of}
 use Rattle.reset_machine.specs.Enabled.{enabled_rows, ready_of}
 use Rattle.reset_machine.specs.Refinement.{has_joined}
 use Rattle.reset_machine.specs.declared.enabled.Enabled.{Enabled}

@@ -123,6 +123,7 @@ module _ (ids : List ℕ) (rows : List (List ℕ)) where
     pub graph_of_rows : 0 < length ids → IsGraph (graph_of ids rows)
     graph_of_rows some = record {
       some = some;
+      bounded = omega arith;
       ascending = up;
       symmetric = λ a b. same_tests _ _ (linked_symmetric a b) (linked_symmetric b a);
       irreflexive = λ a e.

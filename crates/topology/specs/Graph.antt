@@ -11,16 +11,18 @@ use Rattle.std.specs.FinSet as set
 abbrev pub pair_cmp : ℕ × ℕ → ℕ × ℕ → Ordering
 pair_cmp p q = slice_cmp nat_cmp (p.0 ∷ p.1 ∷ []) (q.0 ∷ q.1 ∷ [])
 
--- ids in ascending order, and the set of linked pairs, each in both directions
+-- ids in ascending order, the bound K of the distances, and the set of linked pairs, each in both
+-- directions
 pub record Graph : Type 0 where
   pub ids : List ℕ
+  pub bound : ℕ
   pub links : set.FinSet pair_cmp
 
--- a graph is stored as the pair of its parts
+-- a graph is stored as the tuple of its parts
 abbrev pub graph_code : Coded Graph
 graph_code =
-    code_by (List ℕ × set.FinSet pair_cmp) (coded× (coded_list coded_ℕ) (set.code (coded× coded_ℕ coded_ℕ)))
-    (λ g. (g.ids, g.links)) (λ p. record { ids = p.0; links = p.1 }) (λ _. refl)
+    code_by (List ℕ × (ℕ × set.FinSet pair_cmp)) (coded× (coded_list coded_ℕ) (coded× coded_ℕ (set.code (coded× coded_ℕ coded_ℕ))))
+    (λ g. (g.ids, (g.bound, g.links))) (λ p. record { ids = p.0; bound = p.1.0; links = p.1.1 }) (λ _. refl)
 
 abbrev pub IsNode : Graph → ℕ → Type 0
 IsNode g i = Contains g.ids i
@@ -32,8 +34,8 @@ abbrev pub AreLinked : Graph → ℕ → ℕ → Type 0
 AreLinked g a b = are_linked g a b ≡ true
 
 -- the bound of the distances, K: a graph has no more nodes
-unfoldable pub node_bound : Graph → ℕ
-node_bound g = length g.ids
+abbrev pub node_bound : Graph → ℕ
+node_bound g = g.bound
 
 -- the greatest id
 abbrev pub greatest : Graph → ℕ
@@ -69,6 +71,7 @@ leader g i = greatest g
 -- what each graph of the service is: links join two different nodes, in both directions
 pub record IsGraph (g : Graph) : Type 0 where
   pub some : 0 < length g.ids
+  pub bounded : length g.ids ≤ g.bound
   pub ascending : IsStrictlyIncreasing g.ids
   pub symmetric : (a b : ℕ) → are_linked g a b ≡ are_linked g b a
   pub irreflexive : (a : ℕ) → AreLinked g a a → ⊥

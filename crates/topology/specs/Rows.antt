@@ -24,7 +24,7 @@ unfoldable pub links_of : List ℕ → List (List ℕ) → set.FinSet pair_cmp
 links_of ids rows = set.from_list (flat_map (pairs_at ids rows) (range_with_len 0 (length ids)))
 
 abbrev pub graph_of : List ℕ → List (List ℕ) → Graph
-graph_of ids rows = record { ids = ids; links = links_of ids rows }
+graph_of ids rows = record { ids = ids; bound = length ids; links = links_of ids rows }
 
 -- as many rows as there are indexes, each with ascending indexes, in both directions, none with its own
 pub record AreRows (n : ℕ) (rows : List (List ℕ)) : Type 0 where

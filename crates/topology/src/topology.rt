@@ -57,6 +57,7 @@ impl Topology {
     /// What each topology is: a connected graph of at most `MAX_NODES` nodes.
     pub fn is_graph(&self)
         ensures graph { IsGraph self.now }
+        ensures bound { self.now.bound ≡ length self.now.ids }
         ensures connected { IsConnected self.now }
         ensures small { length self.now.ids ≤ MAX_NODES }
         ensures ids { All IsId self.now.ids }

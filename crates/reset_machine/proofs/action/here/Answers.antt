@@ -1,6 +1,5 @@
-use Rattle.std.proofs.Common.{◌∙◌}
-use Rattle.reset_machine.proofs.Planned.{bound_is}
+use Rattle.std.proofs.Common.{◌∙◌, sym}
 use Rattle.reset_machine.proofs.action.here.Goals as goal
 
 pub returns-clause-bound : goal.returns-clause-bound
-returns-clause-bound c = c.len.ensures ∙ bound_is c.args.topology.now
+returns-clause-bound c = c.len.ensures ∙ sym c.is_graph.ensures.bound

@@ -5,7 +5,7 @@ use Rattle.topology.specs.Graph.{node_bound}
 use Rattle.reset_machine.specs.Configuration.{tree_map}
 use Rattle.reset_machine.proofs.Places.{value_at-position, none_is_no_some}
 use Rattle.reset_machine.proofs.NearTrees.{near_is_view}
-use Rattle.reset_machine.proofs.Planned.{bound_is, tree_view_of-parts}
+use Rattle.reset_machine.proofs.Planned.{tree_view_of-parts}
 use Rattle.reset_machine.proofs.view.tree_view.Goals as goal
 
 pub unreachable-requires : goal.unreachable-requires
@@ -21,4 +21,4 @@ pub returns : goal.returns
 returns c =
     let g = c.args.topology.now in
     let own = value_at-position (record { root = 0; father = 0; dist = 0 }) g.ids c.args.trees.now c.args.ix c.args.id c.requires.all_trees c.requires.place in
-    tree_view_of-parts g (node_bound g) (tree_map g c.args.trees.now) c.args.id _ _ _ _ c.in-Some.ensures.value (c.len.ensures ∙ bound_is g) own c.requires.near
+    tree_view_of-parts g (node_bound g) (tree_map g c.args.trees.now) c.args.id _ _ _ _ c.in-Some.ensures.value (c.len.ensures ∙ sym c.is_graph.ensures.bound) own c.requires.near

@@ -8,14 +8,14 @@ pub returns-in-Act-clause-ok : goal.returns-in-Act-clause-ok
 returns-in-Act-clause-ok g c =
     let app = g.P.Application.app in
     let now = c.args.self.now in
-    let is = act_is_outcome app now c.act.new.self c.args.event c.in-Act.at c.in-Act.case c.in-Act.with c.in-Act.is c.act.result c.act.ensures.outcome in
+    let is = act_is_outcome app now c.act.new.self c.args.event c.is_graph.ensures.graph c.in-Act.at c.in-Act.case c.in-Act.with c.in-Act.is c.act.result c.act.ensures.outcome in
     answer_step app now c.act.new.self c.args.event c.is_graph.ensures.graph c.is_graph.ensures.shaped c.act.result is
 
 pub returns-in-Act-clause-err : goal.returns-in-Act-clause-err
 returns-in-Act-clause-err g c =
     let app = g.P.Application.app in
     let now = c.args.self.now in
-    let is = act_is_outcome app now c.act.new.self c.args.event c.in-Act.at c.in-Act.case c.in-Act.with c.in-Act.is c.act.result c.act.ensures.outcome in
+    let is = act_is_outcome app now c.act.new.self c.args.event c.is_graph.ensures.graph c.in-Act.at c.in-Act.case c.in-Act.with c.in-Act.is c.act.result c.act.ensures.outcome in
     answer_refused app now c.act.new.self c.args.event c.is_graph.ensures.graph c.is_graph.ensures.shaped c.act.result is
 
 pub returns-in-Act-clause-refines : goal.returns-in-Act-clause-refines
@@ -26,7 +26,7 @@ returns-in-Act-clause-refines g c =
     let graph = c.is_graph.ensures.graph in
     let whole = c.is_graph.ensures.connected in
     let shaped = c.is_graph.ensures.shaped in
-    let is = act_is_outcome app now new c.args.event c.in-Act.at c.in-Act.case c.in-Act.with c.in-Act.is c.act.result c.act.ensures.outcome in
+    let is = act_is_outcome app now new c.args.event c.is_graph.ensures.graph c.in-Act.at c.in-Act.case c.in-Act.with c.in-Act.is c.act.result c.act.ensures.outcome in
     one_run app now new c.args.event _ c.act.result is (step_refines app now new c.args.event graph whole shaped)
 
 pub returns-in-Act-clause-invariant : goal.returns-in-Act-clause-invariant
@@ -37,7 +37,7 @@ returns-in-Act-clause-invariant g c =
     let graph = c.is_graph.ensures.graph in
     let whole = c.is_graph.ensures.connected in
     let shaped = c.is_graph.ensures.shaped in
-    let is = act_is_outcome app now new c.args.event c.in-Act.at c.in-Act.case c.in-Act.with c.in-Act.is c.act.result c.act.ensures.outcome in
+    let is = act_is_outcome app now new c.args.event c.is_graph.ensures.graph c.in-Act.at c.in-Act.case c.in-Act.with c.in-Act.is c.act.result c.act.ensures.outcome in
     one_run app now new c.args.event _ c.act.result is (λ reply run sound inv. c.invariants.ensures.kept now new (c.args.event ∷ []) (Did reply ∷ []) graph whole shaped sound run inv)
 
 pub returns-in-Act-clause-restored : goal.returns-in-Act-clause-restored
@@ -48,7 +48,7 @@ returns-in-Act-clause-restored g c =
     let graph = c.is_graph.ensures.graph in
     let whole = c.is_graph.ensures.connected in
     let shaped = c.is_graph.ensures.shaped in
-    let is = act_is_outcome app now new c.args.event c.in-Act.at c.in-Act.case c.in-Act.with c.in-Act.is c.act.result c.act.ensures.outcome in
+    let is = act_is_outcome app now new c.args.event c.is_graph.ensures.graph c.in-Act.at c.in-Act.case c.in-Act.with c.in-Act.is c.act.result c.act.ensures.outcome in
     one_run app now new c.args.event _ c.act.result is (λ reply run sound opens. c.invariants.ensures.opened now new (c.args.event ∷ []) (Did reply ∷ []) graph whole shaped sound run (opened_once c.args.event reply opens))
 
 pub returns-in_default : goal.returns-in_default
@@ -59,7 +59,7 @@ returns-in_default g c =
     let r = c.fire.result in
     let graph = c.is_graph.ensures.graph in
     let shaped = c.is_graph.ensures.shaped in
-    let is = row_is_outcome app now new c.args.event (no_act c.args.event c.in_default.not-Act) r c.fire.ensures.outcome in
+    let is = row_is_outcome app now new c.args.event graph (no_act c.args.event c.in_default.not-Act) r c.fire.ensures.outcome in
     record {
       ok = answer_step app now new c.args.event graph shaped r is;
       reply = answer_reply app now new c.args.event graph shaped r is;
@@ -73,3 +73,8 @@ returns-in_default g c =
       restored = one_run app now new c.args.event _ r is (λ reply run sound opens. c.invariants.ensures.opened now new (c.args.event ∷ []) (Did reply ∷ []) graph c.is_graph.ensures.connected shaped sound run (opened_once c.args.event reply opens));
       outcome = is;
     }
+
+
+pub returns-in-Act-clause-outcome : goal.returns-in-Act-clause-outcome
+returns-in-Act-clause-outcome g c =
+    act_is_outcome g.P.Application.app c.args.self.now c.act.new.self c.args.event c.is_graph.ensures.graph c.in-Act.at c.in-Act.case c.in-Act.with c.in-Act.is c.act.result c.act.ensures.outcome
