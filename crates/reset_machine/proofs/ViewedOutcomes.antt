@@ -99,12 +99,12 @@ module _ {L : Type 0} (app : App L) (c : Configuration L) where
         let p : ℕ → Bool = reads_near (app.reads case) with in
         let js = neighbours_of c.graph i in
         let read : List (Neighbour L) → Result L StepRefusal = λ ns.
-            judged (misfit (app.reads case) with) (near_apart (view_of app c i) ns) (app.next i c.graph.bound case with (local_of app c i) (map (λ n. (n.id, n.local)) ns)) in
+        judged (misfit (app.reads case) with) (near_apart (view_of app c i) ns) (app.next i c.graph.bound case with (local_of app c i) (map (λ n. (n.id, n.local)) ns)) in
         ap read (filter-map (λ (n : Neighbour L). p n.id) (near_of app c) js)
         ∙ ap₂ (λ apart locals. judged (misfit (app.reads case) with) apart (app.next i c.graph.bound case with (local_of app c i) locals))
-            (ap (option_map (λ (n : Neighbour L). n.id)) (find-map (λ (n : Neighbour L). not (n.wave.session == (wave_of c i).session)) (near_of app c) (filter p js))
-             ∙ id_of-found (first_apart (wave_of c) i (filter p js)))
-            (map-map (λ (n : Neighbour L). (n.id, n.local)) (near_of app c) (filter p js))
+        (ap (option_map (λ (n : Neighbour L). n.id)) (find-map (λ (n : Neighbour L). not (n.wave.session == (wave_of c i).session)) (near_of app c) (filter p js))
+        ∙ id_of-found (first_apart (wave_of c) i (filter p js)))
+        (map-map (λ (n : Neighbour L). (n.id, n.local)) (near_of app c) (filter p js))
 
     -- ---- and the outcome
 
@@ -119,9 +119,9 @@ module _ {L : Type 0} (app : App L) (c : Configuration L) where
         let i = event_node e in
         let there = list_any (λ k. k == i) c.graph.ids in
         ap₂ (λ own near. cond (not there) (Err StrangeNode) (written c i (cond (not own) (Err StrangeNode) (cond (not near) (Err StrangeNeighbour) (named_planned app (view_of app c i) e)))))
-            (eq-eqb i i refl) (sees-is i (named_node e))
+        (eq-eqb i i refl) (sees-is i (named_node e))
         ∙ ap (λ r. cond (not there) (Err StrangeNode) r)
-          (elim (is_neighbour c.graph i (named_node e)) as (λ b. written c i (cond (not b) (Err StrangeNeighbour) (named_planned app (view_of app c i) e)) ≡ cond (not b) (Err StrangeNeighbour) (written c i (named_planned app (view_of app c i) e))) [ true ↦ refl | false ↦ refl ])
+        (elim (is_neighbour c.graph i (named_node e)) as (λ b. written c i (cond (not b) (Err StrangeNeighbour) (named_planned app (view_of app c i) e)) ≡ cond (not b) (Err StrangeNeighbour) (written c i (named_planned app (view_of app c i) e))) [ true ↦ refl | false ↦ refl ])
 
     -- what a row leaves is written alike
     row_written : (i : ℕ) (r : Result Fired StepRefusal) → written c i (row_planned (view_of app c i) r) ≡ done app c i r
@@ -151,7 +151,7 @@ module _ {L : Type 0} (app : App L) (c : Configuration L) where
         let near = is_neighbour c.graph i (named_node e) in
         at_node e
         ∙ ap (λ r. cond (not there) (Err StrangeNode) (cond (not near) (Err StrangeNeighbour) r))
-          (ap (written c i) (row ∙ ap (row_planned (view_of app c i)) (rows-is e)) ∙ row_written i (answer_of c.graph (node_bound c.graph) (tree_of c) (wave_of c) e))
+        (ap (written c i) (row ∙ ap (row_planned (view_of app c i)) (rows-is e)) ∙ row_written i (answer_of c.graph (node_bound c.graph) (tree_of c) (wave_of c) e))
         ∙ done-ends i there near (answer_of c.graph (node_bound c.graph) (tree_of c) (wave_of c) e)
 
     pub outcome-is : (e : Event) → outcome_of app c e ≡ map_outcome app c e

@@ -74,7 +74,6 @@ returns-in_default g c =
       outcome = is;
     }
 
-
 pub returns-in-Act-clause-outcome : goal.returns-in-Act-clause-outcome
 returns-in-Act-clause-outcome g c =
     act_is_outcome g.P.Application.app c.args.self.now c.act.new.self c.args.event c.is_graph.ensures.graph c.in-Act.at c.in-Act.case c.in-Act.with c.in-Act.is c.act.result c.act.ensures.outcome
