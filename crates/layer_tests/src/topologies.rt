@@ -3,34 +3,53 @@
 use std::test::Fail;
 use topology::{AppName, NodeId, Topology, read_topology};
 
+// Whether these are the nodes 1, 2 and 3.
+fn has_three_nodes(line: &Topology) -> bool {
+    line.len() == 3
+        && line.id_at(0) == NodeId::new(1)
+        && line.id_at(2) == NodeId::new(3)
+        && line.id_at(3).is_none()
+        && line.index_of(2) == Some(1)
+        && line.index_of(4).is_none()
+        && line.greatest().get() == 3
+}
+
+// Whether these are the links 1-2 and 2-3.
+fn has_two_links(line: &Topology) -> bool {
+    line.len() == 3
+        && line.link_count() == 2
+        && line.neighbours(1) == [0, 2].as_slice()
+        && line.neighbours(2) == [1].as_slice()
+        && line.linked(1, 2)
+        && line.linked(3, 2)
+        && !line.linked(1, 3)
+        && !line.linked(2, 2)
+        && !line.linked(2, 9)
+}
+
 #[test]
 fn reads_a_line_given_in_mixed_order(rt: HostRuntime) -> Result<(), Fail> {
     let line = Topology::build(rt.alloc(), &[2, 3, 1], &[(3, 2), (1, 2)])?;
-    assert_eq!(rt; line.len(), 3);
-    assert_eq!(rt; line.link_count(), 2);
-    assert_eq!(rt; line.id_at(0), NodeId::new(1));
-    assert_eq!(rt; line.id_at(2), NodeId::new(3));
-    assert_eq!(rt; line.id_at(3), None);
-    assert_eq!(rt; line.index_of(2), Some(1));
-    assert_eq!(rt; line.index_of(4), None);
-    assert_eq!(rt; line.neighbours(1), [0, 2].as_slice());
-    assert_eq!(rt; line.neighbours(2), [1].as_slice());
-    assert!(rt; line.linked(1, 2) && line.linked(3, 2));
-    assert!(rt; !line.linked(1, 3) && !line.linked(2, 2) && !line.linked(2, 9));
-    assert_eq!(rt; line.greatest().get(), 3);
+    assert!(rt; has_three_nodes(&line));
+    assert!(rt; has_two_links(&line));
     Ok(())
+}
+
+// Whether these are the links of the star of the nodes 5, 20, 40 and 41, as identifiers find them.
+fn finds_the_star(star: &Topology) -> bool {
+    star.len() == 4
+        && star.neighbour_at(0, 41) == Some(3)
+        && star.neighbour_at(3, 5) == Some(0)
+        && star.neighbour_at(3, 40) == Some(2)
+        && star.neighbour_at(3, 41).is_none()
+        && star.neighbour_at(0, 20).is_none()
+        && star.neighbour_at(0, 6).is_none()
 }
 
 #[test]
 fn finds_neighbours_by_identifier(rt: HostRuntime) -> Result<(), Fail> {
     let star = Topology::build(rt.alloc(), &[5, 20, 40, 41], &[(41, 5), (41, 20), (40, 41)])?;
-    assert_eq!(rt; star.len(), 4);
-    assert_eq!(rt; star.neighbour_at(0, 41), Some(3));
-    assert_eq!(rt; star.neighbour_at(3, 5), Some(0));
-    assert_eq!(rt; star.neighbour_at(3, 40), Some(2));
-    assert_eq!(rt; star.neighbour_at(3, 41), None);
-    assert_eq!(rt; star.neighbour_at(0, 20), None);
-    assert_eq!(rt; star.neighbour_at(0, 6), None);
+    assert!(rt; finds_the_star(&star));
     Ok(())
 }
 

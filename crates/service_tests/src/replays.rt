@@ -1,9 +1,8 @@
 // Whole replays: what they write, and what they do where a reader or a writer fails. What the answers to
-// single lines are is shown on the program itself.
+// single lines are, and where a joined text is cut, is shown on the program itself.
 
 use crate::devices::{Endless, Failing, Stopping};
-use reset_service::{RunStop, Status, print_tables, read_text, replay, replay_joined, replay_text};
-use std::process::Abort;
+use reset_service::{RunStop, Status, print_tables, read_text, replay, replay_text};
 use std::test::Fail;
 
 pub(crate) const LINE: &[u8] = b"nodes = [1, 2, 3]\nlinks = [[1, 2], [2, 3]]\napp = \"idle\"\n";
@@ -14,59 +13,14 @@ pub(crate) const ONE_WAVE: &[u8] =
 pub(crate) const WAVE_ANSWERS: &[u8] =
     b"applied\napplied\napplied\napplied\napplied\napplied\napplied\napplied\ncomplete 1\nnode 1 tree 3 2 2 wave normal 1 local -\nnode 2 tree 3 3 1 wave normal 1 local -\nnode 3 tree 3 3 0 wave normal 1 local -\n";
 
-// The replay of a joined text, of a topology and what follows it, ends so.
-fn joined_runs(
-    rt: &(impl Abort + AllocGlobal),
-    topology: &[u8],
-    more: &[u8],
-    status: Status,
-    written: &[u8],
-) -> Result<(), Fail> {
-    let mut text = Vec::new(rt.alloc());
-    text.extend_from_slice(topology)?;
-    text.extend_from_slice(more)?;
-    let mut out = Vec::new(rt.alloc());
-    let result = replay_joined(rt.alloc(), &mut text.as_slice(), &mut out);
-    assert_eq!(rt; result, Ok(status));
-    assert_eq!(rt; out.as_slice(), written);
-    Ok(())
-}
-
 #[test]
-fn one_wave(rt: HostRuntime) -> Result<(), Fail> {
+fn one_wave(rt: HostRuntime) {
     let mut out = Vec::new(rt.alloc());
     assert_eq!(rt;
         replay_text(rt.alloc(), LINE, ONE_WAVE, &mut out),
         Ok(Status::Good)
     );
     assert_eq!(rt; out.as_slice(), WAVE_ANSWERS);
-    joined_runs(&rt, LINE, b"", Status::Good, b"")?;
-    let mut out = Vec::new(rt.alloc());
-    let mut script = ONE_WAVE;
-    assert_eq!(rt;
-        replay(rt.alloc(), LINE, &mut script, &mut out),
-        Ok(Status::Good)
-    );
-    assert_eq!(rt; out.as_slice(), WAVE_ANSWERS);
-    Ok(())
-}
-
-#[test]
-fn cuts_at_the_first_separator(rt: HostRuntime) -> Result<(), Fail> {
-    let missing = b"bad topology MissingKey\n";
-    joined_runs(&rt, b"", b"---\nshow\n", Status::BadInput, missing)?;
-    let twice = b"---\n---\n";
-    joined_runs(&rt, LINE, twice, Status::BadInput, b"bad line 1\n")?;
-    let no_toml = b"bad topology NotToml\n";
-    joined_runs(&rt, LINE, b"--- \nshow\n", Status::BadInput, no_toml)?;
-    joined_runs(&rt, LINE, b"---", Status::Good, b"")?;
-    joined_runs(
-        &rt,
-        LINE,
-        b"---\nopen 3",
-        Status::Good,
-        b"refused NotEnabled\n",
-    )
 }
 
 #[test]
@@ -116,18 +70,6 @@ fn a_failing_writer_is_left_alone(rt: HostRuntime) {
         }
         assert!(rt; reached > 20);
     }
-}
-
-#[test]
-fn an_endless_script_is_too_long(rt: HostRuntime) {
-    let mut out = Vec::new(rt.alloc());
-    let result = replay(rt.alloc(), LINE, &mut Endless, &mut out);
-    assert_eq!(rt; result, Ok(Status::BadInput));
-    assert_eq!(rt; out.as_slice(), b"bad script TooLong\n".as_slice());
-    let mut out = Vec::new(rt.alloc());
-    let result = replay_joined(rt.alloc(), &mut Endless, &mut out);
-    assert_eq!(rt; result, Ok(Status::BadInput));
-    assert_eq!(rt; out.as_slice(), b"bad script TooLong\n".as_slice());
 }
 
 #[test]
