@@ -1,5 +1,5 @@
 use app_interface::Idle;
-use reset_machine::{Config, Done, Event, Reply, StepRefusal};
+use reset_machine::{Config, Done, Event, Reply, StepRefusal, View};
 use std::alloc::Global;
 use std::process::Abort;
 use topology::Topology;
@@ -106,4 +106,59 @@ fn local_states_are_the_newest_where_joined(rt: HostRuntime) {
         config.put_local(4, ()),
         Err((StepRefusal::StrangeNode, ()))
     );
+}
+
+fn seen(rt: &impl Abort, alloc: Global, config: &Config<Idle>, at: u32) -> View<Idle> {
+    match config.view(alloc, at) {
+        Ok(view) => view,
+        Err(_) => panic!(rt; "memory for a view"),
+    }
+}
+
+// Whether this is what node 2 of the booted line sees.
+fn is_of_the_middle(view: &View<Idle>) -> bool {
+    let tree = |father, dist| TreeRegs {
+        root: 3,
+        father,
+        dist,
+    };
+    view.id() == 2
+        && view.k() == 3
+        && view.tree() == tree(3, 1)
+        && view.wave().phase == Phase::Normal
+        && view.wave().session == 0
+        && view.near_len() == 2
+        && view
+            .near(0)
+            .is_some_and(|near| near.id == 1 && near.tree == tree(2, 2))
+        && view
+            .near(1)
+            .is_some_and(|near| near.id == 3 && near.tree == tree(3, 0))
+        && view.near(2).is_none()
+}
+
+#[test]
+fn a_view_is_what_its_node_sees_now(rt: HostRuntime) {
+    let mut config = line(&rt, rt.alloc());
+    let view = seen(&rt, rt.alloc(), &config, 2);
+    assert!(rt; is_of_the_middle(&view));
+    assert!(rt; config.view_is(&view));
+    assert_eq!(rt;
+        config.step(rt.alloc(), Event::Request { at: 1 }),
+        Ok(Reply::Applied)
+    );
+    assert!(rt; !config.view_is(&view));
+    let later = seen(&rt, rt.alloc(), &config, 2);
+    assert!(rt; config.view_is(&later));
+    assert!(rt; view.same(&view));
+    assert!(rt; !view.same(&later));
+}
+
+#[test]
+fn a_stranger_sees_nothing(rt: HostRuntime) {
+    let config = line(&rt, rt.alloc());
+    match config.view(rt.alloc(), 4) {
+        Ok(_) => panic!(rt; "node 4 is none of the line"),
+        Err(refusal) => assert_eq!(rt; refusal, StepRefusal::StrangeNode),
+    }
 }

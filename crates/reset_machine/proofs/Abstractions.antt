@@ -16,7 +16,7 @@ use Rattle.reset_machine.specs.Refinement.{AbstractStep, Reset_all, Do, IsAbstra
 use Rattle.reset_machine.specs.Sound.{Sound}
 use Rattle.reset_machine.specs.Steps.{Joins, join_normal, join_asked, RegsStep}
 use Rattle.reset_machine.specs.WavePicture.{HasJoined, WavePicture}
-use Rattle.reset_machine.proofs.Completions.{all_awake}
+use Rattle.reset_machine.proofs.CompleteResets.{all_awake}
 use Rattle.reset_machine.proofs.Fathers.{greatest_node, own_father}
 use Rattle.reset_machine.proofs.WavePictures.{sound_where_picture}
 

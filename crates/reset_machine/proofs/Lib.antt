@@ -18,7 +18,7 @@ mod Mending
 pub mod Fathers
 mod WavePictures
 pub mod SoundSteps
-pub mod Completions
+pub mod CompleteResets
 pub mod RunLists
 pub mod RunMoments
 pub mod Readiness
@@ -33,3 +33,4 @@ pub mod RunInvariants
 pub mod JoinCounts
 pub mod StepShadows
 pub mod ViewedOutcomes
+pub mod NearSeen

@@ -23,7 +23,7 @@ use Rattle.reset_machine.specs.Outcome.{IsBoot}
 use Rattle.reset_machine.proofs.Places.{value_at-place}
 use Rattle.reset_machine.proofs.WavePictures.{sound_where_picture}
 use Rattle.reset_machine.proofs.SoundSteps.{sound_stays, sound_rests}
-use Rattle.reset_machine.proofs.Completions.{completed}
+use Rattle.reset_machine.proofs.CompleteResets.{completed}
 
 -- ---- the booted configuration
 

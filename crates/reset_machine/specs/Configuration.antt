@@ -25,6 +25,10 @@ pub record Configuration (L : Type 0) : Type 0 where
   pub waves : List WaveRegs
   pub locals : List L
 
+-- the configuration of these parts
+abbrev pub configuration : {L : Type 0} → Graph → List TreeRegs → List WaveRegs → List L → Configuration L
+configuration g trees waves locals = record { graph = g; trees = trees; waves = waves; locals = locals }
+
 -- each node has its registers and its local state
 pub record IsShaped {L : Type 0} (c : Configuration L) : Type 0 where
   pub trees : length c.trees ≡ length c.graph.ids

@@ -1,5 +1,6 @@
 -- What an event does at its node, by what the node sees alone, and what it makes of a configuration.
-use Rattle.std.specs.Prelude.{ℕ, Bool, true, not, ◌==◌, if◌then◌else◌, List, Option, Some, None, Result, Ok, Err, map, filter, find}
+use Rattle.std.specs.Prelude.{ℕ, Bool, true, not, ◌==◌, if◌then◌else◌, List, map, filter, find}
+use Rattle.std.specs.Prelude.{Option, Some, None, Result, Ok, Err}
 use Rattle.std.specs.List.{list_any}
 use Rattle.std.specs.Option.{option_map}
 use Rattle.app_interface.specs.Application.{App}
@@ -20,6 +21,10 @@ use Rattle.reset_machine.specs.Outcome.{fired_reply}
 use Rattle.reset_machine.specs.Steps.{event_node, named_node}
 use Rattle.reset_machine.specs.View.{Neighbour, NodeView, layer_view, view_of}
 
+-- an effect with its reply, or the first refusal
+abbrev pub Planned : Type 0 → Type 0
+Planned L = Result (Effect L × Reply) StepRefusal
+
 -- ---- a row of one of the two tables
 
 -- the first of the event's rows whose guard holds
@@ -31,7 +36,7 @@ abbrev pub row_effect : {L : Type 0} → NodeView L → Fired → Effect L
 row_effect v (fired.Tree regs) = Tree regs
 row_effect v (fired.Wave move) = Wave move.regs (if move.restarts then Some v.start else None)
 
-abbrev pub row_planned : {L : Type 0} → NodeView L → Result Fired StepRefusal → Result (Effect L × Reply) StepRefusal
+abbrev pub row_planned : {L : Type 0} → NodeView L → Result Fired StepRefusal → Planned L
 row_planned v (Ok does) = Ok (row_effect v does, fired_reply does)
 row_planned v (Err f) = Err f
 
@@ -49,15 +54,16 @@ near_apart v read = option_map (λ n. n.id) (find (λ n. not (n.wave.session == 
 abbrev pub case_taken : {L : Type 0} → App L → NodeView L → ℕ → Option ℕ → Result L StepRefusal
 case_taken app v case with =
     let read = near_read app v case with in
-    judged (misfit (app.reads case) with) (near_apart v read) (app.next v.id v.bound case with v.local (map (λ n. (n.id, n.local)) read))
+    let seen = map (λ n. (n.id, n.local)) read in
+    judged (misfit (app.reads case) with) (near_apart v read) (app.next v.id v.bound case with v.local seen)
 
-abbrev pub case_planned : {L : Type 0} → Result L StepRefusal → Result (Effect L × Reply) StepRefusal
+abbrev pub case_planned : {L : Type 0} → Result L StepRefusal → Planned L
 case_planned (Ok new) = Ok (Local new, Applied)
 case_planned (Err f) = Err f
 
 -- ---- an event
 
-abbrev pub named_planned : {L : Type 0} → App L → NodeView L → Event → Result (Effect L × Reply) StepRefusal
+abbrev pub named_planned : {L : Type 0} → App L → NodeView L → Event → Planned L
 named_planned app v (Act i case with) = case_planned (case_taken app v case with)
 named_planned app v e = row_planned v (row_fired v e)
 
@@ -67,13 +73,17 @@ sees v None = true
 sees v (Some j) = list_any (λ n. n.id == j) v.near
 
 -- what the event does at the node of the view, with its reply, or the first refusal
-abbrev pub planned : {L : Type 0} → App L → NodeView L → Event → Result (Effect L × Reply) StepRefusal
+abbrev pub planned : {L : Type 0} → App L → NodeView L → Event → Planned L
 planned app v e =
     if not (v.id == event_node e) then Err StrangeNode
     else (if not (sees v (named_node e)) then Err StrangeNeighbour
     else named_planned app v e)
 
 -- ---- and what it makes of a configuration
+
+-- a configuration with the reply, or the refusal
+abbrev pub Outcome : Type 0 → Type 0
+Outcome L = Result (Configuration L × Reply) StepRefusal
 
 -- the configuration in which i has done this
 abbrev pub after_effect : {L : Type 0} → Configuration L → ℕ → Effect L → Configuration L
@@ -82,12 +92,12 @@ after_effect c i (Wave regs None) = with_wave c i regs
 after_effect c i (Wave regs (Some local)) = with_wave (with_local c i local) i regs
 after_effect c i (Local local) = with_local c i local
 
-abbrev pub written : {L : Type 0} → Configuration L → ℕ → Result (Effect L × Reply) StepRefusal → Result (Configuration L × Reply) StepRefusal
+abbrev pub written : {L : Type 0} → Configuration L → ℕ → Planned L → Outcome L
 written c i (Ok does) = Ok (after_effect c i does.0, does.1)
 written c i (Err f) = Err f
 
 -- what the view of the event's node says, written there
-abbrev pub outcome_of : {L : Type 0} → App L → Configuration L → Event → Result (Configuration L × Reply) StepRefusal
+abbrev pub outcome_of : {L : Type 0} → App L → Configuration L → Event → Outcome L
 outcome_of app c e =
     if not (list_any (λ k. k == event_node e) c.graph.ids) then Err StrangeNode
     else written c (event_node e) (planned app (view_of app c (event_node e)) e)

@@ -1,6 +1,6 @@
 // Configurations, and what they tell.
 
-ghost use Rattle.std.specs.Prelude.{◌≡◌, ◌≢◌, ℕ, ◌<◌, true, ◌==◌, position, Some, IfOk, IfErr, IfSome, IfNone, OnOk, OnErr, MatchResult, Ok, Err};
+ghost use Rattle.std.specs.Prelude.{◌≡◌, ◌≢◌, ◌↔◌, IsTrue, ℕ, ◌<◌, true, ◌==◌, position, Some, IfOk, IfErr, IfSome, IfNone, OnOk, OnErr, MatchResult, Ok, Err};
 ghost use Rattle.topology.specs.Graph.{IsConnected, IsGraph, IsNode, greatest, node_bound};
 ghost use Rattle.reset_machine.specs.Configuration.{IsShaped, start_list};
 ghost use Rattle.reset_machine.specs.Outcome.{after_fired, fired_reply};
@@ -9,6 +9,7 @@ ghost use Rattle.reset_machine.specs.declared.plan.Fired.TheVariants.{Wave};
 use crate::action::{Choice, acted};
 use crate::enabled::{Enabled, enabled_at, ready_ids};
 use crate::event::Event;
+use crate::node_view::{View, read_view};
 use crate::plan::{Fired, planned};
 use crate::run_laws::{completions, invariants, refinement};
 use crate::step::{Done, Reply, StepRefusal, reply_to};
@@ -59,6 +60,7 @@ impl<P: Application> Config<P> {
     ghost use Rattle.reset_machine.specs.Steps.{reply_of};
     ghost use Rattle.reset_machine.specs.Outcome.{IsBoot, act_outcome, row_outcome};
     ghost use Rattle.reset_machine.specs.Planned.{outcome_of};
+    ghost use Rattle.reset_machine.specs.View.{view_of};
     ghost use Rattle.reset_machine.specs.Sound.{IsComplete, IsSound, Repairs};
     ghost use Rattle.reset_machine.specs.WavePicture.{HasJoined, WavePicture};
     ghost use Rattle.tree_layer.specs.TreePicture.{TreePicture};
@@ -314,6 +316,34 @@ impl<P: Application> Config<P> {
                 Ok(())
             }
             None => Err((StepRefusal::StrangeNode, local)),
+        }
+    }
+
+    /// What the node with this identifier sees now, or a refusal: `StrangeNode`, or `NoMemory`.
+    pub fn view(&self, alloc: Global, at: u32) -> Result<View<P>, StepRefusal>
+        ensures ok { IfOk result (λ view. IsNode self.now.graph at × (view ≡ view_of P.app self.now at)) }
+        ensures err { IfErr result (λ f. f ≢ StepRefusal.NoMemory → (f ≡ StepRefusal.StrangeNode) × (IsNode self.now.graph at → ⊥)) }
+    {
+        let trees = &self.trees;
+        let waves = &self.waves;
+        let locals = &self.locals;
+        match self.topology.index_of(at) {
+            Some(ix) => Ok(read_view::<P>(alloc, &self.topology, trees, waves, locals, at, ix)?),
+            None => Err(StepRefusal::StrangeNode),
+        }
+    }
+
+    /// Whether the view is what its node sees now.
+    pub fn view_is(&self, view: &View<P>) -> bool
+        ensures { IsTrue result ↔ IsNode self.now.graph view.now.id × (view.now ≡ view_of P.app self.now view.now.id) }
+    {
+        let trees = &self.trees;
+        let waves = &self.waves;
+        let locals = &self.locals;
+        let starts = &self.starts;
+        match self.topology.index_of(view.id()) {
+            Some(ix) => view.is_of(&self.topology, trees, waves, locals, starts, ix),
+            None => false,
         }
     }
 

@@ -8,6 +8,7 @@ mod enabled;
 mod event;
 mod laws;
 mod narrow;
+mod node_view;
 mod plan;
 mod run_laws;
 mod step;
@@ -17,8 +18,12 @@ mod view;
 pub use config::Config;
 pub use enabled::Enabled;
 pub use event::Event;
-pub use laws::{outcomes_are_steps, views_decide};
-pub use run_laws::{invariants, joins_once, refinement, runs_stay_sound};
+pub use laws::{
+    completions_are_true, mends_rest, outcomes_are_steps, sound_is_quiet, steps_stay_sound,
+    views_decide, wave_pictures,
+};
+pub use node_view::{Near, View};
+pub use run_laws::{completions, invariants, joins_once, refinement, runs_stay_sound};
 pub use step::{Done, Reply, StepRefusal};
 pub use text::{
     event_of, one_event_a_line, read_event, split_word, word_and_neighbour, write_event,

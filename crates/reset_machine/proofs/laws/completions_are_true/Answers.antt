@@ -1,4 +1,4 @@
-use Rattle.reset_machine.proofs.Completions.{completed}
+use Rattle.reset_machine.proofs.CompleteResets.{completed}
 use Rattle.reset_machine.proofs.laws.completions_are_true.Goals as goal
 
 pub returns : goal.returns

@@ -1,0 +1,316 @@
+// What a node sees, as a value of its own.
+
+ghost use Rattle.std.specs.Prelude.{◌≡◌, ◌<◌, ◌==◌, ◌↔◌, IfOk, IsTrue, Some, length, map, option_map};
+ghost use Rattle.std.specs.Prelude.{position, slice_get, slice_index};
+ghost use Rattle.topology.specs.Graph.{neighbours_of};
+ghost use Rattle.reset_machine.specs.Configuration.{configuration, start_list};
+ghost use Rattle.reset_machine.specs.View.{near_of, view_of};
+
+use app_interface::Application;
+use std::alloc::{AllocError, Global};
+use std::marker::Model;
+use topology::Topology;
+use tree_layer::TreeRegs;
+use wave_layer::WaveRegs;
+
+/// A neighbour, as a node sees it.
+#[derive(Drop)]
+pub struct Near<P: Application> {
+    /// Its identifier.
+    pub id: u32,
+    /// Its tree registers.
+    pub tree: TreeRegs,
+    /// Its wave registers.
+    pub wave: WaveRegs,
+    /// Its local state.
+    pub local: P::Local,
+}
+
+impl<P: Application> Model for Near<P> {
+    ghost use Rattle.reset_machine.specs.View.{Neighbour};
+
+    ghost Value = { Neighbour P.Local };
+
+    ghost view = { λ n. record { id = n.id; tree = n.tree; wave = n.wave; local = n.local } };
+}
+
+/// What a node sees: its identifier and the bound K, its own registers and local state, its declared
+/// start state, and its neighbours, ascending.
+#[derive(Drop)]
+pub struct View<P: Application> {
+    id: u32,
+    k: u32,
+    tree: TreeRegs,
+    wave: WaveRegs,
+    local: P::Local,
+    start: P::Local,
+    near: Vec<Near<P>>,
+}
+
+impl<P: Application> Model for View<P> {
+    ghost use Rattle.reset_machine.specs.View.{NodeView};
+
+    ghost Value = { NodeView P.Local };
+
+    ghost view = { λ v. record {
+      id = v.id;
+      bound = v.k;
+      tree = v.tree;
+      wave = v.wave;
+      local = v.local;
+      start = v.start;
+      near = v.near.items;
+    } };
+}
+
+/// What the node with this id and index sees.
+pub(crate) fn read_view<P: Application>(
+    alloc: Global,
+    topology: &Topology,
+    trees: &[TreeRegs],
+    waves: &[WaveRegs],
+    locals: &[P::Local],
+    id: u32,
+    ix: usize,
+) -> Result<View<P>, AllocError>
+    requires place { position (λ i. i == id) topology.now.ids ≡ Some ix }
+    requires all_trees { length trees.now ≡ length topology.now.ids }
+    requires all_waves { length waves.now ≡ length topology.now.ids }
+    requires all_locals { length locals.now ≡ length topology.now.ids }
+    ensures { IfOk result (λ view. view ≡ view_of P.app (configuration topology.now trees.now waves.now locals.now) id) }
+{
+    topology.is_graph();
+    let local = P::copy(alloc, &locals[ix])?;
+    let start = P::on_start(alloc, topology, ix)?;
+    let near = read_near::<P>(alloc, topology, trees, waves, locals, ix)?;
+    Ok(View {
+        id,
+        k: topology.len() as u32,
+        tree: trees[ix],
+        wave: waves[ix],
+        local,
+        start,
+        near,
+    })
+}
+
+// The neighbours of the node at an index, as it sees them.
+fn read_near<P: Application>(
+    alloc: Global,
+    topology: &Topology,
+    trees: &[TreeRegs],
+    waves: &[WaveRegs],
+    locals: &[P::Local],
+    ix: usize,
+) -> Result<Vec<Near<P>>, AllocError>
+    requires place { ix < length topology.now.ids }
+    requires all_trees { length trees.now ≡ length topology.now.ids }
+    requires all_waves { length waves.now ≡ length topology.now.ids }
+    requires all_locals { length locals.now ≡ length topology.now.ids }
+    ensures { IfOk result (λ near. near.items ≡ map (near_of P.app (configuration topology.now trees.now waves.now locals.now)) (neighbours_of topology.now (slice_index topology.now.ids ix))) }
+{
+    topology.is_graph();
+    let mut near = Vec::new(alloc);
+    for index in topology.neighbours(ix) {
+        let id = topology.id_at(*index).unwrap().get();
+        let local = P::copy(alloc, &locals[*index])?;
+        near.push(Near {
+            id,
+            tree: trees[*index],
+            wave: waves[*index],
+            local,
+        })?;
+    }
+    Ok(near)
+}
+
+impl<P: Application> View<P> {
+    /// The node's identifier.
+    pub fn id(&self) -> u32
+        ensures { result ≡ self.now.id }
+    {
+        self.id
+    }
+
+    /// The bound K of the distances.
+    pub fn k(&self) -> u32
+        ensures { result ≡ self.now.bound }
+    {
+        self.k
+    }
+
+    /// The node's tree registers.
+    pub fn tree(&self) -> TreeRegs
+        ensures { result ≡ self.now.tree }
+    {
+        self.tree
+    }
+
+    /// The node's wave registers.
+    pub fn wave(&self) -> WaveRegs
+        ensures { result ≡ self.now.wave }
+    {
+        self.wave
+    }
+
+    /// The node's local state.
+    pub fn local(&self) -> &P::Local
+        ensures { result.now ≡ self.now.local }
+    {
+        &self.local
+    }
+
+    /// The local state that the node restarts with.
+    pub fn start(&self) -> &P::Local
+        ensures { result.now ≡ self.now.start }
+    {
+        &self.start
+    }
+
+    /// How many neighbours the node has.
+    pub fn near_len(&self) -> usize
+        ensures { result ≡ length self.now.near }
+    {
+        let near = &self.near;
+        near.len()
+    }
+
+    /// The neighbour with this number, counted from 0 in ascending order of the identifiers.
+    pub fn near(&self, number: usize) -> Option<&Near<P>>
+        ensures { option_map (λ near. near.now) result ≡ slice_get self.now.near number }
+    {
+        let near = &self.near;
+        near.get(number)
+    }
+
+    // Whether the node at this index, which has this view's identifier, sees this.
+    pub(crate) fn is_of(
+        &self,
+        topology: &Topology,
+        trees: &[TreeRegs],
+        waves: &[WaveRegs],
+        locals: &[P::Local],
+        starts: &[P::Local],
+        ix: usize,
+    ) -> bool
+        requires place { position (λ i. i == self.now.id) topology.now.ids ≡ Some ix }
+        requires all_trees { length trees.now ≡ length topology.now.ids }
+        requires all_waves { length waves.now ≡ length topology.now.ids }
+        requires all_locals { length locals.now ≡ length topology.now.ids }
+        requires starts { starts.now ≡ start_list P.app topology.now }
+        ensures { IsTrue result ↔ self.now ≡ view_of P.app (configuration topology.now trees.now waves.now locals.now) self.now.id }
+    {
+        topology.is_graph();
+        let k = topology.len() as u32;
+        let near = &self.near;
+        if !self.is_own(k, trees[ix], waves[ix], &locals[ix], &starts[ix]) {
+            return false;
+        }
+        are_near::<P>(near, topology, trees, waves, locals, ix)
+    }
+
+    // Whether these are the node's own parts.
+    fn is_own(
+        &self,
+        k: u32,
+        tree: TreeRegs,
+        wave: WaveRegs,
+        local: &P::Local,
+        start: &P::Local,
+    ) -> bool
+        ensures { IsTrue result ↔ self.now ≡ record { id = self.now.id; bound = k; tree = tree; wave = wave; local = local.now; start = start.now; near = self.now.near } }
+    {
+        k == self.k
+            && self.tree == tree
+            && self.wave == wave
+            && P::same(&self.local, local)
+            && P::same(&self.start, start)
+    }
+
+    /// Whether the two are equal.
+    pub fn same(&self, other: &View<P>) -> bool
+        ensures { IsTrue result ↔ self.now ≡ other.now }
+    {
+        other.id == self.id
+            && self.is_own(other.k, other.tree, other.wave, &other.local, &other.start)
+            && same_near(&self.near, &other.near)
+    }
+}
+
+// Whether the node at an index has these neighbours.
+fn are_near<P: Application>(
+    near: &[Near<P>],
+    topology: &Topology,
+    trees: &[TreeRegs],
+    waves: &[WaveRegs],
+    locals: &[P::Local],
+    ix: usize,
+) -> bool
+    requires place { ix < length topology.now.ids }
+    requires all_trees { length trees.now ≡ length topology.now.ids }
+    requires all_waves { length waves.now ≡ length topology.now.ids }
+    requires all_locals { length locals.now ≡ length topology.now.ids }
+    ensures { IsTrue result ↔ near.now ≡ map (near_of P.app (configuration topology.now trees.now waves.now locals.now)) (neighbours_of topology.now (slice_index topology.now.ids ix)) }
+{
+    let indexes = topology.neighbours(ix);
+    if near.len() != indexes.len() {
+        return false;
+    }
+    for number in 0..near.len() {
+        if !near[number].is_at(topology, trees, waves, locals, indexes[number]) {
+            return false;
+        }
+    }
+    true
+}
+
+// Whether the two lists of neighbours are equal.
+fn same_near<P: Application>(a: &[Near<P>], b: &[Near<P>]) -> bool
+    ensures { IsTrue result ↔ a.now ≡ b.now }
+{
+    if a.len() != b.len() {
+        return false;
+    }
+    for index in 0..a.len() {
+        if !a[index].same(&b[index]) {
+            return false;
+        }
+    }
+    true
+}
+
+impl<P: Application> Near<P> {
+    // Whether the node at an index is this.
+    fn is_at(
+        &self,
+        topology: &Topology,
+        trees: &[TreeRegs],
+        waves: &[WaveRegs],
+        locals: &[P::Local],
+        ix: usize,
+    ) -> bool
+        requires place { ix < length topology.now.ids }
+        requires all_trees { length trees.now ≡ length topology.now.ids }
+        requires all_waves { length waves.now ≡ length topology.now.ids }
+        requires all_locals { length locals.now ≡ length topology.now.ids }
+        ensures { IsTrue result ↔ self.now ≡ near_of P.app (configuration topology.now trees.now waves.now locals.now) (slice_index topology.now.ids ix) }
+    {
+        topology.is_graph();
+        let id = topology.id_at(ix).unwrap().get();
+        self.is(id, trees[ix], waves[ix], &locals[ix])
+    }
+
+    // Whether these are its parts.
+    fn is(&self, id: u32, tree: TreeRegs, wave: WaveRegs, local: &P::Local) -> bool
+        ensures { IsTrue result ↔ self.now ≡ record { id = id; tree = tree; wave = wave; local = local.now } }
+    {
+        id == self.id && self.tree == tree && self.wave == wave && P::same(&self.local, local)
+    }
+
+    // Whether the two are equal.
+    fn same(&self, other: &Near<P>) -> bool
+        ensures { IsTrue result ↔ self.now ≡ other.now }
+    {
+        self.is(other.id, other.tree, other.wave, &other.local)
+    }
+}
