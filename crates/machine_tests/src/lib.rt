@@ -9,4 +9,6 @@ mod machine;
 #[cfg(test)]
 mod pictures;
 #[cfg(test)]
+mod plans;
+#[cfg(test)]
 mod slow;

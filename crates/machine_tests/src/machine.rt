@@ -7,7 +7,7 @@ use tree_layer::TreeRegs;
 use wave_layer::{Phase, WaveRegs};
 
 // The booted line of the nodes 1, 2 and 3.
-fn line(rt: &impl Abort, alloc: Global) -> Config<Idle> {
+pub fn line(rt: &impl Abort, alloc: Global) -> Config<Idle> {
     let topology = Topology::build(alloc, &[1, 2, 3], &[(1, 2), (2, 3)]).expect(rt, "the line");
     match Config::<Idle>::boot(alloc, topology) {
         Ok(config) => config,
@@ -108,7 +108,8 @@ fn local_states_are_the_newest_where_joined(rt: HostRuntime) {
     );
 }
 
-fn seen(rt: &impl Abort, alloc: Global, config: &Config<Idle>, at: u32) -> View<Idle> {
+// What a node of the line sees.
+pub fn seen(rt: &impl Abort, alloc: Global, config: &Config<Idle>, at: u32) -> View<Idle> {
     match config.view(alloc, at) {
         Ok(view) => view,
         Err(_) => panic!(rt; "memory for a view"),

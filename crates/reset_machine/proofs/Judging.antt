@@ -1,5 +1,5 @@
 -- How the node judges an action of the application: the neighbours that it reads, and the ends.
-use Rattle.std.proofs.Common.{◌≡◌, ℕ, suc, ◌+◌, ◌<◌, ◌==◌, not, Bool, true, false, cond, List, ◌∷◌, map, filter, length, drop, slice_index, slice_index_or, drop-cons, arith, add-one, Option, Some, None, Result, Err, is_ok, refl, sym, ap, ◌∙◌, true≢false}
+use Rattle.std.proofs.Common.{◌≡◌, ◌≢◌, ℕ, suc, ◌+◌, ◌<◌, ◌==◌, not, Bool, true, false, cond, List, ◌∷◌, map, filter, length, drop, slice_index, slice_index_or, drop-cons, arith, add-one, Option, Some, None, Result, Ok, Err, MatchResult, is_ok, refl, sym, ap, ◌∙◌, true≢false}
 use Rattle.std.specs.List.{find, list_any}
 use Rattle.std.specs.List.Sorted.{IsStrictlyIncreasing}
 use Rattle.std.specs.Option.{is_some}
@@ -9,7 +9,7 @@ use Rattle.app_interface.specs.declared.reads.Reads.{Reads}
 use Rattle.topology.specs.Graph.{Graph, neighbours_of}
 use Rattle.wave_layer.specs.declared.regs.WaveRegs.{WaveRegs}
 use Rattle.reset_machine.specs.declared.step.StepRefusal.{StepRefusal}
-use Rattle.reset_machine.specs.declared.step.StepRefusal.TheVariants.{StrangeNode, StrangeNeighbour}
+use Rattle.reset_machine.specs.declared.step.StepRefusal.TheVariants.{StrangeNode, StrangeNeighbour, NotEnabled, NoMemory}
 use Rattle.reset_machine.specs.Actions.{misfit, reads_near, first_apart, judged, fitted_of, acted_of}
 use Rattle.reset_machine.specs.Configuration.{value_at}
 use Rattle.reset_machine.specs.LocalSteps.{is_neighbour}
@@ -63,6 +63,12 @@ read_at-place d ids xs ix x up same short read =
 pub is_none : {X : Type 0} (o : Option X) → is_some o ≡ false → None ≡ o
 is_none None is = refl
 is_none (Some x) is = absurd (true≢false is)
+
+-- where nothing else is refused, the case is taken or not enabled
+pub judged-ends : {L : Type 0} (taken r : Result L StepRefusal) (next : Option L) → taken ≡ judged None None next
+    → MatchResult r (λ local. next ≡ Some local) (λ f. f ≢ NoMemory → (f ≡ NotEnabled) × (next ≡ None)) → MatchResult r (λ local. taken ≡ Ok local) (λ f. f ≢ NoMemory → taken ≡ Err f)
+judged-ends taken (Ok local) next is told = is ∙ ap (judged None None) told
+judged-ends taken (Err f) next is refused = λ other. is ∙ ap (judged None None) (refused other).1 ∙ ap (λ e. Err e) (sym (refused other).0)
 
 -- whether the case is taken is whether it leaves a state
 pub taken-next : {L : Type 0} (fitted : Result L StepRefusal) (taken : Bool) (n : Option L) → taken ≡ is_some n → fitted ≡ judged None None n → taken ≡ is_ok fitted

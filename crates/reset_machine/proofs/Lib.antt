@@ -33,4 +33,5 @@ pub mod RunInvariants
 pub mod JoinCounts
 pub mod StepShadows
 pub mod ViewedOutcomes
+pub mod Deciding
 pub mod NearSeen

@@ -1,5 +1,5 @@
 -- What an event does at its node, by what the node sees alone, and what it makes of a configuration.
-use Rattle.std.specs.Prelude.{ℕ, Bool, true, not, ◌==◌, if◌then◌else◌, List, map, filter, find}
+use Rattle.std.specs.Prelude.{◌≡◌, ℕ, Bool, true, not, ◌==◌, if◌then◌else◌, List, map, filter, find}
 use Rattle.std.specs.Prelude.{Option, Some, None, Result, Ok, Err}
 use Rattle.std.specs.List.{list_any}
 use Rattle.std.specs.Option.{option_map}
@@ -78,6 +78,16 @@ planned app v e =
     if not (v.id == event_node e) then Err StrangeNode
     else (if not (sees v (named_node e)) then Err StrangeNeighbour
     else named_planned app v e)
+
+-- what a node would do: the view that it saw, the event, and what the view says of it
+pub record NodePlan (L : Type 0) : Type 0 where
+  pub view : NodeView L
+  pub event : Event
+  pub effect : Effect L
+  pub reply : Reply
+
+abbrev pub IsPlan : {L : Type 0} → App L → NodePlan L → Type 0
+IsPlan app p = planned app p.view p.event ≡ Ok (p.effect, p.reply)
 
 -- ---- and what it makes of a configuration
 

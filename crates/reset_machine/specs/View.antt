@@ -1,9 +1,9 @@
 -- What a node sees.
-use Rattle.std.specs.Prelude.{ℕ, ◌==◌, if◌then◌else◌, List, map, filter}
+use Rattle.std.specs.Prelude.{◌≡◌, ℕ, ◌==◌, if◌then◌else◌, List, map, filter}
 use Rattle.std.specs.Map.{lookup}
 use Rattle.std.specs.Option.{option_map_or}
 use Rattle.app_interface.specs.Application.{App}
-use Rattle.topology.specs.Graph.{neighbours_of}
+use Rattle.topology.specs.Graph.{IsNode, neighbours_of}
 use Rattle.tree_layer.specs.declared.regs.TreeRegs.{TreeRegs}
 use Rattle.tree_layer.specs.TreeTable as tree
 use Rattle.wave_layer.specs.declared.regs.WaveRegs.{WaveRegs}
@@ -48,6 +48,10 @@ view_of app c i = record {
   start = app.start c.graph i;
   near = map (near_of app c) (neighbours_of c.graph i);
 }
+
+-- the view is what its node sees now
+abbrev pub IsSeen : {L : Type 0} → App L → Configuration L → NodeView L → Type 0
+IsSeen app c v = IsNode c.graph v.id × (v ≡ view_of app c v.id)
 
 -- ---- what it sees of a layer
 

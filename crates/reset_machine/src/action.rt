@@ -1,6 +1,6 @@
 // What an action of the application does, from what its node reads.
 
-ghost use Rattle.std.specs.Prelude.{◌≡◌, ◌≢◌, ℕ, ◌<◌, ◌==◌, true, length, position, slice_index, filter, map, Err, Ok, Some, MatchResult, IfOk, is_ok};
+ghost use Rattle.std.specs.Prelude.{◌≡◌, ◌≢◌, ℕ, ◌<◌, ◌==◌, true, length, position, slice_index, filter, map, Err, Ok, None, Some, MatchResult, IfOk, is_ok};
 ghost use Rattle.app_interface.specs.Views.{seen_values};
 ghost use Rattle.topology.specs.Graph.{neighbours_of, node_bound};
 ghost use Rattle.reset_machine.specs.Actions.{acted_of, first_apart, fitted_of, misfit, reads_near};
@@ -88,11 +88,7 @@ pub fn fitted<P: Application>(
         Ok(seen) => seen,
         Err(AllocError) => return Err(StepRefusal::NoMemory),
     };
-    match P::on_clock(alloc, here, choice.case, choice.with, &locals[ix], &seen) {
-        Ok(local) => Ok(local),
-        Err(ClockRefusal::NotEnabled) => Err(StepRefusal::NotEnabled),
-        Err(ClockRefusal::NoMemory) => Err(StepRefusal::NoMemory),
-    }
+    on_clock::<P>(alloc, here, choice, &locals[ix], &seen)
 }
 
 /// Whether the action of the node with this id and index isn't refused, where the neighbour that is
@@ -124,6 +120,24 @@ pub fn is_taken<P: Application>(
     Ok(P::can(here, choice.case, choice.with, &locals[ix], &seen))
 }
 
+/// Takes the case, with what it reads.
+pub fn on_clock<P: Application>(
+    alloc: Global,
+    here: Here,
+    choice: Choice,
+    own: &P::Local,
+    seen: &[Seen<'_, P::Local>],
+) -> Result<P::Local, StepRefusal>
+    ensures exact { MatchResult result (λ local. P.app.next here.id here.k choice.case choice.with own.now (seen_values seen.now) ≡ Some local)
+        (λ f. f ≢ StepRefusal.NoMemory → (f ≡ StepRefusal.NotEnabled) × (P.app.next here.id here.k choice.case choice.with own.now (seen_values seen.now) ≡ None)) }
+{
+    match P::on_clock(alloc, here, choice.case, choice.with, own, seen) {
+        Ok(local) => Ok(local),
+        Err(ClockRefusal::NotEnabled) => Err(StepRefusal::NotEnabled),
+        Err(ClockRefusal::NoMemory) => Err(StepRefusal::NoMemory),
+    }
+}
+
 // The node, with the bound K.
 fn here(topology: &Topology, at: u32) -> Here
     ensures id { result.id ≡ at }
@@ -136,8 +150,8 @@ fn here(topology: &Topology, at: u32) -> Here
     }
 }
 
-// Why the choice doesn't fit what the case reads, if it doesn't.
-fn misfit(reads: Option<Reads>, with: Option<u32>) -> Option<StepRefusal>
+/// Why the choice doesn't fit what the case reads, if it doesn't.
+pub fn misfit(reads: Option<Reads>, with: Option<u32>) -> Option<StepRefusal>
     ensures { result ≡ misfit reads with }
 {
     match reads {
@@ -153,8 +167,8 @@ fn misfit(reads: Option<Reads>, with: Option<u32>) -> Option<StepRefusal>
     }
 }
 
-// Whether the case reads this neighbour.
-fn reads_near(reads: Option<Reads>, with: Option<u32>, near: u32) -> bool
+/// Whether the case reads this neighbour.
+pub fn reads_near(reads: Option<Reads>, with: Option<u32>, near: u32) -> bool
     ensures { result ≡ reads_near reads with near }
 {
     match reads {

@@ -10,9 +10,10 @@ use crate::action::{Choice, acted};
 use crate::enabled::{Enabled, enabled_at, ready_ids};
 use crate::event::Event;
 use crate::node_view::{View, read_view};
-use crate::plan::{Fired, planned};
+use crate::plan::{Effect, Fired, planned};
 use crate::run_laws::{completions, invariants, refinement};
 use crate::step::{Done, Reply, StepRefusal, reply_to};
+use crate::view_plan::Plan;
 use app_interface::Application;
 use std::alloc::{AllocError, AllocFailed, Global};
 use std::marker::Model;
@@ -59,8 +60,8 @@ impl<P: Application> Config<P> {
     ghost use Rattle.reset_machine.specs.Runs.{Answers, IsRun};
     ghost use Rattle.reset_machine.specs.Steps.{reply_of};
     ghost use Rattle.reset_machine.specs.Outcome.{IsBoot, act_outcome, row_outcome};
-    ghost use Rattle.reset_machine.specs.Planned.{outcome_of};
-    ghost use Rattle.reset_machine.specs.View.{view_of};
+    ghost use Rattle.reset_machine.specs.Planned.{after_effect, outcome_of};
+    ghost use Rattle.reset_machine.specs.View.{IsSeen, view_of};
     ghost use Rattle.reset_machine.specs.Sound.{IsComplete, IsSound, Repairs};
     ghost use Rattle.reset_machine.specs.WavePicture.{HasJoined, WavePicture};
     ghost use Rattle.tree_layer.specs.TreePicture.{TreePicture};
@@ -335,15 +336,65 @@ impl<P: Application> Config<P> {
 
     /// Whether the view is what its node sees now.
     pub fn view_is(&self, view: &View<P>) -> bool
-        ensures { IsTrue result ↔ IsNode self.now.graph view.now.id × (view.now ≡ view_of P.app self.now view.now.id) }
+        ensures { IsTrue result ↔ IsSeen P.app self.now view.now }
+    {
+        self.index_seeing(view).is_some()
+    }
+
+    // The index of the view's node, where the view is what it sees now.
+    fn index_seeing(&self, view: &View<P>) -> Option<usize>
+        ensures place { IfSome result (λ ix. position (λ i. i == view.now.id) self.now.graph.ids ≡ Some ix) }
+        ensures seen { IfSome result (λ _. IsSeen P.app self.now view.now) }
+        ensures unseen { IfNone result (IsSeen P.app self.now view.now → ⊥) }
     {
         let trees = &self.trees;
         let waves = &self.waves;
         let locals = &self.locals;
         let starts = &self.starts;
-        match self.topology.index_of(view.id()) {
-            Some(ix) => view.is_of(&self.topology, trees, waves, locals, starts, ix),
-            None => false,
+        let Some(ix) = self.topology.index_of(view.id()) else {
+            return None;
+        };
+        if view.is_of(&self.topology, trees, waves, locals, starts, ix) {
+            Some(ix)
+        } else {
+            None
+        }
+    }
+
+    /// Does what the plan says, where its node sees now what the plan was made on. Elsewhere the plan
+    /// comes back and nothing is changed. It takes no memory.
+    pub fn put_plan(&mut self, plan: Plan<P>) -> Result<Reply, Plan<P>>
+        ensures ok { IfOk result (λ reply. IsStep P.app self.old plan.event self.new × (reply ≡ plan.reply)) }
+        ensures seen { OnOk result (IsSeen P.app self.old plan.view) }
+        ensures err { IfErr result (λ back. (back ≡ plan) × (IsSeen P.app self.old plan.view → ⊥)) }
+        ensures kept { OnErr result (self.new ≡ self.old) }
+
+        // The same as a function.
+        ensures outcome { IfOk result (λ reply. outcome_of P.app self.old plan.event ≡ Ok (self.new, reply)) }
+    {
+        self.is_graph();
+        let Some(ix) = self.index_seeing(plan.seen_view()) else {
+            return Err(plan);
+        };
+        let at = plan.seen_view().id();
+        let reply = plan.reply();
+        self.write(at, ix, plan.into_effect());
+        Ok(reply)
+    }
+
+    // Writes what is done at the node with this id and index.
+    fn write(&mut self, at: u32, ix: usize, effect: Effect<P::Local>)
+        requires place { position (λ i. i == at) self.old.graph.ids ≡ Some ix }
+        ensures { self.new ≡ after_effect self.old at effect }
+    {
+        match effect {
+            Effect::Tree(after) => self.trees[ix] = after,
+            Effect::Wave(after, None) => self.waves[ix] = after,
+            Effect::Wave(after, Some(restarted)) => {
+                self.locals[ix] = restarted;
+                self.waves[ix] = after;
+            }
+            Effect::Local(after) => self.locals[ix] = after,
         }
     }
 

@@ -4,6 +4,7 @@
 
 mod action;
 mod config;
+mod decide;
 mod enabled;
 mod event;
 mod laws;
@@ -14,6 +15,7 @@ mod run_laws;
 mod step;
 mod text;
 mod view;
+mod view_plan;
 
 pub use config::Config;
 pub use enabled::Enabled;
@@ -28,3 +30,4 @@ pub use step::{Done, Reply, StepRefusal};
 pub use text::{
     event_of, one_event_a_line, read_event, split_word, word_and_neighbour, write_event,
 };
+pub use view_plan::Plan;

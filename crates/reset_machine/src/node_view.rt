@@ -4,7 +4,8 @@ ghost use Rattle.std.specs.Prelude.{◌≡◌, ◌<◌, ◌==◌, ◌↔◌, IfO
 ghost use Rattle.std.specs.Prelude.{position, slice_get, slice_index};
 ghost use Rattle.topology.specs.Graph.{neighbours_of};
 ghost use Rattle.reset_machine.specs.Configuration.{configuration, start_list};
-ghost use Rattle.reset_machine.specs.View.{near_of, view_of};
+ghost use Rattle.reset_machine.specs.View.{near_of, near_trees, view_of};
+ghost use Rattle.tree_layer.specs.TreeTable.{IsView};
 
 use app_interface::Application;
 use std::alloc::{AllocError, Global};
@@ -48,7 +49,8 @@ pub struct View<P: Application> {
 }
 
 impl<P: Application> Model for View<P> {
-    ghost use Rattle.reset_machine.specs.View.{NodeView};
+    ghost use Rattle.tree_layer.specs.TreeTable.{IsView};
+    ghost use Rattle.reset_machine.specs.View.{NodeView, near_trees};
 
     ghost Value = { NodeView P.Local };
 
@@ -61,6 +63,9 @@ impl<P: Application> Model for View<P> {
       start = v.start;
       near = v.near.items;
     } };
+
+    // A node isn't among its neighbours, which ascend, and the bound isn't 0.
+    ghost invariant = { λ v. IsView v.id v.k (near_trees v.near.items) };
 }
 
 /// What the node with this id and index sees.
@@ -183,6 +188,32 @@ impl<P: Application> View<P> {
         near.get(number)
     }
 
+    // The neighbours, which ascend, and among which the node isn't.
+    pub(crate) fn neighbours(&self) -> &[Near<P>]
+        ensures value { result.now ≡ self.now.near }
+        ensures view { IsView self.now.id self.now.bound (near_trees self.now.near) }
+    {
+        &self.near
+    }
+
+    // A view that equals this one.
+    pub(crate) fn copy(&self, alloc: Global) -> Result<View<P>, AllocError>
+        ensures { IfOk result (λ copy. copy ≡ self.now) }
+    {
+        let local = P::copy(alloc, &self.local)?;
+        let start = P::copy(alloc, &self.start)?;
+        let near = copy_near::<P>(alloc, &self.near)?;
+        Ok(View {
+            id: self.id,
+            k: self.k,
+            tree: self.tree,
+            wave: self.wave,
+            local,
+            start,
+            near,
+        })
+    }
+
     // Whether the node at this index, which has this view's identifier, sees this.
     pub(crate) fn is_of(
         &self,
@@ -237,6 +268,17 @@ impl<P: Application> View<P> {
     }
 }
 
+// A copy of each neighbour.
+fn copy_near<P: Application>(alloc: Global, near: &[Near<P>]) -> Result<Vec<Near<P>>, AllocError>
+    ensures { IfOk result (λ copies. copies.items ≡ near.now) }
+{
+    let mut copies = Vec::new(alloc);
+    for other in near {
+        copies.push(other.copy(alloc)?)?;
+    }
+    Ok(copies)
+}
+
 // Whether the node at an index has these neighbours.
 fn are_near<P: Application>(
     near: &[Near<P>],
@@ -280,6 +322,18 @@ fn same_near<P: Application>(a: &[Near<P>], b: &[Near<P>]) -> bool
 }
 
 impl<P: Application> Near<P> {
+    // A neighbour that equals this one.
+    fn copy(&self, alloc: Global) -> Result<Near<P>, AllocError>
+        ensures { IfOk result (λ copy. copy ≡ self.now) }
+    {
+        Ok(Near {
+            id: self.id,
+            tree: self.tree,
+            wave: self.wave,
+            local: P::copy(alloc, &self.local)?,
+        })
+    }
+
     // Whether the node at an index is this.
     fn is_at(
         &self,

@@ -142,9 +142,9 @@ fn wave_answer(
     first_answer(&Seen::Wave(view), event.named(), event.cases())
 }
 
-// Fires the first of the rows whose guard holds.
+/// Fires the first of the rows whose guard holds.
 #[inline(always)]
-fn first_answer(seen: &Seen<'_>, named: Option<u32>, cases: &[u8]) -> Result<Fired, StepRefusal>
+pub fn first_answer(seen: &Seen<'_>, named: Option<u32>, cases: &[u8]) -> Result<Fired, StepRefusal>
     ensures { result ≡ first_answer seen.now named cases.now }
 {
     for case in cases {
