@@ -34,4 +34,5 @@ pub mod JoinCounts
 pub mod StepShadows
 pub mod ViewedOutcomes
 pub mod Deciding
+pub mod StepsOrRefusals
 pub mod NearSeen

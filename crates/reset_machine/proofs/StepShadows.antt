@@ -1,7 +1,7 @@
 -- One step is a run of one event.
-use Rattle.std.proofs.Common.{◌≡◌, ◌<◌, true, List, [], ◌∷◌, append-nil, Result, Ok, Err, IfOk, refl, subst, arith}
+use Rattle.std.proofs.Common.{◌≡◌, ℕ, ◌<◌, true, List, [], ◌∷◌, append-nil, Result, Ok, Err, IfOk, refl, ap, subst, arith}
 use Rattle.app_interface.specs.Application.{App}
-use Rattle.topology.specs.Graph.{IsConnected, IsGraph, node_bound}
+use Rattle.topology.specs.Graph.{Graph, IsConnected, IsGraph, node_bound}
 use Rattle.reset_machine.specs.declared.event.Event.{Event}
 use Rattle.reset_machine.specs.declared.step.Done.TheVariants.{Did}
 use Rattle.reset_machine.specs.declared.step.Reply.{Reply}
@@ -11,21 +11,40 @@ use Rattle.reset_machine.specs.Configuration.{Configuration, IsShaped}
 use Rattle.reset_machine.specs.Refinement.{AbstractStep, IsAbstractRun, abstract_of, shadow_of}
 use Rattle.reset_machine.specs.Runs.{IsRun}
 use Rattle.reset_machine.specs.Sound.{IsSound}
+use Rattle.reset_machine.specs.SoundSteps.{IsSoundStep}
 use Rattle.reset_machine.proofs.RunShadows.{run_shadow}
-use Rattle.reset_machine.proofs.StepClauses.{IsOutcome}
+use Rattle.reset_machine.proofs.StepClauses.{IsOutcome, answer_complete, answer_quiet, answer_sound}
 
 module _ {L : Type 0} (app : App L) (c c' : Configuration L) (e : Event) where
-  -- what holds of each run of the one event holds of the step
-  pub one_run : (A : Type 0) (r : Result Reply StepRefusal) → IsOutcome app c c' e r → ((reply : Reply) → IsRun app c (e ∷ []) (Did reply ∷ []) c' → A) → IfOk r (λ reply. A)
-  one_run A (Ok reply) is of_run = of_run reply (c', is, refl)
-  one_run A (Err f) is of_run = tt
-
-  pub step_refines : IsGraph c.graph → IsConnected c.graph → IsShaped c → (reply : Reply) → IsRun app c (e ∷ []) (Did reply ∷ []) c' → IsSound c
+  -- what it does on the abstract machine is its shadow
+  step_refines : IsGraph c.graph → IsConnected c.graph → IsShaped c → (reply : Reply) → IsRun app c (e ∷ []) (Did reply ∷ []) c' → IsSound c
       → IsAbstractRun app c.graph (node_bound c.graph) (shadow_of c e) (abstract_of app c) (abstract_of app c')
   step_refines graph whole shaped reply run sound =
       let P : List AbstractStep → Type 0 = λ ss. IsAbstractRun app c.graph (node_bound c.graph) ss (abstract_of app c) (abstract_of app c') in
       subst P (append-nil (shadow_of c e)) (run_shadow app (e ∷ []) (Did reply ∷ []) c c' graph whole shaped sound run)
 
 -- an opening is one of the applied events
-pub opened_once : (e : Event) (reply : Reply) → is_open e ≡ true → 0 < times is_open (applied (e ∷ []) (Did reply ∷ []))
+opened_once : (e : Event) (reply : Reply) → is_open e ≡ true → 0 < times is_open (applied (e ∷ []) (Did reply ∷ []))
 opened_once e reply opens = rw opens (omega arith)
+
+module _ {L : Type 0} (app : App L) (Inv : Graph → (ℕ → L) → Type 0) (c c' : Configuration L) (e : Event) where
+  -- the step, as a run of one event
+  abbrev OneRun : Reply → Type 0
+  OneRun reply = IsRun app c (e ∷ []) (Did reply ∷ []) c'
+
+  module _ (graph : IsGraph c.graph) (whole : IsConnected c.graph) (shaped : IsShaped c) where
+    -- the outcome from a sound configuration, where runs keep Inv and an opening gives it
+    pub sound_step : ((reply : Reply) → OneRun reply → IsSound c → Inv c.graph (abstract_of app c) → Inv c'.graph (abstract_of app c'))
+        → ((reply : Reply) → OneRun reply → IsSound c → 0 < times is_open (applied (e ∷ []) (Did reply ∷ [])) → Inv c'.graph (abstract_of app c'))
+        → (r : Result Reply StepRefusal) → IsOutcome app c c' e r → IfOk r (λ reply. IsSound c → IsSoundStep app Inv c e reply c')
+    sound_step keeps opens (Err f) is = tt
+    sound_step keeps opens (Ok reply) is = λ sound.
+        let run : OneRun reply = (c', is, refl) in
+        record {
+          sound = answer_sound app c c' e graph shaped (Ok reply) is sound;
+          quiet = answer_quiet app c c' e graph shaped (Ok reply) is sound;
+          complete = λ session told. answer_complete app c c' e graph shaped whole (Ok reply) is session sound (ap Ok told);
+          refines = step_refines app c c' e graph whole shaped reply run sound;
+          invariant = keeps reply run sound;
+          restored = λ opening. opens reply run sound (opened_once e reply opening);
+        }

@@ -15,3 +15,4 @@ pub mod Refinement
 pub mod Completion
 pub mod View
 pub mod Planned
+pub mod SoundSteps

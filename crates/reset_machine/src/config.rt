@@ -55,17 +55,15 @@ impl<P: Application> Config<P> {
     ghost use Rattle.reset_machine.specs.Configuration.{local_of, tree_of, wave_of, with_local, with_tree, with_wave};
     ghost use Rattle.reset_machine.specs.Enabled.{enabled_rows, ready_of};
     ghost use Rattle.reset_machine.specs.MachineSteps.{IsStep, IsRefused};
-    ghost use Rattle.reset_machine.specs.Completion.{applied, CompletionsHold, is_open, moments, times};
-    ghost use Rattle.reset_machine.specs.Refinement.{abstract_of, IsAbstractRun, shadow, shadow_of};
     ghost use Rattle.reset_machine.specs.Runs.{Answers, IsRun};
     ghost use Rattle.reset_machine.specs.Steps.{reply_of};
     ghost use Rattle.reset_machine.specs.Outcome.{IsBoot, act_outcome, row_outcome};
     ghost use Rattle.reset_machine.specs.Planned.{after_effect, outcome_of};
     ghost use Rattle.reset_machine.specs.View.{IsSeen, view_of};
-    ghost use Rattle.reset_machine.specs.Sound.{IsComplete, IsSound, Repairs};
+    ghost use Rattle.reset_machine.specs.Sound.{IsSound};
+    ghost use Rattle.reset_machine.specs.SoundSteps.{IsSoundRun, IsSoundStep};
     ghost use Rattle.reset_machine.specs.WavePicture.{HasJoined, WavePicture};
     ghost use Rattle.tree_layer.specs.TreePicture.{TreePicture};
-    ghost use Rattle.reset_machine.specs.declared.step.Reply.TheVariants.{Complete};
 
     /// The configuration in which each node has its place in the tree of shortest ways to the
     /// greatest id, and no reset has begun: every node is normal, in session 0, and has its declared
@@ -116,18 +114,8 @@ impl<P: Application> Config<P> {
         ensures err { IfErr result (λ f. f ≢ StepRefusal.NoMemory → IsRefused P.app self.old event f) }
         ensures kept { OnErr result (self.new ≡ self.old) }
 
-        // Sound registers stay sound, and nothing in them is repaired. A reset is told complete only
-        // when every node has joined it.
-        ensures sound { IfOk result (λ _. IsSound self.old → IsSound self.new) }
-        ensures quiet { IfOk result (λ _. IsSound self.old → Repairs event → ⊥) }
-        ensures complete { (session : ℕ) → IsSound self.old → result ≡ Ok (Complete session) → IsComplete self.new session }
-
-        // Sound, it is the event's shadow on the abstract machine. What holds of its states from a reset
-        // on, holds.
-        ensures refines { IfOk result (λ _. IsSound self.old → IsAbstractRun P.app self.old.graph (node_bound self.old.graph)
-            (shadow_of self.old event) (abstract_of P.app self.old) (abstract_of P.app self.new)) }
-        ensures invariant { IfOk result (λ _. IsSound self.old → P.Inv self.old.graph (abstract_of P.app self.old) → P.Inv self.new.graph (abstract_of P.app self.new)) }
-        ensures restored { IfOk result (λ _. IsSound self.old → is_open event ≡ true → P.Inv self.new.graph (abstract_of P.app self.new)) }
+        // From a sound configuration it keeps what is to be kept, and a completion that it tells is true.
+        ensures lawful { IfOk result (λ reply. IsSound self.old → IsSoundStep P.app P.Inv self.old event reply self.new) }
 
         // The same as a function.
         ensures outcome { MatchResult result (λ reply. outcome_of P.app self.old event ≡ Ok (self.new, reply))
@@ -199,8 +187,8 @@ impl<P: Application> Config<P> {
         Ok(reply_to(fired))
     }
 
-    // The graph of the topology, and the shape of the configuration.
-    fn is_graph(&self)
+    /// Its topology is a connected graph, and each node has its registers and its local state.
+    pub fn is_graph(&self)
         ensures graph { IsGraph self.now.graph }
         ensures connected { IsConnected self.now.graph }
         ensures shaped { IsShaped self.now }
@@ -212,19 +200,10 @@ impl<P: Application> Config<P> {
     /// nothing, and the next one follows it. Where there is no memory for the answers nothing is done.
     pub fn run(&mut self, alloc: Global, events: &[Event]) -> Result<Vec<Done>, AllocError>
         ensures ok { IfOk result (λ answers. IsRun P.app self.old events.now answers.items self.new) }
-        ensures sound { IsSound self.old → IsSound self.new }
         ensures kept { OnErr result (self.new ≡ self.old) }
 
-        // Sound, it is a run of the abstract machine: all nodes restart at once where a session opens,
-        // and the nodes that have joined act. What holds of its states from a reset on, holds.
-        ensures refines { IfOk result (λ answers. IsSound self.old → IsAbstractRun P.app self.old.graph (node_bound self.old.graph)
-            (shadow P.app self.old events.now answers.items) (abstract_of P.app self.old) (abstract_of P.app self.new)) }
-        ensures invariant { IfOk result (λ _. IsSound self.old → P.Inv self.old.graph (abstract_of P.app self.old) → P.Inv self.new.graph (abstract_of P.app self.new)) }
-        ensures restored { IfOk result (λ answers. IsSound self.old → 0 < times is_open (applied events.now answers.items) → P.Inv self.new.graph (abstract_of P.app self.new)) }
-
-        // Sound, each completion in it is true. Between the opening and it each other node joined once,
-        // from its start state on, and nobody else opened a session.
-        ensures completion { IfOk result (λ answers. IsSound self.old → CompletionsHold P.app self.old.graph (moments P.app self.old events.now answers.items)) }
+        // From a sound configuration it keeps what is to be kept, and each completion in it is true.
+        ensures lawful { IfOk result (λ answers. IsSound self.old → IsSoundRun P.app P.Inv self.old events.now answers.items self.new) }
     {
         self.is_graph();
         completions::<P>();
@@ -369,10 +348,12 @@ impl<P: Application> Config<P> {
         ensures err { IfErr result (λ back. (back ≡ plan) × (IsSeen P.app self.old plan.view → ⊥)) }
         ensures kept { OnErr result (self.new ≡ self.old) }
 
-        // The same as a function.
+        // As of a step.
+        ensures lawful { IfOk result (λ reply. IsSound self.old → IsSoundStep P.app P.Inv self.old plan.event reply self.new) }
         ensures outcome { IfOk result (λ reply. outcome_of P.app self.old plan.event ≡ Ok (self.new, reply)) }
     {
         self.is_graph();
+        invariants::<P>();
         let Some(ix) = self.index_seeing(plan.seen_view()) else {
             return Err(plan);
         };

@@ -6,6 +6,7 @@ ghost use Rattle.tree_layer.specs.declared.regs.TreeRegs.{TreeRegs};
 ghost use Rattle.tree_layer.specs.TreePicture.{TreePicture};
 ghost use Rattle.wave_layer.specs.declared.regs.WaveRegs.{WaveRegs};
 ghost use Rattle.reset_machine.specs.declared.event.Event.{Event};
+ghost use Rattle.reset_machine.specs.declared.step.StepRefusal.{StepRefusal};
 ghost use Rattle.reset_machine.specs.Configuration.{Configuration, IsShaped, tree_of, wave_of};
 ghost use Rattle.reset_machine.specs.Steps.{event_node, IsEnabled, Mends, RegsStep, reply_of, reset_at};
 ghost use Rattle.reset_machine.specs.MachineSteps.{IsStep, IsRefused};
@@ -24,7 +25,13 @@ pub fn outcomes_are_steps<P: Application>()
         (IsRefused P.app c e) }
 {}
 
-/// The outcome of an event is what its node's view says of it, written at the node.
+/// No event is both a step and refused; by its outcome it is one of the two.
+pub fn no_step_is_refused<P: Application>()
+    ensures { (c c' : Configuration P.Local) (e : Event) (f : StepRefusal) → IsGraph c.graph → IsStep P.app c e c' → IsRefused P.app c e f → ⊥ }
+{}
+
+/// The outcome of an event, which is what its node's view says of it, written at the node, is what the
+/// maps of all registers and local states say of it.
 pub fn views_decide<P: Application>()
     ensures { (c : Configuration P.Local) (e : Event) → IsGraph c.graph → outcome_of P.app c e ≡ map_outcome P.app c e }
 {}

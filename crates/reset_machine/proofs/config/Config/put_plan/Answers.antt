@@ -1,8 +1,10 @@
-use Rattle.std.proofs.Common.{◌≡◌, ◌==◌, position, Ok, sym, subst, ap, ap₂, ◌∙◌}
+use Rattle.std.proofs.Common.{◌≡◌, ◌==◌, [], ◌∷◌, position, Ok, sym, subst, ap, ap₂, ◌∙◌}
+use Rattle.reset_machine.specs.declared.step.Done.TheVariants.{Did}
 use Rattle.reset_machine.specs.Planned.{after_effect}
 use Rattle.reset_machine.specs.View.{IsSeen}
 use Rattle.reset_machine.proofs.Deciding.{put-planned}
 use Rattle.reset_machine.proofs.StepClauses.{answer_step}
+use Rattle.reset_machine.proofs.StepShadows.{sound_step}
 use Rattle.reset_machine.proofs.config.Config.put_plan.Goals as goal
 
 pub write-requires-clause-place : goal.write-requires-clause-place
@@ -28,3 +30,20 @@ returns-clause-outcome g c =
     let at = c.id-at.ensures ∙ ap (λ v. v.id) c.seen_view-2.ensures in
     let written = c.write.ensures ∙ ap (λ i. after_effect now i c.into_effect.result) at in
     put-planned app now c.args.plan.view c.args.plan.event c.into_effect.result c.args.plan.reply seen c.into_effect.ensures ∙ ap₂ (λ d r. Ok (d, r)) (sym written) (sym c.reply-reply.ensures)
+
+pub returns-clause-lawful : goal.returns-clause-lawful
+returns-clause-lawful g c =
+    let app = g.P.Application.app in
+    let now = c.args.self.now in
+    let new = c.write.new.self in
+    let e = c.args.plan.event in
+    let graph = c.is_graph.ensures.graph in
+    let whole = c.is_graph.ensures.connected in
+    let shaped = c.is_graph.ensures.shaped in
+    let seen = subst (IsSeen app now) c.seen_view.ensures c.in-Some.ensures.seen in
+    let at = c.id-at.ensures ∙ ap (λ v. v.id) c.seen_view-2.ensures in
+    let written = c.write.ensures ∙ ap (λ i. after_effect now i c.into_effect.result) at in
+    let is = put-planned app now c.args.plan.view e c.into_effect.result c.args.plan.reply seen c.into_effect.ensures ∙ ap₂ (λ d r. Ok (d, r)) (sym written) (sym c.reply-reply.ensures) in
+    sound_step app g.P.Application.Inv now new e graph whole shaped
+    (λ reply run sound inv. c.invariants.ensures.kept now new (e ∷ []) (Did reply ∷ []) graph whole shaped sound run inv)
+    (λ reply run sound opens. c.invariants.ensures.opened now new (e ∷ []) (Did reply ∷ []) graph whole shaped sound run opens) (Ok c.reply-reply.result) is
