@@ -9,6 +9,7 @@ use Rattle.std.proofs.lemmas.List.Folds.{list_any-from_Any}
 use Rattle.std.proofs.lemmas.List.Quantifiers.{position-Some}
 use Rattle.std.proofs.lemmas.List.{get_or_default}
 use Rattle.std.proofs.lemmas.Bool.{cases_order, cases_Bool, false_from_ne_true, cases_eq, cases_lt, ltb-false}
+use Rattle.std.proofs.lemmas.Option.{none-some}
 use native.Mathlib.Numerals.{unary_clauses}
 
 -- each number is below each later one
@@ -65,12 +66,9 @@ pub no_index : (p : ℕ → Bool) (xs : List ℕ) → None ≡ position p xs →
 no_index p xs none k within =
     fails_before_first p xs k 0
     (⊎_elim
-    (λ (e : ltb (position_or_len p xs) (length xs) ≡ true). absurd (Some-is_not_none (position_or_len p xs) (sym (none ∙ ap (λ b. cond b (Some (position_or_len p xs)) None) e))))
+    (λ (e : ltb (position_or_len p xs) (length xs) ≡ true). absurd (none-some (position_or_len p xs) (none ∙ ap (λ b. cond b (Some (position_or_len p xs)) None) e)))
     (λ (e : ltb (position_or_len p xs) (length xs) ≡ false). omega (arith, ltb-false (position_or_len p xs) (length xs) e))
     (cases_Bool (ltb (position_or_len p xs) (length xs))))
-  where
-    Some-is_not_none : (i : ℕ) → ◌≡◌ {A = Option ℕ} (Some i) None → ⊥
-    Some-is_not_none i e = cc
 
 -- a number is a member where it has an index
 pub member_by_index : (xs : List ℕ) (x : ℕ) (o : Option ℕ) → o ≡ position (λ i. eqb i x) xs → is_some o ≡ list_any (λ y. eqb y x) xs

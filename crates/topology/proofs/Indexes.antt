@@ -3,6 +3,7 @@ use Rattle.std.proofs.Common.{◌≡◌, ℕ, ◌+◌, ◌-◌, ◌<◌, ◌≤�
 use Rattle.std.specs.List.Sorted.{IsStrictlyIncreasing}
 use Rattle.std.proofs.lemmas.List.{get_or-set_same, get_or-set_other}
 use Rattle.std.proofs.lemmas.List.Quantifiers.{position-Some}
+use Rattle.std.proofs.lemmas.Option.{none-some, same_Some}
 use Rattle.std.proofs.lemmas.Bool.{cases_eq, eqb-true}
 use Rattle.topology.specs.Rows.{AreIndexes}
 use Rattle.topology.proofs.Ascending.{index_of_item, rises, rises_weakly}
@@ -11,12 +12,6 @@ use Rattle.topology.proofs.Ascending.{index_of_item, rises, rises_weakly}
 pub record HasFirst (ids : List ℕ) (n : ℕ) (indexes : List (Option ℕ)) : Type 0 where
   pub found : (k : ℕ) → k < n → get_or indexes (get_or ids k 0) None ≡ Some k
   pub only : (id k : ℕ) → get_or indexes id None ≡ Some k → (k < n) × (get_or ids k 0 ≡ id)
-
-none_or_some : (k : ℕ) → ◌≡◌ {A = Option ℕ} None (Some k) → ⊥
-none_or_some k e = cc
-
-same_index : (j k : ℕ) → ◌≡◌ {A = Option ℕ} (Some j) (Some k) → j ≡ k
-same_index j k e = cc
 
 -- the last id is the greatest
 pub at_most_last : (ids : List ℕ) → IsStrictlyIncreasing ids → (k : ℕ) → k < length ids → get_or ids k 0 ≤ get_or ids (length ids - 1) 0
@@ -38,7 +33,7 @@ module _ (ids : List ℕ) (up : IsStrictlyIncreasing ids) (n : ℕ) (indexes : L
         only = λ id k e.
             ⊎_elim
             (λ (here : id ≡ x).
-            let last : n ≡ k = same_index n k (sym (get_or-set_same indexes x (Some n) None room) ∙ ap (λ i. get_or put i None) (sym here) ∙ e) in
+            let last : n ≡ k = same_Some n k (sym (get_or-set_same indexes x (Some n) None room) ∙ ap (λ i. get_or put i None) (sym here) ∙ e) in
             (omega (arith, last), ap (λ j. get_or ids j 0) (sym last) ∙ sym here))
             (λ (there : id ≢ x).
             let before = has.only id k (sym (get_or-set_other indexes x id (Some n) None there) ∙ e) in
@@ -57,4 +52,4 @@ has_all ids up indexes has id = of (get_or indexes id None) (position (λ i. eqb
     of None None at none = at ∙ sym none
     of None (Some k) at index =
         let found = position-Some (λ i. eqb i id) ids k 0 index in
-        absurd (none_or_some k (sym at ∙ ap (λ i. get_or indexes i None) (sym (eqb-true (get_or ids k 0) id found.1)) ∙ has.found k found.0))
+        absurd (none-some k (sym at ∙ ap (λ i. get_or indexes i None) (sym (eqb-true (get_or ids k 0) id found.1)) ∙ has.found k found.0))

@@ -13,6 +13,7 @@ use Rattle.std.proofs.lemmas.Bool.{both_ways, false_from_ne_true}
 use Rattle.std.proofs.lemmas.List.{get_or_default, get_or-map, length-map}
 use Rattle.std.proofs.lemmas.List.Quantifiers.{position-Some}
 use Rattle.std.specs.Cmp.{both_ways as same_tests}
+use Rattle.std.proofs.lemmas.Option.{none-some}
 use Rattle.topology.specs.Graph.{pair_cmp, are_linked, AreLinked, IsGraph, neighbours_of}
 use Rattle.topology.specs.Rows.{row_at, near_has, pairs_at, links_of, graph_of, AreRows}
 use Rattle.topology.proofs.Ascending.{member_at, index_once, filter_by_row, index_of_item, member_by_search}
@@ -41,9 +42,6 @@ any_map t f (x ∷ xs) = ap (λ b. t (f x) || b) (any_map t f xs)
 pub length_range : (a n : ℕ) → length (range_with_len a n) ≡ n
 length_range a zero = refl
 length_range a (suc n) = ap suc (length_range (a + 1) n)
-
-Some-is_not_none : (i : ℕ) → ◌≡◌ {A = Option ℕ} (Some i) None → ⊥
-Some-is_not_none i e = cc
 
 -- the indexes whose ids are a and b, the second in the row of the first
 pub record Linked (ids : List ℕ) (rows : List (List ℕ)) (a b : ℕ) : Type 0 where
@@ -150,7 +148,7 @@ module _ (ids : List ℕ) (rows : List (List ℕ)) where
         sym (false_from_ne_true _ (λ e.
         let l = linked_from a b e in
         let index : Some l.i ≡ position (λ k. eqb k a) ids = index_of_item ids a up l.i l.within l.first in
-        absurd (Some-is_not_none l.i (index ∙ sym none))))
+        absurd (none-some l.i (none ∙ sym index))))
 
     pub unlinked_second : (a b : ℕ) → None ≡ position (λ k. eqb k b) ids → false ≡ are_linked (graph_of ids rows) a b
     unlinked_second a b none =
