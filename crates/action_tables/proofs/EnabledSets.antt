@@ -3,7 +3,7 @@ use Rattle.std.proofs.Common.{◌≡◌, ℕ, ◌<◌, ◌≤◌, Bool, true, fa
 use Rattle.std.specs.List.{filter}
 use Rattle.std.proofs.lemmas.Bool.{and_parts, ltb-true}
 use Rattle.action_tables.specs.Numbers.{with_number, with_number_if}
-use Rattle.action_tables.specs.NumberBits.{Each}
+use Rattle.action_tables.specs.LawsOfNumbers.{Each}
 use Rattle.action_tables.specs.Table.{Row, enabled_of}
 use Rattle.action_tables.proofs.NumberSets.{insert-more}
 

@@ -16,7 +16,7 @@ use Rattle.std.proofs.lemmas.Nat.{ones-le}
 use Rattle.std.proofs.Math.Nat.{pow-succ'}
 use Rattle.std.proofs.lemmas.Nat.Bits.{bit_at-zero, bit_at-suc, bit_at_lowest, bit_at_set_same, bit_at_set_other, bit_at-trailing_zeros}
 use Rattle.action_tables.specs.Numbers.{has_bit, is_among, with_number, all_cases, numbers_of}
-use Rattle.action_tables.specs.NumberBits.{IsCase, Each, every_case, is_among-filter}
+use Rattle.action_tables.specs.LawsOfNumbers.{IsCase, Each, every_case, is_among-filter}
 
 -- two tests that agree at each element
 filter_alike : (p q : ℕ → Bool) (xs : List ℕ) → Each (λ x. p x ≡ q x) xs → filter p xs ≡ filter q xs

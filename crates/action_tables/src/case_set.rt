@@ -17,7 +17,7 @@ pub struct CaseSet {
 impl Model for CaseSet {
     ghost use Rattle.std.specs.Prelude.{List, ℕ, ◌<◌};
     ghost use Rattle.action_tables.specs.Numbers.{bits_of, numbers_of};
-    ghost use Rattle.action_tables.specs.NumberBits.{inside_again};
+    ghost use Rattle.action_tables.specs.LawsOfNumbers.{inside_again};
 
     ghost Value = { List ℕ };
 

@@ -3,7 +3,8 @@
 use Rattle.std.proofs.Common.{◌≡◌, ◌≢◌, ℕ, ◌<◌, List, [], ◌∷◌, ◌++◌, All, map, length, refl, sym, ap, ap₂, ◌∙◌, subst, arith, append_assoc}
 use Rattle.std.specs.List.{AllByRecursion, join_with_byte}
 use Rattle.std.proofs.lemmas.List.Elements.{recursion_from_All}
-use Rattle.action_tables.specs.Cuts.{HasNo, HasNo-append, SameCut, has_byte, same_cut}
+use Rattle.action_tables.specs.Cuts.{HasNo}
+use Rattle.action_tables.specs.LawsOfCuts.{HasNo-append, SameCut, has_byte, same_cut}
 use Rattle.action_tables.specs.Lists.{list_text}
 use Rattle.app_interface.specs.Listing.{NoNext, ReadsOn}
 use Rattle.app_interface.proofs.ListEnds.{item_at_seam}

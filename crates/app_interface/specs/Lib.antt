@@ -4,6 +4,7 @@ pub mod Invariant
 pub mod Idle
 pub mod Ids
 pub mod Views
-pub mod ViewLaws
-pub mod SeenNeighbours
 pub mod Listing
+pub mod LawsOfIdle
+pub mod LawsOfViews
+pub mod LawsOfSeen

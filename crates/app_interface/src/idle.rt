@@ -1,6 +1,7 @@
 // The application that does nothing.
 ghost use Rattle.std.specs.Prelude.{None, codes};
-ghost use Rattle.app_interface.specs.Idle.{idle, idle_cases, idle_keeps, one_idle_text};
+ghost use Rattle.app_interface.specs.Idle.{idle};
+ghost use Rattle.app_interface.specs.LawsOfIdle.{idle_cases, idle_keeps, one_idle_text};
 
 use crate::application::Application;
 use crate::reads::Reads;

@@ -8,7 +8,7 @@ use Rattle.app_interface.specs.Application.{Action, is_read, seen}
 use Rattle.app_interface.specs.Invariant.{Keeps, SameAtNodes}
 use Rattle.app_interface.specs.declared.refusal.ClockRefusal.TheVariants.{NotEnabled}
 use Rattle.app_mutex.specs.Mutex.{holds_turn, holds_turns, mutex, mutex_next, mutex_reads, mutex_start}
-use Rattle.app_interface.specs.SeenNeighbours.{seen_pass}
+use Rattle.app_interface.specs.LawsOfSeen.{seen_pass}
 use Rattle.app_mutex.specs.Turns.{HoldsTurns}
 use Rattle.app_mutex.specs.declared.local.MutexLocal.{MutexLocal}
 

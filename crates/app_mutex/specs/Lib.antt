@@ -1,6 +1,6 @@
 pub mod Mutex
-pub mod MutexCases
 pub mod LocalText
-pub mod Spelling
 pub mod Turns
+pub mod LawsOfCases
+pub mod LawsOfText
 pub mod Laws

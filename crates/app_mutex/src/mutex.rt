@@ -2,8 +2,8 @@
 ghost use Rattle.app_mutex.specs.Laws.{mutex_keeps};
 ghost use Rattle.app_mutex.specs.LocalText.{local_text};
 ghost use Rattle.app_mutex.specs.Mutex.{mutex, mutex_names};
-ghost use Rattle.app_mutex.specs.MutexCases.{mutex_cases};
-ghost use Rattle.app_mutex.specs.Spelling.{one_mutex_text};
+ghost use Rattle.app_mutex.specs.LawsOfCases.{mutex_cases};
+ghost use Rattle.app_mutex.specs.LawsOfText.{one_mutex_text};
 ghost use Rattle.app_mutex.specs.Turns.{HoldsTurns};
 
 use crate::local::MutexLocal;

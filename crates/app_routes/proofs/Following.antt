@@ -5,7 +5,7 @@ use Rattle.std.proofs.lemmas.Bool.{cases_eq}
 use Rattle.std.proofs.lemmas.List.Kept.{AllPairs-cons}
 use Rattle.topology.specs.Graph.{Graph, IsGraph, IsNode, AreLinked, IsWalk}
 use Rattle.app_routes.specs.Entries.{route_of}
-use Rattle.app_routes.specs.EntryLaws.{found}
+use Rattle.app_routes.specs.LawsOfEntries.{found}
 use Rattle.app_routes.specs.Ways.{ArrivesWithin, HasRoutes, LeadsTo}
 use Rattle.app_routes.specs.declared.entry.Entry.{Entry}
 

@@ -13,7 +13,7 @@ use Rattle.topology.proofs.Ascending.{rises}
 use Rattle.app_interface.proofs.KeptByPlace.{keeps_back, keeps_front}
 use Rattle.app_interface.proofs.ListEnds.{all_one}
 use Rattle.app_routes.specs.Entries.{AreRoutes, IsAscending, IsEntry, IsPlaceOf, route_of, set_route}
-use Rattle.app_routes.specs.EntryLaws.{find_first, find_none, set_ascends}
+use Rattle.app_routes.specs.LawsOfEntries.{find_first, find_none, set_ascends}
 use Rattle.app_routes.specs.declared.entry.Entry.{Entry}
 
 -- ---- what a search answers

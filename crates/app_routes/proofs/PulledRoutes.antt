@@ -6,7 +6,7 @@ use Rattle.std.proofs.lemmas.Bool.{cases_order}
 use Rattle.std.proofs.lemmas.Bool.Decides.{eqb_tells}
 use Rattle.std.proofs.lemmas.List.Folds.{find-append}
 use Rattle.app_routes.specs.Entries.{IsAscending, is_better, over, pulled, route_of, set_route, take_better}
-use Rattle.app_routes.specs.EntryLaws.{find_none, one_place, rises_on}
+use Rattle.app_routes.specs.LawsOfEntries.{find_none, one_place, rises_on}
 use Rattle.app_routes.specs.Pulled.{route_after}
 use Rattle.app_routes.specs.declared.entry.Entry.{Entry}
 

@@ -2,7 +2,7 @@
 use Rattle.std.proofs.Common.{◌≡◌, ◌==◌, ◌&&◌, ap}
 use Rattle.std.specs.Bool.{Decides}
 use Rattle.std.proofs.lemmas.Bool.Decides.{Decides-and, Decides-eqb}
-use Rattle.app_routes.specs.Spelling.{same_fields}
+use Rattle.app_routes.specs.LawsOfText.{same_fields}
 use Rattle.app_routes.specs.declared.entry.Entry.{Entry}
 
 -- two entries are equal where their parts are

@@ -6,11 +6,11 @@ use Rattle.topology.specs.Graph.{Graph, IsGraph, IsNode, AreLinked, Changes}
 use Rattle.app_interface.specs.Application.{Action, Fits, is_read, seen}
 use Rattle.app_interface.specs.Ids.{is_id}
 use Rattle.app_interface.specs.Invariant.{Keeps, SameAtNodes}
-use Rattle.app_interface.specs.ViewLaws.{seen_is}
+use Rattle.app_interface.specs.LawsOfViews.{seen_is}
 use Rattle.app_interface.specs.Views.{seen_at}
 use Rattle.app_interface.specs.declared.refusal.ClockRefusal.TheVariants.{NotEnabled}
 use Rattle.app_routes.specs.Entries.{IsAscending, over, pulled, some_better}
-use Rattle.app_routes.specs.EntryLaws.{HasWithin, none_in, only_one, taken_ascends, taken_from, taken_keeps}
+use Rattle.app_routes.specs.LawsOfEntries.{HasWithin, none_in, only_one, taken_ascends, taken_from, taken_keeps}
 use Rattle.app_routes.specs.Routes.{entries_of, routes, routes_next, routes_reads, routes_start}
 use Rattle.app_routes.specs.Ways.{HasRoutes, IsRoute}
 use Rattle.app_routes.specs.declared.entry.Entry.{Entry}

@@ -3,7 +3,7 @@ pub mod Routes
 pub mod Ways
 pub mod Pulled
 pub mod LocalText
-pub mod EntryLaws
+pub mod LawsOfEntries
 pub mod Laws
-pub mod RoutesCases
-pub mod Spelling
+pub mod LawsOfCases
+pub mod LawsOfText

@@ -3,8 +3,8 @@ ghost use Rattle.app_routes.specs.Entries.{AreRoutes};
 ghost use Rattle.app_routes.specs.Laws.{routes_keep};
 ghost use Rattle.app_routes.specs.LocalText.{routes_text};
 ghost use Rattle.app_routes.specs.Routes.{routes, routes_names};
-ghost use Rattle.app_routes.specs.RoutesCases.{routes_cases};
-ghost use Rattle.app_routes.specs.Spelling.{one_routes_text};
+ghost use Rattle.app_routes.specs.LawsOfCases.{routes_cases};
+ghost use Rattle.app_routes.specs.LawsOfText.{one_routes_text};
 ghost use Rattle.app_routes.specs.Ways.{HasRoutes};
 
 use crate::local::RoutesLocal;

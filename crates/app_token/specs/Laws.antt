@@ -11,13 +11,13 @@ use Rattle.topology.specs.Graph.{Graph, IsGraph, IsNode, AreLinked, Changes, are
 use Rattle.app_interface.specs.Application.{Action, Fits, is_read, seen}
 use Rattle.app_interface.specs.Ids.{is_id}
 use Rattle.app_interface.specs.Invariant.{Keeps, SameAtNodes}
-use Rattle.app_interface.specs.ViewLaws.{seen_is}
+use Rattle.app_interface.specs.LawsOfViews.{seen_is}
 use Rattle.app_interface.specs.Views.{seen_at}
 use Rattle.app_interface.specs.declared.refusal.ClockRefusal.TheVariants.{NotEnabled}
 use Rattle.app_token.specs.Bits.{bit_of, toggled}
-use Rattle.app_token.specs.BitLaws.{toggled_same, toggled_other}
+use Rattle.app_token.specs.LawsOfBits.{toggled_same, toggled_other}
 use Rattle.app_token.specs.OneToken.{in_flight, holders, flights, HasOneToken}
-use Rattle.app_token.specs.Sums.{number_of, same_sum, sum_at, pairs_at}
+use Rattle.app_token.specs.LawsOfSums.{number_of, same_sum, sum_at, pairs_at}
 use Rattle.app_token.specs.Token.{token, token_next, token_reads, token_start, arrives, differ}
 use Rattle.app_token.specs.declared.local.TokenLocal.{TokenLocal}
 

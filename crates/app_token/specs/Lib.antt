@@ -2,8 +2,8 @@ pub mod Bits
 pub mod Token
 pub mod LocalText
 pub mod OneToken
-pub mod Sums
-pub mod BitLaws
+pub mod LawsOfSums
+pub mod LawsOfBits
 pub mod Laws
-pub mod Spelling
-pub mod TokenCases
+pub mod LawsOfText
+pub mod LawsOfCases

@@ -2,9 +2,9 @@
 ghost use Rattle.app_token.specs.Laws.{token_keeps};
 ghost use Rattle.app_token.specs.LocalText.{IsTokenLocal, local_text};
 ghost use Rattle.app_token.specs.OneToken.{HasOneToken};
-ghost use Rattle.app_token.specs.Spelling.{one_token_text};
+ghost use Rattle.app_token.specs.LawsOfText.{one_token_text};
 ghost use Rattle.app_token.specs.Token.{token, token_names};
-ghost use Rattle.app_token.specs.TokenCases.{token_cases};
+ghost use Rattle.app_token.specs.LawsOfCases.{token_cases};
 
 use crate::local::TokenLocal;
 use crate::{read, show, table};

@@ -4,7 +4,7 @@ use Rattle.std.proofs.Common.{◌≡◌, ℕ, zero, suc, ◌+◌, ◌-◌, ◌<�
 use Rattle.std.specs.List.{list_any, range_with_len}
 use Rattle.std.proofs.lemmas.Bool.{and_parts, eq-eqb, false≢true}
 use Rattle.action_tables.specs.Numbers.{all_cases, with_number}
-use Rattle.action_tables.specs.NumberBits.{Each}
+use Rattle.action_tables.specs.LawsOfNumbers.{Each}
 use Rattle.action_tables.proofs.NumberSets.{insert-more}
 use Rattle.topology.specs.Building.{has}
 use Rattle.topology.proofs.Membership.{has-filter}

@@ -3,7 +3,8 @@ use Rattle.std.proofs.Common.{◌≡◌, ℕ, ◌<◌, ◌^◌, List, [], ◌∷
 use Rattle.std.specs.Fmt.{decimal}
 use Rattle.std.specs.List.{onto_first, join_with_byte}
 use Rattle.std.proofs.lemmas.List.Splits.{slice_split-cons_no, length-slice_split, join_with_byte-slice_split}
-use Rattle.action_tables.specs.Cuts.{HasNo, HasNo-decimal}
+use Rattle.action_tables.specs.Cuts.{HasNo}
+use Rattle.action_tables.specs.LawsOfCuts.{HasNo-decimal}
 use Rattle.reset_machine.specs.Words.{is_space, words_of}
 
 -- no byte is a space

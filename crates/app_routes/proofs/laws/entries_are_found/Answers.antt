@@ -1,4 +1,4 @@
-use Rattle.app_routes.specs.EntryLaws.{found}
+use Rattle.app_routes.specs.LawsOfEntries.{found}
 use Rattle.app_routes.proofs.laws.entries_are_found.Goals as goal
 
 pub returns : goal.returns

@@ -2,7 +2,7 @@ use Rattle.std.proofs.Common.{◌≡◌, [], ◌∷◌, ◌++◌, true≢false, 
 use Rattle.app_interface.specs.Listing.{EndsBelow}
 use Rattle.app_interface.proofs.ListEnds.{item_at_seam}
 use Rattle.app_routes.specs.Entries.{AreRoutes, IsEntry}
-use Rattle.app_routes.specs.Spelling.{entries_spelled}
+use Rattle.app_routes.specs.LawsOfText.{entries_spelled}
 use Rattle.app_routes.proofs.Listing.{destinations, routes_end_below, routes_push}
 use Rattle.app_routes.proofs.read.push_entry.Goals as goal
 

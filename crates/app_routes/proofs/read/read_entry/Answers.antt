@@ -1,6 +1,7 @@
 use Rattle.std.proofs.Common.{sym, subst}
-use Rattle.action_tables.specs.Cuts.{HasNo, has_byte}
-use Rattle.app_routes.specs.Spelling.{parts_of, two_colons}
+use Rattle.action_tables.specs.Cuts.{HasNo}
+use Rattle.action_tables.specs.LawsOfCuts.{has_byte}
+use Rattle.app_routes.specs.LawsOfText.{parts_of, two_colons}
 use Rattle.app_routes.proofs.read.read_entry.Goals as goal
 
 pub returns-in_err-destination-clause-only : goal.returns-in_err-destination-clause-only

@@ -3,7 +3,7 @@ use Rattle.std.proofs.lemmas.Result.{err_from_is_err_and}
 use Rattle.app_interface.proofs.Refusals.{other_ok}
 use Rattle.app_interface.proofs.ListingLaws.{bad_next, bad_last, read_on, read_last, with_commas}
 use Rattle.app_routes.specs.LocalText.{entry_text}
-use Rattle.app_routes.specs.Spelling.{entries_spelled}
+use Rattle.app_routes.specs.LawsOfText.{entries_spelled}
 use Rattle.app_routes.proofs.Listing.{routes_fronts}
 use Rattle.app_routes.proofs.read.read_local.Goals as goal
 

@@ -3,7 +3,7 @@ use Rattle.app_interface.specs.Listing.{EndsBelow}
 use Rattle.app_interface.proofs.ListEnds.{ends_below, item_at_seam}
 use Rattle.topology.specs.Id.{IsId}
 use Rattle.app_token.specs.Bits.{IsBits}
-use Rattle.app_token.specs.Spelling.{ids_spelled}
+use Rattle.app_token.specs.LawsOfText.{ids_spelled}
 use Rattle.app_token.proofs.Listing.{bits_push}
 use Rattle.app_token.proofs.read.push_id.Goals as goal
 

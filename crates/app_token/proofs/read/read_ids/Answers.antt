@@ -3,7 +3,7 @@ use Rattle.std.specs.Fmt.{decimal}
 use Rattle.std.proofs.lemmas.Result.{err_from_is_err_and}
 use Rattle.app_interface.proofs.Refusals.{other_ok}
 use Rattle.app_interface.proofs.ListingLaws.{bad_next, bad_last, read_on, read_last, with_commas}
-use Rattle.app_token.specs.Spelling.{ids_spelled}
+use Rattle.app_token.specs.LawsOfText.{ids_spelled}
 use Rattle.app_token.proofs.Listing.{bits_fronts}
 use Rattle.app_token.proofs.read.read_ids.Goals as goal
 

@@ -1,6 +1,6 @@
 use Rattle.std.proofs.lemmas.Result.{err_from_is_err_and}
 use Rattle.app_interface.proofs.Refusals.{other_ok}
-use Rattle.app_token.specs.Spelling.{parts_of, two_slashes}
+use Rattle.app_token.specs.LawsOfText.{parts_of, two_slashes}
 use Rattle.app_token.proofs.read.read_local.Goals as goal
 
 pub returns-in_default-cut-clause-bad : goal.returns-in_default-cut-clause-bad

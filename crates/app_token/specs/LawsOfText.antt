@@ -4,7 +4,8 @@ use Rattle.std.specs.Fmt.{decimal}
 use Rattle.std.proofs.lemmas.Fmt.{decimal_injective}
 use Rattle.topology.specs.Id.{IsId}
 use Rattle.app_token.specs.Bits.{IsBits}
-use Rattle.action_tables.specs.Cuts.{HasNo, HasNo-decimal, SameParts, has_second, same_parts}
+use Rattle.action_tables.specs.Cuts.{HasNo}
+use Rattle.action_tables.specs.LawsOfCuts.{HasNo-decimal, SameParts, has_second, same_parts}
 use Rattle.action_tables.specs.RowText.{set_text}
 use Rattle.app_interface.proofs.ListingLaws.{HasNo-list, Spells, same_list}
 use Rattle.app_token.specs.LocalText.{IsTokenLocal, hold_text, local_text}

@@ -3,7 +3,8 @@ use Rattle.std.proofs.Common.{◌≡◌, ◌≢◌, ℕ, ◌<◌, ◌^◌, List,
 use Rattle.std.specs.Fmt.{decimal}
 use Rattle.std.proofs.lemmas.Fmt.{decimal_injective}
 use Rattle.topology.specs.Id.{IsId}
-use Rattle.action_tables.specs.Cuts.{HasNo, HasNo-append, HasNo-decimal, SameParts, has_second, same_parts}
+use Rattle.action_tables.specs.Cuts.{HasNo}
+use Rattle.action_tables.specs.LawsOfCuts.{HasNo-append, HasNo-decimal, SameParts, has_second, same_parts}
 use Rattle.app_interface.proofs.ListingLaws.{Spells, same_list}
 use Rattle.app_routes.specs.Entries.{AreRoutes, IsEntry}
 use Rattle.app_routes.specs.LocalText.{entry_text, routes_text}
