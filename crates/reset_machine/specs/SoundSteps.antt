@@ -12,7 +12,8 @@ use Rattle.reset_machine.specs.Refinement.{IsAbstractRun, abstract_of, shadow, s
 use Rattle.reset_machine.specs.Sound.{IsComplete, IsSound, Repairs}
 
 -- Inv is a fact of the application's states that holds at the start and that each action keeps
-pub record IsSoundStep {L : Type 0} (app : App L) (Inv : Graph → (ℕ → L) → Type 0) (c : Configuration L) (e : Event) (reply : Reply) (c' : Configuration L) : Type 0 where
+pub record IsSoundStep {L : Type 0} (app : App L) (Inv : Graph → (ℕ → L) → Type 0) (c : Configuration L) (e : Event)
+    (reply : Reply) (c' : Configuration L) : Type 0 where
   -- sound registers stay sound, and nothing in them is repaired
   pub sound : IsSound c'
   pub quiet : Repairs e → ⊥
@@ -26,9 +27,11 @@ pub record IsSoundStep {L : Type 0} (app : App L) (Inv : Graph → (ℕ → L) �
 
 -- the same of a run: on the abstract machine all nodes restart at once where a session opens, and the
 -- nodes that have joined act
-pub record IsSoundRun {L : Type 0} (app : App L) (Inv : Graph → (ℕ → L) → Type 0) (c : Configuration L) (es : List Event) (ds : List Done) (c' : Configuration L) : Type 0 where
+pub record IsSoundRun {L : Type 0} (app : App L) (Inv : Graph → (ℕ → L) → Type 0) (c : Configuration L)
+    (es : List Event) (ds : List Done) (c' : Configuration L) : Type 0 where
   pub sound : IsSound c'
-  pub refines : IsAbstractRun app c.graph (node_bound c.graph) (shadow app c es ds) (abstract_of app c) (abstract_of app c')
+  pub refines : IsAbstractRun app c.graph
+      (node_bound c.graph) (shadow app c es ds) (abstract_of app c) (abstract_of app c')
   pub invariant : Inv c.graph (abstract_of app c) → Inv c'.graph (abstract_of app c')
   pub restored : 0 < times is_open (applied es ds) → Inv c'.graph (abstract_of app c')
   -- each completion in it is true: between the opening and it each other node joined once, from its
