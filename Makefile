@@ -1,7 +1,7 @@
 # Needs `rt`, the command of the Rattle kit, make and python3, which rt needs too: nothing else, but for
 # `make bench`.
 
-.PHONY: run build test mutants gate-times bench
+.PHONY: run build test mutants gate-times reading-list bench
 
 # Builds the program and replays one whole reset wave on the line of nodes 1, 2, 3.
 run: build
@@ -24,6 +24,12 @@ mutants:
 gate-times:
 	@tools/gate-times
 	@tools/gate-times functions
+
+# Writes docs/trust.md anew: what one reads to believe the headline, from the sources as they are.
+reading-list:
+	@mkdir -p build
+	@tools/reading-list >build/trust.md
+	@mv build/trust.md docs/trust.md
 
 # Compares the program with a plain Rust program of the same replay, bench/baseline.rs. Needs rustc,
 # valgrind and GNU time beside.
