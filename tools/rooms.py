@@ -52,14 +52,8 @@ def processors():
     return len(os.sched_getaffinity(0))
 
 
-def progress(line):
-    """How many functions of how many are proved, where a line of rt's tells it."""
-    told = re.match(r"(?:checked \S+,|so far:) (\d+ of \d+)", line)
-    return told and told[1]
-
-
 class Proof:
-    """A crate that is being proved in a room: how far its proof is, and all that it said."""
+    """A crate that is being proved in a room: how far its check is, and all that it said."""
 
     def __init__(self, base, below, name, jobs, tests):
         self.name, self.jobs, self.count, self.said, self.failed = name, jobs, "", [], False
@@ -88,24 +82,21 @@ class Proof:
             shutil.copytree(f"crates/{name}/out/incremental", f"{self.folder}/out/incremental")
 
     def work(self):
-        # a library's build proves it; only its tests want a check beside
-        is_library = os.path.isfile(f"{self.folder}/src/lib.rt")
-        words = [["rt", "check", *["--test"] * self.tests]] * (self.tests or not is_library)
-        words += [["rt", "lib", "--progress"]] * is_library
-        self.failed = any(self.run([*it, "--jobs", str(self.jobs)]) for it in words)
+        words = [["rt", "check", "--jobs", str(self.jobs), *["--test"] * self.tests]]
+        if os.path.isfile(f"{self.folder}/src/lib.rt"):
+            words.append(["rt", "lib", "--jobs", "1"])
+        self.failed = any(self.run(it) for it in words)
 
     def run(self, words):
-        # a crate that less depends on gives way to the one that has more jobs
-        words = words if self.jobs > 1 else ["nice", *words]
         how = {"stdin": subprocess.DEVNULL, "stdout": subprocess.PIPE, "stderr": subprocess.STDOUT}
         with subprocess.Popen(words, cwd=self.folder, text=True, errors="replace", **how) as run:
             before = time.monotonic()
             for line in run.stdout:
                 now = time.monotonic()
                 self.said.append(line)
-                self.count = progress(line) or self.count
-                at = re.match(r"checked (\S+),", line)
+                at = re.match(r"checked (\S+), (\d+ of \d+)", line)
                 if at:
+                    self.count = at[2]
                     self.times.append((now - before, f"{self.name}: {at[1]}"))
                 before = now
         return run.returncode
