@@ -15,6 +15,9 @@ pub record App (L : Type 0) : Type 0 where
   -- the state that a case leaves, where it is enabled: from the node's identifier, K, the case, the
   -- named neighbour, the node's own state, and the states that it reads
   pub next : ℕ → ℕ → ℕ → Option ℕ → L → List (ℕ × L) → Option L
+  -- the least failing row of the link table, asked at one end of a link: from the node's identifier, K,
+  -- the node's own state, the neighbour's identifier, and the neighbour's state
+  pub link_fault : ℕ → ℕ → L → ℕ → L → Option ℕ
 
 -- whether a case at node i, with this choice of a neighbour, reads j
 abbrev pub is_read : Graph → ℕ → Option Reads → Option ℕ → ℕ → Bool

@@ -8,4 +8,5 @@ idle = record {
   reads = λ case. None;
   start = λ g i. tt;
   next = λ i bound case with own seen. None;
+  link_fault = λ i bound own j theirs. None;
 }

@@ -1,6 +1,6 @@
 -- What holds of the local states of all nodes from a reset on.
-use Rattle.std.specs.Prelude.{◌≡◌, ℕ, Option}
-use Rattle.topology.specs.Graph.{Graph, IsNode}
+use Rattle.std.specs.Prelude.{◌≡◌, ℕ, Option, None}
+use Rattle.topology.specs.Graph.{Graph, IsNode, AreLinked}
 use Rattle.app_interface.specs.Application.{App, Action}
 
 -- the same at every node
@@ -12,3 +12,7 @@ pub record Keeps {L : Type 0} (app : App L) (g : Graph) (K : ℕ) (Inv : (ℕ �
   pub same : (v v' : ℕ → L) → SameAtNodes g v v' → Inv v → Inv v'
   pub starts : Inv (app.start g)
   pub acts : (i case : ℕ) (with : Option ℕ) (v v' : ℕ → L) → Action app g K i case with v v' → Inv v → Inv v'
+
+-- where Inv holds, no row of the link table fails at either end of a link
+pub record IsQuiet {L : Type 0} (app : App L) (g : Graph) (K : ℕ) (Inv : (ℕ → L) → Type 0) : Type 0 where
+  pub at : (v : ℕ → L) → Inv v → (i j : ℕ) → AreLinked g i j → app.link_fault i K (v i) j (v j) ≡ None

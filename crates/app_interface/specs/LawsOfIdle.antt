@@ -4,7 +4,7 @@ use Rattle.std.specs.Prelude.{codes}
 use Rattle.std.proofs.lemmas.Option.{none-some}
 use Rattle.topology.specs.Graph.{Graph, IsGraph}
 use Rattle.app_interface.specs.Cases.{AreCases, IsCase}
-use Rattle.app_interface.specs.Invariant.{Keeps}
+use Rattle.app_interface.specs.Invariant.{IsQuiet, Keeps}
 use Rattle.app_interface.specs.Idle.{idle}
 
 no_case : (n : ℕ) → IsCase 0 n → ⊥
@@ -28,3 +28,6 @@ idle_keeps g bound are few = record {
   starts = tt;
   acts = λ i case with v v' h inv. tt;
 }
+
+pub idle_quiet : (g : Graph) (bound : ℕ) → IsGraph g → length g.ids ≤ bound → IsQuiet idle g bound (λ v. Unit {0})
+idle_quiet g bound are few = record { at = λ v inv i j linked. refl; }

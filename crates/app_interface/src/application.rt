@@ -4,7 +4,7 @@ ghost use Rattle.std.specs.Io.KnownBytes.{Appends};
 ghost use Rattle.action_tables.specs.Written.{AppendsFront};
 ghost use Rattle.app_interface.specs.Application.{App};
 ghost use Rattle.app_interface.specs.Cases.{AreCases};
-ghost use Rattle.app_interface.specs.Invariant.{Keeps};
+ghost use Rattle.app_interface.specs.Invariant.{IsQuiet, Keeps};
 ghost use Rattle.app_interface.specs.Views.{seen_values};
 ghost use Rattle.topology.specs.Graph.{Graph, IsGraph};
 
@@ -77,6 +77,11 @@ pub trait Application: Send + Sync {
         ensures ok { IfOk result (λ new. app.next here.id here.k case with own.now (seen_values seen.now) ≡ Some new) }
         ensures not_enabled { result ≡ Err ClockRefusal.NotEnabled ↔ app.next here.id here.k case with own.now (seen_values seen.now) ≡ None };
 
+    /// The least failing row of the link table, asked at this node of its link to `other`. None where
+    /// the link is good.
+    fn link_ok(here: Here, own: &Self::Local, other: u32, theirs: &Self::Local) -> Option<u8>
+        ensures { result ≡ app.link_fault here.id here.k own.now other theirs.now };
+
     /// Whether the two are equal.
     fn same(a: &Self::Local, b: &Self::Local) -> bool
         ensures { IsTrue result ↔ a.now ≡ b.now };
@@ -108,4 +113,7 @@ pub trait Application: Send + Sync {
     // On every graph, and for every bound that the number of nodes doesn't pass, the invariant holds
     // at the start and each action keeps it.
     ghost keeps: { (g : Graph) (bound : ℕ) → IsGraph g → length g.ids ≤ bound → Keeps app g bound (Inv g) };
+
+    // And wherever the invariant holds, each link is good at both ends.
+    ghost quiet: { (g : Graph) (bound : ℕ) → IsGraph g → length g.ids ≤ bound → IsQuiet app g bound (Inv g) };
 }

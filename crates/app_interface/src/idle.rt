@@ -1,7 +1,7 @@
 // The application that does nothing.
 ghost use Rattle.std.specs.Prelude.{None, codes};
 ghost use Rattle.app_interface.specs.Idle.{idle};
-ghost use Rattle.app_interface.specs.LawsOfIdle.{idle_cases, idle_keeps, one_idle_text};
+ghost use Rattle.app_interface.specs.LawsOfIdle.{idle_cases, idle_keeps, idle_quiet, one_idle_text};
 
 use crate::application::Application;
 use crate::reads::Reads;
@@ -37,6 +37,8 @@ impl Application for Idle {
 
     ghost keeps = { idle_keeps };
 
+    ghost quiet = { idle_quiet };
+
     fn cases() -> u8 {
         0
     }
@@ -66,6 +68,10 @@ impl Application for Idle {
         _seen: &[Seen<'_, ()>],
     ) -> Result<(), ClockRefusal> {
         Err(ClockRefusal::NotEnabled)
+    }
+
+    fn link_ok(_here: Here, _own: &(), _other: u32, _theirs: &()) -> Option<u8> {
+        None
     }
 
     fn same(_a: &(), _b: &()) -> bool {
