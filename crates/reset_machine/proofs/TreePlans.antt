@@ -41,7 +41,7 @@ Le a b = ((nat_le a b ≡ true) × (a ≤ b)) ⊎ ((nat_le a b ≡ false) × (b 
 
 module _ (g : Graph) (K : ℕ) (t : ℕ → TreeRegs) (w : ℕ → WaveRegs) (graph : IsGraph g) where
   -- what a node's view has of another node: its registers, where they are linked
-  near_regs-linked : (i j : ℕ) → near_regs j (map (λ k. (k, t k)) (neighbours_of g i)) ≡ cond (are_linked g i j) (Some (t j)) None
+  pub near_regs-linked : (i j : ℕ) → near_regs j (map (λ k. (k, t k)) (neighbours_of g i)) ≡ cond (are_linked g i j) (Some (t j)) None
   near_regs-linked i j = lookup-among t (neighbours_of g i) j ∙ ap (λ b. cond b (Some (t j)) None) (has-filter (are_linked g i) g.ids j ∙ both (are_linked g i j) refl)
     where
       both : (b : Bool) → are_linked g i j ≡ b → (are_linked g i j && has g.ids j) ≡ are_linked g i j

@@ -412,6 +412,27 @@ impl<P: Application> Config<P> {
         &self.topology
     }
 
+    /// The tree registers of all nodes, in the order of their identifiers.
+    pub fn trees(&self) -> &[TreeRegs]
+        ensures { result.now ≡ self.now.trees }
+    {
+        &self.trees
+    }
+
+    /// The wave registers of all nodes, in the order of their identifiers.
+    pub fn waves(&self) -> &[WaveRegs]
+        ensures { result.now ≡ self.now.waves }
+    {
+        &self.waves
+    }
+
+    /// The local states of all nodes, in the order of their identifiers.
+    pub fn locals(&self) -> &[P::Local]
+        ensures { result.now ≡ self.now.locals }
+    {
+        &self.locals
+    }
+
     /// The tree registers of the node with this identifier. None where there is no such node.
     pub fn tree_at(&self, id: u32) -> Option<TreeRegs>
         ensures found { IfSome result (λ regs. IsNode self.now.graph id × (regs ≡ tree_of self.now id)) }

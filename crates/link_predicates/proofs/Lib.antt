@@ -1,0 +1,3 @@
+pub mod EnabledRows
+pub mod OwnRows
+pub mod NodeFaults

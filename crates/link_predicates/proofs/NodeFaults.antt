@@ -1,0 +1,68 @@
+-- The faults of one link after another are those of all of them.
+use Rattle.std.proofs.Common.{◌≡◌, ℕ, suc, ◌+◌, ◌<◌, Bool, true, false, List, [], ◌∷◌, ◌++◌, Option, Some, None, length, take, drop, get_or, slice_index, find, flat_map, map, refl, sym, ap, ◌∙◌, add-one, true≢false, arith}
+use Rattle.std.specs.Option.{is_some, option_map, option_or}
+use Rattle.std.proofs.Math.Seq.{take-suc}
+use Rattle.std.proofs.lemmas.List.{at_drop_all, at_drop_more, flat_map_more}
+use Rattle.std.proofs.lemmas.List.Folds.{find-append}
+use Rattle.app_interface.specs.Application.{App}
+use Rattle.reset_machine.proofs.NearSeen.{at_indexes, one_more}
+use Rattle.reset_machine.specs.View.{Neighbour}
+use Rattle.link_predicates.specs.Faults.{app_row, fault_of, is_of_app, link_faults, tree_row, wave_row}
+use Rattle.link_predicates.specs.declared.fault.Family.TheVariants.{Tree, Wave, App as OfApp}
+use Rattle.link_predicates.specs.declared.fault.LinkFault.{LinkFault}
+
+-- what is told of one more node of a list
+pub more_told : {X A : Type 0} (f : X → List A) (xs : List X) (k : ℕ) (d : X) (first before after : List A) → k < length xs
+    → after ≡ before ++ f (get_or xs k d) → before ≡ first ++ flat_map f (take k xs) → after ≡ first ++ flat_map f (take (k + 1) xs)
+more_told f xs k d first before after short told so_far =
+    told ∙ ap (λ l. l ++ f (get_or xs k d)) so_far ∙ flat_map_more f first (take k xs) (get_or xs k d)
+    ∙ ap (λ l. first ++ flat_map f l) (sym (take-suc xs k d short) ∙ ap (λ n. take n xs) (sym (add-one k)))
+
+-- the same of what stands at one more of a list of indexes
+pub more_told_at : {X A : Type 0} (seen : ℕ → X) (f : X → List A) (ids near : List ℕ) (k : ℕ) (first before after : List A) → k < length near
+    → after ≡ before ++ f (seen (slice_index ids (slice_index near k))) → before ≡ first ++ flat_map f (at_indexes seen ids (take k near))
+    → after ≡ first ++ flat_map f (at_indexes seen ids (take (k + 1) near))
+more_told_at seen f ids near k first before after short told so_far =
+    let here = seen (slice_index ids (slice_index near k)) in
+    let so_many = at_indexes seen ids (take k near) in
+    told ∙ ap (λ l. l ++ f here) so_far ∙ flat_map_more f first so_many here
+    ∙ ap (λ l. first ++ flat_map f l) (one_more seen ids near k so_many (so_many ++ here ∷ []) here short refl refl refl)
+
+-- of the faults at an end of a link the application's is the only one of the application
+pub app_alone : {L : Type 0} (app : App L) (K : ℕ) (own other : Neighbour L)
+    → find is_of_app (link_faults app K own other) ≡ option_map (λ row. record { at = own.id; other = other.id; family = OfApp; row = row }) (app_row app K own other)
+app_alone app K own other = tree (tree_row K own other)
+  where
+    last : (r : Option ℕ) → find is_of_app (fault_of own.id other.id OfApp r) ≡ option_map (λ row. record { at = own.id; other = other.id; family = OfApp; row = row }) r
+    last None = refl
+    last (Some row) = refl
+
+    wave : (w : Option ℕ) → find is_of_app (fault_of own.id other.id Wave w ++ fault_of own.id other.id OfApp (app_row app K own other)) ≡ option_map (λ row. record { at = own.id; other = other.id; family = OfApp; row = row }) (app_row app K own other)
+    wave None = last (app_row app K own other)
+    wave (Some row) = last (app_row app K own other)
+
+    tree : (t : Option ℕ) → find is_of_app (fault_of own.id other.id Tree t ++ fault_of own.id other.id Wave (wave_row own other) ++ fault_of own.id other.id OfApp (app_row app K own other)) ≡ option_map (λ row. record { at = own.id; other = other.id; family = OfApp; row = row }) (app_row app K own other)
+    tree None = wave (wave_row own other)
+    tree (Some row) = wave (wave_row own other)
+
+-- what is found in what is told of one more node, or of those that are left
+pub found_later : {X A : Type 0} (p : A → Bool) (seen : ℕ → X) (f : X → List A) (ids near : List ℕ) (k : ℕ) → k < length near
+    → find p (flat_map f (at_indexes seen ids (drop k near)))
+    ≡ option_or (find p (f (seen (slice_index ids (slice_index near k))))) (find p (flat_map f (at_indexes seen ids (drop (k + 1) near))))
+found_later p seen f ids near k short =
+    at_drop_more (λ left. find p (flat_map f (at_indexes seen ids left))) near k 0 short
+    ∙ find-append p (f (seen (slice_index ids (slice_index near k)))) (flat_map f (at_indexes seen ids (drop (k + 1) near)))
+
+-- a node's own fault is none of the application
+pub none_of_own : (i : ℕ) (row : Option ℕ) (rest : List LinkFault) → find is_of_app (fault_of i i Tree row ++ rest) ≡ find is_of_app rest
+none_of_own i None rest = refl
+none_of_own i (Some row) rest = refl
+
+-- what is found first stands, where anything is found
+pub found_first : {X : Type 0} (o rest : Option X) → is_some o ≡ true → option_or o rest ≡ o
+found_first None rest is = absurd (true≢false (sym is))
+found_first (Some x) rest is = refl
+
+pub found_rest : {X : Type 0} (o rest : Option X) → is_some o ≡ false → option_or o rest ≡ rest
+found_rest None rest is = refl
+found_rest (Some x) rest is = absurd (true≢false is)

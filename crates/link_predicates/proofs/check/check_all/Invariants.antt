@@ -1,0 +1,7 @@
+use Rattle.std.proofs.Common.{◌≡◌, flat_map, take}
+use Rattle.link_predicates.specs.Faults.{node_faults}
+use Rattle.link_predicates.proofs.check.check_all.Given as goal
+
+-- the faults of the nodes before the index were added
+abbrev pub invariant-loop-index : goal.invariant-loop-index
+invariant-loop-index g l = l.found.items ≡ flat_map (node_faults g.P.Application.app l.config) (take l.index l.config.graph.ids)

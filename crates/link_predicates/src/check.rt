@@ -1,0 +1,179 @@
+// The checker, and the alarm of an application.
+
+ghost use Rattle.std.specs.Prelude.{◌≡◌, ◌≢◌, ◌<◌, ◌++◌, None, Some, IfErr, IfNone, IfOk, IfSome, OnOk, find, flat_map, length, map, slice_index};
+ghost use Rattle.topology.specs.Graph.{IsNode, neighbours_of};
+ghost use Rattle.reset_machine.specs.View.{near_of};
+ghost use Rattle.link_predicates.specs.Faults.{alarm_of, app_row, fault_of, faults, is_of_app, link_faults, node_faults, own_row};
+ghost use Rattle.link_predicates.specs.declared.fault.Family.TheVariants.{Tree};
+
+use crate::end::{End, end_at};
+use crate::fault::{Family, LinkFault};
+use crate::rows;
+use app_interface::Application;
+use reset_machine::{Config, StepRefusal};
+use std::alloc::{AllocError, Global};
+
+/// The faults at the node with this identifier: first that of the node itself, then those of its
+/// links, by ascending neighbour. Or a refusal: `StrangeNode`, or `NoMemory`.
+pub fn check_node<P: Application>(
+    alloc: Global,
+    config: &Config<P>,
+    at: u32,
+) -> Result<Vec<LinkFault>, StepRefusal>
+    ensures ok { IfOk result (λ found. IsNode config.now.graph at × (found.items ≡ node_faults P.app config.now at)) }
+    ensures err { IfErr result (λ f. f ≢ StepRefusal.NoMemory → (f ≡ StepRefusal.StrangeNode) × (IsNode config.now.graph at → ⊥)) }
+{
+    let Some(index) = config.topology().index_of(at) else {
+        return Err(StepRefusal::StrangeNode);
+    };
+    let mut found = Vec::new(alloc);
+    add_node(&mut found, config, index)?;
+    Ok(found)
+}
+
+/// The faults of all nodes, node by node ascending.
+pub fn check_all<P: Application>(
+    alloc: Global,
+    config: &Config<P>,
+) -> Result<Vec<LinkFault>, AllocError>
+    ensures { IfOk result (λ found. found.items ≡ faults P.app config.now) }
+{
+    let mut found = Vec::new(alloc);
+    for index in 0..config.topology().len() {
+        add_node(&mut found, config, index)?;
+    }
+    Ok(found)
+}
+
+/// The first fault of the application at the node with this identifier. None where there is none,
+/// and where there is no such node.
+pub fn alarm<P: Application>(config: &Config<P>, at: u32) -> Option<LinkFault>
+    ensures found { IfSome result (λ fault. IsNode config.now.graph at × (alarm_of P.app config.now at ≡ Some fault)) }
+    ensures none { IfNone result (IsNode config.now.graph at → alarm_of P.app config.now at ≡ None) }
+{
+    match config.topology().index_of(at) {
+        Some(index) => alarm_at(config, index),
+        None => None,
+    }
+}
+
+// The first fault of the application at the node with this index.
+fn alarm_at<P: Application>(config: &Config<P>, index: usize) -> Option<LinkFault>
+    requires { index < length config.now.graph.ids }
+    ensures { result ≡ alarm_of P.app config.now (slice_index config.now.graph.ids index) }
+{
+    let k = bound_of(config);
+    let own = end_at(config, index);
+    for near in config.topology().neighbours(index) {
+        let fault = link_alarm(k, &own, &end_at(config, *near));
+        if fault.is_some() {
+            return fault;
+        }
+    }
+    None
+}
+
+// The first fault of the application at a node's end of a link.
+fn link_alarm<P: Application>(k: u32, own: &End<'_, P>, other: &End<'_, P>) -> Option<LinkFault>
+    ensures { result ≡ find is_of_app (link_faults P.app k own.now other.now) }
+{
+    let row = rows::app_row(k, own, other)?;
+    Some(LinkFault {
+        at: own.id,
+        other: other.id,
+        family: Family::App,
+        row,
+    })
+}
+
+// The bound K of the distances.
+fn bound_of<P: Application>(config: &Config<P>) -> u32
+    ensures value { result ≡ config.now.graph.bound }
+    ensures some { 0 < result }
+{
+    let topology = config.topology();
+    topology.is_graph();
+    topology.len() as u32
+}
+
+// Adds the faults at the node with this index.
+fn add_node<P: Application>(
+    found: &mut Vec<LinkFault>,
+    config: &Config<P>,
+    index: usize,
+) -> Result<(), AllocError>
+    requires { index < length config.now.graph.ids }
+    ensures { OnOk result (found.new.items ≡ found.old.items ++ node_faults P.app config.now (slice_index config.now.graph.ids index)) }
+{
+    let own = end_at(config, index);
+    add(found, own.id, own.id, Family::Tree, own_row(config, index, &own))?;
+    add_links(found, config, index, &own)
+}
+
+// Of rows 1 to 4 of the tree table the first that fails at the node with this index.
+fn own_row<P: Application>(config: &Config<P>, index: usize, own: &End<'_, P>) -> Option<u8>
+    requires within { index < length config.now.graph.ids }
+    requires there { own.now ≡ near_of P.app config.now (slice_index config.now.graph.ids index) }
+    ensures { result ≡ own_row config.now (slice_index config.now.graph.ids index) }
+{
+    let topology = config.topology();
+    config.is_graph();
+    let k = bound_of(config);
+    let father = own.tree.father;
+    match topology.neighbour_at(index, father) {
+        Some(up) => rows::own_row(k, own.id, own.tree, &[(father, config.trees()[up])]),
+        None => rows::own_row(k, own.id, own.tree, &[]),
+    }
+}
+
+// Adds the faults of all links of the node with this index.
+fn add_links<P: Application>(
+    found: &mut Vec<LinkFault>,
+    config: &Config<P>,
+    index: usize,
+    own: &End<'_, P>,
+) -> Result<(), AllocError>
+    requires within { index < length config.now.graph.ids }
+    requires there { own.now ≡ near_of P.app config.now (slice_index config.now.graph.ids index) }
+    ensures { OnOk result (found.new.items ≡ found.old.items ++ flat_map (link_faults P.app config.now.graph.bound own.now)
+        (map (near_of P.app config.now) (neighbours_of config.now.graph (slice_index config.now.graph.ids index)))) }
+{
+    config.is_graph();
+    let k = bound_of(config);
+    for near in config.topology().neighbours(index) {
+        add_link(found, k, &*own, &end_at(config, *near))?;
+    }
+    Ok(())
+}
+
+// Adds the faults at a node's end of a link.
+fn add_link<P: Application>(
+    found: &mut Vec<LinkFault>,
+    k: u32,
+    own: &End<'_, P>,
+    other: &End<'_, P>,
+) -> Result<(), AllocError>
+    requires bounded { 0 < k }
+    requires others { other.now.id ≢ own.now.id }
+    ensures { OnOk result (found.new.items ≡ found.old.items ++ link_faults P.app k own.now other.now) }
+{
+    add(found, own.id, other.id, Family::Tree, rows::tree_row(k, own, other))?;
+    add(found, own.id, other.id, Family::Wave, rows::wave_row(own, other))?;
+    add(found, own.id, other.id, Family::App, rows::app_row(k, own, other))
+}
+
+// Adds the fault of a row, if one fails.
+fn add(
+    found: &mut Vec<LinkFault>,
+    at: u32,
+    other: u32,
+    family: Family,
+    row: Option<u8>,
+) -> Result<(), AllocError>
+    ensures { OnOk result (found.new.items ≡ found.old.items ++ fault_of at other family row) }
+{
+    if let Some(row) = row {
+        found.push(LinkFault { at, other, family, row })?;
+    }
+    Ok(())
+}

@@ -1,0 +1,26 @@
+// What the checker tells.
+
+/// Whose predicate fails.
+#[derive(Clone, Copy, Debug, PartialEq, Eq)]
+pub enum Family {
+    /// The tree's.
+    Tree,
+    /// The wave's.
+    Wave,
+    /// The application's.
+    App,
+}
+
+/// A row that fails at a node's end of a link, or at the node itself, where `other` is the node.
+#[derive(Clone, Copy, Debug, PartialEq, Eq)]
+pub struct LinkFault {
+    /// The node.
+    pub at: u32,
+    /// The node at the other end.
+    pub other: u32,
+    /// Whose row it is.
+    pub family: Family,
+    /// The row: from 1 to 8 of the tree table, from 8 to 11 of the wave table, or from 1 of the
+    /// application's link table.
+    pub row: u8,
+}

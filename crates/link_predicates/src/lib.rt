@@ -1,0 +1,11 @@
+//! Local predicates of the distributed reset service: which row of which table fails at which end of
+//! which link, and the alarm of an application.
+#![tactic(auto)]
+
+mod check;
+mod end;
+mod fault;
+mod rows;
+
+pub use check::{alarm, check_all, check_node};
+pub use fault::{Family, LinkFault};
