@@ -1,6 +1,6 @@
 // The token passes over the line 1, 2, 3.
 
-use crate::texts::{Step, acted, are_same, is_bad, shown, started};
+use crate::texts::{Step, acted, are_same, is_bad, link_faults, shown, started};
 use app_interface::{Application, Reads};
 use app_token::Token;
 use std::test::Fail;
@@ -78,6 +78,37 @@ fn passes_the_token_and_takes_it(rt: HostRuntime) -> Result<(), Fail> {
             acted::<Token>(rt.alloc(), step)?.as_slice() == left,
             "node {id}, case {case}"
         );
+    }
+    Ok(())
+}
+
+#[test]
+fn finds_faults_on_a_link(rt: HostRuntime) -> Result<(), Fail> {
+    for (at_4, at_7, row) in [
+        // none holds, one does, or a bit is in flight, whatever the bits of other links
+        ("free/-/-", "free/-/-", None),
+        ("hold/2,9/3", "free/5/8", None),
+        ("hold/7/7", "free/4/4", None),
+        ("hold/4/4", "free/7/7", None),
+        ("free/7/-", "free/-/-", None),
+        ("free/-/7", "free/-/-", None),
+        // each row alone
+        ("hold/-/-", "hold/-/-", Some(1)),
+        ("hold/7/-", "hold/-/4", Some(1)),
+        ("hold/7/-", "free/-/-", Some(2)),
+        ("hold/-/7", "free/-/-", Some(2)),
+        ("free/7/-", "hold/-/-", Some(2)),
+        ("free/-/-", "hold/4/-", Some(2)),
+        ("free/7/-", "free/4/-", Some(3)),
+        ("free/-/7", "free/-/4", Some(3)),
+        ("free/7/7", "free/-/-", Some(3)),
+        // the least of several
+        ("hold/7/-", "hold/-/-", Some(1)),
+        ("hold/7/-", "free/4/-", Some(2)),
+        ("hold/7/-", "hold/4/-", Some(1)),
+    ] {
+        let faults = link_faults::<Token>(rt.alloc(), (4, at_4.as_bytes()), (7, at_7.as_bytes()))?;
+        assert!(rt; faults == (row, row), "{at_4} at 4, {at_7} at 7");
     }
     Ok(())
 }

@@ -1,5 +1,5 @@
 -- One bit for each identifier, kept as the list of those whose bit is one.
-use Rattle.std.specs.Prelude.{ℕ, ◌==◌, if◌then◌else◌, Bool, not, List, ◌∷◌, ◌++◌, All, ltb}
+use Rattle.std.specs.Prelude.{ℕ, ◌==◌, if◌then◌else◌, Bool, true, false, not, List, ◌∷◌, ◌++◌, All, ltb}
 use Rattle.std.specs.List.{filter, list_any}
 use Rattle.std.specs.List.Sorted.{IsStrictlyIncreasing}
 use Rattle.topology.specs.Id.{IsId}
@@ -8,6 +8,11 @@ use Rattle.topology.specs.Id.{IsId}
 pub record IsBits (ids : List ℕ) : Type 0 where
   pub ascending : IsStrictlyIncreasing ids
   pub are_ids : All IsId ids
+
+-- two bits are not the same
+abbrev pub differ : Bool → Bool → Bool
+differ true b = not b
+differ false b = b
 
 -- the bit of j
 abbrev pub bit_of : List ℕ → ℕ → Bool

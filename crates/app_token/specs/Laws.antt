@@ -14,11 +14,11 @@ use Rattle.app_interface.specs.Invariant.{Keeps, SameAtNodes}
 use Rattle.app_interface.specs.LawsOfViews.{seen_is}
 use Rattle.app_interface.specs.Views.{seen_at}
 use Rattle.app_interface.specs.declared.refusal.ClockRefusal.TheVariants.{NotEnabled}
-use Rattle.app_token.specs.Bits.{bit_of, toggled}
+use Rattle.app_token.specs.Bits.{bit_of, differ, toggled}
 use Rattle.app_token.specs.LawsOfBits.{toggled_same, toggled_other}
 use Rattle.app_token.specs.OneToken.{in_flight, holders, flights, HasOneToken}
 use Rattle.app_token.specs.LawsOfSums.{number_of, same_sum, sum_at, pairs_at}
-use Rattle.app_token.specs.Token.{token, token_next, token_reads, token_start, arrives, differ}
+use Rattle.app_token.specs.Token.{token, token_next, token_reads, token_start, arrives}
 use Rattle.app_token.specs.declared.local.TokenLocal.{TokenLocal}
 
 -- ---- what an enabled case does

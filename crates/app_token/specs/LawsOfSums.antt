@@ -1,8 +1,8 @@
 -- Sums over the nodes of a graph, of two functions that differ at one node or at one pair.
-use Rattle.std.proofs.Common.{◌≡◌, ◌≢◌, ℕ, zero, suc, ◌+◌, ◌<◌, Bool, cond, List, [], ◌∷◌, length, get_or, refl, sym, ap, ap₂, ◌∙◌, subst, arith}
+use Rattle.std.proofs.Common.{◌≡◌, ◌≢◌, ℕ, zero, suc, ◌+◌, ◌<◌, ◌≤◌, Bool, ◌==◌, cond, List, [], ◌∷◌, length, get_or, refl, sym, ap, ap₂, ◌∙◌, subst, arith, eq-eqb, ne_eqb}
 use Rattle.std.specs.List.{count_by, sum_by}
 use Rattle.std.proofs.lemmas.List.{get_or_default}
-use Rattle.std.proofs.lemmas.List.Sums.{sum_by-cons}
+use Rattle.std.proofs.lemmas.List.Sums.{get_or-le-sum_by, sum_by-cons}
 use Rattle.topology.specs.Graph.{Graph, IsGraph, IsNode}
 use Rattle.topology.proofs.Ascending.{index_once}
 
@@ -43,6 +43,20 @@ module _ (g : Graph) where
       subst (λ j. sum_by h g.ids + f j ≡ sum_by f g.ids + h j) at
       (other_sums f h g.ids node.0 node.1
       (λ m ne lt. e _ (node_at m lt) (λ same. ne (index_once g.ids are.ascending m node.0 lt node.1 (same ∙ sym at)))))
+
+  -- a sum has the term of each node in it
+  pub term_in_sum : (f : ℕ → ℕ) (i : ℕ) → IsNode g i → f i ≤ sum_by f g.ids
+  term_in_sum f i node =
+      subst (λ j. f j ≤ sum_by f g.ids) (get_or_default g.ids node.0 0 i node.1 ∙ node.2) (get_or-le-sum_by f g.ids node.0 0 node.1)
+
+  -- and those of two nodes side by side
+  pub two_terms_in_sum : IsGraph g → (f : ℕ → ℕ) (i j : ℕ) → IsNode g i → IsNode g j → j ≢ i → f i + f j ≤ sum_by f g.ids
+  two_terms_in_sum are f i j at to ne =
+      -- the sum of the terms but that of i
+      let rest : ℕ → ℕ = λ k. cond (k == i) 0 (f k) in
+      let here : rest i ≡ 0 = ap (λ b. cond b 0 (f i)) (eq-eqb i i refl) in
+      let there : (k : ℕ) → k ≢ i → rest k ≡ f k = λ k other. ap (λ b. cond b 0 (f k)) (ne_eqb k i other) in
+      omega (arith, sum_at are f rest i at (λ k node other. there k other), here, there j ne, term_in_sum rest j to)
 
   -- the number of pairs that pass a test, where the test changes at one pair alone
   pub pairs_at : IsGraph g → (p q : ℕ → ℕ → Bool) (a b : ℕ) → IsNode g a → IsNode g b → ((c : ℕ) → IsNode g c → c ≢ b → q a c ≡ p a c) →

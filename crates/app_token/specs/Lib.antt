@@ -1,4 +1,5 @@
 pub mod Bits
+pub mod TokenLinks
 pub mod Token
 pub mod LocalText
 pub mod OneToken
@@ -7,3 +8,4 @@ pub mod LawsOfBits
 pub mod Laws
 pub mod LawsOfText
 pub mod LawsOfCases
+pub mod LawsOfLinks

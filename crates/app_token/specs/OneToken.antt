@@ -2,13 +2,12 @@
 use Rattle.std.specs.Prelude.{◌≡◌, ℕ, ◌+◌, ◌&&◌, Bool}
 use Rattle.std.specs.List.{count_by, sum_by}
 use Rattle.topology.specs.Graph.{Graph, are_linked}
-use Rattle.app_token.specs.Bits.{bit_of}
-use Rattle.app_token.specs.Token.{differ}
+use Rattle.app_token.specs.TokenLinks.{is_in_flight}
 use Rattle.app_token.specs.declared.local.TokenLocal.{TokenLocal}
 
--- a bit is in flight from a to b: they are linked, and a's given bit and b's taken bit differ
+-- a bit is in flight over a link from a to b
 abbrev pub in_flight : Graph → (ℕ → TokenLocal) → ℕ → ℕ → Bool
-in_flight g v a b = are_linked g a b && differ (bit_of (v a).given b) (bit_of (v b).taken a)
+in_flight g v a b = are_linked g a b && is_in_flight a b (v a) (v b)
 
 -- how many nodes hold the token
 abbrev pub holders : Graph → (ℕ → TokenLocal) → ℕ

@@ -11,17 +11,13 @@ use Rattle.app_interface.specs.declared.reads.Reads.TheVariants.{Toward, One}
 use Rattle.app_interface.specs.declared.refusal.ClockRefusal.{ClockRefusal}
 use Rattle.app_interface.specs.declared.refusal.ClockRefusal.TheVariants.{NotEnabled}
 use Rattle.topology.specs.Graph.{Graph, leader}
-use Rattle.app_token.specs.Bits.{bit_of, toggled}
+use Rattle.app_token.specs.Bits.{toggled}
+use Rattle.app_token.specs.TokenLinks.{is_in_flight, token_link_fault}
 use Rattle.app_token.specs.declared.local.TokenLocal.{TokenLocal}
 
--- two bits are not the same
-abbrev pub differ : Bool → Bool → Bool
-differ true b = not b
-differ false b = b
-
--- whether the token is on its way from j to node i: j's given bit for i and i's taken bit for j differ
+-- whether the token is on its way from j to node i
 abbrev pub arrives : ℕ → ℕ → TokenLocal → List (ℕ × TokenLocal) → Bool
-arrives i j own seen = option_map_or (λ theirs. differ (bit_of theirs.given i) (bit_of own.taken j)) (seen_at j seen) false
+arrives i j own seen = option_map_or (λ theirs. is_in_flight j i theirs own) (seen_at j seen) false
 
 -- the rows of a node toward its neighbour j
 abbrev pub token_table : ℕ → TokenLocal → Bool → List (Row (Result TokenLocal ClockRefusal))
@@ -65,4 +61,5 @@ token = record {
   reads = token_reads;
   start = token_start;
   next = λ i bound case with own seen. token_next i case with own seen;
+  link_fault = λ i bound own j theirs. token_link_fault i j own theirs;
 }

@@ -7,6 +7,7 @@
 #![tactic(auto)]
 
 mod bits;
+mod links;
 mod local;
 mod read;
 mod show;
@@ -14,6 +15,7 @@ mod table;
 mod token;
 
 pub use bits::Bits;
+pub use links::link_rows;
 pub use local::TokenLocal;
 pub use table::app_rows;
 pub use token::Token;

@@ -10,6 +10,7 @@ ghost use Rattle.app_token.specs.Bits.{toggled};
 ghost use Rattle.app_token.specs.Token.{arrives, token_names, token_next, token_table};
 ghost use Rattle.app_token.specs.declared.local.TokenLocal.{TokenLocal};
 
+use crate::links::is_in_flight;
 use crate::local::TokenLocal;
 use action_tables::{CaseRow, case_rows, enabled_cases, fire_case};
 use app_interface::{ClockRefusal, Here, Seen, is_id, seen_at};
@@ -120,7 +121,7 @@ fn arrives(id: u32, j: u32, own: &TokenLocal, seen: &[Seen<'_, TokenLocal>]) -> 
     ensures { result ≡ arrives id j own.now (seen_values seen.now) }
 {
     match seen_at(j, seen) {
-        Some(theirs) => theirs.given.has(id) != own.taken.has(j),
+        Some(theirs) => is_in_flight(j, id, theirs, own),
         None => false,
     }
 }

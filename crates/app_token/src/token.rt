@@ -5,9 +5,10 @@ ghost use Rattle.app_token.specs.OneToken.{HasOneToken};
 ghost use Rattle.app_token.specs.LawsOfText.{one_token_text};
 ghost use Rattle.app_token.specs.Token.{token, token_names};
 ghost use Rattle.app_token.specs.LawsOfCases.{token_cases};
+ghost use Rattle.app_token.specs.LawsOfLinks.{token_quiet};
 
 use crate::local::TokenLocal;
-use crate::{read, show, table};
+use crate::{links, read, show, table};
 use action_tables::WriteFault;
 use app_interface::{Application, ClockRefusal, Here, LocalFault, Reads, Seen};
 use std::alloc::{AllocError, Global};
@@ -39,6 +40,8 @@ impl Application for Token {
     ghost one_text = { one_token_text };
 
     ghost keeps = { token_keeps };
+
+    ghost quiet = { token_quiet };
 
     fn cases() -> u8 {
         CASES
@@ -87,6 +90,10 @@ impl Application for Token {
         seen: &[Seen<'_, TokenLocal>],
     ) -> Result<TokenLocal, ClockRefusal> {
         table::on_clock(alloc, here, case, with, own, seen)
+    }
+
+    fn link_ok(here: Here, own: &TokenLocal, other: u32, theirs: &TokenLocal) -> Option<u8> {
+        links::link_ok(here.id, own, other, theirs)
     }
 
     fn same(a: &TokenLocal, b: &TokenLocal) -> bool {
