@@ -4,8 +4,9 @@ use Rattle.std.specs.Result.{result_ok}
 use Rattle.app_interface.specs.Application.{seen}
 use Rattle.app_interface.specs.declared.refusal.ClockRefusal.TheVariants.{NotEnabled}
 use Rattle.topology.specs.Graph.{Graph, IsGraph, AreLinked, are_linked}
-use Rattle.app_mutex.specs.Mutex.{holds_turn, holds_turns, mutex_next}
+use Rattle.app_mutex.specs.Mutex.{holds_turns, mutex_next}
 use Rattle.app_interface.specs.LawsOfSeen.{seen_pass}
+use Rattle.app_mutex.specs.Turns.{holds_turn}
 use Rattle.app_mutex.specs.declared.local.MutexLocal.{MutexLocal}
 
 -- a row whose guard has two parts is enabled exactly where both hold

@@ -7,9 +7,9 @@ use Rattle.topology.specs.Graph.{Graph, IsGraph, IsNode, AreLinked, Changes}
 use Rattle.app_interface.specs.Application.{Action, is_read, seen}
 use Rattle.app_interface.specs.Invariant.{Keeps, SameAtNodes}
 use Rattle.app_interface.specs.declared.refusal.ClockRefusal.TheVariants.{NotEnabled}
-use Rattle.app_mutex.specs.Mutex.{holds_turn, holds_turns, mutex, mutex_next, mutex_reads, mutex_start}
+use Rattle.app_mutex.specs.Mutex.{holds_turns, mutex, mutex_next, mutex_reads, mutex_start}
 use Rattle.app_interface.specs.LawsOfSeen.{seen_pass}
-use Rattle.app_mutex.specs.Turns.{HoldsTurns}
+use Rattle.app_mutex.specs.Turns.{HoldsTurns, holds_turn}
 use Rattle.app_mutex.specs.declared.local.MutexLocal.{MutexLocal}
 
 -- ---- what an enabled case does
@@ -41,11 +41,11 @@ moves i case own new near e =
 
 -- ---- the turn of a link belongs to one of its ends
 
-other_turn : (i j : ℕ) (b c : Bool) → i ≢ j → holds_turn j c i b ≡ not (holds_turn i b j c)
+pub other_turn : (i j : ℕ) (b c : Bool) → i ≢ j → holds_turn j c i b ≡ not (holds_turn i b j c)
 other_turn i j b c other = grind (arith, common_steps)
 
 -- so two neighbours aren't both in
-neighbours_apart : (g : Graph) (v : ℕ → MutexLocal) (i j : ℕ) → IsGraph g → HoldsTurns g v → AreLinked g i j → (v i).inside ≡ true → (v j).inside ≡ true → ⊥
+pub neighbours_apart : (g : Graph) (v : ℕ → MutexLocal) (i j : ℕ) → IsGraph g → HoldsTurns g v → AreLinked g i j → (v i).inside ≡ true → (v j).inside ≡ true → ⊥
 neighbours_apart g v i j are inv linked here there =
     let other : i ≢ j = λ same. are.irreflexive j (subst (λ k. AreLinked g k j) same linked) in
     let theirs : holds_turn j (v j).bit i (v i).bit ≡ true = inv j i (are.symmetric j i ∙ linked) there in

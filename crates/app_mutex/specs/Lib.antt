@@ -1,6 +1,8 @@
+pub mod Turns
+pub mod MutexLinks
 pub mod Mutex
 pub mod LocalText
-pub mod Turns
 pub mod LawsOfCases
 pub mod LawsOfText
 pub mod Laws
+pub mod LawsOfLinks

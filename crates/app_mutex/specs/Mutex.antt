@@ -1,5 +1,5 @@
 -- What the two cases of neighbour exclusion do, and the start states.
-use Rattle.std.specs.Prelude.{ℕ, ◌==◌, ◌&&◌, nat_lt, if◌then◌else◌, Bool, true, false, not, List, [], ◌∷◌, Option, Some, None, Result, Ok, codes}
+use Rattle.std.specs.Prelude.{ℕ, ◌==◌, ◌&&◌, if◌then◌else◌, Bool, true, false, not, List, [], ◌∷◌, Option, Some, None, Result, Ok, codes}
 use Rattle.std.specs.List.{list_all}
 use Rattle.std.specs.Result.{result_ok}
 use Rattle.action_tables.specs.Table.{Row, fired_of}
@@ -9,17 +9,9 @@ use Rattle.app_interface.specs.declared.reads.Reads.TheVariants.{Alone, All}
 use Rattle.app_interface.specs.declared.refusal.ClockRefusal.{ClockRefusal}
 use Rattle.app_interface.specs.declared.refusal.ClockRefusal.TheVariants.{NotEnabled}
 use Rattle.topology.specs.Graph.{Graph}
+use Rattle.app_mutex.specs.MutexLinks.{mutex_link_fault}
+use Rattle.app_mutex.specs.Turns.{holds_turn}
 use Rattle.app_mutex.specs.declared.local.MutexLocal.{MutexLocal}
-
--- two bits are the same
-abbrev pub equal : Bool → Bool → Bool
-equal true c = c
-equal false c = not c
-
--- whether the turn of the link between i, whose bit is b, and j, whose bit is c, is i's: the lesser of
--- the two has it where their bits are equal, and the greater where they differ
-abbrev pub holds_turn : ℕ → Bool → ℕ → Bool → Bool
-holds_turn i b j c = if nat_lt i j then equal b c else not (equal b c)
 
 -- whether node i, whose bit is b, holds the turns of its links to all neighbours that are seen
 abbrev pub holds_turns : ℕ → Bool → List (ℕ × MutexLocal) → Bool
@@ -67,4 +59,5 @@ mutex = record {
   reads = mutex_reads;
   start = mutex_start;
   next = λ i bound case with own seen. mutex_next i case with own seen;
+  link_fault = λ i bound own j theirs. mutex_link_fault i j own theirs;
 }

@@ -2,8 +2,8 @@
 ghost use Rattle.std.specs.Prelude.{◌≡◌, ◌≢◌, ◌↔◌, ℕ, Bool, true, false, not, None, IsSome};
 ghost use Rattle.app_interface.specs.Application.{seen};
 ghost use Rattle.topology.specs.Graph.{AreLinked, Graph, IsGraph, are_linked};
-ghost use Rattle.app_mutex.specs.Mutex.{holds_turn, mutex_next};
-ghost use Rattle.app_mutex.specs.Turns.{HoldsTurns};
+ghost use Rattle.app_mutex.specs.Mutex.{mutex_next};
+ghost use Rattle.app_mutex.specs.Turns.{HoldsTurns, holds_turn};
 ghost use Rattle.app_mutex.specs.declared.local.MutexLocal.{MutexLocal};
 
 /// Of two nodes exactly one holds the turn of their link, whatever their bits are.

@@ -7,14 +7,17 @@
 #![tactic(auto)]
 
 mod laws;
+mod links;
 mod local;
 mod mutex;
 mod table;
 mod text;
+mod turn;
 
 pub use laws::{
     bits_reverse_links, enters_with_its_turns, neighbours_exclude, one_end_holds_the_turn,
 };
+pub use links::link_rows;
 pub use local::MutexLocal;
 pub use mutex::EdgeReversal;
 pub use table::app_rows;

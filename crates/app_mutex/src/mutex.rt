@@ -1,5 +1,6 @@
 // Neighbour exclusion as an application.
 ghost use Rattle.app_mutex.specs.Laws.{mutex_keeps};
+ghost use Rattle.app_mutex.specs.LawsOfLinks.{mutex_quiet};
 ghost use Rattle.app_mutex.specs.LocalText.{local_text};
 ghost use Rattle.app_mutex.specs.Mutex.{mutex, mutex_names};
 ghost use Rattle.app_mutex.specs.LawsOfCases.{mutex_cases};
@@ -7,7 +8,7 @@ ghost use Rattle.app_mutex.specs.LawsOfText.{one_mutex_text};
 ghost use Rattle.app_mutex.specs.Turns.{HoldsTurns};
 
 use crate::local::MutexLocal;
-use crate::{table, text};
+use crate::{links, table, text};
 use action_tables::WriteFault;
 use app_interface::{Application, ClockRefusal, Here, LocalFault, Reads, Seen};
 use std::alloc::{AllocError, Global};
@@ -39,6 +40,8 @@ impl Application for EdgeReversal {
     ghost one_text = { one_mutex_text };
 
     ghost keeps = { mutex_keeps };
+
+    ghost quiet = { mutex_quiet };
 
     fn cases() -> u8 {
         CASES
@@ -86,6 +89,10 @@ impl Application for EdgeReversal {
         seen: &[Seen<'_, MutexLocal>],
     ) -> Result<MutexLocal, ClockRefusal> {
         table::on_clock(here.id, case, with, own, seen)
+    }
+
+    fn link_ok(here: Here, own: &MutexLocal, other: u32, theirs: &MutexLocal) -> Option<u8> {
+        links::link_ok(here.id, own, other, theirs)
     }
 
     fn same(a: &MutexLocal, b: &MutexLocal) -> bool {

@@ -3,10 +3,11 @@ ghost use Rattle.std.specs.Prelude.{◌≡◌, ◌≢◌, ◌↔◌, Bool, None,
 ghost use Rattle.action_tables.specs.RowText.{as_printed};
 ghost use Rattle.action_tables.specs.Table.{printed};
 ghost use Rattle.app_interface.specs.Views.{seen_values};
-ghost use Rattle.app_mutex.specs.Mutex.{holds_turn, holds_turns, mutex_names, mutex_next, mutex_table};
+ghost use Rattle.app_mutex.specs.Mutex.{holds_turns, mutex_names, mutex_next, mutex_table};
 ghost use Rattle.app_mutex.specs.declared.local.MutexLocal.{MutexLocal};
 
 use crate::local::MutexLocal;
+use crate::turn::holds_turn;
 use action_tables::{CaseRow, case_rows, enabled_cases, fire_case};
 use app_interface::{ClockRefusal, Seen};
 
@@ -67,17 +68,6 @@ fn holds_turns(id: u32, bit: bool, seen: &[Seen<'_, MutexLocal>]) -> bool
         }
     }
     true
-}
-
-// Whether the node holds the turn of its link to the neighbour.
-fn holds_turn(id: u32, bit: bool, near_id: u32, near_bit: bool) -> bool
-    ensures { result ≡ holds_turn id bit near_id near_bit }
-{
-    if id < near_id {
-        bit == near_bit
-    } else {
-        bit != near_bit
-    }
 }
 
 /// The rows of the table of neighbour exclusion as they are printed.

@@ -1,4 +1,5 @@
 pub mod Entries
+pub mod RoutesLinks
 pub mod Routes
 pub mod Ways
 pub mod Pulled
@@ -7,3 +8,4 @@ pub mod LawsOfEntries
 pub mod Laws
 pub mod LawsOfCases
 pub mod LawsOfText
+pub mod LawsOfLinks

@@ -11,6 +11,7 @@ use Rattle.app_interface.specs.declared.refusal.ClockRefusal.{ClockRefusal}
 use Rattle.app_interface.specs.declared.refusal.ClockRefusal.TheVariants.{NotEnabled}
 use Rattle.topology.specs.Graph.{Graph}
 use Rattle.app_routes.specs.Entries.{pulled, some_better}
+use Rattle.app_routes.specs.RoutesLinks.{routes_link_fault}
 use Rattle.app_routes.specs.declared.entry.Entry.{Entry}
 
 -- the entries of j, none where j isn't seen
@@ -51,4 +52,5 @@ routes = record {
   reads = routes_reads;
   start = routes_start;
   next = λ i K case with own seen. routes_next K case with own seen;
+  link_fault = λ i K own j theirs. routes_link_fault j own theirs;
 }

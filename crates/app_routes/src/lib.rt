@@ -7,6 +7,7 @@
 
 mod entry;
 mod laws;
+mod links;
 mod local;
 mod pull;
 mod read;
@@ -16,6 +17,7 @@ mod table;
 
 pub use entry::Entry;
 pub use laws::{entries_are_found, pulls_take_better_entries, routes_arrive};
+pub use links::link_rows;
 pub use local::RoutesLocal;
 pub use routes::Routes;
 pub use table::app_rows;

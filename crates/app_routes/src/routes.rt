@@ -1,6 +1,7 @@
 // Routing tables as an application.
 ghost use Rattle.app_routes.specs.Entries.{AreRoutes};
 ghost use Rattle.app_routes.specs.Laws.{routes_keep};
+ghost use Rattle.app_routes.specs.LawsOfLinks.{routes_quiet};
 ghost use Rattle.app_routes.specs.LocalText.{routes_text};
 ghost use Rattle.app_routes.specs.Routes.{routes, routes_names};
 ghost use Rattle.app_routes.specs.LawsOfCases.{routes_cases};
@@ -8,7 +9,7 @@ ghost use Rattle.app_routes.specs.LawsOfText.{one_routes_text};
 ghost use Rattle.app_routes.specs.Ways.{HasRoutes};
 
 use crate::local::RoutesLocal;
-use crate::{read, show, table};
+use crate::{links, read, show, table};
 use action_tables::WriteFault;
 use app_interface::{Application, ClockRefusal, Here, LocalFault, Reads, Seen};
 use std::alloc::{AllocError, Global};
@@ -40,6 +41,8 @@ impl Application for Routes {
     ghost one_text = { one_routes_text };
 
     ghost keeps = { routes_keep };
+
+    ghost quiet = { routes_quiet };
 
     fn cases() -> u8 {
         CASES
@@ -86,6 +89,10 @@ impl Application for Routes {
         seen: &[Seen<'_, RoutesLocal>],
     ) -> Result<RoutesLocal, ClockRefusal> {
         table::on_clock(alloc, here, case, with, own, seen)
+    }
+
+    fn link_ok(_here: Here, own: &RoutesLocal, other: u32, theirs: &RoutesLocal) -> Option<u8> {
+        links::link_ok(own, other, theirs)
     }
 
     fn same(a: &RoutesLocal, b: &RoutesLocal) -> bool {

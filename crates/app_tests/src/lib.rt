@@ -6,7 +6,11 @@ mod idle;
 #[cfg(test)]
 mod mutex;
 #[cfg(test)]
+mod mutex_links;
+#[cfg(test)]
 mod routes;
+#[cfg(test)]
+mod routes_links;
 #[cfg(test)]
 mod texts;
 #[cfg(test)]

@@ -87,3 +87,16 @@ fn after<P: Application>(
     let after = P::on_clock(alloc, here, step.case, step.with, own, seen)?;
     Ok(text_of::<P>(alloc, &after))
 }
+
+/// What is told at node `id` of its link to `other`, from the texts of the states of the two.
+pub(crate) fn fault_at<P: Application>(
+    alloc: Global,
+    id: u32,
+    own: &[u8],
+    other: u32,
+    theirs: &[u8],
+) -> Result<Option<u8>, Fail> {
+    let own = P::read_local(alloc, own)?;
+    let theirs = P::read_local(alloc, theirs)?;
+    Ok(P::link_ok(Here { id, k: 3 }, &own, other, &theirs))
+}
