@@ -1,13 +1,15 @@
 -- The faults of one link after another are those of all of them.
-use Rattle.std.proofs.Common.{◌≡◌, ℕ, suc, ◌+◌, ◌<◌, Bool, true, false, List, [], ◌∷◌, ◌++◌, Option, Some, None, length, take, drop, get_or, slice_index, find, flat_map, map, refl, sym, ap, ◌∙◌, add-one, true≢false, arith}
-use Rattle.std.specs.Option.{is_some, option_map, option_or}
+use Rattle.std.proofs.Common.{◌≡◌, ℕ, ◌+◌, ◌<◌, Bool, true, false, List, [], ◌∷◌, ◌++◌, Option, Some, None, length, take, drop, get_or, slice_index, find, flat_map, map, refl, sym, ap, ◌∙◌, add-one, true≢false}
+use Rattle.std.specs.Option.{IfNone, IfSome, is_some, option_map, option_or}
 use Rattle.std.proofs.Math.Seq.{take-suc}
-use Rattle.std.proofs.lemmas.List.{at_drop_all, at_drop_more, flat_map_more}
+use Rattle.std.proofs.lemmas.List.{at_drop_more, flat_map_more}
 use Rattle.std.proofs.lemmas.List.Folds.{find-append}
 use Rattle.app_interface.specs.Application.{App}
+use Rattle.topology.specs.Graph.{neighbours_of}
+use Rattle.reset_machine.specs.Configuration.{Configuration}
 use Rattle.reset_machine.proofs.NearSeen.{at_indexes, one_more}
-use Rattle.reset_machine.specs.View.{Neighbour}
-use Rattle.link_predicates.specs.Faults.{app_row, fault_of, is_of_app, link_faults, tree_row, wave_row}
+use Rattle.reset_machine.specs.View.{Neighbour, near_of}
+use Rattle.link_predicates.specs.Faults.{alarm_of, app_row, fault_of, is_of_app, link_faults, own_row, tree_row, wave_row}
 use Rattle.link_predicates.specs.declared.fault.Family.TheVariants.{Tree, Wave, App as OfApp}
 use Rattle.link_predicates.specs.declared.fault.LinkFault.{LinkFault}
 
@@ -66,3 +68,19 @@ found_first (Some x) rest is = refl
 pub found_rest : {X : Type 0} (o rest : Option X) → is_some o ≡ false → option_or o rest ≡ rest
 found_rest None rest is = refl
 found_rest (Some x) rest is = absurd (true≢false is)
+
+-- what is told where something is found, and where nothing is
+pub found_told : {X : Type 0} {N : Type 0} (o found : Option X) → o ≡ found → N → IfSome o (λ x. N × (found ≡ Some x))
+found_told None found same node = tt
+found_told (Some x) found same node = (node, sym same)
+
+pub none_told : {X : Type 0} (N : Type 0) (o found : Option X) → o ≡ found → IfNone o (N → found ≡ None)
+none_told N None found same = λ node. sym same
+none_told N (Some x) found same = tt
+
+-- the first fault of the application at a node is the first of its links to these indexes
+pub alarm_is : {L : Type 0} (app : App L) (c : Configuration L) (i : ℕ) (near : List ℕ) → map (λ n. slice_index c.graph.ids n) near ≡ neighbours_of c.graph i
+    → find is_of_app (flat_map (link_faults app c.graph.bound (near_of app c i)) (at_indexes (near_of app c) c.graph.ids near)) ≡ alarm_of app c i
+alarm_is app c i near lists =
+    ap (λ js. find is_of_app (flat_map (link_faults app c.graph.bound (near_of app c i)) (map (near_of app c) js))) lists
+    ∙ sym (none_of_own i (own_row c i) (flat_map (link_faults app c.graph.bound (near_of app c i)) (map (near_of app c) (neighbours_of c.graph i))))

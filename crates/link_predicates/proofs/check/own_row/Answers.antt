@@ -1,4 +1,4 @@
-use Rattle.std.proofs.Common.{◌≡◌, ℕ, [], ◌∷◌, true, false, slice_index, slice_index_or, subst, ap, ◌∙◌}
+use Rattle.std.proofs.Common.{◌≡◌, [], ◌∷◌, true, false, slice_index, slice_index_or, subst, ap, ◌∙◌}
 use Rattle.topology.specs.Graph.{Graph, are_linked}
 use Rattle.tree_layer.specs.declared.regs.TreeRegs.{TreeRegs}
 use Rattle.reset_machine.specs.Configuration.{tree_of}

@@ -1,4 +1,4 @@
-use Rattle.std.proofs.Common.{◌≡◌, List, [], ◌∷◌, IfSome, Some, subst, ap, ◌∙◌, Option}
+use Rattle.std.proofs.Common.{◌≡◌, [], ◌∷◌, IfSome, subst, ap, ◌∙◌, Option}
 use Rattle.action_tables.specs.Table.{enabled_of}
 use Rattle.wave_layer.specs.WaveTable.{LocalView, wave_table}
 use Rattle.wave_layer.specs.declared.regs.FatherSeen.TheVariants.{Is}
