@@ -1,8 +1,10 @@
 -- A row is among the enabled ones exactly where its guard holds.
-use Rattle.std.proofs.Common.{◌≡◌, ℕ, Bool, true, false, cond, ◌&&◌, ◌||◌, ◌==◌, List, [], ◌∷◌, map, filter, refl, sym, ap, ◌∙◌}
+use Rattle.std.proofs.Common.{◌≡◌, ◌≢◌, ◌⊎◌, ◌<◌, ◌≤◌, suc, nat_eq, nat_le, nat_lt, ℕ, Bool, true, false, cond, ◌&&◌, ◌||◌, ◌==◌, List, [], ◌∷◌, map, filter, Option, Some, None, refl, sym, ap, ◌∙◌}
 use Rattle.std.specs.List.{list_any}
 use Rattle.action_tables.specs.Numbers.{is_among}
+use Rattle.std.proofs.lemmas.Option.{none-some}
 use Rattle.action_tables.specs.Table.{Row, enabled_of}
+use Rattle.link_predicates.specs.Faults.{first_enabled}
 
 and_true : (b : Bool) → (b && true) ≡ b
 and_true true = refl
@@ -23,3 +25,43 @@ among_enabled n (row ∷ rows) =
       | true ↦ ap (λ b. (row.number == n) || b) rest ∙ ap (λ b. b || any) (sym (and_true (row.number == n)))
       | false ↦ rest ∙ ap (λ b. b || any) (sym (and_false (row.number == n)))
     ]
+
+-- some of the rows has this number, and its guard holds
+abbrev pub row_holds : {E : Type 0} → ℕ → List (Row E) → Bool
+row_holds n rows = list_any (λ row. row.number == n && row.holds) rows
+
+-- the first of four numbers whose test holds
+abbrev pub first_of : ℕ → ℕ → ℕ → ℕ → Bool → Bool → Bool → Bool → Option ℕ
+first_of a b c d p q r s = cond p (Some a) (cond q (Some b) (cond r (Some c) (cond s (Some d) None)))
+
+pub first_by : {E : Type 0} (rows : List (Row E)) (a b c d : ℕ)
+    → first_enabled (a ∷ b ∷ c ∷ d ∷ []) (enabled_of rows) ≡ first_of a b c d (row_holds a rows) (row_holds b rows) (row_holds c rows) (row_holds d rows)
+first_by rows a b c d =
+    let among : ℕ → Bool = λ n. is_among n (enabled_of rows) in
+    ap (λ p. first_of a b c d p (among b) (among c) (among d)) (among_enabled a rows)
+    ∙ ap (λ q. first_of a b c d (row_holds a rows) q (among c) (among d)) (among_enabled b rows)
+    ∙ ap (λ r. first_of a b c d (row_holds a rows) (row_holds b rows) r (among d)) (among_enabled c rows)
+    ∙ ap (λ s. first_of a b c d (row_holds a rows) (row_holds b rows) (row_holds c rows) s) (among_enabled d rows)
+
+-- a row that is told says that something is wrong, and none that nothing is
+abbrev pub Tells : Type 0 → Option ℕ → Type 0
+Tells Wrong None = Wrong → ⊥
+Tells Wrong (Some row) = Wrong
+
+pub told_wrong : {Wrong : Type 0} (o : Option ℕ) → Tells Wrong o → (Wrong → ⊥) → o ≡ None
+told_wrong None tells right = refl
+told_wrong (Some row) tells right = absurd (right tells)
+
+pub told_right : {Wrong : Type 0} (o : Option ℕ) → Tells Wrong o → o ≡ None → Wrong → ⊥
+told_right None tells none = tells
+told_right (Some row) tells none = absurd (none-some row (sym none))
+
+-- what a test of two numbers tells of them
+abbrev pub Eq : ℕ → ℕ → Type 0
+Eq a b = ((nat_eq a b ≡ true) × (a ≡ b)) ⊎ ((nat_eq a b ≡ false) × (a ≢ b))
+
+abbrev pub Lt : ℕ → ℕ → Type 0
+Lt a b = ((nat_lt a b ≡ true) × (suc a ≤ b)) ⊎ ((nat_lt a b ≡ false) × (b < suc a))
+
+abbrev pub Le : ℕ → ℕ → Type 0
+Le a b = ((nat_le a b ≡ true) × (a ≤ b)) ⊎ ((nat_le a b ≡ false) × (b < a))

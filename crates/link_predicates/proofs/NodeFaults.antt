@@ -43,7 +43,7 @@ app_alone app K own other = tree (tree_row K own other)
     wave None = last (app_row app K own other)
     wave (Some row) = last (app_row app K own other)
 
-    tree : (t : Option ℕ) → find is_of_app (fault_of own.id other.id Tree t ++ fault_of own.id other.id Wave (wave_row own other) ++ fault_of own.id other.id OfApp (app_row app K own other)) ≡ option_map (λ row. record { at = own.id; other = other.id; family = OfApp; row = row }) (app_row app K own other)
+    tree : (t : Option ℕ) → find is_of_app (fault_of own.id other.id Tree t ++ (fault_of own.id other.id Wave (wave_row own other) ++ fault_of own.id other.id OfApp (app_row app K own other))) ≡ option_map (λ row. record { at = own.id; other = other.id; family = OfApp; row = row }) (app_row app K own other)
     tree None = wave (wave_row own other)
     tree (Some row) = wave (wave_row own other)
 

@@ -1,6 +1,6 @@
 -- The faults of a configuration: which row of which table fails at which end of which link.
-use Rattle.std.specs.Prelude.{ℕ, ◌==◌, Bool, true, false, if◌then◌else◌, List, [], ◌∷◌, ◌++◌, Option, Some, None, map, find}
-use Rattle.std.specs.List.{flat_map}
+use Rattle.std.specs.Prelude.{◌≡◌, ℕ, ◌==◌, Bool, true, false, if◌then◌else◌, List, [], ◌∷◌, ◌++◌, Option, Some, None, map, find}
+use Rattle.std.specs.List.{flat_map, list_all}
 use Rattle.action_tables.specs.Numbers.{is_among}
 use Rattle.action_tables.specs.Table.{enabled_of}
 use Rattle.app_interface.specs.Application.{App}
@@ -59,8 +59,8 @@ fault_of i j family (Some row) = record { at = i; other = j; family = family; ro
 abbrev pub link_faults : {L : Type 0} → App L → ℕ → Neighbour L → Neighbour L → List LinkFault
 link_faults app K own other =
     fault_of own.id other.id Tree (tree_row K own other)
-    ++ fault_of own.id other.id Wave (wave_row own other)
-    ++ fault_of own.id other.id OfApp (app_row app K own other)
+    ++ (fault_of own.id other.id Wave (wave_row own other)
+    ++ fault_of own.id other.id OfApp (app_row app K own other))
 
 -- at a node: its own fault, then those of its links, by ascending neighbour
 abbrev pub node_faults : {L : Type 0} → App L → Configuration L → ℕ → List LinkFault
@@ -72,7 +72,7 @@ node_faults app c i =
 abbrev pub faults : {L : Type 0} → App L → Configuration L → List LinkFault
 faults app c = flat_map (node_faults app c) c.graph.ids
 
--- ---- the alarm
+-- ---- the application's
 
 abbrev pub is_of_app : LinkFault → Bool
 is_of_app fault = is_app fault.family
@@ -82,6 +82,10 @@ is_of_app fault = is_app fault.family
     is_app Wave = false
     is_app OfApp = true
 
--- the first fault of the application at a node
+-- all of these are faults of the application: none is of the tree or of the wave
+abbrev pub AreOfApp : List LinkFault → Type 0
+AreOfApp told = list_all is_of_app told ≡ true
+
+-- the alarm: the first fault of the application at a node
 abbrev pub alarm_of : {L : Type 0} → App L → Configuration L → ℕ → Option LinkFault
 alarm_of app c i = find is_of_app (node_faults app c i)

@@ -5,7 +5,9 @@
 mod check;
 mod end;
 mod fault;
+mod laws;
 mod rows;
 
 pub use check::{alarm, check_all, check_node};
 pub use fault::{Family, LinkFault};
+pub use laws::{faultless_is_pictured, faultless_is_sound, joined_are_silent};

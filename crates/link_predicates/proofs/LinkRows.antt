@@ -1,0 +1,138 @@
+-- What the first failing row at an end of a link says of the registers at its ends.
+use Rattle.std.proofs.Common.{arith, ◌≡◌, ◌≢◌, ◌⊎◌, inl, inr, ℕ, suc, ◌+◌, nat_eq, true≢false, subst, Bool, true, false, cond, [], ◌∷◌, Option, Some, None, refl, sym, ap, ◌∙◌}
+use Rattle.std.proofs.lemmas.Bool.Decides.{eqb_tells, leb_tells}
+use Rattle.action_tables.specs.Table.{enabled_of}
+use Rattle.topology.specs.Graph.{Graph, AreLinked}
+use Rattle.tree_layer.specs.declared.regs.TreeRegs.{TreeRegs}
+use Rattle.tree_layer.specs.TreeRows.{Adopts, Follows, IsFather, adopt_root, adopt_short, follow_dist, follow_root}
+use Rattle.tree_layer.specs.TreeTable.{LocalView, tree_table}
+use Rattle.wave_layer.specs.declared.regs.WaveRegs.{WaveRegs}
+use Rattle.wave_layer.specs.declared.regs.FatherSeen.TheVariants.{Is}
+use Rattle.wave_layer.specs.WaveTable as wave
+use Rattle.wave_layer.specs.WaveTable.{WaveHolds, is_reset, next_session, wave_table}
+use Rattle.link_predicates.specs.Faults.{first_enabled, mending_row}
+use Rattle.link_predicates.proofs.EnabledRows.{Eq, Lt, Tells, first_by, first_of, row_holds}
+
+-- the first of two numbers whose test holds
+abbrev pub first_of_two : ℕ → ℕ → Bool → Bool → Option ℕ
+first_of_two a b p q = cond p (Some a) (cond q (Some b) None)
+
+both_tell : (A B : Type 0) (a b c d : ℕ) (p q r s : Bool) → Tells A (first_of_two a b p q) → Tells B (first_of_two c d r s) → Tells (A ⊎ B) (first_of a b c d p q r s)
+both_tell A B a b c d true q r s wrong other = inl wrong
+both_tell A B a b c d false true r s wrong other = inl wrong
+both_tell A B a b c d false false true s right other = inr other
+both_tell A B a b c d false false false true right other = inr other
+both_tell A B a b c d false false false false right other = neither
+  where
+    neither : A ⊎ B → ⊥
+    neither (inl x) = right x
+    neither (inr y) = other y
+
+-- the neighbour j is i's father and not as i takes it to be
+abbrev pub IsOtherFather : Graph → ℕ → (ℕ → TreeRegs) → ℕ → ℕ → Type 0
+IsOtherFather g K t i j = IsFather g t i j × Follows g K t i
+
+module _ (g : Graph) (K : ℕ) (t : ℕ → TreeRegs) (i j : ℕ) (linked : AreLinked g i j) where
+  abbrev pub seen : LocalView
+  seen = record { id = i; bound = K; own = t i; near = (j, t j) ∷ [] }
+
+  abbrev rows : ℕ → Bool
+  rows n = row_holds n (tree_table seen seen.near)
+
+  same : (k : ℕ) → IsFather g t i k → j ≡ (t i).father → k ≡ j
+  same k father named = sym father.named ∙ sym named
+
+  follow_tells : Tells (IsOtherFather g K t i j) (first_of_two 5 6 (rows 5) (rows 6))
+  follow_tells = father (eqb_tells j (t i).father)
+    where
+      Answered : Type 0
+      Answered = Tells (IsOtherFather g K t i j) (first_of_two 5 6 (rows 5) (rows 6))
+
+      up : nat_eq j (t i).father ≡ true → j ≡ (t i).father → Lt (t i).dist K → Eq (t i).root (t j).root → Eq (t i).dist ((t j).dist + 1) → Answered
+      up test named (inr far) root dist = rw (test, far.0) rests
+        where
+          rests : IsOtherFather g K t i j → ⊥
+          rests (_, follow_root k _ near _) = absurd (omega (arith, near, far.1))
+          rests (_, follow_dist k _ near _ _) = absurd (omega (arith, near, far.1))
+      up test named (inl near) (inr root) dist = rw (test, near.0, root.0) (record { named = sym named; linked = linked }, follow_root j (record { named = sym named; linked = linked }) near.1 root.1)
+      up test named (inl near) (inl root) (inr dist) = rw (test, near.0, root.0, dist.0) (record { named = sym named; linked = linked }, follow_dist j (record { named = sym named; linked = linked }) near.1 root.1 dist.1)
+      up test named (inl near) (inl root) (inl dist) = rw (test, near.0, root.0, dist.0) rests
+        where
+          rests : IsOtherFather g K t i j → ⊥
+          rests (_, follow_root k father _ apart) = apart (root.1 ∙ ap (λ n. (t n).root) (sym (same k father named)))
+          rests (_, follow_dist k father _ _ apart) = apart (dist.1 ∙ ap (λ n. (t n).dist + 1) (sym (same k father named)))
+
+      father : Eq j (t i).father → Answered
+      father (inl named) = up named.0 named.1 (leb_tells (suc (t i).dist) K) (eqb_tells _ _) (eqb_tells _ _)
+      father (inr other) = rw other.0 (λ told. other.1 (sym told.0.named))
+
+  adopt_tells : Tells (Adopts g K t i j) (first_of_two 7 8 (rows 7) (rows 8))
+  adopt_tells = at (leb_tells (suc (t j).dist) K) (leb_tells (suc (t i).root) (t j).root) (eqb_tells (t i).root (t j).root) (leb_tells (suc ((t j).dist + 1)) (t i).dist)
+    where
+      at : Lt (t j).dist K → Lt (t i).root (t j).root → Eq (t i).root (t j).root → Lt ((t j).dist + 1) (t i).dist → Tells (Adopts g K t i j) (first_of_two 7 8 (rows 7) (rows 8))
+      at (inl near) (inl higher) r s = rw (near.0, higher.0) (adopt_root linked near.1 higher.1)
+      at (inl near) (inr higher) (inl r) (inl s) = rw (near.0, higher.0, r.0, s.0) (adopt_short linked near.1 r.1 s.1)
+      at (inl near) (inr higher) (inl r) (inr s) = rw (near.0, higher.0, r.0, s.0) rests
+        where
+          rests : Adopts g K t i j → ⊥
+          rests (adopt_root _ _ above) = absurd (omega (arith, above, higher.1))
+          rests (adopt_short _ _ _ shorter) = absurd (omega (arith, shorter, s.1))
+      at (inl near) (inr higher) (inr r) s = rw (near.0, higher.0, r.0) rests
+        where
+          rests : Adopts g K t i j → ⊥
+          rests (adopt_root _ _ above) = absurd (omega (arith, above, higher.1))
+          rests (adopt_short _ _ root _) = r.1 root
+      at (inr far) higher r s = rw far.0 rests
+        where
+          rests : Adopts g K t i j → ⊥
+          rests (adopt_root _ below _) = absurd (omega (arith, below, far.1))
+          rests (adopt_short _ below _ _) = absurd (omega (arith, below, far.1))
+
+  -- rows 5 to 8 tell whether the neighbour is another father than i takes it to be, or is to be adopted
+  pub end_tells : Tells (IsOtherFather g K t i j ⊎ Adopts g K t i j) (first_enabled (5 ∷ 6 ∷ 7 ∷ 8 ∷ []) (enabled_of (tree_table seen seen.near)))
+  end_tells = subst (Tells (IsOtherFather g K t i j ⊎ Adopts g K t i j)) (sym (first_by (tree_table seen seen.near) 5 6 7 8))
+      (both_tell (IsOtherFather g K t i j) (Adopts g K t i j) 5 6 7 8 (rows 5) (rows 6) (rows 7) (rows 8) follow_tells adopt_tells)
+
+-- a row that is told says that this doesn't hold, and none that it does
+abbrev pub Denies : Type 0 → Option ℕ → Type 0
+Denies Right None = Right
+Denies Right (Some row) = Right → ⊥
+
+-- rows 8 to 11 of the wave table tell whether the wave predicate fails
+pub mending_tells : (own up : WaveRegs) → Denies (WaveHolds own up) (mending_row own up)
+mending_tells own up =
+    subst (Denies (WaveHolds own up)) (sym (first_by (wave_table seen_up []) 8 9 10 11))
+    (at (is_reset own.phase) (is_reset up.phase) refl refl (eqb_tells own.session up.session) (eqb_tells up.session own.session) (eqb_tells up.session (next_session own.session)))
+  where
+    seen_up : wave.LocalView
+    seen_up = record { own = own; father = Is up; children = [] }
+
+    rows : ℕ → Bool
+    rows n = row_holds n (wave_table seen_up [])
+
+    Answered : Type 0
+    Answered = Denies (WaveHolds own up) (first_of 8 9 10 11 (rows 8) (rows 9) (rows 10) (rows 11))
+
+    awake_only : is_reset own.phase ≡ true → is_reset up.phase ≡ true → own.session ≢ up.session → WaveHolds own up → ⊥
+    awake_only reset up_reset apart holds = fits (holds.resetting up_reset)
+      where
+        fits : (own.session ≡ up.session) ⊎ ((is_reset own.phase ≡ false) × (up.session ≡ next_session own.session)) → ⊥
+        fits (inl same) = apart same
+        fits (inr behind) = true≢false (sym reset ∙ behind.0)
+
+    late : is_reset up.phase ≡ true → up.session ≢ own.session → up.session ≢ next_session own.session → WaveHolds own up → ⊥
+    late up_reset apart beyond holds = fits (holds.resetting up_reset)
+      where
+        fits : (own.session ≡ up.session) ⊎ ((is_reset own.phase ≡ false) × (up.session ≡ next_session own.session)) → ⊥
+        fits (inl same) = apart (sym same)
+        fits (inr behind) = beyond behind.1
+
+    at : (p q : Bool) → is_reset own.phase ≡ p → is_reset up.phase ≡ q → Eq own.session up.session → Eq up.session own.session → Eq up.session (next_session own.session) → Answered
+    at true false own_is up_is s back next = rw (own_is, up_is) (λ holds. true≢false (sym own_is ∙ (holds.awake up_is).0))
+    at false false own_is up_is (inl s) back next = rw (own_is, up_is, s.0) (record { awake = λ is. (own_is, s.1); resetting = λ is. absurd (true≢false (sym is ∙ up_is)) })
+    at false false own_is up_is (inr s) back next = rw (own_is, up_is, s.0) (λ holds. s.1 (holds.awake up_is).1)
+    at true true own_is up_is (inl s) back next = rw (own_is, up_is, s.0) (record { awake = λ is. absurd (true≢false (sym up_is ∙ is)); resetting = λ is. inl s.1 })
+    at true true own_is up_is (inr s) back next = rw (own_is, up_is, s.0) (awake_only own_is up_is s.1)
+    at false true own_is up_is s (inl back) next = rw (own_is, up_is, back.0) (record { awake = λ is. absurd (true≢false (sym up_is ∙ is)); resetting = λ is. inl (sym back.1) })
+    at false true own_is up_is s (inr back) (inl next) = rw (own_is, up_is, back.0, next.0) (record { awake = λ is. absurd (true≢false (sym up_is ∙ is)); resetting = λ is. inr (own_is, next.1) })
+    at false true own_is up_is s (inr back) (inr next) = rw (own_is, up_is, back.0, next.0) (late up_is back.1 next.1)

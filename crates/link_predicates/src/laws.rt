@@ -1,0 +1,47 @@
+// Laws of the checker and of the alarm.
+
+ghost use Rattle.std.specs.Prelude.{◌≡◌, ◌<◌, ◌↔◌, ℕ, List, None};
+ghost use Rattle.topology.specs.Graph.{IsConnected, IsGraph};
+ghost use Rattle.tree_layer.specs.TreePicture.{TreePicture};
+ghost use Rattle.reset_machine.specs.Completion.{applied, is_open, times};
+ghost use Rattle.reset_machine.specs.Configuration.{Configuration, IsShaped, tree_of, wave_of};
+ghost use Rattle.reset_machine.specs.Refinement.{abstract_of};
+ghost use Rattle.reset_machine.specs.Runs.{IsRun};
+ghost use Rattle.reset_machine.specs.Sound.{IsSound};
+ghost use Rattle.reset_machine.specs.WavePicture.{HasJoined, WavePicture};
+ghost use Rattle.reset_machine.specs.declared.event.Event.{Event};
+ghost use Rattle.reset_machine.specs.declared.step.Done.{Done};
+ghost use Rattle.link_predicates.specs.Faults.{AreOfApp, alarm_of, faults};
+
+use app_interface::Application;
+use reset_machine::{invariants, runs_stay_sound, wave_pictures};
+use tree_layer::tree_pictures;
+
+/// No fault of the tree or of the wave is told exactly where every link passes the predicates of both
+/// layers.
+pub fn faultless_is_sound<P: Application>()
+    ensures { (c : Configuration P.Local) → IsGraph c.graph → (AreOfApp (faults P.app c) ↔ IsSound c) }
+{}
+
+/// No fault of the tree or of the wave is told exactly where both pictures hold.
+pub fn faultless_is_pictured<P: Application>()
+    ensures { (c : Configuration P.Local) → IsGraph c.graph → IsConnected c.graph
+        → (AreOfApp (faults P.app c) ↔ (TreePicture c.graph (tree_of c) × WavePicture c.graph (tree_of c) (wave_of c))) }
+{
+    faultless_is_sound::<P>();
+    tree_pictures();
+    wave_pictures();
+}
+
+/// Wherever the application's invariant holds of the abstract state, no node that has joined has an
+/// alarm. So it is, from a sound configuration on, once a session was opened.
+pub fn joined_are_silent<P: Application>()
+    ensures invariant { (c : Configuration P.Local) (i : ℕ) → IsGraph c.graph → P.Inv c.graph (abstract_of P.app c)
+        → HasJoined c.graph (wave_of c) i → alarm_of P.app c i ≡ None }
+    ensures opened { (c c' : Configuration P.Local) (es : List Event) (ds : List Done) (i : ℕ) → IsGraph c.graph → IsConnected c.graph
+        → IsShaped c → IsSound c → IsRun P.app c es ds c' → 0 < times is_open (applied es ds)
+        → HasJoined c'.graph (wave_of c') i → alarm_of P.app c' i ≡ None }
+{
+    invariants::<P>();
+    runs_stay_sound::<P>();
+}
