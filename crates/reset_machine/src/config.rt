@@ -10,6 +10,7 @@ use crate::action::{Choice, acted};
 use crate::enabled::{Enabled, enabled_at, ready_ids};
 use crate::event::Event;
 use crate::node_view::{View, read_view};
+use crate::place::Place;
 use crate::plan::{Effect, Fired, planned};
 use crate::run_laws::{completions, invariants, refinement};
 use crate::step::{Done, Reply, StepRefusal, reply_to};
@@ -304,11 +305,8 @@ impl<P: Application> Config<P> {
         ensures ok { IfOk result (λ view. IsNode self.now.graph at × (view ≡ view_of P.app self.now at)) }
         ensures err { IfErr result (λ f. f ≢ StepRefusal.NoMemory → (f ≡ StepRefusal.StrangeNode) × (IsNode self.now.graph at → ⊥)) }
     {
-        let trees = &self.trees;
-        let waves = &self.waves;
-        let locals = &self.locals;
-        match self.topology.index_of(at) {
-            Some(ix) => Ok(read_view::<P>(alloc, &self.topology, trees, waves, locals, at, ix)?),
+        match Place::of(self, at) {
+            Some(place) => Ok(read_view(alloc, &place)?),
             None => Err(StepRefusal::StrangeNode),
         }
     }
@@ -326,15 +324,9 @@ impl<P: Application> Config<P> {
         ensures seen { IfSome result (λ _. IsSeen P.app self.now view.now) }
         ensures unseen { IfNone result (IsSeen P.app self.now view.now → ⊥) }
     {
-        let trees = &self.trees;
-        let waves = &self.waves;
-        let locals = &self.locals;
-        let starts = &self.starts;
-        let Some(ix) = self.topology.index_of(view.id()) else {
-            return None;
-        };
-        if view.is_of(&self.topology, trees, waves, locals, starts, ix) {
-            Some(ix)
+        let place = Place::of(self, view.id())?;
+        if view.is_of(&place) {
+            Some(place.index())
         } else {
             None
         }
@@ -410,6 +402,37 @@ impl<P: Application> Config<P> {
         ensures { result.now ≡ self.now.graph }
     {
         &self.topology
+    }
+
+    /// The nodes' tree registers, in the order of the ids.
+    pub(crate) fn trees(&self) -> &[TreeRegs]
+        ensures value { result.now ≡ self.now.trees }
+        ensures shaped { IsShaped self.now }
+    {
+        &self.trees
+    }
+
+    /// The nodes' wave registers, in the order of the ids.
+    pub(crate) fn waves(&self) -> &[WaveRegs]
+        ensures value { result.now ≡ self.now.waves }
+        ensures shaped { IsShaped self.now }
+    {
+        &self.waves
+    }
+
+    /// The nodes' local states, in the order of the ids.
+    pub(crate) fn locals(&self) -> &[P::Local]
+        ensures value { result.now ≡ self.now.locals }
+        ensures shaped { IsShaped self.now }
+    {
+        &self.locals
+    }
+
+    /// The nodes' start states, in the order of the ids.
+    pub(crate) fn starts(&self) -> &[P::Local]
+        ensures { result.now ≡ start_list P.app self.now.graph }
+    {
+        &self.starts
     }
 
     /// The tree registers of the node with this identifier. None where there is no such node.
