@@ -136,7 +136,7 @@ impl<P: Application> Config<P> {
         ensures outcome { MatchResult result (λ reply. act_outcome P.app self.old at choice.case choice.with ≡ Ok (self.new, reply))
             (λ f. f ≢ StepRefusal.NoMemory → act_outcome P.app self.old at choice.case choice.with ≡ Err f) }
     {
-        match acted::<P>(alloc, &self.topology, &self.waves, &self.locals, at, choice) {
+        match acted(alloc, self, at, choice) {
             Ok((ix, after)) => {
                 self.locals[ix] = after;
                 Ok(Reply::Applied)
@@ -151,7 +151,7 @@ impl<P: Application> Config<P> {
         ensures outcome { MatchResult result (λ reply. row_outcome P.app self.old event ≡ Ok (self.new, reply))
             (λ f. f ≢ StepRefusal.NoMemory → row_outcome P.app self.old event ≡ Err f) }
     {
-        match planned(alloc, &self.topology, &self.trees, &self.waves, event) {
+        match planned(alloc, self, event) {
             Ok((ix, effect)) => match effect {
                 Fired::Tree(after) => {
                     self.trees[ix] = after;
@@ -377,11 +377,8 @@ impl<P: Application> Config<P> {
         ensures ok { IfOk result (λ rows. IsNode self.now.graph at × (rows ≡ enabled_rows P.app self.now at)) }
         ensures err { IfErr result (λ f. f ≢ StepRefusal.NoMemory → (f ≡ StepRefusal.StrangeNode) × (IsNode self.now.graph at → ⊥)) }
     {
-        let trees = &self.trees;
-        let waves = &self.waves;
-        let locals = &self.locals;
-        match self.topology.index_of(at) {
-            Some(ix) => Ok(enabled_at::<P>(alloc, &self.topology, trees, waves, locals, at, ix)?),
+        match Place::of(self, at) {
+            Some(place) => Ok(enabled_at(alloc, &place)?),
             None => Err(StepRefusal::StrangeNode),
         }
     }
@@ -391,10 +388,7 @@ impl<P: Application> Config<P> {
     pub fn ready(&self, alloc: Global) -> Result<Vec<u32>, AllocError>
         ensures { IfOk result (λ ids. ids.items ≡ ready_of P.app self.now) }
     {
-        let trees = &self.trees;
-        let waves = &self.waves;
-        let locals = &self.locals;
-        ready_ids::<P>(alloc, &self.topology, trees, waves, locals)
+        ready_ids(alloc, self)
     }
 
     /// The topology.

@@ -2,7 +2,7 @@
 
 ghost use Rattle.std.specs.Prelude.{◌≡◌, ◌<◌, ◌==◌, ◌↔◌, IfOk, IsTrue, Some, length, map, option_map};
 ghost use Rattle.std.specs.Prelude.{slice_get, slice_index};
-ghost use Rattle.topology.specs.Graph.{neighbours_of};
+ghost use Rattle.reset_machine.specs.Place.{near_ids};
 ghost use Rattle.reset_machine.specs.View.{near_of, near_trees, view_of};
 ghost use Rattle.tree_layer.specs.TreeTable.{IsView};
 
@@ -94,7 +94,7 @@ fn read_near<P: Application>(
     alloc: Global,
     place: &Place<'_, P>,
 ) -> Result<Vec<Near<P>>, AllocError>
-    ensures { IfOk result (λ near. near.items ≡ map (near_of P.app place.now.config) (neighbours_of place.now.config.graph place.now.id)) }
+    ensures { IfOk result (λ near. near.items ≡ map (near_of P.app place.now.config) (near_ids place.now)) }
 {
     let mut near = Vec::new(alloc);
     for index in place.neighbours() {
@@ -243,7 +243,7 @@ fn copy_near<P: Application>(alloc: Global, near: &[Near<P>]) -> Result<Vec<Near
 
 // Whether the node has these neighbours.
 fn are_near<P: Application>(near: &[Near<P>], place: &Place<'_, P>) -> bool
-    ensures { IsTrue result ↔ near.now ≡ map (near_of P.app place.now.config) (neighbours_of place.now.config.graph place.now.id) }
+    ensures { IsTrue result ↔ near.now ≡ map (near_of P.app place.now.config) (near_ids place.now) }
 {
     let indexes = place.neighbours();
     if near.len() != indexes.len() {
@@ -288,7 +288,8 @@ impl<P: Application> Near<P> {
     // Whether the node at this index is this.
     fn is_at(&self, place: &Place<'_, P>, index: usize) -> bool
         requires { index < length place.now.config.graph.ids }
-        ensures { IsTrue result ↔ self.now ≡ near_of P.app place.now.config (slice_index place.now.config.graph.ids index) }
+        ensures { IsTrue result ↔ self.now
+            ≡ near_of P.app place.now.config (slice_index place.now.config.graph.ids index) }
     {
         self.is(
             place.id_at(index),

@@ -1,10 +1,13 @@
 // A node of a configuration, as what happens at the node reads it.
 
-ghost use Rattle.std.specs.Prelude.{◌≡◌, ◌<◌, ◌==◌, true, false, All, IfNone, IfSome, Some, length, map, position, slice_index};
-ghost use Rattle.topology.specs.Graph.{IsGraph, IsNode, are_linked, neighbours_of, node_bound};
-ghost use Rattle.reset_machine.specs.Configuration.{IsShaped, local_of, tree_of, value_at, wave_of};
+ghost use Rattle.std.specs.Prelude.{◌≡◌, ◌<◌, ◌==◌, All, IfErr, IfNone, IfOk, IfSome, OnErr, OnOk, Some};
+ghost use Rattle.std.specs.Prelude.{false, length, map, position, slice_index, true};
+ghost use Rattle.topology.specs.Graph.{IsGraph, IsNode, are_linked, node_bound};
+ghost use Rattle.reset_machine.specs.Configuration.{IsShaped, local_of, tree_of, wave_of};
+ghost use Rattle.reset_machine.specs.LocalSteps.{is_neighbour};
 
 use crate::config::Config;
+use crate::step::StepRefusal;
 use app_interface::Application;
 use std::marker::Model;
 use topology::Topology;
@@ -36,7 +39,7 @@ impl<'a, P: Application> Model for Place<'a, P> {
 }
 
 impl<'a, P: Application> Place<'a, P> {
-    ghost use Rattle.reset_machine.specs.Place.{IsPlace};
+    ghost use Rattle.reset_machine.specs.Place.{IsNamed, IsNear, IsPlace, near_ids};
 
     /// The node with this identifier. None where there is no such node.
     pub fn of(config: &'a Config<P>, id: u32) -> Option<Place<'a, P>>
@@ -133,7 +136,7 @@ impl<'a, P: Application> Place<'a, P> {
 
     /// The indexes of the node's neighbours, ascending.
     pub fn neighbours(&self) -> &'a [usize]
-        ensures ids { map (λ n. slice_index self.now.config.graph.ids n) result.now ≡ neighbours_of self.now.config.graph self.now.id }
+        ensures ids { map (λ n. slice_index self.now.config.graph.ids n) result.now ≡ near_ids self.now }
         ensures within { All (λ n. n < length self.now.config.graph.ids) result.now }
     {
         self.config.topology().neighbours(self.index)
@@ -141,10 +144,26 @@ impl<'a, P: Application> Place<'a, P> {
 
     /// The index of the neighbour with this identifier. None where it isn't a neighbour's.
     pub fn neighbour(&self, id: u32) -> Option<usize>
-        ensures found { IfSome result (λ n. (position (λ i. i == id) self.now.config.graph.ids ≡ Some n) × (are_linked self.now.config.graph self.now.id id ≡ true)) }
+        ensures found { IfSome result (IsNear self.now id) }
         ensures none { IfNone result (are_linked self.now.config.graph self.now.id id ≡ false) }
     {
         self.config.topology().neighbour_at(self.index, id)
+    }
+
+    /// The index of the neighbour that is named, if one is. A stranger is refused.
+    pub fn named(&self, other: Option<u32>) -> Result<Option<usize>, StepRefusal>
+        ensures ok { IfOk result (IsNamed self.now other) }
+        ensures near { OnOk result (is_neighbour self.now.config.graph self.now.id other ≡ true) }
+        ensures err { IfErr result (λ f. f ≡ StepRefusal.StrangeNeighbour) }
+        ensures stranger { OnErr result (is_neighbour self.now.config.graph self.now.id other ≡ false) }
+    {
+        match other {
+            None => Ok(None),
+            Some(id) => match self.neighbour(id) {
+                Some(index) => Ok(Some(index)),
+                None => Err(StepRefusal::StrangeNeighbour),
+            },
+        }
     }
 
     /// The identifier at this index.
