@@ -1,4 +1,5 @@
 pub mod Places
+pub mod NodePlaces
 pub mod Children
 pub mod NearTrees
 pub mod Planned

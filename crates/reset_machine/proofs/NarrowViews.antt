@@ -1,5 +1,5 @@
 -- A view that shows the rows of an event the same is answered the same.
-use Rattle.std.proofs.Common.{◌≡◌, ℕ, false, List, Option, Some, None, Result, nat_eq, refl, sym, ap, subst, ◌∙◌, ◌⊎◌, inl, inr, ⊎_elim, true≢false}
+use Rattle.std.proofs.Common.{◌≡◌, ℕ, false, List, Option, Some, None, Result, nat_eq, refl, sym, subst, ◌∙◌, ◌⊎◌, ⊎_elim, true≢false}
 use Rattle.topology.specs.Graph.{Graph}
 use Rattle.tree_layer.specs.declared.regs.TreeRegs.{TreeRegs}
 use Rattle.wave_layer.specs.declared.regs.WaveRegs.{WaveRegs}
@@ -12,7 +12,7 @@ use Rattle.reset_machine.specs.declared.step.StepRefusal.{StepRefusal}
 use Rattle.reset_machine.specs.declared.plan.Seen.TheVariants.{Wave}
 use Rattle.reset_machine.specs.LocalSteps.{first_answer, cases_of, view_of}
 use Rattle.reset_machine.specs.NarrowViews.{FatherSuffices, ChildrenSuffice, Suffices}
-use Rattle.reset_machine.specs.Steps.{event_node, named_node, is_of_tree}
+use Rattle.reset_machine.specs.Steps.{named_node, is_of_tree}
 use Rattle.reset_machine.proofs.Seen.{is_root-father_seen}
 
 module _ (own : WaveRegs) (f f' : FatherSeen) (cs cs' : List (ℕ × WaveRegs)) where
@@ -53,14 +53,10 @@ narrow_answers (Act i case with) v narrow wave same = refl
 abbrev pub AsksForRoot : Event → ℕ → Type 0
 AsksForRoot e i = (e ≡ Open i) ⊎ (e ≡ Finish i)
 
-pub rooted_node : (e : Event) (i : ℕ) → AsksForRoot e i → event_node e ≡ i
-rooted_node e i (inl is) = ap event_node is
-rooted_node e i (inr is) = ap event_node is
-
-pub root_suffices : (g : Graph) (t : ℕ → TreeRegs) (w : ℕ → WaveRegs) (e : Event) (i : ℕ) (f : FatherSeen) → AsksForRoot e i → is_root f ≡ nat_eq (t i).father i → FatherSuffices e (view_of g t w (event_node e)) f
-root_suffices g t w e i f asks root =
+pub root_suffices : (g : Graph) (t : ℕ → TreeRegs) (w : ℕ → WaveRegs) (e : Event) (at i : ℕ) (f : FatherSeen) → AsksForRoot e at → is_root f ≡ nat_eq (t i).father i → FatherSuffices e (view_of g t w i) f
+root_suffices g t w e at i f asks root =
     let same = root ∙ sym (is_root-father_seen g t w i) in
-    let P : Event → Type 0 = λ e. FatherSuffices e (view_of g t w (event_node e)) f in
+    let P : Event → Type 0 = λ e. FatherSuffices e (view_of g t w i) f in
     ⊎_elim (λ is. subst P (sym is) same) (λ is. subst P (sym is) same) asks
 
 -- a view of these parts suffices where they do

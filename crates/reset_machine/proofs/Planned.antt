@@ -1,5 +1,5 @@
 -- The three ends of planning an event: a strange node, a strange neighbour, and what the rows answer.
-use Rattle.std.proofs.Common.{◌≡◌, ◌≢◌, ℕ, ◌==◌, not, true, false, cond, Result, Ok, Err, MatchResult, List, length, map, refl, subst, ap, ◌∙◌}
+use Rattle.std.proofs.Common.{◌≡◌, ◌≢◌, ℕ, ◌==◌, not, true, false, cond, Result, Ok, Err, MatchResult, List, map, subst, ap, ◌∙◌}
 use Rattle.std.specs.List.{list_any}
 use Rattle.topology.specs.Graph.{Graph, neighbours_of}
 use Rattle.tree_layer.specs.declared.regs.TreeRegs.{TreeRegs}

@@ -1,5 +1,5 @@
 -- What an event leaves keeps the graph and a place for each node.
-use Rattle.std.proofs.Common.{◌≡◌, ℕ, ◌==◌, not, Bool, true, false, cond, nat_eq, List, [], ◌∷◌, length, Option, Some, None, Result, Ok, Err, MatchResult, subst, arith}
+use Rattle.std.proofs.Common.{◌≡◌, ℕ, ◌==◌, not, Bool, true, false, cond, nat_eq, List, [], ◌∷◌, length, Some, None, Result, Ok, Err, MatchResult, subst, arith}
 use Rattle.std.specs.List.{list_any}
 use Rattle.app_interface.specs.Application.{App}
 use Rattle.reset_machine.specs.declared.event.Event.{Event}

@@ -3,7 +3,7 @@ use Rattle.std.proofs.Common.{◌≡◌, ℕ, Option, Some, None, sym, ap, subst
 use Rattle.app_interface.specs.Application.{App, Fits}
 use Rattle.app_interface.specs.declared.reads.Reads.{Reads}
 use Rattle.app_interface.specs.declared.reads.Reads.TheVariants.{Alone, Toward, One, All}
-use Rattle.topology.specs.Graph.{Graph, IsGraph, AreLinked, are_linked, node_bound}
+use Rattle.topology.specs.Graph.{Graph, IsGraph, AreLinked, node_bound}
 use Rattle.tree_layer.specs.declared.regs.TreeRegs.{TreeRegs}
 use Rattle.tree_layer.specs.TreeRows.{adopt_root, adopt_short}
 use Rattle.wave_layer.specs.declared.regs.WaveRegs.{WaveRegs}

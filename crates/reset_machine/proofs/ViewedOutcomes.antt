@@ -1,5 +1,5 @@
 -- What a node's view says of an event is what the maps of the configuration say.
-use Rattle.std.proofs.Common.{◌≡◌, ℕ, ◌==◌, not, Bool, true, false, cond, ◌&&◌, ◌||◌, nat_eq, List, [], ◌∷◌, map, filter, Option, Some, None, Result, Ok, Err, refl, sym, ap, ap₂, ◌∙◌}
+use Rattle.std.proofs.Common.{◌≡◌, ℕ, ◌==◌, not, Bool, true, false, cond, ◌&&◌, ◌||◌, List, [], ◌∷◌, map, filter, Option, Some, None, Result, Ok, Err, refl, ap, ap₂, ◌∙◌}
 use Rattle.std.specs.List.{find, list_any}
 use Rattle.std.specs.Map.{lookup}
 use Rattle.std.specs.Option.{option_map, option_map_or}
@@ -7,7 +7,7 @@ use Rattle.std.proofs.lemmas.Bool.{eq-eqb}
 use Rattle.std.proofs.lemmas.Simd.{map-map}
 use Rattle.app_interface.specs.Application.{App}
 use Rattle.topology.specs.Building.{has}
-use Rattle.topology.specs.Graph.{Graph, IsGraph, are_linked, neighbours_of, node_bound}
+use Rattle.topology.specs.Graph.{IsGraph, are_linked, neighbours_of, node_bound}
 use Rattle.topology.proofs.Membership.{has-Contains, has-filter}
 use Rattle.wave_layer.specs.declared.regs.WaveRegs.{WaveRegs}
 use Rattle.wave_layer.specs.declared.regs.FatherSeen.{FatherSeen}
@@ -17,17 +17,16 @@ use Rattle.reset_machine.specs.declared.event.Event.TheVariants.{Claim, Follow, 
 use Rattle.reset_machine.specs.declared.plan.Fired.{Fired}
 use Rattle.reset_machine.specs.declared.plan.Fired.TheVariants.{Tree, Wave}
 use Rattle.reset_machine.specs.declared.plan.Seen.TheVariants as layer
-use Rattle.reset_machine.specs.declared.step.Reply.{Reply}
 use Rattle.reset_machine.specs.declared.step.StepRefusal.{StepRefusal}
 use Rattle.reset_machine.specs.declared.step.StepRefusal.TheVariants.{StrangeNode, StrangeNeighbour}
-use Rattle.reset_machine.specs.Actions.{acted_of, fitted_of, first_apart, judged, misfit, reads_near}
+use Rattle.reset_machine.specs.Actions.{fitted_of, first_apart, judged, misfit, reads_near}
 use Rattle.reset_machine.specs.Configuration.{Configuration, tree_of, wave_of, local_of}
 use Rattle.reset_machine.specs.LocalSteps.{answer_of, cases_of, children_of, father_seen, first_answer, is_neighbour, planned_of}
 use Rattle.reset_machine.specs.LocalSteps as maps
 use Rattle.reset_machine.specs.Outcome.{acted, done, map_outcome, row_outcome}
 use Rattle.reset_machine.specs.Steps.{event_node, is_of_tree, named_node}
-use Rattle.reset_machine.specs.Planned.{case_planned, case_taken, named_planned, near_apart, near_read, outcome_of, planned, row_fired, row_planned, sees, written}
-use Rattle.reset_machine.specs.View.{Neighbour, NodeView, near_of, view_of, near_trees, near_waves, tree_view, father_of, wave_view, layer_view}
+use Rattle.reset_machine.specs.Planned.{case_planned, case_taken, named_planned, near_apart, outcome_of, row_fired, row_planned, sees, written}
+use Rattle.reset_machine.specs.View.{Neighbour, near_of, view_of, near_waves, tree_view, father_of, wave_view}
 use Rattle.reset_machine.proofs.Seen.{lookup-among}
 
 -- ---- lists that are taken from a list

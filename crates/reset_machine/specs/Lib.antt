@@ -1,4 +1,5 @@
 pub mod Configuration
+pub mod Place
 pub mod Steps
 pub mod LocalSteps
 pub mod NarrowViews

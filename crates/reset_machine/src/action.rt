@@ -1,17 +1,18 @@
 // What an action of the application does, from what its node reads.
 
-ghost use Rattle.std.specs.Prelude.{◌≡◌, ◌≢◌, ℕ, ◌<◌, ◌==◌, true, length, position, slice_index, filter, map, Err, Ok, None, Some, MatchResult, IfOk, is_ok};
+ghost use Rattle.std.specs.Prelude.{◌≡◌, ◌≢◌, ◌==◌, IfOk, MatchResult, filter, is_ok, map, position};
+ghost use Rattle.std.specs.Prelude.{Err, None, Ok, Some};
 ghost use Rattle.app_interface.specs.Views.{seen_values};
-ghost use Rattle.topology.specs.Graph.{neighbours_of, node_bound};
-ghost use Rattle.reset_machine.specs.Actions.{acted_of, first_apart, fitted_of, misfit, reads_near};
-ghost use Rattle.reset_machine.specs.Configuration.{local_map, value_at, wave_map};
-ghost use Rattle.reset_machine.specs.LocalSteps.{is_neighbour};
+ghost use Rattle.topology.specs.Graph.{node_bound};
+ghost use Rattle.reset_machine.specs.Actions.{acted_of, first_apart, misfit, reads_near};
+ghost use Rattle.reset_machine.specs.Configuration.{local_of, wave_of};
+ghost use Rattle.reset_machine.specs.Place.{fitted_at, near_ids};
 
+use crate::config::Config;
+use crate::place::Place;
 use crate::step::StepRefusal;
 use app_interface::{Application, ClockRefusal, Here, Reads, Seen};
 use std::alloc::{AllocError, Global};
-use topology::Topology;
-use wave_layer::WaveRegs;
 
 /// A case of the application, and the neighbour that is named with it.
 #[derive(Clone, Copy)]
@@ -23,101 +24,68 @@ pub struct Choice {
 /// The index of the node and the local state that the action leaves it, or the first refusal.
 pub fn acted<P: Application>(
     alloc: Global,
-    topology: &Topology,
-    waves: &[WaveRegs],
-    locals: &[P::Local],
+    config: &Config<P>,
     at: u32,
     choice: Choice,
 ) -> Result<(usize, P::Local), StepRefusal>
-    requires all_waves { length waves.now ≡ length topology.now.ids }
-    requires all_locals { length locals.now ≡ length topology.now.ids }
-    ensures place { IfOk result (λ p. position (λ i. i == at) topology.now.ids ≡ Some p.0) }
-    ensures exact { MatchResult result (λ p. acted_of P.app topology.now (node_bound topology.now) (wave_map topology.now waves.now) (local_map P.app topology.now locals.now) at choice.case choice.with ≡ Ok p.1)
-        (λ f. f ≢ StepRefusal.NoMemory → acted_of P.app topology.now (node_bound topology.now) (wave_map topology.now waves.now) (local_map P.app topology.now locals.now) at choice.case choice.with ≡ Err f) }
+    ensures place { IfOk result (λ p. position (λ i. i == at) config.now.graph.ids ≡ Some p.0) }
+    ensures exact { let c = config.now in
+        let act = acted_of P.app c.graph (node_bound c.graph) (wave_of c) (local_of P.app c) at choice.case choice.with in
+        MatchResult result (λ p. act ≡ Ok p.1) (λ f. f ≢ StepRefusal.NoMemory → act ≡ Err f) }
 {
-    let Some(ix) = topology.index_of(at) else {
+    let Some(place) = Place::of(config, at) else {
         return Err(StepRefusal::StrangeNode);
     };
-    if !is_neighbour(topology, ix, choice.with) {
-        return Err(StepRefusal::StrangeNeighbour);
+    if let Err(refusal) = place.named(choice.with) {
+        return Err(refusal);
     }
-    match fitted::<P>(alloc, topology, waves, locals, at, ix, choice) {
-        Ok(local) => Ok((ix, local)),
+    match fitted(alloc, &place, choice) {
+        Ok(local) => Ok((place.index(), local)),
         Err(refusal) => Err(refusal),
     }
 }
 
-/// Whether the identifier, if there is one, is that of a neighbour of the node at an index.
-pub fn is_neighbour(topology: &Topology, ix: usize, other: Option<u32>) -> bool
-    requires { ix < length topology.now.ids }
-    ensures { result ≡ is_neighbour topology.now (slice_index topology.now.ids ix) other }
-{
-    match other {
-        None => true,
-        Some(near) => topology.neighbour_at(ix, near).is_some(),
-    }
-}
-
-/// The local state that the action leaves the node with this id and index, or the first refusal,
-/// where the neighbour that is named, if any, is one.
+/// The local state that the action leaves the node, or the first refusal, where the neighbour that is
+/// named, if any, is one.
 pub fn fitted<P: Application>(
     alloc: Global,
-    topology: &Topology,
-    waves: &[WaveRegs],
-    locals: &[P::Local],
-    at: u32,
-    ix: usize,
+    place: &Place<'_, P>,
     choice: Choice,
 ) -> Result<P::Local, StepRefusal>
-    requires place { position (λ i. i == at) topology.now.ids ≡ Some ix }
-    requires near { is_neighbour topology.now at choice.with ≡ true }
-    requires all_waves { length waves.now ≡ length topology.now.ids }
-    requires all_locals { length locals.now ≡ length topology.now.ids }
-    ensures exact { MatchResult result (λ local. fitted_of P.app topology.now (node_bound topology.now) (wave_map topology.now waves.now) (local_map P.app topology.now locals.now) at choice.case choice.with ≡ Ok local)
-        (λ f. f ≢ StepRefusal.NoMemory → fitted_of P.app topology.now (node_bound topology.now) (wave_map topology.now waves.now) (local_map P.app topology.now locals.now) at choice.case choice.with ≡ Err f) }
+    ensures exact { MatchResult result (λ local. fitted_at P.app place.now choice.case choice.with ≡ Ok local)
+        (λ f. f ≢ StepRefusal.NoMemory → fitted_at P.app place.now choice.case choice.with ≡ Err f) }
 {
     let reads = P::reads(choice.case);
     if let Some(refusal) = misfit(reads, choice.with) {
         return Err(refusal);
     }
-    if let Some(near) = first_apart(topology, waves, at, ix, reads, choice.with) {
+    if let Some(near) = first_apart(place, reads, choice.with) {
         return Err(StepRefusal::Disagrees(near));
     }
-    let here = here(topology, at);
-    let seen = match seen(alloc, topology, locals, at, ix, reads, choice.with) {
+    let seen = match seen(alloc, place, reads, choice.with) {
         Ok(seen) => seen,
         Err(AllocError) => return Err(StepRefusal::NoMemory),
     };
-    on_clock::<P>(alloc, here, choice, &locals[ix], &seen)
+    on_clock::<P>(alloc, here(place), choice, place.local(), &seen)
 }
 
-/// Whether the action of the node with this id and index isn't refused, where the neighbour that is
-/// named, if any, is one.
+/// Whether the action of the node isn't refused, where the neighbour that is named, if any, is one.
 pub fn is_taken<P: Application>(
     alloc: Global,
-    topology: &Topology,
-    waves: &[WaveRegs],
-    locals: &[P::Local],
-    at: u32,
-    ix: usize,
+    place: &Place<'_, P>,
     choice: Choice,
 ) -> Result<bool, AllocError>
-    requires place { position (λ i. i == at) topology.now.ids ≡ Some ix }
-    requires near { is_neighbour topology.now at choice.with ≡ true }
-    requires all_waves { length waves.now ≡ length topology.now.ids }
-    requires all_locals { length locals.now ≡ length topology.now.ids }
-    ensures { IfOk result (λ taken. taken ≡ is_ok (fitted_of P.app topology.now (node_bound topology.now) (wave_map topology.now waves.now) (local_map P.app topology.now locals.now) at choice.case choice.with)) }
+    ensures { IfOk result (λ taken. taken ≡ is_ok (fitted_at P.app place.now choice.case choice.with)) }
 {
     let reads = P::reads(choice.case);
     if misfit(reads, choice.with).is_some() {
         return Ok(false);
     }
-    if first_apart(topology, waves, at, ix, reads, choice.with).is_some() {
+    if first_apart(place, reads, choice.with).is_some() {
         return Ok(false);
     }
-    let here = here(topology, at);
-    let seen = seen(alloc, topology, locals, at, ix, reads, choice.with)?;
-    Ok(P::can(here, choice.case, choice.with, &locals[ix], &seen))
+    let seen = seen(alloc, place, reads, choice.with)?;
+    Ok(P::can(here(place), choice.case, choice.with, place.local(), &seen))
 }
 
 /// Takes the case, with what it reads.
@@ -139,14 +107,13 @@ pub fn on_clock<P: Application>(
 }
 
 // The node, with the bound K.
-fn here(topology: &Topology, at: u32) -> Here
-    ensures id { result.id ≡ at }
-    ensures bound { result.k ≡ node_bound topology.now }
+fn here<P: Application>(place: &Place<'_, P>) -> Here
+    ensures id { result.id ≡ place.now.id }
+    ensures bound { result.k ≡ node_bound place.now.config.graph }
 {
-    topology.is_graph();
     Here {
-        id: at,
-        k: topology.len() as u32,
+        id: place.id(),
+        k: place.bound(),
     }
 }
 
@@ -179,22 +146,18 @@ pub fn reads_near(reads: Option<Reads>, with: Option<u32>, near: u32) -> bool
 }
 
 // The first neighbour that is read, by ascending id, that is in another session.
-fn first_apart(
-    topology: &Topology,
-    waves: &[WaveRegs],
-    at: u32,
-    ix: usize,
+fn first_apart<P: Application>(
+    place: &Place<'_, P>,
     reads: Option<Reads>,
     with: Option<u32>,
 ) -> Option<u32>
-    requires place { position (λ i. i == at) topology.now.ids ≡ Some ix }
-    requires all_waves { length waves.now ≡ length topology.now.ids }
-    ensures { result ≡ first_apart (wave_map topology.now waves.now) at (filter (reads_near reads with) (neighbours_of topology.now at)) }
+    ensures { result ≡ first_apart (wave_of place.now.config) place.now.id
+        (filter (reads_near reads with) (near_ids place.now)) }
 {
-    topology.is_graph();
-    for near in topology.neighbours(ix) {
-        let id = topology.id_at(*near).unwrap().get();
-        if reads_near(reads, with, id) && waves[*near].session != waves[ix].session {
+    let session = place.wave().session;
+    for near in place.neighbours() {
+        let id = place.id_at(*near);
+        if reads_near(reads, with, id) && place.wave_at(*near).session != session {
             return Some(id);
         }
     }
@@ -202,27 +165,22 @@ fn first_apart(
 }
 
 // The neighbours that are read, by ascending id, with their local states.
-fn seen<'a, L>(
+fn seen<'a, P: Application>(
     alloc: Global,
-    topology: &Topology,
-    locals: &'a [L],
-    at: u32,
-    ix: usize,
+    place: &Place<'a, P>,
     reads: Option<Reads>,
     with: Option<u32>,
-) -> Result<Vec<Seen<'a, L>>, AllocError>
-    requires place { position (λ i. i == at) topology.now.ids ≡ Some ix }
-    requires all_locals { length locals.now ≡ length topology.now.ids }
-    ensures { (d : ℕ → L) → IfOk result (λ seen. seen_values seen.items ≡ map (λ j. (j, value_at (d j) topology.now.ids locals.now j)) (filter (reads_near reads with) (neighbours_of topology.now at))) }
+) -> Result<Vec<Seen<'a, P::Local>>, AllocError>
+    ensures { IfOk result (λ seen. seen_values seen.items
+        ≡ map (λ j. (j, local_of P.app place.now.config j)) (filter (reads_near reads with) (near_ids place.now))) }
 {
-    topology.is_graph();
     let mut seen = Vec::new(alloc);
-    for near in topology.neighbours(ix) {
-        let id = topology.id_at(*near).unwrap().get();
+    for near in place.neighbours() {
+        let id = place.id_at(*near);
         if reads_near(reads, with, id) {
             seen.push(Seen {
                 id,
-                local: &locals[*near],
+                local: place.local_at(*near),
             })?;
         }
     }

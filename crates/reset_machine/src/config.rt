@@ -10,6 +10,7 @@ use crate::action::{Choice, acted};
 use crate::enabled::{Enabled, enabled_at, ready_ids};
 use crate::event::Event;
 use crate::node_view::{View, read_view};
+use crate::place::Place;
 use crate::plan::{Effect, Fired, planned};
 use crate::run_laws::{completions, invariants, refinement};
 use crate::step::{Done, Reply, StepRefusal, reply_to};
@@ -135,7 +136,7 @@ impl<P: Application> Config<P> {
         ensures outcome { MatchResult result (λ reply. act_outcome P.app self.old at choice.case choice.with ≡ Ok (self.new, reply))
             (λ f. f ≢ StepRefusal.NoMemory → act_outcome P.app self.old at choice.case choice.with ≡ Err f) }
     {
-        match acted::<P>(alloc, &self.topology, &self.waves, &self.locals, at, choice) {
+        match acted(alloc, self, at, choice) {
             Ok((ix, after)) => {
                 self.locals[ix] = after;
                 Ok(Reply::Applied)
@@ -150,7 +151,7 @@ impl<P: Application> Config<P> {
         ensures outcome { MatchResult result (λ reply. row_outcome P.app self.old event ≡ Ok (self.new, reply))
             (λ f. f ≢ StepRefusal.NoMemory → row_outcome P.app self.old event ≡ Err f) }
     {
-        match planned(alloc, &self.topology, &self.trees, &self.waves, event) {
+        match planned(alloc, self, event) {
             Ok((ix, effect)) => match effect {
                 Fired::Tree(after) => {
                     self.trees[ix] = after;
@@ -304,11 +305,8 @@ impl<P: Application> Config<P> {
         ensures ok { IfOk result (λ view. IsNode self.now.graph at × (view ≡ view_of P.app self.now at)) }
         ensures err { IfErr result (λ f. f ≢ StepRefusal.NoMemory → (f ≡ StepRefusal.StrangeNode) × (IsNode self.now.graph at → ⊥)) }
     {
-        let trees = &self.trees;
-        let waves = &self.waves;
-        let locals = &self.locals;
-        match self.topology.index_of(at) {
-            Some(ix) => Ok(read_view::<P>(alloc, &self.topology, trees, waves, locals, at, ix)?),
+        match Place::of(self, at) {
+            Some(place) => Ok(read_view(alloc, &place)?),
             None => Err(StepRefusal::StrangeNode),
         }
     }
@@ -326,15 +324,9 @@ impl<P: Application> Config<P> {
         ensures seen { IfSome result (λ _. IsSeen P.app self.now view.now) }
         ensures unseen { IfNone result (IsSeen P.app self.now view.now → ⊥) }
     {
-        let trees = &self.trees;
-        let waves = &self.waves;
-        let locals = &self.locals;
-        let starts = &self.starts;
-        let Some(ix) = self.topology.index_of(view.id()) else {
-            return None;
-        };
-        if view.is_of(&self.topology, trees, waves, locals, starts, ix) {
-            Some(ix)
+        let place = Place::of(self, view.id())?;
+        if view.is_of(&place) {
+            Some(place.index())
         } else {
             None
         }
@@ -385,11 +377,8 @@ impl<P: Application> Config<P> {
         ensures ok { IfOk result (λ rows. IsNode self.now.graph at × (rows ≡ enabled_rows P.app self.now at)) }
         ensures err { IfErr result (λ f. f ≢ StepRefusal.NoMemory → (f ≡ StepRefusal.StrangeNode) × (IsNode self.now.graph at → ⊥)) }
     {
-        let trees = &self.trees;
-        let waves = &self.waves;
-        let locals = &self.locals;
-        match self.topology.index_of(at) {
-            Some(ix) => Ok(enabled_at::<P>(alloc, &self.topology, trees, waves, locals, at, ix)?),
+        match Place::of(self, at) {
+            Some(place) => Ok(enabled_at(alloc, &place)?),
             None => Err(StepRefusal::StrangeNode),
         }
     }
@@ -399,10 +388,7 @@ impl<P: Application> Config<P> {
     pub fn ready(&self, alloc: Global) -> Result<Vec<u32>, AllocError>
         ensures { IfOk result (λ ids. ids.items ≡ ready_of P.app self.now) }
     {
-        let trees = &self.trees;
-        let waves = &self.waves;
-        let locals = &self.locals;
-        ready_ids::<P>(alloc, &self.topology, trees, waves, locals)
+        ready_ids(alloc, self)
     }
 
     /// The topology.
@@ -414,23 +400,33 @@ impl<P: Application> Config<P> {
 
     /// The tree registers of all nodes, in the order of their identifiers.
     pub fn trees(&self) -> &[TreeRegs]
-        ensures { result.now ≡ self.now.trees }
+        ensures value { result.now ≡ self.now.trees }
+        ensures shaped { IsShaped self.now }
     {
         &self.trees
     }
 
     /// The wave registers of all nodes, in the order of their identifiers.
     pub fn waves(&self) -> &[WaveRegs]
-        ensures { result.now ≡ self.now.waves }
+        ensures value { result.now ≡ self.now.waves }
+        ensures shaped { IsShaped self.now }
     {
         &self.waves
     }
 
     /// The local states of all nodes, in the order of their identifiers.
     pub fn locals(&self) -> &[P::Local]
-        ensures { result.now ≡ self.now.locals }
+        ensures value { result.now ≡ self.now.locals }
+        ensures shaped { IsShaped self.now }
     {
         &self.locals
+    }
+
+    /// The nodes' start states, in the order of the ids.
+    pub(crate) fn starts(&self) -> &[P::Local]
+        ensures { result.now ≡ start_list P.app self.now.graph }
+    {
+        &self.starts
     }
 
     /// The tree registers of the node with this identifier. None where there is no such node.

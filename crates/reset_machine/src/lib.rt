@@ -10,6 +10,7 @@ mod event;
 mod laws;
 mod narrow;
 mod node_view;
+mod place;
 mod plan;
 mod run_laws;
 mod step;

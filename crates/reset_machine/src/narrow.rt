@@ -2,38 +2,34 @@
 // many, and no rows but those of the relay and of the finish look at a child, for which one is
 // enough: so an event of the wave gathers no children, and its rows are tried without an allocation.
 
-ghost use Rattle.std.specs.Prelude.{◌≡◌, ◌≤◌, ◌==◌, length, position, Some};
+ghost use Rattle.std.specs.Prelude.{◌≡◌, ◌≤◌, length};
 ghost use Rattle.std.specs.Option.{option_to_list};
 ghost use Rattle.wave_layer.specs.WaveTable.{child_regs, children_done};
-ghost use Rattle.reset_machine.specs.Configuration.{tree_map, wave_map};
-ghost use Rattle.reset_machine.specs.LocalSteps.{view_of};
 ghost use Rattle.reset_machine.specs.NarrowViews.{ChildrenSuffice, FatherSuffices, Suffices};
-ghost use Rattle.reset_machine.specs.Steps.{event_node};
+ghost use Rattle.reset_machine.specs.Place.{IsNamed, IsNear, wave_seen};
+ghost use Rattle.reset_machine.specs.Steps.{named_node};
 
 use crate::event::Event;
+use crate::place::Place;
 use crate::view::father_seen;
-use topology::Topology;
-use tree_layer::TreeRegs;
+use app_interface::Application;
 use wave_layer::{FatherSeen, WaveRegs, WaveView};
 
 /// The one child that the rows of the event look at, with its registers. A relay looks at the child
-/// that it names. To finish, a child that isn't done tells as much as all of them.
+/// that it names, whose index was looked up with the event. To finish, a child that isn't done tells as
+/// much as all of them.
 #[inline(always)]
-pub fn child_looked_at(
-    topology: &Topology,
-    trees: &[TreeRegs],
-    waves: &[WaveRegs],
+pub fn child_looked_at<P: Application>(
+    place: &Place<'_, P>,
     event: Event,
-    ix: usize,
+    named: Option<usize>,
 ) -> Option<(u32, WaveRegs)>
-    requires place { position (λ i. i == event_node event) topology.now.ids ≡ Some ix }
-    requires all_trees { length trees.now ≡ length topology.now.ids }
-    requires all_waves { length waves.now ≡ length topology.now.ids }
-    ensures { ChildrenSuffice event (view_of topology.now (tree_map topology.now trees.now) (wave_map topology.now waves.now) (event_node event)) (option_to_list result) }
+    requires { IsNamed place.now (named_node event) named }
+    ensures { ChildrenSuffice event (wave_seen place.now) (option_to_list result) }
 {
     match event {
-        Event::Relay { at, child } => asked_child(topology, trees, waves, at, ix, child),
-        Event::Finish { at } => unfinished_child(topology, trees, waves, at, ix),
+        Event::Relay { child, .. } => asked_child(place, child, named?),
+        Event::Finish { .. } => unfinished_child(place),
         Event::Claim { .. }
         | Event::Follow { .. }
         | Event::Adopt { .. }
@@ -47,23 +43,17 @@ pub fn child_looked_at(
 
 /// The view that suffices for the rows of the event, from the child that they look at.
 #[inline(always)]
-pub fn narrow_view<'a>(
-    topology: &Topology,
-    trees: &[TreeRegs],
-    waves: &[WaveRegs],
-    child: &'a [(u32, WaveRegs)],
+pub fn narrow_view<'a, P: Application>(
+    place: &Place<'_, P>,
     event: Event,
-    ix: usize,
+    child: &'a [(u32, WaveRegs)],
 ) -> WaveView<'a>
-    requires place { position (λ i. i == event_node event) topology.now.ids ≡ Some ix }
-    requires all_trees { length trees.now ≡ length topology.now.ids }
-    requires all_waves { length waves.now ≡ length topology.now.ids }
     requires one { length child.now ≤ 1 }
-    requires child { ChildrenSuffice event (view_of topology.now (tree_map topology.now trees.now) (wave_map topology.now waves.now) (event_node event)) child.now }
-    ensures { Suffices event (view_of topology.now (tree_map topology.now trees.now) (wave_map topology.now waves.now) (event_node event)) result }
+    requires child { ChildrenSuffice event (wave_seen place.now) child.now }
+    ensures { Suffices event (wave_seen place.now) result }
 {
-    let father = father_looked_at(topology, trees, waves, event, ix);
-    match WaveView::new(waves[ix], father, child) {
+    let father = father_looked_at(place, event);
+    match WaveView::new(place.wave(), father, child) {
         Some(view) => view,
         None => unreachable!(),
     }
@@ -72,22 +62,13 @@ pub fn narrow_view<'a>(
 // What the rows of the event look at of the father. Where they ask only whether the node is its own
 // father, any other father is as good as a lost one, and isn't looked for.
 #[inline(always)]
-fn father_looked_at(
-    topology: &Topology,
-    trees: &[TreeRegs],
-    waves: &[WaveRegs],
-    event: Event,
-    ix: usize,
-) -> FatherSeen
-    requires place { position (λ i. i == event_node event) topology.now.ids ≡ Some ix }
-    requires all_trees { length trees.now ≡ length topology.now.ids }
-    requires all_waves { length waves.now ≡ length topology.now.ids }
-    ensures { FatherSuffices event (view_of topology.now (tree_map topology.now trees.now) (wave_map topology.now waves.now) (event_node event)) result }
+fn father_looked_at<P: Application>(place: &Place<'_, P>, event: Event) -> FatherSeen
+    ensures { FatherSuffices event (wave_seen place.now) result }
 {
     match event {
-        Event::Join { at } | Event::Mend { at } => father_seen(topology, trees, waves, at, ix),
-        Event::Open { at } | Event::Finish { at } => {
-            if trees[ix].father == at {
+        Event::Join { .. } | Event::Mend { .. } => father_seen(place),
+        Event::Open { .. } | Event::Finish { .. } => {
+            if place.tree().father == place.id() {
                 FatherSeen::Itself
             } else {
                 FatherSeen::Lost
@@ -102,51 +83,31 @@ fn father_looked_at(
     }
 }
 
-// The named neighbour of the node with this id and index, with its registers, where it is a child.
-fn asked_child(
-    topology: &Topology,
-    trees: &[TreeRegs],
-    waves: &[WaveRegs],
-    id: u32,
-    ix: usize,
+// The neighbour with this identifier and index, with its registers, where it is a child.
+fn asked_child<P: Application>(
+    place: &Place<'_, P>,
     child: u32,
+    index: usize,
 ) -> Option<(u32, WaveRegs)>
-    requires place { position (λ i. i == id) topology.now.ids ≡ Some ix }
-    requires all_trees { length trees.now ≡ length topology.now.ids }
-    requires all_waves { length waves.now ≡ length topology.now.ids }
-    ensures { child_regs child (option_to_list result) ≡ child_regs child (view_of topology.now (tree_map topology.now trees.now) (wave_map topology.now waves.now) id).children }
+    requires { IsNear place.now child index }
+    ensures { child_regs child (option_to_list result) ≡ child_regs child (wave_seen place.now).children }
 {
-    match topology.neighbour_at(ix, child) {
-        Some(child_ix) => {
-            if trees[child_ix].father == id {
-                Some((child, waves[child_ix]))
-            } else {
-                None
-            }
-        }
-        None => None,
+    if place.tree_at(index).father == place.id() {
+        Some((child, place.wave_at(index)))
+    } else {
+        None
     }
 }
 
-// The first child of the node with this id and index that isn't done, with its registers.
-fn unfinished_child(
-    topology: &Topology,
-    trees: &[TreeRegs],
-    waves: &[WaveRegs],
-    id: u32,
-    ix: usize,
-) -> Option<(u32, WaveRegs)>
-    requires place { position (λ i. i == id) topology.now.ids ≡ Some ix }
-    requires all_trees { length trees.now ≡ length topology.now.ids }
-    requires all_waves { length waves.now ≡ length topology.now.ids }
-    ensures { children_done (wave_map topology.now waves.now id).session (option_to_list result)
-        ≡ children_done (wave_map topology.now waves.now id).session (view_of topology.now (tree_map topology.now trees.now) (wave_map topology.now waves.now) id).children }
+// The node's first child that isn't done, with its registers.
+fn unfinished_child<P: Application>(place: &Place<'_, P>) -> Option<(u32, WaveRegs)>
+    ensures { children_done (wave_seen place.now).own.session (option_to_list result)
+        ≡ children_done (wave_seen place.now).own.session (wave_seen place.now).children }
 {
-    topology.is_graph();
-    for near in topology.neighbours(ix) {
-        if trees[*near].father == id && !waves[*near].is_done(waves[ix].session) {
-            let child = topology.id_at(*near).unwrap().get();
-            return Some((child, waves[*near]));
+    let session = place.wave().session;
+    for near in place.neighbours() {
+        if place.tree_at(*near).father == place.id() && !place.wave_at(*near).is_done(session) {
+            return Some((place.id_at(*near), place.wave_at(*near)));
         }
     }
     None

@@ -1,16 +1,15 @@
 // What a node sees, as a value of its own.
 
 ghost use Rattle.std.specs.Prelude.{◌≡◌, ◌<◌, ◌==◌, ◌↔◌, IfOk, IsTrue, Some, length, map, option_map};
-ghost use Rattle.std.specs.Prelude.{position, slice_get, slice_index};
-ghost use Rattle.topology.specs.Graph.{neighbours_of};
-ghost use Rattle.reset_machine.specs.Configuration.{configuration, start_list};
+ghost use Rattle.std.specs.Prelude.{slice_get, slice_index};
+ghost use Rattle.reset_machine.specs.Place.{near_ids};
 ghost use Rattle.reset_machine.specs.View.{near_of, near_trees, view_of};
 ghost use Rattle.tree_layer.specs.TreeTable.{IsView};
 
+use crate::place::Place;
 use app_interface::Application;
 use std::alloc::{AllocError, Global};
 use std::marker::Model;
-use topology::Topology;
 use tree_layer::TreeRegs;
 use wave_layer::WaveRegs;
 
@@ -68,61 +67,42 @@ impl<P: Application> Model for View<P> {
     ghost invariant = { λ v. IsView v.id v.k (near_trees v.near.items) };
 }
 
-/// What the node with this id and index sees.
+/// What the node sees.
 pub(crate) fn read_view<P: Application>(
     alloc: Global,
-    topology: &Topology,
-    trees: &[TreeRegs],
-    waves: &[WaveRegs],
-    locals: &[P::Local],
-    id: u32,
-    ix: usize,
+    place: &Place<'_, P>,
 ) -> Result<View<P>, AllocError>
-    requires place { position (λ i. i == id) topology.now.ids ≡ Some ix }
-    requires all_trees { length trees.now ≡ length topology.now.ids }
-    requires all_waves { length waves.now ≡ length topology.now.ids }
-    requires all_locals { length locals.now ≡ length topology.now.ids }
-    ensures { IfOk result (λ view. view ≡ view_of P.app (configuration topology.now trees.now waves.now locals.now) id) }
+    ensures { IfOk result (λ view. view ≡ view_of P.app place.now.config place.now.id) }
 {
-    topology.is_graph();
-    let local = P::copy(alloc, &locals[ix])?;
-    let start = P::on_start(alloc, topology, ix)?;
-    let near = read_near::<P>(alloc, topology, trees, waves, locals, ix)?;
+    place.is_place();
+    let local = P::copy(alloc, place.local())?;
+    let start = P::on_start(alloc, place.topology(), place.index())?;
+    let near = read_near::<P>(alloc, place)?;
     Ok(View {
-        id,
-        k: topology.len() as u32,
-        tree: trees[ix],
-        wave: waves[ix],
+        id: place.id(),
+        k: place.bound(),
+        tree: place.tree(),
+        wave: place.wave(),
         local,
         start,
         near,
     })
 }
 
-// The neighbours of the node at an index, as it sees them.
+// The neighbours of the node, as it sees them.
 fn read_near<P: Application>(
     alloc: Global,
-    topology: &Topology,
-    trees: &[TreeRegs],
-    waves: &[WaveRegs],
-    locals: &[P::Local],
-    ix: usize,
+    place: &Place<'_, P>,
 ) -> Result<Vec<Near<P>>, AllocError>
-    requires place { ix < length topology.now.ids }
-    requires all_trees { length trees.now ≡ length topology.now.ids }
-    requires all_waves { length waves.now ≡ length topology.now.ids }
-    requires all_locals { length locals.now ≡ length topology.now.ids }
-    ensures { IfOk result (λ near. near.items ≡ map (near_of P.app (configuration topology.now trees.now waves.now locals.now)) (neighbours_of topology.now (slice_index topology.now.ids ix))) }
+    ensures { IfOk result (λ near. near.items ≡ map (near_of P.app place.now.config) (near_ids place.now)) }
 {
-    topology.is_graph();
     let mut near = Vec::new(alloc);
-    for index in topology.neighbours(ix) {
-        let id = topology.id_at(*index).unwrap().get();
-        let local = P::copy(alloc, &locals[*index])?;
+    for index in place.neighbours() {
+        let local = P::copy(alloc, place.local_at(*index))?;
         near.push(Near {
-            id,
-            tree: trees[*index],
-            wave: waves[*index],
+            id: place.id_at(*index),
+            tree: place.tree_at(*index),
+            wave: place.wave_at(*index),
             local,
         })?;
     }
@@ -214,48 +194,29 @@ impl<P: Application> View<P> {
         })
     }
 
-    // Whether the node at this index, which has this view's identifier, sees this.
-    pub(crate) fn is_of(
-        &self,
-        topology: &Topology,
-        trees: &[TreeRegs],
-        waves: &[WaveRegs],
-        locals: &[P::Local],
-        starts: &[P::Local],
-        ix: usize,
-    ) -> bool
-        requires place { position (λ i. i == self.now.id) topology.now.ids ≡ Some ix }
-        requires all_trees { length trees.now ≡ length topology.now.ids }
-        requires all_waves { length waves.now ≡ length topology.now.ids }
-        requires all_locals { length locals.now ≡ length topology.now.ids }
-        requires starts { starts.now ≡ start_list P.app topology.now }
-        ensures { IsTrue result ↔ self.now ≡ view_of P.app (configuration topology.now trees.now waves.now locals.now) self.now.id }
+    // Whether the node, which has this view's identifier, sees this.
+    pub(crate) fn is_of(&self, place: &Place<'_, P>) -> bool
+        requires { place.now.id ≡ self.now.id }
+        ensures { IsTrue result ↔ self.now ≡ view_of P.app place.now.config self.now.id }
     {
-        topology.is_graph();
-        let k = topology.len() as u32;
         let near = &self.near;
-        if !self.is_own(k, trees[ix], waves[ix], &locals[ix], &starts[ix]) {
-            return false;
-        }
-        are_near::<P>(near, topology, trees, waves, locals, ix)
+        self.has_regs(place.bound(), place.tree(), place.wave())
+            && self.has_states(place.local(), place.start())
+            && are_near::<P>(near, place)
     }
 
-    // Whether these are the node's own parts.
-    fn is_own(
-        &self,
-        k: u32,
-        tree: TreeRegs,
-        wave: WaveRegs,
-        local: &P::Local,
-        start: &P::Local,
-    ) -> bool
-        ensures { IsTrue result ↔ self.now ≡ record { id = self.now.id; bound = k; tree = tree; wave = wave; local = local.now; start = start.now; near = self.now.near } }
+    // Whether this is the bound, and whether these are the node's registers.
+    fn has_regs(&self, k: u32, tree: TreeRegs, wave: WaveRegs) -> bool
+        ensures { IsTrue result ↔ (self.now.bound ≡ k) × (self.now.tree ≡ tree) × (self.now.wave ≡ wave) }
     {
-        k == self.k
-            && self.tree == tree
-            && self.wave == wave
-            && P::same(&self.local, local)
-            && P::same(&self.start, start)
+        k == self.k && self.tree == tree && self.wave == wave
+    }
+
+    // Whether these are the node's local state and its start state.
+    fn has_states(&self, local: &P::Local, start: &P::Local) -> bool
+        ensures { IsTrue result ↔ (self.now.local ≡ local.now) × (self.now.start ≡ start.now) }
+    {
+        P::same(&self.local, local) && P::same(&self.start, start)
     }
 
     /// Whether the two are equal.
@@ -263,7 +224,8 @@ impl<P: Application> View<P> {
         ensures { IsTrue result ↔ self.now ≡ other.now }
     {
         other.id == self.id
-            && self.is_own(other.k, other.tree, other.wave, &other.local, &other.start)
+            && self.has_regs(other.k, other.tree, other.wave)
+            && self.has_states(&other.local, &other.start)
             && same_near(&self.near, &other.near)
     }
 }
@@ -279,27 +241,16 @@ fn copy_near<P: Application>(alloc: Global, near: &[Near<P>]) -> Result<Vec<Near
     Ok(copies)
 }
 
-// Whether the node at an index has these neighbours.
-fn are_near<P: Application>(
-    near: &[Near<P>],
-    topology: &Topology,
-    trees: &[TreeRegs],
-    waves: &[WaveRegs],
-    locals: &[P::Local],
-    ix: usize,
-) -> bool
-    requires place { ix < length topology.now.ids }
-    requires all_trees { length trees.now ≡ length topology.now.ids }
-    requires all_waves { length waves.now ≡ length topology.now.ids }
-    requires all_locals { length locals.now ≡ length topology.now.ids }
-    ensures { IsTrue result ↔ near.now ≡ map (near_of P.app (configuration topology.now trees.now waves.now locals.now)) (neighbours_of topology.now (slice_index topology.now.ids ix)) }
+// Whether the node has these neighbours.
+fn are_near<P: Application>(near: &[Near<P>], place: &Place<'_, P>) -> bool
+    ensures { IsTrue result ↔ near.now ≡ map (near_of P.app place.now.config) (near_ids place.now) }
 {
-    let indexes = topology.neighbours(ix);
+    let indexes = place.neighbours();
     if near.len() != indexes.len() {
         return false;
     }
     for number in 0..near.len() {
-        if !near[number].is_at(topology, trees, waves, locals, indexes[number]) {
+        if !near[number].is_at(place, indexes[number]) {
             return false;
         }
     }
@@ -334,24 +285,18 @@ impl<P: Application> Near<P> {
         })
     }
 
-    // Whether the node at an index is this.
-    fn is_at(
-        &self,
-        topology: &Topology,
-        trees: &[TreeRegs],
-        waves: &[WaveRegs],
-        locals: &[P::Local],
-        ix: usize,
-    ) -> bool
-        requires place { ix < length topology.now.ids }
-        requires all_trees { length trees.now ≡ length topology.now.ids }
-        requires all_waves { length waves.now ≡ length topology.now.ids }
-        requires all_locals { length locals.now ≡ length topology.now.ids }
-        ensures { IsTrue result ↔ self.now ≡ near_of P.app (configuration topology.now trees.now waves.now locals.now) (slice_index topology.now.ids ix) }
+    // Whether the node at this index is this.
+    fn is_at(&self, place: &Place<'_, P>, index: usize) -> bool
+        requires { index < length place.now.config.graph.ids }
+        ensures { IsTrue result ↔ self.now
+            ≡ near_of P.app place.now.config (slice_index place.now.config.graph.ids index) }
     {
-        topology.is_graph();
-        let id = topology.id_at(ix).unwrap().get();
-        self.is(id, trees[ix], waves[ix], &locals[ix])
+        self.is(
+            place.id_at(index),
+            place.tree_at(index),
+            place.wave_at(index),
+            place.local_at(index),
+        )
     }
 
     // Whether these are its parts.

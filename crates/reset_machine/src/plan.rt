@@ -1,18 +1,20 @@
 // What an event's node does, from what it sees.
 
-ghost use Rattle.std.specs.Prelude.{◌≡◌, ◌≢◌, true, false, ◌==◌, length, position, Err, Ok, Some, MatchResult, IfOk};
+ghost use Rattle.std.specs.Prelude.{◌≡◌, ◌≢◌, true, false, ◌==◌, position, Err, Ok, Some, MatchResult, IfOk};
 ghost use Rattle.topology.specs.Graph.{node_bound};
-ghost use Rattle.reset_machine.specs.Configuration.{tree_map, wave_map};
-ghost use Rattle.reset_machine.specs.LocalSteps.{answer_of, first_answer, planned_of, row_answer};
+ghost use Rattle.reset_machine.specs.Configuration.{tree_of, wave_of};
+ghost use Rattle.reset_machine.specs.LocalSteps.{first_answer, planned_of, row_answer};
+ghost use Rattle.reset_machine.specs.Place.{IsNamed, answer_at};
 ghost use Rattle.reset_machine.specs.Steps.{event_node, is_of_tree, named_node};
 
-use crate::action::is_neighbour;
+use crate::config::Config;
 use crate::event::Event;
 use crate::narrow::{child_looked_at, narrow_view};
+use crate::place::Place;
 use crate::step::StepRefusal;
 use crate::view::{read_near_trees, tree_view};
+use app_interface::Application;
 use std::alloc::Global;
-use topology::Topology;
 use tree_layer::{TreeRefusal, TreeRegs, TreeView, tree_fire};
 use wave_layer::{WaveMove, WaveRefusal, WaveRegs, WaveView, wave_fire};
 
@@ -43,102 +45,92 @@ pub enum Seen<'a> {
     Wave(WaveView<'a>),
 }
 
-/// The index of the event's node and what it does, or the first refusal.
-pub fn planned(
+/// The index of the event's node and what it does, or the first refusal. The node and the neighbour
+/// that the event names are looked up here, and nowhere else.
+pub fn planned<P: Application>(
     alloc: Global,
-    topology: &Topology,
-    trees: &[TreeRegs],
-    waves: &[WaveRegs],
+    config: &Config<P>,
     event: Event,
 ) -> Result<(usize, Fired), StepRefusal>
-    requires all_trees { length trees.now ≡ length topology.now.ids }
-    requires all_waves { length waves.now ≡ length topology.now.ids }
-    ensures place { IfOk result (λ p. position (λ i. i == event_node event) topology.now.ids ≡ Some p.0) }
-    ensures exact { MatchResult result (λ p. planned_of topology.now (node_bound topology.now) (tree_map topology.now trees.now) (wave_map topology.now waves.now) event ≡ Ok p.1)
-        (λ f. f ≢ StepRefusal.NoMemory → planned_of topology.now (node_bound topology.now) (tree_map topology.now trees.now) (wave_map topology.now waves.now) event ≡ Err f) }
+    ensures place { IfOk result (λ p. position (λ i. i == event_node event) config.now.graph.ids ≡ Some p.0) }
+    ensures exact { let c = config.now in
+        let plan = planned_of c.graph (node_bound c.graph) (tree_of c) (wave_of c) event in
+        MatchResult result (λ p. plan ≡ Ok p.1) (λ f. f ≢ StepRefusal.NoMemory → plan ≡ Err f) }
 {
-    let Some(ix) = topology.index_of(event.node()) else {
+    let Some(place) = Place::of(config, event.node()) else {
         return Err(StepRefusal::StrangeNode);
     };
-    if !is_neighbour(topology, ix, event.named()) {
-        return Err(StepRefusal::StrangeNeighbour);
-    }
-    match answer(alloc, topology, trees, waves, event, ix) {
-        Ok(effect) => Ok((ix, effect)),
+    let named = match place.named(event.named()) {
+        Ok(named) => named,
+        Err(refusal) => return Err(refusal),
+    };
+    match answer(alloc, &place, event, named) {
+        Ok(fired) => Ok((place.index(), fired)),
         Err(refusal) => Err(refusal),
     }
 }
 
-// What the rows of the event answer at its node, which has this index. Each event of the wave has an
-// arm of its own, so that the code which is inlined there knows its rows and what they look at.
-fn answer(
+// What the rows of the event answer at its node, where the neighbour that it names has this index.
+// Each event of the wave has an arm of its own, so that the code which is inlined there knows its rows
+// and what they look at.
+fn answer<P: Application>(
     alloc: Global,
-    topology: &Topology,
-    trees: &[TreeRegs],
-    waves: &[WaveRegs],
+    place: &Place<'_, P>,
     event: Event,
-    ix: usize,
+    named: Option<usize>,
 ) -> Result<Fired, StepRefusal>
-    requires place { position (λ i. i == event_node event) topology.now.ids ≡ Some ix }
-    requires all_trees { length trees.now ≡ length topology.now.ids }
-    requires all_waves { length waves.now ≡ length topology.now.ids }
-    ensures exact { MatchResult result (λ does. answer_of topology.now (node_bound topology.now) (tree_map topology.now trees.now) (wave_map topology.now waves.now) event ≡ Ok does)
-        (λ f. f ≢ StepRefusal.NoMemory → answer_of topology.now (node_bound topology.now) (tree_map topology.now trees.now) (wave_map topology.now waves.now) event ≡ Err f) }
+    requires node { place.now.id ≡ event_node event }
+    requires named { IsNamed place.now (named_node event) named }
+    ensures exact { MatchResult result (λ does. answer_at place.now event ≡ Ok does)
+        (λ f. f ≢ StepRefusal.NoMemory → answer_at place.now event ≡ Err f) }
 {
     match event {
         Event::Claim { .. } | Event::Follow { .. } | Event::Adopt { .. } => {
-            tree_answer(alloc, topology, trees, waves, event, ix)
+            tree_answer(alloc, place, event)
         }
-        Event::Request { .. } => wave_answer(topology, trees, waves, event, ix),
-        Event::Relay { .. } => wave_answer(topology, trees, waves, event, ix),
-        Event::Open { .. } => wave_answer(topology, trees, waves, event, ix),
-        Event::Join { .. } => wave_answer(topology, trees, waves, event, ix),
-        Event::Finish { .. } => wave_answer(topology, trees, waves, event, ix),
-        Event::Mend { .. } => wave_answer(topology, trees, waves, event, ix),
+        Event::Request { .. } => wave_answer(place, event, named),
+        Event::Relay { .. } => wave_answer(place, event, named),
+        Event::Open { .. } => wave_answer(place, event, named),
+        Event::Join { .. } => wave_answer(place, event, named),
+        Event::Finish { .. } => wave_answer(place, event, named),
+        Event::Mend { .. } => wave_answer(place, event, named),
         Event::Act { .. } => Err(StepRefusal::NotEnabled),
     }
 }
 
 // What the rows of an event of the tree answer.
-fn tree_answer(
+fn tree_answer<P: Application>(
     alloc: Global,
-    topology: &Topology,
-    trees: &[TreeRegs],
-    waves: &[WaveRegs],
+    place: &Place<'_, P>,
     event: Event,
-    ix: usize,
 ) -> Result<Fired, StepRefusal>
     requires tree { is_of_tree event ≡ true }
-    requires place { position (λ i. i == event_node event) topology.now.ids ≡ Some ix }
-    requires all_trees { length trees.now ≡ length topology.now.ids }
-    ensures exact { MatchResult result (λ does. answer_of topology.now (node_bound topology.now) (tree_map topology.now trees.now) (wave_map topology.now waves.now) event ≡ Ok does)
-        (λ f. f ≢ StepRefusal.NoMemory → answer_of topology.now (node_bound topology.now) (tree_map topology.now trees.now) (wave_map topology.now waves.now) event ≡ Err f) }
+    requires node { place.now.id ≡ event_node event }
+    ensures exact { MatchResult result (λ does. answer_at place.now event ≡ Ok does)
+        (λ f. f ≢ StepRefusal.NoMemory → answer_at place.now event ≡ Err f) }
 {
     let mut near = Vec::new(alloc);
-    read_near_trees(topology, trees, ix, &mut near)?;
-    let view = tree_view(topology, trees, &near, event.node(), ix);
+    read_near_trees(place, &mut near)?;
+    let view = tree_view(place, &near);
     first_answer(&Seen::Tree(view), event.named(), event.cases())
 }
 
 // What the rows of an event of the wave answer. They are tried on the part of the node's view that
 // they look at, since on it they answer as on the whole.
 #[inline(always)]
-fn wave_answer(
-    topology: &Topology,
-    trees: &[TreeRegs],
-    waves: &[WaveRegs],
+fn wave_answer<P: Application>(
+    place: &Place<'_, P>,
     event: Event,
-    ix: usize,
+    named: Option<usize>,
 ) -> Result<Fired, StepRefusal>
     requires wave { is_of_tree event ≡ false }
-    requires place { position (λ i. i == event_node event) topology.now.ids ≡ Some ix }
-    requires all_trees { length trees.now ≡ length topology.now.ids }
-    requires all_waves { length waves.now ≡ length topology.now.ids }
-    ensures exact { MatchResult result (λ does. answer_of topology.now (node_bound topology.now) (tree_map topology.now trees.now) (wave_map topology.now waves.now) event ≡ Ok does)
-        (λ f. f ≢ StepRefusal.NoMemory → answer_of topology.now (node_bound topology.now) (tree_map topology.now trees.now) (wave_map topology.now waves.now) event ≡ Err f) }
+    requires node { place.now.id ≡ event_node event }
+    requires named { IsNamed place.now (named_node event) named }
+    ensures exact { MatchResult result (λ does. answer_at place.now event ≡ Ok does)
+        (λ f. f ≢ StepRefusal.NoMemory → answer_at place.now event ≡ Err f) }
 {
-    let child = child_looked_at(topology, trees, waves, event, ix);
-    let view = narrow_view(topology, trees, waves, child.as_slice(), event, ix);
+    let child = child_looked_at(place, event, named);
+    let view = narrow_view(place, event, child.as_slice());
     first_answer(&Seen::Wave(view), event.named(), event.cases())
 }
 

@@ -1,6 +1,5 @@
 use Rattle.std.proofs.Common.{◌≡◌, ◌==◌, not, drop, filter}
 use Rattle.std.specs.List.{find}
-use Rattle.std.specs.Option.{option_map}
 use Rattle.reset_machine.specs.Actions.{reads_near}
 use Rattle.reset_machine.proofs.decide.first_apart.Given as goal
 

@@ -4,4 +4,4 @@ use Rattle.reset_machine.specs.Enabled.{is_ready}
 use Rattle.reset_machine.proofs.enabled.ready_ids.Given as goal
 
 abbrev pub invariant-loop-ix : goal.invariant-loop-ix
-invariant-loop-ix g l = l.ready.items ≡ filter (is_ready g.P.Application.app (record { graph = l.topology; trees = l.trees; waves = l.waves; locals = l.locals })) (take l.ix l.topology.ids)
+invariant-loop-ix g l = l.ready.items ≡ filter (is_ready g.P.Application.app l.config) (take l.ix l.config.graph.ids)

@@ -1,10 +1,9 @@
 use Rattle.std.proofs.Common.{◌≡◌, map, slice_index, take}
-use Rattle.reset_machine.specs.Configuration.{Configuration}
 use Rattle.reset_machine.specs.View.{near_of}
 use Rattle.reset_machine.proofs.node_view.read_near.Given as goal
 
 -- the neighbours before the index have their registers and their local states
 abbrev pub invariant-loop-index : goal.invariant-loop-index
 invariant-loop-index g l =
-    let c : Configuration g.row.P-Local.Denot = record { graph = l.topology; trees = l.trees; waves = l.waves; locals = l.locals } in
-    l.near.items ≡ map (near_of g.P.Application.app c) (map (λ n. slice_index l.topology.ids n) (take l.index-index l.index-items))
+    let config = l.place.config in
+    l.near.items ≡ map (near_of g.P.Application.app config) (map (λ n. slice_index config.graph.ids n) (take l.index-index l.index-items))

@@ -1,4 +1,4 @@
-use Rattle.std.proofs.Common.{◌≡◌, ◌==◌, [], ◌∷◌, position, Ok, sym, subst, ap, ap₂, ◌∙◌}
+use Rattle.std.proofs.Common.{◌==◌, [], ◌∷◌, position, Ok, sym, subst, ap, ap₂, ◌∙◌}
 use Rattle.reset_machine.specs.declared.step.Done.TheVariants.{Did}
 use Rattle.reset_machine.specs.Planned.{after_effect}
 use Rattle.reset_machine.specs.View.{IsSeen}

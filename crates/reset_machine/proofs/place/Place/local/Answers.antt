@@ -1,0 +1,9 @@
+use Rattle.reset_machine.proofs.Places.{read_at-position}
+use Rattle.reset_machine.proofs.place.Place.local.Goals as goal
+
+pub returns : goal.returns
+returns g c =
+    let place = c.self.inside in
+    let now = place.config.now in
+    let read = rw c.locals.ensures.value at c.index-locals-self.is in
+    rw (← c.self.view_is) (read_at-position (g.P.Application.app.start now.graph place.id) now.graph.ids now.locals place.index place.id _ c.locals.ensures.shaped.locals c.self.invariant read)

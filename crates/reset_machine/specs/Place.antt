@@ -1,0 +1,52 @@
+-- A node of a configuration, with its place among the others, and what is seen and done from there.
+use Rattle.std.specs.Prelude.{◌≡◌, ℕ, ◌==◌, true, List, Option, Some, None, Result, position}
+use Rattle.app_interface.specs.Application.{App}
+use Rattle.topology.specs.Graph.{are_linked, neighbours_of, node_bound}
+use Rattle.tree_layer.specs.TreeTable as tree
+use Rattle.wave_layer.specs.WaveTable as wave
+use Rattle.reset_machine.specs.declared.event.Event.{Event}
+use Rattle.reset_machine.specs.declared.plan.Fired.{Fired}
+use Rattle.reset_machine.specs.declared.step.StepRefusal.{StepRefusal}
+use Rattle.reset_machine.specs.Actions.{fitted_of}
+use Rattle.reset_machine.specs.Configuration.{Configuration, local_of, tree_of, wave_of}
+use Rattle.reset_machine.specs.LocalSteps.{answer_of, tree_view_of, view_of}
+
+pub record NodePlace (L : Type 0) : Type 0 where
+  pub config : Configuration L
+  pub id : ℕ
+  pub index : ℕ
+
+-- the index is that of the identifier among the identifiers of all nodes
+abbrev pub IsPlace : {L : Type 0} → NodePlace L → Type 0
+IsPlace p = position (λ i. i == p.id) p.config.graph.ids ≡ Some p.index
+
+-- the index n is that of the neighbour with the identifier j
+abbrev pub IsNear : {L : Type 0} → NodePlace L → ℕ → ℕ → Type 0
+IsNear p j n = (position (λ i. i == j) p.config.graph.ids ≡ Some n) × (are_linked p.config.graph p.id j ≡ true)
+
+-- where another node is named, it is a neighbour, and this is its index
+abbrev pub IsNamed : {L : Type 0} → NodePlace L → Option ℕ → Option ℕ → Type 0
+IsNamed p None None = Unit {0}
+IsNamed p None (Some n) = ⊥
+IsNamed p (Some j) None = ⊥
+IsNamed p (Some j) (Some n) = IsNear p j n
+
+-- the identifiers of the neighbours, ascending
+abbrev pub near_ids : {L : Type 0} → NodePlace L → List ℕ
+near_ids p = neighbours_of p.config.graph p.id
+
+-- what the node sees of the tree, and of the wave
+abbrev pub tree_seen : {L : Type 0} → NodePlace L → tree.LocalView
+tree_seen p = tree_view_of p.config.graph (node_bound p.config.graph) (tree_of p.config) p.id
+
+abbrev pub wave_seen : {L : Type 0} → NodePlace L → wave.LocalView
+wave_seen p = view_of p.config.graph (tree_of p.config) (wave_of p.config) p.id
+
+-- what the rows of an event answer at its node
+abbrev pub answer_at : {L : Type 0} → NodePlace L → Event → Result Fired StepRefusal
+answer_at p e = answer_of p.config.graph (node_bound p.config.graph) (tree_of p.config) (wave_of p.config) e
+
+-- what a case of the application does at the node, with this choice of a neighbour
+abbrev pub fitted_at : {L : Type 0} → App L → NodePlace L → ℕ → Option ℕ → Result L StepRefusal
+fitted_at app p case with =
+    fitted_of app p.config.graph (node_bound p.config.graph) (wave_of p.config) (local_of app p.config) p.id case with

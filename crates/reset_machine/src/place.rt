@@ -1,0 +1,203 @@
+// A node of a configuration, as what happens at the node reads it.
+
+ghost use Rattle.std.specs.Prelude.{◌≡◌, ◌<◌, ◌==◌, All, IfErr, IfNone, IfOk, IfSome, OnErr, OnOk, Some};
+ghost use Rattle.std.specs.Prelude.{false, length, map, position, slice_index, true};
+ghost use Rattle.topology.specs.Graph.{IsGraph, IsNode, are_linked, node_bound};
+ghost use Rattle.reset_machine.specs.Configuration.{IsShaped, local_of, tree_of, wave_of};
+ghost use Rattle.reset_machine.specs.LocalSteps.{is_neighbour};
+
+use crate::config::Config;
+use crate::step::StepRefusal;
+use app_interface::Application;
+use std::marker::Model;
+use topology::Topology;
+use tree_layer::TreeRegs;
+use wave_layer::WaveRegs;
+
+/// A node of a configuration, by its identifier and its index. An event's node is looked up once, and
+/// all that happens there reads the configuration from here.
+#[derive(Drop)]
+pub struct Place<'a, P: Application> {
+    config: &'a Config<P>,
+    id: u32,
+    index: usize,
+}
+
+impl<'a, P: Application> Model for Place<'a, P> {
+    ghost use Rattle.reset_machine.specs.Place.{IsPlace, NodePlace};
+
+    ghost Value = { NodePlace P.Local };
+
+    ghost use Rattle.std.specs.Coded.{codes};
+    ghost use Rattle.topology.specs.Graph.{graph_code};
+
+    ghost coded = { Prim.hlevel (codes, graph_code) };
+
+    ghost view = { λ p. record { config = p.config.now; id = p.id; index = p.index } };
+
+    ghost invariant = { λ p. IsPlace (record { config = p.config.now; id = p.id; index = p.index }) };
+}
+
+impl<'a, P: Application> Place<'a, P> {
+    ghost use Rattle.reset_machine.specs.Place.{IsNamed, IsNear, IsPlace, near_ids};
+
+    /// The node with this identifier. None where there is no such node.
+    pub fn of(config: &'a Config<P>, id: u32) -> Option<Place<'a, P>>
+        ensures found { IfSome result (λ place. (place.config ≡ config.now) × (place.id ≡ id)) }
+        ensures node { IfSome result (λ _. IsNode config.now.graph id) }
+        ensures none { IfNone result (IsNode config.now.graph id → ⊥) }
+    {
+        match config.topology().index_of(id) {
+            Some(index) => Some(Place { config, id, index }),
+            None => None,
+        }
+    }
+
+    /// The node at this index.
+    pub fn at(config: &'a Config<P>, index: usize) -> Place<'a, P>
+        requires { index < length config.now.graph.ids }
+        ensures config { result.config ≡ config.now }
+        ensures id { result.id ≡ slice_index config.now.graph.ids index }
+        ensures index { result.index ≡ index }
+    {
+        config.is_graph();
+        let id = config.topology().ids()[index];
+        Place { config, id, index }
+    }
+
+    /// What each place is.
+    pub fn is_place(&self)
+        ensures graph { IsGraph self.now.config.graph }
+        ensures shaped { IsShaped self.now.config }
+        ensures place { IsPlace self.now }
+    {
+        self.config.is_graph();
+    }
+
+    /// The topology.
+    pub fn topology(&self) -> &'a Topology
+        ensures { result.now ≡ self.now.config.graph }
+    {
+        self.config.topology()
+    }
+
+    /// The node's identifier.
+    pub fn id(&self) -> u32
+        ensures { result ≡ self.now.id }
+    {
+        self.id
+    }
+
+    /// The node's index.
+    pub fn index(&self) -> usize
+        ensures index { result ≡ self.now.index }
+        ensures place { position (λ i. i == self.now.id) self.now.config.graph.ids ≡ Some result }
+    {
+        self.index
+    }
+
+    /// The bound K of the distances.
+    pub fn bound(&self) -> u32
+        ensures bound { result ≡ node_bound self.now.config.graph }
+        ensures positive { 0 < result }
+    {
+        let topology = self.config.topology();
+        topology.is_graph();
+        topology.len() as u32
+    }
+
+    /// The node's tree registers.
+    pub fn tree(&self) -> TreeRegs
+        ensures { result ≡ tree_of self.now.config self.now.id }
+    {
+        self.config.trees()[self.index]
+    }
+
+    /// The node's wave registers.
+    pub fn wave(&self) -> WaveRegs
+        ensures { result ≡ wave_of self.now.config self.now.id }
+    {
+        self.config.waves()[self.index]
+    }
+
+    /// The node's local state.
+    pub fn local(&self) -> &'a P::Local
+        ensures { result.now ≡ local_of P.app self.now.config self.now.id }
+    {
+        &self.config.locals()[self.index]
+    }
+
+    /// The local state that the node restarts with.
+    pub fn start(&self) -> &'a P::Local
+        ensures { result.now ≡ P.app.start self.now.config.graph self.now.id }
+    {
+        &self.config.starts()[self.index]
+    }
+
+    /// The indexes of the node's neighbours, ascending.
+    pub fn neighbours(&self) -> &'a [usize]
+        ensures ids { map (λ n. slice_index self.now.config.graph.ids n) result.now ≡ near_ids self.now }
+        ensures within { All (λ n. n < length self.now.config.graph.ids) result.now }
+    {
+        self.config.topology().neighbours(self.index)
+    }
+
+    /// The index of the neighbour with this identifier. None where it isn't a neighbour's.
+    pub fn neighbour(&self, id: u32) -> Option<usize>
+        ensures found { IfSome result (IsNear self.now id) }
+        ensures none { IfNone result (are_linked self.now.config.graph self.now.id id ≡ false) }
+    {
+        self.config.topology().neighbour_at(self.index, id)
+    }
+
+    /// The index of the neighbour that is named, if one is. A stranger is refused.
+    pub fn named(&self, other: Option<u32>) -> Result<Option<usize>, StepRefusal>
+        ensures ok { IfOk result (IsNamed self.now other) }
+        ensures near { OnOk result (is_neighbour self.now.config.graph self.now.id other ≡ true) }
+        ensures err { IfErr result (λ f. f ≡ StepRefusal.StrangeNeighbour) }
+        ensures stranger { OnErr result (is_neighbour self.now.config.graph self.now.id other ≡ false) }
+    {
+        match other {
+            None => Ok(None),
+            Some(id) => match self.neighbour(id) {
+                Some(index) => Ok(Some(index)),
+                None => Err(StepRefusal::StrangeNeighbour),
+            },
+        }
+    }
+
+    /// The identifier at this index.
+    pub fn id_at(&self, index: usize) -> u32
+        requires { index < length self.now.config.graph.ids }
+        ensures { result ≡ slice_index self.now.config.graph.ids index }
+    {
+        self.config.topology().ids()[index]
+    }
+
+    /// The tree registers at this index.
+    pub fn tree_at(&self, index: usize) -> TreeRegs
+        requires { index < length self.now.config.graph.ids }
+        ensures { result ≡ tree_of self.now.config (slice_index self.now.config.graph.ids index) }
+    {
+        self.config.is_graph();
+        self.config.trees()[index]
+    }
+
+    /// The wave registers at this index.
+    pub fn wave_at(&self, index: usize) -> WaveRegs
+        requires { index < length self.now.config.graph.ids }
+        ensures { result ≡ wave_of self.now.config (slice_index self.now.config.graph.ids index) }
+    {
+        self.config.is_graph();
+        self.config.waves()[index]
+    }
+
+    /// The local state at this index.
+    pub fn local_at(&self, index: usize) -> &'a P::Local
+        requires { index < length self.now.config.graph.ids }
+        ensures { result.now ≡ local_of P.app self.now.config (slice_index self.now.config.graph.ids index) }
+    {
+        self.config.is_graph();
+        &self.config.locals()[index]
+    }
+}
