@@ -1,0 +1,58 @@
+// Networks whose registers and local states are put by hand.
+
+use app_interface::Application;
+use link_predicates::{Family, LinkFault};
+use reset_machine::Config;
+use std::alloc::Global;
+use std::process::Abort;
+use topology::Topology;
+use tree_layer::TreeRegs;
+use wave_layer::{Phase, WaveRegs};
+
+/// The booted configuration of the nodes with these links.
+pub(crate) fn booted<P: Application>(
+    rt: &impl Abort,
+    alloc: Global,
+    nodes: &[u32],
+    links: &[(u32, u32)],
+) -> Config<P> {
+    let topology = Topology::build(alloc, nodes, links).expect(rt, "a graph");
+    match Config::<P>::boot(alloc, topology) {
+        Ok(config) => config,
+        Err(_) => panic!(rt; "memory for the graph"),
+    }
+}
+
+/// The line 1, 2, 3.
+pub(crate) fn line<P: Application>(rt: &impl Abort, alloc: Global) -> Config<P> {
+    booted::<P>(rt, alloc, &[1, 2, 3], &[(1, 2), (2, 3)])
+}
+
+pub(crate) fn tree(root: u32, father: u32, dist: u32) -> TreeRegs {
+    TreeRegs { root, father, dist }
+}
+
+pub(crate) fn wave(phase: Phase, session: u32) -> WaveRegs {
+    WaveRegs { phase, session }
+}
+
+pub(crate) fn fault(at: u32, other: u32, family: Family, row: u8) -> LinkFault {
+    LinkFault { at, other, family, row }
+}
+
+/// Puts the local state with this text at a node.
+pub(crate) fn put_text<P: Application>(
+    rt: &impl Abort,
+    alloc: Global,
+    config: &mut Config<P>,
+    id: u32,
+    text: &[u8],
+) {
+    match P::read_local(alloc, text) {
+        Ok(local) => match config.put_local(id, local) {
+            Ok(()) => {}
+            Err(_) => panic!(rt; "a node"),
+        },
+        Err(_) => panic!(rt; "a local state"),
+    }
+}
