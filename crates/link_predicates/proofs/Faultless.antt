@@ -107,7 +107,7 @@ module _ {L : Type 0} (app : App L) (c : Configuration L) (graph : IsGraph c.gra
     wave : (i j : ℕ) → AreLinked g i j → wave_row (near_of app c i) (near_of app c j) ≡ None
     wave i j linked =
         (no_wave i j (wave_row (near_of app c i) (near_of app c j)) (last i j)
-         (no_tree i j (tree_row g.bound (near_of app c i) (near_of app c j)) (later i j) (link i j linked)).1).0
+        (no_tree i j (tree_row g.bound (near_of app c i) (near_of app c j)) (later i j) (link i j linked)).1).0
 
     right : (i j : ℕ) (linked : AreLinked g i j) → (IsFather g t i j × Follows g g.bound t i) ⊎ Adopts g g.bound t i j → ⊥
     right i j linked = told_right _ (end_tells g g.bound t i j linked) (tree i j linked)

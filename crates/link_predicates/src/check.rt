@@ -106,7 +106,13 @@ fn add_node<P: Application>(
     ensures { OnOk result (found.new.items ≡ found.old.items ++ node_faults P.app config.now (slice_index config.now.graph.ids index)) }
 {
     let own = end_at(config, index);
-    add(found, own.id, own.id, Family::Tree, own_row(config, index, &own))?;
+    add(
+        found,
+        own.id,
+        own.id,
+        Family::Tree,
+        own_row(config, index, &own),
+    )?;
     add_links(found, config, index, &own)
 }
 
@@ -157,9 +163,27 @@ fn add_link<P: Application>(
     requires others { other.now.id ≢ own.now.id }
     ensures { OnOk result (found.new.items ≡ found.old.items ++ link_faults P.app k own.now other.now) }
 {
-    add(found, own.id, other.id, Family::Tree, rows::tree_row(k, own, other))?;
-    add(found, own.id, other.id, Family::Wave, rows::wave_row(own, other))?;
-    add(found, own.id, other.id, Family::App, rows::app_row(k, own, other))
+    add(
+        found,
+        own.id,
+        other.id,
+        Family::Tree,
+        rows::tree_row(k, own, other),
+    )?;
+    add(
+        found,
+        own.id,
+        other.id,
+        Family::Wave,
+        rows::wave_row(own, other),
+    )?;
+    add(
+        found,
+        own.id,
+        other.id,
+        Family::App,
+        rows::app_row(k, own, other),
+    )
 }
 
 // Adds the fault of a row, if one fails.
@@ -173,7 +197,12 @@ fn add(
     ensures { OnOk result (found.new.items ≡ found.old.items ++ fault_of at other family row) }
 {
     if let Some(row) = row {
-        found.push(LinkFault { at, other, family, row })?;
+        found.push(LinkFault {
+            at,
+            other,
+            family,
+            row,
+        })?;
     }
     Ok(())
 }

@@ -14,7 +14,9 @@ fn two_neighbours_that_are_in_raise_the_alarm(rt: HostRuntime) -> Result<(), Fai
     assert!(rt; alarm(&config, 2) == Some(fault(2, 1, Family::App, 1)));
     assert!(rt; alarm(&config, 3).is_none());
     let found = check_all(rt.alloc(), &config)?;
-    assert!(rt; found.as_slice() == &[fault(1, 2, Family::App, 1), fault(2, 1, Family::App, 1)]);
+    assert!(rt;
+        found.as_slice() == [fault(1, 2, Family::App, 1), fault(2, 1, Family::App, 1)].as_slice()
+    );
     Ok(())
 }
 

@@ -37,7 +37,12 @@ pub(crate) fn wave(phase: Phase, session: u32) -> WaveRegs {
 }
 
 pub(crate) fn fault(at: u32, other: u32, family: Family, row: u8) -> LinkFault {
-    LinkFault { at, other, family, row }
+    LinkFault {
+        at,
+        other,
+        family,
+        row,
+    }
 }
 
 /// Puts the local state with this text at a node.

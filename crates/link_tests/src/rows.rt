@@ -37,7 +37,10 @@ fn a_wrong_root_or_father_is_told_of_the_node(rt: HostRuntime) -> Result<(), Fai
         let mut config = booted::<Idle>(&rt, rt.alloc(), &[3], &[]);
         config.put_tree(3, regs)?;
         let found = check_all(rt.alloc(), &config)?;
-        assert!(rt; found.as_slice() == &[fault(3, 3, Family::Tree, row)], "row {row}");
+        assert!(rt;
+            found.as_slice() == [fault(3, 3, Family::Tree, row)].as_slice(),
+            "row {row}"
+        );
     }
     Ok(())
 }
@@ -54,7 +57,7 @@ fn a_wrong_distance_is_told_of_the_link(rt: HostRuntime) -> Result<(), Fail> {
         config.put_tree(1, own)?;
         config.put_tree(2, up)?;
         let found = check_node(rt.alloc(), &config, 1)?;
-        assert!(rt; found.as_slice() == &[told]);
+        assert!(rt; found.as_slice() == [told].as_slice());
     }
     Ok(())
 }
@@ -64,7 +67,7 @@ fn a_greater_root_is_told_of_the_link(rt: HostRuntime) -> Result<(), Fail> {
     let mut config = line::<Idle>(&rt, rt.alloc());
     config.put_tree(1, tree(5, 2, 0))?;
     let found = check_node(rt.alloc(), &config, 2)?;
-    assert!(rt; found.as_slice() == &[fault(2, 1, Family::Tree, 7)]);
+    assert!(rt; found.as_slice() == [fault(2, 1, Family::Tree, 7)].as_slice());
     Ok(())
 }
 
@@ -73,7 +76,7 @@ fn a_shorter_way_is_told(rt: HostRuntime) -> Result<(), Fail> {
     let mut config = booted::<Idle>(&rt, rt.alloc(), &[1, 2, 3], &[(1, 2), (2, 3), (1, 3)]);
     config.put_tree(1, tree(3, 2, 2))?;
     let found = check_all(rt.alloc(), &config)?;
-    assert!(rt; found.as_slice() == &[fault(1, 3, Family::Tree, 8)]);
+    assert!(rt; found.as_slice() == [fault(1, 3, Family::Tree, 8)].as_slice());
     Ok(())
 }
 
@@ -90,7 +93,10 @@ fn a_torn_wave_is_told_of_the_link(rt: HostRuntime) -> Result<(), Fail> {
         config.put_wave(1, own)?;
         config.put_wave(2, up)?;
         let found = check_node(rt.alloc(), &config, 1)?;
-        assert!(rt; found.as_slice() == &[fault(1, 2, Family::Wave, row)], "row {row}");
+        assert!(rt;
+            found.as_slice() == [fault(1, 2, Family::Wave, row)].as_slice(),
+            "row {row}"
+        );
     }
     Ok(())
 }
@@ -108,8 +114,11 @@ fn a_mended_reset_is_told_no_more(rt: HostRuntime) -> Result<(), Fail> {
     let mut config = line::<Idle>(&rt, rt.alloc());
     config.put_wave(1, wave(Phase::Reset, 0))?;
     let found = check_all(rt.alloc(), &config)?;
-    assert!(rt; found.as_slice() == &[fault(1, 2, Family::Wave, 8)]);
-    assert_eq!(rt; config.step(rt.alloc(), Event::Mend { at: 1 }), Ok(Reply::Applied));
+    assert!(rt; found.as_slice() == [fault(1, 2, Family::Wave, 8)].as_slice());
+    assert_eq!(rt;
+        config.step(rt.alloc(), Event::Mend { at: 1 }),
+        Ok(Reply::Applied)
+    );
     assert!(rt; check_all(rt.alloc(), &config)?.is_empty());
     Ok(())
 }
@@ -124,11 +133,12 @@ fn a_link_may_fail_in_each_family(rt: HostRuntime) -> Result<(), Fail> {
     let found = check_node(rt.alloc(), &config, 1)?;
     assert!(rt;
         found.as_slice()
-            == &[
+            == [
                 fault(1, 2, Family::Tree, 6),
                 fault(1, 2, Family::Wave, 8),
                 fault(1, 2, Family::App, 1),
             ]
+            .as_slice()
     );
     Ok(())
 }
@@ -140,6 +150,6 @@ fn sessions_apart_have_no_fault_of_the_application(rt: HostRuntime) -> Result<()
     put_text(&rt, rt.alloc(), &mut config, 2, b"in/0");
     config.put_wave(1, wave(Phase::Normal, 7))?;
     let found = check_node(rt.alloc(), &config, 1)?;
-    assert!(rt; found.as_slice() == &[fault(1, 2, Family::Wave, 9)]);
+    assert!(rt; found.as_slice() == [fault(1, 2, Family::Wave, 9)].as_slice());
     Ok(())
 }

@@ -27,8 +27,8 @@ loop-near-preserved g c =
     let before = c.loop-near.found.items in
     more_told_at (near_of app config) (link_faults app config.graph.bound c.args.own.now) config.graph.ids c.neighbours-near-items.result.now c.loop-near.near-index _ before _ c.loop-near-test.true
     (c.in_ok-add_link.ensures
-     ∙ ap (λ K. before ++ link_faults app K c.args.own.now c.end_at.result) c.bound_of-k.ensures.value
-     ∙ ap (λ other. before ++ link_faults app config.graph.bound c.args.own.now other) c.end_at.ensures)
+    ∙ ap (λ K. before ++ link_faults app K c.args.own.now c.end_at.result) c.bound_of-k.ensures.value
+    ∙ ap (λ other. before ++ link_faults app config.graph.bound c.args.own.now other) c.end_at.ensures)
     c.loop-near.invariant
 
 pub returns : goal.returns

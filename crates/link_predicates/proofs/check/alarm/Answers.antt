@@ -11,7 +11,7 @@ returns-in-Some-clause-found g c =
     let ids = config.graph.ids in
     let at = c.args.at in
     let there : position (λ i. i == at) ids ≡ Some c.in-Some.index =
-        ap (λ (graph : Graph). position (λ i. i == at) graph.ids) (sym c.topology.ensures) ∙ sym c.index_of.ensures ∙ c.in-Some.is in
+    ap (λ (graph : Graph). position (λ i. i == at) graph.ids) (sym c.topology.ensures) ∙ sym c.index_of.ensures ∙ c.in-Some.is in
     found_told c.alarm_at.result (alarm_of g.P.Application.app config at)
     (c.alarm_at.ensures ∙ ap (alarm_of g.P.Application.app config) (id_at-position ids c.in-Some.index at there))
     (Contains-position ids at c.in-Some.index there)
@@ -22,7 +22,7 @@ returns-in-Some-clause-none g c =
     let ids = config.graph.ids in
     let at = c.args.at in
     let there : position (λ i. i == at) ids ≡ Some c.in-Some.index =
-        ap (λ (graph : Graph). position (λ i. i == at) graph.ids) (sym c.topology.ensures) ∙ sym c.index_of.ensures ∙ c.in-Some.is in
+    ap (λ (graph : Graph). position (λ i. i == at) graph.ids) (sym c.topology.ensures) ∙ sym c.index_of.ensures ∙ c.in-Some.is in
     none_told (IsNode config.graph at) c.alarm_at.result (alarm_of g.P.Application.app config at)
     (c.alarm_at.ensures ∙ ap (alarm_of g.P.Application.app config) (id_at-position ids c.in-Some.index at there))
 
@@ -32,5 +32,5 @@ returns-in-None-clause-none g c = λ node.
     let ids = config.graph.ids in
     let at = c.args.at in
     let none : position (λ i. i == at) ids ≡ None =
-        ap (λ (graph : Graph). position (λ i. i == at) graph.ids) (sym c.topology.ensures) ∙ sym c.index_of.ensures ∙ c.in-None.is in
+    ap (λ (graph : Graph). position (λ i. i == at) graph.ids) (sym c.topology.ensures) ∙ sym c.index_of.ensures ∙ c.in-None.is in
     absurd (position-Contains ids at node none)

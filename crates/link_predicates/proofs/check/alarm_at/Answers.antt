@@ -22,7 +22,7 @@ returns-then-is_some g c =
     let some = sym c.is_some.ensures ∙ c.if-is_some.true in
     let Lists : Graph → Type 0 = λ h. map (λ n. slice_index h.ids n) near ≡ neighbours_of h (slice_index h.ids c.args.index) in
     sym (found_later is_of_app (near_of app config) links graph.ids near k c.loop-near-test.true
-         ∙ ap (λ o. option_or o rest) (sym fault) ∙ found_first c.link_alarm-fault.result rest some)
+    ∙ ap (λ o. option_or o rest) (sym fault) ∙ found_first c.link_alarm-fault.result rest some)
     ∙ c.loop-near.invariant
     ∙ ap (λ K. find is_of_app (flat_map (link_faults app K c.end_at-own.result) (at_indexes (near_of app config) graph.ids near))) c.bound_of-k.ensures.value
     ∙ ap (λ (n : Neighbour g.row.P-Local.Denot). find is_of_app (flat_map (link_faults app graph.bound n) (at_indexes (near_of app config) graph.ids near))) c.end_at-own.ensures
@@ -40,7 +40,7 @@ loop-near-preserved g c =
     let fault = c.link_alarm-fault.ensures ∙ ap (λ (n : Neighbour g.row.P-Local.Denot). find is_of_app (links n)) c.end_at.ensures in
     let none = sym c.is_some.ensures ∙ c.if-is_some.false in
     sym (found_later is_of_app (near_of app config) links ids near k c.loop-near-test.true
-         ∙ ap (λ o. option_or o rest) (sym fault) ∙ found_rest c.link_alarm-fault.result rest none)
+    ∙ ap (λ o. option_or o rest) (sym fault) ∙ found_rest c.link_alarm-fault.result rest none)
     ∙ c.loop-near.invariant
 
 pub returns : goal.returns
