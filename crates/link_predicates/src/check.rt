@@ -106,13 +106,8 @@ fn add_node<P: Application>(
     ensures { OnOk result (found.new.items ≡ found.old.items ++ node_faults P.app config.now (slice_index config.now.graph.ids index)) }
 {
     let own = end_at(config, index);
-    add(
-        found,
-        own.id,
-        own.id,
-        Family::Tree,
-        own_row(config, index, &own),
-    )?;
+    let row = own_row(config, index, &own);
+    add(found, own.id, own.id, Family::Tree, row)?;
     add_links(found, config, index, &own)
 }
 
@@ -163,27 +158,12 @@ fn add_link<P: Application>(
     requires others { other.now.id ≢ own.now.id }
     ensures { OnOk result (found.new.items ≡ found.old.items ++ link_faults P.app k own.now other.now) }
 {
-    add(
-        found,
-        own.id,
-        other.id,
-        Family::Tree,
-        rows::tree_row(k, own, other),
-    )?;
-    add(
-        found,
-        own.id,
-        other.id,
-        Family::Wave,
-        rows::wave_row(own, other),
-    )?;
-    add(
-        found,
-        own.id,
-        other.id,
-        Family::App,
-        rows::app_row(k, own, other),
-    )
+    let tree = rows::tree_row(k, own, other);
+    let wave = rows::wave_row(own, other);
+    let app = rows::app_row(k, own, other);
+    add(found, own.id, other.id, Family::Tree, tree)?;
+    add(found, own.id, other.id, Family::Wave, wave)?;
+    add(found, own.id, other.id, Family::App, app)
 }
 
 // Adds the fault of a row, if one fails.
