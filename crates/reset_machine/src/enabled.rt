@@ -2,22 +2,26 @@
 
 ghost use Rattle.std.specs.Prelude.{◌≡◌, if◌then◌else◌, map, Some, IfOk, is_ok};
 ghost use Rattle.std.specs.List.{list_any};
+ghost use Rattle.std.specs.List.Sorted.{IsStrictlyIncreasing};
 ghost use Rattle.action_tables.specs.Numbers.{is_among};
+ghost use Rattle.action_tables.specs.Table.{enabled_of};
 ghost use Rattle.topology.specs.Graph.{node_bound};
 ghost use Rattle.reset_machine.specs.Configuration.{local_of, wave_of};
 ghost use Rattle.reset_machine.specs.Enabled.{enabled_acts, enabled_rows, enabled_trees, enabled_waves};
 ghost use Rattle.reset_machine.specs.Enabled.{has_work, is_taken, ready_of};
 ghost use Rattle.reset_machine.specs.Place.{fitted_at, near_ids};
+ghost use Rattle.tree_layer.specs.TreeTable.{IsView, tree_table};
+ghost use Rattle.wave_layer.specs.WaveTable.{wave_table};
 
 use crate::action::{Choice, is_taken};
 use crate::config::Config;
 use crate::place::Place;
-use crate::view::{read_children, read_near_trees, tree_view, wave_view};
+use crate::view::{father_seen, read_children, read_near_trees};
 use action_tables::CaseSet;
 use app_interface::{Application, Reads};
 use std::alloc::{AllocError, Global};
-use tree_layer::{TreeRegs, tree_enabled};
-use wave_layer::{WaveRegs, wave_enabled};
+use tree_layer::{TreeRegs, TreeView, tree_enabled};
+use wave_layer::{FatherSeen, WaveRegs, WaveView, wave_enabled};
 
 // The request, the one row that is enabled wherever nothing is to be done.
 const REQUEST: u8 = 1;
@@ -75,8 +79,22 @@ fn enabled_trees<P: Application>(
 ) -> Result<CaseSet, AllocError>
     ensures { IfOk result (λ rows. rows ≡ enabled_trees place.now.config place.now.id) }
 {
+    place.is_place();
     read_near_trees(place, near)?;
-    Ok(tree_enabled(&tree_view(place, near)))
+    Ok(tree_rows(place.id(), place.bound(), place.tree(), near))
+}
+
+// The enabled rows of the tree table, where a node sees this. It is no application's, as wave_rows: so
+// that of each table there is one copy, which is inlined here.
+fn tree_rows(id: u32, bound: u32, own: TreeRegs, near: &[(u32, TreeRegs)]) -> CaseSet
+    requires { IsView id bound near.now }
+    ensures { result
+        ≡ enabled_of (tree_table (record { id = id; bound = bound; own = own; near = near.now }) near.now) }
+{
+    match TreeView::new(id, bound, own, near) {
+        Some(view) => tree_enabled(&view),
+        None => unreachable!(),
+    }
 }
 
 // The enabled rows of the wave table. The node's children are read into the vector.
@@ -86,8 +104,21 @@ fn enabled_waves<P: Application>(
 ) -> Result<CaseSet, AllocError>
     ensures { IfOk result (λ rows. rows ≡ enabled_waves place.now.config place.now.id) }
 {
+    place.is_place();
     read_children(place, children)?;
-    Ok(wave_enabled(&wave_view(place, children)))
+    Ok(wave_rows(place.wave(), father_seen(place), children))
+}
+
+// The enabled rows of the wave table, where a node sees this.
+fn wave_rows(own: WaveRegs, father: FatherSeen, children: &[(u32, WaveRegs)]) -> CaseSet
+    requires { IsStrictlyIncreasing (map (λ c. c.0) children.now) }
+    ensures { result
+        ≡ enabled_of (wave_table (record { own = own; father = father; children = children.now }) children.now) }
+{
+    match WaveView::new(own, father, children) {
+        Some(view) => wave_enabled(&view),
+        None => unreachable!(),
+    }
 }
 
 // The cases of the application that are enabled with some choice of a neighbour.

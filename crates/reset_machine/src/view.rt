@@ -8,7 +8,7 @@ use crate::place::Place;
 use app_interface::Application;
 use std::alloc::AllocError;
 use tree_layer::{TreeRegs, TreeView};
-use wave_layer::{FatherSeen, WaveRegs, WaveView};
+use wave_layer::{FatherSeen, WaveRegs};
 
 /// Reads the node's neighbours, and their tree registers, by ascending id, in place of what is in the
 /// vector. The room of one node serves the next.
@@ -55,21 +55,6 @@ pub fn read_children<P: Application>(
         }
     }
     Ok(())
-}
-
-/// What the node sees of the wave, from its children's registers.
-pub fn wave_view<'a, P: Application>(
-    place: &Place<'_, P>,
-    children: &'a [(u32, WaveRegs)],
-) -> WaveView<'a>
-    requires { children.now ≡ (wave_seen place.now).children }
-    ensures { result ≡ wave_seen place.now }
-{
-    place.is_place();
-    match WaveView::new(place.wave(), father_seen(place), children) {
-        Some(view) => view,
-        None => unreachable!(),
-    }
 }
 
 /// What the node's father register names.
