@@ -47,21 +47,6 @@ pub(crate) fn are_same<P: Application>(alloc: Global, a: &[u8], b: &[u8]) -> Res
     Ok(P::same(&copy, &b))
 }
 
-/// The rows of the link table that are told at the two ends of a link. Each end is an identifier and
-/// the text of a state.
-pub(crate) fn link_faults<P: Application>(
-    alloc: Global,
-    (a, a_text): (u32, &[u8]),
-    (b, b_text): (u32, &[u8]),
-) -> Result<(Option<u8>, Option<u8>), Fail> {
-    let at_a = P::read_local(alloc, a_text)?;
-    let at_b = P::read_local(alloc, b_text)?;
-    Ok((
-        P::link_ok(Here { id: a, k: 3 }, &at_a, b, &at_b),
-        P::link_ok(Here { id: b, k: 3 }, &at_b, a, &at_a),
-    ))
-}
-
 /// The text of the state that the case leaves; no text where it isn't enabled.
 pub(crate) fn acted<P: Application>(alloc: Global, step: Step<'_>) -> Result<Vec<u8>, Fail> {
     let own = P::read_local(alloc, step.own)?;

@@ -1,6 +1,6 @@
 // The token passes over the line 1, 2, 3.
 
-use crate::texts::{Step, acted, are_same, is_bad, link_faults, shown, started};
+use crate::texts::{Step, acted, are_same, fault_at, is_bad, shown, started};
 use app_interface::{Application, Reads};
 use app_token::Token;
 use std::test::Fail;
@@ -107,8 +107,12 @@ fn finds_faults_on_a_link(rt: HostRuntime) -> Result<(), Fail> {
         ("hold/7/-", "free/4/-", Some(2)),
         ("hold/7/-", "hold/4/-", Some(1)),
     ] {
-        let faults = link_faults::<Token>(rt.alloc(), (4, at_4.as_bytes()), (7, at_7.as_bytes()))?;
-        assert!(rt; faults == (row, row), "{at_4} at 4, {at_7} at 7");
+        for (id, own, other, theirs) in [(4, at_4, 7, at_7), (7, at_7, 4, at_4)] {
+            assert!(rt;
+                fault_at::<Token>(rt.alloc(), id, own.as_bytes(), other, theirs.as_bytes())? == row,
+                "{own} at {id}, {theirs} at {other}"
+            );
+        }
     }
     Ok(())
 }

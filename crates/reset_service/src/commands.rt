@@ -73,11 +73,14 @@ const TABLES_ABOUT: &str = "Prints the tables that the nodes act by";
 const TABLES_LONG_ABOUT: &str = "\
 Prints the tables that the nodes act by: the tree table, by which they build and mend the
 spanning tree, the wave table, by which resets travel on it, and the tables of the
-applications token, mutex and routes.
+applications token, mutex and routes; and then the link tables of these applications, whose
+rows say what a fault of a link is.
 
 A table is a line `table TITLE`, and then a line `NUMBER NAME | GUARD | EFFECT` for each
 row. A node may take a row where its guard holds, and then its registers change as the
-effect says. `enabled I` in a script gives the numbers of the rows that node I may take.";
+effect says. `enabled I` in a script gives the numbers of the rows that node I may take.
+A row of a link table is asked at each end of a link: own is the end at which it is asked,
+other the far end.";
 
 /// The command line: the program and its subcommands.
 pub fn command_line<'a>(alloc: Global) -> Result<Command<'a>, AllocError>

@@ -14,40 +14,33 @@ use std::io::Write;
 use tree_layer::tree_rows;
 use wave_layer::wave_rows;
 
-// The rows of a table, and the title above them.
+// The title of a table, and the rows below it.
 #[derive(Clone, Copy)]
-struct TitledRows<'a> {
-    title: &'a str,
-    rows: &'a [CaseRow<'a>],
-}
+struct TitledRows<'a>(&'a str, &'a [CaseRow<'a>]);
 
-/// Prints the table of the tree and that of the wave, and then those of the applications: the token,
-/// neighbour exclusion and the routes.
+/// Prints the table of the tree and that of the wave, then those of the applications: the token,
+/// neighbour exclusion and the routes, and then the tables of the applications' links in that order.
 pub fn print_tables<W: Write>(out: &mut W) -> Result<Status, RunStop>
     ensures leaves { (here : Standpoint) → Leaves (λ output. output ≡ (tables_text here, Good)) (W.contents out.old) (W.contents out.new) result }
     ensures stop { IfErr result (λ stop. stop ≢ RunStop.ReadFailed) }
 {
+    let tree = tree_rows();
+    let wave = wave_rows();
+    let token = app_token::app_rows();
+    let mutex = app_mutex::app_rows();
+    let routes = app_routes::app_rows();
+    let token_links = app_token::link_rows();
+    let mutex_links = app_mutex::link_rows();
+    let routes_links = app_routes::link_rows();
     let tables = [
-        TitledRows {
-            title: "tree",
-            rows: &tree_rows(),
-        },
-        TitledRows {
-            title: "wave",
-            rows: &wave_rows(),
-        },
-        TitledRows {
-            title: "token",
-            rows: &app_token::app_rows(),
-        },
-        TitledRows {
-            title: "mutex",
-            rows: &app_mutex::app_rows(),
-        },
-        TitledRows {
-            title: "routes",
-            rows: &app_routes::app_rows(),
-        },
+        TitledRows("tree", &tree),
+        TitledRows("wave", &wave),
+        TitledRows("token", &token),
+        TitledRows("mutex", &mutex),
+        TitledRows("routes", &routes),
+        TitledRows("token-links", &token_links),
+        TitledRows("mutex-links", &mutex_links),
+        TitledRows("routes-links", &routes_links),
     ];
     print_all(&tables, out)?;
     Ok(Status::Good)
@@ -58,8 +51,8 @@ fn print_all<W: Write>(tables: &[TitledRows<'_>], out: &mut W) -> Result<(), Wri
     ensures ok { OnOk result (Appends (W.contents out.old) (W.contents out.new) (flat_map titled_rows_text tables.now)) }
     ensures err { OnErr result (AppendsFront (W.contents out.old) (W.contents out.new) (flat_map titled_rows_text tables.now)) }
 {
-    for table in tables {
-        print_rows(table.title, table.rows, out)?;
+    for TitledRows(title, rows) in tables {
+        print_rows(title, rows, out)?;
     }
     Ok(())
 }

@@ -6,4 +6,6 @@ use Rattle.reset_service.proofs.tables.print_all.Goals as goal
 
 pub returns-in_err-print_rows-clause-err : goal.returns-in_err-print_rows-clause-err
 returns-in_err-print_rows-clause-err g c =
-    OnErr-always _ _ (AppendsFront-piece _ _ _ titled_rows_text c.args.tables.now c.loop-table.table-index _ (omega arith) c.loop-table.invariant c.in_err-print_rows.ensures.err)
+    OnErr-always _ _
+    (AppendsFront-piece _ _ _ titled_rows_text c.args.tables.now c.loop-title.title-index _ (omega arith)
+    c.loop-title.invariant c.in_err-print_rows.ensures.err)
