@@ -5,7 +5,6 @@
 
 mod answer;
 mod commands;
-mod faults;
 mod gather;
 mod input;
 mod replays;
