@@ -30,4 +30,4 @@ idle_keeps g bound are few = record {
 }
 
 pub idle_quiet : (g : Graph) (bound : ℕ) → IsGraph g → length g.ids ≤ bound → IsQuiet idle g bound (λ v. Unit {0})
-idle_quiet g bound are few = record { at = λ v inv i j linked. refl; }
+idle_quiet g bound are few = record { at = λ v inv i j linked. refl }
