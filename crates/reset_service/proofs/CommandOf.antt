@@ -13,7 +13,7 @@ use Rattle.reset_machine.specs.Words.{words_of}
 use Rattle.reset_machine.specs.declared.event.Event.TheVariants.{Claim, Follow, Adopt, Request, Relay, Open, Join, Finish, Mend, Act}
 use Rattle.reset_machine.proofs.EventLines.{action_small, first_bytes, one_event, same_number}
 use Rattle.reset_service.specs.declared.script.Command.{Command}
-use Rattle.reset_service.specs.declared.script.Command.TheVariants.{Step, Show, ShowNode, Newest, Enabled, Ready}
+use Rattle.reset_service.specs.declared.script.Command.TheVariants.{Step, Show, ShowNode, Newest, Enabled, Ready, Check, CheckNode}
 use Rattle.reset_service.specs.Script.{case_named, command_words, command_line, command_of, commands_with, in_words, with_name, is_name, actions_with, named_words, number_at, spellings, word_at, CommandFits, Spelling, Spells}
 use Rattle.reset_service.specs.Script.Spells.{by_words, by_name}
 use Rattle.reset_service.proofs.CommandLines.{words_of_line, no_event}
@@ -30,6 +30,8 @@ one_by_words (ShowNode a) (ShowNode b) p q h = ap ShowNode (same_number a b p q 
 one_by_words Newest Newest p q h = refl
 one_by_words (Enabled a) (Enabled b) p q h = ap Enabled (same_number a b p q (cc))
 one_by_words Ready Ready p q h = refl
+one_by_words Check Check p q h = refl
+one_by_words (CheckNode a) (CheckNode b) p q h = ap CheckNode (same_number a b p q (cc))
 one_by_words c d p q h = absurd (omega (arith, ap first_bytes h, ap length h))
 
 spelled_once : (names : ℕ → Option (List ℕ)) (line : List ℕ) (c d : Command) → Spells names line c → Spells names line d → c ≡ d
@@ -109,7 +111,7 @@ words_spell names line m n k p q r =
                       by_words p,
                       (
                         by_words (p, q),
-                        (by_words p, (by_words p, (by_words p, (by_words p, (by_words (p, case), (by_words (p, case, r), tt)))))),
+                        (by_words p, (by_words p, (by_words p, (by_words p, (by_words (p, case), (by_words (p, case, r), (by_words tt, (by_words p, tt)))))))),
                       ),
                     ),
                   ),
@@ -179,6 +181,8 @@ among (Step (Finish a)) h = inr (inr (inr (inr (inr (inr (inr (inr (inr (inr (in
 among (Step (Mend a)) h = inr (inr (inr (inr (inr (inr (inr (inr (inr (inr (inr (inr (inr (inl (ap (λ n. Step (Mend n)) (value a h)))))))))))))))
 among (Step (Act a b None)) h = inr (inr (inr (inr (inr (inr (inr (inr (inr (inr (inr (inr (inr (inr (inl (rw (value a h.0, case_value b h.1) refl)))))))))))))))
 among (Step (Act a b (Some j))) h = inr (inr (inr (inr (inr (inr (inr (inr (inr (inr (inr (inr (inr (inr (inr (inl (rw (value a h.0, case_value b h.1, value j h.2) refl))))))))))))))))
+among Check h = inr (inr (inr (inr (inr (inr (inr (inr (inr (inr (inr (inr (inr (inr (inr (inr (inl refl))))))))))))))))
+among (CheckNode a) h = inr (inr (inr (inr (inr (inr (inr (inr (inr (inr (inr (inr (inr (inr (inr (inr (inr (inl (ap CheckNode (value a h)))))))))))))))))))
 
 names_among : (names : ℕ → Option (List ℕ)) (line : List ℕ) (at : ℕ) (w : List ℕ) (with : Option ℕ) (c : Command) → Fits (Act at 0 with) → (b : Bool) → b ≡ true
     → line ≡ join_with_byte 32 (named_words at w with) → c ≡ Step (Act at (case_named names w) with) → (m k : ℕ) → m ≡ at → IfSome with (λ j. k ≡ j)

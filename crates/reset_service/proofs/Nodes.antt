@@ -12,10 +12,12 @@ use Rattle.reset_machine.specs.Enabled.{enabled_rows, ready_of}
 use Rattle.reset_machine.specs.declared.enabled.Enabled.{Enabled}
 use Rattle.reset_machine.specs.Configuration.{Configuration, tree_of, wave_of, local_of}
 use Rattle.reset_machine.specs.WavePicture.{HasJoined}
+use Rattle.link_predicates.specs.Faults.{faults, node_faults}
+use Rattle.link_predicates.specs.declared.fault.LinkFault.{LinkFault}
 use Rattle.reset_service.specs.Lines.{ended}
 use Rattle.reset_service.specs.Meaning.{Meaning}
 use Rattle.reset_machine.specs.Refinement.{has_joined}
-use Rattle.reset_service.specs.Output.{at_node, enabled_line, newest_head, newest_line, node_head, enabled_text, ready_line, ready_text, refusal_text, shown}
+use Rattle.reset_service.specs.Output.{at_node, enabled_line, newest_head, newest_line, node_head, enabled_text, faults_lines, faults_text, node_faults_lines, ready_line, ready_text, refusal_text, shown}
 
 or_first : (a b : Bool) → a ≡ true → (a || b) ≡ true
 or_first true b h = refl
@@ -72,6 +74,22 @@ enabled_node m c i rows node is = told_node c i (enabled_line m c i) node ∙ en
 pub ready_line-is : {L : Type 0} (m : Meaning L) (c : Configuration L) (ids : List ℕ) → ids ≡ ready_of m.app c → ready_line m c ≡ ready_text ids
 unfolding ready_line
 ready_line-is m c ids is = ap ready_text (sym is)
+
+-- ---- faults
+
+pub faults_lines-is : {L : Type 0} (m : Meaning L) (c : Configuration L) (told : List LinkFault) → told ≡ faults m.app c
+    → faults_lines m c ≡ faults_text told
+unfolding faults_lines
+faults_lines-is m c told is = ap faults_text (sym is)
+
+node_faults_lines-is : {L : Type 0} (m : Meaning L) (c : Configuration L) (i : ℕ) (told : List LinkFault) → told ≡ node_faults m.app c i
+    → node_faults_lines m c i ≡ faults_text told
+unfolding node_faults_lines
+node_faults_lines-is m c i told is = ap faults_text (sym is)
+
+pub faults_node : {L : Type 0} (m : Meaning L) (c : Configuration L) (i : ℕ) (told : List LinkFault) → IsNode c.graph i
+    → told ≡ node_faults m.app c i → at_node c i (node_faults_lines m c i) ≡ faults_text told
+faults_node m c i told node is = told_node c i (node_faults_lines m c i) node ∙ node_faults_lines-is m c i told is
 
 -- ---- the newest session
 

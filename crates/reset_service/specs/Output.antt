@@ -27,6 +27,10 @@ use Rattle.reset_machine.specs.Outcome.{IsBoot}
 use Rattle.reset_machine.specs.Planned.{outcome_of}
 use Rattle.reset_machine.specs.Enabled.{enabled_rows, ready_of}
 use Rattle.reset_machine.specs.Refinement.{has_joined}
+use Rattle.link_predicates.specs.Faults.{faults, node_faults}
+use Rattle.link_predicates.specs.declared.fault.Family.{Family}
+use Rattle.link_predicates.specs.declared.fault.Family.TheVariants.{Tree, Wave, App as OfApp}
+use Rattle.link_predicates.specs.declared.fault.LinkFault.{LinkFault}
 use Rattle.reset_machine.specs.declared.enabled.Enabled.{Enabled}
 use Rattle.action_tables.specs.RowText.{set_text}
 use Rattle.action_tables.specs.Written.{AppendsFront}
@@ -34,7 +38,7 @@ use Rattle.reset_service.specs.Lines.{ended, lines_of, IsCut}
 use Rattle.reset_service.specs.Meaning.{Meaning, idle_meaning, token_meaning, mutex_meaning, routes_meaning}
 use Rattle.reset_service.specs.Script.{line_of}
 use Rattle.reset_service.specs.declared.script.Command.{Command}
-use Rattle.reset_service.specs.declared.script.Command.TheVariants.{Step, Show, ShowNode, Newest, Ready}
+use Rattle.reset_service.specs.declared.script.Command.TheVariants.{Step, Show, ShowNode, Newest, Ready, Check, CheckNode}
 use Rattle.reset_service.specs.declared.script.Command.TheVariants as command
 use Rattle.reset_service.specs.declared.script.Line.{Line}
 use Rattle.reset_service.specs.declared.script.Line.TheVariants.{Silent, Asks, Bad}
@@ -98,6 +102,21 @@ abbrev pub ready_text : List ℕ → List ℕ
 ready_text [] = ended (codes "ready -")
 ready_text (id ∷ ids) = ended (codes "ready" ++ flat_map spaced (id ∷ ids))
 
+abbrev pub family_name : Family → List ℕ
+family_name Tree = codes "tree"
+family_name Wave = codes "wave"
+family_name OfApp = codes "app"
+
+-- the line of a fault: at which end of which link, and the row
+abbrev pub fault_line : LinkFault → List ℕ
+fault_line fault =
+    concat (codes "link " ∷ decimal fault.at ∷ codes " " ∷ decimal fault.other ∷ codes " " ∷ family_name fault.family
+    ∷ codes " " ∷ decimal fault.row ∷ ended [] ∷ [])
+
+-- the lines of faults, and their number
+abbrev pub faults_text : List LinkFault → List ℕ
+faults_text told = flat_map fault_line told ++ numbered (codes "faults ") (length told)
+
 abbrev pub graph_fault_text : TopoFault → List ℕ
 graph_fault_text NoNodes = ended (codes "bad topology NoNodes")
 graph_fault_text TooManyNodes = ended (codes "bad topology TooManyNodes")
@@ -150,6 +169,14 @@ enabled_line m c i = enabled_text i (enabled_rows m.app c i)
 unfoldable pub ready_line : {L : Type 0} → Meaning L → Configuration L → List ℕ
 ready_line m c = ready_text (ready_of m.app c)
 
+-- what is told of the faults of all nodes. It stays folded: unfolded, it has all the tables
+unfoldable pub faults_lines : {L : Type 0} → Meaning L → Configuration L → List ℕ
+faults_lines m c = faults_text (faults m.app c)
+
+-- what is told of those of a node
+unfoldable pub node_faults_lines : {L : Type 0} → Meaning L → Configuration L → ℕ → List ℕ
+node_faults_lines m c i = faults_text (node_faults m.app c i)
+
 -- the answer where the identifier is that of a node, and a refusal elsewhere
 abbrev pub at_node : {L : Type 0} → Configuration L → ℕ → List ℕ → List ℕ
 at_node c i text = if list_any (λ k. k == i) c.graph.ids then text else refusal_text StrangeNode
@@ -162,6 +189,8 @@ answered m c (ShowNode i) = (c, at_node c i (shown m c i))
 answered m c Newest = (c, flat_map (newest_line m c) c.graph.ids)
 answered m c (command.Enabled i) = (c, at_node c i (enabled_line m c i))
 answered m c Ready = (c, ready_line m c)
+answered m c Check = (c, faults_lines m c)
+answered m c (CheckNode i) = (c, at_node c i (node_faults_lines m c i))
 
 -- what a line leaves: the configuration, what is written, and whether the line is good
 pub record Answer (L : Type 0) : Type 0 where

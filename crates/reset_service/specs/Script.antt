@@ -1,5 +1,5 @@
 -- The lines of a script, and the commands that they spell.
-use Rattle.std.specs.Prelude.{◌≡◌, ℕ, ◌<◌, ◌^◌, ◌%◌, nat_lt, ◌==◌, Bool, true, false, ◌&&◌, if◌then◌else◌, List, [], ◌∷◌, ◌++◌, map, length, codes, slice_index_or, unwrap_or, option_map, IsTrue, Option, Some, None}
+use Rattle.std.specs.Prelude.{◌≡◌, ℕ, ◌<◌, ◌^◌, ◌%◌, nat_lt, ◌==◌, Bool, true, false, ◌&&◌, ◌⊎◌, if◌then◌else◌, List, [], ◌∷◌, ◌++◌, map, length, codes, slice_index_or, unwrap_or, option_map, IsTrue, Option, Some, None}
 use Rattle.std.specs.Char.{is_ascii_alphabetic, is_ascii_graphic}
 use Rattle.std.specs.Fmt.{decimal}
 use Rattle.std.specs.List.{find, join_with_byte, list_all}
@@ -10,7 +10,7 @@ use Rattle.reset_machine.specs.EventText.{event_words, neighbour_words, Fits}
 use Rattle.reset_machine.specs.Words.{words_of}
 use Rattle.reset_machine.specs.declared.event.Event.TheVariants.{Claim, Follow, Adopt, Request, Relay, Open, Join, Finish, Mend, Act}
 use Rattle.reset_service.specs.declared.script.Command.{Command}
-use Rattle.reset_service.specs.declared.script.Command.TheVariants.{Step, Show, ShowNode, Newest, Enabled, Ready}
+use Rattle.reset_service.specs.declared.script.Command.TheVariants.{Step, Show, ShowNode, Newest, Enabled, Ready, Check, CheckNode}
 use Rattle.reset_service.specs.declared.script.Line.{Line}
 use Rattle.reset_service.specs.declared.script.Line.TheVariants.{Silent, Asks, Bad}
 
@@ -22,6 +22,13 @@ command_words (ShowNode at) = codes "show" ∷ decimal at ∷ []
 command_words Newest = codes "newest" ∷ []
 command_words (Enabled at) = codes "enabled" ∷ decimal at ∷ []
 command_words Ready = codes "ready" ∷ []
+command_words Check = codes "check" ∷ []
+command_words (CheckNode at) = codes "check" ∷ decimal at ∷ []
+
+-- the words ask something about the node with this identifier
+abbrev pub AsksAbout : ℕ → List (List ℕ) → Type 0
+AsksAbout at words =
+    (words ≡ command_words (ShowNode at)) ⊎ ((words ≡ command_words (Enabled at)) ⊎ (words ≡ command_words (CheckNode at)))
 
 -- the one line of a command with its case, if it has one, by number: its words, with a space between each two
 abbrev pub command_line : Command → List ℕ
@@ -35,6 +42,8 @@ CommandFits (ShowNode at) = at < 2 ^ 32
 CommandFits Newest = Unit {0}
 CommandFits (Enabled at) = at < 2 ^ 32
 CommandFits Ready = Unit {0}
+CommandFits Check = Unit {0}
+CommandFits (CheckNode at) = at < 2 ^ 32
 
 -- ---- cases by name
 
@@ -90,7 +99,7 @@ abbrev pub commands_with : ℕ → ℕ → ℕ → List Command
 commands_with m n k =
     Show ∷ ShowNode m ∷ Newest ∷ Enabled m ∷ Ready ∷ Step (Claim m) ∷ Step (Follow m) ∷ Step (Adopt m n)
     ∷ Step (Request m) ∷ Step (Relay m n) ∷ Step (Open m) ∷ Step (Join m) ∷ Step (Finish m) ∷ Step (Mend m)
-    ∷ Step (Act m (n % 2 ^ 8) None) ∷ Step (Act m (n % 2 ^ 8) (Some k)) ∷ []
+    ∷ Step (Act m (n % 2 ^ 8) None) ∷ Step (Act m (n % 2 ^ 8) (Some k)) ∷ Check ∷ CheckNode m ∷ []
 
 -- the actions with these numbers and with this name, if it is one
 abbrev pub actions_with : (ℕ → Option (List ℕ)) → ℕ → List ℕ → ℕ → List Spelling

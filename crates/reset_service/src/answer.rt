@@ -7,6 +7,7 @@ ghost use Rattle.reset_machine.specs.Planned.{outcome_of};
 ghost use Rattle.reset_service.specs.Meaning.{meaning_of};
 ghost use Rattle.reset_service.specs.Output.{answered, stepped, bad_line_text, bad_topology_text, graph_fault_text, numbered, refusal_text, reply_text, too_long_text, numbered_twice};
 
+use crate::faults::{answer_check, answer_check_node};
 use crate::rows::{answer_enabled, answer_ready};
 use crate::script::Command;
 use crate::show::{show_all, show_newest, show_node};
@@ -80,8 +81,8 @@ fn put_node_fault<W: Write>(out: &mut W, text: &[u8], id: u32) -> Result<(), Wri
     put_numbered(out, text, u64::from(id))
 }
 
-// Writes a line that ends with a number.
-fn put_numbered<W: Write>(out: &mut W, text: &[u8], number: u64) -> Result<(), WriteFault>
+/// Writes a line that ends with a number.
+pub fn put_numbered<W: Write>(out: &mut W, text: &[u8], number: u64) -> Result<(), WriteFault>
     ensures ok { OnOk result (Appends (W.contents out.old) (W.contents out.new) (numbered text.now number)) }
     ensures err { OnErr result (AppendsFront (W.contents out.old) (W.contents out.new) (numbered text.now number)) }
 {
@@ -127,6 +128,8 @@ pub fn answer<P: Application, W: Write>(
         Command::Newest => Ok(show_newest(config, out)?),
         Command::Enabled(at) => answer_enabled(alloc, config, at, out),
         Command::Ready => answer_ready(alloc, config, out),
+        Command::Check => answer_check(alloc, config, out),
+        Command::CheckNode(at) => answer_check_node(alloc, config, at, out),
     }
 }
 

@@ -5,6 +5,7 @@
 
 mod answer;
 mod commands;
+mod faults;
 mod gather;
 mod input;
 mod replays;

@@ -8,8 +8,8 @@ ghost use Rattle.reset_machine.specs.EventText.{Fits, neighbour_words};
 ghost use Rattle.reset_machine.specs.Words.{words_of};
 ghost use Rattle.reset_machine.specs.declared.event.Event.TheVariants.{Act};
 ghost use Rattle.reset_service.specs.declared.script.Command.{Command};
-ghost use Rattle.reset_service.specs.declared.script.Command.TheVariants.{Enabled, ShowNode, Step};
-ghost use Rattle.reset_service.specs.Script.{CommandFits, Spells, case_named, command_line, command_words, command_of, is_called, is_name, is_silent, line_of, named_words};
+ghost use Rattle.reset_service.specs.declared.script.Command.TheVariants.{Step};
+ghost use Rattle.reset_service.specs.Script.{AsksAbout, CommandFits, Spells, case_named, command_line, command_words, command_of, is_called, is_name, is_silent, line_of, named_words};
 
 use action_tables::read_number;
 use app_interface::Application;
@@ -39,6 +39,10 @@ pub enum Command {
     Enabled(u32),
     /// That the nodes with something to do be named.
     Ready,
+    /// That the faults of all nodes be told.
+    Check,
+    /// That the faults of this node be told.
+    CheckNode(u32),
 }
 
 /// A line of a script, without its line feed.
@@ -162,6 +166,7 @@ fn by_one_word(word: &[u8]) -> Option<Command>
         b"show" => Some(Command::Show),
         b"newest" => Some(Command::Newest),
         b"ready" => Some(Command::Ready),
+        b"check" => Some(Command::Check),
         _ => None,
     }
 }
@@ -182,11 +187,12 @@ fn by_more_words(word: &[u8], rest: &[u8]) -> Option<Command>
 fn question_of(word: &[u8], rest: &[u8]) -> Option<Command>
     ensures found { IfSome result (λ command. word.now ∷ words_of rest.now ≡ command_words command) }
     ensures fits { IfSome result CommandFits }
-    ensures only { IfNone result ((at : ℕ) → at < 2 ^ 32 → (word.now ∷ words_of rest.now ≡ command_words (ShowNode at)) ⊎ (word.now ∷ words_of rest.now ≡ command_words (Enabled at)) → ⊥) }
+    ensures only { IfNone result ((at : ℕ) → at < 2 ^ 32 → AsksAbout at (word.now ∷ words_of rest.now) → ⊥) }
 {
     match word {
         b"show" => Some(Command::ShowNode(read_number(rest)?)),
         b"enabled" => Some(Command::Enabled(read_number(rest)?)),
+        b"check" => Some(Command::CheckNode(read_number(rest)?)),
         _ => None,
     }
 }

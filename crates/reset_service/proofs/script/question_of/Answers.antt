@@ -18,3 +18,10 @@ returns-in_err-read_number-in-enabled-clause-only c = rw c.from_residual-in_err-
 pub returns-in_ok-read_number-in-enabled-clause-found : goal.returns-in_ok-read_number-in-enabled-clause-found
 returns-in_ok-read_number-in-enabled-clause-found c =
     one_found c.args.word.now c.args.rest.now (codes "enabled") c.in_ok-read_number-in-enabled.field-0 (text_from_reads c.args.word.now (codes "enabled") (omega arith) (omega arith, (omega arith, (omega arith, (omega arith, (omega arith, (omega arith, (omega arith, tt)))))))) c.in_ok-read_number-in-enabled.ensures.found (search rules)
+
+pub returns-in_err-read_number-in-check-clause-only : goal.returns-in_err-read_number-in-check-clause-only
+returns-in_err-read_number-in-check-clause-only c = rw c.from_residual-in_err-read_number-in-check.ensures (no_question c.args.word.now c.args.rest.now c.in_err-read_number-in-check.ensures.only)
+
+pub returns-in_ok-read_number-in-check-clause-found : goal.returns-in_ok-read_number-in-check-clause-found
+returns-in_ok-read_number-in-check-clause-found c =
+    one_found c.args.word.now c.args.rest.now (codes "check") c.in_ok-read_number-in-check.field-0 (text_from_reads c.args.word.now (codes "check") (omega arith) (omega arith, (omega arith, (omega arith, (omega arith, (omega arith, tt)))))) c.in_ok-read_number-in-check.ensures.found (search rules)
