@@ -1,6 +1,6 @@
 -- A command's line has the command's words, and no other command has them.
 use Rattle.std.specs.Prelude.{codes}
-use Rattle.std.proofs.Common.{◌≡◌, ◌⊎◌, inl, inr, ℕ, ◌<◌, ◌^◌, List, [], ◌∷◌, refl, sym, ap, ◌∙◌, Option, None, Some, IfNone, Bool, true, false, ◌==◌, ◌||◌, true≢false}
+use Rattle.std.proofs.Common.{◌≡◌, inl, inr, ℕ, ◌<◌, ◌^◌, List, [], ◌∷◌, refl, sym, ap, ◌∙◌, Option, None, Some, IfNone, Bool, true, false, ◌==◌, ◌||◌, true≢false}
 use Rattle.std.specs.Fmt.{decimal}
 use Rattle.reset_machine.specs.EventText.{event_words, Fits}
 use Rattle.reset_machine.specs.Words.{words_of}
@@ -9,7 +9,7 @@ use Rattle.reset_machine.specs.declared.event.Event.TheVariants.{Claim, Follow, 
 use Rattle.reset_machine.proofs.EventLines.{first_bytes, two_bytes, words_of-decimal, words_of-event_line}
 use Rattle.reset_machine.proofs.WordLines.{words_of-some, line-words}
 use Rattle.reset_service.specs.declared.script.Command.{Command}
-use Rattle.reset_service.specs.declared.script.Command.TheVariants.{Step, Show, ShowNode, Newest, Enabled, Ready, Check, CheckNode}
+use Rattle.reset_service.specs.declared.script.Command.TheVariants.{Step, Show, ShowNode, Newest, Enabled, Ready, Check, CheckNode, Alarm, Watch}
 use Rattle.reset_service.specs.Script.{command_words, command_line, AsksAbout, CommandFits}
 
 pub words_of-command_line : (c : Command) → CommandFits c → words_of (command_line c) ≡ command_words c
@@ -21,6 +21,8 @@ words_of-command_line (Enabled at) h = ap (λ ws. codes "enabled" ∷ ws) (words
 words_of-command_line Ready h = refl
 words_of-command_line Check h = refl
 words_of-command_line (CheckNode at) h = ap (λ ws. codes "check" ∷ ws) (words_of-decimal at h)
+words_of-command_line (Alarm at) h = ap (λ ws. codes "alarm" ∷ ws) (words_of-decimal at h)
+words_of-command_line (Watch at) h = ap (λ ws. codes "watch" ∷ ws) (words_of-decimal at h)
 
 -- the words of a command's line
 pub words_of_line : (line : List ℕ) (c : Command) → CommandFits c → line ≡ command_line c → command_words c ≡ words_of line
@@ -29,8 +31,10 @@ words_of_line line c fits is = sym (words_of-command_line c fits) ∙ ap words_o
 -- the words begin as those of a command that is no event
 abbrev pub begins_no_event : List (List ℕ) → Bool
 begins_no_event ws =
-    first_bytes ws == two_bytes (codes "show") || first_bytes ws == two_bytes (codes "newest") || first_bytes ws == two_bytes (codes "enabled") || first_bytes ws == two_bytes (codes "ready")
-    || first_bytes ws == two_bytes (codes "check")
+    first_bytes ws == two_bytes (codes "show") || first_bytes ws == two_bytes (codes "newest")
+    || first_bytes ws == two_bytes (codes "enabled") || first_bytes ws == two_bytes (codes "ready")
+    || first_bytes ws == two_bytes (codes "check") || first_bytes ws == two_bytes (codes "alarm")
+    || first_bytes ws == two_bytes (codes "watch")
 
 event_begins : (e : Event) → begins_no_event (event_words e) ≡ false
 event_begins (Claim at) = refl
@@ -54,7 +58,9 @@ pub no_question : (word rest : List ℕ) → ((n : ℕ) → n < 2 ^ 32 → rest 
     → AsksAbout at (word ∷ words_of rest) → ⊥
 no_question word rest none at small (inl is) = none at small (line-words rest (decimal at ∷ []) (cc))
 no_question word rest none at small (inr (inl is)) = none at small (line-words rest (decimal at ∷ []) (cc))
-no_question word rest none at small (inr (inr is)) = none at small (line-words rest (decimal at ∷ []) (cc))
+no_question word rest none at small (inr (inr (inl is))) = none at small (line-words rest (decimal at ∷ []) (cc))
+no_question word rest none at small (inr (inr (inr (inl is)))) = none at small (line-words rest (decimal at ∷ []) (cc))
+no_question word rest none at small (inr (inr (inr (inr is)))) = none at small (line-words rest (decimal at ∷ []) (cc))
 
 -- what is neither an event nor a question is no command of a word and more
 pub no_command : (word rest : List ℕ) (o : Option Command) → ((e : Event) → Fits e → word ∷ words_of rest ≡ event_words e → ⊥)
@@ -71,4 +77,6 @@ no_command word rest None event question = none
     none (Enabled at) fits is = question at fits (inr (inl is))
     none Ready fits is = words_of-some rest (cc)
     none Check fits is = words_of-some rest (cc)
-    none (CheckNode at) fits is = question at fits (inr (inr is))
+    none (CheckNode at) fits is = question at fits (inr (inr (inl is)))
+    none (Alarm at) fits is = question at fits (inr (inr (inr (inl is))))
+    none (Watch at) fits is = question at fits (inr (inr (inr (inr is))))

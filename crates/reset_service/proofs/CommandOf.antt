@@ -1,5 +1,5 @@
 -- The command of a line is the one that it spells.
-use Rattle.std.proofs.Common.{◌≡◌, ℕ, ◌<◌, ◌^◌, ◌%◌, Bool, true, false, ◌⊎◌, inl, inr, List, [], ◌∷◌, ◌++◌, map, refl, sym, ap, ◌∙◌, true≢false, arith, length, Option, Some, None, IfSome, IfNone, cond, option_map, if◌then◌else◌}
+use Rattle.std.proofs.Common.{◌≡◌, ℕ, zero, suc, ◌<◌, ◌^◌, ◌%◌, Bool, true, false, ◌⊎◌, inl, inr, List, [], ◌∷◌, ◌++◌, map, refl, sym, ap, ap₂, ◌∙◌, true≢false, arith, length, slice_get, Option, Some, None, IfSome, IfNone, cond, option_map, if◌then◌else◌}
 use Rattle.std.specs.Fmt.{decimal}
 use Rattle.std.specs.List.{find, join_with_byte}
 use Rattle.std.specs.Str.{bytes_eq}
@@ -13,7 +13,7 @@ use Rattle.reset_machine.specs.Words.{words_of}
 use Rattle.reset_machine.specs.declared.event.Event.TheVariants.{Claim, Follow, Adopt, Request, Relay, Open, Join, Finish, Mend, Act}
 use Rattle.reset_machine.proofs.EventLines.{action_small, first_bytes, one_event, same_number}
 use Rattle.reset_service.specs.declared.script.Command.{Command}
-use Rattle.reset_service.specs.declared.script.Command.TheVariants.{Step, Show, ShowNode, Newest, Enabled, Ready, Check, CheckNode}
+use Rattle.reset_service.specs.declared.script.Command.TheVariants.{Step, Show, ShowNode, Newest, Enabled, Ready, Check, CheckNode, Alarm, Watch}
 use Rattle.reset_service.specs.Script.{case_named, command_words, command_line, command_of, commands_with, in_words, with_name, is_name, actions_with, named_words, number_at, spellings, word_at, CommandFits, Spelling, Spells}
 use Rattle.reset_service.specs.Script.Spells.{by_words, by_name}
 use Rattle.reset_service.proofs.CommandLines.{words_of_line, no_event}
@@ -32,6 +32,8 @@ one_by_words (Enabled a) (Enabled b) p q h = ap Enabled (same_number a b p q (cc
 one_by_words Ready Ready p q h = refl
 one_by_words Check Check p q h = refl
 one_by_words (CheckNode a) (CheckNode b) p q h = ap CheckNode (same_number a b p q (cc))
+one_by_words (Alarm a) (Alarm b) p q h = ap Alarm (same_number a b p q (cc))
+one_by_words (Watch a) (Watch b) p q h = ap Watch (same_number a b p q (cc))
 one_by_words c d p q h = absurd (omega (arith, ap first_bytes h, ap length h))
 
 spelled_once : (names : ℕ → Option (List ℕ)) (line : List ℕ) (c d : Command) → Spells names line c → Spells names line d → c ≡ d
@@ -111,7 +113,7 @@ words_spell names line m n k p q r =
                       by_words p,
                       (
                         by_words (p, q),
-                        (by_words p, (by_words p, (by_words p, (by_words p, (by_words (p, case), (by_words (p, case, r), (by_words tt, (by_words p, tt)))))))),
+                        (by_words p, (by_words p, (by_words p, (by_words p, (by_words (p, case), (by_words (p, case, r), (by_words tt, (by_words p, (by_words p, (by_words p, tt)))))))))),
                       ),
                     ),
                   ),
@@ -154,35 +156,35 @@ value n h = ap (λ v. v % 2 ^ 32) ((decimal_is_IsNumeral n (omega arith)).1) ∙
 case_value : (n : ℕ) → n < 2 ^ 8 → (digits_value 10 (decimal n) % 2 ^ 32) % 2 ^ 8 ≡ n
 case_value n h = ap (λ v. v % 2 ^ 8) (value n (omega (arith, h))) ∙ mod-eq_of_lt h
 
--- the command is one of those
-abbrev IsIn : Command → List Command → Type 0
-IsIn c [] = ⊥
-IsIn c (d ∷ ds) = (d ≡ c) ⊎ IsIn c ds
+-- a command that stands at a place
+has_in : (line : List ℕ) (c : Command) (cs : List Command) (n : ℕ) → line ≡ command_line c → slice_get cs n ≡ Some c → Has line c (map in_words cs)
+has_in line c [] n is at = absurd (cc)
+has_in line c (d ∷ ds) zero is at = let same : d ≡ c = cc in inl (is ∙ ap command_line (sym same), same)
+has_in line c (d ∷ ds) (suc n) is at = inr (has_in line c ds n is at)
 
-has_in : (line : List ℕ) (c : Command) (cs : List Command) → line ≡ command_line c → IsIn c cs → Has line c (map in_words cs)
-has_in line c [] is h = absurd h
-has_in line c (d ∷ ds) is (inl same) = inl (is ∙ ap command_line (sym same), same)
-has_in line c (d ∷ ds) is (inr later) = inr (has_in line c ds is later)
-
-among : (c : Command) → CommandFits c → IsIn c (commands_with (number_at (command_words c) 1) (number_at (command_words c) 2) (number_at (command_words c) 3))
-among Show h = inl refl
-among (ShowNode a) h = inr (inl (ap ShowNode (value a h)))
-among Newest h = inr (inr (inl refl))
-among (Enabled a) h = inr (inr (inr (inl (ap Enabled (value a h)))))
-among Ready h = inr (inr (inr (inr (inl refl))))
-among (Step (Claim a)) h = inr (inr (inr (inr (inr (inl (ap (λ n. Step (Claim n)) (value a h)))))))
-among (Step (Follow a)) h = inr (inr (inr (inr (inr (inr (inl (ap (λ n. Step (Follow n)) (value a h))))))))
-among (Step (Adopt a b)) h = inr (inr (inr (inr (inr (inr (inr (inl (rw (value a h.0, value b h.1) refl))))))))
-among (Step (Request a)) h = inr (inr (inr (inr (inr (inr (inr (inr (inl (ap (λ n. Step (Request n)) (value a h))))))))))
-among (Step (Relay a b)) h = inr (inr (inr (inr (inr (inr (inr (inr (inr (inl (rw (value a h.0, value b h.1) refl))))))))))
-among (Step (Open a)) h = inr (inr (inr (inr (inr (inr (inr (inr (inr (inr (inl (ap (λ n. Step (Open n)) (value a h))))))))))))
-among (Step (Join a)) h = inr (inr (inr (inr (inr (inr (inr (inr (inr (inr (inr (inl (ap (λ n. Step (Join n)) (value a h)))))))))))))
-among (Step (Finish a)) h = inr (inr (inr (inr (inr (inr (inr (inr (inr (inr (inr (inr (inl (ap (λ n. Step (Finish n)) (value a h))))))))))))))
-among (Step (Mend a)) h = inr (inr (inr (inr (inr (inr (inr (inr (inr (inr (inr (inr (inr (inl (ap (λ n. Step (Mend n)) (value a h)))))))))))))))
-among (Step (Act a b None)) h = inr (inr (inr (inr (inr (inr (inr (inr (inr (inr (inr (inr (inr (inr (inl (rw (value a h.0, case_value b h.1) refl)))))))))))))))
-among (Step (Act a b (Some j))) h = inr (inr (inr (inr (inr (inr (inr (inr (inr (inr (inr (inr (inr (inr (inr (inl (rw (value a h.0, case_value b h.1, value j h.2) refl))))))))))))))))
-among Check h = inr (inr (inr (inr (inr (inr (inr (inr (inr (inr (inr (inr (inr (inr (inr (inr (inl refl))))))))))))))))
-among (CheckNode a) h = inr (inr (inr (inr (inr (inr (inr (inr (inr (inr (inr (inr (inr (inr (inr (inr (inr (inl (ap CheckNode (value a h)))))))))))))))))))
+-- the place of a command with its own numbers
+among : (c : Command) → CommandFits c
+    → (n : ℕ) × (slice_get (commands_with (number_at (command_words c) 1) (number_at (command_words c) 2) (number_at (command_words c) 3)) n ≡ Some c)
+among Show h = (0, refl)
+among (ShowNode a) h = (1, (ap (λ n. Some (ShowNode n)) (value a h)))
+among Newest h = (2, refl)
+among (Enabled a) h = (3, (ap (λ n. Some (Enabled n)) (value a h)))
+among Ready h = (4, refl)
+among (Step (Claim a)) h = (5, (ap (λ n. Some (Step (Claim n))) (value a h)))
+among (Step (Follow a)) h = (6, (ap (λ n. Some (Step (Follow n))) (value a h)))
+among (Step (Adopt a b)) h = (7, (ap₂ (λ m n. Some (Step (Adopt m n))) (value a h.0) (value b h.1)))
+among (Step (Request a)) h = (8, (ap (λ n. Some (Step (Request n))) (value a h)))
+among (Step (Relay a b)) h = (9, (ap₂ (λ m n. Some (Step (Relay m n))) (value a h.0) (value b h.1)))
+among (Step (Open a)) h = (10, (ap (λ n. Some (Step (Open n))) (value a h)))
+among (Step (Join a)) h = (11, (ap (λ n. Some (Step (Join n))) (value a h)))
+among (Step (Finish a)) h = (12, (ap (λ n. Some (Step (Finish n))) (value a h)))
+among (Step (Mend a)) h = (13, (ap (λ n. Some (Step (Mend n))) (value a h)))
+among (Step (Act a b None)) h = (14, (ap₂ (λ m n. Some (Step (Act m n None))) (value a h.0) (case_value b h.1)))
+among (Step (Act a b (Some j))) h = (15, (rw (value a h.0, case_value b h.1, value j h.2) refl))
+among Check h = (16, refl)
+among (CheckNode a) h = (17, (ap (λ n. Some (CheckNode n)) (value a h)))
+among (Alarm a) h = (18, (ap (λ n. Some (Alarm n)) (value a h)))
+among (Watch a) h = (19, (ap (λ n. Some (Watch n)) (value a h)))
 
 names_among : (names : ℕ → Option (List ℕ)) (line : List ℕ) (at : ℕ) (w : List ℕ) (with : Option ℕ) (c : Command) → Fits (Act at 0 with) → (b : Bool) → b ≡ true
     → line ≡ join_with_byte 32 (named_words at w with) → c ≡ Step (Act at (case_named names w) with) → (m k : ℕ) → m ≡ at → IfSome with (λ j. k ≡ j)
@@ -200,7 +202,7 @@ spelled_among names line c (by_words fits is) =
     let ws = command_words c in
     rw (← words_of_line line c fits is)
     (has_later line c (actions_with names (number_at ws 1) (word_at ws 2) (number_at ws 3)) _
-    (has_in line c (commands_with (number_at ws 1) (number_at ws 2) (number_at ws 3)) is (among c fits)))
+    (has_in line c (commands_with (number_at ws 1) (number_at ws 2) (number_at ws 3)) (among c fits).0 is (among c fits).1))
 spelled_among names line c (by_name at w with fits name is made) =
     let ws = named_words at w with in
     rw (words_of-named line at w with fits name is)

@@ -5,6 +5,7 @@ pub mod CommandLines
 pub mod CommandOf
 pub mod CaseNames
 pub mod Nodes
+pub mod Watching
 pub mod Jobs
 pub mod PathRows
 pub mod Subcommands

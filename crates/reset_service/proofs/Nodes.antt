@@ -1,6 +1,6 @@
 -- Which nodes can be shown, and what is answered of the enabled rows.
 use Rattle.std.specs.Prelude.{codes}
-use Rattle.std.proofs.Common.{◌≡◌, ◌≢◌, ℕ, zero, suc, ◌<◌, nat_eq, Bool, true, false, ◌||◌, ◌++◌, if◌then◌else◌, List, [], ◌∷◌, refl, sym, ap, ◌∙◌, arith, length, get_or, Contains}
+use Rattle.std.proofs.Common.{◌≡◌, ◌≢◌, ℕ, zero, suc, ◌<◌, nat_eq, Bool, true, false, ◌||◌, ◌++◌, if◌then◌else◌, List, [], ◌∷◌, refl, sym, ap, ◌∙◌, arith, length, get_or, Contains, position, is_some, ◌==◌, true≢false, Option, Some, None, IfSome, IfNone}
 use Rattle.std.specs.List.{list_any}
 use Rattle.std.proofs.lemmas.Bool.Decides.{nat_tests}
 use Rattle.std.proofs.lemmas.Grind.{get_or_default_zero}
@@ -12,12 +12,14 @@ use Rattle.reset_machine.specs.Enabled.{enabled_rows, ready_of}
 use Rattle.reset_machine.specs.declared.enabled.Enabled.{Enabled}
 use Rattle.reset_machine.specs.Configuration.{Configuration, tree_of, wave_of, local_of}
 use Rattle.reset_machine.specs.WavePicture.{HasJoined}
-use Rattle.link_predicates.specs.Faults.{faults, node_faults}
+use Rattle.reset_machine.proofs.Places.{Contains-position, list_any-position}
+use Rattle.app_interface.specs.Application.{App}
+use Rattle.link_predicates.specs.Faults.{alarm_of, faults, node_faults}
 use Rattle.link_predicates.specs.declared.fault.LinkFault.{LinkFault}
 use Rattle.reset_service.specs.Lines.{ended}
 use Rattle.reset_service.specs.Meaning.{Meaning}
 use Rattle.reset_machine.specs.Refinement.{has_joined}
-use Rattle.reset_service.specs.Output.{at_node, enabled_line, newest_head, newest_line, node_head, enabled_text, faults_lines, faults_text, node_faults_lines, ready_line, ready_text, refusal_text, shown}
+use Rattle.reset_service.specs.Output.{after_alarm, alarm_line, alarm_text, at_node, enabled_line, faults_status, found_status, has_node, newest_head, newest_line, node_head, enabled_text, faults_lines, faults_text, node_faults_lines, ready_line, ready_text, refusal_text, shown, watched}
 
 or_first : (a b : Bool) → a ≡ true → (a || b) ≡ true
 or_first true b h = refl
@@ -42,12 +44,25 @@ absent (x ∷ xs) i h =
     let apart : x ≢ i = λ e. h (0, omega arith, e) in
     or_neither (nat_eq x i) (list_any (λ n. nat_eq n i) xs) (grind (arith, nat_tests)) (absent xs i (λ m. h (suc m.0, omega (arith, m.1), m.2)))
 
+pub node_there : {L : Type 0} (c : Configuration L) (i : ℕ) → IsNode c.graph i → has_node c i ≡ true
+node_there c i node = present c.graph.ids i node.0 node.1 node.2
+
+pub no_node_there : {L : Type 0} (c : Configuration L) (i : ℕ) → (IsNode c.graph i → ⊥) → has_node c i ≡ false
+no_node_there c i none = absent c.graph.ids i none
+
+pub node_of : {L : Type 0} (c : Configuration L) (i : ℕ) → has_node c i ≡ true → IsNode c.graph i
+node_of c i there = go (position (λ k. k == i) c.graph.ids) refl
+  where
+    go : (o : Option ℕ) → position (λ k. k == i) c.graph.ids ≡ o → IsNode c.graph i
+    go (Some n) is = Contains-position c.graph.ids i n is
+    go None is = absurd (true≢false (sym there ∙ list_any-position c.graph.ids i ∙ ap is_some is))
+
 -- the text of a node is told at it, and a refusal elsewhere
 pub told_node : {L : Type 0} (c : Configuration L) (i : ℕ) (text : List ℕ) → IsNode c.graph i → at_node c i text ≡ text
-told_node c i text node = ap (λ (b : Bool). if b then text else refusal_text StrangeNode) (present c.graph.ids i node.0 node.1 node.2)
+told_node c i text node = ap (λ (b : Bool). if b then text else refusal_text StrangeNode) (node_there c i node)
 
 pub told_none : {L : Type 0} (c : Configuration L) (i : ℕ) (text : List ℕ) → (IsNode c.graph i → ⊥) → at_node c i text ≡ refusal_text StrangeNode
-told_none c i text none = ap (λ (b : Bool). if b then text else refusal_text StrangeNode) (absent c.graph.ids i none)
+told_none c i text none = ap (λ (b : Bool). if b then text else refusal_text StrangeNode) (no_node_there c i none)
 
 -- ---- the nodes by index
 
@@ -90,6 +105,37 @@ node_faults_lines-is m c i told is = ap faults_text (sym is)
 pub faults_node : {L : Type 0} (m : Meaning L) (c : Configuration L) (i : ℕ) (told : List LinkFault) → IsNode c.graph i
     → told ≡ node_faults m.app c i → at_node c i (node_faults_lines m c i) ≡ faults_text told
 faults_node m c i told node is = told_node c i (node_faults_lines m c i) node ∙ node_faults_lines-is m c i told is
+
+pub faults_status-is : {L : Type 0} (m : Meaning L) (c : Configuration L) (told : List LinkFault) → told ≡ faults m.app c
+    → found_status told ≡ faults_status m c
+unfolding faults_status
+faults_status-is m c told is = ap found_status is
+
+-- ---- alarms
+
+-- what is told of a node is its alarm
+pub told_alarm : {L : Type 0} (app : App L) (c : Configuration L) (i : ℕ) (told : Option LinkFault) → IsNode c.graph i
+    → IfSome told (λ fault. IsNode c.graph i × (alarm_of app c i ≡ Some fault)) → IfNone told (IsNode c.graph i → alarm_of app c i ≡ None)
+    → told ≡ alarm_of app c i
+told_alarm app c i (Some fault) node found none = sym found.1
+told_alarm app c i None node found none = sym (none node)
+
+alarm_line-is : {L : Type 0} (m : Meaning L) (c : Configuration L) (i : ℕ) (told : Option LinkFault) → told ≡ alarm_of m.app c i
+    → alarm_line m c i ≡ alarm_text told
+unfolding alarm_line
+alarm_line-is m c i told is = ap alarm_text (sym is)
+
+pub alarm_node : {L : Type 0} (m : Meaning L) (c : Configuration L) (i : ℕ) (told : Option LinkFault) → IsNode c.graph i
+    → told ≡ alarm_of m.app c i → at_node c i (alarm_line m c i) ≡ alarm_text told
+alarm_node m c i told node is = told_node c i (alarm_line m c i) node ∙ alarm_line-is m c i told is
+
+-- what is told of a node that watches, and what it then does
+pub watched-is : {L : Type 0} (m : Meaning L) (c : Configuration L) (i : ℕ) (told : Option LinkFault) → told ≡ alarm_of m.app c i
+    → watched m c i ≡ ((after_alarm m c i told).0, alarm_text told ++ (after_alarm m c i told).1)
+unfolding watched alarm_line
+watched-is {L = L} m c i told is =
+    let answer : Option LinkFault → Configuration L × List ℕ = λ o. ((after_alarm m c i o).0, alarm_text o ++ (after_alarm m c i o).1) in
+    ap answer (sym is)
 
 -- ---- the newest session
 

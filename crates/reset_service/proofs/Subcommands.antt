@@ -3,10 +3,10 @@ use Rattle.std.proofs.Common.{◌≡◌, ◌∙◌, ◌&&◌, ◌||◌, not, ℕ
 use Rattle.std.specs.List.{fold, slice_index_or}
 use Rattle.std.specs.Option.{option_map_or}
 use Rattle.std.specs.Str.{bytes_eq}
-use Rattle.std.specs.Prelude.{⊤, IsSome, is_some, option_map}
+use Rattle.std.specs.Prelude.{⊤, is_some, option_map}
 use Rattle.std.proofs.lemmas.Slice.Eq.{bytes_eq-Decides}
 use Rattle.clap.specs.Lexer.{long_of, short_of}
-use Rattle.clap.specs.Words.{App, Kinds, Row, Rule, Shape, Text, built, fault_of, first_of, is_simple, is_simple_and_free, new_rule, subcommand_of}
+use Rattle.clap.specs.Words.{App, Kinds, Row, Rule, Shape, Text, built, fault_of, is_simple, is_simple_and_free, new_app, new_rule, subcommand_of, with_subcommand}
 use Rattle.clap.specs.Kinds.{or_else}
 use Rattle.clap.specs.Simple.{argument_words, entered, label_of, names_of, rows_at}
 use Rattle.clap.specs.Takes.{is_given}
@@ -16,7 +16,7 @@ use Rattle.clap.specs.declared.error.ErrorKind.TheVariants.{DisplayHelp, Invalid
 use Rattle.clap.specs.Walk.{Held, Names, Outcome, Step, Waiting, Walk, after_flag, after_step, answers_to, arg_by_index, bundle, has_long, has_short, settled, long_met, arg_by_long, long_or_other, nothing_held, plain_word, short_or_plain, subcommand_met, subcommand_or_other, to_positional, walk, walk_from, walked, walked_from, word_met}
 use Rattle.clap.specs.Walk.{done, waits, plain, refused, idle, option, positional, next, trailing, subcommand, value}
 use Rattle.clap.proofs.OnLiterals.{clap_on_literals}
-use Rattle.reset_service.specs.Words.{HasJob, faults_of, program, replay_command, tables_command}
+use Rattle.reset_service.specs.Words.{HasJob, HasTexts, faults_of, program, tables_command, texts_command}
 use Rattle.reset_service.proofs.PathRows.{HasQuietFlags, MakesNoRow, Filled-finished, IsFilled-walk, given_has_value}
 
 -- ---- no kind of error
@@ -114,53 +114,60 @@ module _ (s : Shape) (has_help : s.disable_help_subcommand ≡ false) where
 
 -- ---- the program
 
-abbrev the_replay : Shape
-the_replay = slice_index_or (built program).subs 0 replay_command.top
+-- a subcommand with two paths, as it is built
+abbrev the_texts : Text → Shape
+the_texts name =
+    slice_index_or (built (with_subcommand (new_app (codes "reset-service")) (texts_command name).top)).subs 0 (texts_command name).top
 
 abbrev the_tables : Shape
-the_tables = slice_index_or (built program).subs 1 replay_command.top
+the_tables = slice_index_or (built program).subs 2 tables_command.top
 
 abbrev the_help : Shape
-the_help = slice_index_or (built program).subs 2 replay_command.top
+the_help = slice_index_or (built program).subs 3 tables_command.top
 
-abbrev help_flag : Rule
-help_flag = slice_index_or the_replay.rules 2 (new_rule [])
+abbrev help_flag : Text → Rule
+help_flag name = slice_index_or (the_texts name).rules 2 (new_rule [])
 
--- the flags of `replay` are those of help, which make no row
-quiet_help : (b : Bool) → MakesNoRow (cond b (Some help_flag) None)
-unfolding program replay_command tables_command
-quiet_help true = (refl, λ rows. refl)
-quiet_help false = tt
+-- its flags are those of help, which make no row
+quiet_help : (name : Text) (b : Bool) → MakesNoRow (cond b (Some (help_flag name)) None)
+unfolding texts_command
+quiet_help name true = (refl, λ rows. refl)
+quiet_help name false = tt
 
-quiet_flags : HasQuietFlags the_replay.rules
-unfolding program replay_command tables_command
-quiet_flags = record { long = λ name. quiet_help (has_long help_flag name); short = λ x. quiet_help (has_short help_flag x) }
+quiet_flags : (name : Text) → HasQuietFlags (the_texts name).rules
+unfolding texts_command
+quiet_flags name = record {
+  long = λ flag. quiet_help name (has_long (help_flag name) flag);
+  short = λ x. quiet_help name (has_short (help_flag name) x);
+}
 
 both_given : (a b : Bool) (k : ErrorKind) → cond (not a || (not b || false)) (k ∷ []) [] ≡ [] → (a ≡ true) × (b ≡ true)
 both_given true true k e = (refl, refl)
 both_given true false k e = absurd (cc)
 both_given false b k e = absurd (cc)
 
--- the rows of a replay without a fault
-abbrev rows_of_replay : List Text → List Row
-rows_of_replay words = (rows_at the_replay words).1
+-- the rows of the words after it
+abbrev rows_of_texts : Text → List Text → List Row
+rows_of_texts name words = (rows_at (the_texts name) words).1
 
-paths_given : (words : List Text) → level_fault the_replay [] nothing_held words false [] ≡ []
-    → (is_given (codes "TOPOLOGY") (rows_of_replay words) ≡ true) × (is_given (codes "SCRIPT") (rows_of_replay words) ≡ true)
-unfolding program replay_command tables_command
-paths_given words e =
-    let walked_well = or_else-nil (walk_fault the_replay [] (walk_from nothing_held) words) _ e in
-    let settled_well = or_else-nil (settle_fault the_replay.rules false (walk the_replay.rules [] nothing_held words).held) _ walked_well.1 in
-    let filled_well = or_else-nil (defaults_fault (settled the_replay.rules (walk the_replay.rules [] nothing_held words).held).rows the_replay.rules) _ settled_well.1 in
-    both_given (is_given (codes "TOPOLOGY") (rows_of_replay words)) (is_given (codes "SCRIPT") (rows_of_replay words)) MissingRequiredArgument filled_well.1
+paths_given : (name : Text) (words : List Text) → level_fault (the_texts name) [] nothing_held words false [] ≡ []
+    → (is_given (codes "TOPOLOGY") (rows_of_texts name words) ≡ true) × (is_given (codes "SCRIPT") (rows_of_texts name words) ≡ true)
+unfolding texts_command
+paths_given name words e =
+    let s = the_texts name in
+    let walked_well = or_else-nil (walk_fault s [] (walk_from nothing_held) words) _ e in
+    let settled_well = or_else-nil (settle_fault s.rules false (walk s.rules [] nothing_held words).held) _ walked_well.1 in
+    let filled_well = or_else-nil (defaults_fault (settled s.rules (walk s.rules [] nothing_held words).held).rows s.rules) _ settled_well.1 in
+    both_given (is_given (codes "TOPOLOGY") (rows_of_texts name words)) (is_given (codes "SCRIPT") (rows_of_texts name words)) MissingRequiredArgument filled_well.1
 
-paths_valued : (words : List Text) → level_fault the_replay [] nothing_held words false [] ≡ []
-    → IsSome (first_of (codes "TOPOLOGY") (rows_of_replay words)) × IsSome (first_of (codes "SCRIPT") (rows_of_replay words))
-paths_valued words e =
-    let filled = Filled-finished the_replay.rules (walk the_replay.rules [] nothing_held words).held
-    (IsFilled-walk the_replay.rules quiet_flags [] (walk_from nothing_held) words (tt, tt)) in
-    let given = paths_given words e in
-    (given_has_value (codes "TOPOLOGY") (rows_of_replay words) filled given.0, given_has_value (codes "SCRIPT") (rows_of_replay words) filled given.1)
+-- where clap finds no fault in them, they have a value for each path
+has_texts : (name : Text) (words : List Text) → level_fault (the_texts name) [] nothing_held words false [] ≡ [] → HasTexts (rows_of_texts name words)
+has_texts name words e =
+    let s = the_texts name in
+    let filled = Filled-finished s.rules (walk s.rules [] nothing_held words).held
+    (IsFilled-walk s.rules (quiet_flags name) [] (walk_from nothing_held) words (tt, tt)) in
+    let given = paths_given name words e in
+    (given_has_value (codes "TOPOLOGY") (rows_of_texts name words) filled given.0, given_has_value (codes "SCRIPT") (rows_of_texts name words) filled given.1)
 
 -- `==` of texts reads both ways
 bytes_eq-swap : (xs ys : List ℕ) → bytes_eq xs ys ≡ false → (bytes_eq ys xs || false) ≡ true → ⊥
@@ -170,29 +177,38 @@ bytes_eq-swap xs ys differs same = true≢false (sym ((bytes_eq-Decides xs ys).1
     go true e = refl
     go false e = e
 
-abbrev sub_met : Bool → Bool → Bool → Option Shape
-sub_met a b c = cond a (Some the_replay) (cond b (Some the_tables) (cond c (Some the_help) None))
+abbrev the_replay : Shape
+the_replay = the_texts (codes "replay")
+
+abbrev the_check : Shape
+the_check = the_texts (codes "check")
+
+-- the subcommand whose name is the word: `replay`, `check`, `tables` or `help`
+abbrev sub_met : Bool → Bool → Bool → Bool → Option Shape
+sub_met a b c d = cond a (Some the_replay) (cond b (Some the_check) (cond c (Some the_tables) (cond d (Some the_help) None)))
 
 abbrev fault_at : List Text → Option Shape → Kinds
 fault_at words sub = option_map_or (λ s. level_fault s [] nothing_held words false []) sub []
 
-job_of_sub : (p : Text × List Text) → bytes_eq p.0 (codes "help") ≡ false → (a b c : Bool) → answers_to p.0 (label_of the_help) ≡ c
-    → fault_at p.1 (sub_met a b c) ≡ [] → HasJob (option_map (λ s. rows_at s p.1) (sub_met a b c))
-unfolding program replay_command tables_command
-job_of_sub p no_help true b c h f = let valued = paths_valued p.1 f in inl (refl, valued.0, valued.1)
-job_of_sub p no_help false true c h f = inr refl
-job_of_sub p no_help false false true h f = absurd (bytes_eq-swap p.0 (codes "help") no_help h)
-job_of_sub p no_help false false false h f = tt
+job_of_sub : (p : Text × List Text) → bytes_eq p.0 (codes "help") ≡ false → (a b c d : Bool) → answers_to p.0 (label_of the_help) ≡ d
+    → fault_at p.1 (sub_met a b c d) ≡ [] → HasJob (option_map (λ s. rows_at s p.1) (sub_met a b c d))
+unfolding program texts_command tables_command
+job_of_sub p no_help true b c d h f = inl (inl refl, has_texts (codes "replay") p.1 f)
+job_of_sub p no_help false true c d h f = inl (inr refl, has_texts (codes "check") p.1 f)
+job_of_sub p no_help false false true d h f = inr refl
+job_of_sub p no_help false false false true h f = absurd (bytes_eq-swap p.0 (codes "help") no_help h)
+job_of_sub p no_help false false false false h f = tt
 
 job_at : (stop : Option (Text × List Text)) → IsNoHelp stop → entered_fault (built program) stop ≡ [] → HasJob (entered (built program) stop)
-unfolding program replay_command tables_command
+unfolding program texts_command tables_command
 job_at None no_help e = tt
 job_at (Some p) no_help e =
-    job_of_sub p no_help (answers_to p.0 (label_of the_replay)) (answers_to p.0 (label_of the_tables)) (answers_to p.0 (label_of the_help)) refl e
+    job_of_sub p no_help (answers_to p.0 (label_of the_replay)) (answers_to p.0 (label_of the_check)) (answers_to p.0 (label_of the_tables))
+    (answers_to p.0 (label_of the_help)) refl e
 
 -- words in which clap finds no fault ask for a job
 pub has_job : (words : List Text) → fault_of program words ≡ [] → HasJob (subcommand_of program words)
-unfolding program replay_command tables_command
+unfolding program texts_command tables_command
 has_job words e =
     let a : App = built program in
     let given : List Text = argument_words program words in
@@ -204,11 +220,11 @@ has_job words e =
 -- ---- the answer of clap for a command that is the program
 
 program_is_simple : is_simple program ≡ true
-unfolding program replay_command tables_command clap_on_literals
+unfolding program texts_command tables_command clap_on_literals
 program_is_simple = refl
 
 program_is_free : is_simple_and_free program ≡ true
-unfolding program replay_command tables_command clap_on_literals
+unfolding program texts_command tables_command clap_on_literals
 program_is_free = refl
 
 pub faults_are : (a : App) (words : List Text) (P : Kinds → Type 0) → a ≡ program → (is_simple_and_free a ≡ true → P (fault_of a words)) → P (faults_of words)

@@ -1,5 +1,5 @@
 -- What a run writes.
-use Rattle.std.specs.Prelude.{◌≡◌, ℕ, ◌+◌, ◌<◌, ◌≤◌, nat_lt, ◌==◌, if◌then◌else◌, ◌⊎◌, List, [], ◌∷◌, ◌++◌, length, codes, Option, Result, Ok, Err}
+use Rattle.std.specs.Prelude.{◌≡◌, ℕ, ◌+◌, ◌<◌, ◌≤◌, nat_lt, ◌==◌, Bool, if◌then◌else◌, ◌⊎◌, List, [], ◌∷◌, ◌++◌, length, codes, Option, Some, None, Result, Ok, Err}
 use Rattle.std.specs.Fmt.{decimal}
 use Rattle.std.specs.Io.KnownBytes.{Appends, Keeps}
 use Rattle.std.specs.List.{concat, flat_map, list_any}
@@ -18,6 +18,7 @@ use Rattle.tree_layer.specs.declared.regs.TreeRegs.{TreeRegs}
 use Rattle.wave_layer.specs.declared.regs.WaveRegs.{WaveRegs}
 use Rattle.wave_layer.specs.declared.regs.Phase.{Phase}
 use Rattle.wave_layer.specs.declared.regs.Phase.TheVariants.{Normal, Initiate, Reset}
+use Rattle.reset_machine.specs.declared.event.Event.TheVariants.{Request}
 use Rattle.reset_machine.specs.declared.step.Reply.{Reply}
 use Rattle.reset_machine.specs.declared.step.Reply.TheVariants.{Applied, Complete}
 use Rattle.reset_machine.specs.declared.step.StepRefusal.{StepRefusal}
@@ -27,7 +28,7 @@ use Rattle.reset_machine.specs.Outcome.{IsBoot}
 use Rattle.reset_machine.specs.Planned.{outcome_of}
 use Rattle.reset_machine.specs.Enabled.{enabled_rows, ready_of}
 use Rattle.reset_machine.specs.Refinement.{has_joined}
-use Rattle.link_predicates.specs.Faults.{faults, node_faults}
+use Rattle.link_predicates.specs.Faults.{alarm_of, faults, node_faults}
 use Rattle.link_predicates.specs.declared.fault.Family.{Family}
 use Rattle.link_predicates.specs.declared.fault.Family.TheVariants.{Tree, Wave, App as OfApp}
 use Rattle.link_predicates.specs.declared.fault.LinkFault.{LinkFault}
@@ -38,12 +39,14 @@ use Rattle.reset_service.specs.Lines.{ended, lines_of, IsCut}
 use Rattle.reset_service.specs.Meaning.{Meaning, idle_meaning, token_meaning, mutex_meaning, routes_meaning}
 use Rattle.reset_service.specs.Script.{line_of}
 use Rattle.reset_service.specs.declared.script.Command.{Command}
-use Rattle.reset_service.specs.declared.script.Command.TheVariants.{Step, Show, ShowNode, Newest, Ready, Check, CheckNode}
+use Rattle.reset_service.specs.declared.script.Command.TheVariants.{Step, Show, ShowNode, Newest, Ready, Check, CheckNode, Alarm, Watch}
 use Rattle.reset_service.specs.declared.script.Command.TheVariants as command
 use Rattle.reset_service.specs.declared.script.Line.{Line}
 use Rattle.reset_service.specs.declared.script.Line.TheVariants.{Silent, Asks, Bad}
 use Rattle.reset_service.specs.declared.status.Status.{Status}
-use Rattle.reset_service.specs.declared.status.Status.TheVariants.{Good, BadInput}
+use Rattle.reset_service.specs.declared.status.Status.TheVariants.{Good, FaultsFound, BadInput}
+use Rattle.reset_service.specs.declared.status.Purpose.{Purpose}
+use Rattle.reset_service.specs.declared.status.Purpose.TheVariants as purpose
 use Rattle.reset_service.specs.declared.status.RunStop.{RunStop}
 use Rattle.reset_service.specs.declared.status.RunStop.TheVariants.{ReadFailed, WriteFailed}
 use Rattle.reset_service.specs.declared.status.RunStop.TheVariants as stop
@@ -117,6 +120,12 @@ fault_line fault =
 abbrev pub faults_text : List LinkFault → List ℕ
 faults_text told = flat_map fault_line told ++ numbered (codes "faults ") (length told)
 
+-- the line of an alarm, or that there is none
+abbrev pub alarm_text : Option LinkFault → List ℕ
+alarm_text None = ended (codes "quiet")
+alarm_text (Some fault) =
+    concat (codes "alarm " ∷ decimal fault.at ∷ codes " " ∷ decimal fault.other ∷ codes " " ∷ decimal fault.row ∷ ended [] ∷ [])
+
 abbrev pub graph_fault_text : TopoFault → List ℕ
 graph_fault_text NoNodes = ended (codes "bad topology NoNodes")
 graph_fault_text TooManyNodes = ended (codes "bad topology TooManyNodes")
@@ -177,9 +186,34 @@ faults_lines m c = faults_text (faults m.app c)
 unfoldable pub node_faults_lines : {L : Type 0} → Meaning L → Configuration L → ℕ → List ℕ
 node_faults_lines m c i = faults_text (node_faults m.app c i)
 
+-- how a check of all nodes ends
+abbrev pub found_status : List LinkFault → Status
+found_status [] = Good
+found_status (fault ∷ more) = FaultsFound
+
+unfoldable pub faults_status : {L : Type 0} → Meaning L → Configuration L → Status
+faults_status m c = found_status (faults m.app c)
+
+-- what is told of a node's alarm
+unfoldable pub alarm_line : {L : Type 0} → Meaning L → Configuration L → ℕ → List ℕ
+alarm_line m c i = alarm_text (alarm_of m.app c i)
+
+-- after an alarm, a node that watches asks for a reset
+abbrev pub after_alarm : {L : Type 0} → Meaning L → Configuration L → ℕ → Option LinkFault → Configuration L × List ℕ
+after_alarm m c i None = (c, [])
+after_alarm m c i (Some fault) = stepped c (outcome_of m.app c (Request i))
+
+-- what becomes of a configuration in which a node watches, and what is told
+unfoldable pub watched : {L : Type 0} → Meaning L → Configuration L → ℕ → Configuration L × List ℕ
+watched m c i = let after = after_alarm m c i (alarm_of m.app c i) in (after.0, alarm_line m c i ++ after.1)
+
+-- whether the identifier is that of a node
+abbrev pub has_node : {L : Type 0} → Configuration L → ℕ → Bool
+has_node c i = list_any (λ k. k == i) c.graph.ids
+
 -- the answer where the identifier is that of a node, and a refusal elsewhere
 abbrev pub at_node : {L : Type 0} → Configuration L → ℕ → List ℕ → List ℕ
-at_node c i text = if list_any (λ k. k == i) c.graph.ids then text else refusal_text StrangeNode
+at_node c i text = if has_node c i then text else refusal_text StrangeNode
 
 -- the answer to a command
 abbrev pub answered : {L : Type 0} → Meaning L → Configuration L → Command → Configuration L × List ℕ
@@ -191,8 +225,10 @@ answered m c (command.Enabled i) = (c, at_node c i (enabled_line m c i))
 answered m c Ready = (c, ready_line m c)
 answered m c Check = (c, faults_lines m c)
 answered m c (CheckNode i) = (c, at_node c i (node_faults_lines m c i))
+answered m c (Alarm i) = (c, at_node c i (alarm_line m c i))
+answered m c (Watch i) = if has_node c i then watched m c i else (c, refusal_text StrangeNode)
 
--- what a line leaves: the configuration, what is written, and whether the line is good
+-- what lines leave: the configuration, what is written, and whether they are good
 pub record Answer (L : Type 0) : Type 0 where
   pub config : Configuration L
   pub text : List ℕ
@@ -204,29 +240,44 @@ answer_to m c n Silent = record { config = c; text = []; status = Good }
 answer_to m c n (Asks command) = record { config = (answered m c command).0; text = (answered m c command).1; status = Good }
 answer_to m c n Bad = record { config = c; text = bad_line_text n; status = BadInput }
 
--- an output that goes on after a good line only
-abbrev pub followed : Status → List ℕ → List ℕ × Status → List ℕ × Status
-followed Good text rest = (text ++ rest.0, rest.1)
-followed BadInput text rest = (text, BadInput)
+-- what follows where all was good, and what was where it wasn't
+abbrev pub if_good : {A : Type 0} → Status → A → A → A
+if_good Good next last = next
+if_good FaultsFound next last = last
+if_good BadInput next last = last
 
--- the answers to lines, of which the first has the number n
-unfoldable pub answers : {L : Type 0} → Meaning L → Configuration L → ℕ → List (List ℕ) → List ℕ × Status
-answers m c n [] = ([], Good)
+-- an answer before which this text was written
+abbrev pub told_after : {L : Type 0} → List ℕ → Answer L → Answer L
+told_after text a = record { config = a.config; text = text ++ a.text; status = a.status }
+
+-- the answers to lines, of which the first has the number n: the first bad one is the last
+unfoldable pub answers : {L : Type 0} → Meaning L → Configuration L → ℕ → List (List ℕ) → Answer L
+answers m c n [] = record { config = c; text = []; status = Good }
 answers m c n (line ∷ lines) =
-    let a = answer_to m c n (line_of m.names line) in followed a.status a.text (answers m a.config (n + 1) lines)
+    let a = answer_to m c n (line_of m.names line) in if_good a.status (told_after a.text (answers m a.config (n + 1) lines)) a
+
+-- what follows lines that ended so, and the status of the run: a check of what good lines left, or nothing
+abbrev pub ending : {L : Type 0} → Meaning L → Purpose → Configuration L → Status → List ℕ × Status
+ending m purpose.Replay c status = ([], status)
+ending m purpose.Check c status = if_good status (faults_lines m c, faults_status m c) ([], status)
+
+-- what is written for a purpose, and the status
+abbrev pub output_for : {L : Type 0} → Meaning L → Purpose → Answer L → List ℕ × Status
+output_for m why a = let last = ending m why a.config a.status in (a.text ++ last.0, last.1)
 
 -- the answers to a script
-abbrev pub script_output : {L : Type 0} → Meaning L → Configuration L → List ℕ → List ℕ × Status
-script_output m c script = if nat_lt 1048576 (length script) then (too_long_text, BadInput) else answers m c 1 (lines_of script)
+abbrev pub script_output : {L : Type 0} → Meaning L → Purpose → Configuration L → List ℕ → List ℕ × Status
+script_output m why c script =
+    if nat_lt 1048576 (length script) then (too_long_text, BadInput) else output_for m why (answers m c 1 (lines_of script))
 
 -- ---- the output of texts
 
 -- the answers to a script from the booted configuration of a graph
-pub data IsReplay {L : Type 0} (m : Meaning L) (g : Graph) (script : List ℕ) (output : List ℕ × Status) : Type 0 where
-  replayed : (c : Configuration L) → IsBoot m.app g c → output ≡ script_output m c script → IsReplay m g script output
+pub data IsReplay {L : Type 0} (m : Meaning L) (why : Purpose) (g : Graph) (script : List ℕ) (output : List ℕ × Status) : Type 0 where
+  replayed : (c : Configuration L) → IsBoot m.app g c → output ≡ script_output m why c script → IsReplay m why g script output
 
 -- the same for the application of a name
-abbrev pub IsReplayOf : AppName → Graph → List ℕ → List ℕ × Status → Type 0
+abbrev pub IsReplayOf : AppName → Purpose → Graph → List ℕ → List ℕ × Status → Type 0
 IsReplayOf Idle = IsReplay idle_meaning
 IsReplayOf Token = IsReplay token_meaning
 IsReplayOf Mutex = IsReplay mutex_meaning
@@ -237,14 +288,16 @@ abbrev pub Describes : List ℕ → Graph → AppName → Type 0
 Describes topology g app = (d : Description) × (description_of topology ≡ Ok d) × IsTopologyOf d.nodes d.links g × (app ≡ d.app)
 
 -- what a run writes, and its status: the topology is judged before the script
-pub data IsOutput (topology script : List ℕ) (output : List ℕ × Status) : Type 0 where
-  bad_topology : (f : ReadFault) → IsReadFault topology f → output ≡ (bad_topology_text f, BadInput) → IsOutput topology script output
-  replayed : (g : Graph) (app : AppName) → Describes topology g app → IsReplayOf app g script output → IsOutput topology script output
+pub data IsOutput (why : Purpose) (topology script : List ℕ) (output : List ℕ × Status) : Type 0 where
+  bad_topology : (f : ReadFault) → IsReadFault topology f → output ≡ (bad_topology_text f, BadInput) → IsOutput why topology script output
+  replayed : (g : Graph) (app : AppName) → Describes topology g app → IsReplayOf app why g script output
+      → IsOutput why topology script output
 
--- the same of a joined text, which is judged by its length before it is cut
+-- the same of a joined text that is replayed, which is judged by its length before it is cut
 pub data IsJoinedOutput (joined : List ℕ) (output : List ℕ × Status) : Type 0 where
   too_long : 1048576 < length joined → output ≡ (too_long_text, BadInput) → IsJoinedOutput joined output
-  cut : (topology script : List ℕ) → length joined ≤ 1048576 → IsCut joined topology script → IsOutput topology script output → IsJoinedOutput joined output
+  cut : (topology script : List ℕ) → length joined ≤ 1048576 → IsCut joined topology script → IsOutput purpose.Replay topology script output
+      → IsJoinedOutput joined output
 
 -- ---- what a run leaves
 

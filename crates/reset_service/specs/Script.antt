@@ -10,7 +10,7 @@ use Rattle.reset_machine.specs.EventText.{event_words, neighbour_words, Fits}
 use Rattle.reset_machine.specs.Words.{words_of}
 use Rattle.reset_machine.specs.declared.event.Event.TheVariants.{Claim, Follow, Adopt, Request, Relay, Open, Join, Finish, Mend, Act}
 use Rattle.reset_service.specs.declared.script.Command.{Command}
-use Rattle.reset_service.specs.declared.script.Command.TheVariants.{Step, Show, ShowNode, Newest, Enabled, Ready, Check, CheckNode}
+use Rattle.reset_service.specs.declared.script.Command.TheVariants.{Step, Show, ShowNode, Newest, Enabled, Ready, Check, CheckNode, Alarm, Watch}
 use Rattle.reset_service.specs.declared.script.Line.{Line}
 use Rattle.reset_service.specs.declared.script.Line.TheVariants.{Silent, Asks, Bad}
 
@@ -24,11 +24,14 @@ command_words (Enabled at) = codes "enabled" ∷ decimal at ∷ []
 command_words Ready = codes "ready" ∷ []
 command_words Check = codes "check" ∷ []
 command_words (CheckNode at) = codes "check" ∷ decimal at ∷ []
+command_words (Alarm at) = codes "alarm" ∷ decimal at ∷ []
+command_words (Watch at) = codes "watch" ∷ decimal at ∷ []
 
--- the words ask something about the node with this identifier
+-- the words ask something of the node with this identifier, and are no event
 abbrev pub AsksAbout : ℕ → List (List ℕ) → Type 0
 AsksAbout at words =
-    (words ≡ command_words (ShowNode at)) ⊎ ((words ≡ command_words (Enabled at)) ⊎ (words ≡ command_words (CheckNode at)))
+    (words ≡ command_words (ShowNode at)) ⊎ ((words ≡ command_words (Enabled at)) ⊎ ((words ≡ command_words (CheckNode at))
+    ⊎ ((words ≡ command_words (Alarm at)) ⊎ (words ≡ command_words (Watch at)))))
 
 -- the one line of a command with its case, if it has one, by number: its words, with a space between each two
 abbrev pub command_line : Command → List ℕ
@@ -44,6 +47,8 @@ CommandFits (Enabled at) = at < 2 ^ 32
 CommandFits Ready = Unit {0}
 CommandFits Check = Unit {0}
 CommandFits (CheckNode at) = at < 2 ^ 32
+CommandFits (Alarm at) = at < 2 ^ 32
+CommandFits (Watch at) = at < 2 ^ 32
 
 -- ---- cases by name
 
@@ -99,7 +104,7 @@ abbrev pub commands_with : ℕ → ℕ → ℕ → List Command
 commands_with m n k =
     Show ∷ ShowNode m ∷ Newest ∷ Enabled m ∷ Ready ∷ Step (Claim m) ∷ Step (Follow m) ∷ Step (Adopt m n)
     ∷ Step (Request m) ∷ Step (Relay m n) ∷ Step (Open m) ∷ Step (Join m) ∷ Step (Finish m) ∷ Step (Mend m)
-    ∷ Step (Act m (n % 2 ^ 8) None) ∷ Step (Act m (n % 2 ^ 8) (Some k)) ∷ Check ∷ CheckNode m ∷ []
+    ∷ Step (Act m (n % 2 ^ 8) None) ∷ Step (Act m (n % 2 ^ 8) (Some k)) ∷ Check ∷ CheckNode m ∷ Alarm m ∷ Watch m ∷ []
 
 -- the actions with these numbers and with this name, if it is one
 abbrev pub actions_with : (ℕ → Option (List ℕ)) → ℕ → List ℕ → ℕ → List Spelling

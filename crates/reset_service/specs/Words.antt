@@ -4,8 +4,9 @@ use Rattle.clap.specs.Words.{App, Kinds, Row, Rule, Text, IsAmong, fault_of, fir
 use Rattle.clap.specs.declared.error.Error.{Error}
 use Rattle.clap.specs.declared.error.ErrorKind.TheVariants.{InvalidValue, OutOfMemory}
 use Rattle.reset_service.specs.declared.words.Job.{Job}
-use Rattle.reset_service.specs.declared.words.Job.TheVariants.{Joined, Replay, Tables}
+use Rattle.reset_service.specs.declared.words.Job.TheVariants.{Joined, Replay, Check, Tables}
 use Rattle.reset_service.specs.declared.words.LineFault.{LineFault}
+use Rattle.reset_service.specs.declared.words.Paths.{Paths}
 use Rattle.reset_service.specs.declared.words.LineFault.TheVariants.{BadWords, NoMemory}
 
 -- ---- the command line
@@ -14,17 +15,19 @@ use Rattle.reset_service.specs.declared.words.LineFault.TheVariants.{BadWords, N
 abbrev pub path : Text → Rule
 path name = record (new_rule name) { required = true }
 
--- `replay TOPOLOGY SCRIPT`
-unfoldable pub replay_command : App
-replay_command = with_rule (with_rule (new_app (codes "replay")) (path (codes "TOPOLOGY"))) (path (codes "SCRIPT"))
+-- a subcommand with two paths: `NAME TOPOLOGY SCRIPT`
+unfoldable pub texts_command : Text → App
+texts_command name = with_rule (with_rule (new_app name) (path (codes "TOPOLOGY"))) (path (codes "SCRIPT"))
 
 -- `tables`
 unfoldable pub tables_command : App
 tables_command = new_app (codes "tables")
 
--- the program with its two subcommands
+-- the program with its three subcommands
 unfoldable pub program : App
-program = with_subcommand (with_subcommand (new_app (codes "reset-service")) replay_command.top) tables_command.top
+program =
+    with_subcommand (with_subcommand (with_subcommand (new_app (codes "reset-service")) (texts_command (codes "replay")).top)
+    (texts_command (codes "check")).top) tables_command.top
 
 -- ---- what words ask for
 
@@ -38,11 +41,16 @@ name_in = option_map (λ s. s.0)
 abbrev pub value_in : Found → Text → Option Text
 value_in found argument = option_and_then (λ s. first_of argument s.1) found
 
+-- it is the subcommand of this name, with these paths
+abbrev pub HasPaths : Found → Text → Paths → Type 0
+HasPaths found name paths = (name_in found ≡ Some name)
+    × (value_in found (codes "TOPOLOGY") ≡ Some paths.topology.now) × (value_in found (codes "SCRIPT") ≡ Some paths.script.now)
+
 -- the subcommand and its values are those of the job
 abbrev pub AskedBy : Found → Job → Type 0
 AskedBy found Joined = found ≡ None
-AskedBy found (Replay topology script) = (name_in found ≡ Some (codes "replay"))
-    × (value_in found (codes "TOPOLOGY") ≡ Some topology.now) × (value_in found (codes "SCRIPT") ≡ Some script.now)
+AskedBy found (Replay paths) = HasPaths found (codes "replay") paths
+AskedBy found (Check paths) = HasPaths found (codes "check") paths
 AskedBy found Tables = name_in found ≡ Some (codes "tables")
 
 -- what clap finds in the words asks for the job
@@ -65,11 +73,14 @@ IsInvalidValue NoMemory = ⊤
 
 -- ---- what private clauses cite
 
+-- a value was found for each of the two paths
+abbrev pub HasTexts : List Row → Type 0
+HasTexts rows = IsSome (first_of (codes "TOPOLOGY") rows) × IsSome (first_of (codes "SCRIPT") rows)
+
 -- a subcommand of the program with the values that it needs, or none
 abbrev pub HasJob : Found → Type 0
 HasJob None = ⊤
-HasJob (Some s) = ((s.0 ≡ codes "replay") × IsSome (first_of (codes "TOPOLOGY") s.1) × IsSome (first_of (codes "SCRIPT") s.1))
-    ⊎ (s.0 ≡ codes "tables")
+HasJob (Some s) = (((s.0 ≡ codes "replay") ⊎ (s.0 ≡ codes "check")) × HasTexts s.1) ⊎ (s.0 ≡ codes "tables")
 
 -- clap's error as a fault
 abbrev pub StandsFor : Error → LineFault → Type 0

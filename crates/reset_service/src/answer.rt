@@ -7,7 +7,7 @@ ghost use Rattle.reset_machine.specs.Planned.{outcome_of};
 ghost use Rattle.reset_service.specs.Meaning.{meaning_of};
 ghost use Rattle.reset_service.specs.Output.{answered, stepped, bad_line_text, bad_topology_text, graph_fault_text, numbered, refusal_text, reply_text, too_long_text, numbered_twice};
 
-use crate::faults::{answer_check, answer_check_node};
+use crate::faults::{answer_alarm, answer_check, answer_check_node, answer_watch};
 use crate::rows::{answer_enabled, answer_ready};
 use crate::script::Command;
 use crate::show::{show_all, show_newest, show_node};
@@ -128,12 +128,18 @@ pub fn answer<P: Application, W: Write>(
         Command::Newest => Ok(show_newest(config, out)?),
         Command::Enabled(at) => answer_enabled(alloc, config, at, out),
         Command::Ready => answer_ready(alloc, config, out),
-        Command::Check => answer_check(alloc, config, out),
+        Command::Check => {
+            answer_check(alloc, config, out)?;
+            Ok(())
+        }
         Command::CheckNode(at) => answer_check_node(alloc, config, at, out),
+        Command::Alarm(at) => Ok(answer_alarm(config, at, out)?),
+        Command::Watch(at) => answer_watch(alloc, config, at, out),
     }
 }
 
-fn answer_step<P: Application, W: Write>(
+/// Steps, and writes the reply or the refusal. Want of memory changes and writes nothing.
+pub fn answer_step<P: Application, W: Write>(
     alloc: Global,
     config: &mut Config<P>,
     event: Event,

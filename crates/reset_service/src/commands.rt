@@ -1,9 +1,9 @@
 // The commands of the program and their help, as `clap` reads and prints them.
 
-ghost use Rattle.std.specs.Prelude.{◌≡◌, IfOk, false};
+ghost use Rattle.std.specs.Prelude.{◌≡◌, IfOk, codes, false};
 ghost use Rattle.clap.specs.Words.{app_of, rule_of};
 ghost use Rattle.clap.specs.declared.builder.command.Command.TheViews.{out-Command as fields_of};
-ghost use Rattle.reset_service.specs.Words.{path, program, replay_command, tables_command};
+ghost use Rattle.reset_service.specs.Words.{path, program, tables_command, texts_command};
 
 use clap::{Arg, Command};
 use std::alloc::{AllocError, Global};
@@ -27,6 +27,7 @@ Examples:
 
 Exit status:
   0  good, refused commands included
+  1  the subcommand `check` found faults
   2  a bad topology, script or command line
   3  a file or a standard stream could not be read or written
   4  out of memory";
@@ -56,6 +57,7 @@ The commands of a script, at node I with its neighbour J and its child C:
   request I, relay I C, open I, join I, finish I, mend I
   act I CASE, act I CASE J
   show, show I, newest, enabled I, ready
+  check, check I, alarm I, watch I
 A CASE is the name of an action of the application, or its number. They are
   act I pass J, act I take J    of token
   act I enter, act I leave      of mutex
@@ -67,6 +69,20 @@ letters, a zero before a number or a comment behind the command makes the line b
 
 Example:
   reset-service replay examples/one-wave/topology.toml examples/one-wave/script";
+
+const CHECK_ABOUT: &str = "Runs a script on a topology, and checks the network that it leaves";
+
+const CHECK_LONG_ABOUT: &str = "\
+Runs a script on a topology, and checks the network that it leaves.
+
+The script is run as `replay` runs it. Then each link whose ends contradict each other is named
+in a line `link AT OTHER FAMILY ROW`: the node, its neighbour (or the node itself), which table
+(tree, wave or app) and which of its rows; `reset-service tables` prints the tables. The last line is
+`faults COUNT`, and the exit status is 1 where COUNT isn't 0. After a bad line nothing is checked.";
+
+const CHECK_AFTER_HELP: &str = "\
+Example:
+  reset-service check examples/sound-network/topology.toml examples/sound-network/script";
 
 const TABLES_ABOUT: &str = "Prints the tables that the nodes act by";
 
@@ -91,17 +107,51 @@ pub fn command_line<'a>(alloc: Global) -> Result<Command<'a>, AllocError>
         .long_about(LONG_ABOUT)
         .after_help(AFTER_HELP)
         .subcommand(replay_words(alloc)?)?
+        .subcommand(check_words(alloc)?)?
         .subcommand(tables_words(alloc))
 }
 
 fn replay_words<'a>(alloc: Global) -> Result<Command<'a>, AllocError>
-    ensures app { IfOk result (λ command. app_of command ≡ replay_command) }
+    ensures app { IfOk result (λ command. app_of command ≡ texts_command (codes "replay")) }
     ensures local { IfOk result (λ command. (fields_of command).has_globals ≡ false) }
 {
-    Command::new(alloc, "replay")
-        .about(REPLAY_ABOUT)
-        .long_about(REPLAY_LONG_ABOUT)
-        .after_help(REPLAY_AFTER_HELP)
+    texts_words(
+        alloc,
+        "replay",
+        REPLAY_ABOUT,
+        REPLAY_LONG_ABOUT,
+        REPLAY_AFTER_HELP,
+    )
+}
+
+fn check_words<'a>(alloc: Global) -> Result<Command<'a>, AllocError>
+    ensures app { IfOk result (λ command. app_of command ≡ texts_command (codes "check")) }
+    ensures local { IfOk result (λ command. (fields_of command).has_globals ≡ false) }
+{
+    texts_words(
+        alloc,
+        "check",
+        CHECK_ABOUT,
+        CHECK_LONG_ABOUT,
+        CHECK_AFTER_HELP,
+    )
+}
+
+// A subcommand with the paths of a topology and a script.
+fn texts_words<'a>(
+    alloc: Global,
+    name: &'a str,
+    about: &'a str,
+    long_about: &'a str,
+    after_help: &'a str,
+) -> Result<Command<'a>, AllocError>
+    ensures app { IfOk result (λ command. app_of command ≡ texts_command name.entry.now) }
+    ensures local { IfOk result (λ command. (fields_of command).has_globals ≡ false) }
+{
+    Command::new(alloc, name)
+        .about(about)
+        .long_about(long_about)
+        .after_help(after_help)
         .arg(path_word(alloc, "TOPOLOGY", TOPOLOGY_HELP))?
         .arg(path_word(alloc, "SCRIPT", SCRIPT_HELP))
 }

@@ -1,36 +1,53 @@
-// The answers that tell faults.
+// The answers that tell faults and alarms.
 
-ghost use Rattle.std.specs.Prelude.{◌≡◌, ◌≢◌, ◌++◌, codes, length, IfErr, OnOk, OnErr};
+ghost use Rattle.std.specs.Prelude.{◌≡◌, ◌≢◌, ◌++◌, codes, length, IfErr, IfOk, OnErr, OnOk};
 ghost use Rattle.std.specs.List.{flat_map};
 ghost use Rattle.std.specs.Io.KnownBytes.{Appends};
+ghost use Rattle.topology.specs.Graph.{IsNode};
 ghost use Rattle.action_tables.specs.Written.{AppendsFront};
 ghost use Rattle.reset_service.specs.Meaning.{meaning_of};
-ghost use Rattle.reset_service.specs.Output.{at_node, family_name, fault_line, faults_lines, faults_text, node_faults_lines};
+ghost use Rattle.reset_service.specs.Output.{alarm_line, alarm_text, answered, at_node, family_name, fault_line, faults_lines, faults_status, faults_text, found_status, has_node, node_faults_lines, watched};
+ghost use Rattle.reset_service.specs.declared.script.Command.TheVariants.{Watch};
 
-use crate::answer::{put_numbered, put_refusal};
-use crate::status::RunStop;
-use action_tables::{Part, WriteFault, put_parts};
+use crate::answer::{answer_step, put_numbered, put_refusal};
+use crate::status::{RunStop, Status};
+use action_tables::{Part, WriteFault, put_bytes, put_parts};
 use app_interface::Application;
-use link_predicates::{Family, LinkFault, check_all, check_node};
-use reset_machine::{Config, StepRefusal};
+use link_predicates::{Family, LinkFault, alarm, check_all, check_node};
+use reset_machine::{Config, Event, StepRefusal};
 use std::alloc::{AllocError, Global};
 use std::io::Write;
 
-/// Writes the faults of all nodes. Want of memory writes nothing.
+/// Writes the faults of all nodes, and answers whether there are some. Want of memory writes
+/// nothing.
 pub fn answer_check<P: Application, W: Write>(
     alloc: Global,
     config: &Config<P>,
     out: &mut W,
-) -> Result<(), RunStop>
+) -> Result<Status, RunStop>
     ensures ok { OnOk result (Appends (W.contents out.old) (W.contents out.new)
         (faults_lines (meaning_of P.app P.text P.names) config.now)) }
+    ensures status { IfOk result (λ status. status ≡ faults_status (meaning_of P.app P.text P.names) config.now) }
     ensures err { OnErr result (AppendsFront (W.contents out.old) (W.contents out.new)
         (faults_lines (meaning_of P.app P.text P.names) config.now)) }
     ensures stop { IfErr result (λ stop. stop ≢ RunStop.ReadFailed) }
 {
     match check_all(alloc, config) {
-        Ok(found) => Ok(put_faults(out, &found)?),
+        Ok(found) => {
+            put_faults(out, &found)?;
+            Ok(found_status(&found))
+        }
         Err(AllocError) => Err(RunStop::NoMemory),
+    }
+}
+
+// How a check that found these ends.
+fn found_status(found: &[LinkFault]) -> Status
+    ensures { result ≡ found_status found.now }
+{
+    match found {
+        [] => Status::Good,
+        _ => Status::FaultsFound,
     }
 }
 
@@ -52,6 +69,96 @@ pub fn answer_check_node<P: Application, W: Write>(
         Err(StepRefusal::NoMemory) => Err(RunStop::NoMemory),
         Err(refusal) => Ok(put_refusal(out, refusal)?),
     }
+}
+
+/// Writes the alarm of a node, that it has none, or that there is no such node.
+pub fn answer_alarm<P: Application, W: Write>(
+    config: &Config<P>,
+    at: u32,
+    out: &mut W,
+) -> Result<(), WriteFault>
+    ensures ok { OnOk result (Appends (W.contents out.old) (W.contents out.new)
+        (at_node config.now at (alarm_line (meaning_of P.app P.text P.names) config.now at))) }
+    ensures err { OnErr result (AppendsFront (W.contents out.old) (W.contents out.new)
+        (at_node config.now at (alarm_line (meaning_of P.app P.text P.names) config.now at))) }
+{
+    if is_node(config, at) {
+        put_alarm(out, alarm(config, at))
+    } else {
+        put_refusal(out, StepRefusal::StrangeNode)
+    }
+}
+
+// Whether the identifier is that of a node.
+fn is_node<P: Application>(config: &Config<P>, at: u32) -> bool
+    ensures { result ≡ has_node config.now at }
+{
+    config.topology().index_of(at).is_some()
+}
+
+/// As `answer_alarm`; where the node has an alarm it then asks for a reset, and the reply or the
+/// refusal is written.
+pub fn answer_watch<P: Application, W: Write>(
+    alloc: Global,
+    config: &mut Config<P>,
+    at: u32,
+    out: &mut W,
+) -> Result<(), RunStop>
+    ensures ok { OnOk result ((config.new ≡ (answered (meaning_of P.app P.text P.names) config.old (Watch at)).0)
+        × Appends (W.contents out.old) (W.contents out.new) (answered (meaning_of P.app P.text P.names) config.old (Watch at)).1) }
+    ensures err { OnErr result (AppendsFront (W.contents out.old) (W.contents out.new)
+        (answered (meaning_of P.app P.text P.names) config.old (Watch at)).1) }
+    ensures stop { IfErr result (λ stop. stop ≢ RunStop.ReadFailed) }
+{
+    if is_node(&*config, at) {
+        watch_node(alloc, config, at, out)
+    } else {
+        Ok(put_refusal(out, StepRefusal::StrangeNode)?)
+    }
+}
+
+// Writes the alarm of a node, which asks for a reset where it has one.
+fn watch_node<P: Application, W: Write>(
+    alloc: Global,
+    config: &mut Config<P>,
+    at: u32,
+    out: &mut W,
+) -> Result<(), RunStop>
+    requires { IsNode config.now.graph at }
+    ensures ok { OnOk result ((config.new ≡ (watched (meaning_of P.app P.text P.names) config.old at).0)
+        × Appends (W.contents out.old) (W.contents out.new) (watched (meaning_of P.app P.text P.names) config.old at).1) }
+    ensures err { OnErr result (AppendsFront (W.contents out.old) (W.contents out.new)
+        (watched (meaning_of P.app P.text P.names) config.old at).1) }
+    ensures stop { IfErr result (λ stop. stop ≢ RunStop.ReadFailed) }
+{
+    let told = alarm(config, at);
+    put_alarm(out, told)?;
+    match told {
+        None => Ok(()),
+        Some(_) => answer_step(alloc, config, Event::Request { at }, out),
+    }
+}
+
+// Writes the line of an alarm, or that there is none.
+fn put_alarm<W: Write>(out: &mut W, told: Option<LinkFault>) -> Result<(), WriteFault>
+    ensures ok { OnOk result (Appends (W.contents out.old) (W.contents out.new) (alarm_text told)) }
+    ensures err { OnErr result (AppendsFront (W.contents out.old) (W.contents out.new) (alarm_text told)) }
+{
+    let Some(fault) = told else {
+        return put_bytes(out, b"quiet\n");
+    };
+    put_parts(
+        out,
+        &[
+            Part::Text(b"alarm "),
+            Part::Number(u64::from(fault.at)),
+            Part::Text(b" "),
+            Part::Number(u64::from(fault.other)),
+            Part::Text(b" "),
+            Part::Number(u64::from(fault.row)),
+            Part::Text(b"\n"),
+        ],
+    )
 }
 
 // Writes the lines of faults, and their number.

@@ -1,6 +1,7 @@
 //! What the program of the distributed reset service does, as calls on texts, readers and writers: it
 //! replays scripts of reset events on the booted configuration of a topology and writes an answer to
-//! each line, prints the tables that the nodes act by, and reads the words of its command line.
+//! each line, checks the network that a script leaves, prints the tables that the nodes act by, and reads
+//! the words of its command line.
 #![tactic(auto)]
 
 mod answer;
@@ -18,7 +19,7 @@ mod words;
 
 pub use gather::Gathered;
 pub use input::{READ_LIMIT, read_text};
-pub use replays::{replay, replay_joined, replay_text};
+pub use replays::{check_text, replay, replay_joined, replay_text};
 pub use status::{RunStop, Status};
 pub use tables::print_tables;
-pub use words::{Job, LineFault, no_text, read_words};
+pub use words::{Job, LineFault, Paths, no_text, read_words};

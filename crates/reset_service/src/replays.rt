@@ -1,18 +1,19 @@
 // The replay of a script on a booted configuration.
 
-ghost use Rattle.std.specs.Prelude.{◌≡◌, ◌≢◌, ℕ, ◌≤◌, List, length, IfOk, IfErr, OnErr};
+ghost use Rattle.std.specs.Prelude.{◌≡◌, ◌≢◌, ℕ, ◌≤◌, List, length, IfOk, IfErr, OnErr, OnOk};
 ghost use Rattle.std.specs.Io.KnownBytes.{Appends};
 ghost use Rattle.topology.specs.TopologyText.{IsReadFault};
 ghost use Rattle.action_tables.specs.Written.{AppendsFront};
 ghost use Rattle.reset_service.specs.Lines.{lines_of, IsReadFrom};
 ghost use Rattle.reset_service.specs.Meaning.{meaning_of};
 ghost use Rattle.reset_service.specs.Script.{line_of};
-ghost use Rattle.reset_service.specs.Output.{answer_to, answers, bad_topology_text, script_output, too_long_text, IsJoinedOutput, IsOutput, IsReplay, IsReplayOf, Leaves};
+ghost use Rattle.reset_service.specs.Output.{answer_to, answers, bad_topology_text, ending, script_output, too_long_text, IsJoinedOutput, IsOutput, IsReplay, IsReplayOf, Leaves};
 
 use crate::answer::{answer, put_bad_line, put_too_long, put_topology_fault};
+use crate::faults::answer_check;
 use crate::input::{cut_joined, read_text, split_line};
 use crate::script::{Line, read_line};
-use crate::status::{RunStop, Status};
+use crate::status::{Purpose, RunStop, Status};
 use app_interface::{Application, Idle};
 use app_mutex::EdgeReversal;
 use app_routes::Routes;
@@ -33,11 +34,11 @@ pub fn replay_text<W: Write>(
     script: &[u8],
     out: &mut W,
 ) -> Result<Status, RunStop>
-    ensures leaves { Leaves (IsOutput topology.now script.now) (W.contents out.old) (W.contents out.new) result }
+    ensures leaves { Leaves (IsOutput Purpose.Replay topology.now script.now) (W.contents out.old) (W.contents out.new) result }
     ensures stop { IfErr result (λ stop. stop ≢ RunStop.ReadFailed) }
 {
     match read_topology(alloc, topology) {
-        Ok((topology, app)) => replay_app(alloc, app, topology, script, out),
+        Ok((topology, app)) => run_app(alloc, Purpose::Replay, app, topology, script, out),
         Err(fault) => refuse_topology(fault, out),
     }
 }
@@ -50,12 +51,43 @@ pub fn replay<R: Read, W: Write>(
     script: &mut R,
     out: &mut W,
 ) -> Result<Status, RunStop>
-    ensures leaves { (text : List ℕ) × IsReadFrom (R.remaining script.old) text × Leaves (IsOutput topology.now text) (W.contents out.old) (W.contents out.new) result }
+    ensures leaves { (text : List ℕ) × IsReadFrom (R.remaining script.old) text
+        × Leaves (IsOutput Purpose.Replay topology.now text) (W.contents out.old) (W.contents out.new) result }
+    ensures untouched { (f : ReadFault) → IsReadFault topology.now f → script.new ≡ script.old }
+{
+    run_read(alloc, Purpose::Replay, topology, script, out)
+}
+
+/// As `replay`, and where the topology, the script and all its lines are good, the faults of the
+/// configuration that the script leaves are written after its answers.
+pub fn check_text<R: Read, W: Write>(
+    alloc: Global,
+    topology: &[u8],
+    script: &mut R,
+    out: &mut W,
+) -> Result<Status, RunStop>
+    ensures leaves { (text : List ℕ) × IsReadFrom (R.remaining script.old) text
+        × Leaves (IsOutput Purpose.Check topology.now text) (W.contents out.old) (W.contents out.new) result }
+    ensures untouched { (f : ReadFault) → IsReadFault topology.now f → script.new ≡ script.old }
+{
+    run_read(alloc, Purpose::Check, topology, script, out)
+}
+
+// Runs the script of a reader.
+fn run_read<R: Read, W: Write>(
+    alloc: Global,
+    purpose: Purpose,
+    topology: &[u8],
+    script: &mut R,
+    out: &mut W,
+) -> Result<Status, RunStop>
+    ensures leaves { (text : List ℕ) × IsReadFrom (R.remaining script.old) text
+        × Leaves (IsOutput purpose topology.now text) (W.contents out.old) (W.contents out.new) result }
     ensures untouched { (f : ReadFault) → IsReadFault topology.now f → script.new ≡ script.old }
 {
     match read_topology(alloc, topology) {
         Ok((topology, app)) => match read_text(alloc, script) {
-            Ok(text) => replay_app(alloc, app, topology, &text, out),
+            Ok(text) => run_app(alloc, purpose, app, topology, &text, out),
             Err(stop) => Err(stop),
         },
         Err(refused) => refuse_topology(refused, out),
@@ -90,36 +122,38 @@ fn replay_whole<W: Write>(alloc: Global, joined: &[u8], out: &mut W) -> Result<S
     replay_text(alloc, topology, script, out)
 }
 
-// Replays a script on the booted configuration of a topology, with the application of this name.
-fn replay_app<W: Write>(
+// Runs a script on the booted configuration of a topology, with the application of this name.
+fn run_app<W: Write>(
     alloc: Global,
+    purpose: Purpose,
     app: AppName,
     topology: Topology,
     script: &[u8],
     out: &mut W,
 ) -> Result<Status, RunStop>
-    ensures leaves { Leaves (IsReplayOf app topology script.now) (W.contents out.old) (W.contents out.new) result }
+    ensures leaves { Leaves (IsReplayOf app purpose topology script.now) (W.contents out.old) (W.contents out.new) result }
     ensures stop { IfErr result (λ stop. stop ≢ RunStop.ReadFailed) }
 {
     match app {
-        AppName::Idle => replay_booted::<Idle, W>(alloc, topology, script, out),
-        AppName::Token => replay_booted::<Token, W>(alloc, topology, script, out),
-        AppName::Mutex => replay_booted::<EdgeReversal, W>(alloc, topology, script, out),
-        AppName::Routes => replay_booted::<Routes, W>(alloc, topology, script, out),
+        AppName::Idle => run_booted::<Idle, W>(alloc, purpose, topology, script, out),
+        AppName::Token => run_booted::<Token, W>(alloc, purpose, topology, script, out),
+        AppName::Mutex => run_booted::<EdgeReversal, W>(alloc, purpose, topology, script, out),
+        AppName::Routes => run_booted::<Routes, W>(alloc, purpose, topology, script, out),
     }
 }
 
-fn replay_booted<P: Application, W: Write>(
+fn run_booted<P: Application, W: Write>(
     alloc: Global,
+    purpose: Purpose,
     topology: Topology,
     script: &[u8],
     out: &mut W,
 ) -> Result<Status, RunStop>
-    ensures leaves { Leaves (IsReplay (meaning_of P.app P.text P.names) topology script.now) (W.contents out.old) (W.contents out.new) result }
+    ensures leaves { Leaves (IsReplay (meaning_of P.app P.text P.names) purpose topology script.now) (W.contents out.old) (W.contents out.new) result }
     ensures stop { IfErr result (λ stop. stop ≢ RunStop.ReadFailed) }
 {
     match Config::<P>::boot(alloc, topology) {
-        Ok(config) => replay_script(alloc, config, script, out),
+        Ok(config) => run_script(alloc, purpose, config, script, out),
         Err(_) => Err(RunStop::NoMemory),
     }
 }
@@ -145,19 +179,43 @@ fn refuse_script<W: Write>(out: &mut W) -> Result<Status, RunStop>
     Ok(Status::BadInput)
 }
 
-fn replay_script<P: Application, W: Write>(
+fn run_script<P: Application, W: Write>(
     alloc: Global,
+    purpose: Purpose,
     mut config: Config<P>,
     script: &[u8],
     out: &mut W,
 ) -> Result<Status, RunStop>
-    ensures leaves { Leaves (λ output. output ≡ script_output (meaning_of P.app P.text P.names) config script.now) (W.contents out.old) (W.contents out.new) result }
+    ensures leaves { Leaves (λ output. output ≡ script_output (meaning_of P.app P.text P.names) purpose config script.now) (W.contents out.old) (W.contents out.new) result }
     ensures stop { IfErr result (λ stop. stop ≢ RunStop.ReadFailed) }
 {
     if script.len() > MAX_TEXT {
         return refuse_script(out);
     }
-    answer_lines(alloc, &mut config, script, out)
+    match answer_lines(alloc, &mut config, script, out) {
+        Ok(answered) => end_run(alloc, purpose, &config, answered, out),
+        Err(stop) => Err(stop),
+    }
+}
+
+// Ends a run whose lines ended so: a check follows good lines, if the run is for one.
+fn end_run<P: Application, W: Write>(
+    alloc: Global,
+    purpose: Purpose,
+    config: &Config<P>,
+    answered: Status,
+    out: &mut W,
+) -> Result<Status, RunStop>
+    ensures ok { IfOk result (λ status. let last = ending (meaning_of P.app P.text P.names) purpose config.now answered in
+        (status ≡ last.1) × Appends (W.contents out.old) (W.contents out.new) last.0) }
+    ensures err { OnErr result (AppendsFront (W.contents out.old) (W.contents out.new)
+        (ending (meaning_of P.app P.text P.names) purpose config.now answered).0) }
+    ensures stop { IfErr result (λ stop. stop ≢ RunStop.ReadFailed) }
+{
+    match (purpose, answered) {
+        (Purpose::Check, Status::Good) => answer_check(alloc, config, out),
+        _ => Ok(answered),
+    }
 }
 
 // Answers the lines of a script in order, up to the first bad one.
@@ -168,7 +226,9 @@ fn answer_lines<P: Application, W: Write>(
     out: &mut W,
 ) -> Result<Status, RunStop>
     requires { length script.now ≤ MAX_TEXT }
-    ensures leaves { Leaves (λ output. output ≡ answers (meaning_of P.app P.text P.names) config.old 1 (lines_of script.now)) (W.contents out.old) (W.contents out.new) result }
+    ensures leaves { let a = answers (meaning_of P.app P.text P.names) config.old 1 (lines_of script.now) in
+        Leaves (λ output. output ≡ (a.text, a.status)) (W.contents out.old) (W.contents out.new) result }
+    ensures config { OnOk result (config.new ≡ (answers (meaning_of P.app P.text P.names) config.old 1 (lines_of script.now)).config) }
     ensures stop { IfErr result (λ stop. stop ≢ RunStop.ReadFailed) }
 {
     let mut rest = script;
@@ -176,7 +236,7 @@ fn answer_lines<P: Application, W: Write>(
     while let Some((line, after)) = split_line(rest) {
         match answer_line(alloc, config, number, line, out) {
             Ok(Status::Good) => {}
-            Ok(Status::BadInput) => return Ok(Status::BadInput),
+            Ok(ended) => return Ok(ended),
             Err(stop) => return Err(stop),
         }
         rest = after;

@@ -43,6 +43,10 @@ pub enum Command {
     Check,
     /// That the faults of this node be told.
     CheckNode(u32),
+    /// That the alarm of this node be told.
+    Alarm(u32),
+    /// The same, and that the node ask for a reset where it has an alarm.
+    Watch(u32),
 }
 
 /// A line of a script, without its line feed.
@@ -183,7 +187,7 @@ fn by_more_words(word: &[u8], rest: &[u8]) -> Option<Command>
     }
 }
 
-// The question about one node.
+// The command that asks something of one node.
 fn question_of(word: &[u8], rest: &[u8]) -> Option<Command>
     ensures found { IfSome result (λ command. word.now ∷ words_of rest.now ≡ command_words command) }
     ensures fits { IfSome result CommandFits }
@@ -193,6 +197,8 @@ fn question_of(word: &[u8], rest: &[u8]) -> Option<Command>
         b"show" => Some(Command::ShowNode(read_number(rest)?)),
         b"enabled" => Some(Command::Enabled(read_number(rest)?)),
         b"check" => Some(Command::CheckNode(read_number(rest)?)),
+        b"alarm" => Some(Command::Alarm(read_number(rest)?)),
+        b"watch" => Some(Command::Watch(read_number(rest)?)),
         _ => None,
     }
 }

@@ -14,8 +14,19 @@ use std::fmt;
 pub enum Status {
     /// Both texts were good. Refused commands are good too.
     Good,
+    /// They were good, and the check at the end found faults.
+    FaultsFound,
     /// The topology, the script or one of its lines is bad.
     BadInput,
+}
+
+/// What a run of a script is for.
+#[derive(Clone, Copy, Debug, PartialEq, Eq)]
+pub(crate) enum Purpose {
+    /// Its answers.
+    Replay,
+    /// Its answers, and the faults of the configuration that it leaves.
+    Check,
 }
 
 /// What cut a run short: the first that came.

@@ -1,9 +1,9 @@
 // What the words of the command line ask for.
 
-ghost use Rattle.std.specs.Prelude.{◌≡◌, [], map, IfOk, IfErr};
-ghost use Rattle.clap.specs.Words.{kind_of, subcommand_rows_of};
+ghost use Rattle.std.specs.Prelude.{◌≡◌, [], codes, map, Some, IfOk, IfErr};
+ghost use Rattle.clap.specs.Words.{first_of, found_of, kind_of, rows_of, subcommand_rows_of};
 ghost use Rattle.reset_service.specs.declared.words.LineFault.TheVariants.{NoMemory};
-ghost use Rattle.reset_service.specs.Words.{faults_of, AskFor, AskedBy, HasJob, IsFaultOf, IsInvalidValue, StandsFor};
+ghost use Rattle.reset_service.specs.Words.{faults_of, AskFor, AskedBy, HasJob, HasTexts, IsFaultOf, IsInvalidValue, StandsFor};
 
 use crate::commands::command_line;
 use clap::error::ErrorKind;
@@ -12,18 +12,24 @@ use std::alloc::{AllocError, Global};
 use std::convert::AsStr;
 use std::{error, fmt};
 
+/// The files of a run.
+#[derive(Clone, Copy, Debug, PartialEq, Eq)]
+pub struct Paths<'a> {
+    /// The path of the topology.
+    pub topology: &'a str,
+    /// The path of the script.
+    pub script: &'a str,
+}
+
 /// What the program is to do.
 #[derive(Clone, Copy, Debug, PartialEq, Eq)]
 pub enum Job<'a> {
     /// Replay the joined text of the standard input.
     Joined,
     /// Replay the script of a file on the topology of another.
-    Replay {
-        /// The path of the topology.
-        topology: &'a str,
-        /// The path of the script.
-        script: &'a str,
-    },
+    Replay(Paths<'a>),
+    /// The same, and check the network that the script leaves.
+    Check(Paths<'a>),
     /// Print the tables.
     Tables,
 }
@@ -85,11 +91,21 @@ fn job_of<'a>(matches: &ArgMatches<'a>) -> Job<'a>
 {
     match matches.subcommand() {
         None => Job::Joined,
-        Some(("replay", values)) => Job::Replay {
-            topology: values.get_str("TOPOLOGY").unwrap(),
-            script: values.get_str("SCRIPT").unwrap(),
-        },
+        Some(("replay", values)) => Job::Replay(paths_of(values)),
+        Some(("check", values)) => Job::Check(paths_of(values)),
         Some(_) => Job::Tables,
+    }
+}
+
+// The paths of matches that have both.
+fn paths_of<'a>(values: &ArgMatches<'a>) -> Paths<'a>
+    requires { HasTexts (rows_of (found_of values.now)) }
+    ensures topology { first_of (codes "TOPOLOGY") (rows_of (found_of values.now)) ≡ Some result.topology.now }
+    ensures script { first_of (codes "SCRIPT") (rows_of (found_of values.now)) ≡ Some result.script.now }
+{
+    Paths {
+        topology: values.get_str("TOPOLOGY").unwrap(),
+        script: values.get_str("SCRIPT").unwrap(),
     }
 }
 

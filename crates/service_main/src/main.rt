@@ -10,11 +10,12 @@ use crate::files::{open_file, read_file};
 use crate::status::exit_code;
 use action_tables::put_bytes;
 use reset_service::{
-    Gathered, Job, LineFault, RunStop, Status, no_text, print_tables, read_words, replay,
-    replay_joined,
+    Gathered, Job, LineFault, Paths, RunStop, Status, check_text, no_text, print_tables,
+    read_words, replay, replay_joined,
 };
 use std::io::Write;
 use std::process::ExitCode;
+use std::rt::Files;
 use std::{env, io};
 
 fn main(rt: HostRuntime) -> ExitCode {
@@ -71,19 +72,21 @@ fn do_job(rt: &HostRuntime, job: Job<'_>) -> Result<Status, RunStop> {
 fn job_output<W: Write>(rt: &HostRuntime, job: Job<'_>, out: &mut W) -> Result<Status, RunStop> {
     match job {
         Job::Joined => replay_joined(rt.alloc(), &mut rt.reader(), out),
-        Job::Replay { topology, script } => replay_files(rt, topology, script, out),
+        Job::Replay(paths) => {
+            let (topology, mut script) = open_texts(rt, paths)?;
+            replay(rt.alloc(), &topology, &mut script, out)
+        }
+        Job::Check(paths) => {
+            let (topology, mut script) = open_texts(rt, paths)?;
+            check_text(rt.alloc(), &topology, &mut script, out)
+        }
         Job::Tables => print_tables(out),
     }
 }
 
-// Both files are opened, and the topology is read, before anything is judged.
-fn replay_files<W: Write>(
-    rt: &HostRuntime,
-    topology: &str,
-    script: &str,
-    out: &mut W,
-) -> Result<Status, RunStop> {
-    let topology = read_file(rt, topology)?;
-    let mut script = open_file(rt, script)?;
-    replay(rt.alloc(), &topology, &mut script, out)
+// The text of the topology, and the script, opened: both before anything is judged.
+fn open_texts<R: Files + AllocGlobal>(rt: &R, paths: Paths<'_>) -> Result<(Vec<u8>, R::File), RunStop> {
+    let topology = read_file(rt, paths.topology)?;
+    let script = open_file(rt, paths.script)?;
+    Ok((topology, script))
 }

@@ -3,14 +3,13 @@ use Rattle.std.proofs.Common.{◌≡◌, ◌≤◌, ◌+◌, ℕ, List, length}
 use Rattle.std.specs.Io.KnownBytes.{Appends}
 use Rattle.reset_service.specs.Lines.{lines_of}
 use Rattle.reset_service.specs.Meaning.{meaning_of}
-use Rattle.reset_service.specs.Output.{answers, followed}
-use Rattle.reset_service.specs.declared.status.Status.TheVariants.{Good}
+use Rattle.reset_service.specs.Output.{answers, told_after}
 use Rattle.reset_service.proofs.replays.answer_lines.Given as goal
 
 abbrev pub invariant-loop-line : goal.invariant-loop-line
 invariant-loop-line g l =
     let m = meaning_of g.P.Application.app g.P.Application.text g.P.Application.names in
-    (done : List ℕ) × (answers m l.initial.config 1 (lines_of l.script) ≡ followed Good done (answers m l.config l.number (lines_of l.rest)))
+    (done : List ℕ) × (answers m l.initial.config 1 (lines_of l.script) ≡ told_after done (answers m l.config l.number (lines_of l.rest)))
     × Appends (g.W.Write.contents l.initial.out) (g.W.Write.contents l.out) done × (l.number + length l.rest ≤ length l.script + 1)
 
 abbrev pub decreases-loop-line : goal.decreases-loop-line

@@ -25,3 +25,17 @@ returns-in_err-read_number-in-check-clause-only c = rw c.from_residual-in_err-re
 pub returns-in_ok-read_number-in-check-clause-found : goal.returns-in_ok-read_number-in-check-clause-found
 returns-in_ok-read_number-in-check-clause-found c =
     one_found c.args.word.now c.args.rest.now (codes "check") c.in_ok-read_number-in-check.field-0 (text_from_reads c.args.word.now (codes "check") (omega arith) (omega arith, (omega arith, (omega arith, (omega arith, (omega arith, tt)))))) c.in_ok-read_number-in-check.ensures.found (search rules)
+
+pub returns-in_err-read_number-in-alarm-clause-only : goal.returns-in_err-read_number-in-alarm-clause-only
+returns-in_err-read_number-in-alarm-clause-only c = rw c.from_residual-in_err-read_number-in-alarm.ensures (no_question c.args.word.now c.args.rest.now c.in_err-read_number-in-alarm.ensures.only)
+
+pub returns-in_ok-read_number-in-alarm-clause-found : goal.returns-in_ok-read_number-in-alarm-clause-found
+returns-in_ok-read_number-in-alarm-clause-found c =
+    one_found c.args.word.now c.args.rest.now (codes "alarm") c.in_ok-read_number-in-alarm.field-0 (text_from_reads c.args.word.now (codes "alarm") (omega arith) (omega arith, (omega arith, (omega arith, (omega arith, (omega arith, tt)))))) c.in_ok-read_number-in-alarm.ensures.found (search rules)
+
+pub returns-in_err-read_number-in-watch-clause-only : goal.returns-in_err-read_number-in-watch-clause-only
+returns-in_err-read_number-in-watch-clause-only c = rw c.from_residual-in_err-read_number-in-watch.ensures (no_question c.args.word.now c.args.rest.now c.in_err-read_number-in-watch.ensures.only)
+
+pub returns-in_ok-read_number-in-watch-clause-found : goal.returns-in_ok-read_number-in-watch-clause-found
+returns-in_ok-read_number-in-watch-clause-found c =
+    one_found c.args.word.now c.args.rest.now (codes "watch") c.in_ok-read_number-in-watch.field-0 (text_from_reads c.args.word.now (codes "watch") (omega arith) (omega arith, (omega arith, (omega arith, (omega arith, (omega arith, tt)))))) c.in_ok-read_number-in-watch.ensures.found (search rules)
