@@ -85,7 +85,10 @@ fn job_output<W: Write>(rt: &HostRuntime, job: Job<'_>, out: &mut W) -> Result<S
 }
 
 // The text of the topology, and the script, opened: both before anything is judged.
-fn open_texts<R: Files + AllocGlobal>(rt: &R, paths: Paths<'_>) -> Result<(Vec<u8>, R::File), RunStop> {
+fn open_texts<R: Files + AllocGlobal>(
+    rt: &R,
+    paths: Paths<'_>,
+) -> Result<(Vec<u8>, R::File), RunStop> {
     let topology = read_file(rt, paths.topology)?;
     let script = open_file(rt, paths.script)?;
     Ok((topology, script))
