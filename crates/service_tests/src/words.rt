@@ -29,6 +29,12 @@ fn jobs(rt: HostRuntime) {
     );
     let words = ["reset-service", "replay", "a", "b c"];
     assert!(rt; matches!(read_words(alloc, &words), Ok(job) if job == paths));
+    let paths = Job::Check {
+        topology: "a",
+        script: "b c",
+    };
+    let words = ["reset-service", "check", "a", "b c"];
+    assert!(rt; matches!(read_words(alloc, &words), Ok(job) if job == paths));
 }
 
 #[test]
