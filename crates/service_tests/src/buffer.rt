@@ -29,6 +29,7 @@ fn ended(
 fn ends_as_the_run_did(rt: HostRuntime) -> Result<(), Fail> {
     for run in [
         Ok(Status::Good),
+        Ok(Status::FaultsFound),
         Ok(Status::BadInput),
         Err(RunStop::ReadFailed),
         Err(RunStop::NoMemory),

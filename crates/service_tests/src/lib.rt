@@ -5,6 +5,8 @@
 #[cfg(test)]
 mod buffer;
 #[cfg(test)]
+mod checks;
+#[cfg(test)]
 mod devices;
 #[cfg(test)]
 mod replays;

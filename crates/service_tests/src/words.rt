@@ -29,6 +29,12 @@ fn jobs(rt: HostRuntime) {
     );
     let words = ["reset-service", "replay", "a", "b c"];
     assert!(rt; matches!(read_words(alloc, &words), Ok(job) if job == paths));
+    let paths = Job::Check {
+        topology: "a",
+        script: "b c",
+    };
+    let words = ["reset-service", "check", "a", "b c"];
+    assert!(rt; matches!(read_words(alloc, &words), Ok(job) if job == paths));
 }
 
 #[test]
@@ -39,12 +45,15 @@ fn mistakes_and_help(rt: HostRuntime) {
     let missing = Some(ErrorKind::MissingRequiredArgument);
     let help = Some(ErrorKind::DisplayHelp);
     assert!(rt;
-        kind_at(alloc, &[program, "check", "a", "b"]) == Some(ErrorKind::InvalidSubcommand)
+        kind_at(alloc, &[program, "verify", "a", "b"]) == Some(ErrorKind::InvalidSubcommand)
     );
-    assert!(rt; kind_at(alloc, &[program, "replay", "a", "b", "c"]) == mistake);
-    assert!(rt; kind_at(alloc, &[program, "replay", "a"]) == missing);
     assert!(rt; kind_at(alloc, &[program, "--help"]) == help);
-    assert!(rt; kind_at(alloc, &[program, "replay", "--help"]) == help);
+    for name in ["replay", "check"] {
+        assert!(rt; kind_at(alloc, &[program, name, "a", "b", "c"]) == mistake);
+        assert!(rt; kind_at(alloc, &[program, name, "a"]) == missing);
+        assert!(rt; kind_at(alloc, &[program, name]) == missing);
+        assert!(rt; kind_at(alloc, &[program, name, "--help"]) == help);
+    }
 }
 
 #[test]
