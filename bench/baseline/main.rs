@@ -3,6 +3,7 @@
 //! where the topology is good and names the application `idle`, and the script has no `act` and no
 //! `newest`.
 
+mod faults;
 mod network;
 mod script;
 mod tables;

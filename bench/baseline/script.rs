@@ -1,10 +1,12 @@
 //! Replaying a script: its lines, and the answers to them.
 
 use crate::MAX_TEXT;
+use crate::faults::check;
 use crate::network::{Network, Node, Phase, Tree, Wave};
-use crate::tables::{Refusal, Reply, Rows};
+use crate::tables::{Answer, Refusal, Reply, Rows};
 use crate::topology::number;
 use std::io::{self, Write};
+use std::slice;
 
 const MAX_LINE: usize = 256;
 
@@ -46,30 +48,49 @@ fn answer(network: &mut Network, line: &[u8], out: &mut impl Write) -> io::Resul
         (b"join", Some(Some(at)), None) => network.join(at),
         (b"finish", Some(Some(at)), None) => network.finish(at),
         (b"mend", Some(Some(at)), None) => network.mend(at),
-        (b"show", None, None) => {
-            network.nodes.iter().try_for_each(|node| show(node, out))?;
-            return Ok(true);
+        (b"alarm" | b"watch", Some(Some(at)), None) => network.find(at).map(|_| Reply::Quiet),
+        (b"show", Some(Some(at)), None) => ask(network, at, |node| show(node, out))?,
+        (b"enabled", Some(Some(at)), None) => ask(network, at, |node| enabled(network, node, out))?,
+        (b"check", Some(Some(at)), None) => {
+            ask(network, at, |node| check(network, slice::from_ref(node), out))?
         }
-        (b"show", Some(Some(id)), None) => match network.find(id) {
-            Ok(at) => return show(&network.nodes[at], out).map(|()| true),
-            Err(refusal) => Err(refusal),
-        },
-        (b"enabled", Some(Some(id)), None) => match network.find(id) {
-            Ok(at) => return enabled(network, &network.nodes[at], out).map(|()| true),
-            Err(refusal) => Err(refusal),
-        },
-        (b"ready", None, None) => return ready(network, out).map(|()| true),
+        (b"show", None, None) => told(network.nodes.iter().try_for_each(|node| show(node, out)))?,
+        (b"check", None, None) => told(check(network, &network.nodes, out))?,
+        (b"ready", None, None) => told(ready(network, out))?,
         _ => return Ok(false),
     };
-    match answer {
-        Ok(Reply::Applied) => out.write_all(b"applied\n")?,
-        Ok(Reply::Complete(session)) => writeln!(out, "complete {session}")?,
-        Err(Refusal::StrangeNode) => out.write_all(b"refused StrangeNode\n")?,
-        Err(Refusal::StrangeNeighbour) => out.write_all(b"refused StrangeNeighbour\n")?,
-        Err(Refusal::NotEnabled) => out.write_all(b"refused NotEnabled\n")?,
-        Err(Refusal::SessionsSpent) => out.write_all(b"refused SessionsSpent\n")?,
-    }
+    put_answer(answer, out)?;
     Ok(true)
+}
+
+/// The answer to a question about a node, which is told where there is such a node.
+fn ask(
+    network: &Network,
+    id: u32,
+    tell: impl FnOnce(&Node) -> io::Result<()>,
+) -> io::Result<Answer> {
+    match network.find(id) {
+        Ok(at) => told(tell(&network.nodes[at])),
+        Err(refusal) => Ok(Err(refusal)),
+    }
+}
+
+/// The answer that has been written already.
+fn told(written: io::Result<()>) -> io::Result<Answer> {
+    written.map(|()| Ok(Reply::Told))
+}
+
+fn put_answer(answer: Answer, out: &mut impl Write) -> io::Result<()> {
+    match answer {
+        Ok(Reply::Applied) => out.write_all(b"applied\n"),
+        Ok(Reply::Complete(session)) => writeln!(out, "complete {session}"),
+        Ok(Reply::Quiet) => out.write_all(b"quiet\n"),
+        Ok(Reply::Told) => Ok(()),
+        Err(Refusal::StrangeNode) => out.write_all(b"refused StrangeNode\n"),
+        Err(Refusal::StrangeNeighbour) => out.write_all(b"refused StrangeNeighbour\n"),
+        Err(Refusal::NotEnabled) => out.write_all(b"refused NotEnabled\n"),
+        Err(Refusal::SessionsSpent) => out.write_all(b"refused SessionsSpent\n"),
+    }
 }
 
 fn show(node: &Node, out: &mut impl Write) -> io::Result<()> {

@@ -19,6 +19,10 @@ fn some(rows: Rows) -> Result<(), Refusal> {
 pub enum Reply {
     Applied,
     Complete(u32),
+    /// To a question of an alarm.
+    Quiet,
+    /// The answer has been written already.
+    Told,
 }
 
 pub enum Refusal {
@@ -41,7 +45,7 @@ impl Network {
 
     // The tree table.
 
-    fn claim_rows(&self, node: &Node, up: Option<&Node>) -> Rows {
+    pub fn claim_rows(&self, node: &Node, up: Option<&Node>) -> Rows {
         let Node { id, tree, .. } = *node;
         let own = tree.father == id;
         row(1, tree.root < id)
@@ -50,7 +54,7 @@ impl Network {
             | row(4, tree.dist >= self.bound())
     }
 
-    fn follow_rows(&self, node: &Node, up: Option<&Node>) -> Rows {
+    pub fn follow_rows(&self, node: &Node, up: Option<&Node>) -> Rows {
         let tree = node.tree;
         match up {
             Some(up) if tree.dist < self.bound() => {
@@ -61,7 +65,7 @@ impl Network {
         }
     }
 
-    fn adopt_rows(&self, node: &Node, from: &Node) -> Rows {
+    pub fn adopt_rows(&self, node: &Node, from: &Node) -> Rows {
         let (tree, near) = (node.tree, from.tree);
         let below = near.dist < self.bound();
         row(7, below && tree.root < near.root)
@@ -133,7 +137,7 @@ impl Network {
         row(6, done && !root) | row(7, done && root)
     }
 
-    fn mend_rows(node: &Node, up: Option<&Node>) -> Rows {
+    pub fn mend_rows(node: &Node, up: Option<&Node>) -> Rows {
         let Some(up) = up else {
             return 0;
         };
