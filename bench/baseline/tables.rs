@@ -59,7 +59,7 @@ impl Network {
         match up {
             Some(up) if tree.dist < self.bound() => {
                 let same = tree.root == up.tree.root;
-                row(5, !same) | row(6, same && tree.dist != up.tree.dist + 1)
+                row(5, !same) | row(6, same && u64::from(tree.dist) != u64::from(up.tree.dist) + 1)
             }
             _ => 0,
         }
@@ -91,7 +91,7 @@ impl Network {
         let node = &self.nodes[at];
         let up = self.father(node).ok_or(Refusal::NotEnabled)?;
         some(self.follow_rows(node, Some(up)))?;
-        let dist = (up.tree.dist + 1).min(self.bound());
+        let dist = up.tree.dist.saturating_add(1).min(self.bound());
         self.nodes[at].tree = Tree { root: up.tree.root, dist, ..node.tree };
         Ok(Reply::Applied)
     }
