@@ -31,7 +31,7 @@ reading-list:
 	@tools/reading-list >build/trust.md
 	@mv build/trust.md docs/trust.md
 
-# Compares the program with a plain Rust program of the same replay, bench/baseline.rs. Needs rustc,
+# Compares the program with a plain Rust program of the same replay, bench/baseline. Needs rustc,
 # valgrind and GNU time beside.
 bench: build
 	@bash bench/run build/reset-service

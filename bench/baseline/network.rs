@@ -1,0 +1,144 @@
+//! The network, and what is known of it at the start.
+
+use std::collections::VecDeque;
+
+const MAX_NODES: usize = 1024;
+const MAX_LINKS: usize = 8192;
+
+#[derive(Clone, Copy)]
+pub struct Tree {
+    pub root: u32,
+    pub father: u32,
+    pub dist: u32,
+}
+
+#[derive(Clone, Copy, PartialEq, Eq)]
+pub enum Phase {
+    Normal,
+    Initiate,
+    Reset,
+}
+
+#[derive(Clone, Copy)]
+pub struct Wave {
+    pub phase: Phase,
+    pub session: u32,
+}
+
+impl Wave {
+    /// Whether the other's session is the one after this.
+    pub fn is_before(self, other: Wave) -> bool {
+        Some(other.session) == self.session.checked_add(1)
+    }
+}
+
+pub struct Node {
+    pub id: u32,
+    pub tree: Tree,
+    pub wave: Wave,
+    /// The places of the neighbours, ascending.
+    pub near: Vec<usize>,
+}
+
+pub struct Network {
+    /// By ascending id.
+    pub nodes: Vec<Node>,
+    /// The place of each id among the nodes.
+    pub places: Vec<Option<u16>>,
+}
+
+/// The network in which each node has its place in the tree of shortest ways to the greatest id. None
+/// where the ids, which ascend, and the links are no connected graph.
+pub fn boot(ids: Vec<u32>, links: &[(u32, u32)]) -> Option<Network> {
+    let (least, root) = (*ids.first()?, *ids.last()?);
+    let twice = ids.windows(2).any(|pair| pair[0] == pair[1]);
+    if ids.len() > MAX_NODES || links.len() > MAX_LINKS || least < 1 || root > 65535 || twice {
+        return None;
+    }
+    let mut places = vec![None; root as usize + 1];
+    for (place, id) in ids.iter().enumerate() {
+        places[*id as usize] = Some(place as u16);
+    }
+    let near = neighbours(&places, ids.len(), links)?;
+    let dists = distances(&near, ids.len() - 1);
+    let nodes = near.into_iter().enumerate().map(|(place, near)| {
+        let dist = dists[place]?;
+        let nearer = near.iter().find(|near| dists[**near].is_some_and(|d| d + 1 == dist));
+        Some(Node {
+            id: ids[place],
+            tree: Tree { root, father: nearer.map_or(root, |near| ids[*near]), dist },
+            wave: Wave { phase: Phase::Normal, session: 0 },
+            near,
+        })
+    });
+    Some(Network { nodes: nodes.collect::<Option<_>>()?, places })
+}
+
+/// The places of each node's neighbours, ascending.
+fn neighbours(
+    places: &[Option<u16>],
+    count: usize,
+    links: &[(u32, u32)],
+) -> Option<Vec<Vec<usize>>> {
+    let place = |id: u32| places.get(id as usize).copied().flatten().map(usize::from);
+    let mut near = vec![Vec::new(); count];
+    for (a, b) in links {
+        let (i, j) = (place(*a)?, place(*b)?);
+        near[i].push(j);
+        near[j].push(i);
+    }
+    for (place, row) in near.iter_mut().enumerate() {
+        row.sort_unstable();
+        if row.windows(2).any(|pair| pair[0] == pair[1]) || row.binary_search(&place).is_ok() {
+            return None;
+        }
+    }
+    Some(near)
+}
+
+/// The distance of each node from one, where there is a way.
+fn distances(near: &[Vec<usize>], from: usize) -> Vec<Option<u32>> {
+    let mut dists = vec![None; near.len()];
+    dists[from] = Some(0);
+    let mut queue = VecDeque::from([(from, 0)]);
+    while let Some((place, dist)) = queue.pop_front() {
+        for next in &near[place] {
+            if dists[*next].is_none() {
+                dists[*next] = Some(dist + 1);
+                queue.push_back((*next, dist + 1));
+            }
+        }
+    }
+    dists
+}
+
+impl Network {
+    pub fn bound(&self) -> u32 {
+        self.nodes.len() as u32
+    }
+
+    pub fn place(&self, id: u32) -> Option<usize> {
+        self.places.get(id as usize).copied().flatten().map(usize::from)
+    }
+
+    /// The neighbour with this id.
+    pub fn neighbour(&self, node: &Node, id: u32) -> Option<&Node> {
+        let place = self.place(id).filter(|place| node.near.binary_search(place).is_ok())?;
+        Some(&self.nodes[place])
+    }
+
+    /// The father, where it is a neighbour.
+    pub fn father(&self, node: &Node) -> Option<&Node> {
+        self.neighbour(node, node.tree.father)
+    }
+
+    pub fn neighbours(&self, node: &Node) -> impl Iterator<Item = &Node> {
+        node.near.iter().map(|place| &self.nodes[*place])
+    }
+
+    /// The neighbours whose father the node is.
+    pub fn children(&self, node: &Node) -> impl Iterator<Item = &Node> {
+        let id = node.id;
+        self.neighbours(node).filter(move |near| near.tree.father == id)
+    }
+}

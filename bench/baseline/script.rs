@@ -1,0 +1,134 @@
+//! Replaying a script: its lines, and the answers to them.
+
+use crate::MAX_TEXT;
+use crate::faults::check;
+use crate::network::{Network, Node, Phase, Tree, Wave};
+use crate::tables::{Answer, Refusal, Reply, Rows};
+use crate::topology::number;
+use std::io::{self, Write};
+use std::slice;
+
+const MAX_LINE: usize = 256;
+
+/// Answers the lines of a script, and says whether all of it was good.
+pub fn replay(network: &mut Network, script: &[u8], out: &mut impl Write) -> io::Result<bool> {
+    if script.len() > MAX_TEXT {
+        out.write_all(b"bad script TooLong\n")?;
+        return Ok(false);
+    }
+    for (before, line) in script.split(|byte| *byte == b'\n').enumerate() {
+        let bad = line.len() > MAX_LINE;
+        if !bad && (line.is_empty() || line[0] == b'#') {
+            continue;
+        }
+        if bad || !answer(network, line, out)? {
+            writeln!(out, "bad line {}", before + 1)?;
+            return Ok(false);
+        }
+    }
+    Ok(true)
+}
+
+/// Does what a line says and writes the answer, or says that it is no command.
+fn answer(network: &mut Network, line: &[u8], out: &mut impl Write) -> io::Result<bool> {
+    let mut words = line.split(|byte| *byte == b' ');
+    let command = words.next().unwrap_or_default();
+    let one = words.next().map(number);
+    let two = words.next().map(number);
+    if words.next().is_some() {
+        return Ok(false);
+    }
+    let answer = match (command, one, two) {
+        (b"claim", Some(Some(at)), None) => network.claim(at),
+        (b"follow", Some(Some(at)), None) => network.follow(at),
+        (b"adopt", Some(Some(at)), Some(Some(from))) => network.adopt(at, from),
+        (b"request", Some(Some(at)), None) => network.request(at),
+        (b"relay", Some(Some(at)), Some(Some(child))) => network.relay(at, child),
+        (b"open", Some(Some(at)), None) => network.open(at),
+        (b"join", Some(Some(at)), None) => network.join(at),
+        (b"finish", Some(Some(at)), None) => network.finish(at),
+        (b"mend", Some(Some(at)), None) => network.mend(at),
+        (b"alarm" | b"watch", Some(Some(at)), None) => network.find(at).map(|_| Reply::Quiet),
+        (b"show", Some(Some(at)), None) => ask(network, at, |node| show(node, out))?,
+        (b"enabled", Some(Some(at)), None) => ask(network, at, |node| enabled(network, node, out))?,
+        (b"check", Some(Some(at)), None) => {
+            ask(network, at, |node| check(network, slice::from_ref(node), out))?
+        }
+        (b"show", None, None) => told(network.nodes.iter().try_for_each(|node| show(node, out)))?,
+        (b"check", None, None) => told(check(network, &network.nodes, out))?,
+        (b"ready", None, None) => told(ready(network, out))?,
+        _ => return Ok(false),
+    };
+    put_answer(answer, out)?;
+    Ok(true)
+}
+
+/// The answer to a question about a node, which is told where there is such a node.
+fn ask(
+    network: &Network,
+    id: u32,
+    tell: impl FnOnce(&Node) -> io::Result<()>,
+) -> io::Result<Answer> {
+    match network.find(id) {
+        Ok(at) => told(tell(&network.nodes[at])),
+        Err(refusal) => Ok(Err(refusal)),
+    }
+}
+
+/// The answer that has been written already.
+fn told(written: io::Result<()>) -> io::Result<Answer> {
+    written.map(|()| Ok(Reply::Told))
+}
+
+fn put_answer(answer: Answer, out: &mut impl Write) -> io::Result<()> {
+    match answer {
+        Ok(Reply::Applied) => out.write_all(b"applied\n"),
+        Ok(Reply::Complete(session)) => writeln!(out, "complete {session}"),
+        Ok(Reply::Quiet) => out.write_all(b"quiet\n"),
+        Ok(Reply::Told) => Ok(()),
+        Err(Refusal::StrangeNode) => out.write_all(b"refused StrangeNode\n"),
+        Err(Refusal::StrangeNeighbour) => out.write_all(b"refused StrangeNeighbour\n"),
+        Err(Refusal::NotEnabled) => out.write_all(b"refused NotEnabled\n"),
+        Err(Refusal::SessionsSpent) => out.write_all(b"refused SessionsSpent\n"),
+    }
+}
+
+fn show(node: &Node, out: &mut impl Write) -> io::Result<()> {
+    let Node { id, tree: Tree { root, father, dist }, wave: Wave { phase, session }, .. } = node;
+    let phase = match phase {
+        Phase::Normal => "normal",
+        Phase::Initiate => "initiate",
+        Phase::Reset => "reset",
+    };
+    writeln!(out, "node {id} tree {root} {father} {dist} wave {phase} {session} local -")
+}
+
+fn enabled(network: &Network, node: &Node, out: &mut impl Write) -> io::Result<()> {
+    write!(out, "enabled {} tree ", node.id)?;
+    put_rows(network.tree_rows(node), out)?;
+    out.write_all(b" wave ")?;
+    put_rows(network.wave_rows(node), out)?;
+    out.write_all(b" act -\n")
+}
+
+fn put_rows(rows: Rows, out: &mut impl Write) -> io::Result<()> {
+    if rows == 0 {
+        return out.write_all(b"-");
+    }
+    let mut comma = "";
+    for row in (1..16).filter(|row| rows >> row & 1 == 1) {
+        write!(out, "{comma}{row}")?;
+        comma = ",";
+    }
+    Ok(())
+}
+
+fn ready(network: &Network, out: &mut impl Write) -> io::Result<()> {
+    out.write_all(b"ready")?;
+    let mut none = true;
+    for node in network.nodes.iter().filter(|node| network.is_ready(node)) {
+        write!(out, " {}", node.id)?;
+        none = false;
+    }
+    out.write_all(if none { b" -\n" } else { b"\n" })
+}
