@@ -2,7 +2,7 @@
 
 use clap::Error;
 use clap::error::ErrorKind;
-use reset_service::{Job, LineFault, no_text, read_words};
+use reset_service::{Job, LineFault, Paths, no_text, read_words};
 use std::alloc::{AllocError, Global};
 
 // The kind of clap's error at these words.
@@ -16,7 +16,7 @@ fn kind_at(alloc: Global, words: &[&str]) -> Option<ErrorKind> {
 #[test]
 fn jobs(rt: HostRuntime) {
     let alloc = rt.alloc();
-    let paths = Job::Replay {
+    let paths = Paths {
         topology: "a",
         script: "b c",
     };
@@ -28,13 +28,9 @@ fn jobs(rt: HostRuntime) {
         )
     );
     let words = ["reset-service", "replay", "a", "b c"];
-    assert!(rt; matches!(read_words(alloc, &words), Ok(job) if job == paths));
-    let paths = Job::Check {
-        topology: "a",
-        script: "b c",
-    };
+    assert!(rt; matches!(read_words(alloc, &words), Ok(job) if job == Job::Replay(paths)));
     let words = ["reset-service", "check", "a", "b c"];
-    assert!(rt; matches!(read_words(alloc, &words), Ok(job) if job == paths));
+    assert!(rt; matches!(read_words(alloc, &words), Ok(job) if job == Job::Check(paths)));
 }
 
 #[test]
