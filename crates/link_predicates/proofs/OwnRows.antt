@@ -4,6 +4,7 @@ use Rattle.std.specs.Option.{option_map_or}
 use Rattle.std.proofs.lemmas.Bool.{eq-eqb}
 use Rattle.std.proofs.lemmas.Bool.Decides.{eqb_tells, leb_tells}
 use Rattle.action_tables.specs.Table.{enabled_of}
+use Rattle.app_interface.specs.Application.{App}
 use Rattle.topology.specs.Graph.{Graph, IsGraph, are_linked, neighbours_of}
 use Rattle.tree_layer.specs.declared.regs.TreeRegs.{TreeRegs}
 use Rattle.tree_layer.specs.TreeRows.{Claims, claim_far, claim_low, claim_self, claim_stray}
@@ -11,7 +12,9 @@ use Rattle.tree_layer.specs.TreeTable.{LocalView, father_passes, near_regs, tree
 use Rattle.wave_layer.specs.declared.regs.WaveRegs.{WaveRegs}
 use Rattle.wave_layer.specs.declared.regs.Phase.TheVariants.{Normal}
 use Rattle.reset_machine.proofs.TreePlans.{near_regs-linked}
-use Rattle.link_predicates.specs.Faults.{first_enabled}
+use Rattle.reset_machine.specs.Configuration.{Configuration, tree_of}
+use Rattle.reset_machine.specs.View.{Neighbour, near_of}
+use Rattle.link_predicates.specs.Faults.{first_enabled, own_row}
 use Rattle.link_predicates.proofs.EnabledRows.{Eq, Le, Lt, Tells, first_by, first_of, row_holds}
 
 abbrev pub seeing : ℕ → ℕ → TreeRegs → List (ℕ × TreeRegs) → LocalView
@@ -51,13 +54,13 @@ module _ (g : Graph) (t : ℕ → TreeRegs) (graph : IsGraph g) (i : ℕ) where
   whole : (b : Bool) → are_linked g i (t i).father ≡ b → father_passes (λ _. true) (seeing i g.bound (t i) all_near) ≡ passes b
   whole b linked = ap (λ o. option_map_or (λ (_ : TreeRegs). true) o false) (near_regs-linked g g.bound t wave graph i (t i).father) ∙ ap passes linked
 
-  pub father_seen : (up : TreeRegs) → are_linked g i (t i).father ≡ true → first_own i g.bound (t i) (((t i).father, up) ∷ []) ≡ first_own i g.bound (t i) all_near
+  father_seen : (up : TreeRegs) → are_linked g i (t i).father ≡ true → first_own i g.bound (t i) (((t i).father, up) ∷ []) ≡ first_own i g.bound (t i) all_near
   father_seen up linked =
       let near = ((t i).father, up) ∷ [] in
       same_own_rows i g.bound (t i) near all_near near all_near
       (ap (λ b. option_map_or (λ (_ : TreeRegs). true) (cond b (Some up) None) false) (eq-eqb _ _ refl) ∙ sym (whole true linked))
 
-  pub no_father_seen : are_linked g i (t i).father ≡ false → first_own i g.bound (t i) [] ≡ first_own i g.bound (t i) all_near
+  no_father_seen : are_linked g i (t i).father ≡ false → first_own i g.bound (t i) [] ≡ first_own i g.bound (t i) all_near
   no_father_seen stray = same_own_rows i g.bound (t i) [] all_near [] all_near (sym (whole false stray))
 
   near_some : (b : Bool) → are_linked g i (t i).father ≡ b → near_regs (t i).father all_near ≡ cond b (Some (t (t i).father)) None
@@ -107,3 +110,19 @@ module _ (g : Graph) (t : ℕ → TreeRegs) (graph : IsGraph g) (i : ℕ) where
       low : Lt (t i).root i → Answered
       low (inl below) = rw below.0 (claim_low below.1)
       low (inr high) = high_root high.0 (omega (arith, high.1)) (eqb_tells (t i).father i)
+
+-- what is asked at a node with what it has there, by whether its father is a neighbour
+module _ {L : Type 0} (app : App L) (c : Configuration L) (graph : IsGraph c.graph) (i K : ℕ) (own : Neighbour L) (is : own ≡ near_of app c i) (bound : K ≡ c.graph.bound) where
+  asked_alike : (near : TreeRegs → List (ℕ × TreeRegs)) → first_own own.id K own.tree (near own.tree) ≡ first_own i c.graph.bound (tree_of c i) (near (tree_of c i))
+  asked_alike near =
+      ap (λ k. first_own own.id k own.tree (near own.tree)) bound
+      ∙ ap (λ (n : Neighbour L). first_own n.id c.graph.bound n.tree (near n.tree)) is
+
+  linked_alike : are_linked c.graph i own.tree.father ≡ are_linked c.graph i (tree_of c i).father
+  linked_alike = ap (λ (n : Neighbour L). are_linked c.graph i n.tree.father) is
+
+  pub father_row : (up : TreeRegs) → are_linked c.graph i own.tree.father ≡ true → first_own own.id K own.tree ((own.tree.father, up) ∷ []) ≡ own_row c i
+  father_row up linked = asked_alike (λ regs. (regs.father, up) ∷ []) ∙ father_seen c.graph (tree_of c) graph i up (sym linked_alike ∙ linked)
+
+  pub stray_row : are_linked c.graph i own.tree.father ≡ false → first_own own.id K own.tree [] ≡ own_row c i
+  stray_row stray = asked_alike (λ regs. []) ∙ no_father_seen c.graph (tree_of c) graph i (sym linked_alike ∙ stray)
