@@ -110,7 +110,7 @@ module _ {L : Type 0} (app : App L) (c : Configuration L) (graph : IsGraph c.gra
         (no_tree i j (tree_row g.bound (near_of app c i) (near_of app c j)) (later i j) (link i j linked)).1).0
 
     right : (i j : ℕ) (linked : AreLinked g i j) → (IsFather g t i j × Follows g g.bound t i) ⊎ Adopts g g.bound t i j → ⊥
-    right i j linked = told_right _ (end_tells g g.bound t i j linked) (tree i j linked)
+    right i j linked = told_right _ (end_tells g g.bound t graph i j linked) (tree i j linked)
 
     follows : (i : ℕ) → Follows g g.bound t i → ⊥
     follows i (follow_root j father near apart) = right i j father.linked (inl (father, follow_root j father near apart))
@@ -135,7 +135,7 @@ module _ {L : Type 0} (app : App L) (c : Configuration L) (graph : IsGraph c.gra
 
   module _ (are : IsSound c) where
     tree_silent : (i j : ℕ) → AreLinked g i j → tree_row g.bound (near_of app c i) (near_of app c j) ≡ None
-    tree_silent i j linked = told_wrong _ (end_tells g g.bound t i j linked) rests
+    tree_silent i j linked = told_wrong _ (end_tells g g.bound t graph i j linked) rests
       where
         rests : (IsFather g t i j × Follows g g.bound t i) ⊎ Adopts g g.bound t i j → ⊥
         rests (inl other) = (are.tree i (graph.ends i j linked)).follows other.1

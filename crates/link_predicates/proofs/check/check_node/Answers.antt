@@ -9,7 +9,8 @@ pub returns-clause-ok : goal.returns-clause-ok
 returns-clause-ok g c =
     let config = c.args.config.now in
     let faults_at = node_faults g.P.Application.app config in
-    let found = c.in-Some.ensures.found in (
+    let found = c.in-Some.ensures.found in
+    let id = slice_index config.graph.ids c.in-Some.index in (
       found.0,
-      c.in_ok-add_node.ensures ∙ ap (λ l. l ++ faults_at (slice_index config.graph.ids c.in-Some.index)) c.new-found.ensures.items ∙ ap faults_at found.2,
+      c.in_ok-add_node.ensures ∙ ap (λ l. l ++ faults_at id) c.new-found.ensures.items ∙ ap faults_at found.2,
     )

@@ -7,10 +7,14 @@ pub returns-in-Some : goal.returns-in-Some
 returns-in-Some g c =
     let Linked : Graph → Type 0 = λ h. are_linked h (slice_index h.ids c.args.index) c.own.inside.tree.father ≡ true in
     c.own_row.ensures
-    ∙ father_row g.P.Application.app c.args.config.now c.is_graph.ensures.graph _ _ _ (c.own.view_is ∙ c.requires.there) c.bound_of-k.ensures.value _ (subst Linked c.topology-topology.ensures c.in-Some.ensures.found.1)
+    ∙ father_row g.P.Application.app c.args.config.now c.is_graph.ensures.graph _ _ _
+    (c.own.view_is ∙ c.requires.there) c.bound_of-k.ensures.value _
+    (subst Linked c.topology-topology.ensures c.in-Some.ensures.found.1)
 
 pub returns-in-None : goal.returns-in-None
 returns-in-None g c =
     let Stray : Graph → Type 0 = λ h. are_linked h (slice_index h.ids c.args.index) c.own.inside.tree.father ≡ false in
     c.own_row-in-None.ensures
-    ∙ stray_row g.P.Application.app c.args.config.now c.is_graph.ensures.graph _ _ _ (c.own.view_is ∙ c.requires.there) c.bound_of-k.ensures.value (subst Stray c.topology-topology.ensures c.in-None.ensures.none)
+    ∙ stray_row g.P.Application.app c.args.config.now c.is_graph.ensures.graph _ _ _
+    (c.own.view_is ∙ c.requires.there) c.bound_of-k.ensures.value
+    (subst Stray c.topology-topology.ensures c.in-None.ensures.none)
