@@ -20,7 +20,7 @@ use Rattle.link_predicates.specs.Faults.{app_row, fault_of, faults, is_of_app, l
 use Rattle.link_predicates.specs.declared.fault.Family.TheVariants.{Tree, Wave, App as OfApp}
 use Rattle.link_predicates.specs.declared.fault.LinkFault.{LinkFault}
 use Rattle.link_predicates.proofs.EnabledRows.{told_right, told_wrong}
-use Rattle.link_predicates.proofs.LinkRows.{Denies, end_tells, mending_tells}
+use Rattle.link_predicates.proofs.LinkRows.{Denies, denied_where_right, end_tells, mending_tells}
 use Rattle.link_predicates.proofs.OwnRows.{own_tells}
 
 -- all that the lists have pass exactly where all of each list do
@@ -52,10 +52,6 @@ of_app i j (Some row) = refl
 right_where_denied : {Right : Type 0} (o : Option ℕ) → Denies Right o → o ≡ None → Right
 right_where_denied None right none = right
 right_where_denied (Some row) wrong none = absurd (none-some row (sym none))
-
-denied_where_right : {Right : Type 0} (o : Option ℕ) → Denies Right o → Right → o ≡ None
-denied_where_right None denies right = refl
-denied_where_right (Some row) denies right = absurd (denies right)
 
 module _ {L : Type 0} (app : App L) (c : Configuration L) (graph : IsGraph c.graph) where
   abbrev g : Graph

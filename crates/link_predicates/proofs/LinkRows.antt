@@ -100,6 +100,10 @@ abbrev pub Denies : Type 0 → Option ℕ → Type 0
 Denies Right None = Right
 Denies Right (Some row) = Right → ⊥
 
+pub denied_where_right : {Right : Type 0} (o : Option ℕ) → Denies Right o → Right → o ≡ None
+denied_where_right None denies right = refl
+denied_where_right (Some row) denies right = absurd (denies right)
+
 -- rows 8 to 11 of the wave table tell whether the wave predicate fails
 pub mending_tells : (own up : WaveRegs) → Denies (WaveHolds own up) (mending_row own up)
 mending_tells own up =

@@ -8,6 +8,7 @@ ghost use Rattle.link_predicates.specs.declared.fault.Family.TheVariants.{Tree};
 
 use crate::end::{End, end_at};
 use crate::fault::{Family, LinkFault};
+use crate::quiet::is_quiet;
 use crate::rows;
 use app_interface::Application;
 use reset_machine::{Config, StepRefusal};
@@ -151,12 +152,15 @@ fn add_links<P: Application>(
     config.is_graph();
     let k = bound_of(config);
     for near in config.topology().neighbours(index) {
-        add_link(found, k, &*own, &end_at(config, *near))?;
+        if !is_quiet(k, &*own, &end_at(config, *near)) {
+            add_link(found, k, &*own, &end_at(config, *near))?;
+        }
     }
     Ok(())
 }
 
-// Adds the faults at a node's end of a link.
+// Adds the faults at a node's end of a link. It is seldom called: most ends are quiet.
+#[inline(never)]
 fn add_link<P: Application>(
     found: &mut Vec<LinkFault>,
     k: u32,
