@@ -4,6 +4,7 @@ pub mod Invariant
 pub mod Idle
 pub mod Ids
 pub mod Views
+pub mod LinkTables
 pub mod Listing
 pub mod LawsOfIdle
 pub mod LawsOfViews

@@ -1,8 +1,9 @@
 -- The link table of the routes: what no link shows where every entry is a route.
-use Rattle.std.specs.Prelude.{ℕ, ◌-◌, ◌==◌, ◌&&◌, Bool, false, ltb, List, [], ◌∷◌, Option, codes, slice_get}
+use Rattle.std.specs.Prelude.{ℕ, ◌-◌, ◌==◌, ◌&&◌, Bool, false, ltb, List, [], ◌∷◌, Option, codes}
 use Rattle.std.specs.List.{list_any}
 use Rattle.std.specs.Option.{is_none, option_map_or}
-use Rattle.action_tables.specs.Table.{Row, enabled_of}
+use Rattle.action_tables.specs.Table.{Row}
+use Rattle.app_interface.specs.LinkTables.{least_fault, link_row}
 use Rattle.app_routes.specs.Entries.{route_of}
 use Rattle.app_routes.specs.declared.entry.Entry.{Entry}
 
@@ -23,24 +24,13 @@ leads_no_nearer j theirs e =
 -- fault
 abbrev pub routes_links : ℕ → List Entry → List Entry → List (Row (Unit {0}))
 routes_links j own theirs =
-    record {
-      number = 1;
-      name = codes "no-entry";
-      guard = codes "own entry (d, h, other) with h > 0, other has no entry for d";
-      effect = codes "fault";
-      holds = list_any (leads_nowhere j theirs) own;
-      does = tt;
-    }
-    ∷ record {
-      number = 2;
-      name = codes "not-nearer";
-      guard = codes "own entry (d, h, other) with h > 0, other's entry for d has more than h - 1 hops";
-      effect = codes "fault";
-      holds = list_any (leads_no_nearer j theirs) own;
-      does = tt;
-    }
+    link_row 1 (codes "no-entry") (codes "own entry (d, h, other) with h > 0, other has no entry for d")
+    (list_any (leads_nowhere j theirs) own)
+    ∷ link_row 2 (codes "not-nearer")
+    (codes "own entry (d, h, other) with h > 0, other's entry for d has more than h - 1 hops")
+    (list_any (leads_no_nearer j theirs) own)
     ∷ []
 
 -- the least of the rows that hold
 abbrev pub routes_link_fault : ℕ → List Entry → List Entry → Option ℕ
-routes_link_fault j own theirs = slice_get (enabled_of (routes_links j own theirs)) 0
+routes_link_fault j own theirs = least_fault (routes_links j own theirs)

@@ -1,6 +1,7 @@
 -- The link table of the token: what no link shows where there is one token.
-use Rattle.std.specs.Prelude.{ℕ, ◌&&◌, ◌||◌, Bool, List, [], ◌∷◌, Option, codes, slice_get}
-use Rattle.action_tables.specs.Table.{Row, enabled_of}
+use Rattle.std.specs.Prelude.{ℕ, ◌&&◌, ◌||◌, Bool, List, [], ◌∷◌, Option, codes}
+use Rattle.action_tables.specs.Table.{Row}
+use Rattle.app_interface.specs.LinkTables.{least_fault, link_row}
 use Rattle.app_token.specs.Bits.{bit_of, differ}
 use Rattle.app_token.specs.declared.local.TokenLocal.{TokenLocal}
 
@@ -24,32 +25,12 @@ two_flights i j own theirs = is_in_flight i j own theirs && is_in_flight j i the
 -- the rows of the link between node i and its neighbour j, asked at i. A row that holds is a fault
 abbrev pub token_links : ℕ → ℕ → TokenLocal → TokenLocal → List (Row (Unit {0}))
 token_links i j own theirs =
-    record {
-      number = 1;
-      name = codes "two-hold";
-      guard = codes "own holds, other holds";
-      effect = codes "fault";
-      holds = two_hold own theirs;
-      does = tt;
-    }
-    ∷ record {
-      number = 2;
-      name = codes "hold-and-flight";
-      guard = codes "own or other holds, a bit is in flight on the link";
-      effect = codes "fault";
-      holds = hold_and_flight i j own theirs;
-      does = tt;
-    }
-    ∷ record {
-      number = 3;
-      name = codes "two-flights";
-      guard = codes "bits are in flight in both directions";
-      effect = codes "fault";
-      holds = two_flights i j own theirs;
-      does = tt;
-    }
+    link_row 1 (codes "two-hold") (codes "own holds, other holds") (two_hold own theirs)
+    ∷ link_row 2 (codes "hold-and-flight") (codes "own or other holds, a bit is in flight on the link")
+    (hold_and_flight i j own theirs)
+    ∷ link_row 3 (codes "two-flights") (codes "bits are in flight in both directions") (two_flights i j own theirs)
     ∷ []
 
 -- the least of the rows that hold
 abbrev pub token_link_fault : ℕ → ℕ → TokenLocal → TokenLocal → Option ℕ
-token_link_fault i j own theirs = slice_get (enabled_of (token_links i j own theirs)) 0
+token_link_fault i j own theirs = least_fault (token_links i j own theirs)

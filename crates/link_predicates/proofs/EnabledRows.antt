@@ -1,9 +1,16 @@
 -- A row is among the enabled ones exactly where its guard holds.
-use Rattle.std.proofs.Common.{◌≡◌, ◌≢◌, ◌⊎◌, ◌<◌, ◌≤◌, suc, nat_eq, nat_le, nat_lt, ℕ, Bool, true, false, cond, ◌&&◌, ◌||◌, ◌==◌, List, [], ◌∷◌, map, filter, Option, Some, None, refl, sym, ap, ◌∙◌}
+use Rattle.std.proofs.Common.{◌≡◌, ◌≢◌, ◌⊎◌, ◌<◌, ◌≤◌, suc, nat_eq, nat_lt, ℕ, Bool, true, false, cond, ◌&&◌, ◌||◌, ◌==◌, List, [], ◌∷◌, map, filter, Option, Some, None, Result, Ok, Err, refl, sym, ap, ◌∙◌}
 use Rattle.std.specs.List.{list_any}
 use Rattle.action_tables.specs.Numbers.{is_among}
 use Rattle.std.proofs.lemmas.Option.{none-some}
 use Rattle.action_tables.specs.Table.{Row, enabled_of}
+use Rattle.tree_layer.specs.declared.regs.TreeRegs.{TreeRegs}
+use Rattle.tree_layer.specs.declared.regs.TreeRefusal.TheVariants.{NotEnabled}
+use Rattle.wave_layer.specs.declared.regs.WaveRegs.{WaveRegs}
+use Rattle.wave_layer.specs.declared.regs.Phase.TheVariants.{Normal}
+use Rattle.reset_machine.specs.LocalSteps.{tree_answer}
+use Rattle.reset_machine.specs.declared.plan.Fired.{Fired}
+use Rattle.reset_machine.specs.declared.step.StepRefusal.{StepRefusal}
 use Rattle.link_predicates.specs.Faults.{first_enabled}
 
 and_true : (b : Bool) → (b && true) ≡ b
@@ -56,12 +63,17 @@ pub told_right : {Wrong : Type 0} (o : Option ℕ) → Tells Wrong o → o ≡ N
 told_right None tells none = tells
 told_right (Some row) tells none = absurd (none-some row (sym none))
 
+-- what a row of the tree table that leaves these registers answers
+abbrev pub answer_if : Bool → TreeRegs → Result Fired StepRefusal
+answer_if holds regs = tree_answer (cond holds (Ok regs) (Err NotEnabled))
+
+-- registers of the wave, at which the tree table doesn't look
+abbrev pub no_wave : ℕ → WaveRegs
+no_wave j = record { phase = Normal; session = 0 }
+
 -- what a test of two numbers tells of them
 abbrev pub Eq : ℕ → ℕ → Type 0
 Eq a b = ((nat_eq a b ≡ true) × (a ≡ b)) ⊎ ((nat_eq a b ≡ false) × (a ≢ b))
 
 abbrev pub Lt : ℕ → ℕ → Type 0
 Lt a b = ((nat_lt a b ≡ true) × (suc a ≤ b)) ⊎ ((nat_lt a b ≡ false) × (b < suc a))
-
-abbrev pub Le : ℕ → ℕ → Type 0
-Le a b = ((nat_le a b ≡ true) × (a ≤ b)) ⊎ ((nat_le a b ≡ false) × (b < a))

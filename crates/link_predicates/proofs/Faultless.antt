@@ -20,7 +20,7 @@ use Rattle.link_predicates.specs.Faults.{app_row, fault_of, faults, is_of_app, l
 use Rattle.link_predicates.specs.declared.fault.Family.TheVariants.{Tree, Wave, App as OfApp}
 use Rattle.link_predicates.specs.declared.fault.LinkFault.{LinkFault}
 use Rattle.link_predicates.proofs.EnabledRows.{told_right, told_wrong}
-use Rattle.link_predicates.proofs.LinkRows.{Denies, end_tells, mending_tells}
+use Rattle.link_predicates.proofs.LinkRows.{Denies, denied_where_right, end_tells, mending_tells}
 use Rattle.link_predicates.proofs.OwnRows.{own_tells}
 
 -- all that the lists have pass exactly where all of each list do
@@ -52,10 +52,6 @@ of_app i j (Some row) = refl
 right_where_denied : {Right : Type 0} (o : Option ℕ) → Denies Right o → o ≡ None → Right
 right_where_denied None right none = right
 right_where_denied (Some row) wrong none = absurd (none-some row (sym none))
-
-denied_where_right : {Right : Type 0} (o : Option ℕ) → Denies Right o → Right → o ≡ None
-denied_where_right None denies right = refl
-denied_where_right (Some row) denies right = absurd (denies right)
 
 module _ {L : Type 0} (app : App L) (c : Configuration L) (graph : IsGraph c.graph) where
   abbrev g : Graph
@@ -110,7 +106,7 @@ module _ {L : Type 0} (app : App L) (c : Configuration L) (graph : IsGraph c.gra
         (no_tree i j (tree_row g.bound (near_of app c i) (near_of app c j)) (later i j) (link i j linked)).1).0
 
     right : (i j : ℕ) (linked : AreLinked g i j) → (IsFather g t i j × Follows g g.bound t i) ⊎ Adopts g g.bound t i j → ⊥
-    right i j linked = told_right _ (end_tells g g.bound t i j linked) (tree i j linked)
+    right i j linked = told_right _ (end_tells g g.bound t graph i j linked) (tree i j linked)
 
     follows : (i : ℕ) → Follows g g.bound t i → ⊥
     follows i (follow_root j father near apart) = right i j father.linked (inl (father, follow_root j father near apart))
@@ -135,7 +131,7 @@ module _ {L : Type 0} (app : App L) (c : Configuration L) (graph : IsGraph c.gra
 
   module _ (are : IsSound c) where
     tree_silent : (i j : ℕ) → AreLinked g i j → tree_row g.bound (near_of app c i) (near_of app c j) ≡ None
-    tree_silent i j linked = told_wrong _ (end_tells g g.bound t i j linked) rests
+    tree_silent i j linked = told_wrong _ (end_tells g g.bound t graph i j linked) rests
       where
         rests : (IsFather g t i j × Follows g g.bound t i) ⊎ Adopts g g.bound t i j → ⊥
         rests (inl other) = (are.tree i (graph.ends i j linked)).follows other.1

@@ -1,21 +1,34 @@
 -- What the first failing row at an end of a link says of the registers at its ends.
-use Rattle.std.proofs.Common.{arith, ◌≡◌, ◌≢◌, ◌⊎◌, inl, inr, ℕ, suc, ◌+◌, nat_eq, true≢false, subst, Bool, true, false, cond, [], ◌∷◌, Option, Some, None, refl, sym, ap, ◌∙◌}
+use Rattle.std.proofs.Common.{arith, ◌≡◌, ◌≢◌, ◌⊎◌, inl, inr, ℕ, suc, ◌+◌, nat_eq, true≢false, subst, Bool, true, false, cond, ◌&&◌, ◌||◌, ◌==◌, nat_lt, [], ◌∷◌, Option, Some, None, Result, Err, refl, sym, ap, ◌∙◌}
 use Rattle.std.proofs.lemmas.Bool.Decides.{eqb_tells, leb_tells}
 use Rattle.action_tables.specs.Table.{enabled_of}
-use Rattle.topology.specs.Graph.{Graph, AreLinked}
+use Rattle.topology.specs.Graph.{Graph, AreLinked, IsGraph}
 use Rattle.tree_layer.specs.declared.regs.TreeRegs.{TreeRegs}
-use Rattle.tree_layer.specs.TreeRows.{Adopts, Follows, IsFather, adopt_root, adopt_short, follow_dist, follow_root}
-use Rattle.tree_layer.specs.TreeTable.{LocalView, tree_table}
+use Rattle.tree_layer.specs.TreeRows.{Adopts, Follows, IsFather, adopted, follow_dist, follow_root}
+use Rattle.tree_layer.specs.TreeTable.{LocalView, fired_from, tree_table}
 use Rattle.wave_layer.specs.declared.regs.WaveRegs.{WaveRegs}
 use Rattle.wave_layer.specs.declared.regs.FatherSeen.TheVariants.{Is}
 use Rattle.wave_layer.specs.WaveTable as wave
 use Rattle.wave_layer.specs.WaveTable.{WaveHolds, is_reset, next_session, wave_table}
+use Rattle.reset_machine.specs.LocalSteps.{or_next, tree_answer, tree_view_of}
+use Rattle.reset_machine.specs.declared.plan.Fired.{Fired}
+use Rattle.reset_machine.specs.declared.step.StepRefusal.{StepRefusal}
+use Rattle.reset_machine.specs.declared.step.StepRefusal.TheVariants.{NotEnabled}
+use Rattle.reset_machine.proofs.TreePlans.{IsTreeAnswer, adopt_is, near_some}
 use Rattle.link_predicates.specs.Faults.{first_enabled, mending_row}
-use Rattle.link_predicates.proofs.EnabledRows.{Eq, Lt, Tells, first_by, first_of, row_holds}
+use Rattle.link_predicates.proofs.EnabledRows.{Eq, Lt, Tells, answer_if, first_by, first_of, no_wave, row_holds}
 
 -- the first of two numbers whose test holds
 abbrev pub first_of_two : ℕ → ℕ → Bool → Bool → Option ℕ
 first_of_two a b p q = cond p (Some a) (cond q (Some b) None)
+
+-- what the first of two rows tells is what they answer, one after the other
+either_tells : (E : Type 0) (a b : ℕ) (regs : TreeRegs) (p q : Bool)
+    → IsTreeAnswer (or_next (answer_if p regs) (or_next (answer_if q regs) (Err NotEnabled))) E regs
+    → Tells E (first_of_two a b (p || false) (q || false))
+either_tells E a b regs true q is = is.0
+either_tells E a b regs false true is = is.0
+either_tells E a b regs false false is = is
 
 both_tell : (A B : Type 0) (a b c d : ℕ) (p q r s : Bool) → Tells A (first_of_two a b p q) → Tells B (first_of_two c d r s) → Tells (A ⊎ B) (first_of a b c d p q r s)
 both_tell A B a b c d true q r s wrong other = inl wrong
@@ -32,7 +45,7 @@ both_tell A B a b c d false false false false right other = neither
 abbrev pub IsOtherFather : Graph → ℕ → (ℕ → TreeRegs) → ℕ → ℕ → Type 0
 IsOtherFather g K t i j = IsFather g t i j × Follows g K t i
 
-module _ (g : Graph) (K : ℕ) (t : ℕ → TreeRegs) (i j : ℕ) (linked : AreLinked g i j) where
+module _ (g : Graph) (K : ℕ) (t : ℕ → TreeRegs) (graph : IsGraph g) (i j : ℕ) (linked : AreLinked g i j) where
   abbrev pub seen : LocalView
   seen = record { id = i; bound = K; own = t i; near = (j, t j) ∷ [] }
 
@@ -67,26 +80,15 @@ module _ (g : Graph) (K : ℕ) (t : ℕ → TreeRegs) (i j : ℕ) (linked : AreL
       father (inr other) = rw other.0 (λ told. other.1 (sym told.0.named))
 
   adopt_tells : Tells (Adopts g K t i j) (first_of_two 7 8 (rows 7) (rows 8))
-  adopt_tells = at (leb_tells (suc (t j).dist) K) (leb_tells (suc (t i).root) (t j).root) (eqb_tells (t i).root (t j).root) (leb_tells (suc ((t j).dist + 1)) (t i).dist)
-    where
-      at : Lt (t j).dist K → Lt (t i).root (t j).root → Eq (t i).root (t j).root → Lt ((t j).dist + 1) (t i).dist → Tells (Adopts g K t i j) (first_of_two 7 8 (rows 7) (rows 8))
-      at (inl near) (inl higher) r s = rw (near.0, higher.0) (adopt_root linked near.1 higher.1)
-      at (inl near) (inr higher) (inl r) (inl s) = rw (near.0, higher.0, r.0, s.0) (adopt_short linked near.1 r.1 s.1)
-      at (inl near) (inr higher) (inl r) (inr s) = rw (near.0, higher.0, r.0, s.0) rests
-        where
-          rests : Adopts g K t i j → ⊥
-          rests (adopt_root _ _ above) = absurd (omega (arith, above, higher.1))
-          rests (adopt_short _ _ _ shorter) = absurd (omega (arith, shorter, s.1))
-      at (inl near) (inr higher) (inr r) s = rw (near.0, higher.0, r.0) rests
-        where
-          rests : Adopts g K t i j → ⊥
-          rests (adopt_root _ _ above) = absurd (omega (arith, above, higher.1))
-          rests (adopt_short _ _ root _) = r.1 root
-      at (inr far) higher r s = rw far.0 rests
-        where
-          rests : Adopts g K t i j → ⊥
-          rests (adopt_root _ below _) = absurd (omega (arith, below, far.1))
-          rests (adopt_short _ below _ _) = absurd (omega (arith, below, far.1))
+  adopt_tells =
+      let v = tree_view_of g K t i in
+      let row : Option TreeRegs → ℕ → Result Fired StepRefusal = λ o n. tree_answer (fired_from v n j o) in
+      let near = nat_lt (t j).dist K in
+      let higher = (near && nat_lt (t i).root (t j).root) || false in
+      let shorter = (near && (t i).root == (t j).root && nat_lt ((t j).dist + 1) (t i).dist) || false in
+      either_tells (Adopts g K t i j) 7 8 (adopted j (t j)) higher shorter
+      (subst (λ o. IsTreeAnswer (or_next (row o 7) (or_next (row o 8) (Err NotEnabled))) (Adopts g K t i j) (adopted j (t j)))
+      (near_some g K t no_wave graph i j linked) (adopt_is g K t no_wave graph i j linked))
 
   -- rows 5 to 8 tell whether the neighbour is another father than i takes it to be, or is to be adopted
   pub end_tells : Tells (IsOtherFather g K t i j ⊎ Adopts g K t i j) (first_enabled (5 ∷ 6 ∷ 7 ∷ 8 ∷ []) (enabled_of (tree_table seen seen.near)))
@@ -97,6 +99,10 @@ module _ (g : Graph) (K : ℕ) (t : ℕ → TreeRegs) (i j : ℕ) (linked : AreL
 abbrev pub Denies : Type 0 → Option ℕ → Type 0
 Denies Right None = Right
 Denies Right (Some row) = Right → ⊥
+
+pub denied_where_right : {Right : Type 0} (o : Option ℕ) → Denies Right o → Right → o ≡ None
+denied_where_right None denies right = refl
+denied_where_right (Some row) denies right = absurd (denies right)
 
 -- rows 8 to 11 of the wave table tell whether the wave predicate fails
 pub mending_tells : (own up : WaveRegs) → Denies (WaveHolds own up) (mending_row own up)

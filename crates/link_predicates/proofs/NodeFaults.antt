@@ -1,17 +1,31 @@
 -- The faults of one link after another are those of all of them.
-use Rattle.std.proofs.Common.{◌≡◌, ℕ, ◌+◌, ◌<◌, Bool, true, false, List, [], ◌∷◌, ◌++◌, Option, Some, None, length, take, drop, get_or, slice_index, find, flat_map, map, refl, sym, ap, ◌∙◌, add-one, true≢false}
+use Rattle.std.proofs.Common.{◌≡◌, ℕ, ◌+◌, ◌<◌, ◌==◌, Bool, true, false, List, [], ◌∷◌, ◌++◌, Option, Some, None, Contains, length, take, drop, get_or, slice_index, position, find, flat_map, map, refl, sym, ap, ◌∙◌, add-one, true≢false}
 use Rattle.std.specs.Option.{IfNone, IfSome, is_some, option_map, option_or}
 use Rattle.std.proofs.Math.Seq.{take-suc}
 use Rattle.std.proofs.lemmas.List.{at_drop_more, flat_map_more}
 use Rattle.std.proofs.lemmas.List.Folds.{find-append}
+use Rattle.std.proofs.lemmas.List.Quantifiers.{position-Some}
 use Rattle.app_interface.specs.Application.{App}
 use Rattle.topology.specs.Graph.{neighbours_of}
 use Rattle.reset_machine.specs.Configuration.{Configuration}
 use Rattle.reset_machine.proofs.NearSeen.{at_indexes, one_more}
+use Rattle.reset_machine.proofs.Places.{Contains-position, id_at-position, position-Contains}
 use Rattle.reset_machine.specs.View.{Neighbour, near_of}
 use Rattle.link_predicates.specs.Faults.{alarm_of, app_row, fault_of, is_of_app, link_faults, own_row, tree_row, wave_row}
 use Rattle.link_predicates.specs.declared.fault.Family.TheVariants.{Tree, Wave, App as OfApp}
 use Rattle.link_predicates.specs.declared.fault.LinkFault.{LinkFault}
+
+-- what a search for an identifier says of it
+pub found_node : (ids : List ℕ) (id : ℕ) (o : Option ℕ) → o ≡ position (λ i. i == id) ids
+    → IfSome o (λ index. Contains ids id × (index < length ids) × (slice_index ids index ≡ id))
+found_node ids id None found = tt
+found_node ids id (Some index) found =
+    let place = position-Some (λ i. i == id) ids index 0 (sym found) in
+    (Contains-position ids id index (sym found), place.0, id_at-position ids index id (sym found))
+
+pub no_node : (ids : List ℕ) (id : ℕ) (o : Option ℕ) → o ≡ position (λ i. i == id) ids → IfNone o (Contains ids id → ⊥)
+no_node ids id None found = λ there. position-Contains ids id there (sym found)
+no_node ids id (Some index) found = tt
 
 -- what is told of one more node of a list
 pub more_told : {X A : Type 0} (f : X → List A) (xs : List X) (k : ℕ) (d : X) (first before after : List A) → k < length xs

@@ -8,6 +8,7 @@ ghost use Rattle.link_predicates.specs.declared.fault.Family.TheVariants.{Tree};
 
 use crate::end::{End, end_at};
 use crate::fault::{Family, LinkFault};
+use crate::quiet::is_quiet;
 use crate::rows;
 use app_interface::Application;
 use reset_machine::{Config, StepRefusal};
@@ -23,7 +24,7 @@ pub fn check_node<P: Application>(
     ensures ok { IfOk result (λ found. IsNode config.now.graph at × (found.items ≡ node_faults P.app config.now at)) }
     ensures err { IfErr result (λ f. f ≢ StepRefusal.NoMemory → (f ≡ StepRefusal.StrangeNode) × (IsNode config.now.graph at → ⊥)) }
 {
-    let Some(index) = config.topology().index_of(at) else {
+    let Some(index) = index_of(config, at) else {
         return Err(StepRefusal::StrangeNode);
     };
     let mut found = Vec::new(alloc);
@@ -51,10 +52,19 @@ pub fn alarm<P: Application>(config: &Config<P>, at: u32) -> Option<LinkFault>
     ensures found { IfSome result (λ fault. IsNode config.now.graph at × (alarm_of P.app config.now at ≡ Some fault)) }
     ensures none { IfNone result (IsNode config.now.graph at → alarm_of P.app config.now at ≡ None) }
 {
-    match config.topology().index_of(at) {
+    match index_of(config, at) {
         Some(index) => alarm_at(config, index),
         None => None,
     }
+}
+
+// The index of the node with this identifier. None where there is no such node.
+fn index_of<P: Application>(config: &Config<P>, at: u32) -> Option<usize>
+    ensures found { let ids = config.now.graph.ids in
+        IfSome result (λ index. IsNode config.now.graph at × (index < length ids) × (slice_index ids index ≡ at)) }
+    ensures none { IfNone result (IsNode config.now.graph at → ⊥) }
+{
+    config.topology().index_of(at)
 }
 
 // The first fault of the application at the node with this index.
@@ -142,12 +152,15 @@ fn add_links<P: Application>(
     config.is_graph();
     let k = bound_of(config);
     for near in config.topology().neighbours(index) {
-        add_link(found, k, &*own, &end_at(config, *near))?;
+        if !is_quiet(k, &*own, &end_at(config, *near)) {
+            add_link(found, k, &*own, &end_at(config, *near))?;
+        }
     }
     Ok(())
 }
 
-// Adds the faults at a node's end of a link.
+// Adds the faults at a node's end of a link. It is seldom called: most ends are quiet.
+#[inline(never)]
 fn add_link<P: Application>(
     found: &mut Vec<LinkFault>,
     k: u32,

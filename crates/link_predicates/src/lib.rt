@@ -6,6 +6,7 @@ mod check;
 mod end;
 mod fault;
 mod laws;
+mod quiet;
 mod rows;
 
 pub use check::{alarm, check_all, check_node};

@@ -48,7 +48,7 @@ module _ (g : Graph) (K : ℕ) (t : ℕ → TreeRegs) (w : ℕ → WaveRegs) (gr
       both true linked = rw linked (has-Contains g.ids j (graph.ends j i (graph.symmetric j i ∙ linked)))
       both false linked = rw linked refl
 
-  near_some : (i j : ℕ) → AreLinked g i j → near_regs j (map (λ k. (k, t k)) (neighbours_of g i)) ≡ Some (t j)
+  pub near_some : (i j : ℕ) → AreLinked g i j → near_regs j (map (λ k. (k, t k)) (neighbours_of g i)) ≡ Some (t j)
   near_some i j linked = near_regs-linked i j ∙ ap (λ b. cond b (Some (t j)) None) linked
 
   near_none : (i j : ℕ) → are_linked g i j ≡ false → near_regs j (map (λ k. (k, t k)) (neighbours_of g i)) ≡ None

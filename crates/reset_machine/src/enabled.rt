@@ -84,8 +84,8 @@ fn enabled_trees<P: Application>(
     Ok(tree_rows(place.id(), place.bound(), place.tree(), near))
 }
 
-// The enabled rows of the tree table, where a node sees this. It is no application's, as wave_rows: so
-// that of each table there is one copy, which is inlined here.
+// The enabled rows of the tree table, where a node sees this. As wave_rows, it is not generic, so that
+// the table is compiled once and not once for each application.
 fn tree_rows(id: u32, bound: u32, own: TreeRegs, near: &[(u32, TreeRegs)]) -> CaseSet
     requires { IsView id bound near.now }
     ensures { result

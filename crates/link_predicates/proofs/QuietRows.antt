@@ -1,0 +1,72 @@
+-- Registers that fit each other let no row fail at an end of a link.
+use Rattle.std.proofs.Common.{arith, ◌≡◌, inl, inr, ℕ, suc, ◌+◌, ◌<◌, ◌≤◌, nat_eq, subst, Bool, true, false, cond, [], ◌∷◌, None, refl, sym, ap, ◌∙◌}
+use Rattle.std.proofs.lemmas.Bool.Decides.{eqb_tells, leb_tells}
+use Rattle.std.proofs.lemmas.Option.{none-some}
+use Rattle.action_tables.specs.Table.{enabled_of}
+use Rattle.tree_layer.specs.declared.regs.TreeRegs.{TreeRegs}
+use Rattle.tree_layer.specs.TreeTable.{LocalView, tree_table}
+use Rattle.reset_machine.specs.View.{Neighbour}
+use Rattle.link_predicates.specs.Faults.{first_enabled, mending_row, tree_row, wave_row}
+use Rattle.link_predicates.proofs.EnabledRows.{Eq, Lt, first_by, first_of, row_holds}
+use Rattle.link_predicates.proofs.LinkRows.{first_of_two}
+
+-- the neighbour is not to be adopted
+abbrev pub Stays : ℕ → TreeRegs → TreeRegs → Type 0
+Stays K own other = other.dist < K → (other.root ≤ own.root) × (own.root ≡ other.root → own.dist ≤ other.dist + 1)
+
+-- the father is as the node takes it to be
+abbrev pub Fits : ℕ → TreeRegs → TreeRegs → Type 0
+Fits K own up = own.dist < K → (own.root ≡ up.root) × (own.dist ≡ up.dist + 1)
+
+both_none : (a b c d : ℕ) (p q r s : Bool) → first_of_two a b p q ≡ None → first_of_two c d r s ≡ None → first_of a b c d p q r s ≡ None
+both_none a b c d true q r s first second = absurd (none-some a (sym first))
+both_none a b c d false true r s first second = absurd (none-some b (sym first))
+both_none a b c d false false r s first second = second
+
+module _ (K i j : ℕ) (own other : TreeRegs) where
+  abbrev pub seen : LocalView
+  seen = record { id = i; bound = K; own = own; near = (j, other) ∷ [] }
+
+  abbrev rows : ℕ → Bool
+  rows n = row_holds n (tree_table seen seen.near)
+
+  none_follows : (own.father ≡ j → Fits K own other) → first_of_two 5 6 (rows 5) (rows 6) ≡ None
+  none_follows fits = father (eqb_tells j own.father)
+    where
+      up : nat_eq j own.father ≡ true → Fits K own other → Lt own.dist K → Eq own.root other.root → Eq own.dist (other.dist + 1) → first_of_two 5 6 (rows 5) (rows 6) ≡ None
+      up test fit (inr far) root dist = rw (test, far.0) refl
+      up test fit (inl near) (inr root) dist = absurd (root.1 (fit near.1).0)
+      up test fit (inl near) (inl root) (inr dist) = absurd (dist.1 (fit near.1).1)
+      up test fit (inl near) (inl root) (inl dist) = rw (test, near.0, root.0, dist.0) refl
+
+      father : Eq j own.father → first_of_two 5 6 (rows 5) (rows 6) ≡ None
+      father (inl named) = up named.0 (fits (sym named.1)) (leb_tells (suc own.dist) K) (eqb_tells _ _) (eqb_tells _ _)
+      father (inr strange) = rw strange.0 refl
+
+  none_adopts : Stays K own other → first_of_two 7 8 (rows 7) (rows 8) ≡ None
+  none_adopts stays = at (leb_tells (suc other.dist) K) (leb_tells (suc own.root) other.root) (eqb_tells own.root other.root) (leb_tells (suc (other.dist + 1)) own.dist)
+    where
+      at : Lt other.dist K → Lt own.root other.root → Eq own.root other.root → Lt (other.dist + 1) own.dist → first_of_two 7 8 (rows 7) (rows 8) ≡ None
+      at (inr far) higher root shorter = rw far.0 refl
+      at (inl near) (inl higher) root shorter = absurd (omega (arith, higher.1, (stays near.1).0))
+      at (inl near) (inr low) (inr apart) shorter = rw (near.0, low.0, apart.0) refl
+      at (inl near) (inr low) (inl same) (inl shorter) = absurd (omega (arith, shorter.1, (stays near.1).1 same.1))
+      at (inl near) (inr low) (inl same) (inr longer) = rw (near.0, low.0, same.0, longer.0) refl
+
+  none_enabled : Stays K own other → (own.father ≡ j → Fits K own other) → first_enabled (5 ∷ 6 ∷ 7 ∷ 8 ∷ []) (enabled_of (tree_table seen seen.near)) ≡ None
+  none_enabled stays fits = first_by (tree_table seen seen.near) 5 6 7 8 ∙ both_none 5 6 7 8 (rows 5) (rows 6) (rows 7) (rows 8) (none_follows fits) (none_adopts stays)
+
+-- the same of what is read of both ends
+module _ {L : Type 0} (own other own' other' : Neighbour L) (own_is : own' ≡ own) (other_is : other' ≡ other) where
+  pub no_tree_row : (K : ℕ) → Stays K own'.tree other'.tree → (own'.tree.father ≡ other'.id → Fits K own'.tree other'.tree) → tree_row K own other ≡ None
+  no_tree_row K stays fits =
+      subst (λ n. tree_row K n other ≡ None) own_is
+      (subst (λ n. tree_row K own' n ≡ None) other_is (none_enabled K own'.id other'.id own'.tree other'.tree stays fits))
+
+  pub no_wave_row : (own'.tree.father ≡ other'.id → mending_row own'.wave other'.wave ≡ None) → wave_row own other ≡ None
+  no_wave_row fits =
+      subst (λ n. wave_row n other ≡ None) own_is (subst (λ n. wave_row own' n ≡ None) other_is (at (eqb_tells own'.tree.father other'.id)))
+    where
+      at : Eq own'.tree.father other'.id → wave_row own' other' ≡ None
+      at (inl named) = ap (λ b. cond b (mending_row own'.wave other'.wave) None) named.0 ∙ fits named.1
+      at (inr strange) = ap (λ b. cond b (mending_row own'.wave other'.wave) None) strange.0

@@ -1,0 +1,59 @@
+// The quick test at a node's end of a link. It asks the registers themselves; which row fails, where
+// one does, the tables tell.
+
+ghost use Rattle.std.specs.Prelude.{◌≡◌, ◌+◌, ◌<◌, ◌≤◌, [], None, IsTrue};
+ghost use Rattle.link_predicates.specs.Faults.{link_faults, mending_row, tree_row, wave_row};
+
+use crate::end::End;
+use crate::rows;
+use app_interface::Application;
+use tree_layer::TreeRegs;
+use wave_layer::{FatherSeen, WaveRegs, WaveView, wave_good};
+
+// Whether no row fails at a node's end of a link.
+pub(crate) fn is_quiet<P: Application>(k: u32, own: &End<'_, P>, other: &End<'_, P>) -> bool
+    ensures { IsTrue result → link_faults P.app k own.now other.now ≡ [] }
+{
+    tree_rests(k, own, other) && wave_rests(own, other) && rows::app_row(k, own, other).is_none()
+}
+
+// Whether none of rows 5 to 8 of the tree table fails there.
+fn tree_rests<P: Application>(k: u32, own: &End<'_, P>, other: &End<'_, P>) -> bool
+    ensures { IsTrue result → tree_row k own.now other.now ≡ None }
+{
+    stays(k, own.tree, other.tree)
+        && (own.tree.father != other.id || follows(k, own.tree, other.tree))
+}
+
+// Whether none of the mending rows, 8 to 11 of the wave table, fails there.
+fn wave_rests<P: Application>(own: &End<'_, P>, other: &End<'_, P>) -> bool
+    ensures { IsTrue result → wave_row own.now other.now ≡ None }
+{
+    own.tree.father != other.id || fits(own.wave, other.wave)
+}
+
+// Rows 7 and 8 of the tree table fail nowhere: the neighbour, where its distance is below the bound,
+// has no greater root, and no shorter way to the node's own.
+fn stays(k: u32, own: TreeRegs, other: TreeRegs) -> bool
+    ensures { IsTrue result → other.dist < k → (other.root ≤ own.root) × (own.root ≡ other.root → own.dist ≤ other.dist + 1) }
+{
+    other.dist >= k
+        || own.root > other.root
+        || (own.root == other.root && own.dist <= other.dist + 1)
+}
+
+// Rows 5 and 6 of the tree table fail nowhere: the node, where its distance is below the bound, has
+// its father's root, and is one further from it.
+fn follows(k: u32, own: TreeRegs, up: TreeRegs) -> bool
+    ensures { IsTrue result → own.dist < k → (own.root ≡ up.root) × (own.dist ≡ up.dist + 1) }
+{
+    own.dist >= k || (own.root == up.root && u64::from(own.dist) == u64::from(up.dist) + 1)
+}
+
+// Whether none of the mending rows is enabled where the father has these registers.
+fn fits(own: WaveRegs, up: WaveRegs) -> bool
+    ensures { IsTrue result → mending_row own up ≡ None }
+{
+    let view = WaveView::new(own, FatherSeen::Is(up), &[]).unwrap();
+    wave_good(&view)
+}
