@@ -8,7 +8,7 @@ ghost use Rattle.link_predicates.specs.declared.fault.Family.TheVariants.{Tree};
 
 use crate::end::{End, end_at};
 use crate::fault::{Family, LinkFault};
-use crate::quiet::is_quiet;
+use crate::quiet::{is_quiet, is_settled};
 use crate::rows;
 use app_interface::Application;
 use reset_machine::{Config, StepRefusal};
@@ -132,6 +132,7 @@ fn own_row<P: Application>(config: &Config<P>, index: usize, own: &End<'_, P>) -
     let k = bound_of(config);
     let father = own.tree.father;
     match topology.neighbour_at(index, father) {
+        Some(_) if is_settled(k, own.id, own.tree) => None,
         Some(up) => rows::own_row(k, own.id, own.tree, &[(father, config.trees()[up])]),
         None => rows::own_row(k, own.id, own.tree, &[]),
     }

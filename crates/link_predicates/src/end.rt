@@ -33,7 +33,7 @@ pub(crate) fn end_at<'a, P: Application>(config: &'a Config<P>, index: usize) ->
 {
     config.is_graph();
     End {
-        id: config.topology().id_at(index).unwrap().get(),
+        id: config.topology().ids()[index],
         tree: config.trees()[index],
         wave: config.waves()[index],
         local: &config.locals()[index],

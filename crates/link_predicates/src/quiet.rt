@@ -1,8 +1,11 @@
 // The quick test at a node's end of a link. It asks the registers themselves; which row fails, where
 // one does, the tables tell.
 
-ghost use Rattle.std.specs.Prelude.{◌≡◌, ◌+◌, ◌<◌, ◌≤◌, [], None, IsTrue};
-ghost use Rattle.link_predicates.specs.Faults.{link_faults, mending_row, tree_row, wave_row};
+ghost use Rattle.std.specs.Prelude.{◌≡◌, ◌+◌, ◌<◌, ◌≤◌, [], ◌∷◌, None, IsTrue};
+ghost use Rattle.action_tables.specs.Table.{enabled_of};
+ghost use Rattle.tree_layer.specs.declared.regs.TreeRegs.{TreeRegs};
+ghost use Rattle.tree_layer.specs.TreeTable.{tree_table};
+ghost use Rattle.link_predicates.specs.Faults.{first_enabled, link_faults, mending_row, tree_row, wave_row};
 
 use crate::end::End;
 use crate::rows;
@@ -15,6 +18,14 @@ pub(crate) fn is_quiet<P: Application>(k: u32, own: &End<'_, P>, other: &End<'_,
     ensures { IsTrue result → link_faults P.app k own.now other.now ≡ [] }
 {
     tree_rests(k, own, other) && wave_rests(own, other) && rows::app_row(k, own, other).is_none()
+}
+
+// Whether none of rows 1 to 4 of the tree table fails at a node whose father is a neighbour.
+pub(crate) fn is_settled(k: u32, id: u32, own: TreeRegs) -> bool
+    ensures { IsTrue result → (up : TreeRegs) → let near = (own.father, up) ∷ [] in
+        first_enabled (1 ∷ 2 ∷ 3 ∷ 4 ∷ []) (enabled_of (tree_table (record { id = id; bound = k; own = own; near = near }) near)) ≡ None }
+{
+    own.root >= id && own.father != id && own.dist < k
 }
 
 // Whether none of rows 5 to 8 of the tree table fails there.

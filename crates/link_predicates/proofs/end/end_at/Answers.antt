@@ -1,5 +1,4 @@
-use Rattle.std.proofs.Common.{◌≡◌, Some, sym, ap, ◌∙◌, slice_get, slice_index, slice_index_or}
-use Rattle.std.proofs.lemmas.Option.{get_or_from_slice_get}
+use Rattle.std.proofs.Common.{sym, ap, ◌∙◌, slice_index, slice_index_or}
 use Rattle.topology.specs.Graph.{Graph}
 use Rattle.wave_layer.specs.declared.regs.Phase.TheVariants.{Normal}
 use Rattle.reset_machine.proofs.Judging.{read_at-place}
@@ -14,12 +13,11 @@ returns g c =
     let index = c.args.index in
     let up = c.is_graph.ensures.graph.ascending in
     let shaped = c.is_graph.ensures.shaped in
-    let named : slice_get ids index ≡ Some c.unwrap.result = sym (c.id_at.ensures ∙ ap (λ (graph : Graph). slice_get graph.ids index) c.topology.ensures) ∙ c.unwrap.ensures in
-    let id = get_or_from_slice_get ids index _ 0 named ∙ sym c.get.ensures.number in
+    let id = ap (λ l. slice_index l index) (c.ids.ensures ∙ ap (λ (graph : Graph). graph.ids) c.topology.ensures) in
     let t = value_at-place (record { root = 0; father = 0; dist = 0 }) ids config.trees index up shaped.trees c.requires
     ∙ ap (λ trees. slice_index_or trees index (record { root = 0; father = 0; dist = 0 })) (sym c.trees.ensures.value) in
     let w = value_at-place (record { phase = Normal; session = 0 }) ids config.waves index up shaped.waves c.requires
     ∙ ap (λ waves. slice_index_or waves index (record { phase = Normal; session = 0 })) (sym c.waves.ensures.value) in
     let l = read_at-place (g.P.Application.app.start config.graph (slice_index ids index)) ids config.locals index _ up shaped.locals c.requires
     (c.index-locals-index.is ∙ ap (λ locals. slice_index_or locals index c.index-locals-index.result) c.locals.ensures.value) in
-    same_neighbour _ _ _ _ _ _ _ _ (sym id) (sym t) (sym w) (sym l)
+    same_neighbour _ _ _ _ _ _ _ _ id (sym t) (sym w) (sym l)
