@@ -1,10 +1,10 @@
-// The quick test at a node's end of a link. It asks the registers themselves; which row fails, where
-// one does, the tables tell.
+// The quick tests at a node's end of a link, and at a node. They ask the registers themselves; which row
+// fails, where one does, the tables tell.
 
 ghost use Rattle.std.specs.Prelude.{◌≡◌, ◌+◌, ◌<◌, ◌≤◌, [], ◌∷◌, None, IsTrue};
 ghost use Rattle.action_tables.specs.Table.{enabled_of};
 ghost use Rattle.tree_layer.specs.declared.regs.TreeRegs.{TreeRegs};
-ghost use Rattle.tree_layer.specs.TreeTable.{tree_table};
+ghost use Rattle.tree_layer.specs.TreeTable.{LocalView, tree_table};
 ghost use Rattle.link_predicates.specs.Faults.{first_enabled, link_faults, mending_row, tree_row, wave_row};
 
 use crate::end::End;
@@ -17,36 +17,24 @@ use wave_layer::{FatherSeen, WaveRegs, WaveView, wave_good};
 pub(crate) fn is_quiet<P: Application>(k: u32, own: &End<'_, P>, other: &End<'_, P>) -> bool
     ensures { IsTrue result → link_faults P.app k own.now other.now ≡ [] }
 {
-    tree_rests(k, own, other) && wave_rests(own, other) && rows::app_row(k, own, other).is_none()
+    rests(k, own, other) && rows::app_row(k, own, other).is_none()
 }
 
-// Whether none of rows 1 to 4 of the tree table fails at a node whose father is a neighbour.
-pub(crate) fn is_settled(k: u32, id: u32, own: TreeRegs) -> bool
-    ensures { IsTrue result → (up : TreeRegs) → let near = (own.father, up) ∷ [] in
-        first_enabled (1 ∷ 2 ∷ 3 ∷ 4 ∷ []) (enabled_of (tree_table (record { id = id; bound = k; own = own; near = near }) near)) ≡ None }
-{
-    own.root >= id && own.father != id && own.dist < k
-}
-
-// Whether none of rows 5 to 8 of the tree table fails there.
-fn tree_rests<P: Application>(k: u32, own: &End<'_, P>, other: &End<'_, P>) -> bool
-    ensures { IsTrue result → tree_row k own.now other.now ≡ None }
+// Whether no row of the tree or of the wave fails at a node's end of a link.
+fn rests<P: Application>(k: u32, own: &End<'_, P>, other: &End<'_, P>) -> bool
+    ensures tree { IsTrue result → tree_row k own.now other.now ≡ None }
+    ensures wave { IsTrue result → wave_row own.now other.now ≡ None }
 {
     stays(k, own.tree, other.tree)
-        && (own.tree.father != other.id || follows(k, own.tree, other.tree))
-}
-
-// Whether none of the mending rows, 8 to 11 of the wave table, fails there.
-fn wave_rests<P: Application>(own: &End<'_, P>, other: &End<'_, P>) -> bool
-    ensures { IsTrue result → wave_row own.now other.now ≡ None }
-{
-    own.tree.father != other.id || fits(own.wave, other.wave)
+        && (own.tree.father != other.id
+            || (follows(k, own.tree, other.tree) && fits(own.wave, other.wave)))
 }
 
 // Rows 7 and 8 of the tree table fail nowhere: the neighbour, where its distance is below the bound,
 // has no greater root, and no shorter way to the node's own.
 fn stays(k: u32, own: TreeRegs, other: TreeRegs) -> bool
-    ensures { IsTrue result → other.dist < k → (other.root ≤ own.root) × (own.root ≡ other.root → own.dist ≤ other.dist + 1) }
+    ensures { IsTrue result → other.dist < k
+        → (other.root ≤ own.root) × (own.root ≡ other.root → own.dist ≤ other.dist + 1) }
 {
     other.dist >= k
         || own.root > other.root
@@ -67,4 +55,13 @@ fn fits(own: WaveRegs, up: WaveRegs) -> bool
 {
     let view = WaveView::new(own, FatherSeen::Is(up), &[]).unwrap();
     wave_good(&view)
+}
+
+// Whether none of rows 1 to 4 of the tree table fails at a node whose father is a neighbour.
+pub(crate) fn is_settled(k: u32, id: u32, own: TreeRegs) -> bool
+    ensures { IsTrue result → (up : TreeRegs) → let near = (own.father, up) ∷ [] in
+        let seen : LocalView = record { id = id; bound = k; own = own; near = near } in
+        first_enabled (1 ∷ 2 ∷ 3 ∷ 4 ∷ []) (enabled_of (tree_table seen near)) ≡ None }
+{
+    own.root >= id && own.father != id && own.dist < k
 }
