@@ -2,30 +2,25 @@
 
 use crate::stop::Stop;
 use app_interface::Application;
-use link_predicates::{Family, alarm, check_all};
+use link_predicates::{alarm, check_all};
 use reset_machine::{Config, Event, Reply};
 
 /// What `check` answers: each fault of the network, and how many there are.
-pub fn print_faults<P: Application>(rt: &HostRuntime, config: &Config<P>) -> Result<(), Stop> {
+pub(crate) fn print_faults<P: Application>(
+    rt: &HostRuntime,
+    config: &Config<P>,
+) -> Result<(), Stop> {
     let faults = check_all(rt.alloc(), config)?;
     for fault in &faults {
-        let family = family_name(fault.family);
+        let family = fault.family.name();
         println!(rt; "link {} {} {family} {}", fault.at, fault.other, fault.row)?;
     }
     println!(rt; "faults {}", faults.len())?;
     Ok(())
 }
 
-fn family_name(family: Family) -> &'static str {
-    match family {
-        Family::Tree => "tree",
-        Family::Wave => "wave",
-        Family::App => "app",
-    }
-}
-
 /// What `alarm` answers: the first fault of the application at this node.
-pub fn print_alarm<P: Application>(
+pub(crate) fn print_alarm<P: Application>(
     rt: &HostRuntime,
     config: &Config<P>,
     at: u32,
@@ -38,7 +33,7 @@ pub fn print_alarm<P: Application>(
 }
 
 /// Does what the event says, and prints what its command answers. A refused event ends the run.
-pub fn print_step<P: Application>(
+pub(crate) fn print_step<P: Application>(
     rt: &HostRuntime,
     config: &mut Config<P>,
     event: Event,

@@ -7,13 +7,13 @@ use std::alloc::Global;
 use topology::Topology;
 
 /// The nodes 1, 2 and 3 with these links, booted.
-pub fn boot<P: Application>(alloc: Global, links: &[(u32, u32)]) -> Result<Config<P>, Stop> {
+pub(crate) fn boot<P: Application>(alloc: Global, links: &[(u32, u32)]) -> Result<Config<P>, Stop> {
     let topology = Topology::build(alloc, &[1, 2, 3], links)?;
     Ok(Config::<P>::boot(alloc, topology)?)
 }
 
 /// Puts the local state with this text, as `show` writes it, at a node.
-pub fn put_text<P: Application>(
+pub(crate) fn put_text<P: Application>(
     alloc: Global,
     config: &mut Config<P>,
     at: u32,

@@ -10,7 +10,7 @@ use tree_layer::TreeRegs;
 use wave_layer::{Phase, WaveRegs};
 
 /// On the triangle 1, 2, 3 node 1 goes round by node 2, though it has a link to the root, node 3.
-pub fn damaged_tree(rt: &HostRuntime) -> Result<(), Stop> {
+pub(crate) fn damaged_tree(rt: &HostRuntime) -> Result<(), Stop> {
     let mut config = boot::<Idle>(rt.alloc(), &[(1, 2), (2, 3), (1, 3)])?;
     config.put_tree(
         1,
@@ -28,7 +28,7 @@ pub fn damaged_tree(rt: &HostRuntime) -> Result<(), Stop> {
 }
 
 /// On the line 1, 2, 3 node 1 is in the middle of a reset, and its father, node 2, knows of none.
-pub fn damaged_wave(rt: &HostRuntime) -> Result<(), Stop> {
+pub(crate) fn damaged_wave(rt: &HostRuntime) -> Result<(), Stop> {
     let mut config = boot::<Idle>(rt.alloc(), &[(1, 2), (2, 3)])?;
     config.put_wave(
         1,
@@ -46,7 +46,7 @@ pub fn damaged_wave(rt: &HostRuntime) -> Result<(), Stop> {
 
 /// On the line 1, 2, 3 the neighbours 1 and 2 are both in, which neighbour exclusion forbids. The tree and the
 /// wave are sound, so neither has anything to repair: a reset restarts the application at all nodes.
-pub fn alarm_and_reset(rt: &HostRuntime) -> Result<(), Stop> {
+pub(crate) fn alarm_and_reset(rt: &HostRuntime) -> Result<(), Stop> {
     let mut config = boot::<EdgeReversal>(rt.alloc(), &[(1, 2), (2, 3)])?;
     put_text(rt.alloc(), &mut config, 1, b"in/0")?;
     put_text(rt.alloc(), &mut config, 2, b"in/0")?;

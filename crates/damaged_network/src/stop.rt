@@ -8,7 +8,7 @@ use topology::TopoFault;
 
 /// What ends the program early.
 #[derive(Debug, Drop)]
-pub enum Stop {
+pub(crate) enum Stop {
     /// The lists of nodes and links are no topology.
     BadTopology(TopoFault),
     /// An event was refused, or there is no node to put a state at.

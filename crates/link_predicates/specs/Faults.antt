@@ -1,5 +1,5 @@
 -- The faults of a configuration: which row of which table fails at which end of which link.
-use Rattle.std.specs.Prelude.{◌≡◌, ℕ, ◌==◌, Bool, true, false, if◌then◌else◌, List, [], ◌∷◌, ◌++◌, Option, Some, None, map, find}
+use Rattle.std.specs.Prelude.{◌≡◌, ℕ, ◌==◌, Bool, true, false, if◌then◌else◌, List, [], ◌∷◌, ◌++◌, Option, Some, None, map, find, codes}
 use Rattle.std.specs.List.{flat_map, list_all}
 use Rattle.action_tables.specs.Numbers.{is_among}
 use Rattle.action_tables.specs.Table.{enabled_of}
@@ -20,6 +20,12 @@ use Rattle.link_predicates.specs.declared.fault.LinkFault.{LinkFault}
 -- the first of these rows that is enabled
 abbrev pub first_enabled : List ℕ → List ℕ → Option ℕ
 first_enabled rows enabled = find (λ n. is_among n enabled) rows
+
+-- the name of a family
+abbrev pub family_name : Family → List ℕ
+family_name Tree = codes "tree"
+family_name Wave = codes "wave"
+family_name OfApp = codes "app"
 
 -- ---- what fails at a node, or at its end of the link to another one
 

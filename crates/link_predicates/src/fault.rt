@@ -1,5 +1,8 @@
 // What the checker tells.
 
+ghost use Rattle.std.specs.Prelude.{◌≡◌};
+ghost use Rattle.link_predicates.specs.Faults.{family_name};
+
 /// Whose predicate fails.
 #[derive(Clone, Copy, Debug, PartialEq, Eq)]
 pub enum Family {
@@ -9,6 +12,19 @@ pub enum Family {
     Wave,
     /// The application's.
     App,
+}
+
+impl Family {
+    /// Its name, as the lines of faults have it.
+    pub fn name(self) -> &'static str
+        ensures { result.now ≡ family_name self }
+    {
+        match self {
+            Family::Tree => "tree",
+            Family::Wave => "wave",
+            Family::App => "app",
+        }
+    }
 }
 
 /// A row that fails at a node's end of a link, or at the node itself, where `other` is the node.

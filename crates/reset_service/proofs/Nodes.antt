@@ -5,9 +5,11 @@ use Rattle.std.specs.List.{list_any}
 use Rattle.std.proofs.lemmas.Bool.Decides.{nat_tests}
 use Rattle.std.proofs.lemmas.Grind.{get_or_default_zero}
 use Rattle.topology.specs.Graph.{IsNode}
+use Rattle.action_tables.specs.Numbers.{is_among}
 use Rattle.tree_layer.specs.declared.regs.TreeRegs.{TreeRegs}
 use Rattle.wave_layer.specs.declared.regs.WaveRegs.{WaveRegs}
-use Rattle.reset_machine.specs.declared.step.StepRefusal.TheVariants.{StrangeNode}
+use Rattle.reset_machine.specs.declared.step.StepRefusal.{StepRefusal}
+use Rattle.reset_machine.specs.declared.step.StepRefusal.TheVariants.{NoMemory, StrangeNode}
 use Rattle.reset_machine.specs.Enabled.{enabled_rows, ready_of}
 use Rattle.reset_machine.specs.declared.enabled.Enabled.{Enabled}
 use Rattle.reset_machine.specs.Configuration.{Configuration, tree_of, wave_of, local_of}
@@ -19,7 +21,7 @@ use Rattle.link_predicates.specs.declared.fault.LinkFault.{LinkFault}
 use Rattle.reset_service.specs.Lines.{ended}
 use Rattle.reset_service.specs.Meaning.{Meaning}
 use Rattle.reset_machine.specs.Refinement.{has_joined}
-use Rattle.reset_service.specs.Output.{after_alarm, alarm_line, alarm_text, at_node, enabled_line, faults_status, found_status, has_node, newest_head, newest_line, node_head, enabled_text, faults_lines, faults_text, node_faults_lines, ready_line, ready_text, refusal_text, shown, watched}
+use Rattle.reset_service.specs.Output.{after_alarm, alarm_line, alarm_text, at_node, enabled_line, faults_status, found_status, newest_head, newest_line, node_head, enabled_text, faults_lines, faults_text, node_faults_lines, ready_line, ready_text, refusal_text, shown, watched}
 
 or_first : (a b : Bool) → a ≡ true → (a || b) ≡ true
 or_first true b h = refl
@@ -44,13 +46,13 @@ absent (x ∷ xs) i h =
     let apart : x ≢ i = λ e. h (0, omega arith, e) in
     or_neither (nat_eq x i) (list_any (λ n. nat_eq n i) xs) (grind (arith, nat_tests)) (absent xs i (λ m. h (suc m.0, omega (arith, m.1), m.2)))
 
-pub node_there : {L : Type 0} (c : Configuration L) (i : ℕ) → IsNode c.graph i → has_node c i ≡ true
+pub node_there : {L : Type 0} (c : Configuration L) (i : ℕ) → IsNode c.graph i → is_among i c.graph.ids ≡ true
 node_there c i node = present c.graph.ids i node.0 node.1 node.2
 
-pub no_node_there : {L : Type 0} (c : Configuration L) (i : ℕ) → (IsNode c.graph i → ⊥) → has_node c i ≡ false
+pub no_node_there : {L : Type 0} (c : Configuration L) (i : ℕ) → (IsNode c.graph i → ⊥) → is_among i c.graph.ids ≡ false
 no_node_there c i none = absent c.graph.ids i none
 
-pub node_of : {L : Type 0} (c : Configuration L) (i : ℕ) → has_node c i ≡ true → IsNode c.graph i
+pub node_of : {L : Type 0} (c : Configuration L) (i : ℕ) → is_among i c.graph.ids ≡ true → IsNode c.graph i
 node_of c i there = go (position (λ k. k == i) c.graph.ids) refl
   where
     go : (o : Option ℕ) → position (λ k. k == i) c.graph.ids ≡ o → IsNode c.graph i
@@ -63,6 +65,11 @@ told_node c i text node = ap (λ (b : Bool). if b then text else refusal_text St
 
 pub told_none : {L : Type 0} (c : Configuration L) (i : ℕ) (text : List ℕ) → (IsNode c.graph i → ⊥) → at_node c i text ≡ refusal_text StrangeNode
 told_none c i text none = ap (λ (b : Bool). if b then text else refusal_text StrangeNode) (no_node_there c i none)
+
+-- the refusal of a call that refuses what is no node
+pub told_refused : {L : Type 0} (c : Configuration L) (i : ℕ) (text : List ℕ) (refusal : StepRefusal)
+    → (refusal ≢ NoMemory → (refusal ≡ StrangeNode) × (IsNode c.graph i → ⊥)) → refusal ≢ NoMemory → at_node c i text ≡ refusal_text refusal
+told_refused c i text refusal known memory = told_none c i text (known memory).1 ∙ ap refusal_text (sym (known memory).0)
 
 -- ---- the nodes by index
 
@@ -125,9 +132,12 @@ alarm_line-is : {L : Type 0} (m : Meaning L) (c : Configuration L) (i : ℕ) (to
 unfolding alarm_line
 alarm_line-is m c i told is = ap alarm_text (sym is)
 
-pub alarm_node : {L : Type 0} (m : Meaning L) (c : Configuration L) (i : ℕ) (told : Option LinkFault) → IsNode c.graph i
-    → told ≡ alarm_of m.app c i → at_node c i (alarm_line m c i) ≡ alarm_text told
-alarm_node m c i told node is = told_node c i (alarm_line m c i) node ∙ alarm_line-is m c i told is
+pub alarm_node : {L : Type 0} (m : Meaning L) (c : Configuration L) (i : ℕ) (told : Option LinkFault) → is_among i c.graph.ids ≡ true
+    → IfSome told (λ fault. IsNode c.graph i × (alarm_of m.app c i ≡ Some fault)) → IfNone told (IsNode c.graph i → alarm_of m.app c i ≡ None)
+    → at_node c i (alarm_line m c i) ≡ alarm_text told
+alarm_node m c i told there found none =
+    let node = node_of c i there in
+    told_node c i (alarm_line m c i) node ∙ alarm_line-is m c i told (told_alarm m.app c i told node found none)
 
 -- what is told of a node that watches, and what it then does
 pub watched-is : {L : Type 0} (m : Meaning L) (c : Configuration L) (i : ℕ) (told : Option LinkFault) → told ≡ alarm_of m.app c i

@@ -1,8 +1,8 @@
 -- What a run writes.
-use Rattle.std.specs.Prelude.{◌≡◌, ℕ, ◌+◌, ◌<◌, ◌≤◌, nat_lt, ◌==◌, Bool, if◌then◌else◌, ◌⊎◌, List, [], ◌∷◌, ◌++◌, length, codes, Option, Some, None, Result, Ok, Err}
+use Rattle.std.specs.Prelude.{◌≡◌, ℕ, ◌+◌, ◌<◌, ◌≤◌, nat_lt, if◌then◌else◌, ◌⊎◌, List, [], ◌∷◌, ◌++◌, length, codes, Option, Some, None, Result, Ok, Err}
 use Rattle.std.specs.Fmt.{decimal}
 use Rattle.std.specs.Io.KnownBytes.{Appends, Keeps}
-use Rattle.std.specs.List.{concat, flat_map, list_any}
+use Rattle.std.specs.List.{concat, flat_map}
 use Rattle.topology.specs.Graph.{Graph}
 use Rattle.topology.specs.Faults.{IsTopologyOf}
 use Rattle.topology.specs.TopologyText.{Description, IsReadFault, description_of}
@@ -28,11 +28,10 @@ use Rattle.reset_machine.specs.Outcome.{IsBoot}
 use Rattle.reset_machine.specs.Planned.{outcome_of}
 use Rattle.reset_machine.specs.Enabled.{enabled_rows, ready_of}
 use Rattle.reset_machine.specs.Refinement.{has_joined}
-use Rattle.link_predicates.specs.Faults.{alarm_of, faults, node_faults}
-use Rattle.link_predicates.specs.declared.fault.Family.{Family}
-use Rattle.link_predicates.specs.declared.fault.Family.TheVariants.{Tree, Wave, App as OfApp}
+use Rattle.link_predicates.specs.Faults.{alarm_of, family_name, faults, node_faults}
 use Rattle.link_predicates.specs.declared.fault.LinkFault.{LinkFault}
 use Rattle.reset_machine.specs.declared.enabled.Enabled.{Enabled}
+use Rattle.action_tables.specs.Numbers.{is_among}
 use Rattle.action_tables.specs.RowText.{set_text}
 use Rattle.action_tables.specs.Written.{AppendsFront}
 use Rattle.reset_service.specs.Lines.{ended, lines_of, IsCut}
@@ -46,7 +45,7 @@ use Rattle.reset_service.specs.declared.script.Line.TheVariants.{Silent, Asks, B
 use Rattle.reset_service.specs.declared.status.Status.{Status}
 use Rattle.reset_service.specs.declared.status.Status.TheVariants.{Good, FaultsFound, BadInput}
 use Rattle.reset_service.specs.declared.status.Purpose.{Purpose}
-use Rattle.reset_service.specs.declared.status.Purpose.TheVariants as purpose
+use Rattle.reset_service.specs.declared.status.Purpose.TheVariants as purposes
 use Rattle.reset_service.specs.declared.status.RunStop.{RunStop}
 use Rattle.reset_service.specs.declared.status.RunStop.TheVariants.{ReadFailed, WriteFailed}
 use Rattle.reset_service.specs.declared.status.RunStop.TheVariants as stop
@@ -104,11 +103,6 @@ spaced n = codes " " ++ decimal n
 abbrev pub ready_text : List ℕ → List ℕ
 ready_text [] = ended (codes "ready -")
 ready_text (id ∷ ids) = ended (codes "ready" ++ flat_map spaced (id ∷ ids))
-
-abbrev pub family_name : Family → List ℕ
-family_name Tree = codes "tree"
-family_name Wave = codes "wave"
-family_name OfApp = codes "app"
 
 -- the line of a fault: at which end of which link, and the row
 abbrev pub fault_line : LinkFault → List ℕ
@@ -207,13 +201,9 @@ after_alarm m c i (Some fault) = stepped c (outcome_of m.app c (Request i))
 unfoldable pub watched : {L : Type 0} → Meaning L → Configuration L → ℕ → Configuration L × List ℕ
 watched m c i = let after = after_alarm m c i (alarm_of m.app c i) in (after.0, alarm_line m c i ++ after.1)
 
--- whether the identifier is that of a node
-abbrev pub has_node : {L : Type 0} → Configuration L → ℕ → Bool
-has_node c i = list_any (λ k. k == i) c.graph.ids
-
 -- the answer where the identifier is that of a node, and a refusal elsewhere
 abbrev pub at_node : {L : Type 0} → Configuration L → ℕ → List ℕ → List ℕ
-at_node c i text = if has_node c i then text else refusal_text StrangeNode
+at_node c i text = if is_among i c.graph.ids then text else refusal_text StrangeNode
 
 -- the answer to a command
 abbrev pub answered : {L : Type 0} → Meaning L → Configuration L → Command → Configuration L × List ℕ
@@ -226,7 +216,7 @@ answered m c Ready = (c, ready_line m c)
 answered m c Check = (c, faults_lines m c)
 answered m c (CheckNode i) = (c, at_node c i (node_faults_lines m c i))
 answered m c (Alarm i) = (c, at_node c i (alarm_line m c i))
-answered m c (Watch i) = if has_node c i then watched m c i else (c, refusal_text StrangeNode)
+answered m c (Watch i) = if is_among i c.graph.ids then watched m c i else (c, refusal_text StrangeNode)
 
 -- what lines leave: the configuration, what is written, and whether they are good
 pub record Answer (L : Type 0) : Type 0 where
@@ -258,23 +248,23 @@ answers m c n (line ∷ lines) =
 
 -- what follows lines that ended so, and the status of the run: a check of what good lines left, or nothing
 abbrev pub ending : {L : Type 0} → Meaning L → Purpose → Configuration L → Status → List ℕ × Status
-ending m purpose.Replay c status = ([], status)
-ending m purpose.Check c status = if_good status (faults_lines m c, faults_status m c) ([], status)
+ending m purposes.Replay c status = ([], status)
+ending m purposes.Check c status = if_good status (faults_lines m c, faults_status m c) ([], status)
 
 -- what is written for a purpose, and the status
 abbrev pub output_for : {L : Type 0} → Meaning L → Purpose → Answer L → List ℕ × Status
-output_for m why a = let last = ending m why a.config a.status in (a.text ++ last.0, last.1)
+output_for m purpose a = let last = ending m purpose a.config a.status in (a.text ++ last.0, last.1)
 
 -- the answers to a script
 abbrev pub script_output : {L : Type 0} → Meaning L → Purpose → Configuration L → List ℕ → List ℕ × Status
-script_output m why c script =
-    if nat_lt 1048576 (length script) then (too_long_text, BadInput) else output_for m why (answers m c 1 (lines_of script))
+script_output m purpose c script =
+    if nat_lt 1048576 (length script) then (too_long_text, BadInput) else output_for m purpose (answers m c 1 (lines_of script))
 
 -- ---- the output of texts
 
 -- the answers to a script from the booted configuration of a graph
-pub data IsReplay {L : Type 0} (m : Meaning L) (why : Purpose) (g : Graph) (script : List ℕ) (output : List ℕ × Status) : Type 0 where
-  replayed : (c : Configuration L) → IsBoot m.app g c → output ≡ script_output m why c script → IsReplay m why g script output
+pub data IsReplay {L : Type 0} (m : Meaning L) (purpose : Purpose) (g : Graph) (script : List ℕ) (output : List ℕ × Status) : Type 0 where
+  replayed : (c : Configuration L) → IsBoot m.app g c → output ≡ script_output m purpose c script → IsReplay m purpose g script output
 
 -- the same for the application of a name
 abbrev pub IsReplayOf : AppName → Purpose → Graph → List ℕ → List ℕ × Status → Type 0
@@ -288,15 +278,15 @@ abbrev pub Describes : List ℕ → Graph → AppName → Type 0
 Describes topology g app = (d : Description) × (description_of topology ≡ Ok d) × IsTopologyOf d.nodes d.links g × (app ≡ d.app)
 
 -- what a run writes, and its status: the topology is judged before the script
-pub data IsOutput (why : Purpose) (topology script : List ℕ) (output : List ℕ × Status) : Type 0 where
-  bad_topology : (f : ReadFault) → IsReadFault topology f → output ≡ (bad_topology_text f, BadInput) → IsOutput why topology script output
-  replayed : (g : Graph) (app : AppName) → Describes topology g app → IsReplayOf app why g script output
-      → IsOutput why topology script output
+pub data IsOutput (purpose : Purpose) (topology script : List ℕ) (output : List ℕ × Status) : Type 0 where
+  bad_topology : (f : ReadFault) → IsReadFault topology f → output ≡ (bad_topology_text f, BadInput) → IsOutput purpose topology script output
+  replayed : (g : Graph) (app : AppName) → Describes topology g app → IsReplayOf app purpose g script output
+      → IsOutput purpose topology script output
 
 -- the same of a joined text that is replayed, which is judged by its length before it is cut
 pub data IsJoinedOutput (joined : List ℕ) (output : List ℕ × Status) : Type 0 where
   too_long : 1048576 < length joined → output ≡ (too_long_text, BadInput) → IsJoinedOutput joined output
-  cut : (topology script : List ℕ) → length joined ≤ 1048576 → IsCut joined topology script → IsOutput purpose.Replay topology script output
+  cut : (topology script : List ℕ) → length joined ≤ 1048576 → IsCut joined topology script → IsOutput purposes.Replay topology script output
       → IsJoinedOutput joined output
 
 -- ---- what a run leaves

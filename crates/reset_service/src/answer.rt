@@ -1,7 +1,7 @@
 // What the run writes.
 
-ghost use Rattle.std.specs.Prelude.{◌≡◌, ◌≢◌, ℕ, [], ◌∷◌, ◌++◌, codes, List, IfErr, OnOk, OnErr};
-ghost use Rattle.std.specs.Io.KnownBytes.{Appends};
+ghost use Rattle.std.specs.Prelude.{◌≡◌, ◌≢◌, ℕ, [], ◌∷◌, ◌++◌, codes, List, Err, IfErr, OnOk, OnErr};
+ghost use Rattle.std.specs.Io.KnownBytes.{Appends, Keeps};
 ghost use Rattle.action_tables.specs.Written.{AppendsFront};
 ghost use Rattle.reset_machine.specs.Planned.{outcome_of};
 ghost use Rattle.reset_service.specs.Meaning.{meaning_of};
@@ -108,8 +108,7 @@ pub fn put_bad_line<W: Write>(out: &mut W, number: u64) -> Result<(), WriteFault
     put_numbered(out, b"bad line ", number)
 }
 
-/// Does what the command asks for, and writes the answer. Want of memory changes and writes
-/// nothing.
+/// Does what the command asks for, and writes the answer. Want of memory changes nothing.
 pub fn answer<P: Application, W: Write>(
     alloc: Global,
     config: &mut Config<P>,
@@ -120,6 +119,7 @@ pub fn answer<P: Application, W: Write>(
         × Appends (W.contents out.old) (W.contents out.new) (answered (meaning_of P.app P.text P.names) config.old command).1) }
     ensures err { OnErr result (AppendsFront (W.contents out.old) (W.contents out.new) (answered (meaning_of P.app P.text P.names) config.old command).1) }
     ensures stop { IfErr result (λ stop. stop ≢ RunStop.ReadFailed) }
+    ensures memory { result ≡ Err RunStop.NoMemory → config.new ≡ config.old }
 {
     match command {
         Command::Step(event) => answer_step(alloc, config, event, out),
@@ -138,7 +138,8 @@ pub fn answer<P: Application, W: Write>(
     }
 }
 
-/// Steps, and writes the reply or the refusal. Want of memory changes and writes nothing.
+/// Steps, and writes the reply or the refusal. Want of memory changes and writes nothing; where the
+/// writer fails the event was done, or refused.
 pub fn answer_step<P: Application, W: Write>(
     alloc: Global,
     config: &mut Config<P>,
@@ -149,6 +150,8 @@ pub fn answer_step<P: Application, W: Write>(
         × Appends (W.contents out.old) (W.contents out.new) (stepped config.old (outcome_of P.app config.old event)).1) }
     ensures err { OnErr result (AppendsFront (W.contents out.old) (W.contents out.new) (stepped config.old (outcome_of P.app config.old event)).1) }
     ensures stop { IfErr result (λ stop. stop ≢ RunStop.ReadFailed) }
+    ensures memory { result ≡ Err RunStop.NoMemory → (config.new ≡ config.old) × Keeps (W.contents out.old) (W.contents out.new) }
+    ensures fault { result ≡ Err RunStop.WriteFailed → config.new ≡ (stepped config.old (outcome_of P.app config.old event)).0 }
 {
     match config.step(alloc, event) {
         Ok(reply) => Ok(put_reply(out, reply)?),

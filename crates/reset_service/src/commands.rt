@@ -1,6 +1,6 @@
 // The commands of the program and their help, as `clap` reads and prints them.
 
-ghost use Rattle.std.specs.Prelude.{◌≡◌, IfOk, codes, false};
+ghost use Rattle.std.specs.Prelude.{◌≡◌, IfOk, false};
 ghost use Rattle.clap.specs.Words.{app_of, rule_of};
 ghost use Rattle.clap.specs.declared.builder.command.Command.TheViews.{out-Command as fields_of};
 ghost use Rattle.reset_service.specs.Words.{path, program, tables_command, texts_command};
@@ -102,39 +102,27 @@ other the far end.";
 pub fn command_line<'a>(alloc: Global) -> Result<Command<'a>, AllocError>
     ensures { IfOk result (λ command. app_of command ≡ program) }
 {
-    Command::new(alloc, "reset-service")
-        .about(ABOUT)
-        .long_about(LONG_ABOUT)
-        .after_help(AFTER_HELP)
-        .subcommand(replay_words(alloc)?)?
-        .subcommand(check_words(alloc)?)?
-        .subcommand(tables_words(alloc))
-}
-
-fn replay_words<'a>(alloc: Global) -> Result<Command<'a>, AllocError>
-    ensures app { IfOk result (λ command. app_of command ≡ texts_command (codes "replay")) }
-    ensures local { IfOk result (λ command. (fields_of command).has_globals ≡ false) }
-{
-    texts_words(
+    let replay = texts_words(
         alloc,
         "replay",
         REPLAY_ABOUT,
         REPLAY_LONG_ABOUT,
         REPLAY_AFTER_HELP,
-    )
-}
-
-fn check_words<'a>(alloc: Global) -> Result<Command<'a>, AllocError>
-    ensures app { IfOk result (λ command. app_of command ≡ texts_command (codes "check")) }
-    ensures local { IfOk result (λ command. (fields_of command).has_globals ≡ false) }
-{
-    texts_words(
+    )?;
+    let check = texts_words(
         alloc,
         "check",
         CHECK_ABOUT,
         CHECK_LONG_ABOUT,
         CHECK_AFTER_HELP,
-    )
+    )?;
+    Command::new(alloc, "reset-service")
+        .about(ABOUT)
+        .long_about(LONG_ABOUT)
+        .after_help(AFTER_HELP)
+        .subcommand(replay)?
+        .subcommand(check)?
+        .subcommand(tables_words(alloc))
 }
 
 // A subcommand with the paths of a topology and a script.

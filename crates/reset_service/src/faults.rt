@@ -1,19 +1,20 @@
 // The answers that tell faults and alarms.
 
-ghost use Rattle.std.specs.Prelude.{◌≡◌, ◌≢◌, ◌++◌, codes, length, IfErr, IfOk, OnErr, OnOk};
+ghost use Rattle.std.specs.Prelude.{◌≡◌, ◌≢◌, ◌++◌, codes, length, Err, IfErr, IfOk, OnErr, OnOk};
 ghost use Rattle.std.specs.List.{flat_map};
 ghost use Rattle.std.specs.Io.KnownBytes.{Appends};
 ghost use Rattle.topology.specs.Graph.{IsNode};
+ghost use Rattle.action_tables.specs.Numbers.{is_among};
 ghost use Rattle.action_tables.specs.Written.{AppendsFront};
 ghost use Rattle.reset_service.specs.Meaning.{meaning_of};
-ghost use Rattle.reset_service.specs.Output.{alarm_line, alarm_text, answered, at_node, family_name, fault_line, faults_lines, faults_status, faults_text, found_status, has_node, node_faults_lines, watched};
+ghost use Rattle.reset_service.specs.Output.{alarm_line, alarm_text, answered, at_node, fault_line, faults_lines, faults_status, faults_text, found_status, node_faults_lines, watched};
 ghost use Rattle.reset_service.specs.declared.script.Command.TheVariants.{Watch};
 
 use crate::answer::{answer_step, put_numbered, put_refusal};
 use crate::status::{RunStop, Status};
 use action_tables::{Part, WriteFault, put_bytes, put_parts};
 use app_interface::Application;
-use link_predicates::{Family, LinkFault, alarm, check_all, check_node};
+use link_predicates::{LinkFault, alarm, check_all, check_node};
 use reset_machine::{Config, Event, StepRefusal};
 use std::alloc::{AllocError, Global};
 use std::io::Write;
@@ -91,13 +92,13 @@ pub fn answer_alarm<P: Application, W: Write>(
 
 // Whether the identifier is that of a node.
 fn is_node<P: Application>(config: &Config<P>, at: u32) -> bool
-    ensures { result ≡ has_node config.now at }
+    ensures { result ≡ is_among at config.now.graph.ids }
 {
     config.topology().index_of(at).is_some()
 }
 
 /// As `answer_alarm`; where the node has an alarm it then asks for a reset, and the reply or the
-/// refusal is written.
+/// refusal is written. Want of memory changes nothing.
 pub fn answer_watch<P: Application, W: Write>(
     alloc: Global,
     config: &mut Config<P>,
@@ -109,6 +110,7 @@ pub fn answer_watch<P: Application, W: Write>(
     ensures err { OnErr result (AppendsFront (W.contents out.old) (W.contents out.new)
         (answered (meaning_of P.app P.text P.names) config.old (Watch at)).1) }
     ensures stop { IfErr result (λ stop. stop ≢ RunStop.ReadFailed) }
+    ensures memory { result ≡ Err RunStop.NoMemory → config.new ≡ config.old }
 {
     if is_node(&*config, at) {
         watch_node(alloc, config, at, out)
@@ -130,6 +132,7 @@ fn watch_node<P: Application, W: Write>(
     ensures err { OnErr result (AppendsFront (W.contents out.old) (W.contents out.new)
         (watched (meaning_of P.app P.text P.names) config.old at).1) }
     ensures stop { IfErr result (λ stop. stop ≢ RunStop.ReadFailed) }
+    ensures memory { result ≡ Err RunStop.NoMemory → config.new ≡ config.old }
 {
     let told = alarm(config, at);
     put_alarm(out, told)?;
@@ -192,20 +195,10 @@ fn put_fault<W: Write>(out: &mut W, fault: LinkFault) -> Result<(), WriteFault>
             Part::Text(b" "),
             Part::Number(u64::from(fault.other)),
             Part::Text(b" "),
-            Part::Text(family_name(fault.family)),
+            Part::Text(fault.family.name().as_bytes()),
             Part::Text(b" "),
             Part::Number(u64::from(fault.row)),
             Part::Text(b"\n"),
         ],
     )
-}
-
-fn family_name(family: Family) -> &'static [u8]
-    ensures { result.now ≡ family_name family }
-{
-    match family {
-        Family::Tree => b"tree",
-        Family::Wave => b"wave",
-        Family::App => b"app",
-    }
 }

@@ -5,6 +5,8 @@
 #[cfg(test)]
 mod buffer;
 #[cfg(test)]
+mod calls;
+#[cfg(test)]
 mod checks;
 #[cfg(test)]
 mod devices;

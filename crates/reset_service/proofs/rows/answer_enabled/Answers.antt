@@ -1,11 +1,11 @@
-use Rattle.std.proofs.Common.{◌≢◌, ℕ, List, subst, sym, ap, ◌∙◌, rules}
+use Rattle.std.proofs.Common.{◌≢◌, ℕ, List, subst, sym, rules}
 use Rattle.std.specs.Io.KnownBytes.{Appends}
 use Rattle.action_tables.specs.Written.{AppendsFront}
 use Rattle.action_tables.proofs.Fronts.{OnErr-always}
 use Rattle.reset_machine.specs.declared.step.StepRefusal.TheVariants.{NoMemory}
 use Rattle.reset_service.specs.Meaning.{meaning_of}
-use Rattle.reset_service.specs.Output.{enabled_line, refusal_text}
-use Rattle.reset_service.proofs.Nodes.{enabled_node, told_none}
+use Rattle.reset_service.specs.Output.{enabled_line}
+use Rattle.reset_service.proofs.Nodes.{enabled_node, told_refused}
 use Rattle.reset_service.proofs.rows.answer_enabled.Goals as goal
 
 pub returns-in_err-put_enabled-in-Ok-clause-err : goal.returns-in_err-put_enabled-in-Ok-clause-err
@@ -26,8 +26,7 @@ pub returns-in_err-put_refusal-in-Err : goal.returns-in_err-put_refusal-in-Err
 returns-in_err-put_refusal-in-Err g c =
     let m = meaning_of g.P.Application.app g.P.Application.text g.P.Application.names in
     let memory : c.in-Err.refusal ≢ NoMemory = search rules in
-    let known = c.in-Err.ensures.err memory in
-    let text = told_none c.args.config.now c.args.at (enabled_line m c.args.config.now c.args.at) known.1 ∙ ap refusal_text (sym known.0) in
+    let text = told_refused c.args.config.now c.args.at (enabled_line m c.args.config.now c.args.at) c.in-Err.refusal c.in-Err.ensures.err memory in
     let P : List ℕ → Type 0 = λ t. AppendsFront (g.W.Write.contents c.args.out.now) (g.W.Write.contents c.put_refusal.new.out) t in
     record {
       ok = search rules;
@@ -39,8 +38,7 @@ pub returns-in_ok-put_refusal-in-Err : goal.returns-in_ok-put_refusal-in-Err
 returns-in_ok-put_refusal-in-Err g c =
     let m = meaning_of g.P.Application.app g.P.Application.text g.P.Application.names in
     let memory : c.in-Err.refusal ≢ NoMemory = search rules in
-    let known = c.in-Err.ensures.err memory in
-    let text = told_none c.args.config.now c.args.at (enabled_line m c.args.config.now c.args.at) known.1 ∙ ap refusal_text (sym known.0) in
+    let text = told_refused c.args.config.now c.args.at (enabled_line m c.args.config.now c.args.at) c.in-Err.refusal c.in-Err.ensures.err memory in
     let P : List ℕ → Type 0 = λ t. Appends (g.W.Write.contents c.args.out.now) (g.W.Write.contents c.put_refusal.new.out) t in
     record {
       ok = subst P (sym text) c.in_ok-put_refusal-in-Err.ensures.ok;
