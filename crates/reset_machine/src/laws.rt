@@ -10,13 +10,18 @@ ghost use Rattle.reset_machine.specs.declared.step.StepRefusal.{StepRefusal};
 ghost use Rattle.reset_machine.specs.Configuration.{Configuration, IsShaped, tree_of, wave_of};
 ghost use Rattle.reset_machine.specs.Steps.{event_node, IsEnabled, Mends, RegsStep, reply_of, reset_at};
 ghost use Rattle.reset_machine.specs.MachineSteps.{IsStep, IsRefused};
-ghost use Rattle.reset_machine.specs.Outcome.{map_outcome};
+ghost use Rattle.reset_machine.specs.Outcome.{IsBoot, map_outcome};
 ghost use Rattle.reset_machine.specs.Planned.{outcome_of};
 ghost use Rattle.reset_machine.specs.Sound.{Repairs, Sound};
 ghost use Rattle.reset_machine.specs.WavePicture.{WavePicture, WaveSound};
 ghost use Rattle.reset_machine.specs.declared.event.Event.TheVariants.{Finish};
 
 use app_interface::Application;
+
+/// A graph has at most one booted configuration.
+pub fn one_boot<P: Application>()
+    ensures { (g : Graph) (c d : Configuration P.Local) → IsBoot P.app g c → IsBoot P.app g d → c ≡ d }
+{}
 
 /// The outcome of an event, as a function, is a step with its reply, or the first refusal.
 pub fn outcomes_are_steps<P: Application>()

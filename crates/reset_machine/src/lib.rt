@@ -22,8 +22,8 @@ pub use config::Config;
 pub use enabled::Enabled;
 pub use event::Event;
 pub use laws::{
-    completions_are_true, mends_rest, no_step_is_refused, outcomes_are_steps, sound_is_quiet,
-    steps_stay_sound, views_decide, wave_pictures,
+    completions_are_true, mends_rest, no_step_is_refused, one_boot, outcomes_are_steps,
+    sound_is_quiet, steps_stay_sound, views_decide, wave_pictures,
 };
 pub use node_view::{Near, View};
 pub use run_laws::{completions, invariants, joins_once, refinement, runs_stay_sound};

@@ -11,3 +11,4 @@ pub mod PathRows
 pub mod Subcommands
 pub mod TableRuns
 pub mod ReadyTexts
+pub mod OneOutput

@@ -9,6 +9,7 @@ mod commands;
 mod faults;
 mod gather;
 mod input;
+mod laws;
 mod replays;
 mod rows;
 mod script;
@@ -19,6 +20,7 @@ mod words;
 
 pub use gather::Gathered;
 pub use input::{READ_LIMIT, read_text};
+pub use laws::{one_joined_output, one_output};
 pub use replays::{check_text, replay, replay_joined, replay_text};
 pub use status::{RunStop, Status};
 pub use tables::print_tables;

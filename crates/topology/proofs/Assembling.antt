@@ -45,7 +45,7 @@ module _ (nodes ids : List ℕ) (links : List (ℕ × ℕ)) (rows : List (List �
         let of_lists = graph_of_lists nodes ids as_ids sorted links apart rows joined in
         record {
           sound = clean_all nodes links (clean_lists nodes ids as_ids sorted links few apart.known apart.different joined.distinct)
-              (λ n x. no_cut_off nodes links (graph_of ids rows) x.0 of_lists connected x.1 x.2 n x.3);
+              (λ n x. no_cut_off nodes links (graph_of ids rows) x.0 of_lists connected x.1 n x.2);
           exact = of_lists;
         }
 
@@ -55,7 +55,6 @@ module _ (nodes ids : List ℕ) (links : List (ℕ × ℕ)) (rows : List (List �
       first_fault nodes links (Disconnected (get_or ids i 0)) 8 refl
       (clean_lists nodes ids as_ids sorted links few apart.known apart.different joined.distinct) (
         graph_of ids rows,
-        are_graph,
         graph_of_lists nodes ids as_ids sorted links apart rows joined,
         cut_off_from_marks ids rows as_ids joined.as_rows are_graph marks found i (omega (arith, index.0, found.are_reached.count))
             (eqb-true (get_or marks i 0) (length ids) index.1)

@@ -1,9 +1,9 @@
 -- How many links a graph of distinct links has.
-use Rattle.std.proofs.Common.{◌≡◌, ◌≢◌, ℕ, suc, ◌+◌, ◌*◌, Bool, true, false, ◌||◌, min, max, List, [], ◌∷◌, Equal, length, All, AllPairs, sym, refl, ap, ap₂, subst, ◌∙◌, arith, ⊎_elim}
+use Rattle.std.proofs.Common.{◌≡◌, ◌≢◌, ℕ, suc, ◌+◌, ◌*◌, Bool, true, false, ◌||◌, min, max, List, [], ◌∷◌, length, All, AllPairs, sym, refl, ap, ap₂, subst, ◌∙◌, arith, ⊎_elim}
 use Rattle.std.specs.List.{list_any}
 use Rattle.std.specs.FinSet as set
 use Rattle.std.specs.Ordering.{eq_by_cmp}
-use Rattle.std.specs.Cmp.{both_ways as same_tests, Equal-is}
+use Rattle.std.specs.Cmp.{both_ways as same_tests}
 use Rattle.std.proofs.lemmas.Bool.{or_cases, or_left, or_right, false_from_ne_true, cond-false}
 use Rattle.std.proofs.lemmas.List.Elements.{All-head, All-tail}
 use Rattle.topology.specs.Building.{joins}
@@ -13,7 +13,7 @@ use Rattle.topology.specs.Rows.{graph_of, links_of}
 use Rattle.topology.proofs.FaultOrder.{link_from_join, join_from_link}
 use Rattle.topology.proofs.Inserting.{joins_ends, joins_own, joins_back}
 use Rattle.topology.proofs.Joining.{ordered_from_joins}
-use Rattle.topology.proofs.RowLemmas.{pair_total, same_pair, pair_itself}
+use Rattle.topology.proofs.RowLemmas.{pair_total, pairs_differ, same_pair, pair_itself}
 
 -- each link in both directions
 abbrev both_directions : List (ℕ × ℕ) → List (ℕ × ℕ)
@@ -95,12 +95,9 @@ pub links_counted : (nodes ids : List ℕ) (links : List (ℕ × ℕ)) (rows : L
     AllPairs (λ p q. p ≢ q) (ordered_links links) → All (λ l. l.0 ≢ l.1) links → 2 * length links ≡ set.len (links_of ids rows)
 links_counted nodes ids links rows of_lists once apart =
     let same : links_of ids rows ≡ set_of links =
-    set.same_set pair_total (slice_antisymmetric) (links_of ids rows) (set_of links)
+    set.same_set pair_total pairs_differ (links_of ids rows) (set_of links)
     (λ q.
     same_tests _ _
     (λ e. set_has q.0 q.1 links ∙ join_from_link q.0 q.1 links ((of_lists.same_links q.0 q.1).0 e))
     (λ e. (of_lists.same_links q.0 q.1).1 (link_from_join q.0 q.1 links (sym (set_has q.0 q.1 links) ∙ e)))) in
     sym (ap set.len same ∙ length_both links once apart)
-  where
-    slice_antisymmetric : (x y : ℕ × ℕ) → pair_cmp x y ≡ Equal → x ≡ y
-    slice_antisymmetric x y e = same_pair x y ((Equal-is (pair_cmp x y)).1 e)

@@ -16,7 +16,7 @@ use Rattle.topology.specs.declared.fault.TheConstants.{MAX_NODES, MAX_LINKS}
 use Rattle.topology.proofs.Ascending.{contains_from_test, test_from_contains, index_of_member}
 use Rattle.topology.proofs.FirstItems.{no_first, no_first_repeat, first_weaker, ends_known}
 use Rattle.topology.proofs.Inserting.{joins_ends, joins_own, joins_back}
-use Rattle.topology.proofs.RowLemmas.{linked_from, linked_to}
+use Rattle.topology.proofs.RowLemmas.{graph_of_rows, linked_from, linked_to}
 
 module _ (nodes : List ℕ) (links : List (ℕ × ℕ)) where
   -- the lists have none of the first k faults
@@ -159,6 +159,8 @@ module _ (nodes ids : List ℕ) (as_ids : AreIds ids) (sorted : AreSorted nodes 
 
   pub graph_of_lists : IsGraphOf nodes links (graph_of ids rows)
   graph_of_lists = record {
+    as_graph = graph_of_rows ids rows as_ids.ascending joined.as_rows as_ids.some;
+    bound = refl;
     same_nodes = λ x. (λ at. node_from_id nodes ids as_ids sorted x (test_from_contains ids x at), λ at. contains_from_test ids x (id_from_node nodes ids as_ids sorted x at));
     same_links = λ a b. (
       λ e.

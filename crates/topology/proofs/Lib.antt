@@ -11,3 +11,4 @@ pub mod Assembling
 pub mod Counting
 pub mod Membership
 pub mod TopologyTexts
+pub mod OneResult

@@ -128,10 +128,10 @@ walk_of_other : (g h : Graph) → ((a b : ℕ) → AreLinked g a b → AreLinked
 walk_of_other g h to a b [] w = w
 walk_of_other g h to a b (c ∷ cs) w = (to a c w.0, walk_of_other g h to c b cs w.1)
 
-pub no_cut_off : (nodes : List ℕ) (links : List (ℕ × ℕ)) (g h : Graph) → IsGraphOf nodes links g → IsConnected g → IsGraph h → IsGraphOf nodes links h → (n : ℕ) → IsCutOff h n → ⊥
-no_cut_off nodes links g h of_g whole are of_h n cut =
+pub no_cut_off : (nodes : List ℕ) (links : List (ℕ × ℕ)) (g h : Graph) → IsGraphOf nodes links g → IsConnected g → IsGraphOf nodes links h → (n : ℕ) → IsCutOff h n → ⊥
+no_cut_off nodes links g h of_g whole of_h n cut =
     let first : ℕ = get_or h.ids 0 0 in
-    let first_in : IsNode h first = (0, are.some, get_or_default h.ids 0 first 0 are.some) in
+    let first_in : IsNode h first = (0, of_h.as_graph.some, get_or_default h.ids 0 first 0 of_h.as_graph.some) in
     let a_in : IsNode g first = (of_g.same_nodes first).1 ((of_h.same_nodes first).0 first_in) in
     let n_in : IsNode g n = (of_g.same_nodes n).1 ((of_h.same_nodes n).0 cut.node) in
     let r = whole first n a_in n_in in

@@ -28,8 +28,10 @@ pub record IsFirstRepeat {X : Type 0} (xs : List X) (x : X) : Type 0 where
   pub earlier : Contains front x
   pub distinct : (y : X) → IsRepeated front y → ⊥
 
--- the graph has exactly these nodes and links
+-- the graph has exactly these nodes and links, and the bound K is the number of its nodes
 pub record IsGraphOf (nodes : List ℕ) (links : List (ℕ × ℕ)) (g : Graph) : Type 0 where
+  pub as_graph : IsGraph g
+  pub bound : g.bound ≡ length g.ids
   pub same_nodes : (i : ℕ) → (IsNode g i ↔ Contains nodes i)
   pub same_links : (a b : ℕ) → (AreLinked g a b ↔ (Contains links (a, b) ⊎ Contains links (b, a)))
 
@@ -57,7 +59,7 @@ HasFault nodes links TooManyLinks = 8192 < length links
 HasFault nodes links (StrangeNode n) = IsFirst (λ i. Contains nodes i → ⊥) (ends_of links) n
 HasFault nodes links (SelfLink n) = IsFirst (λ l. l.0 ≡ l.1) links (n, n)
 HasFault nodes links (TwiceLink a b) = IsFirstRepeat (ordered_links links) (a, b)
-HasFault nodes links (Disconnected n) = (g : Graph) × IsGraph g × IsGraphOf nodes links g × IsCutOff g n
+HasFault nodes links (Disconnected n) = (g : Graph) × IsGraphOf nodes links g × IsCutOff g n
 HasFault nodes links NoMemory = ⊥
 
 -- the place of a fault in the order in which they are named

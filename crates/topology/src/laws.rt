@@ -1,4 +1,6 @@
 ghost use Rattle.std.specs.Prelude.{◌≡◌, ℕ, List, length};
+ghost use Rattle.topology.specs.declared.fault.TopoFault.{TopoFault};
+ghost use Rattle.topology.specs.Faults.{IsFirstFault, IsTopologyOf};
 ghost use Rattle.topology.specs.Graph.{Graph, IsDistance, IsGraph, IsWalk};
 
 /// A walk of a graph leads back over as many links.
@@ -15,4 +17,16 @@ pub fn one_distance()
 /// The distance of two nodes of a graph is the same in both directions.
 pub fn distance_back()
     ensures { (g : Graph) (a b d : ℕ) → IsGraph g → IsDistance g a b d → IsDistance g b a d }
+{}
+
+/// Two lists describe at most one topology.
+pub fn one_topology()
+    ensures { (nodes : List ℕ) (links : List (ℕ × ℕ)) (g h : Graph) → IsTopologyOf nodes links g
+        → IsTopologyOf nodes links h → g ≡ h }
+{}
+
+/// Two lists have at most one first fault.
+pub fn one_first_fault()
+    ensures { (nodes : List ℕ) (links : List (ℕ × ℕ)) (f e : TopoFault) → IsFirstFault nodes links f
+        → IsFirstFault nodes links e → f ≡ e }
 {}

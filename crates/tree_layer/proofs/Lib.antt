@@ -3,3 +3,4 @@ mod Booting
 pub mod Leaders
 mod Counts
 pub mod TreePictures
+pub mod OneBoot

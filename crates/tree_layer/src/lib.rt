@@ -13,7 +13,7 @@ mod table;
 mod view;
 
 pub use boot::boot_tree;
-pub use laws::{boot_is_picture, tree_pictures};
+pub use laws::{boot_is_picture, one_boot, tree_pictures};
 pub use regs::{TreeRefusal, TreeRegs};
 pub use table::{tree_enabled, tree_fire, tree_good, tree_rows};
 pub use view::TreeView;
