@@ -37,3 +37,4 @@ pub mod ViewedOutcomes
 pub mod Deciding
 pub mod StepsOrRefusals
 pub mod NearSeen
+pub mod OtherGraphs
