@@ -5,6 +5,8 @@
 #[cfg(test)]
 mod event_lines;
 #[cfg(test)]
+mod leader_link;
+#[cfg(test)]
 mod machine;
 #[cfg(test)]
 mod pictures;
@@ -12,3 +14,5 @@ mod pictures;
 mod plans;
 #[cfg(test)]
 mod slow;
+#[cfg(test)]
+mod topologies;

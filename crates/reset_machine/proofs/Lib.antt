@@ -38,3 +38,4 @@ pub mod Deciding
 pub mod StepsOrRefusals
 pub mod NearSeen
 pub mod OneBoot
+pub mod OtherGraphs

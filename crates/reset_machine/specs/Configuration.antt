@@ -72,6 +72,10 @@ with_wave c i regs = record { graph = c.graph; trees = c.trees; waves = put_at c
 abbrev pub with_local : {L : Type 0} → Configuration L → ℕ → L → Configuration L
 with_local c i local = record { graph = c.graph; trees = c.trees; waves = c.waves; locals = put_at c.graph.ids c.locals i local }
 
+-- the configuration with another graph
+abbrev pub with_graph : {L : Type 0} → Configuration L → Graph → Configuration L
+with_graph c g = record { graph = g; trees = c.trees; waves = c.waves; locals = c.locals }
+
 -- the configuration with other local states
 abbrev pub with_locals : {L : Type 0} → Configuration L → List L → Configuration L
 with_locals c locals = record { graph = c.graph; trees = c.trees; waves = c.waves; locals = locals }

@@ -53,7 +53,8 @@ impl<P: Application> Model for Config<P> {
 }
 
 impl<P: Application> Config<P> {
-    ghost use Rattle.reset_machine.specs.Configuration.{local_of, tree_of, wave_of, with_local, with_tree, with_wave};
+    ghost use Rattle.reset_machine.specs.Configuration.{local_of, tree_of, wave_of};
+    ghost use Rattle.reset_machine.specs.Configuration.{with_graph, with_local, with_tree, with_wave};
     ghost use Rattle.reset_machine.specs.Enabled.{enabled_rows, ready_of};
     ghost use Rattle.reset_machine.specs.MachineSteps.{IsStep, IsRefused};
     ghost use Rattle.reset_machine.specs.Runs.{Answers, IsRun};
@@ -298,6 +299,28 @@ impl<P: Application> Config<P> {
             }
             None => Err((StepRefusal::StrangeNode, local)),
         }
+    }
+
+    /// Puts a topology of the same nodes, whatever its links. Registers and local states stay, and an open
+    /// or a join puts from now on the start state of this topology. Where memory is wanting the topology
+    /// comes back.
+    pub fn put_topology(
+        &mut self,
+        alloc: Global,
+        topology: Topology,
+    ) -> Result<(), AllocFailed<Topology>>
+        requires { topology.ids ≡ self.old.graph.ids }
+        ensures ok { OnOk result (self.new ≡ with_graph self.old topology) }
+        ensures value_returned { IfErr result (λ e. e.value ≡ topology) }
+        ensures kept { OnErr result (self.new ≡ self.old) }
+    {
+        let starts = match start_all::<P>(alloc, &topology) {
+            Ok(starts) => starts,
+            Err(AllocError) => return Err(AllocFailed { value: topology }),
+        };
+        self.topology = topology;
+        self.starts = starts;
+        Ok(())
     }
 
     /// What the node with this identifier sees now, or a refusal: `StrangeNode`, or `NoMemory`.

@@ -7,7 +7,7 @@ ghost use Rattle.tree_layer.specs.TreePicture.{TreePicture};
 ghost use Rattle.wave_layer.specs.declared.regs.WaveRegs.{WaveRegs};
 ghost use Rattle.reset_machine.specs.declared.event.Event.{Event};
 ghost use Rattle.reset_machine.specs.declared.step.StepRefusal.{StepRefusal};
-ghost use Rattle.reset_machine.specs.Configuration.{Configuration, IsShaped, tree_of, wave_of};
+ghost use Rattle.reset_machine.specs.Configuration.{Configuration, IsShaped, local_of, tree_of, wave_of, with_graph};
 ghost use Rattle.reset_machine.specs.Steps.{event_node, IsEnabled, Mends, RegsStep, reply_of, reset_at};
 ghost use Rattle.reset_machine.specs.MachineSteps.{IsStep, IsRefused};
 ghost use Rattle.reset_machine.specs.Outcome.{IsBoot, map_outcome};
@@ -21,6 +21,13 @@ use app_interface::Application;
 /// A graph has at most one booted configuration.
 pub fn one_boot<P: Application>()
     ensures { (g : Graph) (c d : Configuration P.Local) → IsBoot P.app g c → IsBoot P.app g d → c ≡ d }
+{}
+
+/// With another graph of the same nodes a configuration has the registers and the local states that it had.
+pub fn states_stay<P: Application>()
+    ensures { (c : Configuration P.Local) (g : Graph) (i : ℕ) → IsShaped c → g.ids ≡ c.graph.ids → IsNode c.graph i
+        → (tree_of (with_graph c g) i ≡ tree_of c i) × (wave_of (with_graph c g) i ≡ wave_of c i)
+        × (local_of P.app (with_graph c g) i ≡ local_of P.app c i) }
 {}
 
 /// The outcome of an event, as a function, is a step with its reply, or the first refusal.

@@ -23,7 +23,7 @@ pub use enabled::Enabled;
 pub use event::Event;
 pub use laws::{
     completions_are_true, mends_rest, no_step_is_refused, one_boot, outcomes_are_steps,
-    sound_is_quiet, steps_stay_sound, views_decide, wave_pictures,
+    sound_is_quiet, states_stay, steps_stay_sound, views_decide, wave_pictures,
 };
 pub use node_view::{Near, View};
 pub use run_laws::{completions, invariants, joins_once, refinement, runs_stay_sound};

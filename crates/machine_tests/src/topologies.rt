@@ -1,0 +1,134 @@
+// Topologies that are put under the registers and the local states.
+
+use crate::leader_link::LeaderLink;
+use reset_machine::{Config, Event, Reply};
+use std::alloc::{AllocFailed, Global};
+use std::process::Abort;
+use topology::Topology;
+
+fn booted(
+    rt: &impl Abort,
+    alloc: Global,
+    nodes: &[u32],
+    links: &[(u32, u32)],
+) -> Config<LeaderLink> {
+    let topology = Topology::build(alloc, nodes, links).expect(rt, "a graph");
+    match Config::<LeaderLink>::boot(alloc, topology) {
+        Ok(config) => config,
+        Err(_) => panic!(rt; "memory for the graph"),
+    }
+}
+
+// The nodes in the midst of a reset that the greatest has opened, each with a local state of its own.
+fn resetting(
+    rt: &impl Abort,
+    alloc: Global,
+    nodes: &[u32],
+    links: &[(u32, u32)],
+) -> Config<LeaderLink> {
+    let mut config = booted(rt, alloc, nodes, links);
+    let greatest = config.topology().greatest().get();
+    for event in [
+        Event::Request { at: greatest },
+        Event::Open { at: greatest },
+        Event::Join { at: greatest - 1 },
+    ] {
+        assert_eq!(rt; config.step(alloc, event), Ok(Reply::Applied));
+    }
+    let mut local: u8 = 41;
+    for id in nodes {
+        assert_eq!(rt; config.put_local(*id, local), Ok(()));
+        local = local.wrapping_add(1);
+    }
+    config
+}
+
+fn copied(rt: &impl Abort, alloc: Global, config: &Config<LeaderLink>) -> Config<LeaderLink> {
+    match config.copy(alloc) {
+        Ok(copy) => copy,
+        Err(_) => panic!(rt; "memory for a copy"),
+    }
+}
+
+// Puts the topology of the same nodes with these links.
+fn put_links(
+    rt: &impl Abort,
+    alloc: Global,
+    config: &mut Config<LeaderLink>,
+    nodes: &[u32],
+    links: &[(u32, u32)],
+) -> Result<(), AllocFailed<Topology>> {
+    let topology = Topology::build(alloc, nodes, links).expect(rt, "a graph");
+    assert!(rt; topology.ids() == config.topology().ids());
+    config.put_topology(alloc, topology)
+}
+
+// Whether the two have the same registers and local states.
+fn have_same_states(a: &Config<LeaderLink>, b: &Config<LeaderLink>) -> bool {
+    a.trees() == b.trees() && a.waves() == b.waves() && a.locals() == b.locals()
+}
+
+// Whether the topology has these links and no others.
+fn has_links(topology: &Topology, links: &[(u32, u32)]) -> bool {
+    topology.link_count() == links.len() && links.iter().all(|&(a, b)| topology.linked(a, b))
+}
+
+// The state that a node restarts with.
+fn start_at(rt: &impl Abort, alloc: Global, config: &Config<LeaderLink>, id: u32) -> u8 {
+    match config.view(alloc, id) {
+        Ok(view) => *view.start(),
+        Err(_) => panic!(rt; "what a node sees"),
+    }
+}
+
+#[test]
+fn a_topology_is_put_under_the_states(rt: HostRuntime) {
+    let nodes = [1, 2, 3];
+    let line = [(1, 2), (2, 3)];
+    let triangle = [(1, 2), (2, 3), (1, 3)];
+    let mut config = resetting(&rt, rt.alloc(), &nodes, &line);
+    let before = copied(&rt, rt.alloc(), &config);
+    assert!(rt; has_links(config.topology(), &line));
+    assert_eq!(rt; start_at(&rt, rt.alloc(), &config, 1), 0);
+    assert!(rt; put_links(&rt, rt.alloc(), &mut config, &nodes, &triangle).is_ok());
+    assert!(rt; has_links(config.topology(), &triangle));
+    assert!(rt; have_same_states(&config, &before));
+    for id in nodes {
+        assert_eq!(rt; config.tree_at(id), before.tree_at(id), "node {id}");
+        assert_eq!(rt; config.wave_at(id), before.wave_at(id), "node {id}");
+        assert_eq!(rt; config.local_at(id), before.local_at(id), "node {id}");
+    }
+    // Node 1 has now a link to node 3, and so it restarts with another state than before.
+    assert_eq!(rt; start_at(&rt, rt.alloc(), &config, 1), 1);
+    assert_eq!(rt; config.local_at(1), Some(&41));
+    assert_eq!(rt;
+        config.step(rt.alloc(), Event::Join { at: 1 }),
+        Ok(Reply::Applied)
+    );
+    assert_eq!(rt; config.local_at(1), Some(&1));
+}
+
+#[test]
+fn without_memory_the_topology_comes_back(rt: HostRuntime) {
+    let nodes = [1, 2, 3, 4];
+    let line = [(1, 2), (2, 3), (3, 4)];
+    let mut config = resetting(&rt, rt.alloc(), &nodes, &line);
+    let before = copied(&rt, rt.alloc(), &config);
+    // There is no memory for the start state of the node in the middle of the star.
+    for star in [
+        [(1, 2), (1, 3), (1, 4)],
+        [(2, 1), (2, 3), (2, 4)],
+        [(3, 1), (3, 2), (3, 4)],
+        [(4, 1), (4, 2), (4, 3)],
+    ] {
+        match put_links(&rt, rt.alloc(), &mut config, &nodes, &star) {
+            Ok(()) => panic!(rt; "there is no memory for a start state"),
+            Err(failed) => assert!(rt; has_links(&failed.value, &star)),
+        }
+        assert!(rt; has_links(config.topology(), &line));
+        assert!(rt; have_same_states(&config, &before));
+        for (id, start) in [(1, 0), (2, 0), (3, 1), (4, 0)] {
+            assert_eq!(rt; start_at(&rt, rt.alloc(), &config, id), start);
+        }
+    }
+}
