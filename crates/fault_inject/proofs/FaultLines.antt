@@ -1,6 +1,7 @@
 -- A fault's line has the fault's words, and no other fault has them.
 use Rattle.std.specs.Prelude.{codes}
-use Rattle.std.proofs.Common.{◌≡◌, ◌≢◌, ℕ, ◌<◌, ◌^◌, List, [], ◌∷◌, ◌++◌, refl, sym, ap, ◌∙◌, arith, get_or, Option, None, Some}
+use Rattle.std.proofs.Common.{◌≡◌, ◌≢◌, ℕ, ◌<◌, ◌^◌, List, [], ◌∷◌, ◌++◌, refl, sym, ap, ◌∙◌, arith, get_or, Bool, true, false, not, true≢false, IsTrue, Bor, Option, None, Some, Result, Ok, Err, IfOk, IfSome, IfNone}
+use Rattle.std.specs.Option.{is_some}
 use Rattle.std.specs.Fmt.{decimal}
 use Rattle.action_tables.specs.Cuts.{HasNo}
 use Rattle.tree_layer.specs.declared.regs.TreeRegs.{TreeRegs}
@@ -8,9 +9,9 @@ use Rattle.wave_layer.specs.declared.regs.WaveRegs.{WaveRegs}
 use Rattle.wave_layer.specs.declared.regs.Phase.{Phase}
 use Rattle.wave_layer.specs.declared.regs.Phase.TheVariants.{Normal, Initiate, Reset}
 use Rattle.reset_machine.specs.Words.{words_of}
-use Rattle.reset_machine.proofs.EventLines.{same_number, words_of-decimal}
+use Rattle.reset_machine.proofs.EventLines.{one_found, same_number, words_of-decimal}
 use Rattle.reset_machine.proofs.WordLines.{IsWord-decimal, line-words, words_of-more, words_of-word}
-use Rattle.fault_inject.specs.FaultText.{Fits, IsReadOf, SameFault, fault_line, fault_words, phase_name}
+use Rattle.fault_inject.specs.FaultText.{Fits, IsOneWord, IsReadOf, SameFault, fault_line, fault_words, phase_name}
 use Rattle.fault_inject.specs.declared.fault.Fault.{Fault}
 use Rattle.fault_inject.specs.declared.fault.Fault.TheVariants.{SetTree, SetWave, SetLocal, LinkDown, LinkUp}
 
@@ -89,14 +90,6 @@ no_second text rest first found only m n p q is =
     let both = sym found ∙ is in
     only n q (line-words rest (decimal n ∷ []) (cc))
 
-pub no_tree : (text rest more : List ℕ) (at root : ℕ) → words_of text ≡ decimal at ∷ words_of rest → words_of rest ≡ decimal root ∷ words_of more
-    → ((m n : ℕ) → m < 2 ^ 32 → n < 2 ^ 32 → words_of more ≡ decimal m ∷ decimal n ∷ [] → ⊥) → IsReadOf (codes "fault" ∷ codes "tree" ∷ words_of text) None
-no_tree text rest more at root first second only (SetTree a r) fits is =
-    let same : codes "fault" ∷ codes "tree" ∷ decimal at ∷ decimal root ∷ words_of more ≡ fault_words (SetTree a r) =
-    ap (λ ws. codes "fault" ∷ codes "tree" ∷ ws) (sym (first ∙ ap (λ ws. decimal at ∷ ws) second)) ∙ is in
-    only r.father r.dist fits.2 fits.3 (cc)
-no_tree text rest more at root first second only f fits is = absurd (omega (arith, ap kind_byte is))
-
 pub no_wave : (text rest phase session : List ℕ) (at : ℕ) → words_of text ≡ decimal at ∷ words_of rest → words_of rest ≡ phase ∷ words_of session
     → ((n : ℕ) → n < 2 ^ 32 → session ≡ decimal n → ⊥) → IsReadOf (codes "fault" ∷ codes "wave" ∷ words_of text) None
 no_wave text rest phase session at first second only (SetWave a r) fits is =
@@ -112,10 +105,44 @@ no_local text rest at first only (SetLocal a v) fits is =
     only (rw text fits.1)
 no_local text rest at first only f fits is = absurd (omega (arith, ap kind_byte is))
 
-pub no_down : (text : List ℕ) → ((m n : ℕ) → m < 2 ^ 32 → n < 2 ^ 32 → words_of text ≡ decimal m ∷ decimal n ∷ [] → ⊥) → IsReadOf (codes "fault" ∷ codes "down" ∷ words_of text) None
-no_down text only (LinkDown a b) fits is = only a b fits.0 fits.1 (cc)
-no_down text only f fits is = absurd (omega (arith, ap kind_byte is))
+-- ---- a fault has the words
 
-pub no_up : (text : List ℕ) → ((m n : ℕ) → m < 2 ^ 32 → n < 2 ^ 32 → words_of text ≡ decimal m ∷ decimal n ∷ [] → ⊥) → IsReadOf (codes "fault" ∷ codes "up" ∷ words_of text) None
-no_up text only (LinkUp a b) fits is = only a b fits.0 fits.1 (cc)
-no_up text only f fits is = absurd (omega (arith, ap kind_byte is))
+pub wave_found : (text rest word session : List ℕ) (at n : ℕ) (phase : Phase) → words_of text ≡ decimal at ∷ words_of rest → words_of rest ≡ word ∷ words_of session
+    → word ≡ phase_name phase → session ≡ decimal n → n < 2 ^ 32 → codes "fault" ∷ codes "wave" ∷ words_of text ≡ codes "fault" ∷ codes "wave" ∷ decimal at ∷ phase_name phase ∷ decimal n ∷ []
+wave_found text rest word session at n phase first second named number small =
+    ap (λ ws. codes "fault" ∷ codes "wave" ∷ ws) (first ∙ ap (λ ws. decimal at ∷ ws) (second ∙ one_found word session (phase_name phase) n named number small))
+
+pub local_found : (text rest items : List ℕ) (at : ℕ) → words_of text ≡ decimal at ∷ words_of rest → IsOneWord rest → items ≡ rest
+    → IsOneWord items × (codes "fault" ∷ codes "local" ∷ words_of text ≡ codes "fault" ∷ codes "local" ∷ decimal at ∷ items ∷ [])
+local_found text rest items at first word is =
+    (rw is word, ap (λ ws. codes "fault" ∷ codes "local" ∷ ws) (first ∙ ap (λ ws. decimal at ∷ ws) (words_of-word rest word.1 ∙ ap (λ w. w ∷ []) (sym is))))
+
+-- ---- what is read of a line is what is read of its words
+
+module _ (line command rest : List ℕ) (split : words_of line ≡ command ∷ words_of rest) (named : command ≡ codes "fault") where
+  words_of-line : words_of line ≡ codes "fault" ∷ words_of rest
+  words_of-line = split ∙ ap (λ w. w ∷ words_of rest) named
+
+  pub line_found : {E : Type 0} (r : Result (Option Fault) E) → IfOk r (IsReadOf (codes "fault" ∷ words_of rest)) → IfOk r (λ read. IfSome read (λ f. line ≡ fault_line f))
+  line_found (Ok (Some f)) read = line-words line (fault_words f) (words_of-line ∙ read.1)
+  line_found (Ok None) read = tt
+  line_found (Err e) read = tt
+
+  pub line_only : {E : Type 0} (r : Result (Option Fault) E) → IfOk r (IsReadOf (codes "fault" ∷ words_of rest)) → IfOk r (λ read. IfNone read ((f : Fault) → Fits f → line ≡ fault_line f → ⊥))
+  line_only (Ok (Some f)) read = tt
+  line_only (Ok None) read = λ f fits is. read f fits (sym words_of-line ∙ ap words_of is ∙ words_of-fault_line f fits)
+  line_only (Err e) read = tt
+
+-- ---- one word
+
+no_space : (w rest : List ℕ) → HasNo 32 (w ++ 32 ∷ rest) → ⊥
+no_space [] rest none = none.0 refl
+no_space (c ∷ cs) rest none = no_space cs rest none.1
+
+-- a text that isn't empty is one word where it is cut nowhere
+pub one_word : (text : List ℕ) (o : Option (Bor (List ℕ) × Bor (List ℕ))) (b : Bool) → text ≢ [] → IfSome o (λ parts. text ≡ parts.0.now ++ 32 ∷ parts.1.now) → IfNone o (HasNo 32 text)
+    → is_some o ≡ not b → (IsTrue b → IsOneWord text) × (IsOneWord text → IsTrue b)
+one_word text (Some parts) true some found none is = absurd (true≢false is)
+one_word text (Some parts) false some found none is = (λ h. absurd (true≢false (sym h)), λ word. absurd (no_space parts.0.now parts.1.now (rw (← found) word.1)))
+one_word text None true some found none is = (λ h. (some, none), λ word. refl)
+one_word text None false some found none is = absurd (true≢false (sym is))
