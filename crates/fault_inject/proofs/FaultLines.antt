@@ -1,6 +1,6 @@
 -- A fault's line has the fault's words, and no other fault has them.
 use Rattle.std.specs.Prelude.{codes}
-use Rattle.std.proofs.Common.{◌≡◌, ◌≢◌, ℕ, ◌<◌, ◌^◌, List, [], ◌∷◌, ◌++◌, refl, sym, ap, ◌∙◌, arith, get_or, Bool, true, false, not, true≢false, IsTrue, Bor, Option, None, Some, Result, Ok, Err, IfOk, IfSome, IfNone}
+use Rattle.std.proofs.Common.{◌≡◌, ◌≢◌, ℕ, ◌<◌, ◌^◌, List, [], ◌∷◌, ◌++◌, refl, sym, ap, ◌∙◌, arith, get_or, Bool, true, false, not, true≢false, IsTrue, Bor, Option, None, Some, Result, Ok, Err, IfOk, IfSome, IfNone, OnErr}
 use Rattle.std.specs.Option.{is_some}
 use Rattle.std.specs.Fmt.{decimal}
 use Rattle.action_tables.specs.Cuts.{HasNo}
@@ -11,7 +11,7 @@ use Rattle.wave_layer.specs.declared.regs.Phase.TheVariants.{Normal, Initiate, R
 use Rattle.reset_machine.specs.Words.{words_of}
 use Rattle.reset_machine.proofs.EventLines.{one_found, same_number, words_of-decimal}
 use Rattle.reset_machine.proofs.WordLines.{IsWord-decimal, line-words, words_of-more, words_of-word}
-use Rattle.fault_inject.specs.FaultText.{Fits, IsOneWord, IsReadOf, SameFault, fault_line, fault_words, phase_name}
+use Rattle.fault_inject.specs.FaultText.{Fits, IsLocalFault, IsOneWord, IsReadOf, SameFault, fault_line, fault_words, phase_name}
 use Rattle.fault_inject.specs.declared.fault.Fault.{Fault}
 use Rattle.fault_inject.specs.declared.fault.Fault.TheVariants.{SetTree, SetWave, SetLocal, LinkDown, LinkUp}
 
@@ -117,6 +117,9 @@ pub local_found : (text rest items : List ℕ) (at : ℕ) → words_of text ≡ 
 local_found text rest items at first word is =
     (rw is word, ap (λ ws. codes "fault" ∷ codes "local" ∷ ws) (first ∙ ap (λ ws. decimal at ∷ ws) (words_of-word rest word.1 ∙ ap (λ w. w ∷ []) (sym is))))
 
+pub local_asked : (text rest : List ℕ) (at : ℕ) → words_of text ≡ decimal at ∷ words_of rest → at < 2 ^ 32 → IsOneWord rest → IsLocalFault (codes "fault" ∷ codes "local" ∷ words_of text)
+local_asked text rest at first small word = record { at = at; text = rest; small = small; word = word; spelt = (local_found text rest rest at first word refl).1 }
+
 -- ---- what is read of a line is what is read of its words
 
 module _ (line command rest : List ℕ) (split : words_of line ≡ command ∷ words_of rest) (named : command ≡ codes "fault") where
@@ -132,6 +135,10 @@ module _ (line command rest : List ℕ) (split : words_of line ≡ command ∷ w
   line_only (Ok (Some f)) read = tt
   line_only (Ok None) read = λ f fits is. read f fits (sym words_of-line ∙ ap words_of is ∙ words_of-fault_line f fits)
   line_only (Err e) read = tt
+
+  pub line_memory : {E : Type 0} (r : Result (Option Fault) E) → OnErr r (IsLocalFault (codes "fault" ∷ words_of rest)) → OnErr r (IsLocalFault (words_of line))
+  line_memory (Ok read) asked = tt
+  line_memory (Err e) asked = record { at = asked.at; text = asked.text; small = asked.small; word = asked.word; spelt = words_of-line ∙ asked.spelt }
 
 -- ---- one word
 

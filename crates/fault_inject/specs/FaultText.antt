@@ -14,11 +14,15 @@ phase_name Normal = codes "normal"
 phase_name Initiate = codes "initiate"
 phase_name Reset = codes "reset"
 
+-- the words of a fault that puts a local state with this text at a node
+abbrev pub local_words : ℕ → List ℕ → List (List ℕ)
+local_words at text = codes "fault" ∷ codes "local" ∷ decimal at ∷ text ∷ []
+
 -- a fault in words: its command, its kind, the nodes that it names, and what it puts there
 abbrev pub fault_words : Fault → List (List ℕ)
 fault_words (SetTree at regs) = codes "fault" ∷ codes "tree" ∷ decimal at ∷ decimal regs.root ∷ decimal regs.father ∷ decimal regs.dist ∷ []
 fault_words (SetWave at regs) = codes "fault" ∷ codes "wave" ∷ decimal at ∷ phase_name regs.phase ∷ decimal regs.session ∷ []
-fault_words (SetLocal at text) = codes "fault" ∷ codes "local" ∷ decimal at ∷ text.items ∷ []
+fault_words (SetLocal at text) = local_words at text.items
 fault_words (LinkDown a b) = codes "fault" ∷ codes "down" ∷ decimal a ∷ decimal b ∷ []
 fault_words (LinkUp a b) = codes "fault" ∷ codes "up" ∷ decimal a ∷ decimal b ∷ []
 
@@ -47,3 +51,11 @@ SameFault f g = f ≡ g
 abbrev pub IsReadOf : List (List ℕ) → Option Fault → Type 0
 IsReadOf words (Some f) = Fits f × (words ≡ fault_words f)
 IsReadOf words None = (f : Fault) → Fits f → words ≡ fault_words f → ⊥
+
+-- the words are those of a fault that puts a local state at a node
+pub record IsLocalFault (words : List (List ℕ)) : Type 0 where
+  pub at : ℕ
+  pub text : List ℕ
+  pub small : at < 2 ^ 32
+  pub word : IsOneWord text
+  pub spelt : words ≡ local_words at text

@@ -7,7 +7,7 @@ ghost use Rattle.action_tables.specs.Written.{AppendsFront};
 ghost use Rattle.reset_machine.specs.Words.{words_of};
 ghost use Rattle.fault_inject.specs.declared.fault.Fault.{Fault};
 ghost use Rattle.fault_inject.specs.declared.fault.Fault.TheVariants.{SetTree, SetWave};
-ghost use Rattle.fault_inject.specs.FaultText.{Fits, IsOneWord, IsReadOf, SameFault, fault_line, phase_name};
+ghost use Rattle.fault_inject.specs.FaultText.{Fits, IsLocalFault, IsOneWord, IsReadOf, SameFault, fault_line, phase_name};
 ghost use Rattle.wave_layer.specs.declared.regs.Phase.{Phase};
 
 use crate::fault::Fault;
@@ -24,12 +24,14 @@ pub fn one_fault_a_line()
     ensures { (f g : Fault) → Fits f → Fits g → fault_line f ≡ fault_line g → SameFault f g }
 {}
 
-/// The fault that a line without its line feed stands for, or `None` where it stands for none. Memory
-/// is taken for the text of a local state alone.
+/// The fault that a line without its line feed stands for, or `None` where it stands for none.
 pub fn read_fault(alloc: Global, line: &[u8]) -> Result<Option<Fault>, AllocError>
     ensures found { IfOk result (λ read. IfSome read (λ f. line.now ≡ fault_line f)) }
     ensures fits { IfOk result (λ read. IfSome read Fits) }
     ensures only { IfOk result (λ read. IfNone read ((f : Fault) → Fits f → line.now ≡ fault_line f → ⊥)) }
+
+    // Memory is asked for the text of a local state alone.
+    ensures memory { OnErr result (IsLocalFault (words_of line.now)) }
 {
     let Some((command, rest)) = split_word(line) else {
         return Ok(None);
@@ -43,7 +45,8 @@ pub fn read_fault(alloc: Global, line: &[u8]) -> Result<Option<Fault>, AllocErro
 
 // The fault of the words after the command.
 fn fault_of(alloc: Global, text: &[u8]) -> Result<Option<Fault>, AllocError>
-    ensures { IfOk result (IsReadOf (codes "fault" ∷ words_of text.now)) }
+    ensures read { IfOk result (IsReadOf (codes "fault" ∷ words_of text.now)) }
+    ensures memory { OnErr result (IsLocalFault (codes "fault" ∷ words_of text.now)) }
 {
     let Some((kind, rest)) = split_word(text) else {
         return Ok(None);
@@ -88,7 +91,8 @@ fn wave_fault(text: &[u8]) -> Option<Fault>
 
 // The fault of a node and the text of a local state.
 fn local_fault(alloc: Global, text: &[u8]) -> Result<Option<Fault>, AllocError>
-    ensures { IfOk result (IsReadOf (codes "fault" ∷ codes "local" ∷ words_of text.now)) }
+    ensures read { IfOk result (IsReadOf (codes "fault" ∷ codes "local" ∷ words_of text.now)) }
+    ensures memory { OnErr result (IsLocalFault (codes "fault" ∷ codes "local" ∷ words_of text.now)) }
 {
     let Some((at, word)) = split_number(text) else {
         return Ok(None);
