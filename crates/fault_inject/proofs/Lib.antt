@@ -1,0 +1,2 @@
+mod FaultLines
+mod Words

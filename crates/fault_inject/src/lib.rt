@@ -1,0 +1,11 @@
+//! Faults of the distributed reset service: the disturbances of a configuration, the lines that name
+//! them, and how they are drawn from random words.
+#![tactic(auto)]
+
+mod draw;
+mod fault;
+mod text;
+
+pub use draw::draw_fault;
+pub use fault::Fault;
+pub use text::{one_fault_a_line, phase_name, read_fault, write_fault};

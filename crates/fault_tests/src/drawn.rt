@@ -1,0 +1,98 @@
+// Drawn faults.
+
+use app_interface::Idle;
+use fault_inject::{Fault, draw_fault};
+use rand_core::{Rng, SeedableRng};
+use rand_pcg::Lcg64Xsh32;
+use reset_machine::Config;
+use std::alloc::Global;
+use std::process::Abort;
+use topology::Topology;
+use tree_layer::TreeRegs;
+use wave_layer::{Phase, WaveRegs};
+
+// The booted triangle of nodes 1, 2, 3.
+fn triangle(rt: &impl Abort, alloc: Global) -> Config<Idle> {
+    let topology = Topology::build(alloc, &[1, 2, 3], &[(1, 2), (2, 3), (1, 3)]).expect(
+        rt, "a graph",
+    );
+    match Config::<Idle>::boot(alloc, topology) {
+        Ok(config) => config,
+        Err(_) => panic!(rt; "memory for the graph"),
+    }
+}
+
+// The words are the published ones of the reference generator from state 42 and stream 54: a15c02b7,
+// 7b47f409, ba1d3330, 83d2f293, bfa4784b, cbed606e.
+#[test]
+fn draws_from_published_words(rt: HostRuntime) {
+    let config = triangle(&rt, rt.alloc());
+    let mut random = Lcg64Xsh32::new(42, 54);
+    assert_eq!(rt;
+        draw_fault(&mut random, &config),
+        Fault::LinkUp { a: 1, b: 3 }
+    );
+    assert_eq!(rt; random.next_u32(), 0xcbed_606e);
+
+    let mut random = Lcg64Xsh32::new(42, 54);
+    random.advance(1);
+    let regs = WaveRegs {
+        phase: Phase::Initiate,
+        session: 3,
+    };
+    assert_eq!(rt;
+        draw_fault(&mut random, &config),
+        Fault::SetWave { at: 3, regs }
+    );
+}
+
+// The fault of five words on the nodes 1, 2, 3.
+fn fault_of(words: [u32; 5]) -> Fault {
+    let node = [1, 2, 3];
+    let at = node[words[1] as usize % 3];
+    let next = node[words[2] as usize % 3];
+    match words[0] % 4 {
+        0 => Fault::SetTree {
+            at,
+            regs: TreeRegs {
+                root: next,
+                father: node[words[3] as usize % 3],
+                dist: words[4] % 4,
+            },
+        },
+        1 => Fault::SetWave {
+            at,
+            regs: WaveRegs {
+                phase: [Phase::Normal, Phase::Initiate, Phase::Reset][words[2] as usize % 3],
+                session: words[3] % 8,
+            },
+        },
+        2 => Fault::LinkDown { a: at, b: next },
+        _ => Fault::LinkUp { a: at, b: next },
+    }
+}
+
+#[test]
+fn draws_from_five_words_of_each_seed(rt: HostRuntime) {
+    let config = triangle(&rt, rt.alloc());
+    let mut kinds = [0u32; 4];
+    for seed in 0..1000u64 {
+        let mut random = Lcg64Xsh32::seed_from_u64(seed);
+        let mut other = Lcg64Xsh32::seed_from_u64(seed);
+        let mut words = [0; 5];
+        for word in &mut words {
+            *word = other.next_u32();
+        }
+        assert_eq!(rt;
+            draw_fault(&mut random, &config),
+            fault_of(words),
+            "seed {seed}"
+        );
+        assert!(rt; random == other, "seed {seed}");
+        let kind = words[0] as usize % 4;
+        kinds[kind] = kinds[kind].saturating_add(1);
+    }
+    for count in kinds {
+        assert!(rt; count > 200);
+    }
+}
