@@ -11,7 +11,8 @@ use Rattle.wave_layer.specs.declared.regs.Phase.TheVariants.{Normal, Initiate, R
 use Rattle.reset_machine.specs.Words.{words_of}
 use Rattle.reset_machine.proofs.EventLines.{one_found, same_number, words_of-decimal}
 use Rattle.reset_machine.proofs.WordLines.{IsWord-decimal, line-words, words_of-more, words_of-word}
-use Rattle.fault_inject.specs.FaultText.{Fits, IsLocalFault, IsOneWord, IsReadOf, SameFault, fault_line, fault_words, phase_name}
+use Rattle.fault_inject.specs.FaultText.{Fits, IsLocalFault, IsOneWord, IsReadOf, SameFault, fault_line, fault_words}
+use Rattle.wave_layer.specs.Names.{phase_name}
 use Rattle.fault_inject.specs.declared.fault.Fault.{Fault}
 use Rattle.fault_inject.specs.declared.fault.Fault.TheVariants.{SetTree, SetWave, SetLocal, LinkDown, LinkUp}
 

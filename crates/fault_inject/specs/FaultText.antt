@@ -3,16 +3,9 @@ use Rattle.std.specs.Prelude.{◌≡◌, ◌≢◌, ℕ, ◌<◌, ◌^◌, List,
 use Rattle.std.specs.Fmt.{decimal}
 use Rattle.std.specs.List.{join_with_byte}
 use Rattle.action_tables.specs.Cuts.{HasNo}
-use Rattle.wave_layer.specs.declared.regs.Phase.{Phase}
-use Rattle.wave_layer.specs.declared.regs.Phase.TheVariants.{Normal, Initiate, Reset}
+use Rattle.wave_layer.specs.Names.{phase_name}
 use Rattle.fault_inject.specs.declared.fault.Fault.{Fault}
 use Rattle.fault_inject.specs.declared.fault.Fault.TheVariants.{SetTree, SetWave, SetLocal, LinkDown, LinkUp}
-
--- the word for a phase
-abbrev pub phase_name : Phase → List ℕ
-phase_name Normal = codes "normal"
-phase_name Initiate = codes "initiate"
-phase_name Reset = codes "reset"
 
 -- the words of a fault that puts a local state with this text at a node
 abbrev pub local_words : ℕ → List ℕ → List (List ℕ)

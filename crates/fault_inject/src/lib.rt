@@ -8,4 +8,4 @@ mod text;
 
 pub use draw::draw_fault;
 pub use fault::Fault;
-pub use text::{one_fault_a_line, phase_name, read_fault, write_fault};
+pub use text::{one_fault_a_line, read_fault, write_fault};

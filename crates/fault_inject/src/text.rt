@@ -7,7 +7,8 @@ ghost use Rattle.action_tables.specs.Written.{AppendsFront};
 ghost use Rattle.reset_machine.specs.Words.{words_of};
 ghost use Rattle.fault_inject.specs.declared.fault.Fault.{Fault};
 ghost use Rattle.fault_inject.specs.declared.fault.Fault.TheVariants.{SetTree, SetWave};
-ghost use Rattle.fault_inject.specs.FaultText.{Fits, IsLocalFault, IsOneWord, IsReadOf, SameFault, fault_line, phase_name};
+ghost use Rattle.fault_inject.specs.FaultText.{Fits, IsLocalFault, IsOneWord, IsReadOf, SameFault, fault_line};
+ghost use Rattle.wave_layer.specs.Names.{phase_name};
 ghost use Rattle.wave_layer.specs.declared.regs.Phase.{Phase};
 
 use crate::fault::Fault;
@@ -160,17 +161,6 @@ fn phase_named(word: &[u8]) -> Option<Phase>
     }
 }
 
-/// The word for a phase.
-pub fn phase_name(phase: Phase) -> &'static [u8]
-    ensures { result.now ≡ phase_name phase }
-{
-    match phase {
-        Phase::Normal => b"normal",
-        Phase::Initiate => b"initiate",
-        Phase::Reset => b"reset",
-    }
-}
-
 /// Writes the line that stands for the fault, without a line feed.
 pub fn write_fault<W: Write>(fault: &Fault, out: &mut W) -> Result<(), WriteFault>
     ensures ok { OnOk result (Appends (W.contents out.old) (W.contents out.new) (fault_line fault.now)) }
@@ -216,7 +206,7 @@ fn put_wave<W: Write>(out: &mut W, at: u32, regs: WaveRegs) -> Result<(), WriteF
             Part::Text(b"fault wave "),
             Part::Number(u64::from(at)),
             Part::Text(b" "),
-            Part::Text(phase_name(regs.phase)),
+            Part::Text(regs.phase.name().as_bytes()),
             Part::Text(b" "),
             Part::Number(u64::from(regs.session)),
         ],

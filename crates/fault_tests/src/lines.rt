@@ -1,6 +1,6 @@
 // The lines of faults.
 
-use fault_inject::{Fault, phase_name, read_fault, write_fault};
+use fault_inject::{Fault, read_fault, write_fault};
 use std::alloc::Global;
 use std::process::Abort;
 use std::test::Fail;
@@ -90,11 +90,4 @@ fn refuses_other_lines(rt: HostRuntime) -> Result<(), Fail> {
         assert_eq!(rt; read_fault(rt.alloc(), line)?, None);
     }
     Ok(())
-}
-
-#[test]
-fn names_the_phases(rt: HostRuntime) {
-    assert_eq!(rt; phase_name(Phase::Normal), b"normal".as_slice());
-    assert_eq!(rt; phase_name(Phase::Initiate), b"initiate".as_slice());
-    assert_eq!(rt; phase_name(Phase::Reset), b"reset".as_slice());
 }

@@ -204,3 +204,13 @@ fn agrees_with_a_plain_table(rt: HostRuntime) {
         }
     }
 }
+
+#[test]
+fn the_names_of_the_phases(rt: HostRuntime) {
+    let names = [
+        Phase::Normal.name(),
+        Phase::Initiate.name(),
+        Phase::Reset.name(),
+    ];
+    assert_eq!(rt; names, ["normal", "initiate", "reset"]);
+}

@@ -36,3 +36,9 @@ fn a_quiet_network_has_no_alarm(rt: HostRuntime) {
         assert!(rt; alarm(&config, id).is_none(), "node {id}");
     }
 }
+
+#[test]
+fn the_names_of_the_families(rt: HostRuntime) {
+    let names = [Family::Tree.name(), Family::Wave.name(), Family::App.name()];
+    assert_eq!(rt; names, ["tree", "wave", "app"]);
+}

@@ -15,9 +15,8 @@ use Rattle.topology.specs.declared.text.ReadFault.TheVariants as read
 use Rattle.topology.specs.declared.text.AppName.{AppName}
 use Rattle.topology.specs.declared.text.AppName.TheVariants.{Idle, Token, Mutex, Routes}
 use Rattle.tree_layer.specs.declared.regs.TreeRegs.{TreeRegs}
+use Rattle.wave_layer.specs.Names.{phase_name}
 use Rattle.wave_layer.specs.declared.regs.WaveRegs.{WaveRegs}
-use Rattle.wave_layer.specs.declared.regs.Phase.{Phase}
-use Rattle.wave_layer.specs.declared.regs.Phase.TheVariants.{Normal, Initiate, Reset}
 use Rattle.reset_machine.specs.declared.event.Event.TheVariants.{Request}
 use Rattle.reset_machine.specs.declared.step.Reply.{Reply}
 use Rattle.reset_machine.specs.declared.step.Reply.TheVariants.{Applied, Complete}
@@ -74,11 +73,6 @@ refusal_text (Disagrees n) = numbered (codes "refused Disagrees ") n
 refusal_text NotEnabled = ended (codes "refused NotEnabled")
 refusal_text SessionsSpent = ended (codes "refused SessionsSpent")
 refusal_text NoMemory = ended (codes "refused NoMemory")
-
-abbrev pub phase_name : Phase → List ℕ
-phase_name Normal = codes "normal"
-phase_name Initiate = codes "initiate"
-phase_name Reset = codes "reset"
 
 -- what stands before the local state in the line that shows a node
 abbrev pub node_head : ℕ → TreeRegs → WaveRegs → List ℕ

@@ -8,7 +8,7 @@ ghost use Rattle.topology.specs.Graph.{IsNode};
 ghost use Rattle.reset_machine.specs.Configuration.{local_of, tree_of, wave_of};
 ghost use Rattle.reset_service.specs.Lines.{ended};
 ghost use Rattle.reset_service.specs.Meaning.{meaning_of};
-ghost use Rattle.reset_service.specs.Output.{at_node, newest_head, newest_line, node_head, phase_name, shown};
+ghost use Rattle.reset_service.specs.Output.{at_node, newest_head, newest_line, node_head, shown};
 
 use crate::answer::put_refusal;
 use action_tables::{Part, WriteFault, put_bytes, put_parts};
@@ -16,7 +16,7 @@ use app_interface::Application;
 use reset_machine::{Config, StepRefusal};
 use std::io::Write;
 use tree_layer::TreeRegs;
-use wave_layer::{Phase, WaveRegs};
+use wave_layer::WaveRegs;
 
 /// Writes the line of each node, ascending.
 pub fn show_all<P: Application, W: Write>(config: &Config<P>, out: &mut W) -> Result<(), WriteFault>
@@ -80,7 +80,7 @@ fn put_head<W: Write>(
             Part::Text(b" "),
             Part::Number(u64::from(tree.dist)),
             Part::Text(b" wave "),
-            Part::Text(phase_name(wave.phase)),
+            Part::Text(wave.phase.name().as_bytes()),
             Part::Text(b" "),
             Part::Number(u64::from(wave.session)),
             Part::Text(b" local "),
@@ -95,16 +95,6 @@ fn put_local<P: Application, W: Write>(local: &P::Local, out: &mut W) -> Result<
 {
     P::show(local, out)?;
     put_bytes(out, b"\n")
-}
-
-fn phase_name(phase: Phase) -> &'static [u8]
-    ensures { result.now ≡ phase_name phase }
-{
-    match phase {
-        Phase::Normal => b"normal",
-        Phase::Initiate => b"initiate",
-        Phase::Reset => b"reset",
-    }
 }
 
 /// Writes the local state of each node in the newest session, ascending.

@@ -1,1 +1,2 @@
 pub mod WaveTable
+pub mod Names

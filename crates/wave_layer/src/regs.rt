@@ -14,7 +14,19 @@ pub enum Phase {
 }
 
 impl Phase {
+    ghost use Rattle.wave_layer.specs.Names.{phase_name};
     ghost use Rattle.wave_layer.specs.WaveTable.{is_initiate, is_normal, is_reset};
+
+    /// Its name, as lines of text have it.
+    pub fn name(self) -> &'static str
+        ensures { result.now ≡ phase_name self }
+    {
+        match self {
+            Phase::Normal => "normal",
+            Phase::Initiate => "initiate",
+            Phase::Reset => "reset",
+        }
+    }
 
     pub(crate) fn is_normal(self) -> bool
         ensures { result ≡ is_normal self }
