@@ -29,8 +29,11 @@ unfolding IsReadFrom
 some_read None = ([], tt)
 some_read (Some x) = (take READ_LIMIT x, refl)
 
+-- one read more
+pub read_on : (a b d : Option (List ℕ)) (old new : List ℕ) (n : ℕ) → Consumes a b old → ReadMore b d old new n → Consumes a d new
+read_on a b d old new n p more = rw more.appended (Consumes-trans a b d old more.bytes p more.consumed)
+
 -- the last read gave nothing
 pub read_last : (a b d : Option (List ℕ)) (old new : List ℕ) (n : ℕ) → Consumes a b old → ReadMore b d old new n → IsAtEnd d → n ≡ 0 → length old ≤ READ_LIMIT → IsReadFrom a new
 read_last a b d old new n p more end zero short =
-    let all : Consumes a d new = rw more.appended (Consumes-trans a b d old more.bytes p more.consumed) in
-    read_to_end a d new all end (omega (arith, ap length more.appended, length-append old more.bytes, more.count))
+    read_to_end a d new (read_on a b d old new n p more) end (omega (arith, ap length more.appended, length-append old more.bytes, more.count))

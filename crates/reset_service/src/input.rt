@@ -2,7 +2,7 @@
 
 ghost use Rattle.std.specs.Prelude.{◌≡◌, ◌≢◌, ℕ, ◌+◌, ◌<◌, ◌≤◌, [], ◌∷◌, length, IfOk, IfErr, IfSome, IfNone, IsTrue, ◌↔◌, vec_len};
 ghost use Rattle.std.specs.List.{position};
-ghost use Rattle.std.specs.Io.KnownBytes.{IsAtEnd};
+ghost use Rattle.std.specs.Io.KnownBytes.{Consumes, IsAtEnd};
 ghost use Rattle.reset_service.specs.Lines.{is_line_feed, lines_of, separator, IsCut, IsReadFrom};
 ghost use Rattle.reset_service.specs.Parts.{ReadMore};
 
@@ -18,10 +18,11 @@ pub const READ_LIMIT: usize = MAX_TEXT + 1;
 // The most bytes that are asked of a reader at once.
 const CHUNK: usize = 8192;
 
-/// Reads a text to its end, or its first `READ_LIMIT` bytes. A failed read ends the reading, and
-/// is not tried again.
+/// Reads a text to its end, or its first `READ_LIMIT` bytes, and takes no byte of the reader beyond these.
+/// A failed read ends the reading, and is not tried again.
 pub fn read_text<R: Read>(alloc: Global, reader: &mut R) -> Result<Vec<u8>, RunStop>
     ensures ok { IfOk result (λ text. IsReadFrom (R.remaining reader.old) text.items) }
+    ensures taken { IfOk result (λ text. Consumes (R.remaining reader.old) (R.remaining reader.new) text.items) }
     ensures err { IfErr result (λ stop. stop ≢ RunStop.WriteFailed) }
 {
     let mut text = Vec::new(alloc);

@@ -1,6 +1,6 @@
 use Rattle.std.proofs.Common.{◌<◌, length, take, arith}
 use Rattle.std.proofs.lemmas.List.{length-take}
-use Rattle.reset_service.proofs.Reading.{read_last, read_to_limit}
+use Rattle.reset_service.proofs.Reading.{read_last, read_on, read_to_limit}
 use Rattle.reset_service.proofs.input.read_text.Goals as goal
 
 pub returns-then-branch-eq0-clause-ok : goal.returns-then-branch-eq0-clause-ok
@@ -15,3 +15,11 @@ pub returns-clause-ok : goal.returns-clause-ok
 returns-clause-ok g c =
     read_to_limit (g.R.Read.remaining c.args.reader.now) (g.R.Read.remaining c.loop-chunk.reader) c.loop-chunk.text.items c.loop-chunk.invariant.1
     (omega (arith, c.loop-chunk.invariant.0, c.loop-chunk-test.false, c.len.ensures))
+
+pub returns-then-branch-eq0-clause-taken : goal.returns-then-branch-eq0-clause-taken
+returns-then-branch-eq0-clause-taken g c =
+    read_on (g.R.Read.remaining c.args.reader.now) (g.R.Read.remaining c.loop-chunk.reader) (g.R.Read.remaining c.read_once.new.reader) c.loop-chunk.text.items
+    c.read_once.new.text.items c.in_ok-read_once.field-0 c.loop-chunk.invariant.1 c.in_ok-read_once.ensures.ok
+
+pub returns-clause-taken : goal.returns-clause-taken
+returns-clause-taken g c = c.loop-chunk.invariant.1
