@@ -19,10 +19,11 @@ use wave_layer::wave_rows;
 struct TitledRows<'a>(&'a str, &'a [CaseRow<'a>]);
 
 /// Prints the table of the tree and that of the wave, then those of the applications: the token,
-/// neighbour exclusion and the routes, and then the tables of the applications' links in that order.
+/// neighbour exclusion and the routes, and then the tables of the applications' links in that order. Only a
+/// failed write cuts it short.
 pub fn print_tables<W: Write>(out: &mut W) -> Result<Status, RunStop>
     ensures leaves { (here : Standpoint) → Leaves (λ output. output ≡ (tables_text here, Good)) (W.contents out.old) (W.contents out.new) result }
-    ensures stop { IfErr result (λ stop. stop ≢ RunStop.ReadFailed) }
+    ensures stop { IfErr result (λ stop. stop ≡ RunStop.WriteFailed) }
 {
     let tree = tree_rows();
     let wave = wave_rows();
