@@ -1,5 +1,5 @@
 -- The graph of rows: which ids its rows link.
-use Rattle.std.proofs.Common.{◌≡◌, ℕ, zero, suc, ◌+◌, ◌<◌, Bool, true, false, ◌||◌, eqb, List, [], ◌∷◌, map, length, get_or, Option, Some, None, position, Vec, Global, Result, is_ok, sym, refl, ap, ap₂, subst, ◌∙◌, arith, nat_cmp, eqb-true, eq-eqb}
+use Rattle.std.proofs.Common.{◌≡◌, ℕ, zero, suc, ◌+◌, ◌<◌, Bool, true, false, ◌||◌, eqb, List, [], ◌∷◌, map, length, get_or, Some, None, position, Vec, Global, Result, is_ok, sym, refl, ap, ap₂, subst, ◌∙◌, arith, nat_cmp, eqb-true, eq-eqb}
 use Rattle.std.specs.List.{list_any, range_with_len, flat_map}
 use Rattle.std.specs.List.Sorted.{IsStrictlyIncreasing, IsBinarySearchResult}
 use Rattle.std.specs.FinSet as set
