@@ -7,7 +7,7 @@ use Rattle.topology.specs.Graph.{Graph}
 use Rattle.topology.specs.Faults.{IsTopologyOf}
 use Rattle.topology.specs.TopologyText.{Description, IsReadFault, description_of}
 use Rattle.topology.specs.declared.fault.TopoFault.{TopoFault}
-use Rattle.topology.specs.declared.fault.TopoFault.TheVariants.{NoNodes, TooManyNodes, BadId, TwiceNode, TooManyLinks, SelfLink, TwiceLink, Disconnected}
+use Rattle.topology.specs.declared.fault.TopoFault.TheVariants.{NoNodes, TooManyNodes, BadId, TwiceNode, TooManyLinks, SelfLink, TwiceLink, Disconnected, NoSuchLink, LinkIsThere}
 use Rattle.topology.specs.declared.fault.TopoFault.TheVariants as topo
 use Rattle.topology.specs.declared.text.ReadFault.{ReadFault}
 use Rattle.topology.specs.declared.text.ReadFault.TheVariants.{TextTooLong, NotToml, MissingKey, UnknownKey, WrongKind, UnknownApp, Topology}
@@ -125,6 +125,8 @@ graph_fault_text (SelfLink n) = numbered (codes "bad topology SelfLink ") n
 graph_fault_text (TwiceLink a b) = numbered_twice (codes "bad topology TwiceLink ") a b
 graph_fault_text (Disconnected n) = numbered (codes "bad topology Disconnected ") n
 graph_fault_text topo.NoMemory = ended (codes "bad topology NoMemory")
+graph_fault_text NoSuchLink = ended (codes "bad topology NoSuchLink")
+graph_fault_text LinkIsThere = ended (codes "bad topology LinkIsThere")
 
 -- the line of a text's fault
 abbrev pub bad_topology_text : ReadFault → List ℕ

@@ -5,9 +5,9 @@ use Rattle.std.proofs.lemmas.Bool.{eqb-true, eqb-false}
 use Rattle.std.proofs.lemmas.List.Quantifiers.{position-Some}
 use Rattle.std.proofs.lemmas.List.Elements.{Contains-get_or}
 use Rattle.topology.specs.Building.{AreSorted, AreApart, AreJoined}
-use Rattle.topology.specs.Faults.{IsFirstFault, IsTopologyOf}
+use Rattle.topology.specs.Faults.{IsCutOff, IsFirstFault, IsTopologyOf}
 use Rattle.topology.specs.Graph.{IsGraph, IsConnected, IsDistance}
-use Rattle.topology.specs.Rows.{graph_of, AreIds, AreParts}
+use Rattle.topology.specs.Rows.{graph_of, AreIds, AreParts, AreRows}
 use Rattle.topology.specs.Searching.{AreDistances}
 use Rattle.topology.specs.declared.fault.TopoFault.TheVariants.{Disconnected}
 use Rattle.topology.specs.declared.fault.TheConstants.{MAX_LINKS}
@@ -18,19 +18,30 @@ use Rattle.topology.proofs.Inserting.{rows_of}
 use Rattle.topology.proofs.RowLemmas.{graph_of_rows}
 use Rattle.topology.proofs.Walks.{connected_from_marks, cut_off_from_marks, no_cut_off, distance_of_mark}
 
+-- what the index of the first free mark tells of a graph
+module _ (ids : List ℕ) (rows : List (List ℕ)) (as_ids : AreIds ids) (as_rows : AreRows (length ids) rows) (marks : List ℕ) (found : AreDistances (length ids) rows 0 marks) where
+  are_graph : IsGraph (graph_of ids rows)
+  are_graph = graph_of_rows ids rows as_ids.ascending as_rows as_ids.some
+
+  pub connected_by_marks : None ≡ position (λ m. eqb m (length ids)) marks → IsConnected (graph_of ids rows)
+  connected_by_marks none =
+      connected_from_marks ids rows as_ids as_rows are_graph marks found
+      (λ i i_in.
+      let other = eqb-false (get_or marks i 0) (length ids) (no_index (λ m. eqb m (length ids)) marks none i (omega (arith, found.are_reached.count))) in
+      omega (arith, found.are_reached.small i i_in))
+
+  pub cut_off_by_marks : (i : ℕ) → Some i ≡ position (λ m. eqb m (length ids)) marks → IsCutOff (graph_of ids rows) (get_or ids i 0)
+  cut_off_by_marks i at =
+      let index = position-Some (λ m. eqb m (length ids)) marks i 0 (sym at) in
+      cut_off_from_marks ids rows as_ids as_rows are_graph marks found i (omega (arith, index.0, found.are_reached.count))
+      (eqb-true (get_or marks i 0) (length ids) index.1)
+      (λ k low. eqb-false (get_or marks k 0) (length ids) (index.2 k low))
+
 module _ (nodes ids : List ℕ) (links : List (ℕ × ℕ)) (rows : List (List ℕ)) (as_ids : AreIds ids) (sorted : AreSorted nodes ids) (few : length links ≤ MAX_LINKS)
     (apart : AreApart ids links) (joined : AreJoined ids links rows) (marks : List ℕ) (found : AreDistances (length ids) rows 0 marks) where
-  are_graph : IsGraph (graph_of ids rows)
-  are_graph = graph_of_rows ids rows as_ids.ascending joined.as_rows as_ids.some
-
   module _ (none : None ≡ position (λ m. eqb m (length ids)) marks) where
-    all_marked : (i : ℕ) → i < length ids → get_or marks i 0 < length ids
-    all_marked i i_in =
-        let other = eqb-false (get_or marks i 0) (length ids) (no_index (λ m. eqb m (length ids)) marks none i (omega (arith, found.are_reached.count))) in
-        omega (arith, found.are_reached.small i i_in)
-
     connected : IsConnected (graph_of ids rows)
-    connected = connected_from_marks ids rows as_ids joined.as_rows are_graph marks found all_marked
+    connected = connected_by_marks ids rows as_ids joined.as_rows marks found none
 
     pub parts : AreParts ids rows (length links)
     parts = record {
@@ -51,14 +62,11 @@ module _ (nodes ids : List ℕ) (links : List (ℕ × ℕ)) (rows : List (List �
 
   pub cut_off_first : (i : ℕ) → Some i ≡ position (λ m. eqb m (length ids)) marks → IsFirstFault nodes links (Disconnected (get_or ids i 0))
   cut_off_first i at =
-      let index = position-Some (λ m. eqb m (length ids)) marks i 0 (sym at) in
       first_fault nodes links (Disconnected (get_or ids i 0)) 8 refl
       (clean_lists nodes ids as_ids sorted links few apart.known apart.different joined.distinct) (
         graph_of ids rows,
         graph_of_lists nodes ids as_ids sorted links apart rows joined,
-        cut_off_from_marks ids rows as_ids joined.as_rows are_graph marks found i (omega (arith, index.0, found.are_reached.count))
-            (eqb-true (get_or marks i 0) (length ids) index.1)
-            (λ k low. eqb-false (get_or marks k 0) (length ids) (index.2 k low)),
+        cut_off_by_marks ids rows as_ids joined.as_rows marks found i at,
       )
 
 -- what the index of the first free mark tells of two lists: a topology where there is none, and else a fault

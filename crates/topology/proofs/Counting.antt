@@ -13,7 +13,7 @@ use Rattle.topology.specs.Rows.{graph_of, links_of}
 use Rattle.topology.proofs.FaultOrder.{link_from_join, join_from_link}
 use Rattle.topology.proofs.Inserting.{joins_ends, joins_own, joins_back}
 use Rattle.topology.proofs.Joining.{ordered_from_joins}
-use Rattle.topology.proofs.RowLemmas.{pair_total, pairs_differ, same_pair, pair_itself}
+use Rattle.topology.proofs.RowLemmas.{pair_antisymmetric, pair_total, same_pair, pair_itself}
 
 -- each link in both directions
 abbrev both_directions : List (ℕ × ℕ) → List (ℕ × ℕ)
@@ -21,7 +21,7 @@ both_directions [] = []
 both_directions (l ∷ ls) = (l.0, l.1) ∷ (l.1, l.0) ∷ both_directions ls
 
 -- a pair is one of the two directions of a link
-one_direction : (a b : ℕ) (l : ℕ × ℕ) → (eq_by_cmp pair_cmp (a, b) (l.0, l.1) || eq_by_cmp pair_cmp (a, b) (l.1, l.0)) ≡ joins a b l
+pub one_direction : (a b : ℕ) (l : ℕ × ℕ) → (eq_by_cmp pair_cmp (a, b) (l.0, l.1) || eq_by_cmp pair_cmp (a, b) (l.1, l.0)) ≡ joins a b l
 one_direction a b l =
     same_tests _ _
     (λ e.
@@ -66,6 +66,19 @@ first_apart l ls apart =
     let at = ordered_from_joins l.0 l.1 ls e in
     apart 0 (suc at.0) (min l.0 l.1, max l.0 l.1) (omega arith) (omega (arith, at.1)) (sym at.2))
 
+-- a link that a set has in neither direction gives it two pairs
+pub len_both : (s : set.FinSet pair_cmp) (a b : ℕ) → a ≢ b → set.contains s (a, b) ≡ false → set.contains s (b, a) ≡ false →
+    set.len (set.insert (set.insert s (a, b)) (b, a)) ≡ set.len s + 2
+len_both s a b different here back =
+    let apart : eq_by_cmp pair_cmp (b, a) (a, b) ≡ false =
+    false_from_ne_true _ (λ e. different (sym (ap (λ (p : ℕ × ℕ). p.0) (same_pair (b, a) (a, b) e)))) in
+    let absent : set.contains (set.insert s (a, b)) (b, a) ≡ false =
+    set.contains-insert pair_total s (a, b) (b, a) ∙ ap₂ (λ x y. x || y) apart back in
+    let inner : set.len (set.insert s (a, b)) ≡ set.len s + 1 = set.len-insert pair_total s (a, b) ∙ cond-false _ _ _ here in
+    let outer : set.len (set.insert (set.insert s (a, b)) (b, a)) ≡ set.len (set.insert s (a, b)) + 1 =
+    set.len-insert pair_total (set.insert s (a, b)) (b, a) ∙ cond-false _ _ _ absent in
+    outer ∙ omega (arith, inner)
+
 -- distinct links give two pairs each
 pub length_both : (links : List (ℕ × ℕ)) → AllPairs (λ p q. p ≢ q) (ordered_links links) → All (λ l. l.0 ≢ l.1) links → set.len (set_of links) ≡ 2 * length links
 length_both [] once apart = set.len-empty pair_cmp
@@ -75,13 +88,8 @@ length_both (l ∷ ls) once apart =
     let rest = set_of ls in
     let absent : list_any (joins a b) ls ≡ false = first_apart l ls once in
     let no_back : set.contains rest (b, a) ≡ false = set_has b a ls ∙ any_back ls ∙ absent in
-    let apart_pair : eq_by_cmp pair_cmp (a, b) (b, a) ≡ false =
-    false_from_ne_true _ (λ e. All-head (λ (m : ℕ × ℕ). m.0 ≢ m.1) l ls apart (ap (λ (p : ℕ × ℕ). p.0) (same_pair (a, b) (b, a) e))) in
-    let no_pair : set.contains (set.insert rest (b, a)) (a, b) ≡ false =
-    set.contains-insert pair_total rest (b, a) (a, b) ∙ ap₂ (λ x y. x || y) apart_pair (set_has a b ls ∙ absent) in
-    let inner : set.len (set.insert rest (b, a)) ≡ set.len rest + 1 = set.len-insert pair_total rest (b, a) ∙ cond-false _ _ _ no_back in
-    let outer : set.len (set.insert (set.insert rest (b, a)) (a, b)) ≡ set.len (set.insert rest (b, a)) + 1 =
-    set.len-insert pair_total (set.insert rest (b, a)) (a, b) ∙ cond-false _ _ _ no_pair in
+    let outer : set.len (set.insert (set.insert rest (b, a)) (a, b)) ≡ set.len rest + 2 =
+    len_both rest b a (λ e. All-head (λ (m : ℕ × ℕ). m.0 ≢ m.1) l ls apart (sym e)) no_back (set_has a b ls ∙ absent) in
     let later : set.len rest ≡ 2 * length ls =
     length_both ls (pairs_tail (ordered_links ls) (min a b, max a b) once) (All-tail (λ (m : ℕ × ℕ). m.0 ≢ m.1) l ls apart) in
     outer ∙ omega arith
@@ -95,7 +103,7 @@ pub links_counted : (nodes ids : List ℕ) (links : List (ℕ × ℕ)) (rows : L
     AllPairs (λ p q. p ≢ q) (ordered_links links) → All (λ l. l.0 ≢ l.1) links → 2 * length links ≡ set.len (links_of ids rows)
 links_counted nodes ids links rows of_lists once apart =
     let same : links_of ids rows ≡ set_of links =
-    set.same_set pair_total pairs_differ (links_of ids rows) (set_of links)
+    set.same_set pair_total pair_antisymmetric (links_of ids rows) (set_of links)
     (λ q.
     same_tests _ _
     (λ e. set_has q.0 q.1 links ∙ join_from_link q.0 q.1 links ((of_lists.same_links q.0 q.1).0 e))

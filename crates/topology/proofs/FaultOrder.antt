@@ -11,7 +11,7 @@ use Rattle.topology.specs.Graph.{AreLinked}
 use Rattle.topology.specs.Id.{IsId}
 use Rattle.topology.specs.Rows.{near_has, graph_of, AreIds}
 use Rattle.topology.specs.declared.fault.TopoFault.{TopoFault}
-use Rattle.topology.specs.declared.fault.TopoFault.TheVariants.{NoNodes, TooManyNodes, BadId, TwiceNode, TooManyLinks, StrangeNode, SelfLink, TwiceLink, Disconnected, NoMemory}
+use Rattle.topology.specs.declared.fault.TopoFault.TheVariants.{NoNodes, TooManyNodes, BadId, TwiceNode, TooManyLinks, StrangeNode, SelfLink, TwiceLink, Disconnected, NoMemory, NoSuchLink, LinkIsThere}
 use Rattle.topology.specs.declared.fault.TheConstants.{MAX_NODES, MAX_LINKS}
 use Rattle.topology.proofs.Ascending.{contains_from_test, test_from_contains, index_of_member}
 use Rattle.topology.proofs.FirstItems.{no_first, no_first_repeat, first_weaker, ends_known}
@@ -66,6 +66,8 @@ module _ (nodes : List ℕ) (links : List (ℕ × ℕ)) where
   pub clean_all : Clean 8 → ((n : ℕ) → HasFault nodes links (Disconnected n) → ⊥) → (f : TopoFault) → HasFault nodes links f → ⊥
   clean_all before whole (Disconnected n) x = whole n x
   clean_all before whole NoMemory x = x
+  clean_all before whole NoSuchLink x = x
+  clean_all before whole LinkIsThere x = x
   clean_all before whole e x = before e (omega arith) x
 
 -- ---- what checked nodes tell

@@ -2,6 +2,7 @@ pub mod Ascending
 pub mod Indexes
 pub mod RowLemmas
 pub mod Inserting
+pub mod Removing
 pub mod FirstItems
 pub mod Joining
 pub mod BreadthFirst
@@ -9,6 +10,7 @@ pub mod FaultOrder
 pub mod Walks
 pub mod Assembling
 pub mod Counting
+pub mod Changed
 pub mod Membership
 pub mod TopologyTexts
 pub mod OneResult

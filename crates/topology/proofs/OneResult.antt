@@ -9,10 +9,10 @@ use Rattle.std.proofs.Math.Seq.{take-append_seam}
 use Rattle.topology.specs.Faults.{HasFault, IsCutOff, IsFirst, IsFirstFault, IsFirstRepeat, IsGraphOf, IsRepeated, rank_of}
 use Rattle.topology.specs.Graph.{Graph, pair_cmp}
 use Rattle.topology.specs.declared.fault.TopoFault.{TopoFault}
-use Rattle.topology.specs.declared.fault.TopoFault.TheVariants.{NoNodes, TooManyNodes, BadId, TwiceNode, TooManyLinks, StrangeNode, SelfLink, TwiceLink, Disconnected, NoMemory}
+use Rattle.topology.specs.declared.fault.TopoFault.TheVariants.{NoNodes, TooManyNodes, BadId, TwiceNode, TooManyLinks, StrangeNode, SelfLink, TwiceLink, Disconnected, NoSuchLink, LinkIsThere, NoMemory}
 use Rattle.topology.proofs.Ascending.{rises}
 use Rattle.topology.proofs.FirstItems.{split_at}
-use Rattle.topology.proofs.RowLemmas.{pair_total, pairs_differ}
+use Rattle.topology.proofs.RowLemmas.{pair_total, pair_antisymmetric}
 
 -- ---- one ascending list
 
@@ -74,7 +74,7 @@ one_graph nodes links g h of_g of_h =
 
     pairs : g.links ≡ h.links
     pairs =
-        set.same_set pair_total pairs_differ g.links h.links
+        set.same_set pair_total pair_antisymmetric g.links h.links
         (λ p. same_tests _ _
         (λ e. (of_h.same_links p.0 p.1).1 ((of_g.same_links p.0 p.1).0 e))
         (λ e. (of_g.same_links p.0 p.1).1 ((of_h.same_links p.0 p.1).0 e)))
@@ -155,6 +155,8 @@ module _ (nodes : List ℕ) (links : List (ℕ × ℕ)) where
   same_rank (Disconnected m) (Disconnected n) same (g, of_g, a) (h, of_h, b) =
       ap Disconnected (one_cut_off g m n a (subst (λ x. IsCutOff x n) (one_graph nodes links h g of_h of_g) b))
   same_rank NoMemory e same a b = absurd a
+  same_rank NoSuchLink e same a b = absurd a
+  same_rank LinkIsThere e same a b = absurd a
   same_rank f NoMemory same a b = absurd b
   same_rank f e same a b = absurd (omega (arith, same))
 

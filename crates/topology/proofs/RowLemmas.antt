@@ -1,5 +1,5 @@
 -- The graph of rows: which ids its rows link.
-use Rattle.std.proofs.Common.{◌≡◌, ℕ, zero, suc, ◌+◌, ◌<◌, Bool, true, false, ◌||◌, eqb, List, [], ◌∷◌, Equal, map, length, get_or, Option, Some, None, position, Vec, Global, Result, is_ok, sym, refl, ap, ap₂, subst, ◌∙◌, arith, nat_cmp, eqb-true, eq-eqb}
+use Rattle.std.proofs.Common.{◌≡◌, ℕ, zero, suc, ◌+◌, ◌<◌, Bool, true, false, ◌||◌, eqb, List, [], ◌∷◌, Equal, map, length, get_or, Some, None, position, Vec, Global, Result, is_ok, sym, refl, ap, ap₂, subst, ◌∙◌, arith, nat_cmp, eqb-true, eq-eqb}
 use Rattle.std.specs.List.{list_any, range_with_len, flat_map}
 use Rattle.std.specs.List.Sorted.{IsStrictlyIncreasing, IsBinarySearchResult}
 use Rattle.std.specs.FinSet as set
@@ -30,8 +30,8 @@ same_pair p q e =
     let second : p.1 ≡ q.1 = cc in
     ap₂ (λ x y. (x, y)) first second
 
-pub pairs_differ : (p q : ℕ × ℕ) → pair_cmp p q ≡ Equal → p ≡ q
-pairs_differ p q e = same_pair p q ((Equal-is (pair_cmp p q)).1 e)
+pub pair_antisymmetric : (p q : ℕ × ℕ) → pair_cmp p q ≡ Equal → p ≡ q
+pair_antisymmetric p q e = same_pair p q ((Equal-is (pair_cmp p q)).1 e)
 
 pub pair_itself : (p : ℕ × ℕ) → eq_by_cmp pair_cmp p p ≡ true
 pair_itself p = ap is_eq (tied_itself pair_total p)

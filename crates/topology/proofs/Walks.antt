@@ -123,11 +123,12 @@ module _ (ids : List ℕ) (rows : List (List ℕ)) (as_ids : AreIds ids) (as_row
             (reached_back g are (get_or ids k.0 0) (get_or ids 0 0) (reached_of_mark ids rows as_ids as_rows 0 marks found k.0 k.1 low));
       }
 
--- where one graph of two lists is connected, no graph of them has a node that is cut off
-walk_of_other : (g h : Graph) → ((a b : ℕ) → AreLinked g a b → AreLinked h a b) → (a b : ℕ) (cs : List ℕ) → IsWalk g a cs b → IsWalk h a cs b
+-- a walk of a graph is one of each graph with its links
+pub walk_of_other : (g h : Graph) → ((a b : ℕ) → AreLinked g a b → AreLinked h a b) → (a b : ℕ) (cs : List ℕ) → IsWalk g a cs b → IsWalk h a cs b
 walk_of_other g h to a b [] w = w
 walk_of_other g h to a b (c ∷ cs) w = (to a c w.0, walk_of_other g h to c b cs w.1)
 
+-- where one graph of two lists is connected, no graph of them has a node that is cut off
 pub no_cut_off : (nodes : List ℕ) (links : List (ℕ × ℕ)) (g h : Graph) → IsGraphOf nodes links g → IsConnected g → IsGraphOf nodes links h → (n : ℕ) → IsCutOff h n → ⊥
 no_cut_off nodes links g h of_g whole of_h n cut =
     let first : ℕ = get_or h.ids 0 0 in

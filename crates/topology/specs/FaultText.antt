@@ -1,7 +1,7 @@
 -- How a fault is written: its name, and each of its numbers after a space.
 use Rattle.std.specs.Prelude.{ℕ, List, ◌++◌, codes, decimal}
 use Rattle.topology.specs.declared.fault.TopoFault.{TopoFault}
-use Rattle.topology.specs.declared.fault.TopoFault.TheVariants.{NoNodes, TooManyNodes, BadId, TwiceNode, TooManyLinks, StrangeNode, SelfLink, TwiceLink, Disconnected, NoMemory}
+use Rattle.topology.specs.declared.fault.TopoFault.TheVariants.{NoNodes, TooManyNodes, BadId, TwiceNode, TooManyLinks, StrangeNode, SelfLink, TwiceLink, Disconnected, NoMemory, NoSuchLink, LinkIsThere}
 
 -- the text of a fault
 abbrev pub fault_text : TopoFault → List ℕ
@@ -15,3 +15,5 @@ fault_text (SelfLink n) = codes "SelfLink " ++ decimal n
 fault_text (TwiceLink a b) = codes "TwiceLink " ++ decimal a ++ codes " " ++ decimal b
 fault_text (Disconnected n) = codes "Disconnected " ++ decimal n
 fault_text NoMemory = codes "NoMemory"
+fault_text NoSuchLink = codes "NoSuchLink"
+fault_text LinkIsThere = codes "LinkIsThere"

@@ -3,7 +3,7 @@ use Rattle.std.specs.Prelude.{◌≡◌, ℕ, ◌<◌, min, max, List, [], ◌�
 use Rattle.topology.specs.Graph.{Graph, IsNode, AreLinked, IsReached, IsGraph}
 use Rattle.topology.specs.Id.{IsId}
 use Rattle.topology.specs.declared.fault.TopoFault.{TopoFault}
-use Rattle.topology.specs.declared.fault.TopoFault.TheVariants.{NoNodes, TooManyNodes, BadId, TwiceNode, TooManyLinks, StrangeNode, SelfLink, TwiceLink, Disconnected, NoMemory}
+use Rattle.topology.specs.declared.fault.TopoFault.TheVariants.{NoNodes, TooManyNodes, BadId, TwiceNode, TooManyLinks, StrangeNode, SelfLink, TwiceLink, Disconnected, NoMemory, NoSuchLink, LinkIsThere}
 
 -- x is the first of the list that meets P
 pub record IsFirst {X : Type 0} (P : X → Type 0) (xs : List X) (x : X) : Type 0 where
@@ -61,6 +61,8 @@ HasFault nodes links (SelfLink n) = IsFirst (λ l. l.0 ≡ l.1) links (n, n)
 HasFault nodes links (TwiceLink a b) = IsFirstRepeat (ordered_links links) (a, b)
 HasFault nodes links (Disconnected n) = (g : Graph) × IsGraphOf nodes links g × IsCutOff g n
 HasFault nodes links NoMemory = ⊥
+HasFault nodes links NoSuchLink = ⊥
+HasFault nodes links LinkIsThere = ⊥
 
 -- the place of a fault in the order in which they are named
 abbrev pub rank_of : TopoFault → ℕ
@@ -74,6 +76,8 @@ rank_of (SelfLink n) = 7
 rank_of (TwiceLink a b) = 8
 rank_of (Disconnected n) = 9
 rank_of NoMemory = 10
+rank_of NoSuchLink = 11
+rank_of LinkIsThere = 12
 
 -- the lists have the fault, and none that comes before it
 pub record IsFirstFault (nodes : List ℕ) (links : List (ℕ × ℕ)) (f : TopoFault) : Type 0 where

@@ -3,6 +3,7 @@ pub mod Graph
 pub mod Rows
 pub mod Faults
 pub mod Building
+pub mod Changing
 pub mod Searching
 pub mod FaultText
 pub mod TopologyText

@@ -12,7 +12,8 @@ pub const MAX_NODES: usize = 1024;
 pub const MAX_LINKS: usize = 8192;
 
 /// Why a list of nodes and a list of links are no topology, in the order in which faults are
-/// named. Within one fault the first item of the list is named, and of a link its first end first.
+/// named, and why a link can't be put in or taken out. Within one fault the first item of the list
+/// is named, and of a link its first end first.
 #[derive(Clone, Copy, Debug, PartialEq, Eq)]
 pub enum TopoFault {
     /// There are no nodes.
@@ -23,7 +24,7 @@ pub enum TopoFault {
     BadId(u32),
     /// This node repeats an earlier one.
     TwiceNode(u32),
-    /// There are more than 8,192 links.
+    /// There are more than 8,192 links, or there would be with one more.
     TooManyLinks,
     /// This end of a link isn't a node.
     StrangeNode(u32),
@@ -31,10 +32,14 @@ pub enum TopoFault {
     SelfLink(u32),
     /// The link between these two nodes, the lesser first, repeats an earlier one or its reverse.
     TwiceLink(u32, u32),
-    /// This is the least node that no walk from the least node reaches.
+    /// This is the least node that no walk from the least node reaches, or would reach.
     Disconnected(u32),
     /// A growth was refused.
     NoMemory,
+    /// There is no such link that could be taken out.
+    NoSuchLink,
+    /// The link that was to be put in is there.
+    LinkIsThere,
 }
 
 impl From<AllocError> for TopoFault {
@@ -68,6 +73,8 @@ impl fmt::Display for TopoFault {
             TopoFault::TwiceLink(lesser, greater) => write!(f, "TwiceLink {lesser} {greater}"),
             TopoFault::Disconnected(id) => write!(f, "Disconnected {id}"),
             TopoFault::NoMemory => write!(f, "NoMemory"),
+            TopoFault::NoSuchLink => write!(f, "NoSuchLink"),
+            TopoFault::LinkIsThere => write!(f, "LinkIsThere"),
         }
     }
 }

@@ -1,5 +1,6 @@
-ghost use Rattle.std.specs.Prelude.{◌≡◌, ◌≢◌, ℕ, ◌<◌, ◌≤◌, List, [], true, All, IfErr, IfOk, MatchOption, OnOk, length, map, slice_index};
+ghost use Rattle.std.specs.Prelude.{◌≡◌, ◌≢◌, ℕ, ◌<◌, ◌≤◌, List, [], true, All, None, Some, IfErr, IfOk, MatchOption, OnOk, length, map, slice_index};
 ghost use Rattle.topology.specs.Building.{AreApart, AreJoined, AreSorted, has};
+ghost use Rattle.topology.specs.Changing.{IsIndexOf, first_of, strange_ends};
 ghost use Rattle.topology.specs.Faults.{IsFirst, IsFirstFault, IsFirstRepeat, ends_of, ordered_links};
 
 use crate::fault::{MAX_LINKS, TopoFault};
@@ -43,6 +44,19 @@ fn index_among(ids: &Ids, id: u32) -> usize
     ensures value { slice_index ids.now result ≡ id }
 {
     ids.index_of(id).unwrap()
+}
+
+/// The indexes of two of the ids, or `StrangeNode` of the first that is none of them.
+pub fn end_indexes(ids: &Ids, a: u32, b: u32) -> Result<(usize, usize), TopoFault>
+    ensures ok { IfOk result (λ ends. IsIndexOf ids.now a ends.0 × IsIndexOf ids.now b ends.1) }
+    ensures known { OnOk result (first_of (strange_ends ids.now a b) ≡ None) }
+    ensures err { IfErr result (λ f. first_of (strange_ends ids.now a b) ≡ Some f) }
+{
+    match (ids.index_of(a), ids.index_of(b)) {
+        (Some(i), Some(j)) => Ok((i, j)),
+        (Some(_), None) => Err(TopoFault::StrangeNode(b)),
+        (None, _) => Err(TopoFault::StrangeNode(a)),
+    }
 }
 
 /// Puts each link into the rows, or answers `TwiceLink` of the first that repeats an earlier one.

@@ -1,6 +1,6 @@
-ghost use Rattle.std.specs.Prelude.{◌≡◌, ◌≢◌, ℕ, ◌<◌, ◌≤◌, false, IfOk, length, map};
+ghost use Rattle.std.specs.Prelude.{◌≡◌, ◌≢◌, ◌==◌, ℕ, ◌<◌, ◌≤◌, false, not, IfOk, filter, length, map};
 ghost use Rattle.std.specs.List.Sorted.{IsStrictlyIncreasing};
-ghost use Rattle.topology.specs.Building.{Inserts, Links};
+ghost use Rattle.topology.specs.Building.{Inserts, Links, Unlinks};
 ghost use Rattle.topology.specs.Rows.{AreRows, near_has};
 
 use std::alloc::{AllocError, Global};
@@ -43,6 +43,25 @@ pub fn link(near: &mut [Vec<usize>], i: usize, j: usize) -> Result<bool, AllocEr
     let fresh = insert_index(&mut near[i], j)?;
     let _ = insert_index(&mut near[j], i)?;
     Ok(fresh)
+}
+
+/// Takes an index out of a row.
+fn remove_index(row: &mut Vec<usize>, index: usize)
+    ensures { row.new.items ≡ filter (λ i. not (i == index)) row.old.items }
+{
+    row.retain(|i| *i != index);
+}
+
+/// Takes two indexes out of one another's rows.
+pub fn unlink(near: &mut [Vec<usize>], i: usize, j: usize)
+    requires rows { AreRows (length near.old) (map (λ row. row.items) near.old) }
+    requires i_within { i < length near.old }
+    requires j_within { j < length near.old }
+    ensures { Unlinks (length near.old)
+        (map (λ row. row.items) near.old) i j (map (λ row. row.items) near.new) }
+{
+    remove_index(&mut near[i], j);
+    remove_index(&mut near[j], i);
 }
 
 /// Rows with the same indexes.

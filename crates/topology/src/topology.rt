@@ -1,16 +1,17 @@
-ghost use Rattle.std.specs.Prelude.{◌≡◌, ◌≢◌, ℕ, ◌<◌, ◌≤◌, ◌*◌, ◌==◌, true, false, Some, All, IfNone, IfOk, IfErr, IfSome, length, map, position, slice_get, slice_index};
+ghost use Rattle.std.specs.Prelude.{◌≡◌, ◌≢◌, ℕ, ◌<◌, ◌≤◌, ◌*◌, ◌==◌, true, false, Some, All, IfNone, IfOk, IfErr, IfSome, None, OnOk, length, map, position, slice_get, slice_index};
 ghost use Rattle.std.specs.FinSet as set;
 ghost use Rattle.std.specs.List.Sorted.{IsStrictlyIncreasing};
+ghost use Rattle.topology.specs.Changing.{IsUnlinkFault, link_fault, unlink_fault, with_link, without_link};
 ghost use Rattle.topology.specs.Faults.{IsFirstFault, IsTopologyOf};
 ghost use Rattle.topology.specs.Graph.{IsConnected, IsDistance, IsGraph, are_linked, greatest, neighbours_of};
 ghost use Rattle.topology.specs.Id.{IsId};
 
-use crate::fault::{MAX_NODES, TopoFault};
+use crate::fault::{MAX_LINKS, MAX_NODES, TopoFault};
 use crate::id::NodeId;
 use crate::ids::Ids;
-use crate::links::checked_rows;
+use crate::links::{checked_rows, end_indexes};
 use crate::nodes::checked_ids;
-use crate::rows::copied_rows;
+use crate::rows::{copied_rows, link, unlink};
 use crate::search::{distances_to, first_free};
 use std::alloc::{AllocError, Global};
 use std::marker::Model;
@@ -157,6 +158,69 @@ impl Topology {
                 ids,
                 near,
                 link_count: links.len(),
+            }),
+        }
+    }
+
+    /// A topology with the link of `a` and `b` too. `StrangeNode` of the first of the two that isn't a
+    /// node, else `SelfLink`, else `LinkIsThere`, else `TooManyLinks` where there are 8,192 already;
+    /// `NoMemory` comes last.
+    pub fn with_link(&self, alloc: Global, a: u32, b: u32) -> Result<Topology, TopoFault>
+        ensures sound { OnOk result (link_fault self.now a b ≡ None) }
+        ensures ok { IfOk result (λ changed. changed ≡ with_link self.now a b) }
+        ensures err { IfErr result (λ f. f ≢ TopoFault.NoMemory → link_fault self.now a b ≡ Some f) }
+    {
+        let ids = &self.ids;
+        let near = &self.near;
+        let (i, j) = match end_indexes(ids, a, b) {
+            Ok(ends) => ends,
+            Err(fault) => return Err(fault),
+        };
+        if a == b {
+            return Err(TopoFault::SelfLink(a));
+        }
+        if self.linked(a, b) {
+            return Err(TopoFault::LinkIsThere);
+        }
+        if self.link_count >= MAX_LINKS {
+            return Err(TopoFault::TooManyLinks);
+        }
+        let mut rows = copied_rows(alloc, near)?;
+        let _ = link(&mut rows, i, j)?;
+        Ok(Topology {
+            ids: ids.copy(alloc)?,
+            near: rows,
+            link_count: self.link_count + 1,
+        })
+    }
+
+    /// A topology without the link of `a` and `b`. `StrangeNode` of the first of the two that isn't a
+    /// node, else `NoSuchLink`, else `Disconnected` of the least node that no walk from the least node
+    /// would reach; `NoMemory` comes last.
+    pub fn without_link(&self, alloc: Global, a: u32, b: u32) -> Result<Topology, TopoFault>
+        ensures sound { OnOk result (unlink_fault self.now a b ≡ None) }
+        ensures connected { OnOk result (IsConnected (without_link self.now a b)) }
+        ensures ok { IfOk result (λ changed. changed ≡ without_link self.now a b) }
+        ensures err { IfErr result (λ f. f ≢ TopoFault.NoMemory → IsUnlinkFault self.now a b f) }
+    {
+        let ids = &self.ids;
+        let near = &self.near;
+        let (i, j) = match end_indexes(ids, a, b) {
+            Ok(ends) => ends,
+            Err(fault) => return Err(fault),
+        };
+        if !self.linked(a, b) {
+            return Err(TopoFault::NoSuchLink);
+        }
+        let mut rows = copied_rows(alloc, near)?;
+        unlink(&mut rows, i, j);
+        let distances = distances_to(alloc, &rows, 0)?;
+        match first_free(&distances, rows.len()) {
+            Some(index) => Err(TopoFault::Disconnected(ids.as_slice()[index])),
+            None => Ok(Topology {
+                ids: ids.copy(alloc)?,
+                near: rows,
+                link_count: self.link_count - 1,
             }),
         }
     }

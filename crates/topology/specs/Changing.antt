@@ -1,0 +1,45 @@
+-- A graph with one link more or one link less, and why it can't be had.
+use Rattle.std.specs.Prelude.{◌≡◌, ℕ, ◌<◌, ◌*◌, Bool, not, nat_lt, List, [], ◌∷◌, ◌++◌, Option, Some, None, length, slice_index, ◌==◌, if◌then◌else◌}
+use Rattle.std.specs.FinSet as set
+use Rattle.topology.specs.Building.{has}
+use Rattle.topology.specs.Faults.{IsCutOff}
+use Rattle.topology.specs.Graph.{Graph, are_linked}
+use Rattle.topology.specs.declared.fault.TheConstants.{MAX_LINKS}
+use Rattle.topology.specs.declared.fault.TopoFault.{TopoFault}
+use Rattle.topology.specs.declared.fault.TopoFault.TheVariants.{TooManyLinks, StrangeNode, SelfLink, Disconnected, NoSuchLink, LinkIsThere}
+
+-- the graph with the link of a and b too
+abbrev pub with_link : Graph → ℕ → ℕ → Graph
+with_link g a b = record { ids = g.ids; bound = g.bound; links = set.insert (set.insert g.links (a, b)) (b, a) }
+
+-- the graph without the link of a and b
+abbrev pub without_link : Graph → ℕ → ℕ → Graph
+without_link g a b = record { ids = g.ids; bound = g.bound; links = set.remove (set.remove g.links (a, b)) (b, a) }
+
+-- the first fault of the list whose test passes
+abbrev pub first_of : List (Bool × TopoFault) → Option TopoFault
+first_of [] = None
+first_of (c ∷ cs) = if c.0 then Some c.1 else first_of cs
+
+-- an end that is none of the ids, a before b
+abbrev pub strange_ends : List ℕ → ℕ → ℕ → List (Bool × TopoFault)
+strange_ends ids a b = (not (has ids a), StrangeNode a) ∷ (not (has ids b), StrangeNode b) ∷ []
+
+-- the first reason why the link of a and b can't be put in; each link is two pairs of the graph
+abbrev pub link_fault : Graph → ℕ → ℕ → Option TopoFault
+link_fault g a b =
+    first_of (strange_ends g.ids a b
+    ++ (a == b, SelfLink a) ∷ (are_linked g a b, LinkIsThere) ∷ (not (nat_lt (set.len g.links) (2 * MAX_LINKS)), TooManyLinks) ∷ [])
+
+-- the first reason why there is no link of a and b to be taken out
+abbrev pub unlink_fault : Graph → ℕ → ℕ → Option TopoFault
+unlink_fault g a b = first_of (strange_ends g.ids a b ++ (not (are_linked g a b), NoSuchLink) ∷ [])
+
+-- the first reason why the link of a and b can't be taken out: there is none, or the graph would fall apart
+abbrev pub IsUnlinkFault : Graph → ℕ → ℕ → TopoFault → Type 0
+IsUnlinkFault g a b (Disconnected n) = (unlink_fault g a b ≡ None) × IsCutOff (without_link g a b) n
+IsUnlinkFault g a b f = unlink_fault g a b ≡ Some f
+
+-- x stands at the index
+abbrev pub IsIndexOf : List ℕ → ℕ → ℕ → Type 0
+IsIndexOf xs x i = (i < length xs) × (slice_index xs i ≡ x)
