@@ -1,7 +1,7 @@
 // Graphs and what their readers tell. What a bad topology is answered with is shown on the program itself.
 
 use std::test::Fail;
-use topology::{AppName, NodeId, Topology, read_topology};
+use topology::{AppName, MAX_LINKS, NodeId, TopoFault, Topology, read_topology};
 
 // Whether these are the nodes 1, 2 and 3.
 fn has_three_nodes(line: &Topology) -> bool {
@@ -69,5 +69,120 @@ fn reads_the_text_of_a_line(rt: HostRuntime) -> Result<(), Fail> {
     assert_eq!(rt; topology.len(), 3);
     assert!(rt; topology.linked(1, 2) && topology.linked(3, 2) && !topology.linked(1, 3));
     assert_eq!(rt; app, AppName::Routes);
+    Ok(())
+}
+
+// Why a call gave no topology.
+fn fault_of(changed: Result<Topology, TopoFault>) -> Option<TopoFault> {
+    match changed {
+        Ok(_) => None,
+        Err(fault) => Some(fault),
+    }
+}
+
+#[test]
+fn names_why_a_link_is_not_put_in(rt: HostRuntime) -> Result<(), Fail> {
+    let line = Topology::build(rt.alloc(), &[2, 3, 1], &[(3, 2), (1, 2)])?;
+    let first = fault_of(line.with_link(rt.alloc(), 8, 9));
+    assert_eq!(rt; first, Some(TopoFault::StrangeNode(8)));
+    let second = fault_of(line.with_link(rt.alloc(), 1, 4));
+    assert_eq!(rt; second, Some(TopoFault::StrangeNode(4)));
+    let both = fault_of(line.with_link(rt.alloc(), 5, 5));
+    assert_eq!(rt; both, Some(TopoFault::StrangeNode(5)));
+    let own = fault_of(line.with_link(rt.alloc(), 3, 3));
+    assert_eq!(rt; own, Some(TopoFault::SelfLink(3)));
+    let there = fault_of(line.with_link(rt.alloc(), 2, 3));
+    assert_eq!(rt; there, Some(TopoFault::LinkIsThere));
+    Ok(())
+}
+
+#[test]
+fn names_why_a_link_is_not_taken_out(rt: HostRuntime) -> Result<(), Fail> {
+    let line = Topology::build(rt.alloc(), &[2, 3, 1], &[(3, 2), (1, 2)])?;
+    let first = fault_of(line.without_link(rt.alloc(), 7, 1));
+    assert_eq!(rt; first, Some(TopoFault::StrangeNode(7)));
+    let second = fault_of(line.without_link(rt.alloc(), 3, 0));
+    assert_eq!(rt; second, Some(TopoFault::StrangeNode(0)));
+    let absent = fault_of(line.without_link(rt.alloc(), 1, 3));
+    assert_eq!(rt; absent, Some(TopoFault::NoSuchLink));
+    let own = fault_of(line.without_link(rt.alloc(), 2, 2));
+    assert_eq!(rt; own, Some(TopoFault::NoSuchLink));
+    Ok(())
+}
+
+#[test]
+fn a_bridge_stays(rt: HostRuntime) -> Result<(), Fail> {
+    // two triangles, 1 4 5 and 2 3 6, with a bridge from 5 to 3
+    let links = [(1, 4), (4, 5), (5, 1), (2, 3), (3, 6), (6, 2), (5, 3)];
+    let bridged = Topology::build(rt.alloc(), &[1, 2, 3, 4, 5, 6], &links)?;
+    let apart = fault_of(bridged.without_link(rt.alloc(), 3, 5));
+    assert_eq!(rt; apart, Some(TopoFault::Disconnected(2)));
+    let whole = bridged.without_link(rt.alloc(), 3, 6)?;
+    assert_eq!(rt; whole.link_count(), 6);
+    let further = fault_of(whole.without_link(rt.alloc(), 2, 6));
+    assert_eq!(rt; further, Some(TopoFault::Disconnected(6)));
+    Ok(())
+}
+
+// Whether two graphs of four nodes have the same rows.
+fn has_the_rows_of(a: &Topology, b: &Topology) -> bool {
+    a.len() == 4
+        && b.len() == 4
+        && a.ids() == b.ids()
+        && a.link_count() == b.link_count()
+        && a.neighbours(0) == b.neighbours(0)
+        && a.neighbours(1) == b.neighbours(1)
+        && a.neighbours(2) == b.neighbours(2)
+        && a.neighbours(3) == b.neighbours(3)
+}
+
+#[test]
+fn a_link_is_taken_out_and_put_back(rt: HostRuntime) -> Result<(), Fail> {
+    let cycle = Topology::build(rt.alloc(), &[9, 4, 7, 2], &[(2, 4), (4, 7), (7, 9), (9, 2)])?;
+    let opened = cycle.without_link(rt.alloc(), 9, 2)?;
+    assert!(rt; !has_the_rows_of(&cycle, &opened));
+    assert!(rt; !opened.linked(2, 9) && !opened.linked(9, 2) && opened.linked(7, 9));
+    assert_eq!(rt; opened.link_count(), 3);
+    let distances = opened.distances_from(rt.alloc(), 0)?;
+    assert_eq!(rt; distances.as_slice(), [0, 1, 2, 3].as_slice());
+    let closed = opened.with_link(rt.alloc(), 2, 9)?;
+    assert!(rt; has_the_rows_of(&cycle, &closed));
+    Ok(())
+}
+
+// The first links, up to `most`, of each node to each later one.
+fn first_links(rt: HostRuntime, nodes: u32, most: usize) -> Result<Vec<(u32, u32)>, Fail> {
+    let mut links = Vec::new(rt.alloc());
+    for a in 1..nodes {
+        for b in a..nodes {
+            if links.len() < most {
+                links.push((a, b + 1))?;
+            }
+        }
+    }
+    Ok(links)
+}
+
+#[test]
+fn there_is_room_for_8192_links(rt: HostRuntime) -> Result<(), Fail> {
+    let mut nodes = Vec::new(rt.alloc());
+    for node in 1..140u32 {
+        nodes.push(node)?;
+    }
+    let links = first_links(rt, 139, MAX_LINKS)?;
+    let full = Topology::build(rt.alloc(), &nodes, &links)?;
+    assert_eq!(rt; full.link_count(), MAX_LINKS);
+    assert!(rt; full.linked(1, 2) && !full.linked(138, 139));
+    assert_eq!(rt;
+        fault_of(full.with_link(rt.alloc(), 138, 139)),
+        Some(TopoFault::TooManyLinks)
+    );
+    assert_eq!(rt;
+        fault_of(full.with_link(rt.alloc(), 1, 2)),
+        Some(TopoFault::LinkIsThere)
+    );
+    let one_less = full.without_link(rt.alloc(), 1, 2)?;
+    let other = one_less.with_link(rt.alloc(), 139, 138)?;
+    assert_eq!(rt; other.link_count(), MAX_LINKS);
     Ok(())
 }

@@ -216,7 +216,7 @@ impl Topology {
         unlink(&mut rows, i, j);
         let distances = distances_to(alloc, &rows, 0)?;
         match first_free(&distances, rows.len()) {
-            Some(index) => Err(TopoFault::Disconnected(ids.as_slice()[index])),
+            Some(unreached) => Err(TopoFault::Disconnected(ids.as_slice()[unreached])),
             None => Ok(Topology {
                 ids: ids.copy(alloc)?,
                 near: rows,

@@ -8,3 +8,9 @@ returns-in-Disconnected-clause-ok g c = rw c.in-Disconnected.is c.put_node_fault
 
 pub returns-in-NoMemory-clause-ok : goal.returns-in-NoMemory-clause-ok
 returns-in-NoMemory-clause-ok g c = rw c.in-NoMemory.is c.put_bytes-in-NoMemory.ensures.ok
+
+pub returns-in-NoSuchLink-clause-ok : goal.returns-in-NoSuchLink-clause-ok
+returns-in-NoSuchLink-clause-ok g c = rw c.in-NoSuchLink.is c.put_bytes-in-NoSuchLink.ensures.ok
+
+pub returns-in-LinkIsThere-clause-ok : goal.returns-in-LinkIsThere-clause-ok
+returns-in-LinkIsThere-clause-ok g c = rw c.in-LinkIsThere.is c.put_bytes-in-LinkIsThere.ensures.ok

@@ -32,9 +32,9 @@ pub returns-in-Some-clause-err : goal.returns-in-Some-clause-err
 returns-in-Some-clause-err c =
     λ _. (
       search rules,
-      subst (λ g. IsCutOff (without_link g c.args.a c.args.b) (get_or c.as_slice.result.now c.in-Some.index 0)) c.self.view_is
-          (subst (λ ids. IsCutOff (without_link (graph_of c.self.inside.ids (rows_of c.self.inside.near.items)) c.args.a c.args.b) (get_or ids c.in-Some.index 0)) (sym c.as_slice.ensures)
-          ((marks_at (goal.at.returns-in-Some-clause-err c).After-len).cut_off c.in-Some.index c.in-Some.ensures)),
+      subst (λ g. IsCutOff (without_link g c.args.a c.args.b) (get_or c.as_slice.result.now c.in-Some.unreached 0)) c.self.view_is
+          (subst (λ ids. IsCutOff (without_link (graph_of c.self.inside.ids (rows_of c.self.inside.near.items)) c.args.a c.args.b) (get_or ids c.in-Some.unreached 0)) (sym c.as_slice.ensures)
+          ((marks_at (goal.at.returns-in-Some-clause-err c).After-len).cut_off c.in-Some.unreached c.in-Some.ensures)),
     )
 
 pub returns-in_ok-copy-in-None-clause-connected : goal.returns-in_ok-copy-in-None-clause-connected
