@@ -1,8 +1,8 @@
 // A writer that gathers small writes.
 
-ghost use Rattle.std.specs.Prelude.{◌≡◌, ◌<◌, ◌≤◌, ◌⊎◌, [], drop, length, Err, IfErr, IfOk, OnOk};
+ghost use Rattle.std.specs.Prelude.{◌≡◌, ◌<◌, ◌≤◌, ◌⊎◌, [], drop, length, vec_capacity, vec_len, Err, IfErr, IfOk, OnOk};
 ghost use Rattle.std.specs.Io.KnownBytes.{Keeps};
-ghost use Rattle.reset_service.specs.Gathering.{gathered_contents};
+ghost use Rattle.reset_service.specs.declared.gather.TheConstants.{ROOM};
 
 use crate::status::{RunStop, Status};
 use std::alloc::{AllocError, Global};
@@ -18,9 +18,14 @@ const ROOM: usize = 8192;
 pub struct Gathered<W: Write + Drop> {
     out: W,
     held: Vec<u8>,
+    // What is held has room from the beginning, so that no write asks for memory.
+    ghost room: { ROOM ≤ vec_capacity held },
+    ghost small: { vec_len held ≤ ROOM },
 }
 
 impl<W: Write + Drop> Gathered<W> {
+    ghost use Rattle.reset_service.specs.Gathering.{gathered_contents};
+
     /// A writer with nothing gathered.
     pub fn new(alloc: Global, out: W) -> Result<Gathered<W>, AllocError>
         ensures out { IfOk result (λ gathered. gathered.out ≡ out) }
@@ -82,7 +87,8 @@ impl<W: Write + Drop> Gathered<W> {
 
 fn remove_front(bytes: &mut Vec<u8>, count: usize)
     requires { count ≤ length bytes.old.items }
-    ensures { bytes.new.items ≡ drop count bytes.old.items }
+    ensures rest { bytes.new.items ≡ drop count bytes.old.items }
+    ensures capacity { vec_capacity bytes.new ≡ vec_capacity bytes.old }
 {
     let left = bytes.len() - count;
     bytes.as_mut_slice().copy_within(count.., 0);
@@ -98,8 +104,8 @@ impl<W: Write + Drop> Write for Gathered<W> {
         if self.held.len() >= ROOM {
             self.flush()?;
         }
-        let count = buf.len().min(ROOM);
-        self.held.extend_from_slice(&buf[..count])?;
+        let count = buf.len().min(ROOM - self.held.len());
+        self.held.extend_from_slice(&buf[..count]).unwrap();
         Ok(count)
     }
 
