@@ -24,7 +24,9 @@ pub fn one_fault_a_line()
     ensures { (f g : Fault) → Fits f → Fits g → fault_line f ≡ fault_line g → SameFault f g }
 {}
 
-/// The fault that a line without its line feed stands for, or `None` where it stands for none.
+/// The fault that a line without its line feed stands for, or `None` where it stands for none. The text
+/// of a local state may have any bytes but spaces, and has one at least: which of them a line may have is
+/// for the reader of lines to say.
 pub fn read_fault(alloc: Global, line: &[u8]) -> Result<Option<Fault>, AllocError>
     ensures found { IfOk result (λ read. IfSome read (λ f. line.now ≡ fault_line f)) }
     ensures fits { IfOk result (λ read. IfSome read Fits) }
@@ -171,7 +173,8 @@ pub fn phase_name(phase: Phase) -> &'static [u8]
     }
 }
 
-/// Writes the line that stands for the fault, without a line feed.
+/// Writes the line that stands for the fault, without a line feed. The text of a local state is written
+/// as it stands: where it isn't one word, the line is no fault's that could be read.
 pub fn write_fault<W: Write>(fault: &Fault, out: &mut W) -> Result<(), WriteFault>
     ensures ok { OnOk result (Appends (W.contents out.old) (W.contents out.new) (fault_line fault.now)) }
     ensures err { OnErr result (AppendsFront (W.contents out.old) (W.contents out.new) (fault_line fault.now)) }
