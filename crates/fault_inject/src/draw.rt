@@ -1,6 +1,6 @@
 // Faults that are drawn from random words.
 
-ghost use Rattle.std.specs.Prelude.{◌≡◌, ◌%◌, ◌<◌, length};
+ghost use Rattle.std.specs.Prelude.{◌≡◌, ◌<◌, length};
 ghost use Rattle.fault_inject.specs.Drawn.{drawn_fault, drawn_node, drawn_phase, next_words};
 
 use crate::fault::Fault;

@@ -1,13 +1,15 @@
 // The lines that stand for faults.
 
-ghost use Rattle.std.specs.Prelude.{◌≡◌, ◌≢◌, ℕ, ◌<◌, ◌^◌, ◌↔◌, List, [], ◌∷◌, ◌++◌, codes, IfNone, IfOk, IfSome, IsTrue, OnErr, OnOk};
+ghost use Rattle.std.specs.Prelude.{◌≡◌, ℕ, ◌<◌, ◌^◌, ◌↔◌, List, [], ◌∷◌, ◌++◌, codes};
+ghost use Rattle.std.specs.Prelude.{IfNone, IfOk, IfSome, IsTrue, OnErr, OnOk};
 ghost use Rattle.std.specs.Fmt.{decimal};
 ghost use Rattle.std.specs.Io.KnownBytes.{Appends};
 ghost use Rattle.action_tables.specs.Written.{AppendsFront};
 ghost use Rattle.reset_machine.specs.Words.{words_of};
 ghost use Rattle.fault_inject.specs.declared.fault.Fault.{Fault};
 ghost use Rattle.fault_inject.specs.declared.fault.Fault.TheVariants.{SetTree, SetWave};
-ghost use Rattle.fault_inject.specs.FaultText.{Fits, IsLocalFault, IsOneWord, IsReadOf, SameFault, fault_line, phase_name};
+ghost use Rattle.fault_inject.specs.FaultText.{Fits, IsLocalFault, IsOneWord, IsReadOf, SameFault};
+ghost use Rattle.fault_inject.specs.FaultText.{fault_line, phase_name};
 ghost use Rattle.wave_layer.specs.declared.regs.Phase.{Phase};
 
 use crate::fault::Fault;
@@ -126,7 +128,8 @@ fn link_up(text: &[u8]) -> Option<Fault>
 fn two_numbers(text: &[u8]) -> Option<(u32, u32)>
     ensures found { IfSome result (λ ns. words_of text.now ≡ decimal ns.0 ∷ decimal ns.1 ∷ []) }
     ensures small { IfSome result (λ ns. (ns.0 < 2 ^ 32) × (ns.1 < 2 ^ 32)) }
-    ensures only { IfNone result ((m n : ℕ) → m < 2 ^ 32 → n < 2 ^ 32 → words_of text.now ≡ decimal m ∷ decimal n ∷ [] → ⊥) }
+    ensures only { IfNone result ((m n : ℕ) → m < 2 ^ 32 → n < 2 ^ 32
+        → words_of text.now ≡ decimal m ∷ decimal n ∷ [] → ⊥) }
 {
     let (first, second) = split_number(text)?;
     Some((first, read_number(second)?))
@@ -136,7 +139,8 @@ fn two_numbers(text: &[u8]) -> Option<(u32, u32)>
 fn split_number(text: &[u8]) -> Option<(u32, &[u8])>
     ensures found { IfSome result (λ parts. words_of text.now ≡ decimal parts.0 ∷ words_of parts.1.now) }
     ensures small { IfSome result (λ parts. parts.0 < 2 ^ 32) }
-    ensures only { IfNone result ((n : ℕ) (word : List ℕ) (words : List (List ℕ)) → n < 2 ^ 32 → words_of text.now ≡ decimal n ∷ word ∷ words → ⊥) }
+    ensures only { IfNone result ((n : ℕ) (word : List ℕ) (words : List (List ℕ)) → n < 2 ^ 32
+        → words_of text.now ≡ decimal n ∷ word ∷ words → ⊥) }
 {
     let (number, rest) = split_word(text)?;
     Some((read_number(number)?, rest))
@@ -228,8 +232,10 @@ fn put_wave<W: Write>(out: &mut W, at: u32, regs: WaveRegs) -> Result<(), WriteF
 
 // Writes the fault of a node and the text of a local state.
 fn put_local<W: Write>(out: &mut W, at: u32, text: &[u8]) -> Result<(), WriteFault>
-    ensures ok { OnOk result (Appends (W.contents out.old) (W.contents out.new) (codes "fault local " ++ (decimal at ++ (32 ∷ text.now)))) }
-    ensures err { OnErr result (AppendsFront (W.contents out.old) (W.contents out.new) (codes "fault local " ++ (decimal at ++ (32 ∷ text.now)))) }
+    ensures ok { OnOk result (Appends (W.contents out.old) (W.contents out.new)
+        (codes "fault local " ++ (decimal at ++ (32 ∷ text.now)))) }
+    ensures err { OnErr result (AppendsFront (W.contents out.old) (W.contents out.new)
+        (codes "fault local " ++ (decimal at ++ (32 ∷ text.now)))) }
 {
     put_parts(
         out,
@@ -244,8 +250,10 @@ fn put_local<W: Write>(out: &mut W, at: u32, text: &[u8]) -> Result<(), WriteFau
 
 // Writes the fault of a link after this command.
 fn put_link<W: Write>(out: &mut W, command: &[u8], a: u32, b: u32) -> Result<(), WriteFault>
-    ensures ok { OnOk result (Appends (W.contents out.old) (W.contents out.new) (command.now ++ (decimal a ++ (32 ∷ decimal b)))) }
-    ensures err { OnErr result (AppendsFront (W.contents out.old) (W.contents out.new) (command.now ++ (decimal a ++ (32 ∷ decimal b)))) }
+    ensures ok { OnOk result (Appends (W.contents out.old) (W.contents out.new)
+        (command.now ++ (decimal a ++ (32 ∷ decimal b)))) }
+    ensures err { OnErr result (AppendsFront (W.contents out.old) (W.contents out.new)
+        (command.now ++ (decimal a ++ (32 ∷ decimal b)))) }
 {
     put_parts(
         out,
