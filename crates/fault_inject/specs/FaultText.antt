@@ -13,8 +13,10 @@ local_words at text = codes "fault" ∷ codes "local" ∷ decimal at ∷ text �
 
 -- a fault in words: its command, its kind, the nodes that it names, and what it puts there
 abbrev pub fault_words : Fault → List (List ℕ)
-fault_words (SetTree at regs) = codes "fault" ∷ codes "tree" ∷ decimal at ∷ decimal regs.root ∷ decimal regs.father ∷ decimal regs.dist ∷ []
-fault_words (SetWave at regs) = codes "fault" ∷ codes "wave" ∷ decimal at ∷ phase_name regs.phase ∷ decimal regs.session ∷ []
+fault_words (SetTree at regs) =
+    codes "fault" ∷ codes "tree" ∷ decimal at ∷ decimal regs.root ∷ decimal regs.father ∷ decimal regs.dist ∷ []
+fault_words (SetWave at regs) =
+    codes "fault" ∷ codes "wave" ∷ decimal at ∷ phase_name regs.phase ∷ decimal regs.session ∷ []
 fault_words (SetLocal at text) = local_words at text.items
 fault_words (LinkDown a b) = codes "fault" ∷ codes "down" ∷ decimal a ∷ decimal b ∷ []
 fault_words (LinkUp a b) = codes "fault" ∷ codes "up" ∷ decimal a ∷ decimal b ∷ []

@@ -1,6 +1,6 @@
 // Faults that are drawn from random words.
 
-ghost use Rattle.std.specs.Prelude.{◌≡◌, ◌%◌, ◌<◌, length};
+ghost use Rattle.std.specs.Prelude.{◌≡◌, ◌<◌, length};
 ghost use Rattle.fault_inject.specs.Drawn.{drawn_fault, drawn_node, drawn_phase, next_words};
 
 use crate::fault::Fault;
@@ -12,8 +12,8 @@ use topology::Topology;
 use tree_layer::TreeRegs;
 use wave_layer::{Phase, WaveRegs};
 
-/// The fault that the next five words of the generator draw, which are taken whatever is drawn. No
-/// local state is drawn, and what is drawn may be no fault that the configuration can have.
+/// The fault that the next five words of the generator draw. All five are taken, whatever is drawn.
+/// A local state is never drawn. Whether the configuration can have the fault isn't asked.
 pub fn draw_fault<P: Application>(random: &mut Lcg64Xsh32, config: &Config<P>) -> Fault
     ensures fault { result ≡ drawn_fault config.now.graph.ids (next_words random.old).0 }
     ensures generator { random.new ≡ (next_words random.old).1 }

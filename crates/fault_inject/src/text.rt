@@ -1,6 +1,7 @@
 // The lines that stand for faults.
 
-ghost use Rattle.std.specs.Prelude.{◌≡◌, ◌≢◌, ℕ, ◌<◌, ◌^◌, ◌↔◌, List, [], ◌∷◌, ◌++◌, codes, IfNone, IfOk, IfSome, IsTrue, OnErr, OnOk};
+ghost use Rattle.std.specs.Prelude.{◌≡◌, ℕ, ◌<◌, ◌^◌, ◌↔◌, List, [], ◌∷◌, ◌++◌, codes};
+ghost use Rattle.std.specs.Prelude.{IfNone, IfOk, IfSome, IsTrue, OnErr, OnOk};
 ghost use Rattle.std.specs.Fmt.{decimal};
 ghost use Rattle.std.specs.Io.KnownBytes.{Appends};
 ghost use Rattle.action_tables.specs.Written.{AppendsFront};
@@ -25,7 +26,9 @@ pub fn one_fault_a_line()
     ensures { (f g : Fault) → Fits f → Fits g → fault_line f ≡ fault_line g → SameFault f g }
 {}
 
-/// The fault that a line without its line feed stands for, or `None` where it stands for none.
+/// The fault that a line without its line feed stands for, or `None` where it stands for none. The text
+/// of a local state may have any bytes but spaces, and has one at least: which of them a line may have is
+/// for the reader of lines to say.
 pub fn read_fault(alloc: Global, line: &[u8]) -> Result<Option<Fault>, AllocError>
     ensures found { IfOk result (λ read. IfSome read (λ f. line.now ≡ fault_line f)) }
     ensures fits { IfOk result (λ read. IfSome read Fits) }
@@ -125,7 +128,8 @@ fn link_up(text: &[u8]) -> Option<Fault>
 fn two_numbers(text: &[u8]) -> Option<(u32, u32)>
     ensures found { IfSome result (λ ns. words_of text.now ≡ decimal ns.0 ∷ decimal ns.1 ∷ []) }
     ensures small { IfSome result (λ ns. (ns.0 < 2 ^ 32) × (ns.1 < 2 ^ 32)) }
-    ensures only { IfNone result ((m n : ℕ) → m < 2 ^ 32 → n < 2 ^ 32 → words_of text.now ≡ decimal m ∷ decimal n ∷ [] → ⊥) }
+    ensures only { IfNone result ((m n : ℕ) → m < 2 ^ 32 → n < 2 ^ 32
+        → words_of text.now ≡ decimal m ∷ decimal n ∷ [] → ⊥) }
 {
     let (first, second) = split_number(text)?;
     Some((first, read_number(second)?))
@@ -135,7 +139,8 @@ fn two_numbers(text: &[u8]) -> Option<(u32, u32)>
 fn split_number(text: &[u8]) -> Option<(u32, &[u8])>
     ensures found { IfSome result (λ parts. words_of text.now ≡ decimal parts.0 ∷ words_of parts.1.now) }
     ensures small { IfSome result (λ parts. parts.0 < 2 ^ 32) }
-    ensures only { IfNone result ((n : ℕ) (word : List ℕ) (words : List (List ℕ)) → n < 2 ^ 32 → words_of text.now ≡ decimal n ∷ word ∷ words → ⊥) }
+    ensures only { IfNone result ((n : ℕ) (word : List ℕ) (words : List (List ℕ)) → n < 2 ^ 32
+        → words_of text.now ≡ decimal n ∷ word ∷ words → ⊥) }
 {
     let (number, rest) = split_word(text)?;
     Some((read_number(number)?, rest))
@@ -161,7 +166,8 @@ fn phase_named(word: &[u8]) -> Option<Phase>
     }
 }
 
-/// Writes the line that stands for the fault, without a line feed.
+/// Writes the line that stands for the fault, without a line feed. The text of a local state is written
+/// as it stands: where it isn't one word, the line is no fault's that could be read.
 pub fn write_fault<W: Write>(fault: &Fault, out: &mut W) -> Result<(), WriteFault>
     ensures ok { OnOk result (Appends (W.contents out.old) (W.contents out.new) (fault_line fault.now)) }
     ensures err { OnErr result (AppendsFront (W.contents out.old) (W.contents out.new) (fault_line fault.now)) }
@@ -215,8 +221,10 @@ fn put_wave<W: Write>(out: &mut W, at: u32, regs: WaveRegs) -> Result<(), WriteF
 
 // Writes the fault of a node and the text of a local state.
 fn put_local<W: Write>(out: &mut W, at: u32, text: &[u8]) -> Result<(), WriteFault>
-    ensures ok { OnOk result (Appends (W.contents out.old) (W.contents out.new) (codes "fault local " ++ (decimal at ++ (32 ∷ text.now)))) }
-    ensures err { OnErr result (AppendsFront (W.contents out.old) (W.contents out.new) (codes "fault local " ++ (decimal at ++ (32 ∷ text.now)))) }
+    ensures ok { OnOk result (Appends (W.contents out.old) (W.contents out.new)
+        (codes "fault local " ++ (decimal at ++ (32 ∷ text.now)))) }
+    ensures err { OnErr result (AppendsFront (W.contents out.old) (W.contents out.new)
+        (codes "fault local " ++ (decimal at ++ (32 ∷ text.now)))) }
 {
     put_parts(
         out,
@@ -231,8 +239,10 @@ fn put_local<W: Write>(out: &mut W, at: u32, text: &[u8]) -> Result<(), WriteFau
 
 // Writes the fault of a link after this command.
 fn put_link<W: Write>(out: &mut W, command: &[u8], a: u32, b: u32) -> Result<(), WriteFault>
-    ensures ok { OnOk result (Appends (W.contents out.old) (W.contents out.new) (command.now ++ (decimal a ++ (32 ∷ decimal b)))) }
-    ensures err { OnErr result (AppendsFront (W.contents out.old) (W.contents out.new) (command.now ++ (decimal a ++ (32 ∷ decimal b)))) }
+    ensures ok { OnOk result (Appends (W.contents out.old) (W.contents out.new)
+        (command.now ++ (decimal a ++ (32 ∷ decimal b)))) }
+    ensures err { OnErr result (AppendsFront (W.contents out.old) (W.contents out.new)
+        (command.now ++ (decimal a ++ (32 ∷ decimal b)))) }
 {
     put_parts(
         out,

@@ -57,7 +57,7 @@ fn reads_and_writes_links_and_local_states(rt: HostRuntime) -> Result<(), Fail> 
     for (line, text) in [
         (b"fault local 2 in/0".as_slice(), b"in/0".as_slice()),
         (b"fault local 2 -".as_slice(), b"-".as_slice()),
-        (b"fault local 2 \n".as_slice(), b"\n".as_slice()),
+        (b"fault local 2 0/1,3/-".as_slice(), b"0/1,3/-".as_slice()),
     ] {
         let text = text.to_vec(rt.alloc())?;
         is_the_line_of(&rt, rt.alloc(), line, Fault::SetLocal { at: 2, text })?;
