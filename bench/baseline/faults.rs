@@ -1,5 +1,4 @@
-//! The faults of a network: which row of which table fails at a node, or at its end of a link. The
-//! application `idle` has no link table, so they are all of the tree or of the wave.
+//! The faults of a network: which row of which table fails at a node, or at its end of a link.
 
 use crate::network::{Network, Node};
 use crate::tables::Rows;
@@ -18,7 +17,12 @@ impl Network {
     fn faults(&self, node: &Node, found: &mut Vec<Fault>) {
         let mut add = |other: &Node, family, rows: Rows| {
             if rows != 0 {
-                found.push(Fault { at: node.id, other: other.id, family, row: rows.trailing_zeros() });
+                found.push(Fault {
+                    at: node.id,
+                    other: other.id,
+                    family,
+                    row: rows.trailing_zeros(),
+                });
             }
         };
         add(node, "tree", self.claim_rows(node, self.father(node)));
@@ -30,6 +34,7 @@ impl Network {
             } else {
                 add(near, "tree", adopt);
             }
+            add(near, "app", self.link_rows(node, near));
         }
     }
 }

@@ -1,9 +1,12 @@
 //! The replay once more, in plain Rust on std alone and without contracts, for `bench/run` to compare
 //! with. It takes `TOPOLOGY SCRIPT`, and prints what `reset-service replay TOPOLOGY SCRIPT` prints
-//! where the topology is good and names the application `idle`, and the script has no `act` and no
-//! `newest`.
+//! where the topology is good and names the application `idle` or `mutex`, and the script has no `act`
+//! and no `newest`.
 
+mod draw;
 mod faults;
+mod inject;
+mod mutex;
 mod network;
 mod script;
 mod tables;
@@ -37,8 +40,8 @@ fn run() -> io::Result<bool> {
     };
     let (topology, script) = (fs::read(topology)?, fs::read(script)?);
     let mut network = read_topology(&topology)
-        .and_then(|(ids, links)| boot(ids, &links))
-        .ok_or_else(|| io::Error::other("no good topology of the application idle"))?;
+        .and_then(|(app, ids, links)| boot(app, ids, &links))
+        .ok_or_else(|| io::Error::other("no good topology of the application idle or mutex"))?;
     let mut out = BufWriter::new(io::stdout().lock());
     let good = replay(&mut network, &script, &mut out)?;
     out.flush()?;

@@ -3,7 +3,7 @@
 use std::collections::VecDeque;
 
 const MAX_NODES: usize = 1024;
-const MAX_LINKS: usize = 8192;
+pub const MAX_LINKS: usize = 8192;
 
 #[derive(Clone, Copy)]
 pub struct Tree {
@@ -19,6 +19,25 @@ pub enum Phase {
     Reset,
 }
 
+impl Phase {
+    pub fn read(word: &[u8]) -> Option<Phase> {
+        match word {
+            b"normal" => Some(Phase::Normal),
+            b"initiate" => Some(Phase::Initiate),
+            b"reset" => Some(Phase::Reset),
+            _ => None,
+        }
+    }
+
+    pub fn name(self) -> &'static str {
+        match self {
+            Phase::Normal => "normal",
+            Phase::Initiate => "initiate",
+            Phase::Reset => "reset",
+        }
+    }
+}
+
 #[derive(Clone, Copy)]
 pub struct Wave {
     pub phase: Phase,
@@ -32,10 +51,24 @@ impl Wave {
     }
 }
 
+#[derive(Clone, Copy, PartialEq, Eq)]
+pub enum App {
+    Idle,
+    Mutex,
+}
+
+/// What a node of `mutex` keeps. One of `idle` keeps nothing, and leaves this at its start.
+#[derive(Clone, Copy, Default)]
+pub struct Local {
+    pub inside: bool,
+    pub bit: bool,
+}
+
 pub struct Node {
     pub id: u32,
     pub tree: Tree,
     pub wave: Wave,
+    pub local: Local,
     /// The places of the neighbours, ascending.
     pub near: Vec<usize>,
 }
@@ -45,11 +78,13 @@ pub struct Network {
     pub nodes: Vec<Node>,
     /// The place of each id among the nodes.
     pub places: Vec<Option<u16>>,
+    pub link_count: usize,
+    pub app: App,
 }
 
 /// The network in which each node has its place in the tree of shortest ways to the greatest id. None
 /// where the ids, which ascend, and the links are no connected graph.
-pub fn boot(ids: Vec<u32>, links: &[(u32, u32)]) -> Option<Network> {
+pub fn boot(app: App, ids: Vec<u32>, links: &[(u32, u32)]) -> Option<Network> {
     let (least, root) = (*ids.first()?, *ids.last()?);
     let twice = ids.windows(2).any(|pair| pair[0] == pair[1]);
     if ids.len() > MAX_NODES || links.len() > MAX_LINKS || least < 1 || root > 65535 || twice {
@@ -68,10 +103,12 @@ pub fn boot(ids: Vec<u32>, links: &[(u32, u32)]) -> Option<Network> {
             id: ids[place],
             tree: Tree { root, father: nearer.map_or(root, |near| ids[*near]), dist },
             wave: Wave { phase: Phase::Normal, session: 0 },
+            local: Local::default(),
             near,
         })
     });
-    Some(Network { nodes: nodes.collect::<Option<_>>()?, places })
+    let nodes = nodes.collect::<Option<_>>()?;
+    Some(Network { nodes, places, link_count: links.len(), app })
 }
 
 /// The places of each node's neighbours, ascending.

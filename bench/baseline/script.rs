@@ -1,8 +1,10 @@
 //! Replaying a script: its lines, and the answers to them.
 
 use crate::MAX_TEXT;
+use crate::draw::draw;
 use crate::faults::check;
-use crate::network::{Network, Node, Phase, Tree, Wave};
+use crate::inject::{Fault, put_fault, read_fault};
+use crate::network::{App, Network, Node, Tree, Wave};
 use crate::tables::{Answer, Refusal, Reply, Rows};
 use crate::topology::number;
 use std::io::{self, Write};
@@ -32,11 +34,28 @@ pub fn replay(network: &mut Network, script: &[u8], out: &mut impl Write) -> io:
 /// Does what a line says and writes the answer, or says that it is no command.
 fn answer(network: &mut Network, line: &[u8], out: &mut impl Write) -> io::Result<bool> {
     let mut words = line.split(|byte| *byte == b' ');
-    let command = words.next().unwrap_or_default();
+    let answer = match words.next().unwrap_or_default() {
+        b"fault" => read_fault(words).map(|fault| network.inject(&fault)),
+        command => obey(network, command, words, out)?,
+    };
+    let Some(answer) = answer else {
+        return Ok(false);
+    };
+    put_answer(answer, out)?;
+    Ok(true)
+}
+
+/// Does a command whose further words are numbers.
+fn obey<'l>(
+    network: &mut Network,
+    command: &[u8],
+    mut words: impl Iterator<Item = &'l [u8]>,
+    out: &mut impl Write,
+) -> io::Result<Option<Answer>> {
     let one = words.next().map(number);
     let two = words.next().map(number);
     if words.next().is_some() {
-        return Ok(false);
+        return Ok(None);
     }
     let answer = match (command, one, two) {
         (b"claim", Some(Some(at)), None) => network.claim(at),
@@ -48,19 +67,32 @@ fn answer(network: &mut Network, line: &[u8], out: &mut impl Write) -> io::Resul
         (b"join", Some(Some(at)), None) => network.join(at),
         (b"finish", Some(Some(at)), None) => network.finish(at),
         (b"mend", Some(Some(at)), None) => network.mend(at),
-        (b"alarm" | b"watch", Some(Some(at)), None) => network.find(at).map(|_| Reply::Quiet),
-        (b"show", Some(Some(at)), None) => ask(network, at, |node| show(node, out))?,
+        (b"alarm", Some(Some(at)), None) => alarm(network, at, out)?.map(|_| Reply::Told),
+        (b"watch", Some(Some(at)), None) => match alarm(network, at, out)? {
+            Ok(true) => network.request(at),
+            quiet => quiet.map(|_| Reply::Told),
+        },
+        (b"draw", Some(Some(seed)), None) => disturb(network, &draw(network, seed), out)?,
+        (b"show", Some(Some(at)), None) => ask(network, at, |node| show(network.app, node, out))?,
         (b"enabled", Some(Some(at)), None) => ask(network, at, |node| enabled(network, node, out))?,
         (b"check", Some(Some(at)), None) => {
             ask(network, at, |node| check(network, slice::from_ref(node), out))?
         }
-        (b"show", None, None) => told(network.nodes.iter().try_for_each(|node| show(node, out)))?,
+        (b"show", None, None) => {
+            told(network.nodes.iter().try_for_each(|node| show(network.app, node, out)))?
+        }
         (b"check", None, None) => told(check(network, &network.nodes, out))?,
         (b"ready", None, None) => told(ready(network, out))?,
-        _ => return Ok(false),
+        _ => return Ok(None),
     };
-    put_answer(answer, out)?;
-    Ok(true)
+    Ok(Some(answer))
+}
+
+/// Writes a fault that was drawn, and then does it.
+fn disturb(network: &mut Network, fault: &Fault, out: &mut impl Write) -> io::Result<Answer> {
+    out.write_all(b"drawn ")?;
+    put_fault(fault, out)?;
+    Ok(network.inject(fault))
 }
 
 /// The answer to a question about a node, which is told where there is such a node.
@@ -84,23 +116,48 @@ fn put_answer(answer: Answer, out: &mut impl Write) -> io::Result<()> {
     match answer {
         Ok(Reply::Applied) => out.write_all(b"applied\n"),
         Ok(Reply::Complete(session)) => writeln!(out, "complete {session}"),
-        Ok(Reply::Quiet) => out.write_all(b"quiet\n"),
+        Ok(Reply::Disturbed) => out.write_all(b"disturbed\n"),
         Ok(Reply::Told) => Ok(()),
         Err(Refusal::StrangeNode) => out.write_all(b"refused StrangeNode\n"),
         Err(Refusal::StrangeNeighbour) => out.write_all(b"refused StrangeNeighbour\n"),
         Err(Refusal::NotEnabled) => out.write_all(b"refused NotEnabled\n"),
         Err(Refusal::SessionsSpent) => out.write_all(b"refused SessionsSpent\n"),
+        Err(Refusal::BadValue) => out.write_all(b"refused BadValue\n"),
+        Err(Refusal::BadLocal) => out.write_all(b"refused BadLocal\n"),
+        Err(Refusal::NoSuchLink) => out.write_all(b"refused NoSuchLink\n"),
+        Err(Refusal::LinkIsThere) => out.write_all(b"refused LinkIsThere\n"),
+        Err(Refusal::WouldDisconnect) => out.write_all(b"refused WouldDisconnect\n"),
     }
 }
 
-fn show(node: &Node, out: &mut impl Write) -> io::Result<()> {
+fn show(app: App, node: &Node, out: &mut impl Write) -> io::Result<()> {
     let Node { id, tree: Tree { root, father, dist }, wave: Wave { phase, session }, .. } = node;
-    let phase = match phase {
-        Phase::Normal => "normal",
-        Phase::Initiate => "initiate",
-        Phase::Reset => "reset",
+    let phase = phase.name();
+    let local = match app {
+        App::Idle => "-",
+        App::Mutex => node.local.text(),
     };
-    writeln!(out, "node {id} tree {root} {father} {dist} wave {phase} {session} local -")
+    writeln!(out, "node {id} tree {root} {father} {dist} wave {phase} {session} local {local}")
+}
+
+/// Writes the first fault of the application at a node, or that there is none, and says whether there is.
+fn alarm(network: &Network, at: u32, out: &mut impl Write) -> io::Result<Result<bool, Refusal>> {
+    let node = match network.find(at) {
+        Ok(place) => &network.nodes[place],
+        Err(refusal) => return Ok(Err(refusal)),
+    };
+    let failing = |near: &&Node| network.link_rows(node, near) != 0;
+    match network.neighbours(node).find(failing) {
+        Some(near) => {
+            let row = network.link_rows(node, near).trailing_zeros();
+            writeln!(out, "alarm {at} {} {row}", near.id)?;
+            Ok(Ok(true))
+        }
+        None => {
+            out.write_all(b"quiet\n")?;
+            Ok(Ok(false))
+        }
+    }
 }
 
 fn enabled(network: &Network, node: &Node, out: &mut impl Write) -> io::Result<()> {
@@ -108,7 +165,9 @@ fn enabled(network: &Network, node: &Node, out: &mut impl Write) -> io::Result<(
     put_rows(network.tree_rows(node), out)?;
     out.write_all(b" wave ")?;
     put_rows(network.wave_rows(node), out)?;
-    out.write_all(b" act -\n")
+    out.write_all(b" act ")?;
+    put_rows(network.act_rows(node), out)?;
+    out.write_all(b"\n")
 }
 
 fn put_rows(rows: Rows, out: &mut impl Write) -> io::Result<()> {

@@ -1,13 +1,13 @@
 //! The tables of the tree and of the wave: which rows are enabled where, and what they do.
 
-use crate::network::{Network, Node, Phase, Tree, Wave};
+use crate::network::{Local, Network, Node, Phase, Tree, Wave};
 
 /// A set of rows of a table: bit `n` stands for row `n`.
 pub type Rows = u16;
 
 const REQUEST: Rows = 1 << 1;
 
-fn row(number: u32, enabled: bool) -> Rows {
+pub fn row(number: u32, enabled: bool) -> Rows {
     Rows::from(enabled) << number
 }
 
@@ -19,8 +19,8 @@ fn some(rows: Rows) -> Result<(), Refusal> {
 pub enum Reply {
     Applied,
     Complete(u32),
-    /// To a question of an alarm.
-    Quiet,
+    /// To a fault that was injected.
+    Disturbed,
     /// The answer has been written already.
     Told,
 }
@@ -30,6 +30,11 @@ pub enum Refusal {
     StrangeNeighbour,
     NotEnabled,
     SessionsSpent,
+    BadValue,
+    BadLocal,
+    NoSuchLink,
+    LinkIsThere,
+    WouldDisconnect,
 }
 
 pub type Answer = Result<Reply, Refusal>;
@@ -179,7 +184,7 @@ impl Network {
         let at = self.find(id)?;
         some(Self::open_rows(&self.nodes[at]))?;
         let session = self.nodes[at].wave.session.checked_add(1).ok_or(Refusal::SessionsSpent)?;
-        self.nodes[at].wave = Wave { phase: Phase::Reset, session };
+        self.restart(at, session);
         Ok(Reply::Applied)
     }
 
@@ -188,8 +193,14 @@ impl Network {
         let node = &self.nodes[at];
         some(Self::join_rows(node, self.father(node)))?;
         let session = node.wave.session + 1;
-        self.nodes[at].wave = Wave { phase: Phase::Reset, session };
+        self.restart(at, session);
         Ok(Reply::Applied)
+    }
+
+    /// Puts a node into the reset of this session, with its local state at the start.
+    fn restart(&mut self, at: usize, session: u32) {
+        self.nodes[at].wave = Wave { phase: Phase::Reset, session };
+        self.nodes[at].local = Local::default();
     }
 
     pub fn finish(&mut self, id: u32) -> Answer {
@@ -210,6 +221,8 @@ impl Network {
     }
 
     pub fn is_ready(&self, node: &Node) -> bool {
-        self.tree_rows(node) != 0 || self.wave_rows(node) & !REQUEST != 0
+        self.tree_rows(node) != 0
+            || self.wave_rows(node) & !REQUEST != 0
+            || self.act_rows(node) != 0
     }
 }

@@ -1,6 +1,7 @@
 //! Reading a topology's text.
 
 use crate::MAX_TEXT;
+use crate::network::App;
 
 /// What is left of a topology text.
 struct Cursor<'t> {
@@ -58,8 +59,8 @@ impl<'t> Cursor<'t> {
     }
 }
 
-/// The nodes, ascending, and the links of a topology text.
-pub fn read_topology(text: &[u8]) -> Option<(Vec<u32>, Vec<(u32, u32)>)> {
+/// The application, the nodes, ascending, and the links of a topology text.
+pub fn read_topology(text: &[u8]) -> Option<(App, Vec<u32>, Vec<(u32, u32)>)> {
     if text.len() > MAX_TEXT {
         return None;
     }
@@ -77,7 +78,12 @@ pub fn read_topology(text: &[u8]) -> Option<(Vec<u32>, Vec<(u32, u32)>)> {
     }
     let (mut nodes, links) = (nodes?, links?);
     nodes.sort_unstable();
-    (app? == b"idle").then_some((nodes, links))
+    let app = match app? {
+        b"idle" => App::Idle,
+        b"mutex" => App::Mutex,
+        _ => return None,
+    };
+    Some((app, nodes, links))
 }
 
 /// A decimal number without leading zeros.

@@ -3,3 +3,5 @@ mod IdTexts
 pub mod ListEnds
 pub mod ListingLaws
 pub mod KeptByPlace
+pub mod OneText
+pub mod FromTextLaws

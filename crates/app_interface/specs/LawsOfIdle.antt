@@ -1,11 +1,13 @@
 -- Laws of the application without cases.
-use Rattle.std.proofs.Common.{◌≡◌, ℕ, ◌≤◌, true≢false, None, length, refl, sym, arith}
+use Rattle.std.proofs.Common.{◌≡◌, ◌↔◌, ℕ, ◌≤◌, Bool, true, false, true≢false, cond, List, Option, None, Some, length, refl, sym, arith}
 use Rattle.std.specs.Prelude.{codes}
+use Rattle.std.specs.Str.{bytes_eq}
+use Rattle.std.proofs.lemmas.Slice.Eq.{bytes_eq-Decides}
 use Rattle.std.proofs.lemmas.Option.{none-some}
 use Rattle.topology.specs.Graph.{Graph, IsGraph}
 use Rattle.app_interface.specs.Cases.{AreCases, IsCase}
 use Rattle.app_interface.specs.Invariant.{IsQuiet, Keeps}
-use Rattle.app_interface.specs.Idle.{idle}
+use Rattle.app_interface.specs.Idle.{idle, idle_from_text}
 
 no_case : (n : ℕ) → IsCase 0 n → ⊥
 no_case n h = omega (arith, h.first, h.last)
@@ -19,8 +21,13 @@ idle_cases = record {
   lettered = λ n name h. absurd (none-some name h);
 }
 
-pub one_idle_text : (a b : Unit {0}) → Unit {0} → Unit {0} → codes "-" ≡ codes "-" → a ≡ b
-one_idle_text a b la lb h = refl
+-- one local state a text
+pub one_idle_text : (t : List ℕ) (local : Unit {0}) → (idle_from_text t ≡ Some local ↔ Unit {0} × (codes "-" ≡ t))
+one_idle_text t tt = (λ e. (tt, dash (bytes_eq (codes "-") t) refl e), λ p. rw ((bytes_eq-Decides (codes "-") t).1 p.1) refl)
+  where
+    dash : (b : Bool) → bytes_eq (codes "-") t ≡ b → ◌≡◌ {A = Option (Unit {0})} (cond b (Some tt) None) (Some tt) → codes "-" ≡ t
+    dash true is e = (bytes_eq-Decides (codes "-") t).0 is
+    dash false is e = absurd (none-some tt e)
 
 pub idle_keeps : (g : Graph) (bound : ℕ) → IsGraph g → length g.ids ≤ bound → Keeps idle g bound (λ v. Unit {0})
 idle_keeps g bound are few = record {

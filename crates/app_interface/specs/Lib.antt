@@ -6,6 +6,7 @@ pub mod Ids
 pub mod Views
 pub mod LinkTables
 pub mod Listing
+pub mod FromText
 pub mod LawsOfIdle
 pub mod LawsOfViews
 pub mod LawsOfSeen

@@ -1,5 +1,5 @@
 // The trait of applications.
-ghost use Rattle.std.specs.Prelude.{◌≡◌, ◌≢◌, ℕ, ◌≤◌, ◌↔◌, List, Option, None, Some, Err, IsTrue, IfOk, IfSome, OnOk, OnErr, is_some, length, option_map, slice_get};
+ghost use Rattle.std.specs.Prelude.{◌≡◌, ℕ, ◌≤◌, ◌↔◌, List, Option, None, Some, Err, IsTrue, IfOk, IfSome, OnOk, OnErr, is_some, length, option_map, slice_get};
 ghost use Rattle.std.specs.Io.KnownBytes.{Appends};
 ghost use Rattle.action_tables.specs.Written.{AppendsFront};
 ghost use Rattle.app_interface.specs.Application.{App};
@@ -35,6 +35,9 @@ pub trait Application: Send + Sync {
 
     // The text of a local state.
     ghost text: { Self.Local → List ℕ };
+
+    // The local state with a text, where there is one.
+    ghost from_text: { List ℕ → Option Self.Local };
 
     // What holds of the local states of all nodes from a reset on.
     ghost Inv: { Graph → (ℕ → Self.Local) → Type 0 };
@@ -97,8 +100,8 @@ pub trait Application: Send + Sync {
 
     /// The local state with this text, `BadLocal` where there is none.
     fn read_local(alloc: Global, bytes: &[u8]) -> Result<Self::Local, LocalFault>
-        ensures ok { IfOk result (λ local. text local ≡ bytes.now) }
-        ensures bad { result ≡ Err LocalFault.BadLocal → (local : Self.Local) → IsLocal local → text local ≢ bytes.now };
+        ensures ok { IfOk result (λ local. from_text bytes.now ≡ Some local) }
+        ensures bad { result ≡ Err LocalFault.BadLocal → from_text bytes.now ≡ None };
 
     /// What holds of each local state.
     fn known(local: &Self::Local)
@@ -107,8 +110,8 @@ pub trait Application: Send + Sync {
     // A case from 1 to the number of cases has a name and reads something, and no other number has.
     ghost are_cases: { AreCases app.count names app.reads };
 
-    // No two local states have one text.
-    ghost one_text: { (a b : Self.Local) → IsLocal a → IsLocal b → text a ≡ text b → a ≡ b };
+    // A text is that of one local state, or of none.
+    ghost one_text: { (t : List ℕ) (local : Self.Local) → (from_text t ≡ Some local ↔ IsLocal local × (text local ≡ t)) };
 
     // On every graph, and for every bound that the number of nodes doesn't pass, the invariant holds
     // at the start and each action keeps it.

@@ -1,6 +1,6 @@
 // The application that does nothing.
 ghost use Rattle.std.specs.Prelude.{None, codes};
-ghost use Rattle.app_interface.specs.Idle.{idle};
+ghost use Rattle.app_interface.specs.Idle.{idle, idle_from_text};
 ghost use Rattle.app_interface.specs.LawsOfIdle.{idle_cases, idle_keeps, idle_quiet, one_idle_text};
 
 use crate::application::Application;
@@ -28,6 +28,8 @@ impl Application for Idle {
     ghost IsLocal = { λ local. Unit {0} };
 
     ghost text = { λ local. codes "-" };
+
+    ghost from_text = { idle_from_text };
 
     ghost Inv = { λ g v. Unit {0} };
 

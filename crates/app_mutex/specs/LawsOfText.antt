@@ -1,6 +1,8 @@
--- No two local states have one text.
-use Rattle.std.proofs.Common.{◌≡◌, ℕ, ◌-◌, ◌==◌, Bool, true, false, List, length, get_or, refl, sym, ap, ◌∙◌}
-use Rattle.app_mutex.specs.LocalText.{local_text}
+-- A text is that of one local state, or of none.
+use Rattle.std.proofs.Common.{◌≡◌, ◌↔◌, ℕ, ◌-◌, ◌==◌, Bool, true, false, List, Some, length, get_or, refl, sym, ap, ◌∙◌, arith}
+use Rattle.std.specs.List.{Contains}
+use Rattle.app_interface.proofs.OneText.{one_of_listed}
+use Rattle.app_mutex.specs.LocalText.{local_states, local_text, mutex_from_text}
 use Rattle.app_mutex.specs.declared.local.MutexLocal.{MutexLocal}
 
 -- the local state of a text: its first byte is `i` where the node is in, and its last byte is the bit
@@ -13,6 +15,18 @@ spelled_text true false = refl
 spelled_text false true = refl
 spelled_text false false = refl
 
+same_text : (a b : MutexLocal) → Unit {0} → Unit {0} → local_text a ≡ local_text b → a ≡ b
+same_text a b la lb e = sym (spelled_text a.inside a.bit) ∙ ap spelled e ∙ spelled_text b.inside b.bit
+
+-- where a local state stands among all of them
+among : (inside bit : Bool) → Contains local_states (record { inside = inside; bit = bit })
+among false false = (0, omega arith, refl)
+among false true = (1, omega arith, refl)
+among true false = (2, omega arith, refl)
+among true true = (3, omega arith, refl)
+
 -- one local state a text
-pub one_mutex_text : (a b : MutexLocal) → Unit {0} → Unit {0} → local_text a ≡ local_text b → a ≡ b
-one_mutex_text a b la lb e = sym (spelled_text a.inside a.bit) ∙ ap spelled e ∙ spelled_text b.inside b.bit
+pub one_mutex_text : (t : List ℕ) (local : MutexLocal) → (mutex_from_text t ≡ Some local ↔ Unit {0} × (local_text local ≡ t))
+one_mutex_text t local =
+    one_of_listed {IsLocal = λ v. Unit {0}} {text = local_text} {is_local = λ v. true} (λ v. (λ e. tt, λ u. refl))
+    same_text t local_states (λ v is spelled. among v.inside v.bit) local

@@ -1,7 +1,7 @@
 // Neighbour exclusion as an application.
 ghost use Rattle.app_mutex.specs.Laws.{mutex_keeps};
 ghost use Rattle.app_mutex.specs.LawsOfLinks.{mutex_quiet};
-ghost use Rattle.app_mutex.specs.LocalText.{local_text};
+ghost use Rattle.app_mutex.specs.LocalText.{local_text, mutex_from_text};
 ghost use Rattle.app_mutex.specs.Mutex.{mutex, mutex_names};
 ghost use Rattle.app_mutex.specs.LawsOfCases.{mutex_cases};
 ghost use Rattle.app_mutex.specs.LawsOfText.{one_mutex_text};
@@ -32,6 +32,8 @@ impl Application for EdgeReversal {
     ghost IsLocal = { λ local. Unit {0} };
 
     ghost text = { local_text };
+
+    ghost from_text = { mutex_from_text };
 
     ghost Inv = { HoldsTurns };
 

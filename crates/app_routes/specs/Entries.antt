@@ -1,9 +1,10 @@
 -- Routes: entries in the order of their destinations, and those that are pulled from a neighbour.
 use Rattle.std.specs.Prelude.{◌≡◌, ℕ, ◌+◌, ◌<◌, ◌≤◌, ◌^◌, ◌==◌, ◌&&◌, if◌then◌else◌, Bool, true, ltb, List, ◌∷◌, ◌++◌, Option, Result, MatchResult, All, length, map, fold}
-use Rattle.std.specs.List.{AllWithin, HoldsAt, filter, find, list_any}
+use Rattle.std.specs.List.{AllWithin, HoldsAt, filter, find, list_all, list_any}
 use Rattle.std.specs.List.Sorted.{IsStrictlyIncreasing}
 use Rattle.std.specs.Option.{option_map_or}
 use Rattle.topology.specs.Id.{IsId}
+use Rattle.app_interface.specs.Ids.{ascends, is_id}
 use Rattle.app_routes.specs.declared.entry.Entry.{Entry}
 
 -- two identifiers, and a number of 32 bits
@@ -20,6 +21,13 @@ IsAscending es = IsStrictlyIncreasing (map (λ e. e.destination) es)
 pub record AreRoutes (es : List Entry) : Type 0 where
   pub ascending : IsAscending es
   pub are_entries : All IsEntry es
+
+-- both as tests
+abbrev pub is_entry : Entry → Bool
+is_entry e = is_id e.destination && (ltb e.hops (2 ^ 32) && is_id e.next)
+
+abbrev pub are_routes : List Entry → Bool
+are_routes es = ascends (map (λ e. e.destination) es) && list_all is_entry es
 
 -- the place of the entry for d, or else the place between the entries before it and those after it
 abbrev pub IsPlaceOf : List Entry → ℕ → Result ℕ ℕ → Type 0

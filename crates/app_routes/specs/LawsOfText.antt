@@ -1,13 +1,21 @@
 -- The texts of local states, taken apart.
-use Rattle.std.proofs.Common.{◌≡◌, ◌≢◌, ℕ, ◌<◌, ◌^◌, List, ◌∷◌, ◌++◌, refl, ap, ◌∙◌, arith}
+use Rattle.std.proofs.Common.{◌≡◌, ◌≢◌, ◌↔◌, ℕ, ◌<◌, ◌^◌, ltb, ◌&&◌, List, [], ◌∷◌, ◌++◌, Some, map, refl, sym, ap, ◌∙◌, arith}
+use Rattle.std.specs.Prelude.{slice_index_or}
+use Rattle.std.specs.Bool.{Decides}
 use Rattle.std.specs.Fmt.{decimal}
+use Rattle.std.specs.List.{list_all}
+use Rattle.std.proofs.lemmas.Bool.Decides.{Decides-and, Decides-by_and, Decides-ltb}
 use Rattle.std.proofs.lemmas.Fmt.{decimal_injective}
 use Rattle.topology.specs.Id.{IsId}
 use Rattle.action_tables.specs.Cuts.{HasNo}
 use Rattle.action_tables.specs.LawsOfCuts.{HasNo-append, HasNo-decimal, SameParts, has_second, same_parts}
+use Rattle.app_interface.specs.FromText.{number_of}
+use Rattle.app_interface.specs.Ids.{ascends, is_id}
+use Rattle.app_interface.proofs.FromTextLaws.{ascends_tells, is_id_tells, items_of-list_text, number_of-decimal, three_parts}
+use Rattle.app_interface.proofs.OneText.{one_of_spelled}
 use Rattle.app_interface.proofs.ListingLaws.{Spells, same_list}
-use Rattle.app_routes.specs.Entries.{AreRoutes, IsEntry}
-use Rattle.app_routes.specs.LocalText.{entry_text, routes_text}
+use Rattle.app_routes.specs.Entries.{AreRoutes, IsEntry, are_routes, is_entry}
+use Rattle.app_routes.specs.LocalText.{entry_spelled_by, entry_text, routes_from_text, routes_text, spelled_by}
 use Rattle.app_routes.specs.declared.entry.Entry.{Entry}
 
 small_id : (n : ℕ) → IsId n → n < 2 ^ 64
@@ -63,6 +71,44 @@ same_entry_text a b is is' text =
 pub entries_spelled : Spells IsEntry entry_text
 entries_spelled = record { high = HasNo-entry; one = same_entry_text }
 
--- one local state a text
-pub one_routes_text : (xs ys : List Entry) → AreRoutes xs → AreRoutes ys → routes_text xs ≡ routes_text ys → xs ≡ ys
-one_routes_text xs ys are are' e = same_list entries_spelled xs ys are.are_entries are'.are_entries e
+same_text : (xs ys : List Entry) → AreRoutes xs → AreRoutes ys → routes_text xs ≡ routes_text ys → xs ≡ ys
+same_text xs ys are are' e = same_list entries_spelled xs ys are.are_entries are'.are_entries e
+
+-- ---- the local state of a text
+
+entry_tells : (e : Entry) → Decides (is_entry e) (IsEntry e)
+entry_tells e =
+    let both =
+    Decides-and (is_id e.destination) (ltb e.hops (2 ^ 32) && is_id e.next) (is_id_tells e.destination)
+    (Decides-and (ltb e.hops (2 ^ 32)) (is_id e.next) (Decides-ltb e.hops (2 ^ 32)) (is_id_tells e.next)) in
+    (λ t. let p = both.0 t in record { destination = p.0; hops = p.1.0; next = p.1.1 }, λ is. both.1 (is.destination, (is.hops, is.next)))
+
+routes_tell : (es : List Entry) → Decides (are_routes es) (AreRoutes es)
+routes_tell es =
+    let ns = map (λ e. e.destination) es in
+    let both =
+    Decides-and (ascends ns) (list_all is_entry es) (ascends_tells ns)
+    (Decides-by_and is_entry IsEntry (list_all is_entry) entry_tells refl (λ _ _. refl) es) in
+    (λ t. let p = both.0 t in record { ascending = p.0; are_entries = p.1 }, λ are. both.1 (are.ascending, are.are_entries))
+
+-- the text of an entry spells it
+entry_back : (e : Entry) → IsEntry e → entry_spelled_by (entry_text e) ≡ e
+entry_back e is =
+    let destination : e.destination < 2 ^ 32 = omega (arith, is.destination.small) in
+    let next : e.next < 2 ^ 32 = omega (arith, is.next.small) in
+    let parts =
+    three_parts 58 (decimal e.destination) (decimal e.hops) (decimal e.next)
+    (no_colon e.destination destination) (no_colon e.hops is.hops) (no_colon e.next next) in
+    same_fields (entry_spelled_by (entry_text e)) e
+    (ap (λ ps. number_of (slice_index_or ps 0 [])) parts ∙ number_of-decimal e.destination destination)
+    (ap (λ ps. number_of (slice_index_or ps 1 [])) parts ∙ number_of-decimal e.hops is.hops)
+    (ap (λ ps. number_of (slice_index_or ps 2 [])) parts ∙ number_of-decimal e.next next)
+
+-- the text of a local state spells it
+spelled_back : (es : List Entry) → AreRoutes es → spelled_by (routes_text es) ≡ es
+spelled_back es are = items_of-list_text entries_spelled entry_spelled_by entry_back es are.are_entries
+
+-- a text is that of one local state, or of none
+pub one_routes_text : (t : List ℕ) (local : List Entry) → (routes_from_text t ≡ Some local ↔ AreRoutes local × (routes_text local ≡ t))
+one_routes_text t local =
+    one_of_spelled routes_tell same_text t (spelled_by t) (λ es are e. ap spelled_by (sym e) ∙ spelled_back es are) local

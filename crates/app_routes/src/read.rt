@@ -16,6 +16,7 @@ use std::alloc::Global;
 /// The local state with this text, `BadLocal` where there is none.
 pub fn read_local(alloc: Global, text: &[u8]) -> Result<RoutesLocal, LocalFault>
     ensures ok { IfOk result (λ local. routes_text local ≡ text.now) }
+    ensures local { IfOk result AreRoutes }
     ensures bad { result ≡ Err BadLocal → (local : List Entry) → AreRoutes local → routes_text local ≢ text.now }
 {
     if text == b"-".as_slice() {

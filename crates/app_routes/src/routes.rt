@@ -2,7 +2,7 @@
 ghost use Rattle.app_routes.specs.Entries.{AreRoutes};
 ghost use Rattle.app_routes.specs.Laws.{routes_keep};
 ghost use Rattle.app_routes.specs.LawsOfLinks.{routes_quiet};
-ghost use Rattle.app_routes.specs.LocalText.{routes_text};
+ghost use Rattle.app_routes.specs.LocalText.{routes_from_text, routes_text};
 ghost use Rattle.app_routes.specs.Routes.{routes, routes_names};
 ghost use Rattle.app_routes.specs.LawsOfCases.{routes_cases};
 ghost use Rattle.app_routes.specs.LawsOfText.{one_routes_text};
@@ -33,6 +33,8 @@ impl Application for Routes {
     ghost IsLocal = { AreRoutes };
 
     ghost text = { routes_text };
+
+    ghost from_text = { routes_from_text };
 
     ghost Inv = { HasRoutes };
 

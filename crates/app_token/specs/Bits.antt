@@ -1,13 +1,18 @@
 -- One bit for each identifier, kept as the list of those whose bit is one.
-use Rattle.std.specs.Prelude.{ℕ, ◌==◌, if◌then◌else◌, Bool, true, false, not, List, ◌∷◌, ◌++◌, All, ltb}
-use Rattle.std.specs.List.{filter, list_any}
+use Rattle.std.specs.Prelude.{ℕ, ◌==◌, ◌&&◌, if◌then◌else◌, Bool, true, false, not, List, ◌∷◌, ◌++◌, All, ltb}
+use Rattle.std.specs.List.{filter, list_all, list_any}
 use Rattle.std.specs.List.Sorted.{IsStrictlyIncreasing}
 use Rattle.topology.specs.Id.{IsId}
+use Rattle.app_interface.specs.Ids.{ascends, is_id}
 
 -- identifiers in strictly ascending order
 pub record IsBits (ids : List ℕ) : Type 0 where
   pub ascending : IsStrictlyIncreasing ids
   pub are_ids : All IsId ids
+
+-- the same as a test
+abbrev pub are_bits : List ℕ → Bool
+are_bits ids = ascends ids && list_all is_id ids
 
 -- two bits are not the same
 abbrev pub differ : Bool → Bool → Bool

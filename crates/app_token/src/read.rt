@@ -18,6 +18,7 @@ use std::alloc::Global;
 /// The local state with this text, `BadLocal` where there is none.
 pub fn read_local(alloc: Global, text: &[u8]) -> Result<TokenLocal, LocalFault>
     ensures ok { IfOk result (λ local. local_text local ≡ text.now) }
+    ensures local { IfOk result IsTokenLocal }
     ensures bad { result ≡ Err BadLocal → (local : TokenLocal) → IsTokenLocal local → local_text local ≢ text.now }
 {
     let Some((hold, lists)) = cut(text, b'/') else {
@@ -51,6 +52,7 @@ fn read_hold(text: &[u8]) -> Option<bool>
 // The identifiers that a text lists.
 fn read_ids(alloc: Global, text: &[u8]) -> Result<Bits, LocalFault>
     ensures ok { IfOk result (λ ids. set_text ids ≡ text.now) }
+    ensures bits { IfOk result IsBits }
     ensures bad { result ≡ Err BadLocal → (ids : List ℕ) → IsBits ids → set_text ids ≢ text.now }
 {
     if text == b"-".as_slice() {

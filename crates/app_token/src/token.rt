@@ -1,6 +1,6 @@
 // Token passing as an application.
 ghost use Rattle.app_token.specs.Laws.{token_keeps};
-ghost use Rattle.app_token.specs.LocalText.{IsTokenLocal, local_text};
+ghost use Rattle.app_token.specs.LocalText.{IsTokenLocal, local_text, token_from_text};
 ghost use Rattle.app_token.specs.OneToken.{HasOneToken};
 ghost use Rattle.app_token.specs.LawsOfText.{one_token_text};
 ghost use Rattle.app_token.specs.Token.{token, token_names};
@@ -32,6 +32,8 @@ impl Application for Token {
     ghost IsLocal = { IsTokenLocal };
 
     ghost text = { local_text };
+
+    ghost from_text = { token_from_text };
 
     ghost Inv = { HasOneToken };
 

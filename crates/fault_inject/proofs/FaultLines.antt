@@ -11,7 +11,7 @@ use Rattle.wave_layer.specs.declared.regs.Phase.TheVariants.{Normal, Initiate, R
 use Rattle.reset_machine.specs.Words.{words_of}
 use Rattle.reset_machine.proofs.EventLines.{one_found, same_number, words_of-decimal}
 use Rattle.reset_machine.proofs.WordLines.{IsWord-decimal, line-words, words_of-more, words_of-word}
-use Rattle.fault_inject.specs.FaultText.{Fits, IsLocalFault, IsOneWord, IsReadOf, SameFault, fault_line, fault_words}
+use Rattle.fault_inject.specs.FaultText.{Fits, IsLocalFault, IsOneWord, IsReadOf, fault_line, fault_words}
 use Rattle.wave_layer.specs.Names.{phase_name}
 use Rattle.fault_inject.specs.declared.fault.Fault.{Fault}
 use Rattle.fault_inject.specs.declared.fault.Fault.TheVariants.{SetTree, SetWave, SetLocal, LinkDown, LinkUp}
@@ -37,7 +37,7 @@ words_of-fault_line (SetWave at regs) h =
     ap (λ ws. codes "fault" ∷ codes "wave" ∷ ws)
     (words_of-number at _ h.0 ∙ ap (λ ws. decimal at ∷ ws) (words_of-phase regs.phase _ ∙ ap (λ ws. phase_name regs.phase ∷ ws) (words_of-decimal regs.session h.1)))
 words_of-fault_line (SetLocal at text) h =
-    ap (λ ws. codes "fault" ∷ codes "local" ∷ ws) (words_of-number at _ h.0 ∙ ap (λ ws. decimal at ∷ ws) (words_of-word text.items h.1.1))
+    ap (λ ws. codes "fault" ∷ codes "local" ∷ ws) (words_of-number at _ h.0 ∙ ap (λ ws. decimal at ∷ ws) (words_of-word text h.1.1))
 words_of-fault_line (LinkDown a b) h = ap (λ ws. codes "fault" ∷ codes "down" ∷ ws) (words_of-two a b h.0 h.1)
 words_of-fault_line (LinkUp a b) h = ap (λ ws. codes "fault" ∷ codes "up" ∷ ws) (words_of-two a b h.0 h.1)
 
@@ -67,19 +67,19 @@ same_wave r s phase session =
     let at_session : ℕ → WaveRegs = λ n. record { phase = s.phase; session = n } in
     ap at_phase phase ∙ ap at_session session
 
-same_words : (f g : Fault) → Fits f → Fits g → fault_words f ≡ fault_words g → SameFault f g
+same_words : (f g : Fault) → Fits f → Fits g → fault_words f ≡ fault_words g → f ≡ g
 same_words (SetTree a r) (SetTree b s) p q is =
     ap (λ n. SetTree n r) (same_number a b p.0 q.0 (cc))
     ∙ ap (λ regs. SetTree b regs) (same_tree r s (same_number r.root s.root p.1 q.1 (cc)) (same_number r.father s.father p.2 q.2 (cc)) (same_number r.dist s.dist p.3 q.3 (cc)))
 same_words (SetWave a r) (SetWave b s) p q is =
     ap (λ n. SetWave n r) (same_number a b p.0 q.0 (cc))
     ∙ ap (λ regs. SetWave b regs) (same_wave r s (same_phase r.phase s.phase (cc)) (same_number r.session s.session p.1 q.1 (cc)))
-same_words (SetLocal a v) (SetLocal b w) p q is = (same_number a b p.0 q.0 (cc), cc)
+same_words (SetLocal a v) (SetLocal b w) p q is = ap (λ n. SetLocal n v) (same_number a b p.0 q.0 (cc)) ∙ ap (λ t. SetLocal b t) (cc)
 same_words (LinkDown a c) (LinkDown b d) p q is = ap (λ n. LinkDown n c) (same_number a b p.0 q.0 (cc)) ∙ ap (λ n. LinkDown b n) (same_number c d p.1 q.1 (cc))
 same_words (LinkUp a c) (LinkUp b d) p q is = ap (λ n. LinkUp n c) (same_number a b p.0 q.0 (cc)) ∙ ap (λ n. LinkUp b n) (same_number c d p.1 q.1 (cc))
 same_words f g p q is = absurd (omega (arith, ap kind_byte is))
 
-pub one_fault : (f g : Fault) → Fits f → Fits g → fault_line f ≡ fault_line g → SameFault f g
+pub one_fault : (f g : Fault) → Fits f → Fits g → fault_line f ≡ fault_line g → f ≡ g
 one_fault f g p q is = same_words f g p q (sym (words_of-fault_line f p) ∙ ap words_of is ∙ words_of-fault_line g q)
 
 -- ---- no fault has the words
@@ -102,7 +102,7 @@ no_wave text rest phase session at first second only f fits is = absurd (omega (
 pub no_local : (text rest : List ℕ) (at : ℕ) → words_of text ≡ decimal at ∷ words_of rest → ((rest ≢ []) × HasNo 32 rest → ⊥) → IsReadOf (codes "fault" ∷ codes "local" ∷ words_of text) None
 no_local text rest at first only (SetLocal a v) fits is =
     let same : codes "fault" ∷ codes "local" ∷ decimal at ∷ words_of rest ≡ fault_words (SetLocal a v) = ap (λ ws. codes "fault" ∷ codes "local" ∷ ws) (sym first) ∙ is in
-    let text : rest ≡ v.items = line-words rest (v.items ∷ []) (cc) in
+    let text : rest ≡ v = line-words rest (v ∷ []) (cc) in
     only (rw text fits.1)
 no_local text rest at first only f fits is = absurd (omega (arith, ap kind_byte is))
 

@@ -1,2 +1,3 @@
-mod FaultLines
+pub mod FaultLines
+mod InjectedFaults
 mod Words

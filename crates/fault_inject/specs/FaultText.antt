@@ -17,7 +17,7 @@ fault_words (SetTree at regs) =
     codes "fault" ∷ codes "tree" ∷ decimal at ∷ decimal regs.root ∷ decimal regs.father ∷ decimal regs.dist ∷ []
 fault_words (SetWave at regs) =
     codes "fault" ∷ codes "wave" ∷ decimal at ∷ phase_name regs.phase ∷ decimal regs.session ∷ []
-fault_words (SetLocal at text) = local_words at text.items
+fault_words (SetLocal at text) = local_words at text
 fault_words (LinkDown a b) = codes "fault" ∷ codes "down" ∷ decimal a ∷ decimal b ∷ []
 fault_words (LinkUp a b) = codes "fault" ∷ codes "up" ∷ decimal a ∷ decimal b ∷ []
 
@@ -33,14 +33,9 @@ IsOneWord text = (text ≢ []) × HasNo 32 text
 abbrev pub Fits : Fault → Type 0
 Fits (SetTree at regs) = (at < 2 ^ 32) × (regs.root < 2 ^ 32) × (regs.father < 2 ^ 32) × (regs.dist < 2 ^ 32)
 Fits (SetWave at regs) = (at < 2 ^ 32) × (regs.session < 2 ^ 32)
-Fits (SetLocal at text) = (at < 2 ^ 32) × IsOneWord text.items
+Fits (SetLocal at text) = (at < 2 ^ 32) × IsOneWord text
 Fits (LinkDown a b) = (a < 2 ^ 32) × (b < 2 ^ 32)
 Fits (LinkUp a b) = (a < 2 ^ 32) × (b < 2 ^ 32)
-
--- they are one fault, wherever their texts lie in memory
-abbrev pub SameFault : Fault → Fault → Type 0
-SameFault (SetLocal at text) (SetLocal at' text') = (at ≡ at') × (text.items ≡ text'.items)
-SameFault f g = f ≡ g
 
 -- what is read of a line's words: a fault that fits and has them, or none where there is no such fault
 abbrev pub IsReadOf : List (List ℕ) → Option Fault → Type 0

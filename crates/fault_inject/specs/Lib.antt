@@ -1,2 +1,3 @@
 pub mod FaultText
 pub mod Drawn
+pub mod Effects

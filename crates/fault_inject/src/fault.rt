@@ -1,5 +1,6 @@
 // The faults of a configuration.
 
+use crate::local_text::LocalText;
 use tree_layer::TreeRegs;
 use wave_layer::WaveRegs;
 
@@ -12,7 +13,7 @@ pub enum Fault {
     /// The node's wave registers become these.
     SetWave { at: u32, regs: WaveRegs },
     /// The node's local state becomes the one with this text.
-    SetLocal { at: u32, text: Vec<u8> },
+    SetLocal { at: u32, text: LocalText },
     /// The link between these two goes down.
     LinkDown { a: u32, b: u32 },
     /// A link between these two comes up.

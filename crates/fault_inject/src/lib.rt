@@ -3,9 +3,15 @@
 #![tactic(auto)]
 
 mod draw;
+mod effects;
 mod fault;
+mod local_text;
+mod refusal;
 mod text;
 
 pub use draw::draw_fault;
+pub use effects::inject;
 pub use fault::Fault;
+pub use local_text::LocalText;
+pub use refusal::FaultRefusal;
 pub use text::{one_fault_a_line, read_fault, write_fault};

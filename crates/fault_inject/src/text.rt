@@ -8,11 +8,12 @@ ghost use Rattle.action_tables.specs.Written.{AppendsFront};
 ghost use Rattle.reset_machine.specs.Words.{words_of};
 ghost use Rattle.fault_inject.specs.declared.fault.Fault.{Fault};
 ghost use Rattle.fault_inject.specs.declared.fault.Fault.TheVariants.{SetTree, SetWave};
-ghost use Rattle.fault_inject.specs.FaultText.{Fits, IsLocalFault, IsOneWord, IsReadOf, SameFault, fault_line};
+ghost use Rattle.fault_inject.specs.FaultText.{Fits, IsLocalFault, IsOneWord, IsReadOf, fault_line};
 ghost use Rattle.wave_layer.specs.Names.{phase_name};
 ghost use Rattle.wave_layer.specs.declared.regs.Phase.{Phase};
 
 use crate::fault::Fault;
+use crate::local_text::LocalText;
 use action_tables::{Part, WriteFault, cut, put_parts, read_number};
 use reset_machine::split_word;
 use std::alloc::{AllocError, Global};
@@ -23,7 +24,7 @@ use wave_layer::{Phase, WaveRegs};
 /// Two faults that have one line are the same fault, where their numbers are below 2 ^ 32 and their
 /// texts one word.
 pub fn one_fault_a_line()
-    ensures { (f g : Fault) → Fits f → Fits g → fault_line f ≡ fault_line g → SameFault f g }
+    ensures { (f g : Fault) → Fits f → Fits g → fault_line f ≡ fault_line g → f ≡ g }
 {}
 
 /// The fault that a line without its line feed stands for, or `None` where it stands for none. The text
@@ -104,7 +105,8 @@ fn local_fault(alloc: Global, text: &[u8]) -> Result<Option<Fault>, AllocError>
     if !is_one_word(word) {
         return Ok(None);
     }
-    let text = word.to_vec(alloc)?;
+    let bytes = word.to_vec(alloc)?;
+    let text = LocalText::new(bytes);
     Ok(Some(Fault::SetLocal { at, text }))
 }
 
@@ -175,7 +177,7 @@ pub fn write_fault<W: Write>(fault: &Fault, out: &mut W) -> Result<(), WriteFaul
     match fault {
         Fault::SetTree { at, regs } => put_tree(out, *at, *regs),
         Fault::SetWave { at, regs } => put_wave(out, *at, *regs),
-        Fault::SetLocal { at, text } => put_local(out, *at, text),
+        Fault::SetLocal { at, text } => put_local(out, *at, text.as_bytes()),
         Fault::LinkDown { a, b } => put_link(out, b"fault down ", *a, *b),
         Fault::LinkUp { a, b } => put_link(out, b"fault up ", *a, *b),
     }

@@ -1,6 +1,6 @@
 // The lines of faults.
 
-use fault_inject::{Fault, read_fault, write_fault};
+use fault_inject::{Fault, LocalText, read_fault, write_fault};
 use std::alloc::Global;
 use std::process::Abort;
 use std::test::Fail;
@@ -59,7 +59,7 @@ fn reads_and_writes_links_and_local_states(rt: HostRuntime) -> Result<(), Fail> 
         (b"fault local 2 -".as_slice(), b"-".as_slice()),
         (b"fault local 2 0/1,3/-".as_slice(), b"0/1,3/-".as_slice()),
     ] {
-        let text = text.to_vec(rt.alloc())?;
+        let text = LocalText::new(text.to_vec(rt.alloc())?);
         is_the_line_of(&rt, rt.alloc(), line, Fault::SetLocal { at: 2, text })?;
     }
     Ok(())

@@ -2,6 +2,7 @@
 
 ghost use Rattle.std.specs.Prelude.{None, ◌∷◌, [], if◌then◌else◌, refl};
 ghost use Rattle.app_interface.specs.LawsOfIdle.{idle_cases};
+ghost use Rattle.machine_tests.specs.OneByte.{one_byte, only_byte};
 ghost use Rattle.topology.specs.Graph.{are_linked, greatest};
 
 use action_tables::{WriteFault, put_bytes};
@@ -31,11 +32,13 @@ impl Application for LeaderLink {
 
     ghost text = { λ local. local ∷ [] };
 
+    ghost from_text = { only_byte };
+
     ghost Inv = { λ g v. Unit {0} };
 
     ghost are_cases = { idle_cases };
 
-    ghost one_text = { λ a b la lb same. cc };
+    ghost one_text = { one_byte };
 
     ghost keeps = { λ g bound are few. record {
       same = λ v v' h inv. tt;

@@ -14,8 +14,9 @@ use Rattle.reset_machine.specs.declared.event.Event.TheVariants.{Act}
 use Rattle.reset_machine.proofs.CaseChoices.{cases_from, cases_end, all_from_1}
 use Rattle.reset_machine.proofs.EventLines.{action_small, action_words, cut_twice, same_number, words_of-decimal}
 use Rattle.reset_machine.proofs.WordLines.{line-words, words_of-word, words_of-more, IsWord, IsWord-decimal}
+use Rattle.reset_service.proofs.CommandLines.{no_fault}
 use Rattle.reset_service.specs.declared.script.Command.{Command}
-use Rattle.reset_service.specs.declared.script.Command.TheVariants.{Step}
+use Rattle.reset_service.specs.declared.script.Command.TheVariants.{Step, Inject}
 use Rattle.reset_service.specs.Script.{case_named, command_words, is_called, is_name, named_words, CommandFits, Spells}
 use Rattle.reset_service.specs.Script.Spells.{by_name}
 
@@ -70,6 +71,7 @@ named_apart (Step e) p at w with fits name h =
     let small = (action_small action.at action.case action.with action.fits).1 in
     let same = action.words in
     name_no_number w action.case (omega (arith, small)) (cc) name
+named_apart (Inject f) p at w with fits name h = no_fault f h (λ first. absurd (omega (arith, first)))
 named_apart c p at w with fits name h = absurd (omega (arith, ap length h))
 
 -- and no two such actions have the same

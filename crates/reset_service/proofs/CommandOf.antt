@@ -1,7 +1,9 @@
 -- The command of a line is the one that it spells.
-use Rattle.std.proofs.Common.{◌≡◌, ℕ, zero, suc, ◌<◌, ◌^◌, ◌%◌, Bool, true, false, ◌⊎◌, inl, inr, List, [], ◌∷◌, ◌++◌, map, refl, sym, ap, ap₂, ◌∙◌, true≢false, arith, length, slice_get, Option, Some, None, IfSome, IfNone, cond, option_map, if◌then◌else◌}
+use Rattle.std.proofs.Common.{◌≡◌, ◌≢◌, IsTrue, Result, Ok, Err, IfOk, ℕ, zero, suc, ◌<◌, ◌^◌, ◌%◌, Bool, true, false, ◌⊎◌, inl, inr, List, [], ◌∷◌, ◌++◌, map, refl, sym, ap, ap₂, ◌∙◌, true≢false, arith, length, slice_get, Option, Some, None, IfSome, IfNone, cond, option_map, if◌then◌else◌}
 use Rattle.std.specs.Fmt.{decimal}
-use Rattle.std.specs.List.{find, join_with_byte}
+use Rattle.std.specs.Char.{is_ascii_graphic}
+use Rattle.std.specs.List.{find, join_with_byte, list_all}
+use Rattle.std.proofs.lemmas.Bool.{and_parts}
 use Rattle.std.specs.Str.{bytes_eq}
 use Rattle.std.specs.Str.Parse.{digits_value}
 use Rattle.std.proofs.Math.Nat.{mod-eq_of_lt}
@@ -13,18 +15,31 @@ use Rattle.reset_machine.specs.Words.{words_of}
 use Rattle.reset_machine.specs.declared.event.Event.TheVariants.{Claim, Follow, Adopt, Request, Relay, Open, Join, Finish, Mend, Act}
 use Rattle.reset_machine.proofs.EventLines.{action_small, first_bytes, one_event, same_number}
 use Rattle.reset_service.specs.declared.script.Command.{Command}
-use Rattle.reset_service.specs.declared.script.Command.TheVariants.{Step, Show, ShowNode, Newest, Enabled, Ready, Check, CheckNode, Alarm, Watch}
-use Rattle.reset_service.specs.Script.{case_named, command_words, command_line, command_of, commands_with, in_words, with_name, is_name, actions_with, named_words, number_at, spellings, word_at, CommandFits, Spelling, Spells}
+use Rattle.reset_service.specs.declared.script.Command.TheVariants.{Step, Inject, Draw, Show, ShowNode, Newest, Enabled, Ready, Check, CheckNode, Alarm, Watch}
+use Rattle.reset_service.specs.Script.{case_named, command_words, command_line, command_of, commands_with, faults_with, in_words, local_faults_with, own_commands, with_name, is_name, is_text, actions_with, named_words, number_at, spellings, word_at, CommandFits, IsPlain, IsPrintable, Spelling, Spells}
 use Rattle.reset_service.specs.Script.Spells.{by_words, by_name}
-use Rattle.reset_service.proofs.CommandLines.{words_of_line, no_event}
+use Rattle.reset_service.proofs.CommandLines.{words_of_line, event_is_no_fault, no_event, no_fault, none_of_both, plain_fits}
+use Rattle.fault_inject.specs.FaultText as fault
+use Rattle.fault_inject.proofs.FaultLines.{one_fault}
+use Rattle.fault_inject.specs.declared.fault.Fault.{Fault}
+use Rattle.fault_inject.specs.declared.fault.Fault.TheVariants.{SetTree, SetWave, SetLocal, LinkDown, LinkUp}
+use Rattle.wave_layer.specs.declared.regs.Phase.{Phase}
+use Rattle.wave_layer.specs.declared.regs.Phase.TheVariants.{Normal, Initiate, Reset}
+use Rattle.action_tables.specs.Cuts.{HasNo}
 use Rattle.reset_service.proofs.CaseNames.{words_of-named, IsNotNamed, named_apart, one_named}
 
 -- ---- no two commands have one line
 
 one_by_words : (c d : Command) → CommandFits c → CommandFits d → command_words c ≡ command_words d → c ≡ d
 one_by_words (Step e) (Step f) p q h = ap Step (one_event e f p q (ap (join_with_byte 32) h))
+one_by_words (Inject f) (Inject g) p q h = ap Inject (one_fault f g p.0 q.0 (ap (join_with_byte 32) h))
+one_by_words (Step e) (Inject f) p q h = absurd (event_is_no_fault e f h)
+one_by_words (Inject f) (Step e) p q h = absurd (event_is_no_fault e f (sym h))
+one_by_words (Inject f) d p q h = absurd (no_fault f h (λ first. absurd (omega (arith, first))))
+one_by_words c (Inject f) p q h = absurd (no_fault f (sym h) (λ first. absurd (omega (arith, first))))
 one_by_words (Step e) d p q h = absurd (no_event e h refl)
 one_by_words c (Step f) p q h = absurd (no_event f (sym h) refl)
+one_by_words (Draw a) (Draw b) p q h = ap Draw (same_number a b p q (cc))
 one_by_words Show Show p q h = refl
 one_by_words (ShowNode a) (ShowNode b) p q h = ap ShowNode (same_number a b p q (cc))
 one_by_words Newest Newest p q h = refl
@@ -113,7 +128,7 @@ words_spell names line m n k p q r =
                       by_words p,
                       (
                         by_words (p, q),
-                        (by_words p, (by_words p, (by_words p, (by_words p, (by_words (p, case), (by_words (p, case, r), (by_words tt, (by_words p, (by_words p, (by_words p, tt)))))))))),
+                        (by_words p, (by_words p, (by_words p, (by_words p, (by_words (p, case), (by_words (p, case, r), (by_words tt, (by_words p, (by_words p, (by_words p, (by_words p, tt))))))))))),
                       ),
                     ),
                   ),
@@ -125,6 +140,31 @@ words_spell names line m n k p q r =
       ),
     )
 
+-- a text of printable bytes is one word
+one_text : (text : List ℕ) → is_text text ≡ true → fault.IsOneWord text × IsTrue (list_all is_ascii_graphic text)
+one_text [] h = absurd (true≢false (sym h))
+one_text (byte ∷ bytes) h = (((λ is. absurd (cc)), no_space (byte ∷ bytes) h), h)
+  where
+    no_space : (xs : List ℕ) → list_all is_ascii_graphic xs ≡ true → HasNo 32 xs
+    no_space [] all = tt
+    no_space (x ∷ xs) all = ((λ is. absurd (true≢false (sym (and_parts _ _ all).0 ∙ ap is_ascii_graphic is))), no_space xs (and_parts _ _ all).1)
+
+is_text-from : (text : List ℕ) → text ≢ [] → IsTrue (list_all is_ascii_graphic text) → is_text text ≡ true
+is_text-from [] some all = absurd (some refl)
+is_text-from (byte ∷ bytes) some all = all
+
+faults_spell : (names : ℕ → Option (List ℕ)) (line : List ℕ) (m n k l : ℕ) → m < 2 ^ 32 → n < 2 ^ 32 → k < 2 ^ 32 → l < 2 ^ 32
+    → AllSpell names line (map in_words (faults_with m n k l))
+faults_spell names line m n k l p q r s = (
+  by_words ((p, q, r, s), tt),
+  (by_words ((p, r), tt), (by_words ((p, r), tt), (by_words ((p, r), tt), (by_words ((p, q), tt), (by_words ((p, q), tt), tt))))),
+)
+
+local_spells : (names : ℕ → Option (List ℕ)) (line : List ℕ) (m : ℕ) (text : List ℕ) → m < 2 ^ 32 → (b : Bool) → is_text text ≡ b
+    → AllSpell names line (map in_words (if b then Inject (SetLocal m text) ∷ [] else []))
+local_spells names line m text p true is = (by_words ((p, (one_text text is).0), (one_text text is).1), tt)
+local_spells names line m text p false is = tt
+
 name_spells : (names : ℕ → Option (List ℕ)) (line : List ℕ) (m : ℕ) (w : List ℕ) (k : ℕ) → m < 2 ^ 32 → k < 2 ^ 32 → (b : Bool) → is_name w ≡ b
     → AllSpell names line (if b then with_name names m w None ∷ with_name names m w (Some k) ∷ [] else [])
 name_spells names line m w k p r true name = ((λ is. by_name m w None (p, omega arith) name is refl), ((λ is. by_name m w (Some k) (p, omega arith, r) name is refl), tt))
@@ -135,9 +175,17 @@ small ws i = mod_below (digits_value 10 (word_at ws i)) (2 ^ 32) (omega arith)
 
 all_spell : (names : ℕ → Option (List ℕ)) (line : List ℕ) (ws : List (List ℕ)) → AllSpell names line (spellings names ws)
 all_spell names line ws =
-    both_spell names line (actions_with names (number_at ws 1) (word_at ws 2) (number_at ws 3)) _
-    (name_spells names line (number_at ws 1) (word_at ws 2) (number_at ws 3) (small ws 1) (small ws 3) (is_name (word_at ws 2)) refl)
-    (words_spell names line (number_at ws 1) (number_at ws 2) (number_at ws 3) (small ws 1) (small ws 2) (small ws 3))
+    let m = number_at ws 2 in
+    let n = number_at ws 3 in
+    let k = number_at ws 4 in
+    let l = number_at ws 5 in
+    both_spell names line (actions_with names (number_at ws 1) (word_at ws 2) n) (map in_words (own_commands ws))
+    (name_spells names line (number_at ws 1) (word_at ws 2) n (small ws 1) (small ws 3) (is_name (word_at ws 2)) refl)
+    (both_spell names line (map in_words (commands_with (number_at ws 1) m n)) (map in_words (faults_with m n k l ++ local_faults_with m (word_at ws 3)))
+    (words_spell names line (number_at ws 1) m n (small ws 1) (small ws 2) (small ws 3))
+    (both_spell names line (map in_words (faults_with m n k l)) (map in_words (local_faults_with m (word_at ws 3)))
+    (faults_spell names line m n k l (small ws 2) (small ws 3) (small ws 4) (small ws 5))
+    (local_spells names line m (word_at ws 3) (small ws 2) (is_text (word_at ws 3)) refl)))
 
 -- ---- the command that a line spells is among them
 
@@ -162,9 +210,23 @@ has_in line c [] n is at = absurd (cc)
 has_in line c (d ∷ ds) zero is at = let same : d ≡ c = cc in inl (is ∙ ap command_line (sym same), same)
 has_in line c (d ∷ ds) (suc n) is at = inr (has_in line c ds n is at)
 
+-- a command has a place among those with its words
+abbrev IsPlaced : Command → Type 0
+IsPlaced c = (n : ℕ) × (slice_get (own_commands (command_words c)) n ≡ Some c)
+
+wave_among : (at session : ℕ) (phase : Phase) → at < 2 ^ 32 → session < 2 ^ 32 → IsPlaced (Inject (SetWave at (record { phase = phase; session = session })))
+wave_among at session Normal p q = (22, rw (value at p, value session q) refl)
+wave_among at session Initiate p q = (23, rw (value at p, value session q) refl)
+wave_among at session Reset p q = (24, rw (value at p, value session q) refl)
+
 -- the place of a command with its own numbers
-among : (c : Command) → CommandFits c
-    → (n : ℕ) × (slice_get (commands_with (number_at (command_words c) 1) (number_at (command_words c) 2) (number_at (command_words c) 3)) n ≡ Some c)
+among : (c : Command) → CommandFits c → IsPlaced c
+among (Inject (SetTree a regs)) h = (21, rw (value a h.0.0, value regs.root h.0.1, value regs.father h.0.2, value regs.dist h.0.3) refl)
+among (Inject (SetWave a regs)) h = wave_among a regs.session regs.phase h.0.0 h.0.1
+among (Inject (SetLocal a text)) h = (27, rw (value a h.0.0, is_text-from text h.0.1.0 h.1) refl)
+among (Inject (LinkDown a b)) h = (25, rw (value a h.0.0, value b h.0.1) refl)
+among (Inject (LinkUp a b)) h = (26, rw (value a h.0.0, value b h.0.1) refl)
+among (Draw seed) h = (20, ap (λ n. Some (Draw n)) (value seed h))
 among Show h = (0, refl)
 among (ShowNode a) h = (1, ap (λ n. Some (ShowNode n)) (value a h))
 among Newest h = (2, refl)
@@ -202,11 +264,11 @@ spelled_among names line c (by_words fits is) =
     let ws = command_words c in
     rw (← words_of_line line c fits is)
     (has_later line c (actions_with names (number_at ws 1) (word_at ws 2) (number_at ws 3)) _
-    (has_in line c (commands_with (number_at ws 1) (number_at ws 2) (number_at ws 3)) (among c fits).0 is (among c fits).1))
+    (has_in line c (own_commands ws) (among c fits).0 is (among c fits).1))
 spelled_among names line c (by_name at w with fits name is made) =
     let ws = named_words at w with in
     rw (words_of-named line at w with fits name is)
-    (has_first line c (actions_with names (number_at ws 1) (word_at ws 2) (number_at ws 3)) (map in_words (commands_with (number_at ws 1) (number_at ws 2) (number_at ws 3)))
+    (has_first line c (actions_with names (number_at ws 1) (word_at ws 2) (number_at ws 3)) (map in_words (own_commands ws))
     (names_among names line at w with c fits (is_name w) name is made (number_at ws 1) (number_at ws 3) (value at (action_small at 0 with fits).0) (near_value at w with fits)))
 
 -- ---- so the command that a line spells is the one that is found
@@ -225,6 +287,12 @@ pub own_words_found : (names : ℕ → Option (List ℕ)) (line : List ℕ) (o :
 own_words_found names line None found fits = tt
 own_words_found names line (Some c) found fits = by_words fits found
 
+-- nothing in its own words, nothing with a name, and no fault: no command
+pub nothing_spelled : (names : ℕ → Option (List ℕ)) (line : List ℕ) → IsNotNamed line → ((f : Fault) → CommandFits (Inject f) → line ≡ command_line (Inject f) → ⊥)
+    → ((c : Command) → IsPlain c → line ≡ command_line c → ⊥) → (c : Command) → Spells names line c → ⊥
+nothing_spelled names line apart fault plain c (by_words fits is) = none_of_both line fault plain c fits is
+nothing_spelled names line apart fault plain c (by_name at word with fits name is made) = apart at word with fits name is
+
 pub own_words_only : (names : ℕ → Option (List ℕ)) (line : List ℕ) (o : Option Command) → IsNotNamed line → IfNone o ((c : Command) → CommandFits c → line ≡ command_line c → ⊥)
     → IfNone o ((c : Command) → Spells names line c → ⊥)
 own_words_only names line (Some c) apart only = tt
@@ -233,3 +301,11 @@ own_words_only names line None apart only = none
     none : (c : Command) → Spells names line c → ⊥
     none c (by_words fits is) = only c fits is
     none c (by_name at word with fits name is made) = apart at word with fits name is
+
+-- what is read of a line that is neither plain nor named is the fault that it spells
+pub fault_read : {E : Type 0} (names : ℕ → Option (List ℕ)) (line : List ℕ) (r : Result (Option Command) E) → IsNotNamed line
+    → ((c : Command) → IsPlain c → line ≡ command_line c → ⊥) → IfOk r (λ read. IfSome read (λ c. line ≡ command_line c)) → IfOk r (λ read. IfSome read CommandFits)
+    → IfOk r (λ read. IfNone read ((f : Fault) → CommandFits (Inject f) → line ≡ command_line (Inject f) → ⊥)) → IfOk r (λ read. read ≡ command_of names line)
+fault_read names line (Ok (Some c)) apart plain found fits none = command_of-is names line (Some c) (by_words fits found) tt
+fault_read names line (Ok None) apart plain found fits none = command_of-is names line None tt (nothing_spelled names line apart none plain)
+fault_read names line (Err e) apart plain found fits none = tt

@@ -5,6 +5,7 @@ pub mod CommandLines
 pub mod CommandOf
 pub mod CaseNames
 pub mod Nodes
+pub mod Disturbing
 pub mod Watching
 pub mod Jobs
 pub mod PathRows
@@ -12,3 +13,4 @@ pub mod Subcommands
 pub mod TableRuns
 pub mod ReadyTexts
 pub mod OneOutput
+pub mod Stretches

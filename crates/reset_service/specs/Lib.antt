@@ -7,3 +7,4 @@ pub mod Words
 pub mod Tables
 pub mod Gathering
 pub mod StopText
+pub mod Stretches

@@ -27,6 +27,13 @@ use Rattle.reset_machine.specs.Outcome.{IsBoot}
 use Rattle.reset_machine.specs.Planned.{outcome_of}
 use Rattle.reset_machine.specs.Enabled.{enabled_rows, ready_of}
 use Rattle.reset_machine.specs.Refinement.{has_joined}
+use Rattle.fault_inject.specs.Drawn.{drawn_fault, next_words, seeded}
+use Rattle.fault_inject.specs.Effects.{injected}
+use Rattle.fault_inject.specs.FaultText as fault
+use Rattle.fault_inject.specs.declared.fault.Fault.{Fault}
+use Rattle.fault_inject.specs.declared.refusal.FaultRefusal.{FaultRefusal}
+use Rattle.fault_inject.specs.declared.refusal.FaultRefusal.TheVariants.{BadValue, BadLocal, WouldDisconnect}
+use Rattle.fault_inject.specs.declared.refusal.FaultRefusal.TheVariants as refused
 use Rattle.link_predicates.specs.Faults.{alarm_of, family_name, faults, node_faults}
 use Rattle.link_predicates.specs.declared.fault.LinkFault.{LinkFault}
 use Rattle.reset_machine.specs.declared.enabled.Enabled.{Enabled}
@@ -37,7 +44,7 @@ use Rattle.reset_service.specs.Lines.{ended, lines_of, IsCut}
 use Rattle.reset_service.specs.Meaning.{Meaning, idle_meaning, token_meaning, mutex_meaning, routes_meaning}
 use Rattle.reset_service.specs.Script.{line_of}
 use Rattle.reset_service.specs.declared.script.Command.{Command}
-use Rattle.reset_service.specs.declared.script.Command.TheVariants.{Step, Show, ShowNode, Newest, Ready, Check, CheckNode, Alarm, Watch}
+use Rattle.reset_service.specs.declared.script.Command.TheVariants.{Step, Inject, Draw, Show, ShowNode, Newest, Ready, Check, CheckNode, Alarm, Watch}
 use Rattle.reset_service.specs.declared.script.Command.TheVariants as command
 use Rattle.reset_service.specs.declared.script.Line.{Line}
 use Rattle.reset_service.specs.declared.script.Line.TheVariants.{Silent, Asks, Bad}
@@ -73,6 +80,19 @@ refusal_text (Disagrees n) = numbered (codes "refused Disagrees ") n
 refusal_text NotEnabled = ended (codes "refused NotEnabled")
 refusal_text SessionsSpent = ended (codes "refused SessionsSpent")
 refusal_text NoMemory = ended (codes "refused NoMemory")
+
+abbrev pub fault_refusal_text : FaultRefusal → List ℕ
+fault_refusal_text refused.StrangeNode = ended (codes "refused StrangeNode")
+fault_refusal_text BadValue = ended (codes "refused BadValue")
+fault_refusal_text BadLocal = ended (codes "refused BadLocal")
+fault_refusal_text refused.NoSuchLink = ended (codes "refused NoSuchLink")
+fault_refusal_text refused.LinkIsThere = ended (codes "refused LinkIsThere")
+fault_refusal_text WouldDisconnect = ended (codes "refused WouldDisconnect")
+fault_refusal_text refused.NoMemory = ended (codes "refused NoMemory")
+
+-- the line of a fault that was drawn
+abbrev pub drawn_text : Fault → List ℕ
+drawn_text f = codes "drawn " ++ ended (fault.fault_line f)
 
 -- what stands before the local state in the line that shows a node
 abbrev pub node_head : ℕ → TreeRegs → WaveRegs → List ℕ
@@ -152,6 +172,19 @@ abbrev pub stepped : {L : Type 0} → Configuration L → Result (Configuration 
 stepped c (Ok r) = (r.0, reply_text r.1)
 stepped c (Err refusal) = (c, refusal_text refusal)
 
+-- what a configuration becomes that has a fault or refuses it, and what is written
+abbrev pub disturbed : {L : Type 0} → Configuration L → Result (Configuration L) FaultRefusal → Configuration L × List ℕ
+disturbed c (Ok after) = (after, ended (codes "disturbed"))
+disturbed c (Err refusal) = (c, fault_refusal_text refusal)
+
+-- the fault that a seed draws in a network of nodes with these ids. It stays folded: unfolded, it has the generator
+unfoldable pub drawn : List ℕ → ℕ → Fault
+drawn ids seed = drawn_fault ids (next_words (seeded seed)).0
+
+-- the same for a fault that is drawn, which is told first
+abbrev pub disturbed_by_drawn : {L : Type 0} → Meaning L → Configuration L → Fault → Configuration L × List ℕ
+disturbed_by_drawn m c f = let after = disturbed c (injected m.from_text c f) in (after.0, drawn_text f ++ after.1)
+
 -- the line of a node, as its registers and its local state stand
 abbrev pub shown : {L : Type 0} → Meaning L → Configuration L → ℕ → List ℕ
 shown m c i = node_head i (tree_of c i) (wave_of c i) ++ ended (m.text (local_of m.app c i))
@@ -204,6 +237,8 @@ at_node c i text = if is_among i c.graph.ids then text else refusal_text Strange
 -- the answer to a command
 abbrev pub answered : {L : Type 0} → Meaning L → Configuration L → Command → Configuration L × List ℕ
 answered m c (Step e) = stepped c (outcome_of m.app c e)
+answered m c (Inject f) = disturbed c (injected m.from_text c f)
+answered m c (Draw seed) = disturbed_by_drawn m c (drawn c.graph.ids seed)
 answered m c Show = (c, flat_map (shown m c) c.graph.ids)
 answered m c (ShowNode i) = (c, at_node c i (shown m c i))
 answered m c Newest = (c, flat_map (newest_line m c) c.graph.ids)

@@ -8,15 +8,21 @@ use Rattle.std.specs.Str.Parse.{digits_value}
 use Rattle.action_tables.specs.Numbers.{all_cases}
 use Rattle.reset_machine.specs.EventText.{event_words, neighbour_words, Fits}
 use Rattle.reset_machine.specs.Words.{words_of}
+use Rattle.fault_inject.specs.FaultText as fault
+use Rattle.fault_inject.specs.declared.fault.Fault.{Fault}
+use Rattle.fault_inject.specs.declared.fault.Fault.TheVariants.{SetTree, SetWave, SetLocal, LinkDown, LinkUp}
+use Rattle.wave_layer.specs.declared.regs.Phase.TheVariants.{Normal, Initiate, Reset}
 use Rattle.reset_machine.specs.declared.event.Event.TheVariants.{Claim, Follow, Adopt, Request, Relay, Open, Join, Finish, Mend, Act}
 use Rattle.reset_service.specs.declared.script.Command.{Command}
-use Rattle.reset_service.specs.declared.script.Command.TheVariants.{Step, Show, ShowNode, Newest, Enabled, Ready, Check, CheckNode, Alarm, Watch}
+use Rattle.reset_service.specs.declared.script.Command.TheVariants.{Step, Inject, Draw, Show, ShowNode, Newest, Enabled, Ready, Check, CheckNode, Alarm, Watch}
 use Rattle.reset_service.specs.declared.script.Line.{Line}
 use Rattle.reset_service.specs.declared.script.Line.TheVariants.{Silent, Asks, Bad}
 
 -- a command in words
 abbrev pub command_words : Command → List (List ℕ)
 command_words (Step e) = event_words e
+command_words (Inject f) = fault.fault_words f
+command_words (Draw seed) = codes "draw" ∷ decimal seed ∷ []
 command_words Show = codes "show" ∷ []
 command_words (ShowNode at) = codes "show" ∷ decimal at ∷ []
 command_words Newest = codes "newest" ∷ []
@@ -27,19 +33,29 @@ command_words (CheckNode at) = codes "check" ∷ decimal at ∷ []
 command_words (Alarm at) = codes "alarm" ∷ decimal at ∷ []
 command_words (Watch at) = codes "watch" ∷ decimal at ∷ []
 
--- the words ask something of the node with this identifier, and are no event
+-- the words ask something of the node with this identifier, or draw a fault from this number
 abbrev pub AsksAbout : ℕ → List (List ℕ) → Type 0
 AsksAbout at words =
     (words ≡ command_words (ShowNode at)) ⊎ ((words ≡ command_words (Enabled at)) ⊎ ((words ≡ command_words (CheckNode at))
-    ⊎ ((words ≡ command_words (Alarm at)) ⊎ (words ≡ command_words (Watch at)))))
+    ⊎ ((words ≡ command_words (Alarm at)) ⊎ ((words ≡ command_words (Watch at)) ⊎ (words ≡ command_words (Draw at))))))
 
 -- the one line of a command with its case, if it has one, by number: its words, with a space between each two
 abbrev pub command_line : Command → List ℕ
 command_line command = join_with_byte 32 (command_words command)
 
--- the numbers of a command are those of 32 bits, and that of a case is one of 8 bits
+-- the text of a fault that puts a local state has only the bytes 33 to 126
+abbrev pub IsPrintable : Fault → Type 0
+IsPrintable (SetTree at regs) = Unit {0}
+IsPrintable (SetWave at regs) = Unit {0}
+IsPrintable (SetLocal at text) = IsTrue (list_all is_ascii_graphic text)
+IsPrintable (LinkDown a b) = Unit {0}
+IsPrintable (LinkUp a b) = Unit {0}
+
+-- the numbers of a command are those of 32 bits, that of a case is one of 8 bits, and a text is one word
 abbrev pub CommandFits : Command → Type 0
 CommandFits (Step e) = Fits e
+CommandFits (Inject f) = fault.Fits f × IsPrintable f
+CommandFits (Draw seed) = seed < 2 ^ 32
 CommandFits Show = Unit {0}
 CommandFits (ShowNode at) = at < 2 ^ 32
 CommandFits Newest = Unit {0}
@@ -49,6 +65,11 @@ CommandFits Check = Unit {0}
 CommandFits (CheckNode at) = at < 2 ^ 32
 CommandFits (Alarm at) = at < 2 ^ 32
 CommandFits (Watch at) = at < 2 ^ 32
+
+-- the command fits, and is no fault
+abbrev pub IsPlain : Command → Type 0
+IsPlain (Inject f) = ⊥
+IsPlain command = CommandFits command
 
 -- ---- cases by name
 
@@ -104,17 +125,40 @@ abbrev pub commands_with : ℕ → ℕ → ℕ → List Command
 commands_with m n k =
     Show ∷ ShowNode m ∷ Newest ∷ Enabled m ∷ Ready ∷ Step (Claim m) ∷ Step (Follow m) ∷ Step (Adopt m n)
     ∷ Step (Request m) ∷ Step (Relay m n) ∷ Step (Open m) ∷ Step (Join m) ∷ Step (Finish m) ∷ Step (Mend m)
-    ∷ Step (Act m (n % 2 ^ 8) None) ∷ Step (Act m (n % 2 ^ 8) (Some k)) ∷ Check ∷ CheckNode m ∷ Alarm m ∷ Watch m ∷ []
+    ∷ Step (Act m (n % 2 ^ 8) None) ∷ Step (Act m (n % 2 ^ 8) (Some k)) ∷ Check ∷ CheckNode m ∷ Alarm m ∷ Watch m ∷ Draw m ∷ []
+
+-- whether a text may be a word of a line: it isn't empty, and has only the bytes 33 to 126
+abbrev pub is_text : List ℕ → Bool
+is_text [] = false
+is_text (byte ∷ bytes) = list_all is_ascii_graphic (byte ∷ bytes)
+
+-- the faults with these numbers
+abbrev pub faults_with : ℕ → ℕ → ℕ → ℕ → List Command
+faults_with m n k l =
+    Inject (SetTree m (record { root = n; father = k; dist = l })) ∷ Inject (SetWave m (record { phase = Normal; session = k }))
+    ∷ Inject (SetWave m (record { phase = Initiate; session = k })) ∷ Inject (SetWave m (record { phase = Reset; session = k }))
+    ∷ Inject (LinkDown m n) ∷ Inject (LinkUp m n) ∷ []
+
+-- the fault that puts the local state with this text, if it is one
+abbrev pub local_faults_with : ℕ → List ℕ → List Command
+local_faults_with m text = if is_text text then Inject (SetLocal m text) ∷ [] else []
 
 -- the actions with these numbers and with this name, if it is one
 abbrev pub actions_with : (ℕ → Option (List ℕ)) → ℕ → List ℕ → ℕ → List Spelling
 actions_with names m word k = if is_name word then with_name names m word None ∷ with_name names m word (Some k) ∷ [] else []
 
+-- the commands that may have these words as their own
+abbrev pub own_commands : List (List ℕ) → List Command
+own_commands words =
+    commands_with (number_at words 1) (number_at words 2) (number_at words 3)
+    ++ faults_with (number_at words 2) (number_at words 3) (number_at words 4) (number_at words 5)
+    ++ local_faults_with (number_at words 2) (word_at words 3)
+
 -- what these words may spell: the third is a number or a name
 abbrev pub spellings : (ℕ → Option (List ℕ)) → List (List ℕ) → List Spelling
 spellings names words =
     actions_with names (number_at words 1) (word_at words 2) (number_at words 3)
-    ++ map in_words (commands_with (number_at words 1) (number_at words 2) (number_at words 3))
+    ++ map in_words (own_commands words)
 
 -- the command that a line spells: that of the first of the spellings whose words, with a space between each two, are the line
 unfoldable pub command_of : (ℕ → Option (List ℕ)) → List ℕ → Option Command

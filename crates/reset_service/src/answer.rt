@@ -8,6 +8,7 @@ ghost use Rattle.reset_service.specs.Meaning.{meaning_of};
 ghost use Rattle.reset_service.specs.Output.{answered, stepped, bad_line_text, bad_topology_text, graph_fault_text, numbered, refusal_text, reply_text, too_long_text, numbered_twice};
 
 use crate::faults::{answer_alarm, answer_check, answer_check_node, answer_watch};
+use crate::injected::{answer_draw, answer_fault};
 use crate::rows::{answer_enabled, answer_ready};
 use crate::script::Command;
 use crate::show::{show_all, show_newest, show_node};
@@ -117,14 +118,16 @@ pub fn answer<P: Application, W: Write>(
     command: Command,
     out: &mut W,
 ) -> Result<(), RunStop>
-    ensures ok { OnOk result ((config.new ≡ (answered (meaning_of P.app P.text P.names) config.old command).0)
-        × Appends (W.contents out.old) (W.contents out.new) (answered (meaning_of P.app P.text P.names) config.old command).1) }
-    ensures err { OnErr result (AppendsFront (W.contents out.old) (W.contents out.new) (answered (meaning_of P.app P.text P.names) config.old command).1) }
+    ensures ok { OnOk result ((config.new ≡ (answered (meaning_of P.app P.text P.from_text P.names) config.old command).0)
+        × Appends (W.contents out.old) (W.contents out.new) (answered (meaning_of P.app P.text P.from_text P.names) config.old command).1) }
+    ensures err { OnErr result (AppendsFront (W.contents out.old) (W.contents out.new) (answered (meaning_of P.app P.text P.from_text P.names) config.old command).1) }
     ensures stop { IfErr result (λ stop. stop ≢ RunStop.ReadFailed) }
     ensures memory { result ≡ Err RunStop.NoMemory → config.new ≡ config.old }
 {
     match command {
         Command::Step(event) => answer_step(alloc, config, event, out),
+        Command::Inject(fault) => answer_fault(alloc, config, &fault, out),
+        Command::Draw(seed) => answer_draw(alloc, config, seed, out),
         Command::Show => Ok(show_all(config, out)?),
         Command::ShowNode(at) => Ok(show_node(config, at, out)?),
         Command::Newest => Ok(show_newest(config, out)?),

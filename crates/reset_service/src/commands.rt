@@ -58,10 +58,13 @@ The commands of a script, at node I with its neighbour J and its child C:
   act I CASE, act I CASE J
   show, show I, newest, enabled I, ready
   check, check I, alarm I, watch I
+  fault tree I ROOT FATHER DIST, fault wave I PHASE SESSION, fault local I TEXT
+  fault down A B, fault up A B, draw SEED
 A CASE is the name of an action of the application, or its number. They are
   act I pass J, act I take J    of token
   act I enter, act I leave      of mutex
   act I pull J                  of routes
+A PHASE is normal, initiate or reset.
 Words have one space between them. An empty line, or one that begins with #, does nothing.
 In any other line a tab, a space at either end, a carriage return, a command in capital
 letters, a zero before a number or a comment behind the command makes the line bad;

@@ -27,10 +27,10 @@ pub fn answer_check<P: Application, W: Write>(
     out: &mut W,
 ) -> Result<Status, RunStop>
     ensures ok { OnOk result (Appends (W.contents out.old) (W.contents out.new)
-        (faults_lines (meaning_of P.app P.text P.names) config.now)) }
-    ensures status { IfOk result (λ status. status ≡ faults_status (meaning_of P.app P.text P.names) config.now) }
+        (faults_lines (meaning_of P.app P.text P.from_text P.names) config.now)) }
+    ensures status { IfOk result (λ status. status ≡ faults_status (meaning_of P.app P.text P.from_text P.names) config.now) }
     ensures err { OnErr result (AppendsFront (W.contents out.old) (W.contents out.new)
-        (faults_lines (meaning_of P.app P.text P.names) config.now)) }
+        (faults_lines (meaning_of P.app P.text P.from_text P.names) config.now)) }
     ensures stop { IfErr result (λ stop. stop ≢ RunStop.ReadFailed) }
 {
     match check_all(alloc, config) {
@@ -60,9 +60,9 @@ pub fn answer_check_node<P: Application, W: Write>(
     out: &mut W,
 ) -> Result<(), RunStop>
     ensures ok { OnOk result (Appends (W.contents out.old) (W.contents out.new)
-        (at_node config.now at (node_faults_lines (meaning_of P.app P.text P.names) config.now at))) }
+        (at_node config.now at (node_faults_lines (meaning_of P.app P.text P.from_text P.names) config.now at))) }
     ensures err { OnErr result (AppendsFront (W.contents out.old) (W.contents out.new)
-        (at_node config.now at (node_faults_lines (meaning_of P.app P.text P.names) config.now at))) }
+        (at_node config.now at (node_faults_lines (meaning_of P.app P.text P.from_text P.names) config.now at))) }
     ensures stop { IfErr result (λ stop. stop ≢ RunStop.ReadFailed) }
 {
     match check_node(alloc, config, at) {
@@ -79,9 +79,9 @@ pub fn answer_alarm<P: Application, W: Write>(
     out: &mut W,
 ) -> Result<(), WriteFault>
     ensures ok { OnOk result (Appends (W.contents out.old) (W.contents out.new)
-        (at_node config.now at (alarm_line (meaning_of P.app P.text P.names) config.now at))) }
+        (at_node config.now at (alarm_line (meaning_of P.app P.text P.from_text P.names) config.now at))) }
     ensures err { OnErr result (AppendsFront (W.contents out.old) (W.contents out.new)
-        (at_node config.now at (alarm_line (meaning_of P.app P.text P.names) config.now at))) }
+        (at_node config.now at (alarm_line (meaning_of P.app P.text P.from_text P.names) config.now at))) }
 {
     if is_node(config, at) {
         put_alarm(out, alarm(config, at))
@@ -105,10 +105,10 @@ pub fn answer_watch<P: Application, W: Write>(
     at: u32,
     out: &mut W,
 ) -> Result<(), RunStop>
-    ensures ok { OnOk result ((config.new ≡ (answered (meaning_of P.app P.text P.names) config.old (Watch at)).0)
-        × Appends (W.contents out.old) (W.contents out.new) (answered (meaning_of P.app P.text P.names) config.old (Watch at)).1) }
+    ensures ok { OnOk result ((config.new ≡ (answered (meaning_of P.app P.text P.from_text P.names) config.old (Watch at)).0)
+        × Appends (W.contents out.old) (W.contents out.new) (answered (meaning_of P.app P.text P.from_text P.names) config.old (Watch at)).1) }
     ensures err { OnErr result (AppendsFront (W.contents out.old) (W.contents out.new)
-        (answered (meaning_of P.app P.text P.names) config.old (Watch at)).1) }
+        (answered (meaning_of P.app P.text P.from_text P.names) config.old (Watch at)).1) }
     ensures stop { IfErr result (λ stop. stop ≢ RunStop.ReadFailed) }
     ensures memory { result ≡ Err RunStop.NoMemory → config.new ≡ config.old }
 {
@@ -127,10 +127,10 @@ fn watch_node<P: Application, W: Write>(
     out: &mut W,
 ) -> Result<(), RunStop>
     requires { IsNode config.now.graph at }
-    ensures ok { OnOk result ((config.new ≡ (watched (meaning_of P.app P.text P.names) config.old at).0)
-        × Appends (W.contents out.old) (W.contents out.new) (watched (meaning_of P.app P.text P.names) config.old at).1) }
+    ensures ok { OnOk result ((config.new ≡ (watched (meaning_of P.app P.text P.from_text P.names) config.old at).0)
+        × Appends (W.contents out.old) (W.contents out.new) (watched (meaning_of P.app P.text P.from_text P.names) config.old at).1) }
     ensures err { OnErr result (AppendsFront (W.contents out.old) (W.contents out.new)
-        (watched (meaning_of P.app P.text P.names) config.old at).1) }
+        (watched (meaning_of P.app P.text P.from_text P.names) config.old at).1) }
     ensures stop { IfErr result (λ stop. stop ≢ RunStop.ReadFailed) }
     ensures memory { result ≡ Err RunStop.NoMemory → config.new ≡ config.old }
 {

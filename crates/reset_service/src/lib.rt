@@ -8,6 +8,7 @@ mod answer;
 mod commands;
 mod faults;
 mod gather;
+mod injected;
 mod input;
 mod laws;
 mod replays;
@@ -20,7 +21,7 @@ mod words;
 
 pub use gather::Gathered;
 pub use input::{READ_LIMIT, read_text};
-pub use laws::{one_joined_output, one_output};
+pub use laws::{one_joined_output, one_output, stretches_are_runs};
 pub use replays::{check_text, replay, replay_joined, replay_text};
 pub use status::{RunStop, Status};
 pub use tables::print_tables;

@@ -149,7 +149,7 @@ fn run_booted<P: Application, W: Write>(
     script: &[u8],
     out: &mut W,
 ) -> Result<Status, RunStop>
-    ensures leaves { Leaves (IsReplay (meaning_of P.app P.text P.names) purpose topology script.now) (W.contents out.old) (W.contents out.new) result }
+    ensures leaves { Leaves (IsReplay (meaning_of P.app P.text P.from_text P.names) purpose topology script.now) (W.contents out.old) (W.contents out.new) result }
     ensures stop { IfErr result (λ stop. stop ≢ RunStop.ReadFailed) }
 {
     match Config::<P>::boot(alloc, topology) {
@@ -186,7 +186,7 @@ fn run_script<P: Application, W: Write>(
     script: &[u8],
     out: &mut W,
 ) -> Result<Status, RunStop>
-    ensures leaves { Leaves (λ output. output ≡ script_output (meaning_of P.app P.text P.names) purpose config script.now) (W.contents out.old) (W.contents out.new) result }
+    ensures leaves { Leaves (λ output. output ≡ script_output (meaning_of P.app P.text P.from_text P.names) purpose config script.now) (W.contents out.old) (W.contents out.new) result }
     ensures stop { IfErr result (λ stop. stop ≢ RunStop.ReadFailed) }
 {
     if script.len() > MAX_TEXT {
@@ -206,10 +206,10 @@ fn end_run<P: Application, W: Write>(
     answered: Status,
     out: &mut W,
 ) -> Result<Status, RunStop>
-    ensures ok { IfOk result (λ status. let last = ending (meaning_of P.app P.text P.names) purpose config.now answered in
+    ensures ok { IfOk result (λ status. let last = ending (meaning_of P.app P.text P.from_text P.names) purpose config.now answered in
         (status ≡ last.1) × Appends (W.contents out.old) (W.contents out.new) last.0) }
     ensures err { OnErr result (AppendsFront (W.contents out.old) (W.contents out.new)
-        (ending (meaning_of P.app P.text P.names) purpose config.now answered).0) }
+        (ending (meaning_of P.app P.text P.from_text P.names) purpose config.now answered).0) }
     ensures stop { IfErr result (λ stop. stop ≢ RunStop.ReadFailed) }
 {
     match (purpose, answered) {
@@ -226,9 +226,9 @@ fn answer_lines<P: Application, W: Write>(
     out: &mut W,
 ) -> Result<Status, RunStop>
     requires { length script.now ≤ MAX_TEXT }
-    ensures leaves { let a = answers (meaning_of P.app P.text P.names) config.old 1 (lines_of script.now) in
+    ensures leaves { let a = answers (meaning_of P.app P.text P.from_text P.names) config.old 1 (lines_of script.now) in
         Leaves (λ output. output ≡ (a.text, a.status)) (W.contents out.old) (W.contents out.new) result }
-    ensures config { OnOk result (config.new ≡ (answers (meaning_of P.app P.text P.names) config.old 1 (lines_of script.now)).config) }
+    ensures config { OnOk result (config.new ≡ (answers (meaning_of P.app P.text P.from_text P.names) config.old 1 (lines_of script.now)).config) }
     ensures stop { IfErr result (λ stop. stop ≢ RunStop.ReadFailed) }
 {
     let mut rest = script;
@@ -253,12 +253,12 @@ fn answer_line<P: Application, W: Write>(
     line: &[u8],
     out: &mut W,
 ) -> Result<Status, RunStop>
-    ensures ok { IfOk result (λ status. let a = answer_to (meaning_of P.app P.text P.names) config.old number (line_of P.names line.now) in
+    ensures ok { IfOk result (λ status. let a = answer_to (meaning_of P.app P.text P.from_text P.names) config.old number (line_of P.names line.now) in
         (status ≡ a.status) × (config.new ≡ a.config) × Appends (W.contents out.old) (W.contents out.new) a.text) }
-    ensures err { OnErr result (AppendsFront (W.contents out.old) (W.contents out.new) (answer_to (meaning_of P.app P.text P.names) config.old number (line_of P.names line.now)).text) }
+    ensures err { OnErr result (AppendsFront (W.contents out.old) (W.contents out.new) (answer_to (meaning_of P.app P.text P.from_text P.names) config.old number (line_of P.names line.now)).text) }
     ensures stop { IfErr result (λ stop. stop ≢ RunStop.ReadFailed) }
 {
-    match read_line::<P>(line) {
+    match read_line::<P>(alloc, line)? {
         Line::Silent => Ok(Status::Good),
         Line::Asks(command) => {
             answer(alloc, config, command, out)?;

@@ -1,19 +1,23 @@
 // The lines of a script.
 
-ghost use Rattle.std.specs.Prelude.{◌≡◌, ℕ, ◌<◌, ◌^◌, ◌⊎◌, [], ◌∷◌, List, Option, option_map, IsTrue, IfSome, IfNone};
+ghost use Rattle.std.specs.Prelude.{◌≡◌, ℕ, ◌<◌, ◌^◌, ◌⊎◌, [], ◌∷◌, List, Option, option_map, IsTrue, IfOk, IfSome, IfNone, ◌↔◌};
 ghost use Rattle.std.specs.Fmt.{decimal};
 ghost use Rattle.std.specs.Char.{is_ascii_graphic};
 ghost use Rattle.std.specs.List.{join_with_byte, list_all};
 ghost use Rattle.reset_machine.specs.EventText.{Fits, neighbour_words};
 ghost use Rattle.reset_machine.specs.Words.{words_of};
 ghost use Rattle.reset_machine.specs.declared.event.Event.TheVariants.{Act};
+ghost use Rattle.fault_inject.specs.FaultText.{fault_line};
+ghost use Rattle.fault_inject.specs.declared.fault.Fault.{Fault};
 ghost use Rattle.reset_service.specs.declared.script.Command.{Command};
-ghost use Rattle.reset_service.specs.declared.script.Command.TheVariants.{Step};
-ghost use Rattle.reset_service.specs.Script.{AsksAbout, CommandFits, Spells, case_named, command_line, command_words, command_of, is_called, is_name, is_silent, line_of, named_words};
+ghost use Rattle.reset_service.specs.declared.script.Command.TheVariants.{Inject, Step};
+ghost use Rattle.reset_service.specs.Script.{AsksAbout, CommandFits, IsPlain, IsPrintable, Spells, case_named, command_line, command_words, command_of, is_called, is_name, is_silent, line_of, named_words};
 
 use action_tables::read_number;
 use app_interface::Application;
+use fault_inject::{Fault, read_fault};
 use reset_machine::{Event, event_of, split_word, word_and_neighbour};
+use std::alloc::{AllocError, Global};
 
 /// The most bytes of a line, without its line feed.
 pub const MAX_LINE: usize = 256;
@@ -25,10 +29,14 @@ const MOST_CASES: u8 = 16;
 const NO_CASE: u8 = 0;
 
 /// What a line of a script asks for.
-#[derive(Clone, Copy, Debug, PartialEq, Eq)]
+#[derive(Debug, PartialEq, Eq, Drop)]
 pub enum Command {
     /// That an event happen.
     Step(Event),
+    /// That the configuration have this fault.
+    Inject(Fault),
+    /// That it have the fault that a generator with this seed draws.
+    Draw(u32),
     /// That all nodes be shown.
     Show,
     /// That this node be shown.
@@ -50,7 +58,7 @@ pub enum Command {
 }
 
 /// A line of a script, without its line feed.
-#[derive(Clone, Copy, Debug, PartialEq, Eq)]
+#[derive(Debug, PartialEq, Eq, Drop)]
 pub enum Line {
     /// It is empty or a comment, and asks for nothing.
     Silent,
@@ -61,18 +69,18 @@ pub enum Line {
 }
 
 /// Reads a line without its line feed.
-pub fn read_line<P: Application>(line: &[u8]) -> Line
-    ensures { result ≡ line_of P.names line.now }
+pub fn read_line<P: Application>(alloc: Global, line: &[u8]) -> Result<Line, AllocError>
+    ensures { IfOk result (λ read. read ≡ line_of P.names line.now) }
 {
     if line.len() > MAX_LINE {
-        return Line::Bad;
+        return Ok(Line::Bad);
     }
     if is_silent(line) {
-        return Line::Silent;
+        return Ok(Line::Silent);
     }
-    match read_command::<P>(line) {
-        Some(command) => Line::Asks(command),
-        None => Line::Bad,
+    match read_command::<P>(alloc, line)? {
+        Some(command) => Ok(Line::Asks(command)),
+        None => Ok(Line::Bad),
     }
 }
 
@@ -83,15 +91,47 @@ fn is_silent(line: &[u8]) -> bool
 }
 
 /// The command that a line without its line feed spells.
-pub fn read_command<P: Application>(line: &[u8]) -> Option<Command>
-    ensures function { result ≡ command_of P.names line.now }
-    ensures found { IfSome result (Spells P.names line.now) }
-    ensures only { IfNone result ((command : Command) → Spells P.names line.now command → ⊥) }
+pub fn read_command<P: Application>(
+    alloc: Global,
+    line: &[u8],
+) -> Result<Option<Command>, AllocError>
+    ensures function { IfOk result (λ read. read ≡ command_of P.names line.now) }
+    ensures found { IfOk result (λ read. IfSome read (Spells P.names line.now)) }
+    ensures only { IfOk result (λ read. IfNone read ((command : Command) → Spells P.names line.now command → ⊥)) }
 {
     if let Some(command) = by_first_word(line) {
-        return Some(command);
+        return Ok(Some(command));
     }
-    Some(Command::Step(read_named::<P>(line)?))
+    match read_named::<P>(line) {
+        Some(event) => Ok(Some(Command::Step(event))),
+        None => read_injected(alloc, line),
+    }
+}
+
+// The fault that a line stands for.
+fn read_injected(alloc: Global, line: &[u8]) -> Result<Option<Command>, AllocError>
+    ensures found { IfOk result (λ read. IfSome read (λ command. line.now ≡ command_line command)) }
+    ensures fits { IfOk result (λ read. IfSome read CommandFits) }
+    ensures only { IfOk result (λ read. IfNone read ((f : Fault) → CommandFits (Inject f) → line.now ≡ fault_line f → ⊥)) }
+{
+    let read = read_fault(alloc, line)?;
+    let Some(fault) = read else {
+        return Ok(None);
+    };
+    if !is_printable(&fault) {
+        return Ok(None);
+    }
+    Ok(Some(Command::Inject(fault)))
+}
+
+// Whether the text of a local state, where the fault has one, may stand in a line.
+fn is_printable(fault: &Fault) -> bool
+    ensures { IsTrue result ↔ IsPrintable fault.now }
+{
+    match fault {
+        Fault::SetLocal { text, .. } => is_graphic(text.as_bytes()),
+        _ => true,
+    }
 }
 
 // The action that a line stands for which has a name for its case.
@@ -148,11 +188,11 @@ fn is_called(name: Option<&str>, word: &[u8]) -> bool
     }
 }
 
-// The command that a line stands for in its own words.
+// The command, no fault, that a line stands for in its own words.
 fn by_first_word(line: &[u8]) -> Option<Command>
     ensures found { IfSome result (λ command. line.now ≡ command_line command) }
-    ensures fits { IfSome result CommandFits }
-    ensures only { IfNone result ((command : Command) → CommandFits command → line.now ≡ command_line command → ⊥) }
+    ensures fits { IfSome result IsPlain }
+    ensures only { IfNone result ((command : Command) → IsPlain command → line.now ≡ command_line command → ⊥) }
 {
     match split_word(line) {
         None => by_one_word(line),
@@ -163,8 +203,8 @@ fn by_first_word(line: &[u8]) -> Option<Command>
 // The command of one word.
 fn by_one_word(word: &[u8]) -> Option<Command>
     ensures found { IfSome result (λ command. word.now ∷ [] ≡ command_words command) }
-    ensures fits { IfSome result CommandFits }
-    ensures only { IfNone result ((command : Command) → word.now ∷ [] ≡ command_words command → ⊥) }
+    ensures fits { IfSome result IsPlain }
+    ensures only { IfNone result ((command : Command) → IsPlain command → word.now ∷ [] ≡ command_words command → ⊥) }
 {
     match word {
         b"show" => Some(Command::Show),
@@ -178,8 +218,8 @@ fn by_one_word(word: &[u8]) -> Option<Command>
 // The command of a word and of what follows the space after it.
 fn by_more_words(word: &[u8], rest: &[u8]) -> Option<Command>
     ensures found { IfSome result (λ command. word.now ∷ words_of rest.now ≡ command_words command) }
-    ensures fits { IfSome result CommandFits }
-    ensures only { IfNone result ((command : Command) → CommandFits command → word.now ∷ words_of rest.now ≡ command_words command → ⊥) }
+    ensures fits { IfSome result IsPlain }
+    ensures only { IfNone result ((command : Command) → IsPlain command → word.now ∷ words_of rest.now ≡ command_words command → ⊥) }
 {
     match event_of(word, rest) {
         Some(event) => Some(Command::Step(event)),
@@ -187,10 +227,10 @@ fn by_more_words(word: &[u8], rest: &[u8]) -> Option<Command>
     }
 }
 
-// The command that asks something of one node.
+// The command that asks something of one node, or draws a fault.
 fn question_of(word: &[u8], rest: &[u8]) -> Option<Command>
     ensures found { IfSome result (λ command. word.now ∷ words_of rest.now ≡ command_words command) }
-    ensures fits { IfSome result CommandFits }
+    ensures fits { IfSome result IsPlain }
     ensures only { IfNone result ((at : ℕ) → at < 2 ^ 32 → AsksAbout at (word.now ∷ words_of rest.now) → ⊥) }
 {
     match word {
@@ -199,6 +239,7 @@ fn question_of(word: &[u8], rest: &[u8]) -> Option<Command>
         b"check" => Some(Command::CheckNode(read_number(rest)?)),
         b"alarm" => Some(Command::Alarm(read_number(rest)?)),
         b"watch" => Some(Command::Watch(read_number(rest)?)),
+        b"draw" => Some(Command::Draw(read_number(rest)?)),
         _ => None,
     }
 }

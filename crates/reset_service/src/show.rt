@@ -20,8 +20,8 @@ use wave_layer::WaveRegs;
 
 /// Writes the line of each node, ascending.
 pub fn show_all<P: Application, W: Write>(config: &Config<P>, out: &mut W) -> Result<(), WriteFault>
-    ensures ok { OnOk result (Appends (W.contents out.old) (W.contents out.new) (flat_map (shown (meaning_of P.app P.text P.names) config.now) config.now.graph.ids)) }
-    ensures err { OnErr result (AppendsFront (W.contents out.old) (W.contents out.new) (flat_map (shown (meaning_of P.app P.text P.names) config.now) config.now.graph.ids)) }
+    ensures ok { OnOk result (Appends (W.contents out.old) (W.contents out.new) (flat_map (shown (meaning_of P.app P.text P.from_text P.names) config.now) config.now.graph.ids)) }
+    ensures err { OnErr result (AppendsFront (W.contents out.old) (W.contents out.new) (flat_map (shown (meaning_of P.app P.text P.from_text P.names) config.now) config.now.graph.ids)) }
 {
     for id in config.topology().ids() {
         show_node(config, *id, out)?;
@@ -35,8 +35,8 @@ pub fn show_node<P: Application, W: Write>(
     id: u32,
     out: &mut W,
 ) -> Result<(), WriteFault>
-    ensures ok { OnOk result (Appends (W.contents out.old) (W.contents out.new) (at_node config.now id (shown (meaning_of P.app P.text P.names) config.now id))) }
-    ensures err { OnErr result (AppendsFront (W.contents out.old) (W.contents out.new) (at_node config.now id (shown (meaning_of P.app P.text P.names) config.now id))) }
+    ensures ok { OnOk result (Appends (W.contents out.old) (W.contents out.new) (at_node config.now id (shown (meaning_of P.app P.text P.from_text P.names) config.now id))) }
+    ensures err { OnErr result (AppendsFront (W.contents out.old) (W.contents out.new) (at_node config.now id (shown (meaning_of P.app P.text P.from_text P.names) config.now id))) }
 {
     match node_at(config, id) {
         Some((tree, wave, local)) => {
@@ -102,8 +102,8 @@ pub fn show_newest<P: Application, W: Write>(
     config: &Config<P>,
     out: &mut W,
 ) -> Result<(), WriteFault>
-    ensures ok { OnOk result (Appends (W.contents out.old) (W.contents out.new) (flat_map (newest_line (meaning_of P.app P.text P.names) config.now) config.now.graph.ids)) }
-    ensures err { OnErr result (AppendsFront (W.contents out.old) (W.contents out.new) (flat_map (newest_line (meaning_of P.app P.text P.names) config.now) config.now.graph.ids)) }
+    ensures ok { OnOk result (Appends (W.contents out.old) (W.contents out.new) (flat_map (newest_line (meaning_of P.app P.text P.from_text P.names) config.now) config.now.graph.ids)) }
+    ensures err { OnErr result (AppendsFront (W.contents out.old) (W.contents out.new) (flat_map (newest_line (meaning_of P.app P.text P.from_text P.names) config.now) config.now.graph.ids)) }
 {
     for id in config.topology().ids() {
         newest_of(config, *id, out)?;
@@ -118,8 +118,8 @@ fn newest_of<P: Application, W: Write>(
     out: &mut W,
 ) -> Result<(), WriteFault>
     requires { IsNode config.now.graph id }
-    ensures ok { OnOk result (Appends (W.contents out.old) (W.contents out.new) (newest_line (meaning_of P.app P.text P.names) config.now id)) }
-    ensures err { OnErr result (AppendsFront (W.contents out.old) (W.contents out.new) (newest_line (meaning_of P.app P.text P.names) config.now id)) }
+    ensures ok { OnOk result (Appends (W.contents out.old) (W.contents out.new) (newest_line (meaning_of P.app P.text P.from_text P.names) config.now id)) }
+    ensures err { OnErr result (AppendsFront (W.contents out.old) (W.contents out.new) (newest_line (meaning_of P.app P.text P.from_text P.names) config.now id)) }
 {
     put_newest_head(out, id)?;
     match config.newest_local(id) {

@@ -8,6 +8,7 @@ pub mod Joining
 pub mod BreadthFirst
 pub mod FaultOrder
 pub mod Walks
+pub mod Reaching
 pub mod Assembling
 pub mod Counting
 pub mod Changed

@@ -4,7 +4,6 @@ use Rattle.std.specs.FinSet as set
 use Rattle.topology.specs.Building.{has}
 use Rattle.topology.specs.Faults.{IsCutOff}
 use Rattle.topology.specs.Graph.{Graph, are_linked}
-use Rattle.topology.specs.declared.fault.TheConstants.{MAX_LINKS}
 use Rattle.topology.specs.declared.fault.TopoFault.{TopoFault}
 use Rattle.topology.specs.declared.fault.TopoFault.TheVariants.{TooManyLinks, StrangeNode, SelfLink, Disconnected, NoSuchLink, LinkIsThere}
 
@@ -16,8 +15,8 @@ with_link g a b = record { ids = g.ids; bound = g.bound; links = set.insert (set
 abbrev pub without_link : Graph → ℕ → ℕ → Graph
 without_link g a b = record { ids = g.ids; bound = g.bound; links = set.remove (set.remove g.links (a, b)) (b, a) }
 
--- the first fault of the list whose test passes
-abbrev pub first_of : List (Bool × TopoFault) → Option TopoFault
+-- the first of the list whose test passes
+abbrev pub first_of : {F : Type 0} → List (Bool × F) → Option F
 first_of [] = None
 first_of (c ∷ cs) = if c.0 then Some c.1 else first_of cs
 
@@ -25,11 +24,15 @@ first_of (c ∷ cs) = if c.0 then Some c.1 else first_of cs
 abbrev pub strange_ends : List ℕ → ℕ → ℕ → List (Bool × TopoFault)
 strange_ends ids a b = (not (has ids a), StrangeNode a) ∷ (not (has ids b), StrangeNode b) ∷ []
 
--- the first reason why the link of a and b can't be put in; each link is two pairs of the graph
+-- there are 8192 links or more, each of which is two pairs of the graph
+abbrev pub is_full : Graph → Bool
+is_full g = not (nat_lt (set.len g.links) (2 * 8192))
+
+-- the first reason why the link of a and b can't be put in
 abbrev pub link_fault : Graph → ℕ → ℕ → Option TopoFault
 link_fault g a b =
     first_of (strange_ends g.ids a b
-    ++ (a == b, SelfLink a) ∷ (are_linked g a b, LinkIsThere) ∷ (not (nat_lt (set.len g.links) (2 * MAX_LINKS)), TooManyLinks) ∷ [])
+    ++ (a == b, SelfLink a) ∷ (are_linked g a b, LinkIsThere) ∷ (is_full g, TooManyLinks) ∷ [])
 
 -- the first reason why there is no link of a and b to be taken out
 abbrev pub unlink_fault : Graph → ℕ → ℕ → Option TopoFault

@@ -1,5 +1,6 @@
 pub mod Id
 pub mod Graph
+pub mod Reaching
 pub mod Rows
 pub mod Faults
 pub mod Building

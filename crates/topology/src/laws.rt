@@ -1,7 +1,8 @@
-ghost use Rattle.std.specs.Prelude.{◌≡◌, ℕ, List, length};
+ghost use Rattle.std.specs.Prelude.{◌≡◌, ◌↔◌, ℕ, List, length, true};
 ghost use Rattle.topology.specs.declared.fault.TopoFault.{TopoFault};
 ghost use Rattle.topology.specs.Faults.{IsFirstFault, IsTopologyOf};
-ghost use Rattle.topology.specs.Graph.{Graph, IsDistance, IsGraph, IsWalk};
+ghost use Rattle.topology.specs.Graph.{Graph, IsConnected, IsDistance, IsGraph, IsWalk};
+ghost use Rattle.topology.specs.Reaching.{is_connected};
 
 /// A walk of a graph leads back over as many links.
 pub fn walks_back()
@@ -17,6 +18,11 @@ pub fn one_distance()
 /// The distance of two nodes of a graph is the same in both directions.
 pub fn distance_back()
     ensures { (g : Graph) (a b d : ℕ) → IsGraph g → IsDistance g a b d → IsDistance g b a d }
+{}
+
+/// The test of connectedness tells the connected graphs from the others.
+pub fn connected_is_tested()
+    ensures { (g : Graph) → IsGraph g → (is_connected g ≡ true ↔ IsConnected g) }
 {}
 
 /// Two lists describe at most one topology.

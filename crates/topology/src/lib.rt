@@ -14,6 +14,8 @@ mod topology;
 
 pub use fault::{MAX_LINKS, MAX_NODES, TopoFault};
 pub use id::NodeId;
-pub use laws::{distance_back, one_distance, one_first_fault, one_topology, walks_back};
+pub use laws::{
+    connected_is_tested, distance_back, one_distance, one_first_fault, one_topology, walks_back,
+};
 pub use text::{AppName, MAX_TEXT, ReadFault, read_topology};
 pub use topology::Topology;

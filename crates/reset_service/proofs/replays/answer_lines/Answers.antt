@@ -10,7 +10,7 @@ use Rattle.reset_service.proofs.replays.answer_lines.Goals as goal
 
 pub returns-in-Ok : goal.returns-in-Ok
 returns-in-Ok g c =
-    let m = meaning_of g.P.Application.app g.P.Application.text g.P.Application.names in
+    let m = meaning_of g.P.Application.app g.P.Application.text g.P.Application.from_text g.P.Application.names in
     let (done, left, wrote, bound) = c.loop-line.invariant in
     let all = answers m c.args.config.now 1 (lines_of c.args.script.now) in
     let a = answer_to m c.loop-line.config c.loop-line.number (line_of m.names c.in-Some.line.now) in
@@ -27,7 +27,7 @@ returns-in-Ok g c =
 
 pub returns-in-Err-clause-leaves : goal.returns-in-Err-clause-leaves
 returns-in-Err-clause-leaves g c =
-    let m = meaning_of g.P.Application.app g.P.Application.text g.P.Application.names in
+    let m = meaning_of g.P.Application.app g.P.Application.text g.P.Application.from_text g.P.Application.names in
     let (done, left, wrote, bound) = c.loop-line.invariant in
     left_stop m (answers m c.args.config.now 1 (lines_of c.args.script.now)) (g.W.Write.contents c.args.out.now)
     (g.W.Write.contents c.loop-line.out) (g.W.Write.contents c.answer_line.new.out) done c.loop-line.config c.loop-line.number
@@ -36,7 +36,7 @@ returns-in-Err-clause-leaves g c =
 
 pub loop-line-preserved : goal.loop-line-preserved
 loop-line-preserved g c =
-    let m = meaning_of g.P.Application.app g.P.Application.text g.P.Application.names in
+    let m = meaning_of g.P.Application.app g.P.Application.text g.P.Application.from_text g.P.Application.names in
     let (done, left, wrote, bound) = c.loop-line.invariant in
     let a = answer_to m c.loop-line.config c.loop-line.number (line_of m.names c.in-Some.line.now) in
     let ok = c.in-Ok-Good.ensures.ok in
@@ -51,7 +51,7 @@ loop-line-preserved g c =
 
 pub returns-clause-leaves : goal.returns-clause-leaves
 returns-clause-leaves g c =
-    let m = meaning_of g.P.Application.app g.P.Application.text g.P.Application.names in
+    let m = meaning_of g.P.Application.app g.P.Application.text g.P.Application.from_text g.P.Application.names in
     let (done, left, wrote, bound) = c.loop-line.invariant in
     left_result m (answers m c.args.config.now 1 (lines_of c.args.script.now)) (g.W.Write.contents c.args.out.now)
     (g.W.Write.contents c.loop-line.out) (g.W.Write.contents c.answer_line-2.new.out) done c.loop-line.config c.answer_line-2.new.config
@@ -60,7 +60,7 @@ returns-clause-leaves g c =
 
 pub returns-clause-config : goal.returns-clause-config
 returns-clause-config g c =
-    let m = meaning_of g.P.Application.app g.P.Application.text g.P.Application.names in
+    let m = meaning_of g.P.Application.app g.P.Application.text g.P.Application.from_text g.P.Application.names in
     let (done, left, wrote, bound) = c.loop-line.invariant in
     last_config m (answers m c.args.config.now 1 (lines_of c.args.script.now)) _ _ done c.loop-line.config c.answer_line-2.new.config
     c.loop-line.number (lines_of c.loop-line.rest.now) c.loop-line.rest.now c.answer_line-2.result

@@ -1,6 +1,6 @@
-use Rattle.reset_machine.proofs.WordLines.{line_found, no_line_found, none_then}
+use Rattle.reset_machine.proofs.WordLines.{line_found, no_line_found}
 use Rattle.reset_service.specs.Script.{command_words}
-use Rattle.reset_service.proofs.CommandLines.{words_of-command_line}
+use Rattle.reset_service.proofs.CommandLines.{words_of-plain_line}
 use Rattle.reset_service.proofs.script.by_first_word.Goals as goal
 
 pub returns-in-None-clause-found : goal.returns-in-None-clause-found
@@ -8,11 +8,11 @@ returns-in-None-clause-found c = line_found command_words c.args.line.now _ _ c.
 
 pub returns-in-None-clause-only : goal.returns-in-None-clause-only
 returns-in-None-clause-only c =
-    no_line_found command_words words_of-command_line c.args.line.now _ c.by_one_word.result c.in-None.ensures.only
-    (none_then c.by_one_word.result c.by_one_word.ensures.only (λ none command _. none command))
+    no_line_found command_words words_of-plain_line c.args.line.now _ c.by_one_word.result c.in-None.ensures.only
+    c.by_one_word.ensures.only
 
 pub returns-in-Some-clause-found : goal.returns-in-Some-clause-found
 returns-in-Some-clause-found c = line_found command_words c.args.line.now _ _ c.in-Some.ensures.found c.by_more_words.ensures.found
 
 pub returns-in-Some-clause-only : goal.returns-in-Some-clause-only
-returns-in-Some-clause-only c = no_line_found command_words words_of-command_line c.args.line.now _ _ c.in-Some.ensures.found c.by_more_words.ensures.only
+returns-in-Some-clause-only c = no_line_found command_words words_of-plain_line c.args.line.now _ _ c.in-Some.ensures.found c.by_more_words.ensures.only

@@ -39,3 +39,10 @@ returns-in_err-read_number-in-watch-clause-only c = rw c.from_residual-in_err-re
 pub returns-in_ok-read_number-in-watch-clause-found : goal.returns-in_ok-read_number-in-watch-clause-found
 returns-in_ok-read_number-in-watch-clause-found c =
     one_found c.args.word.now c.args.rest.now (codes "watch") c.in_ok-read_number-in-watch.field-0 (text_from_reads c.args.word.now (codes "watch") (omega arith) (omega arith, (omega arith, (omega arith, (omega arith, (omega arith, tt)))))) c.in_ok-read_number-in-watch.ensures.found (search rules)
+
+pub returns-in_err-read_number-in-draw-clause-only : goal.returns-in_err-read_number-in-draw-clause-only
+returns-in_err-read_number-in-draw-clause-only c = rw c.from_residual-in_err-read_number-in-draw.ensures (no_question c.args.word.now c.args.rest.now c.in_err-read_number-in-draw.ensures.only)
+
+pub returns-in_ok-read_number-in-draw-clause-found : goal.returns-in_ok-read_number-in-draw-clause-found
+returns-in_ok-read_number-in-draw-clause-found c =
+    one_found c.args.word.now c.args.rest.now (codes "draw") c.in_ok-read_number-in-draw.field-0 (text_from_reads c.args.word.now (codes "draw") (omega arith) (omega arith, (omega arith, (omega arith, (omega arith, tt))))) c.in_ok-read_number-in-draw.ensures.found (search rules)

@@ -10,7 +10,7 @@ use Rattle.reset_service.proofs.show.show_newest.Goals as goal
 
 pub returns-in_err-newest_of-clause-err : goal.returns-in_err-newest_of-clause-err
 returns-in_err-newest_of-clause-err g c =
-    let m = meaning_of g.P.Application.app g.P.Application.text g.P.Application.names in
+    let m = meaning_of g.P.Application.app g.P.Application.text g.P.Application.from_text g.P.Application.names in
     let config = c.args.config.now in
     let i = c.loop-id.id-index in
     let items : c.ids-id-items.result.now ≡ config.graph.ids = c.ids-id-items.ensures ∙ ap (λ (t : Graph). t.ids) c.topology.ensures in
@@ -21,7 +21,7 @@ returns-in_err-newest_of-clause-err g c =
 
 pub loop-id-preserved : goal.loop-id-preserved
 loop-id-preserved g c =
-    let m = meaning_of g.P.Application.app g.P.Application.text g.P.Application.names in
+    let m = meaning_of g.P.Application.app g.P.Application.text g.P.Application.from_text g.P.Application.names in
     let config = c.args.config.now in
     let i = c.loop-id.id-index in
     let items : c.ids-id-items.result.now ≡ config.graph.ids = c.ids-id-items.ensures ∙ ap (λ (t : Graph). t.ids) c.topology.ensures in

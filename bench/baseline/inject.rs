@@ -1,0 +1,148 @@
+//! Injecting faults: registers, local states and links that change by no step.
+
+use crate::network::{App, Local, MAX_LINKS, Network, Phase, Tree, Wave};
+use crate::tables::{Answer, Refusal, Reply};
+use crate::topology::number;
+use std::io::{self, Write};
+
+/// The most bytes of a local state's text.
+const MAX_LOCAL: usize = 200;
+
+pub enum Fault<'t> {
+    Tree { at: u32, tree: Tree },
+    Wave { at: u32, wave: Wave },
+    Local { at: u32, text: &'t [u8] },
+    Down { a: u32, b: u32 },
+    Up { a: u32, b: u32 },
+}
+
+/// Reads the words of a fault after the word `fault`.
+pub fn read_fault<'t>(mut words: impl Iterator<Item = &'t [u8]>) -> Option<Fault<'t>> {
+    let kind = words.next()?;
+    let at = number(words.next()?)?;
+    let fault = match kind {
+        b"tree" => {
+            let mut register = || number(words.next()?);
+            let tree = Tree { root: register()?, father: register()?, dist: register()? };
+            Fault::Tree { at, tree }
+        }
+        b"wave" => {
+            let phase = Phase::read(words.next()?)?;
+            Fault::Wave { at, wave: Wave { phase, session: number(words.next()?)? } }
+        }
+        b"local" => {
+            let text = words.next()?;
+            if text.is_empty() || !text.iter().all(u8::is_ascii_graphic) {
+                return None;
+            }
+            Fault::Local { at, text }
+        }
+        b"down" => Fault::Down { a: at, b: number(words.next()?)? },
+        b"up" => Fault::Up { a: at, b: number(words.next()?)? },
+        _ => return None,
+    };
+    words.next().is_none().then_some(fault)
+}
+
+/// Writes a fault as the command that it is.
+pub fn put_fault(fault: &Fault, out: &mut impl Write) -> io::Result<()> {
+    match fault {
+        Fault::Tree { at, tree: Tree { root, father, dist } } => {
+            writeln!(out, "fault tree {at} {root} {father} {dist}")
+        }
+        Fault::Wave { at, wave: Wave { phase, session } } => {
+            writeln!(out, "fault wave {at} {} {session}", phase.name())
+        }
+        Fault::Local { at, text } => {
+            write!(out, "fault local {at} ")?;
+            out.write_all(text)?;
+            out.write_all(b"\n")
+        }
+        Fault::Down { a, b } => writeln!(out, "fault down {a} {b}"),
+        Fault::Up { a, b } => writeln!(out, "fault up {a} {b}"),
+    }
+}
+
+impl Network {
+    pub fn inject(&mut self, fault: &Fault) -> Answer {
+        match *fault {
+            Fault::Tree { at, tree } => {
+                let at = self.find(at)?;
+                let is_id = |id: u32| (1..=65535).contains(&id);
+                if !is_id(tree.root) || !is_id(tree.father) {
+                    return Err(Refusal::BadValue);
+                }
+                self.nodes[at].tree = tree;
+            }
+            Fault::Wave { at, wave } => {
+                let at = self.find(at)?;
+                self.nodes[at].wave = wave;
+            }
+            Fault::Local { at, text } => {
+                let at = self.find(at)?;
+                self.nodes[at].local = self.read_local(text).ok_or(Refusal::BadLocal)?;
+            }
+            Fault::Down { a, b } => self.unlink(a, b)?,
+            Fault::Up { a, b } => self.link(a, b)?,
+        }
+        Ok(Reply::Disturbed)
+    }
+
+    fn read_local(&self, text: &[u8]) -> Option<Local> {
+        match self.app {
+            _ if text.len() > MAX_LOCAL => None,
+            App::Idle => (text == b"-").then(Local::default),
+            App::Mutex => Local::read(text),
+        }
+    }
+
+    fn link(&mut self, a: u32, b: u32) -> Result<(), Refusal> {
+        let (i, j) = (self.find(a)?, self.find(b)?);
+        if i == j {
+            return Err(Refusal::BadValue);
+        }
+        let Err(to) = self.nodes[i].near.binary_search(&j) else {
+            return Err(Refusal::LinkIsThere);
+        };
+        if self.link_count == MAX_LINKS {
+            return Err(Refusal::BadValue);
+        }
+        self.nodes[i].near.insert(to, j);
+        let back = &mut self.nodes[j].near;
+        back.insert(back.partition_point(|place| *place < i), i);
+        self.link_count += 1;
+        Ok(())
+    }
+
+    fn unlink(&mut self, a: u32, b: u32) -> Result<(), Refusal> {
+        let (i, j) = (self.find(a)?, self.find(b)?);
+        let Ok(to) = self.nodes[i].near.binary_search(&j) else {
+            return Err(Refusal::NoSuchLink);
+        };
+        if !self.has_way_beside(i, j) {
+            return Err(Refusal::WouldDisconnect);
+        }
+        self.nodes[i].near.remove(to);
+        self.nodes[j].near.retain(|place| *place != i);
+        self.link_count -= 1;
+        Ok(())
+    }
+
+    /// Whether there is a way between two neighbours beside their link.
+    fn has_way_beside(&self, from: usize, to: usize) -> bool {
+        let mut seen = vec![false; self.nodes.len()];
+        seen[from] = true;
+        let mut open: Vec<usize> =
+            self.nodes[from].near.iter().copied().filter(|near| *near != to).collect();
+        while let Some(place) = open.pop() {
+            if place == to {
+                return true;
+            }
+            if !seen[place] {
+                seen[place] = true;
+                open.extend(self.nodes[place].near.iter().filter(|near| !seen[**near]));
+            }
+        }
+        false
+    }
+}

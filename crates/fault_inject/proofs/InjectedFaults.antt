@@ -1,0 +1,210 @@
+-- What comes of a fault, from the reasons that there are against it.
+use Rattle.std.proofs.Common.{◌≡◌, ◌≢◌, ℕ, ◌==◌, ◌&&◌, Bool, true, false, not, List, [], ◌∷◌, ◌++◌, length, Option, Some, None, Result, Ok, Err, OnOk, IfErr, MatchResult, refl, sym, ap, subst, ◌∙◌, ⊎_elim, true≢false, eqb-true, lt-ltb, le-ltb, ◌<◌, ◌≤◌, zero, suc, slice_index}
+use Rattle.std.proofs.lemmas.Bool.{and_parts, false_from_ne_true, or_cases}
+use Rattle.std.proofs.lemmas.List.Elements.{All-contains}
+use Rattle.std.proofs.lemmas.List.Folds.{Any-from_list_any}
+use Rattle.std.proofs.lemmas.List.Sums.{AllPass-from_list_all}
+use Rattle.std.specs.List.{list_any}
+use Rattle.action_tables.specs.Numbers.{is_among}
+use Rattle.app_interface.specs.Ids.{is_id}
+use Rattle.topology.specs.Changing.{first_of, is_full, link_fault, strange_ends, unlink_fault, with_link, without_link}
+use Rattle.topology.specs.Faults.{IsCutOff}
+use Rattle.topology.specs.Graph.{Graph, IsNode, IsReached, are_linked}
+use Rattle.topology.specs.Reaching.{is_connected, is_reached}
+use Rattle.topology.specs.declared.fault.TopoFault.{TopoFault}
+use Rattle.topology.specs.declared.fault.TopoFault.TheVariants.{StrangeNode as StrangeEnd, SelfLink, TooManyLinks, LinkIsThere as Doubled, NoSuchLink as Unlinked, Disconnected, NoMemory as WantOfMemory}
+use Rattle.topology.proofs.Walks.{walk_on}
+use Rattle.tree_layer.specs.declared.regs.TreeRegs.{TreeRegs}
+use Rattle.wave_layer.specs.declared.regs.WaveRegs.{WaveRegs}
+use Rattle.reset_machine.specs.Configuration.{Configuration, with_graph, with_local, with_tree, with_wave}
+use Rattle.reset_machine.proofs.NodePlaces.{a_node, no_node}
+use Rattle.fault_inject.specs.Effects.{damaged, injected, refusals}
+use Rattle.fault_inject.specs.declared.fault.Fault.{Fault}
+use Rattle.fault_inject.specs.declared.fault.Fault.TheVariants.{SetTree, SetWave, SetLocal, LinkDown, LinkUp}
+use Rattle.fault_inject.specs.declared.refusal.FaultRefusal.{FaultRefusal}
+use Rattle.fault_inject.specs.declared.refusal.FaultRefusal.TheVariants.{StrangeNode, BadValue, BadLocal, NoSuchLink, LinkIsThere, WouldDisconnect, NoMemory}
+
+-- ---- what is reached within so many links is reached
+
+module _ (g : Graph) (a : ℕ) where
+  abbrev leads_to : ℕ → ℕ → ℕ → Bool
+  leads_to count b c = is_reached g a c count && are_linked g c b
+
+  walk_from_test : (count b : ℕ) → is_reached g a b count ≡ true → IsReached g a b
+  walk_from_test zero b e = ([], eqb-true a b e)
+  walk_from_test (suc count) b e =
+      ⊎_elim (walk_from_test count b)
+      (λ last.
+      let at = Any-from_list_any (leads_to count b) g.ids last in
+      let c : ℕ = at.1 in
+      let parts = and_parts (is_reached g a c count) (are_linked g c b) at.4 in
+      let before = walk_from_test count c parts.0 in
+      (before.0 ++ b ∷ [], walk_on g a c b before.0 (b ∷ []) before.1 (parts.1, refl)))
+      (or_cases (is_reached g a b count) (list_any (leads_to count b) g.ids) e)
+
+-- a graph with a node that is cut off isn't connected
+apart : (g : Graph) (n : ℕ) → IsCutOff g n → is_connected g ≡ false
+unfolding is_connected
+apart g n cut =
+    false_from_ne_true _ (λ e.
+    cut.cut_off
+    (walk_from_test g (slice_index g.ids 0) (length g.ids) n
+    (All-contains (λ x. is_reached g (slice_index g.ids 0) x (length g.ids) ≡ true) g.ids n
+    (AllPass-from_list_all (λ x. is_reached g (slice_index g.ids 0) x (length g.ids)) g.ids e) cut.node)))
+
+-- ---- the first refusal, and none
+
+module _ {L : Type 0} (from_text : List ℕ → Option L) (c : Configuration L) where
+  refused : (f : Fault) (r : FaultRefusal) → first_of (refusals from_text c f) ≡ Some r → injected from_text c f ≡ Err r
+  unfolding injected
+  refused f r is = rw is refl
+
+  allowed : (f : Fault) (new : Configuration L) → first_of (refusals from_text c f) ≡ None → new ≡ damaged from_text c f
+      → injected from_text c f ≡ Ok new
+  unfolding injected
+  allowed f new is made = rw (is, made) refl
+
+  -- ---- registers
+
+  pub wave_put : (at : ℕ) (regs : WaveRegs) (new : Configuration L) → IsNode c.graph at → new ≡ with_wave c at regs
+      → injected from_text c (SetWave at regs) ≡ Ok new
+  wave_put at regs new node made = allowed (SetWave at regs) new (rw (a_node c.graph.ids at node) refl) made
+
+  pub wave_strange : (at : ℕ) (regs : WaveRegs) → (IsNode c.graph at → ⊥) → injected from_text c (SetWave at regs) ≡ Err StrangeNode
+  wave_strange at regs none = refused (SetWave at regs) StrangeNode (rw (no_node c.graph.ids at none) refl)
+
+  pub tree_put : (at : ℕ) (regs : TreeRegs) (new : Configuration L) → is_among at c.graph.ids ≡ true
+      → (is_id regs.root && is_id regs.father) ≡ true → new ≡ with_tree c at regs → injected from_text c (SetTree at regs) ≡ Ok new
+  tree_put at regs new node ids made = allowed (SetTree at regs) new (rw (node, ids) refl) made
+
+  pub tree_strange : (at : ℕ) (regs : TreeRegs) → is_among at c.graph.ids ≡ false → injected from_text c (SetTree at regs) ≡ Err StrangeNode
+  tree_strange at regs none = refused (SetTree at regs) StrangeNode (rw none refl)
+
+  pub tree_lost : (at : ℕ) (regs : TreeRegs) → (IsNode c.graph at → ⊥) → injected from_text c (SetTree at regs) ≡ Err StrangeNode
+  tree_lost at regs none = tree_strange at regs (no_node c.graph.ids at none)
+
+  pub tree_bad : (at : ℕ) (regs : TreeRegs) → is_among at c.graph.ids ≡ true → (is_id regs.root && is_id regs.father) ≡ false
+      → injected from_text c (SetTree at regs) ≡ Err BadValue
+  tree_bad at regs node bad = refused (SetTree at regs) BadValue (rw (node, bad) refl)
+
+  -- ---- local states
+
+  pub local_strange : (at : ℕ) (text : List ℕ) → is_among at c.graph.ids ≡ false → injected from_text c (SetLocal at text) ≡ Err StrangeNode
+  local_strange at text none = refused (SetLocal at text) StrangeNode (rw none refl)
+
+  pub local_lost : (at : ℕ) (text : List ℕ) → (IsNode c.graph at → ⊥) → injected from_text c (SetLocal at text) ≡ Err StrangeNode
+  local_lost at text none = local_strange at text (no_node c.graph.ids at none)
+
+  pub local_long : (at : ℕ) (text : List ℕ) → is_among at c.graph.ids ≡ true → 200 < length text
+      → injected from_text c (SetLocal at text) ≡ Err BadLocal
+  local_long at text node long = refused (SetLocal at text) BadLocal (rw (node, lt-ltb 200 (length text) long) refl)
+
+  pub local_bad : (at : ℕ) (text : List ℕ) → is_among at c.graph.ids ≡ true → length text ≤ 200 → from_text text ≡ None
+      → injected from_text c (SetLocal at text) ≡ Err BadLocal
+  local_bad at text node short bad = refused (SetLocal at text) BadLocal (rw (node, le-ltb 200 (length text) short, bad) refl)
+
+  pub local_put : (at : ℕ) (text : List ℕ) (local : L) (new : Configuration L) → is_among at c.graph.ids ≡ true
+      → length text ≤ 200 → from_text text ≡ Some local → new ≡ with_local c at local
+      → injected from_text c (SetLocal at text) ≡ Ok new
+  local_put at text local new node short read made =
+      allowed (SetLocal at text) new (rw (node, le-ltb 200 (length text) short, read) refl) (rw read made)
+
+-- ---- links
+
+-- the refusal for a fault of the topology
+abbrev told : TopoFault → FaultRefusal
+told (StrangeEnd n) = StrangeNode
+told (SelfLink n) = BadValue
+told TooManyLinks = BadValue
+told Doubled = LinkIsThere
+told Unlinked = NoSuchLink
+told (Disconnected n) = WouldDisconnect
+told f = NoMemory
+
+abbrev all_told : List (Bool × TopoFault) → List (Bool × FaultRefusal)
+all_told [] = []
+all_told (f ∷ fs) = (f.0, told f.1) ∷ all_told fs
+
+abbrev told_or : Option TopoFault → Option FaultRefusal → Option FaultRefusal
+told_or (Some f) o = Some (told f)
+told_or None o = o
+
+first_told : (fs : List (Bool × TopoFault)) (more : List (Bool × FaultRefusal))
+    → first_of (all_told fs ++ more) ≡ told_or (first_of fs) (first_of more)
+first_told [] more = refl
+first_told ((true, f) ∷ fs) more = refl
+first_told ((false, f) ∷ fs) more = first_told fs more
+
+abbrev up_faults : Graph → ℕ → ℕ → List (Bool × TopoFault)
+up_faults g a b = strange_ends g.ids a b ++ (a == b, SelfLink a) ∷ (are_linked g a b, Doubled) ∷ (is_full g, TooManyLinks) ∷ []
+
+abbrev down_faults : Graph → ℕ → ℕ → List (Bool × TopoFault)
+down_faults g a b = strange_ends g.ids a b ++ (not (are_linked g a b), Unlinked) ∷ []
+
+abbrev is_memory : TopoFault → Bool
+is_memory WantOfMemory = true
+is_memory f = false
+
+other_fault : (f : TopoFault) → is_memory f ≡ false → f ≢ WantOfMemory
+other_fault f is e = true≢false (sym (ap is_memory e) ∙ is)
+
+module _ {L : Type 0} (from_text : List ℕ → Option L) (c : Configuration L) (a b : ℕ) where
+  pub up_refused : (g : Graph) (f : TopoFault) → g ≡ c.graph → is_memory f ≡ false → (f ≢ WantOfMemory → link_fault g a b ≡ Some f)
+      → injected from_text c (LinkUp a b) ≡ Err (told f)
+  up_refused g f same other is =
+      refused from_text c (LinkUp a b) (told f)
+      (first_told (up_faults c.graph a b) [] ∙ ap (λ o. told_or o None) (ap (λ h. link_fault h a b) (sym same) ∙ is (other_fault f other)))
+
+  pub up_put : (g changed : Graph) (new : Configuration L) → g ≡ c.graph → link_fault g a b ≡ None → changed ≡ with_link g a b
+      → new ≡ with_graph c changed → injected from_text c (LinkUp a b) ≡ Ok new
+  up_put g changed new same is linked made =
+      let whole : changed ≡ with_link c.graph a b = linked ∙ ap (λ h. with_link h a b) same in
+      allowed from_text c (LinkUp a b) new
+      (first_told (up_faults c.graph a b) [] ∙ ap (λ o. told_or o None) (ap (λ h. link_fault h a b) (sym same) ∙ is))
+      (made ∙ ap (λ h. with_graph c h) whole)
+
+  abbrev cut : List (Bool × FaultRefusal)
+  cut = (not (is_connected (without_link c.graph a b)), WouldDisconnect) ∷ []
+
+  down_first : (o : Option TopoFault) → unlink_fault c.graph a b ≡ o → first_of (refusals from_text c (LinkDown a b)) ≡ told_or o (first_of cut)
+  down_first o is = first_told (down_faults c.graph a b) cut ∙ ap (λ p. told_or p (first_of cut)) is
+
+  pub down_refused : (g : Graph) (f : TopoFault) → g ≡ c.graph → is_memory f ≡ false → (f ≢ WantOfMemory → unlink_fault g a b ≡ Some f)
+      → injected from_text c (LinkDown a b) ≡ Err (told f)
+  down_refused g f same other is =
+      refused from_text c (LinkDown a b) (told f)
+      (down_first (Some f) (ap (λ h. unlink_fault h a b) (sym same) ∙ is (other_fault f other)))
+
+  abbrev first_cut : (connected : Bool) → connected ≡ false → first_of ((not connected, WouldDisconnect) ∷ []) ≡ Some WouldDisconnect
+  first_cut false e = refl
+  first_cut true e = absurd (true≢false e)
+
+  abbrev no_cut : (connected : Bool) → connected ≡ true → first_of ((not connected, WouldDisconnect) ∷ []) ≡ None
+  no_cut true e = refl
+  no_cut false e = absurd (true≢false (sym e))
+
+  pub down_apart : (g : Graph) (n : ℕ) → g ≡ c.graph
+      → (Disconnected n ≢ WantOfMemory → (unlink_fault g a b ≡ None) × IsCutOff (without_link g a b) n)
+      → injected from_text c (LinkDown a b) ≡ Err WouldDisconnect
+  down_apart g n same is =
+      let told = is (other_fault (Disconnected n) refl) in
+      let off : IsCutOff (without_link c.graph a b) n = subst (λ h. IsCutOff (without_link h a b) n) same told.1 in
+      refused from_text c (LinkDown a b) WouldDisconnect
+      (down_first None (ap (λ h. unlink_fault h a b) (sym same) ∙ told.0)
+      ∙ first_cut (is_connected (without_link c.graph a b)) (apart (without_link c.graph a b) n off))
+
+  pub down_put : (g changed : Graph) (new : Configuration L) → g ≡ c.graph → unlink_fault g a b ≡ None → changed ≡ without_link g a b
+      → is_connected changed ≡ true → new ≡ with_graph c changed → injected from_text c (LinkDown a b) ≡ Ok new
+  down_put g changed new same is unlinked whole made =
+      let gone : changed ≡ without_link c.graph a b = unlinked ∙ ap (λ h. without_link h a b) same in
+      allowed from_text c (LinkDown a b) new
+      (down_first None (ap (λ h. unlink_fault h a b) (sym same) ∙ is)
+      ∙ no_cut (is_connected (without_link c.graph a b)) (ap is_connected (sym gone) ∙ whole))
+      (made ∙ ap (λ h. with_graph c h) gone)
+
+  -- where the topology was put, or memory was wanting
+  pub put_or_not : {A : Type 0} (f : Fault) (r : Result A FaultRefusal) (g : Graph) (new : Configuration L) → OnOk r (new ≡ with_graph c g)
+      → IfErr r (λ e. e ≡ NoMemory) → (new ≡ with_graph c g → injected from_text c f ≡ Ok new)
+      → MatchResult r (λ _. injected from_text c f ≡ Ok new) (λ e. e ≢ NoMemory → injected from_text c f ≡ Err e)
+  put_or_not f (Ok x) g new ok err to = to ok
+  put_or_not f (Err e) g new ok err to = λ other. absurd (other err)

@@ -1,0 +1,21 @@
+// Why a configuration can't have a fault.
+
+/// The first reason, in this order, why a configuration can't have a fault.
+#[derive(Clone, Copy, Debug, PartialEq, Eq)]
+pub enum FaultRefusal {
+    /// The node, or an end of the link, isn't there.
+    StrangeNode,
+    /// A root or a father isn't from 1 to 65,535, or a link can't come up: it would lead from a node to
+    /// itself, or be one more than 8,192.
+    BadValue,
+    /// The text has more than 200 bytes, or no local state has it.
+    BadLocal,
+    /// There is no such link to go down.
+    NoSuchLink,
+    /// The link that would come up is there.
+    LinkIsThere,
+    /// Without the link some node couldn't be reached.
+    WouldDisconnect,
+    /// Memory is wanting.
+    NoMemory,
+}

@@ -1,0 +1,111 @@
+// What faults do to a configuration.
+
+use app_interface::Idle;
+use fault_inject::{FaultRefusal, inject, read_fault};
+use reset_machine::Config;
+use std::alloc::Global;
+use std::process::Abort;
+use std::test::Fail;
+use topology::Topology;
+use tree_layer::TreeRegs;
+use wave_layer::{Phase, WaveRegs};
+
+// The booted network of the nodes 1, 2, 3 with these links.
+fn booted(rt: &impl Abort, alloc: Global, links: &[(u32, u32)]) -> Config<Idle> {
+    let topology = Topology::build(alloc, &[1, 2, 3], links).expect(rt, "a graph");
+    match Config::<Idle>::boot(alloc, topology) {
+        Ok(config) => config,
+        Err(_) => panic!(rt; "memory for the graph"),
+    }
+}
+
+// Does the fault of the line.
+fn do_line(
+    rt: &impl Abort,
+    alloc: Global,
+    config: &mut Config<Idle>,
+    line: &[u8],
+) -> Result<Result<(), FaultRefusal>, Fail> {
+    match read_fault(alloc, line)? {
+        Some(fault) => Ok(inject(alloc, config, &fault)),
+        None => panic!(rt; "no fault"),
+    }
+}
+
+#[test]
+fn refuses_what_cant_be_done(rt: HostRuntime) -> Result<(), Fail> {
+    for (line, refusal) in [
+        (b"fault down 1 2".as_slice(), FaultRefusal::WouldDisconnect),
+        (b"fault down 1 3".as_slice(), FaultRefusal::NoSuchLink),
+        (b"fault down 1 4".as_slice(), FaultRefusal::StrangeNode),
+        (b"fault up 1 2".as_slice(), FaultRefusal::LinkIsThere),
+        (b"fault up 1 1".as_slice(), FaultRefusal::BadValue),
+        (b"fault up 4 4".as_slice(), FaultRefusal::StrangeNode),
+        (
+            b"fault wave 9 normal 0".as_slice(),
+            FaultRefusal::StrangeNode,
+        ),
+        (b"fault tree 9 0 0 0".as_slice(), FaultRefusal::StrangeNode),
+        (b"fault tree 1 0 1 0".as_slice(), FaultRefusal::BadValue),
+        (b"fault tree 1 1 0 0".as_slice(), FaultRefusal::BadValue),
+        (b"fault tree 1 1 65536 0".as_slice(), FaultRefusal::BadValue),
+        (b"fault local 1 x".as_slice(), FaultRefusal::BadLocal),
+        (b"fault local 9 x".as_slice(), FaultRefusal::StrangeNode),
+    ] {
+        let mut config = booted(&rt, rt.alloc(), &[(1, 2), (2, 3)]);
+        assert_eq!(rt; do_line(&rt, rt.alloc(), &mut config, line)?, Err(refusal));
+        assert_eq!(rt; config.topology().link_count(), 2);
+    }
+    Ok(())
+}
+
+#[test]
+fn writes_registers_and_local_states(rt: HostRuntime) -> Result<(), Fail> {
+    let mut config = booted(&rt, rt.alloc(), &[(1, 2), (2, 3)]);
+    let others = [config.tree_at(1), config.tree_at(3)];
+    let done = do_line(
+        &rt,
+        rt.alloc(),
+        &mut config,
+        b"fault tree 2 65535 9 4294967295",
+    )?;
+    assert_eq!(rt; done, Ok(()));
+    let tree = TreeRegs {
+        root: 65_535,
+        father: 9,
+        dist: 4_294_967_295,
+    };
+    assert_eq!(rt; config.tree_at(2), Some(tree));
+    assert_eq!(rt; [config.tree_at(1), config.tree_at(3)], others);
+
+    let others = [config.wave_at(1), config.wave_at(2)];
+    let done = do_line(&rt, rt.alloc(), &mut config, b"fault wave 3 reset 7")?;
+    assert_eq!(rt; done, Ok(()));
+    let wave = WaveRegs {
+        phase: Phase::Reset,
+        session: 7,
+    };
+    assert_eq!(rt; config.wave_at(3), Some(wave));
+    assert_eq!(rt; [config.wave_at(1), config.wave_at(2)], others);
+
+    let done = do_line(&rt, rt.alloc(), &mut config, b"fault local 1 -")?;
+    assert_eq!(rt; done, Ok(()));
+    assert_eq!(rt; config.topology().link_count(), 2);
+    Ok(())
+}
+
+#[test]
+fn takes_links_out_and_puts_them_in(rt: HostRuntime) -> Result<(), Fail> {
+    let mut config = booted(&rt, rt.alloc(), &[(1, 2), (2, 3), (1, 3)]);
+    let done = do_line(&rt, rt.alloc(), &mut config, b"fault down 3 1")?;
+    assert_eq!(rt; done, Ok(()));
+    assert!(rt; !config.topology().linked(1, 3));
+    assert!(rt; config.topology().linked(1, 2));
+    assert!(rt; config.topology().linked(2, 3));
+
+    let done = do_line(&rt, rt.alloc(), &mut config, b"fault up 1 3")?;
+    assert_eq!(rt; done, Ok(()));
+    assert!(rt; config.topology().linked(3, 1));
+    assert_eq!(rt; config.topology().link_count(), 3);
+    Ok(())
+}
