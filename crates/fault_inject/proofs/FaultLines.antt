@@ -8,9 +8,9 @@ use Rattle.tree_layer.specs.declared.regs.TreeRegs.{TreeRegs}
 use Rattle.wave_layer.specs.declared.regs.WaveRegs.{WaveRegs}
 use Rattle.wave_layer.specs.declared.regs.Phase.{Phase}
 use Rattle.wave_layer.specs.declared.regs.Phase.TheVariants.{Normal, Initiate, Reset}
-use Rattle.reset_machine.specs.Words.{words_of}
-use Rattle.reset_machine.proofs.EventLines.{one_found, same_number, words_of-decimal}
-use Rattle.reset_machine.proofs.WordLines.{IsWord-decimal, line-words, words_of-more, words_of-word}
+use Rattle.reset_model.specs.Words.{words_of}
+use Rattle.reset_model.proofs.EventLines.{one_found, same_number, words_of-decimal}
+use Rattle.reset_model.proofs.WordLines.{IsWord-decimal, line-words, words_of-more, words_of-word}
 use Rattle.fault_inject.specs.FaultText.{Fits, IsLocalFault, IsOneWord, IsReadOf, fault_line, fault_words}
 use Rattle.wave_layer.specs.Names.{phase_name}
 use Rattle.fault_inject.specs.declared.fault.Fault.{Fault}

@@ -16,8 +16,8 @@ use Rattle.topology.specs.declared.fault.TopoFault.TheVariants.{StrangeNode as S
 use Rattle.topology.proofs.Walks.{walk_on}
 use Rattle.tree_layer.specs.declared.regs.TreeRegs.{TreeRegs}
 use Rattle.wave_layer.specs.declared.regs.WaveRegs.{WaveRegs}
-use Rattle.reset_machine.specs.Configuration.{Configuration, with_graph, with_local, with_tree, with_wave}
-use Rattle.reset_machine.proofs.NodePlaces.{a_node, no_node}
+use Rattle.reset_model.specs.Configuration.{Configuration, with_graph, with_local, with_tree, with_wave}
+use Rattle.reset_model.proofs.NodePlaces.{a_node, no_node}
 use Rattle.fault_inject.specs.Effects.{damaged, injected, refusals}
 use Rattle.fault_inject.specs.declared.fault.Fault.{Fault}
 use Rattle.fault_inject.specs.declared.fault.Fault.TheVariants.{SetTree, SetWave, SetLocal, LinkDown, LinkUp}

@@ -6,7 +6,7 @@ use Rattle.app_interface.specs.Ids.{is_id}
 use Rattle.topology.specs.Changing.{first_of, is_full, with_link, without_link}
 use Rattle.topology.specs.Graph.{are_linked}
 use Rattle.topology.specs.Reaching.{is_connected}
-use Rattle.reset_machine.specs.Configuration.{Configuration, with_graph, with_local, with_tree, with_wave}
+use Rattle.reset_model.specs.Configuration.{Configuration, with_graph, with_local, with_tree, with_wave}
 use Rattle.fault_inject.specs.declared.fault.Fault.{Fault}
 use Rattle.fault_inject.specs.declared.fault.Fault.TheVariants.{SetTree, SetWave, SetLocal, LinkDown, LinkUp}
 use Rattle.fault_inject.specs.declared.refusal.FaultRefusal.{FaultRefusal}

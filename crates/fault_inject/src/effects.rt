@@ -3,7 +3,7 @@
 ghost use Rattle.std.specs.Prelude.{◌≡◌, ◌≢◌, ◌&&◌, Ok, Err, IfErr, MatchResult, OnErr, OnOk};
 ghost use Rattle.action_tables.specs.Numbers.{is_among};
 ghost use Rattle.app_interface.specs.Ids.{is_id};
-ghost use Rattle.reset_machine.specs.Configuration.{with_graph};
+ghost use Rattle.reset_model.specs.Configuration.{with_graph};
 ghost use Rattle.fault_inject.specs.Effects.{injected};
 ghost use Rattle.fault_inject.specs.declared.fault.Fault.TheVariants.{SetTree, SetWave, SetLocal, LinkDown, LinkUp};
 

@@ -5,7 +5,7 @@ ghost use Rattle.std.specs.Prelude.{IfNone, IfOk, IfSome, IsTrue, OnErr, OnOk};
 ghost use Rattle.std.specs.Fmt.{decimal};
 ghost use Rattle.std.specs.Io.KnownBytes.{Appends};
 ghost use Rattle.action_tables.specs.Written.{AppendsFront};
-ghost use Rattle.reset_machine.specs.Words.{words_of};
+ghost use Rattle.reset_model.specs.Words.{words_of};
 ghost use Rattle.fault_inject.specs.declared.fault.Fault.{Fault};
 ghost use Rattle.fault_inject.specs.declared.fault.Fault.TheVariants.{SetTree, SetWave};
 ghost use Rattle.fault_inject.specs.FaultText.{Fits, IsLocalFault, IsOneWord, IsReadOf, fault_line};

@@ -8,9 +8,9 @@ use Rattle.tree_layer.specs.declared.regs.TreeRegs.{TreeRegs}
 use Rattle.tree_layer.specs.declared.regs.TreeRefusal.TheVariants.{NotEnabled}
 use Rattle.wave_layer.specs.declared.regs.WaveRegs.{WaveRegs}
 use Rattle.wave_layer.specs.declared.regs.Phase.TheVariants.{Normal}
-use Rattle.reset_machine.specs.LocalSteps.{tree_answer}
-use Rattle.reset_machine.specs.declared.plan.Fired.{Fired}
-use Rattle.reset_machine.specs.declared.step.StepRefusal.{StepRefusal}
+use Rattle.reset_model.specs.LocalSteps.{tree_answer}
+use Rattle.reset_model.specs.declared.plan.Fired.{Fired}
+use Rattle.reset_model.specs.declared.step.StepRefusal.{StepRefusal}
 use Rattle.link_predicates.specs.Faults.{first_enabled}
 
 and_true : (b : Bool) → (b && true) ≡ b

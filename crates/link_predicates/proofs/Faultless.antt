@@ -13,9 +13,9 @@ use Rattle.tree_layer.specs.declared.regs.TreeRegs.{TreeRegs}
 use Rattle.tree_layer.specs.TreeRows.{Adopts, Follows, IsFather, adopt_root, adopt_short, follow_dist, follow_root}
 use Rattle.wave_layer.specs.declared.regs.WaveRegs.{WaveRegs}
 use Rattle.wave_layer.specs.WaveTable.{WaveHolds}
-use Rattle.reset_machine.specs.Configuration.{Configuration, tree_of, wave_of}
-use Rattle.reset_machine.specs.Sound.{IsSound}
-use Rattle.reset_machine.specs.View.{near_of}
+use Rattle.reset_model.specs.Configuration.{Configuration, tree_of, wave_of}
+use Rattle.reset_model.specs.Sound.{IsSound}
+use Rattle.reset_model.specs.View.{near_of}
 use Rattle.link_predicates.specs.Faults.{app_row, fault_of, faults, is_of_app, link_faults, mending_row, node_faults, own_row, tree_row, wave_row}
 use Rattle.link_predicates.specs.declared.fault.Family.TheVariants.{Tree, Wave, App as OfApp}
 use Rattle.link_predicates.specs.declared.fault.LinkFault.{LinkFault}

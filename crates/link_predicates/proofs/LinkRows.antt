@@ -10,11 +10,11 @@ use Rattle.wave_layer.specs.declared.regs.WaveRegs.{WaveRegs}
 use Rattle.wave_layer.specs.declared.regs.FatherSeen.TheVariants.{Is}
 use Rattle.wave_layer.specs.WaveTable as wave
 use Rattle.wave_layer.specs.WaveTable.{WaveHolds, is_reset, next_session, wave_table}
-use Rattle.reset_machine.specs.LocalSteps.{or_next, tree_answer, tree_view_of}
-use Rattle.reset_machine.specs.declared.plan.Fired.{Fired}
-use Rattle.reset_machine.specs.declared.step.StepRefusal.{StepRefusal}
-use Rattle.reset_machine.specs.declared.step.StepRefusal.TheVariants.{NotEnabled}
-use Rattle.reset_machine.proofs.TreePlans.{IsTreeAnswer, adopt_is, near_some}
+use Rattle.reset_model.specs.LocalSteps.{or_next, tree_answer, tree_view_of}
+use Rattle.reset_model.specs.declared.plan.Fired.{Fired}
+use Rattle.reset_model.specs.declared.step.StepRefusal.{StepRefusal}
+use Rattle.reset_model.specs.declared.step.StepRefusal.TheVariants.{NotEnabled}
+use Rattle.reset_model.proofs.TreePlans.{IsTreeAnswer, adopt_is, near_some}
 use Rattle.link_predicates.specs.Faults.{first_enabled, mending_row}
 use Rattle.link_predicates.proofs.EnabledRows.{Eq, Lt, Tells, answer_if, first_by, first_of, no_wave, row_holds}
 

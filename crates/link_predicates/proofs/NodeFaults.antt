@@ -7,10 +7,10 @@ use Rattle.std.proofs.lemmas.List.Folds.{find-append}
 use Rattle.std.proofs.lemmas.List.Quantifiers.{position-Some}
 use Rattle.app_interface.specs.Application.{App}
 use Rattle.topology.specs.Graph.{neighbours_of}
-use Rattle.reset_machine.specs.Configuration.{Configuration}
+use Rattle.reset_model.specs.Configuration.{Configuration}
 use Rattle.reset_machine.proofs.NearSeen.{at_indexes, one_more}
-use Rattle.reset_machine.proofs.Places.{Contains-position, id_at-position, position-Contains}
-use Rattle.reset_machine.specs.View.{Neighbour, near_of}
+use Rattle.reset_model.proofs.Places.{Contains-position, id_at-position, position-Contains}
+use Rattle.reset_model.specs.View.{Neighbour, near_of}
 use Rattle.link_predicates.specs.Faults.{alarm_of, app_row, fault_of, is_of_app, link_faults, own_row, tree_row, wave_row}
 use Rattle.link_predicates.specs.declared.fault.Family.TheVariants.{Tree, Wave, App as OfApp}
 use Rattle.link_predicates.specs.declared.fault.LinkFault.{LinkFault}

@@ -8,11 +8,11 @@ use Rattle.topology.specs.Graph.{Graph, IsGraph, are_linked, neighbours_of}
 use Rattle.tree_layer.specs.declared.regs.TreeRegs.{TreeRegs}
 use Rattle.tree_layer.specs.TreeRows.{Claims, claimed}
 use Rattle.tree_layer.specs.TreeTable.{LocalView, father_passes, tree_table}
-use Rattle.reset_machine.proofs.TreePlans.{IsTreeAnswer, claim_is, near_regs-linked}
-use Rattle.reset_machine.specs.LocalSteps.{or_next}
-use Rattle.reset_machine.specs.declared.step.StepRefusal.TheVariants.{NotEnabled}
-use Rattle.reset_machine.specs.Configuration.{Configuration, tree_of}
-use Rattle.reset_machine.specs.View.{Neighbour, near_of}
+use Rattle.reset_model.proofs.TreePlans.{IsTreeAnswer, claim_is, near_regs-linked}
+use Rattle.reset_model.specs.LocalSteps.{or_next}
+use Rattle.reset_model.specs.declared.step.StepRefusal.TheVariants.{NotEnabled}
+use Rattle.reset_model.specs.Configuration.{Configuration, tree_of}
+use Rattle.reset_model.specs.View.{Neighbour, near_of}
 use Rattle.link_predicates.specs.Faults.{first_enabled, own_row}
 use Rattle.link_predicates.proofs.EnabledRows.{Tells, answer_if, first_by, first_of, no_wave, row_holds}
 

@@ -6,7 +6,7 @@ use Rattle.std.proofs.lemmas.Option.{none-some}
 use Rattle.action_tables.specs.Table.{enabled_of}
 use Rattle.tree_layer.specs.declared.regs.TreeRegs.{TreeRegs}
 use Rattle.tree_layer.specs.TreeTable.{LocalView, tree_table}
-use Rattle.reset_machine.specs.View.{Neighbour}
+use Rattle.reset_model.specs.View.{Neighbour}
 use Rattle.link_predicates.specs.Faults.{first_enabled, mending_row, tree_row, wave_row}
 use Rattle.link_predicates.proofs.EnabledRows.{Eq, Lt, first_by, first_of, row_holds}
 use Rattle.link_predicates.proofs.LinkRows.{first_of_two}

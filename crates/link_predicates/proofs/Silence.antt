@@ -6,10 +6,10 @@ use Rattle.std.proofs.lemmas.Bool.Decides.{eqb_tells}
 use Rattle.std.proofs.lemmas.List.Folds.{find-append}
 use Rattle.app_interface.specs.Application.{App}
 use Rattle.topology.specs.Graph.{AreLinked, are_linked, neighbours_of}
-use Rattle.reset_machine.specs.Configuration.{Configuration, local_of, wave_of}
-use Rattle.reset_machine.specs.Refinement.{abstract_of}
-use Rattle.reset_machine.specs.View.{near_of}
-use Rattle.reset_machine.specs.WavePicture.{HasJoined}
+use Rattle.reset_model.specs.Configuration.{Configuration, local_of, wave_of}
+use Rattle.reset_model.specs.Refinement.{abstract_of}
+use Rattle.reset_model.specs.View.{near_of}
+use Rattle.reset_model.specs.WavePicture.{HasJoined}
 use Rattle.link_predicates.specs.Faults.{alarm_of, app_row, is_of_app, link_faults, own_row}
 use Rattle.link_predicates.specs.declared.fault.Family.TheVariants.{App as OfApp}
 use Rattle.link_predicates.proofs.NodeFaults.{app_alone, none_of_own}

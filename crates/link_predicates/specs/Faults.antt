@@ -10,9 +10,9 @@ use Rattle.tree_layer.specs.TreeTable as tree
 use Rattle.wave_layer.specs.WaveTable.{wave_table}
 use Rattle.wave_layer.specs.declared.regs.WaveRegs.{WaveRegs}
 use Rattle.wave_layer.specs.declared.regs.FatherSeen.TheVariants.{Is}
-use Rattle.reset_machine.specs.Configuration.{Configuration}
+use Rattle.reset_model.specs.Configuration.{Configuration}
 use Rattle.reset_machine.specs.Enabled.{enabled_trees}
-use Rattle.reset_machine.specs.View.{Neighbour, near_of}
+use Rattle.reset_model.specs.View.{Neighbour, near_of}
 use Rattle.link_predicates.specs.declared.fault.Family.{Family}
 use Rattle.link_predicates.specs.declared.fault.Family.TheVariants.{Tree, Wave, App as OfApp}
 use Rattle.link_predicates.specs.declared.fault.LinkFault.{LinkFault}

@@ -2,7 +2,7 @@
 
 ghost use Rattle.std.specs.Prelude.{◌≡◌, ◌≢◌, ◌<◌, ◌++◌, None, Some, IfErr, IfNone, IfOk, IfSome, OnOk, find, flat_map, length, map, slice_index};
 ghost use Rattle.topology.specs.Graph.{IsNode, neighbours_of};
-ghost use Rattle.reset_machine.specs.View.{near_of};
+ghost use Rattle.reset_model.specs.View.{near_of};
 ghost use Rattle.link_predicates.specs.Faults.{alarm_of, app_row, fault_of, faults, is_of_app, link_faults, node_faults, own_row};
 ghost use Rattle.link_predicates.specs.declared.fault.Family.TheVariants.{Tree};
 

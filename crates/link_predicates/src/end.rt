@@ -1,7 +1,7 @@
 // One end of a link.
 
 ghost use Rattle.std.specs.Prelude.{◌≡◌, ◌<◌, length, slice_index};
-ghost use Rattle.reset_machine.specs.View.{near_of};
+ghost use Rattle.reset_model.specs.View.{near_of};
 
 use app_interface::Application;
 use reset_machine::Config;
@@ -19,7 +19,7 @@ pub(crate) struct End<'a, P: Application> {
 }
 
 impl<'a, P: Application> Model for End<'a, P> {
-    ghost use Rattle.reset_machine.specs.View.{Neighbour};
+    ghost use Rattle.reset_model.specs.View.{Neighbour};
 
     ghost Value = { Neighbour P.Local };
 

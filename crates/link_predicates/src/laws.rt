@@ -3,14 +3,14 @@
 ghost use Rattle.std.specs.Prelude.{◌≡◌, ◌<◌, ◌↔◌, ℕ, List, None};
 ghost use Rattle.topology.specs.Graph.{IsConnected, IsGraph};
 ghost use Rattle.tree_layer.specs.TreePicture.{TreePicture};
-ghost use Rattle.reset_machine.specs.Completion.{applied, is_open, times};
-ghost use Rattle.reset_machine.specs.Configuration.{Configuration, IsShaped, tree_of, wave_of};
-ghost use Rattle.reset_machine.specs.Refinement.{abstract_of};
-ghost use Rattle.reset_machine.specs.Runs.{IsRun};
-ghost use Rattle.reset_machine.specs.Sound.{IsSound};
-ghost use Rattle.reset_machine.specs.WavePicture.{HasJoined, WavePicture};
-ghost use Rattle.reset_machine.specs.declared.event.Event.{Event};
-ghost use Rattle.reset_machine.specs.declared.step.Done.{Done};
+ghost use Rattle.reset_model.specs.Completion.{applied, is_open, times};
+ghost use Rattle.reset_model.specs.Configuration.{Configuration, IsShaped, tree_of, wave_of};
+ghost use Rattle.reset_model.specs.Refinement.{abstract_of};
+ghost use Rattle.reset_model.specs.Runs.{IsRun};
+ghost use Rattle.reset_model.specs.Sound.{IsSound};
+ghost use Rattle.reset_model.specs.WavePicture.{HasJoined, WavePicture};
+ghost use Rattle.reset_model.specs.declared.event.Event.{Event};
+ghost use Rattle.reset_model.specs.declared.step.Done.{Done};
 ghost use Rattle.link_predicates.specs.Faults.{AreOfApp, alarm_of, faults};
 
 use app_interface::Application;

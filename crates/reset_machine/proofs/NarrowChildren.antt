@@ -6,9 +6,9 @@ use Rattle.topology.specs.Graph.{Graph, are_linked}
 use Rattle.tree_layer.specs.declared.regs.TreeRegs.{TreeRegs}
 use Rattle.wave_layer.specs.declared.regs.WaveRegs.{WaveRegs}
 use Rattle.wave_layer.specs.WaveTable.{child_regs, children_done, is_done}
-use Rattle.reset_machine.specs.LocalSteps.{children_of}
+use Rattle.reset_model.specs.LocalSteps.{children_of}
 use Rattle.reset_machine.proofs.Children.{among-drop, children_among}
-use Rattle.reset_machine.proofs.Seen.{has-children_of, lookup-among}
+use Rattle.reset_model.proofs.Seen.{has-children_of, lookup-among}
 
 -- ---- the child that a relay names
 

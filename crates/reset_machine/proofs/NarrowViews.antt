@@ -5,15 +5,15 @@ use Rattle.tree_layer.specs.declared.regs.TreeRegs.{TreeRegs}
 use Rattle.wave_layer.specs.declared.regs.WaveRegs.{WaveRegs}
 use Rattle.wave_layer.specs.declared.regs.FatherSeen.{FatherSeen}
 use Rattle.wave_layer.specs.WaveTable.{LocalView, is_root, children_done, child_regs}
-use Rattle.reset_machine.specs.declared.event.Event.{Event}
-use Rattle.reset_machine.specs.declared.event.Event.TheVariants.{Claim, Follow, Adopt, Request, Relay, Open, Join, Finish, Mend, Act}
-use Rattle.reset_machine.specs.declared.plan.Fired.{Fired}
-use Rattle.reset_machine.specs.declared.step.StepRefusal.{StepRefusal}
-use Rattle.reset_machine.specs.declared.plan.Seen.TheVariants.{Wave}
-use Rattle.reset_machine.specs.LocalSteps.{first_answer, cases_of, view_of}
+use Rattle.reset_model.specs.declared.event.Event.{Event}
+use Rattle.reset_model.specs.declared.event.Event.TheVariants.{Claim, Follow, Adopt, Request, Relay, Open, Join, Finish, Mend, Act}
+use Rattle.reset_model.specs.declared.plan.Fired.{Fired}
+use Rattle.reset_model.specs.declared.step.StepRefusal.{StepRefusal}
+use Rattle.reset_model.specs.declared.plan.Seen.TheVariants.{Wave}
+use Rattle.reset_model.specs.LocalSteps.{first_answer, cases_of, view_of}
 use Rattle.reset_machine.specs.NarrowViews.{FatherSuffices, ChildrenSuffice, Suffices}
-use Rattle.reset_machine.specs.Steps.{named_node, is_of_tree}
-use Rattle.reset_machine.proofs.Seen.{is_root-father_seen}
+use Rattle.reset_model.specs.Steps.{named_node, is_of_tree}
+use Rattle.reset_model.proofs.Seen.{is_root-father_seen}
 
 module _ (own : WaveRegs) (f f' : FatherSeen) (cs cs' : List (ℕ × WaveRegs)) where
   -- what the rows of an event answer on a view of these parts

@@ -1,10 +1,10 @@
 -- Runs that go on, event by event.
 use Rattle.std.proofs.Common.{◌≡◌, ℕ, zero, suc, ◌<◌, List, [], ◌∷◌, ◌++◌, length, take, slice_index_or, refl, sym, ap, ◌∙◌, ◌+◌, add-one, length-append, subst, arith}
 use Rattle.app_interface.specs.Application.{App}
-use Rattle.reset_machine.specs.declared.event.Event.{Event}
-use Rattle.reset_machine.specs.declared.step.Done.{Done}
-use Rattle.reset_machine.specs.Configuration.{Configuration}
-use Rattle.reset_machine.specs.Runs.{Answers, IsRun}
+use Rattle.reset_model.specs.declared.event.Event.{Event}
+use Rattle.reset_model.specs.declared.step.Done.{Done}
+use Rattle.reset_model.specs.Configuration.{Configuration}
+use Rattle.reset_model.specs.Runs.{Answers, IsRun}
 
 -- a run goes on by one more event
 pub IsRun-more : {L : Type 0} (app : App L) (c m c' : Configuration L) (es : List Event) (ds : List Done) (e : Event) (d : Done) → IsRun app c es ds m → Answers app m e d c' → IsRun app c (es ++ e ∷ []) (ds ++ d ∷ []) c'

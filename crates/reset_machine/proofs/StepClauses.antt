@@ -7,25 +7,25 @@ use Rattle.app_interface.specs.Application.{App}
 use Rattle.topology.specs.Graph.{Graph, IsConnected, IsGraph, node_bound}
 use Rattle.wave_layer.specs.declared.regs.WaveRegs.{WaveRegs}
 use Rattle.wave_layer.specs.declared.regs.WaveMove.{WaveMove}
-use Rattle.reset_machine.specs.declared.event.Event.{Event}
-use Rattle.reset_machine.specs.declared.event.Event.TheVariants.{Claim, Follow, Adopt, Request, Relay, Open, Join, Finish, Mend, Act}
-use Rattle.reset_machine.specs.declared.plan.Fired.TheVariants.{Wave}
-use Rattle.reset_machine.specs.declared.step.Reply.{Reply}
-use Rattle.reset_machine.specs.declared.step.Reply.TheVariants.{Complete}
-use Rattle.reset_machine.specs.declared.step.StepRefusal.{StepRefusal}
-use Rattle.reset_machine.specs.declared.step.StepRefusal.TheVariants.{NoMemory}
-use Rattle.reset_machine.specs.Configuration.{Configuration, IsShaped, put_at, start_list, tree_of, wave_of, with_locals, with_wave}
-use Rattle.reset_machine.specs.LocalSteps.{planned_of}
-use Rattle.reset_machine.specs.MachineSteps.{IsStep, IsRefused}
-use Rattle.reset_machine.specs.Outcome.{act_outcome, after_fired, fired_reply, restarted, row_outcome}
-use Rattle.reset_machine.specs.Planned.{outcome_of}
-use Rattle.reset_machine.specs.Sound.{IsComplete, IsSound, Repairs}
-use Rattle.reset_machine.specs.Steps.{event_node, is_act, reply_of}
-use Rattle.reset_machine.proofs.ConfigurationSteps.{outcome_is_step, outcome_is_refused, outcome-rows, put_wave_outcome}
-use Rattle.reset_machine.proofs.ViewedOutcomes.{outcome-is}
-use Rattle.reset_machine.proofs.Places.{id_at-position, put_at-position}
+use Rattle.reset_model.specs.declared.event.Event.{Event}
+use Rattle.reset_model.specs.declared.event.Event.TheVariants.{Claim, Follow, Adopt, Request, Relay, Open, Join, Finish, Mend, Act}
+use Rattle.reset_model.specs.declared.plan.Fired.TheVariants.{Wave}
+use Rattle.reset_model.specs.declared.step.Reply.{Reply}
+use Rattle.reset_model.specs.declared.step.Reply.TheVariants.{Complete}
+use Rattle.reset_model.specs.declared.step.StepRefusal.{StepRefusal}
+use Rattle.reset_model.specs.declared.step.StepRefusal.TheVariants.{NoMemory}
+use Rattle.reset_model.specs.Configuration.{Configuration, IsShaped, put_at, start_list, tree_of, wave_of, with_locals, with_wave}
+use Rattle.reset_model.specs.LocalSteps.{planned_of}
+use Rattle.reset_model.specs.MachineSteps.{IsStep, IsRefused}
+use Rattle.reset_model.specs.Outcome.{act_outcome, after_fired, fired_reply, restarted, row_outcome}
+use Rattle.reset_model.specs.Planned.{outcome_of}
+use Rattle.reset_model.specs.Sound.{IsComplete, IsSound, Repairs}
+use Rattle.reset_model.specs.Steps.{event_node, is_act, reply_of}
+use Rattle.reset_model.proofs.ConfigurationSteps.{outcome_is_step, outcome_is_refused, outcome-rows, put_wave_outcome}
+use Rattle.reset_model.proofs.ViewedOutcomes.{outcome-is}
+use Rattle.reset_model.proofs.Places.{id_at-position, put_at-position}
 use Rattle.reset_machine.proofs.RunLists.{take_more}
-use Rattle.reset_machine.proofs.SoundConfigurations.{step_complete, step_quiet, step_sound, same_value}
+use Rattle.reset_model.proofs.SoundConfigurations.{step_complete, step_quiet, step_sound, same_value}
 
 -- an event that isn't an action has rows
 pub no_act : (e : Event) → ((i case : ℕ) (with : Option ℕ) → e ≢ Act i case with) → is_act e ≡ false

@@ -2,17 +2,17 @@
 use Rattle.std.proofs.Common.{◌≡◌, ℕ, ◌<◌, true, List, [], ◌∷◌, append-nil, Result, Ok, Err, IfOk, refl, ap, subst, arith}
 use Rattle.app_interface.specs.Application.{App}
 use Rattle.topology.specs.Graph.{Graph, IsConnected, IsGraph, node_bound}
-use Rattle.reset_machine.specs.declared.event.Event.{Event}
-use Rattle.reset_machine.specs.declared.step.Done.TheVariants.{Did}
-use Rattle.reset_machine.specs.declared.step.Reply.{Reply}
-use Rattle.reset_machine.specs.declared.step.StepRefusal.{StepRefusal}
-use Rattle.reset_machine.specs.Completion.{applied, is_open, times}
-use Rattle.reset_machine.specs.Configuration.{Configuration, IsShaped}
-use Rattle.reset_machine.specs.Refinement.{AbstractStep, IsAbstractRun, abstract_of, shadow_of}
-use Rattle.reset_machine.specs.Runs.{IsRun}
-use Rattle.reset_machine.specs.Sound.{IsSound}
-use Rattle.reset_machine.specs.SoundSteps.{IsSoundStep}
-use Rattle.reset_machine.proofs.RunShadows.{run_shadow}
+use Rattle.reset_model.specs.declared.event.Event.{Event}
+use Rattle.reset_model.specs.declared.step.Done.TheVariants.{Did}
+use Rattle.reset_model.specs.declared.step.Reply.{Reply}
+use Rattle.reset_model.specs.declared.step.StepRefusal.{StepRefusal}
+use Rattle.reset_model.specs.Completion.{applied, is_open, times}
+use Rattle.reset_model.specs.Configuration.{Configuration, IsShaped}
+use Rattle.reset_model.specs.Refinement.{AbstractStep, IsAbstractRun, abstract_of, shadow_of}
+use Rattle.reset_model.specs.Runs.{IsRun}
+use Rattle.reset_model.specs.Sound.{IsSound}
+use Rattle.reset_model.specs.SoundSteps.{IsSoundStep}
+use Rattle.reset_model.proofs.RunShadows.{run_shadow}
 use Rattle.reset_machine.proofs.StepClauses.{IsOutcome, answer_complete, answer_quiet, answer_sound}
 
 module _ {L : Type 0} (app : App L) (c c' : Configuration L) (e : Event) where

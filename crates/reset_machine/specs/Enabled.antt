@@ -11,9 +11,9 @@ use Rattle.tree_layer.specs.TreeTable.{tree_table}
 use Rattle.wave_layer.specs.WaveTable.{wave_table}
 use Rattle.wave_layer.specs.declared.regs.WaveRegs.{WaveRegs}
 use Rattle.reset_machine.specs.declared.enabled.Enabled.{Enabled}
-use Rattle.reset_machine.specs.Actions.{fitted_of}
-use Rattle.reset_machine.specs.Configuration.{Configuration, tree_of, wave_of, local_of}
-use Rattle.reset_machine.specs.LocalSteps.{tree_view_of, view_of}
+use Rattle.reset_model.specs.Actions.{fitted_of}
+use Rattle.reset_model.specs.Configuration.{Configuration, tree_of, wave_of, local_of}
+use Rattle.reset_model.specs.LocalSteps.{tree_view_of, view_of}
 
 -- among these rows and cases is one of the tree table, one of the wave table other than the request,
 -- its row 1, or one of the application

@@ -4,12 +4,12 @@ use Rattle.app_interface.specs.Application.{App}
 use Rattle.topology.specs.Graph.{are_linked, neighbours_of, node_bound}
 use Rattle.tree_layer.specs.TreeTable as tree
 use Rattle.wave_layer.specs.WaveTable as wave
-use Rattle.reset_machine.specs.declared.event.Event.{Event}
-use Rattle.reset_machine.specs.declared.plan.Fired.{Fired}
-use Rattle.reset_machine.specs.declared.step.StepRefusal.{StepRefusal}
-use Rattle.reset_machine.specs.Actions.{fitted_of}
-use Rattle.reset_machine.specs.Configuration.{Configuration, local_of, tree_of, wave_of}
-use Rattle.reset_machine.specs.LocalSteps.{answer_of, tree_view_of, view_of}
+use Rattle.reset_model.specs.declared.event.Event.{Event}
+use Rattle.reset_model.specs.declared.plan.Fired.{Fired}
+use Rattle.reset_model.specs.declared.step.StepRefusal.{StepRefusal}
+use Rattle.reset_model.specs.Actions.{fitted_of}
+use Rattle.reset_model.specs.Configuration.{Configuration, local_of, tree_of, wave_of}
+use Rattle.reset_model.specs.LocalSteps.{answer_of, tree_view_of, view_of}
 
 pub record NodePlace (L : Type 0) : Type 0 where
   pub config : Configuration L

@@ -4,22 +4,15 @@ ghost use Rattle.std.specs.Prelude.{◌≡◌, ◌≢◌, ◌==◌, IfOk, MatchR
 ghost use Rattle.std.specs.Prelude.{Err, None, Ok, Some};
 ghost use Rattle.app_interface.specs.Views.{seen_values};
 ghost use Rattle.topology.specs.Graph.{node_bound};
-ghost use Rattle.reset_machine.specs.Actions.{acted_of, first_apart, misfit, reads_near};
-ghost use Rattle.reset_machine.specs.Configuration.{local_of, wave_of};
+ghost use Rattle.reset_model.specs.Actions.{acted_of, first_apart, misfit, reads_near};
+ghost use Rattle.reset_model.specs.Configuration.{local_of, wave_of};
 ghost use Rattle.reset_machine.specs.Place.{fitted_at, near_ids};
 
 use crate::config::Config;
 use crate::place::Place;
-use crate::step::StepRefusal;
-use app_interface::{Application, ClockRefusal, Here, Reads, Seen};
+use app_interface::{Application, Here, Reads, Seen};
+use reset_model::{Choice, StepRefusal, misfit, on_clock, reads_near};
 use std::alloc::{AllocError, Global};
-
-/// A case of the application, and the neighbour that is named with it.
-#[derive(Clone, Copy)]
-pub struct Choice {
-    pub case: u8,
-    pub with: Option<u32>,
-}
 
 /// The index of the node and the local state that the action leaves it, or the first refusal.
 pub fn acted<P: Application>(
@@ -88,24 +81,6 @@ pub fn is_taken<P: Application>(
     Ok(P::can(here(place), choice.case, choice.with, place.local(), &seen))
 }
 
-/// Takes the case, with what it reads.
-pub fn on_clock<P: Application>(
-    alloc: Global,
-    here: Here,
-    choice: Choice,
-    own: &P::Local,
-    seen: &[Seen<'_, P::Local>],
-) -> Result<P::Local, StepRefusal>
-    ensures exact { MatchResult result (λ local. P.app.next here.id here.k choice.case choice.with own.now (seen_values seen.now) ≡ Some local)
-        (λ f. f ≢ StepRefusal.NoMemory → (f ≡ StepRefusal.NotEnabled) × (P.app.next here.id here.k choice.case choice.with own.now (seen_values seen.now) ≡ None)) }
-{
-    match P::on_clock(alloc, here, choice.case, choice.with, own, seen) {
-        Ok(local) => Ok(local),
-        Err(ClockRefusal::NotEnabled) => Err(StepRefusal::NotEnabled),
-        Err(ClockRefusal::NoMemory) => Err(StepRefusal::NoMemory),
-    }
-}
-
 // The node, with the bound K.
 fn here<P: Application>(place: &Place<'_, P>) -> Here
     ensures id { result.id ≡ place.now.id }
@@ -114,34 +89,6 @@ fn here<P: Application>(place: &Place<'_, P>) -> Here
     Here {
         id: place.id(),
         k: place.bound(),
-    }
-}
-
-/// Why the choice doesn't fit what the case reads, if it doesn't.
-pub fn misfit(reads: Option<Reads>, with: Option<u32>) -> Option<StepRefusal>
-    ensures { result ≡ misfit reads with }
-{
-    match reads {
-        None => Some(StepRefusal::NoSuchCase),
-        Some(Reads::Toward | Reads::One) => match with {
-            None => Some(StepRefusal::WantsNeighbour),
-            Some(_) => None,
-        },
-        Some(Reads::Alone | Reads::All) => match with {
-            None => None,
-            Some(_) => Some(StepRefusal::TakesNoNeighbour),
-        },
-    }
-}
-
-/// Whether the case reads this neighbour.
-pub fn reads_near(reads: Option<Reads>, with: Option<u32>, near: u32) -> bool
-    ensures { result ≡ reads_near reads with near }
-{
-    match reads {
-        Some(Reads::All) => true,
-        Some(Reads::One) => with == Some(near),
-        Some(Reads::Alone | Reads::Toward) | None => false,
     }
 }
 

@@ -2,20 +2,21 @@
 
 ghost use Rattle.std.specs.Prelude.{◌≡◌, ◌≢◌, ◌↔◌, IsTrue, ℕ, ◌<◌, true, ◌==◌, position, Some, IfOk, IfErr, IfSome, IfNone, OnOk, OnErr, MatchResult, Ok, Err};
 ghost use Rattle.topology.specs.Graph.{IsConnected, IsGraph, IsNode, greatest, node_bound};
-ghost use Rattle.reset_machine.specs.Configuration.{IsShaped, start_list};
-ghost use Rattle.reset_machine.specs.Outcome.{after_fired, fired_reply};
-ghost use Rattle.reset_machine.specs.declared.plan.Fired.TheVariants.{Wave};
+ghost use Rattle.reset_model.specs.Configuration.{IsShaped, start_list};
+ghost use Rattle.reset_model.specs.Outcome.{after_fired, fired_reply};
+ghost use Rattle.reset_model.specs.declared.plan.Fired.TheVariants.{Wave};
 
-use crate::action::{Choice, acted};
+use crate::action::acted;
 use crate::enabled::{Enabled, enabled_at, ready_ids};
-use crate::event::Event;
-use crate::node_view::{View, read_view};
+use crate::node_view::{is_of, read_view};
 use crate::place::Place;
-use crate::plan::{Effect, Fired, planned};
-use crate::run_laws::{completions, invariants, refinement};
-use crate::step::{Done, Reply, StepRefusal, reply_to};
-use crate::view_plan::Plan;
+use crate::plan::planned;
 use app_interface::Application;
+use reset_model::plan::{Effect, Fired};
+use reset_model::{
+    Choice, Done, Event, Plan, Reply, StepRefusal, View, completions, invariants, refinement,
+    reply_to,
+};
 use std::alloc::{AllocError, AllocFailed, Global};
 use std::marker::Model;
 use topology::Topology;
@@ -36,7 +37,7 @@ pub struct Config<P: Application> {
 
 impl<P: Application> Model for Config<P> {
     ghost use Rattle.std.specs.Prelude.{◌≡◌};
-    ghost use Rattle.reset_machine.specs.Configuration.{Configuration, IsShaped, start_list};
+    ghost use Rattle.reset_model.specs.Configuration.{Configuration, IsShaped, start_list};
 
     ghost Value = { Configuration P.Local };
 
@@ -53,18 +54,18 @@ impl<P: Application> Model for Config<P> {
 }
 
 impl<P: Application> Config<P> {
-    ghost use Rattle.reset_machine.specs.Configuration.{local_of, tree_of, wave_of};
-    ghost use Rattle.reset_machine.specs.Configuration.{with_graph, with_local, with_tree, with_wave};
+    ghost use Rattle.reset_model.specs.Configuration.{local_of, tree_of, wave_of};
+    ghost use Rattle.reset_model.specs.Configuration.{with_graph, with_local, with_tree, with_wave};
     ghost use Rattle.reset_machine.specs.Enabled.{enabled_rows, ready_of};
-    ghost use Rattle.reset_machine.specs.MachineSteps.{IsStep, IsRefused};
-    ghost use Rattle.reset_machine.specs.Runs.{Answers, IsRun};
-    ghost use Rattle.reset_machine.specs.Steps.{reply_of};
-    ghost use Rattle.reset_machine.specs.Outcome.{IsBoot, act_outcome, row_outcome};
-    ghost use Rattle.reset_machine.specs.Planned.{after_effect, outcome_of};
-    ghost use Rattle.reset_machine.specs.View.{IsSeen, view_of};
-    ghost use Rattle.reset_machine.specs.Sound.{IsSound};
-    ghost use Rattle.reset_machine.specs.SoundSteps.{IsSoundRun, IsSoundStep};
-    ghost use Rattle.reset_machine.specs.WavePicture.{HasJoined, WavePicture};
+    ghost use Rattle.reset_model.specs.MachineSteps.{IsStep, IsRefused};
+    ghost use Rattle.reset_model.specs.Runs.{Answers, IsRun};
+    ghost use Rattle.reset_model.specs.Steps.{reply_of};
+    ghost use Rattle.reset_model.specs.Outcome.{IsBoot, act_outcome, row_outcome};
+    ghost use Rattle.reset_model.specs.Planned.{after_effect, outcome_of};
+    ghost use Rattle.reset_model.specs.View.{IsSeen, view_of};
+    ghost use Rattle.reset_model.specs.Sound.{IsSound};
+    ghost use Rattle.reset_model.specs.SoundSteps.{IsSoundRun, IsSoundStep};
+    ghost use Rattle.reset_model.specs.WavePicture.{HasJoined, WavePicture};
     ghost use Rattle.tree_layer.specs.TreePicture.{TreePicture};
 
     /// The configuration in which each node has its place in the tree of shortest ways to the
@@ -348,7 +349,7 @@ impl<P: Application> Config<P> {
         ensures unseen { IfNone result (IsSeen P.app self.now view.now → ⊥) }
     {
         let place = Place::of(self, view.id())?;
-        if view.is_of(&place) {
+        if is_of(view, &place) {
             Some(place.index())
         } else {
             None

@@ -7,12 +7,12 @@ ghost use Rattle.std.specs.Option.{option_to_list};
 ghost use Rattle.wave_layer.specs.WaveTable.{child_regs, children_done};
 ghost use Rattle.reset_machine.specs.NarrowViews.{ChildrenSuffice, FatherSuffices, Suffices};
 ghost use Rattle.reset_machine.specs.Place.{IsNamed, IsNear, wave_seen};
-ghost use Rattle.reset_machine.specs.Steps.{named_node};
+ghost use Rattle.reset_model.specs.Steps.{named_node};
 
-use crate::event::Event;
 use crate::place::Place;
 use crate::view::father_seen;
 use app_interface::Application;
+use reset_model::Event;
 use wave_layer::{FatherSeen, WaveRegs, WaveView};
 
 /// The one child that the rows of the event look at, with its registers. A relay looks at the child

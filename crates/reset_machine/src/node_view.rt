@@ -1,71 +1,15 @@
-// What a node sees, as a value of its own.
+// How what a node sees is read of a configuration, and compared with it.
 
 ghost use Rattle.std.specs.Prelude.{◌≡◌, ◌<◌, ◌==◌, ◌↔◌, IfOk, IsTrue, Some, length, map, option_map};
 ghost use Rattle.std.specs.Prelude.{slice_get, slice_index};
 ghost use Rattle.reset_machine.specs.Place.{near_ids};
-ghost use Rattle.reset_machine.specs.View.{near_of, near_trees, view_of};
+ghost use Rattle.reset_model.specs.View.{near_of, near_trees, view_of};
 ghost use Rattle.tree_layer.specs.TreeTable.{IsView};
 
 use crate::place::Place;
 use app_interface::Application;
+use reset_model::{Near, View};
 use std::alloc::{AllocError, Global};
-use std::marker::Model;
-use tree_layer::TreeRegs;
-use wave_layer::WaveRegs;
-
-/// A neighbour, as a node sees it.
-#[derive(Drop)]
-pub struct Near<P: Application> {
-    /// Its identifier.
-    pub id: u32,
-    /// Its tree registers.
-    pub tree: TreeRegs,
-    /// Its wave registers.
-    pub wave: WaveRegs,
-    /// Its local state.
-    pub local: P::Local,
-}
-
-impl<P: Application> Model for Near<P> {
-    ghost use Rattle.reset_machine.specs.View.{Neighbour};
-
-    ghost Value = { Neighbour P.Local };
-
-    ghost view = { λ n. record { id = n.id; tree = n.tree; wave = n.wave; local = n.local } };
-}
-
-/// What a node sees: its identifier and the bound K, its own registers and local state, its declared
-/// start state, and its neighbours, ascending.
-#[derive(Drop)]
-pub struct View<P: Application> {
-    id: u32,
-    k: u32,
-    tree: TreeRegs,
-    wave: WaveRegs,
-    local: P::Local,
-    start: P::Local,
-    near: Vec<Near<P>>,
-}
-
-impl<P: Application> Model for View<P> {
-    ghost use Rattle.tree_layer.specs.TreeTable.{IsView};
-    ghost use Rattle.reset_machine.specs.View.{NodeView, near_trees};
-
-    ghost Value = { NodeView P.Local };
-
-    ghost view = { λ v. record {
-      id = v.id;
-      bound = v.k;
-      tree = v.tree;
-      wave = v.wave;
-      local = v.local;
-      start = v.start;
-      near = v.near.items;
-    } };
-
-    // A node isn't among its neighbours, which ascend, and the bound isn't 0.
-    ghost invariant = { λ v. IsView v.id v.k (near_trees v.near.items) };
-}
 
 /// What the node sees.
 pub(crate) fn read_view<P: Application>(
@@ -78,15 +22,13 @@ pub(crate) fn read_view<P: Application>(
     let local = P::copy(alloc, place.local())?;
     let start = P::on_start(alloc, place.topology(), place.index())?;
     let near = read_near::<P>(alloc, place)?;
-    Ok(View {
+    let own = Near {
         id: place.id(),
-        k: place.bound(),
         tree: place.tree(),
         wave: place.wave(),
         local,
-        start,
-        near,
-    })
+    };
+    Ok(View::new(own, place.bound(), start, near))
 }
 
 // The neighbours of the node, as it sees them.
@@ -109,136 +51,14 @@ fn read_near<P: Application>(
     Ok(near)
 }
 
-impl<P: Application> View<P> {
-    /// The node's identifier.
-    pub fn id(&self) -> u32
-        ensures { result ≡ self.now.id }
-    {
-        self.id
-    }
-
-    /// The bound K of the distances.
-    pub fn k(&self) -> u32
-        ensures { result ≡ self.now.bound }
-    {
-        self.k
-    }
-
-    /// The node's tree registers.
-    pub fn tree(&self) -> TreeRegs
-        ensures { result ≡ self.now.tree }
-    {
-        self.tree
-    }
-
-    /// The node's wave registers.
-    pub fn wave(&self) -> WaveRegs
-        ensures { result ≡ self.now.wave }
-    {
-        self.wave
-    }
-
-    /// The node's local state.
-    pub fn local(&self) -> &P::Local
-        ensures { result.now ≡ self.now.local }
-    {
-        &self.local
-    }
-
-    /// The local state that the node restarts with.
-    pub fn start(&self) -> &P::Local
-        ensures { result.now ≡ self.now.start }
-    {
-        &self.start
-    }
-
-    /// How many neighbours the node has.
-    pub fn near_len(&self) -> usize
-        ensures { result ≡ length self.now.near }
-    {
-        let near = &self.near;
-        near.len()
-    }
-
-    /// The neighbour with this number, counted from 0 in ascending order of the identifiers.
-    pub fn near(&self, number: usize) -> Option<&Near<P>>
-        ensures { option_map (λ near. near.now) result ≡ slice_get self.now.near number }
-    {
-        let near = &self.near;
-        near.get(number)
-    }
-
-    // The neighbours, which ascend, and among which the node isn't.
-    pub(crate) fn neighbours(&self) -> &[Near<P>]
-        ensures value { result.now ≡ self.now.near }
-        ensures view { IsView self.now.id self.now.bound (near_trees self.now.near) }
-    {
-        &self.near
-    }
-
-    // A view that equals this one.
-    pub(crate) fn copy(&self, alloc: Global) -> Result<View<P>, AllocError>
-        ensures { IfOk result (λ copy. copy ≡ self.now) }
-    {
-        let local = P::copy(alloc, &self.local)?;
-        let start = P::copy(alloc, &self.start)?;
-        let near = copy_near::<P>(alloc, &self.near)?;
-        Ok(View {
-            id: self.id,
-            k: self.k,
-            tree: self.tree,
-            wave: self.wave,
-            local,
-            start,
-            near,
-        })
-    }
-
-    // Whether the node, which has this view's identifier, sees this.
-    pub(crate) fn is_of(&self, place: &Place<'_, P>) -> bool
-        requires { place.now.id ≡ self.now.id }
-        ensures { IsTrue result ↔ self.now ≡ view_of P.app place.now.config self.now.id }
-    {
-        let near = &self.near;
-        self.has_regs(place.bound(), place.tree(), place.wave())
-            && self.has_states(place.local(), place.start())
-            && are_near::<P>(near, place)
-    }
-
-    // Whether this is the bound, and whether these are the node's registers.
-    fn has_regs(&self, k: u32, tree: TreeRegs, wave: WaveRegs) -> bool
-        ensures { IsTrue result ↔ (self.now.bound ≡ k) × (self.now.tree ≡ tree) × (self.now.wave ≡ wave) }
-    {
-        k == self.k && self.tree == tree && self.wave == wave
-    }
-
-    // Whether these are the node's local state and its start state.
-    fn has_states(&self, local: &P::Local, start: &P::Local) -> bool
-        ensures { IsTrue result ↔ (self.now.local ≡ local.now) × (self.now.start ≡ start.now) }
-    {
-        P::same(&self.local, local) && P::same(&self.start, start)
-    }
-
-    /// Whether the two are equal.
-    pub fn same(&self, other: &View<P>) -> bool
-        ensures { IsTrue result ↔ self.now ≡ other.now }
-    {
-        other.id == self.id
-            && self.has_regs(other.k, other.tree, other.wave)
-            && self.has_states(&other.local, &other.start)
-            && same_near(&self.near, &other.near)
-    }
-}
-
-// A copy of each neighbour.
-fn copy_near<P: Application>(alloc: Global, near: &[Near<P>]) -> Result<Vec<Near<P>>, AllocError>
-    ensures { IfOk result (λ copies. copies.items ≡ near.now) }
+/// Whether the node, which has the view's identifier, sees this.
+pub(crate) fn is_of<P: Application>(view: &View<P>, place: &Place<'_, P>) -> bool
+    requires { place.now.id ≡ view.now.id }
+    ensures { IsTrue result ↔ view.now ≡ view_of P.app place.now.config view.now.id }
 {
-    let mut copies = Vec::new(alloc);
-    for other in near {
-        copies.push(other.copy(alloc)?)?;
-    }
-    Ok(copies)
+    view.has_regs(place.bound(), place.tree(), place.wave())
+        && view.has_states(place.local(), place.start())
+        && are_near::<P>(view.neighbours(), place)
 }
 
 // Whether the node has these neighbours.
@@ -250,66 +70,23 @@ fn are_near<P: Application>(near: &[Near<P>], place: &Place<'_, P>) -> bool
         return false;
     }
     for number in 0..near.len() {
-        if !near[number].is_at(place, indexes[number]) {
+        if !is_at(&near[number], place, indexes[number]) {
             return false;
         }
     }
     true
 }
 
-// Whether the two lists of neighbours are equal.
-fn same_near<P: Application>(a: &[Near<P>], b: &[Near<P>]) -> bool
-    ensures { IsTrue result ↔ a.now ≡ b.now }
+// Whether the node at this index is this neighbour.
+fn is_at<P: Application>(near: &Near<P>, place: &Place<'_, P>, index: usize) -> bool
+    requires { index < length place.now.config.graph.ids }
+    ensures { IsTrue result ↔ near.now
+        ≡ near_of P.app place.now.config (slice_index place.now.config.graph.ids index) }
 {
-    if a.len() != b.len() {
-        return false;
-    }
-    for index in 0..a.len() {
-        if !a[index].same(&b[index]) {
-            return false;
-        }
-    }
-    true
-}
-
-impl<P: Application> Near<P> {
-    // A neighbour that equals this one.
-    fn copy(&self, alloc: Global) -> Result<Near<P>, AllocError>
-        ensures { IfOk result (λ copy. copy ≡ self.now) }
-    {
-        Ok(Near {
-            id: self.id,
-            tree: self.tree,
-            wave: self.wave,
-            local: P::copy(alloc, &self.local)?,
-        })
-    }
-
-    // Whether the node at this index is this.
-    fn is_at(&self, place: &Place<'_, P>, index: usize) -> bool
-        requires { index < length place.now.config.graph.ids }
-        ensures { IsTrue result ↔ self.now
-            ≡ near_of P.app place.now.config (slice_index place.now.config.graph.ids index) }
-    {
-        self.is(
-            place.id_at(index),
-            place.tree_at(index),
-            place.wave_at(index),
-            place.local_at(index),
-        )
-    }
-
-    // Whether these are its parts.
-    fn is(&self, id: u32, tree: TreeRegs, wave: WaveRegs, local: &P::Local) -> bool
-        ensures { IsTrue result ↔ self.now ≡ record { id = id; tree = tree; wave = wave; local = local.now } }
-    {
-        id == self.id && self.tree == tree && self.wave == wave && P::same(&self.local, local)
-    }
-
-    // Whether the two are equal.
-    fn same(&self, other: &Near<P>) -> bool
-        ensures { IsTrue result ↔ self.now ≡ other.now }
-    {
-        self.is(other.id, other.tree, other.wave, &other.local)
-    }
+    near.is(
+        place.id_at(index),
+        place.tree_at(index),
+        place.wave_at(index),
+        place.local_at(index),
+    )
 }

@@ -3,12 +3,12 @@
 ghost use Rattle.std.specs.Prelude.{◌≡◌, ◌<◌, ◌==◌, All, IfErr, IfNone, IfOk, IfSome, OnErr, OnOk, Some};
 ghost use Rattle.std.specs.Prelude.{false, length, map, position, slice_index, true};
 ghost use Rattle.topology.specs.Graph.{IsGraph, IsNode, are_linked, node_bound};
-ghost use Rattle.reset_machine.specs.Configuration.{IsShaped, local_of, tree_of, wave_of};
-ghost use Rattle.reset_machine.specs.LocalSteps.{is_neighbour};
+ghost use Rattle.reset_model.specs.Configuration.{IsShaped, local_of, tree_of, wave_of};
+ghost use Rattle.reset_model.specs.LocalSteps.{is_neighbour};
 
 use crate::config::Config;
-use crate::step::StepRefusal;
 use app_interface::Application;
+use reset_model::StepRefusal;
 use std::marker::Model;
 use topology::Topology;
 use tree_layer::TreeRegs;

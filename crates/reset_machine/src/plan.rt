@@ -2,48 +2,19 @@
 
 ghost use Rattle.std.specs.Prelude.{◌≡◌, ◌≢◌, true, false, ◌==◌, position, Err, Ok, Some, MatchResult, IfOk};
 ghost use Rattle.topology.specs.Graph.{node_bound};
-ghost use Rattle.reset_machine.specs.Configuration.{tree_of, wave_of};
-ghost use Rattle.reset_machine.specs.LocalSteps.{first_answer, planned_of, row_answer};
+ghost use Rattle.reset_model.specs.Configuration.{tree_of, wave_of};
+ghost use Rattle.reset_model.specs.LocalSteps.{planned_of};
 ghost use Rattle.reset_machine.specs.Place.{IsNamed, answer_at};
-ghost use Rattle.reset_machine.specs.Steps.{event_node, is_of_tree, named_node};
+ghost use Rattle.reset_model.specs.Steps.{event_node, is_of_tree, named_node};
 
 use crate::config::Config;
-use crate::event::Event;
 use crate::narrow::{child_looked_at, narrow_view};
 use crate::place::Place;
-use crate::step::StepRefusal;
 use crate::view::{read_near_trees, tree_view};
 use app_interface::Application;
+use reset_model::plan::{Fired, Seen, first_answer};
+use reset_model::{Event, StepRefusal};
 use std::alloc::Global;
-use tree_layer::{TreeRefusal, TreeRegs, TreeView, tree_fire};
-use wave_layer::{WaveMove, WaveRefusal, WaveRegs, WaveView, wave_fire};
-
-/// What an event does at its node.
-#[derive(Drop)]
-pub enum Effect<L> {
-    /// The tree registers become these.
-    Tree(TreeRegs),
-    /// The wave registers become these and, where the node restarts, the local state becomes that.
-    Wave(WaveRegs, Option<L>),
-    /// The local state becomes this.
-    Local(L),
-}
-
-/// What a row of one of the two tables leaves.
-#[derive(Clone, Copy)]
-pub enum Fired {
-    /// The tree registers become these.
-    Tree(TreeRegs),
-    /// A row of the wave table was fired.
-    Wave(WaveMove),
-}
-
-/// What a node sees of the layer that an event belongs to.
-#[derive(Drop)]
-pub enum Seen<'a> {
-    Tree(TreeView<'a>),
-    Wave(WaveView<'a>),
-}
 
 /// The index of the event's node and what it does, or the first refusal. The node and the neighbour
 /// that the event names are looked up here, and nowhere else.
@@ -132,39 +103,4 @@ fn wave_answer<P: Application>(
     let child = child_looked_at(place, event, named);
     let view = narrow_view(place, event, child.as_slice());
     first_answer(&Seen::Wave(view), event.named(), event.cases())
-}
-
-/// Fires the first of the rows whose guard holds.
-#[inline(always)]
-pub fn first_answer(seen: &Seen<'_>, named: Option<u32>, cases: &[u8]) -> Result<Fired, StepRefusal>
-    ensures { result ≡ first_answer seen.now named cases.now }
-{
-    for case in cases {
-        match row_answer(seen, named, *case) {
-            Err(StepRefusal::NotEnabled) => {}
-            answer => return answer,
-        }
-    }
-    Err(StepRefusal::NotEnabled)
-}
-
-// Fires a row of the layer's table.
-#[inline(always)]
-fn row_answer(seen: &Seen<'_>, named: Option<u32>, case: u8) -> Result<Fired, StepRefusal>
-    ensures { result ≡ row_answer seen.now named case }
-{
-    match seen {
-        Seen::Tree(view) => match tree_fire(view, case, named) {
-            Ok(regs) => Ok(Fired::Tree(regs)),
-            Err(TreeRefusal::StrangeNeighbour) => Err(StepRefusal::StrangeNeighbour),
-            Err(TreeRefusal::NoSuchCase | TreeRefusal::NotEnabled) => Err(StepRefusal::NotEnabled),
-        },
-        Seen::Wave(view) => match wave_fire(view, case, named) {
-            Ok(fired) => Ok(Fired::Wave(fired)),
-            Err(WaveRefusal::SessionsSpent) => Err(StepRefusal::SessionsSpent),
-            Err(WaveRefusal::NoSuchCase | WaveRefusal::NotChild | WaveRefusal::NotEnabled) => {
-                Err(StepRefusal::NotEnabled)
-            }
-        },
-    }
 }

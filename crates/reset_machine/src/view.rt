@@ -1,7 +1,7 @@
 // What one node sees of the tree and of the wave.
 
 ghost use Rattle.std.specs.Prelude.{◌≡◌, OnOk, map};
-ghost use Rattle.reset_machine.specs.Configuration.{tree_of};
+ghost use Rattle.reset_model.specs.Configuration.{tree_of};
 ghost use Rattle.reset_machine.specs.Place.{near_ids, tree_seen, wave_seen};
 
 use crate::place::Place;

@@ -2,12 +2,12 @@
 use Rattle.std.specs.Prelude.{codes}
 use Rattle.std.proofs.Common.{◌≡◌, inl, inr, ℕ, ◌<◌, ◌^◌, List, [], ◌∷◌, refl, sym, ap, ◌∙◌, Option, None, Some, IfNone, Bool, true, false, ◌==◌, ◌||◌, true≢false}
 use Rattle.std.specs.Fmt.{decimal}
-use Rattle.reset_machine.specs.EventText.{event_words, Fits}
-use Rattle.reset_machine.specs.Words.{words_of}
-use Rattle.reset_machine.specs.declared.event.Event.{Event}
-use Rattle.reset_machine.specs.declared.event.Event.TheVariants.{Claim, Follow, Adopt, Request, Relay, Open, Join, Finish, Mend, Act}
-use Rattle.reset_machine.proofs.EventLines.{first_bytes, two_bytes, words_of-decimal, words_of-event_line}
-use Rattle.reset_machine.proofs.WordLines.{words_of-some, line-words}
+use Rattle.reset_model.specs.EventText.{event_words, Fits}
+use Rattle.reset_model.specs.Words.{words_of}
+use Rattle.reset_model.specs.declared.event.Event.{Event}
+use Rattle.reset_model.specs.declared.event.Event.TheVariants.{Claim, Follow, Adopt, Request, Relay, Open, Join, Finish, Mend, Act}
+use Rattle.reset_model.proofs.EventLines.{first_bytes, two_bytes, words_of-decimal, words_of-event_line}
+use Rattle.reset_model.proofs.WordLines.{words_of-some, line-words}
 use Rattle.fault_inject.proofs.FaultLines.{words_of-fault_line}
 use Rattle.fault_inject.specs.FaultText.{fault_words}
 use Rattle.fault_inject.specs.declared.fault.Fault.{Fault}

@@ -10,10 +10,10 @@ use Rattle.std.proofs.Math.Nat.{mod-eq_of_lt}
 use Rattle.std.proofs.lemmas.Fmt.{decimal_is_IsNumeral}
 use Rattle.std.proofs.lemmas.Nat.{mod_below}
 use Rattle.std.proofs.lemmas.Slice.Eq.{bytes_eq-Decides}
-use Rattle.reset_machine.specs.EventText.{Fits}
-use Rattle.reset_machine.specs.Words.{words_of}
-use Rattle.reset_machine.specs.declared.event.Event.TheVariants.{Claim, Follow, Adopt, Request, Relay, Open, Join, Finish, Mend, Act}
-use Rattle.reset_machine.proofs.EventLines.{action_small, first_bytes, one_event, same_number}
+use Rattle.reset_model.specs.EventText.{Fits}
+use Rattle.reset_model.specs.Words.{words_of}
+use Rattle.reset_model.specs.declared.event.Event.TheVariants.{Claim, Follow, Adopt, Request, Relay, Open, Join, Finish, Mend, Act}
+use Rattle.reset_model.proofs.EventLines.{action_small, first_bytes, one_event, same_number}
 use Rattle.reset_service.specs.declared.script.Command.{Command}
 use Rattle.reset_service.specs.declared.script.Command.TheVariants.{Step, Inject, Draw, Show, ShowNode, Newest, Enabled, Ready, Check, CheckNode, Alarm, Watch}
 use Rattle.reset_service.specs.Script.{case_named, command_words, command_line, command_of, commands_with, faults_with, in_words, local_faults_with, own_commands, with_name, is_name, is_text, actions_with, named_words, number_at, spellings, word_at, CommandFits, IsPlain, IsPrintable, Spelling, Spells}

@@ -5,7 +5,7 @@ use Rattle.action_tables.specs.Written.{AppendsFront}
 use Rattle.action_tables.proofs.Fronts.{AppendsFront-first, AppendsFront-then}
 use Rattle.fault_inject.specs.Effects.{injected}
 use Rattle.fault_inject.specs.declared.fault.Fault.{Fault}
-use Rattle.reset_machine.specs.Configuration.{Configuration}
+use Rattle.reset_model.specs.Configuration.{Configuration}
 use Rattle.reset_service.specs.Meaning.{Meaning}
 use Rattle.fault_inject.specs.Drawn.{drawn_fault, next_words, seeded}
 use Rattle.reset_service.specs.Output.{disturbed, disturbed_by_drawn, drawn, drawn_text}

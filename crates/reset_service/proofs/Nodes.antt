@@ -8,19 +8,19 @@ use Rattle.topology.specs.Graph.{IsNode}
 use Rattle.action_tables.specs.Numbers.{is_among}
 use Rattle.tree_layer.specs.declared.regs.TreeRegs.{TreeRegs}
 use Rattle.wave_layer.specs.declared.regs.WaveRegs.{WaveRegs}
-use Rattle.reset_machine.specs.declared.step.StepRefusal.{StepRefusal}
-use Rattle.reset_machine.specs.declared.step.StepRefusal.TheVariants.{NoMemory, StrangeNode}
+use Rattle.reset_model.specs.declared.step.StepRefusal.{StepRefusal}
+use Rattle.reset_model.specs.declared.step.StepRefusal.TheVariants.{NoMemory, StrangeNode}
 use Rattle.reset_machine.specs.Enabled.{enabled_rows, ready_of}
 use Rattle.reset_machine.specs.declared.enabled.Enabled.{Enabled}
-use Rattle.reset_machine.specs.Configuration.{Configuration, tree_of, wave_of, local_of}
-use Rattle.reset_machine.specs.WavePicture.{HasJoined}
-use Rattle.reset_machine.proofs.Places.{Contains-position, list_any-position}
+use Rattle.reset_model.specs.Configuration.{Configuration, tree_of, wave_of, local_of}
+use Rattle.reset_model.specs.WavePicture.{HasJoined}
+use Rattle.reset_model.proofs.Places.{Contains-position, list_any-position}
 use Rattle.app_interface.specs.Application.{App}
 use Rattle.link_predicates.specs.Faults.{alarm_of, faults, node_faults}
 use Rattle.link_predicates.specs.declared.fault.LinkFault.{LinkFault}
 use Rattle.reset_service.specs.Lines.{ended}
 use Rattle.reset_service.specs.Meaning.{Meaning}
-use Rattle.reset_machine.specs.Refinement.{has_joined}
+use Rattle.reset_model.specs.Refinement.{has_joined}
 use Rattle.reset_service.specs.Output.{after_alarm, alarm_line, alarm_text, at_node, enabled_line, faults_status, found_status, newest_head, newest_line, node_head, enabled_text, faults_lines, faults_text, node_faults_lines, ready_line, ready_text, refusal_text, shown, watched}
 
 or_first : (a b : Bool) → a ≡ true → (a || b) ≡ true

@@ -11,7 +11,7 @@ use Rattle.topology.specs.declared.text.AppName.TheVariants.{Idle, Token, Mutex,
 use Rattle.topology.specs.declared.text.ReadFault.{ReadFault}
 use Rattle.topology.specs.declared.text.ReadFault.TheVariants.{TextTooLong, NotToml, MissingKey, UnknownKey, WrongKind, UnknownApp, Topology, NoMemory}
 use Rattle.topology.proofs.OneResult.{one_first_fault, one_graph}
-use Rattle.reset_machine.proofs.OneBoot.{one_boot}
+use Rattle.reset_model.proofs.OneBoot.{one_boot}
 use Rattle.reset_service.specs.Lines.{HasNoSeparator, IsCut, ended, lines_of, separator}
 use Rattle.reset_service.specs.Lines.IsCut.{at_separator, topology_alone}
 use Rattle.reset_service.specs.Meaning.{Meaning, idle_meaning, token_meaning, mutex_meaning, routes_meaning}

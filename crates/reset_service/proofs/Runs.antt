@@ -5,7 +5,7 @@ use Rattle.std.specs.Io.KnownBytes.{Appends}
 use Rattle.std.proofs.KnownBytes.{Appends-trans, Keeps-refl}
 use Rattle.action_tables.specs.Written.{AppendsFront}
 use Rattle.action_tables.proofs.Fronts.{AppendsFront-first, AppendsFront-then}
-use Rattle.reset_machine.specs.Configuration.{Configuration}
+use Rattle.reset_model.specs.Configuration.{Configuration}
 use Rattle.reset_service.specs.Lines.{lines_of}
 use Rattle.reset_service.specs.Meaning.{Meaning}
 use Rattle.reset_service.specs.Script.{line_of}

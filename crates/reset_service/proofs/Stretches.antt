@@ -4,13 +4,13 @@ use Rattle.std.proofs.lemmas.List.Elements.{All-head, All-tail}
 use Rattle.action_tables.specs.Numbers.{is_among}
 use Rattle.link_predicates.specs.Faults.{alarm_of}
 use Rattle.link_predicates.specs.declared.fault.LinkFault.{LinkFault}
-use Rattle.reset_machine.specs.Configuration.{Configuration}
-use Rattle.reset_machine.specs.Planned.{outcome_of}
-use Rattle.reset_machine.specs.Runs.{Answers, IsRun}
-use Rattle.reset_machine.specs.declared.event.Event.{Event}
-use Rattle.reset_machine.specs.declared.step.Reply.{Reply}
-use Rattle.reset_machine.specs.declared.step.StepRefusal.{StepRefusal}
-use Rattle.reset_machine.specs.declared.step.StepRefusal.TheVariants.{StrangeNode}
+use Rattle.reset_model.specs.Configuration.{Configuration}
+use Rattle.reset_model.specs.Planned.{outcome_of}
+use Rattle.reset_model.specs.Runs.{Answers, IsRun}
+use Rattle.reset_model.specs.declared.event.Event.{Event}
+use Rattle.reset_model.specs.declared.step.Reply.{Reply}
+use Rattle.reset_model.specs.declared.step.StepRefusal.{StepRefusal}
+use Rattle.reset_model.specs.declared.step.StepRefusal.TheVariants.{StrangeNode}
 use Rattle.reset_service.specs.Meaning.{Meaning}
 use Rattle.reset_service.specs.Output.{after_alarm, answer_to, answered, answers, if_good, refusal_text, stepped, told_after, watched, Answer}
 use Rattle.reset_service.specs.Script.{line_of}

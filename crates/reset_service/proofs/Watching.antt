@@ -6,9 +6,9 @@ use Rattle.action_tables.specs.Written.{AppendsFront}
 use Rattle.action_tables.proofs.Fronts.{AppendsFront-first, AppendsFront-then}
 use Rattle.link_predicates.specs.Faults.{alarm_of}
 use Rattle.link_predicates.specs.declared.fault.LinkFault.{LinkFault}
-use Rattle.reset_machine.specs.Configuration.{Configuration}
-use Rattle.reset_machine.specs.Planned.{outcome_of}
-use Rattle.reset_machine.specs.declared.event.Event.TheVariants.{Request}
+use Rattle.reset_model.specs.Configuration.{Configuration}
+use Rattle.reset_model.specs.Planned.{outcome_of}
+use Rattle.reset_model.specs.declared.event.Event.TheVariants.{Request}
 use Rattle.reset_service.specs.Meaning.{Meaning}
 use Rattle.reset_service.specs.Output.{after_alarm, alarm_text, stepped, watched}
 use Rattle.reset_service.proofs.Nodes.{watched-is}

@@ -17,16 +17,16 @@ use Rattle.topology.specs.declared.text.AppName.TheVariants.{Idle, Token, Mutex,
 use Rattle.tree_layer.specs.declared.regs.TreeRegs.{TreeRegs}
 use Rattle.wave_layer.specs.Names.{phase_name}
 use Rattle.wave_layer.specs.declared.regs.WaveRegs.{WaveRegs}
-use Rattle.reset_machine.specs.declared.event.Event.TheVariants.{Request}
-use Rattle.reset_machine.specs.declared.step.Reply.{Reply}
-use Rattle.reset_machine.specs.declared.step.Reply.TheVariants.{Applied, Complete}
-use Rattle.reset_machine.specs.declared.step.StepRefusal.{StepRefusal}
-use Rattle.reset_machine.specs.declared.step.StepRefusal.TheVariants.{StrangeNode, StrangeNeighbour, NoSuchCase, WantsNeighbour, TakesNoNeighbour, Disagrees, NotEnabled, SessionsSpent, NoMemory}
-use Rattle.reset_machine.specs.Configuration.{Configuration, tree_of, wave_of, local_of}
-use Rattle.reset_machine.specs.Outcome.{IsBoot}
-use Rattle.reset_machine.specs.Planned.{outcome_of}
+use Rattle.reset_model.specs.declared.event.Event.TheVariants.{Request}
+use Rattle.reset_model.specs.declared.step.Reply.{Reply}
+use Rattle.reset_model.specs.declared.step.Reply.TheVariants.{Applied, Complete}
+use Rattle.reset_model.specs.declared.step.StepRefusal.{StepRefusal}
+use Rattle.reset_model.specs.declared.step.StepRefusal.TheVariants.{StrangeNode, StrangeNeighbour, NoSuchCase, WantsNeighbour, TakesNoNeighbour, Disagrees, NotEnabled, SessionsSpent, NoMemory}
+use Rattle.reset_model.specs.Configuration.{Configuration, tree_of, wave_of, local_of}
+use Rattle.reset_model.specs.Outcome.{IsBoot}
+use Rattle.reset_model.specs.Planned.{outcome_of}
 use Rattle.reset_machine.specs.Enabled.{enabled_rows, ready_of}
-use Rattle.reset_machine.specs.Refinement.{has_joined}
+use Rattle.reset_model.specs.Refinement.{has_joined}
 use Rattle.fault_inject.specs.Drawn.{drawn_fault, next_words, seeded}
 use Rattle.fault_inject.specs.Effects.{injected}
 use Rattle.fault_inject.specs.FaultText as fault

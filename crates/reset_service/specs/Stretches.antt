@@ -5,16 +5,16 @@ use Rattle.app_interface.specs.Application.{App}
 use Rattle.action_tables.specs.Numbers.{is_among}
 use Rattle.link_predicates.specs.Faults.{alarm_of}
 use Rattle.link_predicates.specs.declared.fault.LinkFault.{LinkFault}
-use Rattle.reset_machine.specs.Configuration.{Configuration}
-use Rattle.reset_machine.specs.Planned.{outcome_of}
-use Rattle.reset_machine.specs.Runs.{IsRun}
-use Rattle.reset_machine.specs.SoundSteps.{IsSoundRun}
-use Rattle.reset_machine.specs.declared.event.Event.{Event}
-use Rattle.reset_machine.specs.declared.event.Event.TheVariants.{Request}
-use Rattle.reset_machine.specs.declared.step.Done.{Done}
-use Rattle.reset_machine.specs.declared.step.Done.TheVariants.{Did, Refused}
-use Rattle.reset_machine.specs.declared.step.Reply.{Reply}
-use Rattle.reset_machine.specs.declared.step.StepRefusal.{StepRefusal}
+use Rattle.reset_model.specs.Configuration.{Configuration}
+use Rattle.reset_model.specs.Planned.{outcome_of}
+use Rattle.reset_model.specs.Runs.{IsRun}
+use Rattle.reset_model.specs.SoundSteps.{IsSoundRun}
+use Rattle.reset_model.specs.declared.event.Event.{Event}
+use Rattle.reset_model.specs.declared.event.Event.TheVariants.{Request}
+use Rattle.reset_model.specs.declared.step.Done.{Done}
+use Rattle.reset_model.specs.declared.step.Done.TheVariants.{Did, Refused}
+use Rattle.reset_model.specs.declared.step.Reply.{Reply}
+use Rattle.reset_model.specs.declared.step.StepRefusal.{StepRefusal}
 use Rattle.reset_service.specs.Meaning.{Meaning}
 use Rattle.reset_service.specs.Output.{answer_to, answers, if_good, stepped}
 use Rattle.reset_service.specs.Script.{line_of}

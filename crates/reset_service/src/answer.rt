@@ -3,7 +3,7 @@
 ghost use Rattle.std.specs.Prelude.{◌≡◌, ◌≢◌, ℕ, [], ◌∷◌, ◌++◌, codes, List, Err, IfErr, OnOk, OnErr};
 ghost use Rattle.std.specs.Io.KnownBytes.{Appends, Keeps};
 ghost use Rattle.action_tables.specs.Written.{AppendsFront};
-ghost use Rattle.reset_machine.specs.Planned.{outcome_of};
+ghost use Rattle.reset_model.specs.Planned.{outcome_of};
 ghost use Rattle.reset_service.specs.Meaning.{meaning_of};
 ghost use Rattle.reset_service.specs.Output.{answered, stepped, bad_line_text, bad_topology_text, graph_fault_text, numbered, refusal_text, reply_text, too_long_text, numbered_twice};
 

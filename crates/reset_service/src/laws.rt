@@ -2,8 +2,8 @@
 
 ghost use Rattle.std.specs.Prelude.{◌≡◌, ℕ, List};
 ghost use Rattle.topology.specs.Graph.{IsConnected, IsGraph};
-ghost use Rattle.reset_machine.specs.Configuration.{Configuration, IsShaped};
-ghost use Rattle.reset_machine.specs.Sound.{IsSound};
+ghost use Rattle.reset_model.specs.Configuration.{Configuration, IsShaped};
+ghost use Rattle.reset_model.specs.Sound.{IsSound};
 ghost use Rattle.reset_service.specs.Meaning.{meaning_of};
 ghost use Rattle.reset_service.specs.Output.{IsJoinedOutput, IsOutput};
 ghost use Rattle.reset_service.specs.Stretches.{AreUndisturbed, MakeRun, MakeSoundRun};

@@ -4,9 +4,9 @@ ghost use Rattle.std.specs.Prelude.{◌≡◌, ℕ, ◌<◌, ◌^◌, ◌⊎◌,
 ghost use Rattle.std.specs.Fmt.{decimal};
 ghost use Rattle.std.specs.Char.{is_ascii_graphic};
 ghost use Rattle.std.specs.List.{join_with_byte, list_all};
-ghost use Rattle.reset_machine.specs.EventText.{Fits, neighbour_words};
-ghost use Rattle.reset_machine.specs.Words.{words_of};
-ghost use Rattle.reset_machine.specs.declared.event.Event.TheVariants.{Act};
+ghost use Rattle.reset_model.specs.EventText.{Fits, neighbour_words};
+ghost use Rattle.reset_model.specs.Words.{words_of};
+ghost use Rattle.reset_model.specs.declared.event.Event.TheVariants.{Act};
 ghost use Rattle.fault_inject.specs.FaultText.{fault_line};
 ghost use Rattle.fault_inject.specs.declared.fault.Fault.{Fault};
 ghost use Rattle.reset_service.specs.declared.script.Command.{Command};

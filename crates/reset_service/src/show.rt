@@ -5,7 +5,7 @@ ghost use Rattle.std.specs.List.{flat_map};
 ghost use Rattle.std.specs.Io.KnownBytes.{Appends};
 ghost use Rattle.action_tables.specs.Written.{AppendsFront};
 ghost use Rattle.topology.specs.Graph.{IsNode};
-ghost use Rattle.reset_machine.specs.Configuration.{local_of, tree_of, wave_of};
+ghost use Rattle.reset_model.specs.Configuration.{local_of, tree_of, wave_of};
 ghost use Rattle.reset_service.specs.Lines.{ended};
 ghost use Rattle.reset_service.specs.Meaning.{meaning_of};
 ghost use Rattle.reset_service.specs.Output.{at_node, newest_head, newest_line, node_head, shown};

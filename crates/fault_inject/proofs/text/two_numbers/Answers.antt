@@ -1,6 +1,6 @@
 use Rattle.std.proofs.Common.{◌∙◌, refl}
 use Rattle.std.specs.Fmt.{decimal}
-use Rattle.reset_machine.proofs.EventLines.{one_found}
+use Rattle.reset_model.proofs.EventLines.{one_found}
 use Rattle.fault_inject.proofs.FaultLines.{no_second}
 use Rattle.fault_inject.proofs.text.two_numbers.Goals as goal
 

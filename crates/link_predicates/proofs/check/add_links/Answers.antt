@@ -2,7 +2,7 @@ use Rattle.std.proofs.Common.{◌≡◌, ℕ, ◌++◌, Global, Vec, append-nil,
 use Rattle.topology.specs.Graph.{Graph, AreLinked, are_linked, neighbours_of}
 use Rattle.reset_machine.proofs.CaseChoices.{near_passes}
 use Rattle.reset_machine.proofs.NearSeen.{at_indexes}
-use Rattle.reset_machine.specs.View.{Neighbour, near_of}
+use Rattle.reset_model.specs.View.{Neighbour, near_of}
 use Rattle.link_predicates.specs.Faults.{link_faults}
 use Rattle.link_predicates.specs.declared.fault.LinkFault.{LinkFault}
 use Rattle.link_predicates.proofs.NodeFaults.{more_told_at}

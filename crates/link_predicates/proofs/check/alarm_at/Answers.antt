@@ -3,7 +3,7 @@ use Rattle.std.specs.Option.{option_or}
 use Rattle.std.proofs.lemmas.List.{at_drop_all}
 use Rattle.topology.specs.Graph.{Graph, neighbours_of}
 use Rattle.reset_machine.proofs.NearSeen.{at_indexes}
-use Rattle.reset_machine.specs.View.{Neighbour, near_of}
+use Rattle.reset_model.specs.View.{Neighbour, near_of}
 use Rattle.link_predicates.specs.Faults.{is_of_app, link_faults}
 use Rattle.link_predicates.proofs.NodeFaults.{alarm_is, found_first, found_later, found_rest}
 use Rattle.link_predicates.proofs.check.alarm_at.Goals as goal

@@ -1,6 +1,6 @@
 use Rattle.std.proofs.Common.{◌≡◌, drop, find, flat_map}
 use Rattle.reset_machine.proofs.NearSeen.{at_indexes}
-use Rattle.reset_machine.specs.View.{near_of}
+use Rattle.reset_model.specs.View.{near_of}
 use Rattle.link_predicates.specs.Faults.{is_of_app, link_faults}
 use Rattle.link_predicates.proofs.check.alarm_at.Given as goal
 

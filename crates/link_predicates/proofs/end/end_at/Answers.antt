@@ -1,9 +1,9 @@
 use Rattle.std.proofs.Common.{sym, ap, ◌∙◌, slice_index, slice_index_or}
 use Rattle.topology.specs.Graph.{Graph}
 use Rattle.wave_layer.specs.declared.regs.Phase.TheVariants.{Normal}
-use Rattle.reset_machine.proofs.Judging.{read_at-place}
+use Rattle.reset_model.proofs.Judging.{read_at-place}
 use Rattle.reset_machine.proofs.NearSeen.{same_neighbour}
-use Rattle.reset_machine.proofs.Places.{value_at-place}
+use Rattle.reset_model.proofs.Places.{value_at-place}
 use Rattle.link_predicates.proofs.end.end_at.Goals as goal
 
 pub returns : goal.returns

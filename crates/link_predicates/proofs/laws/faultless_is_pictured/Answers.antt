@@ -1,4 +1,4 @@
-use Rattle.reset_machine.specs.Configuration.{tree_of, wave_of}
+use Rattle.reset_model.specs.Configuration.{tree_of, wave_of}
 use Rattle.link_predicates.proofs.laws.faultless_is_pictured.Goals as goal
 
 pub returns : goal.returns

@@ -1,6 +1,6 @@
 use Rattle.std.proofs.Common.{sym, subst}
 use Rattle.topology.specs.Graph.{IsGraph}
-use Rattle.reset_machine.specs.Refinement.{abstract_of}
+use Rattle.reset_model.specs.Refinement.{abstract_of}
 use Rattle.link_predicates.proofs.Silence.{silent}
 use Rattle.link_predicates.proofs.laws.joined_are_silent.Goals as goal
 

@@ -1,7 +1,7 @@
 use Rattle.std.proofs.Common.{◌≡◌, cond, None, sym, ap, ◌∙◌}
 use Rattle.std.proofs.lemmas.Bool.{eq-eqb}
 use Rattle.wave_layer.specs.declared.regs.WaveRegs.{WaveRegs}
-use Rattle.reset_machine.specs.View.{Neighbour}
+use Rattle.reset_model.specs.View.{Neighbour}
 use Rattle.link_predicates.specs.Faults.{mending_row}
 use Rattle.link_predicates.proofs.rows.wave_row.Goals as goal
 

@@ -1,7 +1,7 @@
 use Rattle.topology.specs.Graph.{node_bound}
-use Rattle.reset_machine.specs.Configuration.{local_of, wave_of}
-use Rattle.reset_machine.proofs.NodePlaces.{no_node}
-use Rattle.reset_machine.proofs.Judging.{acted_of-strange_node}
+use Rattle.reset_model.specs.Configuration.{local_of, wave_of}
+use Rattle.reset_model.proofs.NodePlaces.{no_node}
+use Rattle.reset_model.proofs.Judging.{acted_of-strange_node}
 use Rattle.reset_machine.proofs.action.acted.Goals as goal
 
 pub returns-in_default-clause-exact : goal.returns-in_default-clause-exact

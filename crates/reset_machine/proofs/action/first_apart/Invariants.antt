@@ -1,6 +1,6 @@
 use Rattle.std.proofs.Common.{◌≡◌, drop, filter, map, slice_index}
-use Rattle.reset_machine.specs.Actions.{first_apart, reads_near}
-use Rattle.reset_machine.specs.Configuration.{wave_of}
+use Rattle.reset_model.specs.Actions.{first_apart, reads_near}
+use Rattle.reset_model.specs.Configuration.{wave_of}
 use Rattle.reset_machine.proofs.action.first_apart.Given as goal
 
 -- the first of the neighbours that are left is the first of all

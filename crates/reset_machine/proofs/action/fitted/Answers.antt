@@ -1,8 +1,8 @@
 use Rattle.std.proofs.Common.{ap, refl, ◌∙◌}
 use Rattle.app_interface.specs.Views.{seen_values}
 use Rattle.topology.specs.Graph.{node_bound}
-use Rattle.reset_machine.specs.Configuration.{local_of, wave_of}
-use Rattle.reset_machine.proofs.Judging.{fitted-next, judged-ends}
+use Rattle.reset_model.specs.Configuration.{local_of, wave_of}
+use Rattle.reset_model.proofs.Judging.{fitted-next, judged-ends}
 use Rattle.reset_machine.proofs.action.fitted.Goals as goal
 
 pub returns : goal.returns

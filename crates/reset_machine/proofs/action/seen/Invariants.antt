@@ -1,7 +1,7 @@
 use Rattle.std.proofs.Common.{◌≡◌, ◌++◌, ℕ, drop}
 use Rattle.app_interface.specs.Views.{seen_values}
-use Rattle.reset_machine.specs.Actions.{reads_near}
-use Rattle.reset_machine.specs.Configuration.{local_of}
+use Rattle.reset_model.specs.Actions.{reads_near}
+use Rattle.reset_model.specs.Configuration.{local_of}
 use Rattle.reset_machine.proofs.Children.{among}
 use Rattle.reset_machine.proofs.action.seen.Given as goal
 

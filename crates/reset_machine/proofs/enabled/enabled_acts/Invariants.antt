@@ -1,5 +1,5 @@
 use Rattle.topology.specs.Graph.{node_bound}
-use Rattle.reset_machine.specs.Configuration.{local_of, wave_of}
+use Rattle.reset_model.specs.Configuration.{local_of, wave_of}
 use Rattle.reset_machine.specs.Enabled.{is_taken}
 use Rattle.reset_machine.proofs.CaseChoices.{AreTaken}
 use Rattle.reset_machine.proofs.enabled.enabled_acts.Given as goal

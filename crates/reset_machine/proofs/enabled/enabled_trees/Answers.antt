@@ -1,7 +1,7 @@
 use Rattle.std.proofs.Common.{List, ℕ, sym, ◌∙◌, subst}
 use Rattle.tree_layer.specs.declared.regs.TreeRegs.{TreeRegs}
 use Rattle.tree_layer.specs.TreeTable.{IsView}
-use Rattle.reset_machine.specs.Configuration.{tree_of}
+use Rattle.reset_model.specs.Configuration.{tree_of}
 use Rattle.reset_machine.proofs.NearTrees.{near_is_view}
 use Rattle.reset_machine.proofs.enabled.enabled_trees.Goals as goal
 

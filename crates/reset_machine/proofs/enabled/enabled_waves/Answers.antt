@@ -1,7 +1,7 @@
 use Rattle.std.proofs.Common.{ℕ, List, map, sym, ◌∙◌, subst}
 use Rattle.std.specs.List.Sorted.{IsStrictlyIncreasing}
 use Rattle.wave_layer.specs.declared.regs.WaveRegs.{WaveRegs}
-use Rattle.reset_machine.specs.Configuration.{tree_of, wave_of}
+use Rattle.reset_model.specs.Configuration.{tree_of, wave_of}
 use Rattle.reset_machine.proofs.Children.{children_ascend}
 use Rattle.reset_machine.proofs.enabled.enabled_waves.Goals as goal
 

@@ -1,6 +1,6 @@
 use Rattle.std.proofs.Common.{◌≡◌, drop}
 use Rattle.wave_layer.specs.WaveTable.{children_done}
-use Rattle.reset_machine.specs.Configuration.{tree_of, wave_of}
+use Rattle.reset_model.specs.Configuration.{tree_of, wave_of}
 use Rattle.reset_machine.proofs.Children.{children_among}
 use Rattle.reset_machine.proofs.narrow.unfinished_child.Given as goal
 

@@ -1,6 +1,6 @@
 use Rattle.std.proofs.Common.{◌<◌, length, map, slice_index_or, sym, ap, ◌∙◌, arith}
 use Rattle.std.proofs.lemmas.Bool.{false≢true}
-use Rattle.reset_machine.specs.View.{near_of}
+use Rattle.reset_model.specs.View.{near_of}
 use Rattle.reset_machine.proofs.NearSeen.{at_number}
 use Rattle.reset_machine.proofs.node_view.are_near.Goals as goal
 

@@ -1,5 +1,5 @@
 use Rattle.std.proofs.Common.{◌≡◌, take}
-use Rattle.reset_machine.specs.View.{near_of}
+use Rattle.reset_model.specs.View.{near_of}
 use Rattle.reset_machine.proofs.NearSeen.{at_indexes}
 use Rattle.reset_machine.proofs.node_view.are_near.Given as goal
 

@@ -1,5 +1,5 @@
 use Rattle.std.proofs.Common.{sym, ◌∙◌, arith}
-use Rattle.reset_machine.specs.View.{near_of}
+use Rattle.reset_model.specs.View.{near_of}
 use Rattle.reset_machine.proofs.NearSeen.{one_more, same_neighbour}
 use Rattle.reset_machine.proofs.node_view.read_near.Goals as goal
 

@@ -1,5 +1,5 @@
 use Rattle.std.proofs.Common.{◌≡◌, map, slice_index, take}
-use Rattle.reset_machine.specs.View.{near_of}
+use Rattle.reset_model.specs.View.{near_of}
 use Rattle.reset_machine.proofs.node_view.read_near.Given as goal
 
 -- the neighbours before the index have their registers and their local states

@@ -1,8 +1,8 @@
 use Rattle.std.proofs.Common.{◌∙◌}
 use Rattle.topology.specs.Graph.{node_bound}
-use Rattle.reset_machine.specs.Configuration.{tree_of, wave_of}
-use Rattle.reset_machine.proofs.NodePlaces.{no_node}
-use Rattle.reset_machine.proofs.Planned.{planned_at, planned_of-strange_node}
+use Rattle.reset_model.specs.Configuration.{tree_of, wave_of}
+use Rattle.reset_model.proofs.NodePlaces.{no_node}
+use Rattle.reset_model.proofs.Planned.{planned_at, planned_of-strange_node}
 use Rattle.reset_machine.proofs.plan.planned.Goals as goal
 
 pub returns-in_default-clause-exact : goal.returns-in_default-clause-exact

@@ -1,11 +1,11 @@
 use Rattle.std.proofs.Common.{ap, sym, ◌∙◌, cond}
 use Rattle.topology.specs.Graph.{node_bound}
-use Rattle.reset_machine.specs.Configuration.{tree_of, wave_of}
-use Rattle.reset_machine.specs.Steps.{event_node, named_node}
-use Rattle.reset_machine.specs.LocalSteps.{first_answer, cases_of, tree_view_of, view_of}
-use Rattle.reset_machine.specs.declared.plan.Seen.TheVariants.{Tree, Wave}
+use Rattle.reset_model.specs.Configuration.{tree_of, wave_of}
+use Rattle.reset_model.specs.Steps.{event_node, named_node}
+use Rattle.reset_model.specs.LocalSteps.{first_answer, cases_of, tree_view_of, view_of}
+use Rattle.reset_model.specs.declared.plan.Seen.TheVariants.{Tree, Wave}
 use Rattle.reset_machine.proofs.NarrowViews.{narrow_answers}
-use Rattle.reset_machine.proofs.Planned.{exact_of}
+use Rattle.reset_model.proofs.Planned.{exact_of}
 use Rattle.reset_machine.proofs.plan.wave_answer.Goals as goal
 
 pub returns : goal.returns

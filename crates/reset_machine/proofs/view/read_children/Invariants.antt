@@ -1,5 +1,5 @@
 use Rattle.std.proofs.Common.{◌≡◌, ◌++◌, drop}
-use Rattle.reset_machine.specs.Configuration.{tree_of, wave_of}
+use Rattle.reset_model.specs.Configuration.{tree_of, wave_of}
 use Rattle.reset_machine.proofs.Children.{children_among}
 use Rattle.reset_machine.proofs.view.read_children.Given as goal
 

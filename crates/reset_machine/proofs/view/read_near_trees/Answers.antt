@@ -1,5 +1,5 @@
 use Rattle.std.proofs.Common.{sym, arith}
-use Rattle.reset_machine.specs.Configuration.{tree_of}
+use Rattle.reset_model.specs.Configuration.{tree_of}
 use Rattle.reset_machine.proofs.Children.{same_pair}
 use Rattle.reset_machine.proofs.NearSeen.{one_more}
 use Rattle.reset_machine.proofs.view.read_near_trees.Goals as goal

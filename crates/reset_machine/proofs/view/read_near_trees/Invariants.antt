@@ -1,5 +1,5 @@
 use Rattle.std.proofs.Common.{◌≡◌, map, slice_index, take}
-use Rattle.reset_machine.specs.Configuration.{tree_of}
+use Rattle.reset_model.specs.Configuration.{tree_of}
 use Rattle.reset_machine.proofs.view.read_near_trees.Given as goal
 
 -- the neighbours before the index have their registers

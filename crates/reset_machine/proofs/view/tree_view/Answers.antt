@@ -2,10 +2,10 @@ use Rattle.std.proofs.Common.{List, ℕ, sym, subst}
 use Rattle.tree_layer.specs.declared.regs.TreeRegs.{TreeRegs}
 use Rattle.tree_layer.specs.TreeTable.{IsView}
 use Rattle.topology.specs.Graph.{node_bound}
-use Rattle.reset_machine.specs.Configuration.{tree_of}
-use Rattle.reset_machine.proofs.Places.{none_is_no_some}
+use Rattle.reset_model.specs.Configuration.{tree_of}
+use Rattle.reset_model.proofs.Places.{none_is_no_some}
 use Rattle.reset_machine.proofs.NearTrees.{near_is_view}
-use Rattle.reset_machine.proofs.Planned.{tree_view_of-parts}
+use Rattle.reset_model.proofs.Planned.{tree_view_of-parts}
 use Rattle.reset_machine.proofs.view.tree_view.Goals as goal
 
 pub unreachable-requires : goal.unreachable-requires

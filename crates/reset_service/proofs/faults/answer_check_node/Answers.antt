@@ -2,7 +2,7 @@ use Rattle.std.proofs.Common.{◌≢◌, ℕ, List, subst, sym, ◌∙◌, rules
 use Rattle.std.specs.Io.KnownBytes.{Appends}
 use Rattle.action_tables.specs.Written.{AppendsFront}
 use Rattle.action_tables.proofs.Fronts.{OnErr-always}
-use Rattle.reset_machine.specs.declared.step.StepRefusal.TheVariants.{NoMemory}
+use Rattle.reset_model.specs.declared.step.StepRefusal.TheVariants.{NoMemory}
 use Rattle.reset_service.specs.Meaning.{meaning_of}
 use Rattle.reset_service.specs.Output.{node_faults_lines}
 use Rattle.reset_service.proofs.Nodes.{faults_node, told_refused}

@@ -1,4 +1,4 @@
-use Rattle.reset_machine.proofs.WordLines.{line_found, no_line_found}
+use Rattle.reset_model.proofs.WordLines.{line_found, no_line_found}
 use Rattle.reset_service.specs.Script.{command_words}
 use Rattle.reset_service.proofs.CommandLines.{words_of-plain_line}
 use Rattle.reset_service.proofs.script.by_first_word.Goals as goal

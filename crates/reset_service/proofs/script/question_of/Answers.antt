@@ -1,7 +1,7 @@
 use Rattle.std.specs.Prelude.{codes}
 use Rattle.std.proofs.Common.{arith, rules}
 use Rattle.std.proofs.lemmas.Slice.Eq.{text_from_reads}
-use Rattle.reset_machine.proofs.EventLines.{one_found}
+use Rattle.reset_model.proofs.EventLines.{one_found}
 use Rattle.reset_service.proofs.CommandLines.{no_question}
 use Rattle.reset_service.proofs.script.question_of.Goals as goal
 

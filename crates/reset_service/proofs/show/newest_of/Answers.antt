@@ -1,11 +1,11 @@
 use Rattle.std.specs.Prelude.{codes}
 use Rattle.std.proofs.Common.{if◌then◌else◌, sym}
 use Rattle.action_tables.proofs.Fronts.{AppendsFront-first, OnErr-always, OnErr-then, OnOk-then}
-use Rattle.reset_machine.specs.Configuration.{local_of}
+use Rattle.reset_model.specs.Configuration.{local_of}
 use Rattle.reset_service.specs.Lines.{ended}
 use Rattle.reset_service.specs.Meaning.{meaning_of}
-use Rattle.reset_machine.specs.Configuration.{wave_of}
-use Rattle.reset_machine.specs.Refinement.{has_joined}
+use Rattle.reset_model.specs.Configuration.{wave_of}
+use Rattle.reset_model.specs.Refinement.{has_joined}
 use Rattle.reset_service.specs.Output.{newest_head}
 use Rattle.reset_service.proofs.Nodes.{newest_joined, newest_unjoined}
 use Rattle.reset_service.proofs.show.newest_of.Goals as goal

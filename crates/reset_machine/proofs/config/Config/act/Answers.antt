@@ -1,4 +1,4 @@
-use Rattle.reset_machine.proofs.ConfigurationSteps.{put_local_outcome}
+use Rattle.reset_model.proofs.ConfigurationSteps.{put_local_outcome}
 use Rattle.reset_machine.proofs.config.Config.act.Goals as goal
 
 pub returns-in-Ok-clause-outcome : goal.returns-in-Ok-clause-outcome

@@ -1,9 +1,9 @@
 use Rattle.std.proofs.Common.{refl, ap, ◌∙◌, replicate}
 use Rattle.wave_layer.specs.declared.regs.WaveRegs.{WaveRegs}
 use Rattle.wave_layer.specs.declared.regs.Phase.TheVariants.{Normal}
-use Rattle.reset_machine.specs.Configuration.{Configuration}
-use Rattle.reset_machine.specs.Outcome.{IsBoot}
-use Rattle.reset_machine.proofs.SoundConfigurations.{boot_tree_picture, boot_wave_picture, pictures_sound}
+use Rattle.reset_model.specs.Configuration.{Configuration}
+use Rattle.reset_model.specs.Outcome.{IsBoot}
+use Rattle.reset_model.proofs.SoundConfigurations.{boot_tree_picture, boot_wave_picture, pictures_sound}
 use Rattle.reset_machine.proofs.config.Config.boot.Given.{Over}
 use Rattle.reset_machine.proofs.config.Config.boot.Goals.{After-is_graph}
 use Rattle.reset_machine.proofs.config.Config.boot.Goals as goal

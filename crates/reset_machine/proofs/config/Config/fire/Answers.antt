@@ -1,5 +1,5 @@
 use Rattle.std.proofs.Common.{Ok, ◌∙◌, ap}
-use Rattle.reset_machine.proofs.ConfigurationSteps.{put_tree_outcome}
+use Rattle.reset_model.proofs.ConfigurationSteps.{put_tree_outcome}
 use Rattle.reset_machine.proofs.config.Config.fire.Goals as goal
 
 pub returns-in-Tree-clause-outcome : goal.returns-in-Tree-clause-outcome

@@ -1,7 +1,7 @@
 use Rattle.std.proofs.Common.{◌-◌, ◌<◌, length, sym, ap, ◌∙◌, arith}
 use Rattle.std.proofs.lemmas.List.{get_or_default}
 use Rattle.wave_layer.specs.declared.regs.Phase.TheVariants.{Normal}
-use Rattle.reset_machine.proofs.Places.{value_at-place}
+use Rattle.reset_model.proofs.Places.{value_at-place}
 use Rattle.reset_machine.proofs.config.Config.newest_session.Goals as goal
 
 pub returns : goal.returns

@@ -1,8 +1,8 @@
 use Rattle.std.proofs.Common.{◌==◌, [], ◌∷◌, position, Ok, sym, subst, ap, ap₂, ◌∙◌}
-use Rattle.reset_machine.specs.declared.step.Done.TheVariants.{Did}
-use Rattle.reset_machine.specs.Planned.{after_effect}
-use Rattle.reset_machine.specs.View.{IsSeen}
-use Rattle.reset_machine.proofs.Deciding.{put-planned}
+use Rattle.reset_model.specs.declared.step.Done.TheVariants.{Did}
+use Rattle.reset_model.specs.Planned.{after_effect}
+use Rattle.reset_model.specs.View.{IsSeen}
+use Rattle.reset_model.proofs.Deciding.{put-planned}
 use Rattle.reset_machine.proofs.StepClauses.{answer_step}
 use Rattle.reset_machine.proofs.StepShadows.{sound_step}
 use Rattle.reset_machine.proofs.config.Config.put_plan.Goals as goal

@@ -1,7 +1,7 @@
 use Rattle.std.proofs.Common.{List, refl, sym, ap}
 use Rattle.tree_layer.specs.declared.regs.TreeRegs.{TreeRegs}
-use Rattle.reset_machine.specs.Configuration.{Configuration}
-use Rattle.reset_machine.proofs.Places.{position-Contains, Contains-position, put_at-position}
+use Rattle.reset_model.specs.Configuration.{Configuration}
+use Rattle.reset_model.proofs.Places.{position-Contains, Contains-position, put_at-position}
 use Rattle.reset_machine.proofs.config.Config.put_tree.Goals as goal
 
 pub returns-in-Some-clause-ok : goal.returns-in-Some-clause-ok

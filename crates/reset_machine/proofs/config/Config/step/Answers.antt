@@ -1,5 +1,5 @@
 use Rattle.std.proofs.Common.{[], ◌∷◌}
-use Rattle.reset_machine.specs.declared.step.Done.TheVariants.{Did}
+use Rattle.reset_model.specs.declared.step.Done.TheVariants.{Did}
 use Rattle.reset_machine.proofs.StepClauses.{act_is_outcome, answer_refused, answer_reply, answer_step, no_act, row_is_outcome}
 use Rattle.reset_machine.proofs.StepShadows.{sound_step}
 use Rattle.reset_machine.proofs.config.Config.step.Goals as goal

@@ -1,5 +1,5 @@
-use Rattle.reset_machine.specs.View.{IsSeen}
-use Rattle.reset_machine.proofs.Deciding.{is_some-tells}
+use Rattle.reset_model.specs.View.{IsSeen}
+use Rattle.reset_model.proofs.Deciding.{is_some-tells}
 use Rattle.reset_machine.proofs.config.Config.view_is.Goals as goal
 
 pub returns : goal.returns

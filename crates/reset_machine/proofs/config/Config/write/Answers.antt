@@ -1,8 +1,8 @@
 use Rattle.std.proofs.Common.{List, sym, ap, ap₂}
 use Rattle.tree_layer.specs.declared.regs.TreeRegs.{TreeRegs}
 use Rattle.wave_layer.specs.declared.regs.WaveRegs.{WaveRegs}
-use Rattle.reset_machine.specs.Configuration.{Configuration}
-use Rattle.reset_machine.proofs.Places.{put_at-position}
+use Rattle.reset_model.specs.Configuration.{Configuration}
+use Rattle.reset_model.proofs.Places.{put_at-position}
 use Rattle.reset_machine.proofs.config.Config.write.Goals as goal
 
 pub returns-in-Tree : goal.returns-in-Tree

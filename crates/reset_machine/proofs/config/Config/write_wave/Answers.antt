@@ -1,4 +1,4 @@
-use Rattle.reset_machine.specs.Configuration.{Configuration}
+use Rattle.reset_model.specs.Configuration.{Configuration}
 use Rattle.reset_machine.proofs.StepClauses.{not_restarted, restarted_at, wave_written}
 use Rattle.reset_machine.proofs.config.Config.write_wave.Goals.{then-fired+in-Ok, else-fired}
 use Rattle.reset_machine.proofs.config.Config.write_wave.Goals as goal

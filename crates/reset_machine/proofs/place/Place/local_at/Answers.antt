@@ -1,5 +1,5 @@
 use Rattle.std.proofs.Common.{sym, slice_index}
-use Rattle.reset_machine.proofs.Judging.{read_at-place}
+use Rattle.reset_model.proofs.Judging.{read_at-place}
 use Rattle.reset_machine.proofs.place.Place.local_at.Goals as goal
 
 pub returns : goal.returns

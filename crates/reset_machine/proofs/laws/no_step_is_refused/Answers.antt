@@ -1,5 +1,0 @@
-use Rattle.reset_machine.proofs.StepsOrRefusals.{step_or_refusal}
-use Rattle.reset_machine.proofs.laws.no_step_is_refused.Goals as goal
-
-pub returns : goal.returns
-returns g c = λ d d' e f graph step refused. step_or_refusal g.P.Application.app d d' e f graph step refused

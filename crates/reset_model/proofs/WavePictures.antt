@@ -1,0 +1,124 @@
+-- Over a tree picture the predicate holds at every father link exactly where the wave picture holds.
+use Rattle.std.proofs.Common.{◌≡◌, ℕ, true, false, ◌⊎◌, ◌↔◌, inl, inr, refl, sym, ap, ◌∙◌, ⊎_elim, true≢false}
+use Rattle.std.proofs.lemmas.Bool.{cases_Bool, cases_eq}
+use Rattle.topology.specs.Graph.{Graph, IsGraph, IsConnected, IsNode, leader}
+use Rattle.tree_layer.specs.declared.regs.TreeRegs.{TreeRegs}
+use Rattle.tree_layer.specs.TreeRows.{IsFather}
+use Rattle.tree_layer.specs.TreePicture.{TreePicture}
+use Rattle.tree_layer.proofs.Leaders.{linked_node}
+use Rattle.wave_layer.specs.declared.regs.WaveRegs.{WaveRegs}
+use Rattle.wave_layer.specs.WaveTable.{WaveHolds, next_session}
+use Rattle.wave_layer.proofs.NextSession.{next_injective}
+use Rattle.reset_model.specs.Steps.{reset_at}
+use Rattle.reset_model.specs.WavePicture.{WaveSound, HasJoined, WavePicture}
+use Rattle.reset_model.proofs.Fathers.{IsTop, IsUnder, top_or_under, down_tree}
+
+-- the node is not reset and one session behind its leader
+record IsBehind (g : Graph) (w : ℕ → WaveRegs) (i : ℕ) : Type 0 where
+  awake : reset_at w i ≡ false
+  next : next_session (w i).session ≡ (w (leader g i)).session
+
+-- ---- from the predicate to the picture
+
+module _ (g : Graph) (graph : IsGraph g) (whole : IsConnected g) (t : ℕ → TreeRegs) (picture : TreePicture g t) (w : ℕ → WaveRegs) (sound : WaveSound g t w) where
+  below_joined : (i j : ℕ) → IsFather g t i j → HasJoined g w j → HasJoined g w i ⊎ IsBehind g w i
+  below_joined i j father joined =
+      ⊎_elim
+      (λ up. ⊎_elim
+      (λ same. inl (same ∙ joined))
+      (λ late. inr (record { awake = late.0; next = sym late.1 ∙ joined }))
+      ((sound i j father).resetting up))
+      (λ up. inl (((sound i j father).awake up).1 ∙ joined))
+      (cases_Bool (reset_at w j))
+
+  below_behind : (i j : ℕ) → IsFather g t i j → IsBehind g w j → IsBehind g w i
+  below_behind i j father behind =
+      let held = (sound i j father).awake behind.awake in
+      record { awake = held.0; next = ap next_session held.1 ∙ behind.next }
+
+  joined_or_behind : (i : ℕ) → IsNode g i → HasJoined g w i ⊎ IsBehind g w i
+  joined_or_behind =
+      down_tree g graph whole t picture (λ i. HasJoined g w i ⊎ IsBehind g w i) (inl refl)
+      (λ i j father up. ⊎_elim (λ joined. below_joined i j father joined) (λ behind. inr (below_behind i j father behind)) up)
+
+  fathers_joined : (i : ℕ) → IsNode g i → HasJoined g w i → HasJoined g w (t i).father
+  fathers_joined i node joined =
+      ⊎_elim
+      (λ (top : IsTop g t i). ap (λ k. (w k).session) top.father ∙ joined)
+      (λ (under : IsUnder g t i).
+      let up = (t i).father in
+      ⊎_elim
+      (λ above. above)
+      (λ (behind : IsBehind g w up). sym ((sound i up under.father).awake behind.awake).1 ∙ joined)
+      (joined_or_behind up (linked_node g graph i up under.father.linked)))
+      (top_or_under g graph whole t picture i node)
+
+  fathers_reset : (i : ℕ) → IsNode g i → reset_at w i ≡ true → reset_at w (t i).father ≡ true
+  fathers_reset i node own =
+      ⊎_elim
+      (λ (top : IsTop g t i). ap (λ k. reset_at w k) top.father ∙ own)
+      (λ (under : IsUnder g t i).
+      let up = (t i).father in
+      ⊎_elim
+      (λ reset. reset)
+      (λ awake. absurd (true≢false (sym own ∙ ((sound i up under.father).awake awake).0)))
+      (cases_Bool (reset_at w up)))
+      (top_or_under g graph whole t picture i node)
+
+  reset_at_edge : (i : ℕ) → IsNode g i → (HasJoined g w i → ⊥) → HasJoined g w (t i).father → reset_at w (t i).father ≡ true
+  reset_at_edge i node apart joined =
+      ⊎_elim
+      (λ (top : IsTop g t i). absurd (apart (ap (λ k. (w k).session) top.greatest)))
+      (λ (under : IsUnder g t i).
+      let up = (t i).father in
+      ⊎_elim
+      (λ reset. reset)
+      (λ awake. absurd (apart (((sound i up under.father).awake awake).1 ∙ joined)))
+      (cases_Bool (reset_at w up)))
+      (top_or_under g graph whole t picture i node)
+
+  sound_picture : WavePicture g t w
+  sound_picture = record {
+    upward = fathers_joined;
+    outside = λ i node apart. ⊎_elim (λ joined. absurd (apart joined)) (λ (behind : IsBehind g w i). (behind.awake, behind.next)) (joined_or_behind i node);
+    resetting = fathers_reset;
+    edge = reset_at_edge;
+  }
+
+-- ---- from the picture to the predicate
+
+module _ (g : Graph) (graph : IsGraph g) (t : ℕ → TreeRegs) (w : ℕ → WaveRegs) (wave : WavePicture g t w) (i : ℕ) (node : IsNode g i) (up_node : IsNode g (t i).father) where
+  awake_under : reset_at w (t i).father ≡ false → reset_at w i ≡ false
+  awake_under up = ⊎_elim (λ own. absurd (true≢false (sym (wave.resetting i node own) ∙ up))) (λ own. own) (cases_Bool (reset_at w i))
+
+  same_under : reset_at w (t i).father ≡ false → (w i).session ≡ (w (t i).father).session
+  same_under up =
+      ⊎_elim
+      (λ (joined : HasJoined g w i). joined ∙ sym (wave.upward i node joined))
+      (λ (apart : HasJoined g w i → ⊥).
+      let above : HasJoined g w (t i).father → ⊥ = λ joined. true≢false (sym (wave.edge i node apart joined) ∙ up) in
+      next_injective (w i).session (w (t i).father).session ((wave.outside i node apart).1 ∙ sym (wave.outside (t i).father up_node above).1))
+      (cases_eq (w i).session (w (leader g i)).session)
+
+  late_under : reset_at w (t i).father ≡ true → ((w i).session ≡ (w (t i).father).session) ⊎ ((reset_at w i ≡ false) × ((w (t i).father).session ≡ next_session (w i).session))
+  late_under up =
+      let above : HasJoined g w (t i).father =
+      ⊎_elim
+      (λ joined. joined)
+      (λ (apart : HasJoined g w (t i).father → ⊥). absurd (true≢false (sym up ∙ (wave.outside (t i).father up_node apart).0)))
+      (cases_eq (w (t i).father).session (w (leader g i)).session) in
+      ⊎_elim
+      (λ (joined : HasJoined g w i). inl (joined ∙ sym above))
+      (λ (apart : HasJoined g w i → ⊥). let behind = wave.outside i node apart in inr (behind.0, above ∙ sym behind.1))
+      (cases_eq (w i).session (w (leader g i)).session)
+
+  holds_under : WaveHolds (w i) (w (t i).father)
+  holds_under = record { awake = λ up. (awake_under up, same_under up); resetting = late_under }
+
+picture_sound : (g : Graph) → IsGraph g → (t : ℕ → TreeRegs) (w : ℕ → WaveRegs) → WavePicture g t w → WaveSound g t w
+picture_sound g graph t w wave i j father =
+    let held = holds_under g graph t w wave i (graph.ends i j father.linked) (rw father.named (linked_node g graph i j father.linked)) in
+    rw father.named at held
+
+pub sound_where_picture : (g : Graph) (t : ℕ → TreeRegs) (w : ℕ → WaveRegs) → IsGraph g → IsConnected g → TreePicture g t → (WaveSound g t w ↔ WavePicture g t w)
+sound_where_picture g t w graph whole picture = (sound_picture g graph whole t picture w, picture_sound g graph t w)

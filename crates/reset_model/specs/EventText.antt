@@ -1,0 +1,42 @@
+-- The lines that stand for events.
+use Rattle.std.specs.Prelude.{ℕ, ◌<◌, ◌^◌, List, [], ◌∷◌, Option, Some, None, codes}
+use Rattle.std.specs.Fmt.{decimal}
+use Rattle.std.specs.List.{join_with_byte}
+use Rattle.reset_model.specs.declared.event.Event.{Event}
+use Rattle.reset_model.specs.declared.event.Event.TheVariants.{Claim, Follow, Adopt, Request, Relay, Open, Join, Finish, Mend, Act}
+
+-- the neighbour that is named, if one is
+abbrev pub neighbour_words : Option ℕ → List (List ℕ)
+neighbour_words None = []
+neighbour_words (Some j) = decimal j ∷ []
+
+-- an event in words: its command, and the numbers of the nodes and of the case
+abbrev pub event_words : Event → List (List ℕ)
+event_words (Claim at) = codes "claim" ∷ decimal at ∷ []
+event_words (Follow at) = codes "follow" ∷ decimal at ∷ []
+event_words (Adopt at from) = codes "adopt" ∷ decimal at ∷ decimal from ∷ []
+event_words (Request at) = codes "request" ∷ decimal at ∷ []
+event_words (Relay at child) = codes "relay" ∷ decimal at ∷ decimal child ∷ []
+event_words (Open at) = codes "open" ∷ decimal at ∷ []
+event_words (Join at) = codes "join" ∷ decimal at ∷ []
+event_words (Finish at) = codes "finish" ∷ decimal at ∷ []
+event_words (Mend at) = codes "mend" ∷ decimal at ∷ []
+event_words (Act at case with) = codes "act" ∷ decimal at ∷ decimal case ∷ neighbour_words with
+
+-- the one line of an event: its words, with a space between each two
+abbrev pub event_line : Event → List ℕ
+event_line e = join_with_byte 32 (event_words e)
+
+-- the numbers of an event are those of 32 bits, and that of a case is one of 8 bits
+abbrev pub Fits : Event → Type 0
+Fits (Claim at) = at < 2 ^ 32
+Fits (Follow at) = at < 2 ^ 32
+Fits (Adopt at from) = (at < 2 ^ 32) × (from < 2 ^ 32)
+Fits (Request at) = at < 2 ^ 32
+Fits (Relay at child) = (at < 2 ^ 32) × (child < 2 ^ 32)
+Fits (Open at) = at < 2 ^ 32
+Fits (Join at) = at < 2 ^ 32
+Fits (Finish at) = at < 2 ^ 32
+Fits (Mend at) = at < 2 ^ 32
+Fits (Act at case None) = (at < 2 ^ 32) × (case < 2 ^ 8)
+Fits (Act at case (Some j)) = (at < 2 ^ 32) × (case < 2 ^ 8) × (j < 2 ^ 32)

@@ -1,0 +1,16 @@
+pub mod Configuration
+pub mod Steps
+pub mod LocalSteps
+pub mod Actions
+pub mod MachineSteps
+pub mod Outcome
+pub mod Words
+pub mod EventText
+pub mod Runs
+pub mod WavePicture
+pub mod Sound
+pub mod Refinement
+pub mod Completion
+pub mod View
+pub mod Planned
+pub mod SoundSteps

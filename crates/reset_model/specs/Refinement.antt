@@ -1,0 +1,73 @@
+-- The abstract machine, which has neither tree nor waves nor sessions, and what a run of the reset
+-- machine is on it.
+use Rattle.std.specs.Prelude.{ℕ, Bool, ◌==◌, if◌then◌else◌, List, [], ◌∷◌, ◌++◌, Option, Result, Ok, Err}
+use Rattle.app_interface.specs.Application.{App, Action}
+use Rattle.app_interface.specs.Invariant.{SameAtNodes}
+use Rattle.topology.specs.Graph.{Graph, leader}
+use Rattle.wave_layer.specs.declared.regs.WaveRegs.{WaveRegs}
+use Rattle.reset_model.specs.declared.event.Event.{Event}
+use Rattle.reset_model.specs.declared.event.Event.TheVariants.{Open, Act}
+use Rattle.reset_model.specs.declared.step.Done.{Done}
+use Rattle.reset_model.specs.declared.step.Done.TheVariants.{Did, Refused}
+use Rattle.reset_model.specs.declared.step.Reply.{Reply}
+use Rattle.reset_model.specs.declared.step.StepRefusal.{StepRefusal}
+use Rattle.reset_model.specs.Configuration.{Configuration, wave_of, local_of}
+use Rattle.reset_model.specs.Planned.{outcome_of}
+
+-- ---- the abstract machine, whose state is the local states of the nodes
+
+-- all nodes restart at once, or a node takes a case, with this choice of a neighbour
+pub data AbstractStep : Type 0 where
+  Reset_all : AbstractStep
+  Do : (i case : ℕ) (with : Option ℕ) → AbstractStep
+
+-- the step takes the local states v to v', where K bounds the distances
+abbrev pub IsAbstract : {L : Type 0} → App L → Graph → ℕ → AbstractStep → (ℕ → L) → (ℕ → L) → Type 0
+IsAbstract app g K Reset_all v v' = SameAtNodes g (app.start g) v'
+IsAbstract app g K (Do i case with) v v' = Action app g K i case with v v'
+
+-- the steps take v to v', in turn
+abbrev pub IsAbstractRun : {L : Type 0} → App L → Graph → ℕ → List AbstractStep → (ℕ → L) → (ℕ → L) → Type 0
+IsAbstractRun app g K [] v v' = SameAtNodes g v v'
+IsAbstractRun {L} app g K (s ∷ ss) v v' = (u : ℕ → L) × IsAbstract app g K s v u × IsAbstractRun app g K ss u v'
+
+-- ---- what a configuration is on it
+
+-- whether a node has joined: it has its leader's session
+abbrev pub has_joined : Graph → (ℕ → WaveRegs) → ℕ → Bool
+has_joined g w i = (w i).session == (w (leader g i)).session
+
+-- the local states of the nodes that have joined, and the start states of the others, who are yet
+-- to restart
+abbrev pub abstract_of : {L : Type 0} → App L → Configuration L → ℕ → L
+abstract_of app c i = if has_joined c.graph (wave_of c) i then local_of app c i else app.start c.graph i
+
+-- ---- what events are on it
+
+-- the shadow of an event that is applied in c: to open a session is to reset all nodes at once, an
+-- action of a node that has joined is itself, and any other event is nothing
+abbrev pub shadow_of : {L : Type 0} → Configuration L → Event → List AbstractStep
+shadow_of c (Open i) = Reset_all ∷ []
+shadow_of c (Act i case with) = if has_joined c.graph (wave_of c) i then Do i case with ∷ [] else []
+shadow_of c _ = []
+
+-- the configuration that an outcome leaves of c
+abbrev pub left_of : {L : Type 0} → Configuration L → Result (Configuration L × Reply) StepRefusal → Configuration L
+left_of c (Ok after) = after.0
+left_of c (Err f) = c
+
+-- the configuration after an event that was answered so: what is refused changes nothing
+abbrev pub after : {L : Type 0} → App L → Configuration L → Event → Done → Configuration L
+after app c e (Did reply) = left_of c (outcome_of app c e)
+after app c e (Refused f) = c
+
+-- the shadow of an event that was answered so
+abbrev pub done_shadow : {L : Type 0} → Configuration L → Event → Done → List AbstractStep
+done_shadow c e (Did reply) = shadow_of c e
+done_shadow c e (Refused f) = []
+
+-- the shadow of a list of events that were answered so, in turn, from c on
+abbrev pub shadow : {L : Type 0} → App L → Configuration L → List Event → List Done → List AbstractStep
+shadow app c [] ds = []
+shadow app c (e ∷ es) [] = []
+shadow app c (e ∷ es) (d ∷ ds) = done_shadow c e d ++ shadow app (after app c e d) es ds

@@ -1,0 +1,183 @@
+// The lines that stand for events, and the words that lines are made of.
+ghost use Rattle.std.specs.Prelude.{◌≡◌, ℕ, ◌<◌, ◌≤◌, ◌^◌, List, [], ◌∷◌, ◌++◌, Option, codes, IfSome, IfNone, OnOk, OnErr};
+ghost use Rattle.std.specs.Fmt.{decimal};
+ghost use Rattle.std.specs.Io.KnownBytes.{Appends};
+ghost use Rattle.reset_model.specs.EventText.{event_line, event_words, neighbour_words, Fits};
+ghost use Rattle.reset_model.specs.Words.{words_of};
+ghost use Rattle.action_tables.specs.Written.{AppendsFront};
+ghost use Rattle.reset_model.specs.declared.event.Event.{Event};
+ghost use Rattle.reset_model.specs.declared.event.Event.TheVariants.{Act};
+
+use crate::event::Event;
+use action_tables::{WriteFault, cut, put_bytes, put_number, read_number};
+use std::io::Write;
+
+/// Two events below 2 ^ 32 in their numbers that have one line are the same event.
+pub fn one_event_a_line()
+    ensures { (e f : Event) → Fits e → Fits f → event_line e ≡ event_line f → e ≡ f }
+{}
+
+/// The first word of a line and what follows the space after it, or `None` where the line has no
+/// space: it is one word then, or empty.
+pub fn split_word(line: &[u8]) -> Option<(&[u8], &[u8])>
+    ensures found { IfSome result (λ parts. words_of line.now ≡ parts.0.now ∷ words_of parts.1.now) }
+    ensures only { IfNone result (words_of line.now ≡ line.now ∷ []) }
+{
+    cut(line, b' ')
+}
+
+/// The event that a line without its line feed stands for.
+pub fn read_event(line: &[u8]) -> Option<Event>
+    ensures found { IfSome result (λ e. line.now ≡ event_line e) }
+    ensures fits { IfSome result Fits }
+    ensures only { IfNone result ((e : Event) → Fits e → line.now ≡ event_line e → ⊥) }
+{
+    let (command, rest) = split_word(line)?;
+    event_of(command, rest)
+}
+
+/// The event of a line that was cut at its first space, into a command and what follows it.
+pub fn event_of(command: &[u8], rest: &[u8]) -> Option<Event>
+    ensures found { IfSome result (λ e. command.now ∷ words_of rest.now ≡ event_words e) }
+    ensures fits { IfSome result Fits }
+    ensures only { IfNone result ((e : Event) → Fits e → command.now ∷ words_of rest.now ≡ event_words e → ⊥) }
+{
+    match command {
+        b"claim" => Some(Event::Claim {
+            at: read_number(rest)?,
+        }),
+        b"follow" => Some(Event::Follow {
+            at: read_number(rest)?,
+        }),
+        b"adopt" => {
+            let (at, from) = two_numbers(rest)?;
+            Some(Event::Adopt { at, from })
+        }
+        b"request" => Some(Event::Request {
+            at: read_number(rest)?,
+        }),
+        b"relay" => {
+            let (at, child) = two_numbers(rest)?;
+            Some(Event::Relay { at, child })
+        }
+        b"open" => Some(Event::Open {
+            at: read_number(rest)?,
+        }),
+        b"join" => Some(Event::Join {
+            at: read_number(rest)?,
+        }),
+        b"finish" => Some(Event::Finish {
+            at: read_number(rest)?,
+        }),
+        b"mend" => Some(Event::Mend {
+            at: read_number(rest)?,
+        }),
+        b"act" => action_of(rest),
+        _ => None,
+    }
+}
+
+// Two numbers with a space between them.
+fn two_numbers(text: &[u8]) -> Option<(u32, u32)>
+    ensures found { IfSome result (λ ns. words_of text.now ≡ decimal ns.0 ∷ decimal ns.1 ∷ []) }
+    ensures small { IfSome result (λ ns. (ns.0 < 2 ^ 32) × (ns.1 < 2 ^ 32)) }
+    ensures only { IfNone result ((m n : ℕ) → m < 2 ^ 32 → n < 2 ^ 32 → words_of text.now ≡ decimal m ∷ decimal n ∷ [] → ⊥) }
+{
+    let (first, second) = split_word(text)?;
+    Some((read_number(first)?, read_number(second)?))
+}
+
+// The action of a node and a case, and of a neighbour if one is named.
+fn action_of(text: &[u8]) -> Option<Event>
+    ensures found { IfSome result (λ e. codes "act" ∷ words_of text.now ≡ event_words e) }
+    ensures fits { IfSome result Fits }
+    ensures only { IfNone result ((e : Event) → Fits e → codes "act" ∷ words_of text.now ≡ event_words e → ⊥) }
+{
+    let (at, rest) = split_word(text)?;
+    let (case, with) = word_and_neighbour(rest)?;
+    act(read_number(at)?, read_number(case)?, with)
+}
+
+/// A word and the number after it, if there is one, as the whole of a text.
+pub fn word_and_neighbour(text: &[u8]) -> Option<(&[u8], Option<u32>)>
+    ensures found { IfSome result (λ r. words_of text.now ≡ r.0.now ∷ neighbour_words r.1) }
+    ensures fits { IfSome result (λ r. IfSome r.1 (λ j. j < 2 ^ 32)) }
+    ensures only { IfNone result ((word : List ℕ) (with : Option ℕ) → IfSome with (λ j. j < 2 ^ 32) → words_of text.now ≡ word ∷ neighbour_words with → ⊥) }
+{
+    match split_word(text) {
+        None => Some((text, None)),
+        Some((word, number)) => Some((word, Some(read_number(number)?))),
+    }
+}
+
+// The action with this case, if it is the number of one.
+fn act(at: u32, case: u32, with: Option<u32>) -> Option<Event>
+    ensures found { IfSome result (λ e. e ≡ Act at case with) }
+    ensures only { IfNone result (256 ≤ case) }
+{
+    if case > u32::from(u8::MAX) {
+        return None;
+    }
+    Some(Event::Act {
+        at,
+        case: case as u8,
+        with,
+    })
+}
+
+/// Writes the line that stands for the event, without a line feed.
+pub fn write_event<W: Write>(event: &Event, out: &mut W) -> Result<(), WriteFault>
+    ensures ok { OnOk result (Appends (W.contents out.old) (W.contents out.new) (event_line event.now)) }
+    ensures err { OnErr result (AppendsFront (W.contents out.old) (W.contents out.new) (event_line event.now)) }
+{
+    match *event {
+        Event::Claim { at } => put_command(out, b"claim", at),
+        Event::Follow { at } => put_command(out, b"follow", at),
+        Event::Adopt { at, from } => put_command_of_two(out, b"adopt", at, from),
+        Event::Request { at } => put_command(out, b"request", at),
+        Event::Relay { at, child } => put_command_of_two(out, b"relay", at, child),
+        Event::Open { at } => put_command(out, b"open", at),
+        Event::Join { at } => put_command(out, b"join", at),
+        Event::Finish { at } => put_command(out, b"finish", at),
+        Event::Mend { at } => put_command(out, b"mend", at),
+        Event::Act { at, case, with } => put_act(out, at, case, with),
+    }
+}
+
+// Writes an action.
+fn put_act<W: Write>(out: &mut W, at: u32, case: u8, with: Option<u32>) -> Result<(), WriteFault>
+    ensures ok { OnOk result (Appends (W.contents out.old) (W.contents out.new) (event_line (Act at case with))) }
+    ensures err { OnErr result (AppendsFront (W.contents out.old) (W.contents out.new) (event_line (Act at case with))) }
+{
+    put_command_of_two(out, b"act", at, u32::from(case))?;
+    if let Some(near) = with {
+        put_bytes(out, b" ")?;
+        put_number(out, u64::from(near))?;
+    }
+    Ok(())
+}
+
+// Writes a command and its two numbers.
+fn put_command_of_two<W: Write>(
+    out: &mut W,
+    command: &[u8],
+    at: u32,
+    other: u32,
+) -> Result<(), WriteFault>
+    ensures ok { OnOk result (Appends (W.contents out.old) (W.contents out.new) ((command.now ++ (32 ∷ decimal at)) ++ (32 ∷ decimal other))) }
+    ensures err { OnErr result (AppendsFront (W.contents out.old) (W.contents out.new) ((command.now ++ (32 ∷ decimal at)) ++ (32 ∷ decimal other))) }
+{
+    put_command(out, command, at)?;
+    put_bytes(out, b" ")?;
+    put_number(out, u64::from(other))
+}
+
+// Writes a command and its first number.
+fn put_command<W: Write>(out: &mut W, command: &[u8], at: u32) -> Result<(), WriteFault>
+    ensures ok { OnOk result (Appends (W.contents out.old) (W.contents out.new) (command.now ++ (32 ∷ decimal at))) }
+    ensures err { OnErr result (AppendsFront (W.contents out.old) (W.contents out.new) (command.now ++ (32 ∷ decimal at))) }
+{
+    put_bytes(out, command)?;
+    put_bytes(out, b" ")?;
+    put_number(out, u64::from(at))
+}
