@@ -1,10 +1,10 @@
 // What an action of the application does, from what its node reads.
 
 ghost use Rattle.std.specs.Prelude.{◌≡◌, ◌≢◌, ◌==◌, IfOk, MatchResult, filter, is_ok, map, position};
-ghost use Rattle.std.specs.Prelude.{Err, None, Ok, Some};
+ghost use Rattle.std.specs.Prelude.{Err, Ok, Some};
 ghost use Rattle.app_interface.specs.Views.{seen_values};
 ghost use Rattle.topology.specs.Graph.{node_bound};
-ghost use Rattle.reset_model.specs.Actions.{acted_of, first_apart, misfit, reads_near};
+ghost use Rattle.reset_model.specs.Actions.{acted_of, first_apart, reads_near};
 ghost use Rattle.reset_model.specs.Configuration.{local_of, wave_of};
 ghost use Rattle.reset_machine.specs.Place.{fitted_at, near_ids};
 

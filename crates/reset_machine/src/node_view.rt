@@ -1,10 +1,8 @@
 // How what a node sees is read of a configuration, and compared with it.
 
-ghost use Rattle.std.specs.Prelude.{◌≡◌, ◌<◌, ◌==◌, ◌↔◌, IfOk, IsTrue, Some, length, map, option_map};
-ghost use Rattle.std.specs.Prelude.{slice_get, slice_index};
+ghost use Rattle.std.specs.Prelude.{◌≡◌, ◌<◌, ◌↔◌, IfOk, IsTrue, length, map, slice_index};
 ghost use Rattle.reset_machine.specs.Place.{near_ids};
-ghost use Rattle.reset_model.specs.View.{near_of, near_trees, view_of};
-ghost use Rattle.tree_layer.specs.TreeTable.{IsView};
+ghost use Rattle.reset_model.specs.View.{near_of, view_of};
 
 use crate::place::Place;
 use app_interface::Application;

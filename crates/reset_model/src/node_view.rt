@@ -1,7 +1,6 @@
 // What a node sees, as a value of its own.
 
-ghost use Rattle.std.specs.Prelude.{◌≡◌, ◌<◌, ◌==◌, ◌↔◌, IfOk, IsTrue, Some, length, map, option_map};
-ghost use Rattle.std.specs.Prelude.{slice_get, slice_index};
+ghost use Rattle.std.specs.Prelude.{◌≡◌, ◌↔◌, IfOk, IsTrue, length, option_map, slice_get};
 ghost use Rattle.reset_model.specs.View.{near_trees};
 ghost use Rattle.tree_layer.specs.TreeTable.{IsView};
 
