@@ -1,19 +1,17 @@
 -- What comes of a fault, from the reasons that there are against it.
-use Rattle.std.proofs.Common.{◌≡◌, ◌≢◌, ℕ, ◌==◌, ◌&&◌, Bool, true, false, not, List, [], ◌∷◌, ◌++◌, length, Option, Some, None, Result, Ok, Err, OnOk, IfErr, MatchResult, refl, sym, ap, subst, ◌∙◌, ⊎_elim, true≢false, eqb-true, lt-ltb, le-ltb, ◌<◌, ◌≤◌, zero, suc, slice_index}
-use Rattle.std.proofs.lemmas.Bool.{and_parts, false_from_ne_true, or_cases}
+use Rattle.std.proofs.Common.{◌≡◌, ◌≢◌, ℕ, ◌==◌, ◌&&◌, Bool, true, false, not, List, [], ◌∷◌, ◌++◌, length, Option, Some, None, Result, Ok, Err, OnOk, IfErr, MatchResult, refl, sym, ap, subst, ◌∙◌, true≢false, lt-ltb, le-ltb, ◌<◌, ◌≤◌, slice_index}
+use Rattle.std.proofs.lemmas.Bool.{false_from_ne_true}
 use Rattle.std.proofs.lemmas.List.Elements.{All-contains}
-use Rattle.std.proofs.lemmas.List.Folds.{Any-from_list_any}
 use Rattle.std.proofs.lemmas.List.Sums.{AllPass-from_list_all}
-use Rattle.std.specs.List.{list_any}
 use Rattle.action_tables.specs.Numbers.{is_among}
 use Rattle.app_interface.specs.Ids.{is_id}
 use Rattle.topology.specs.Changing.{first_of, is_full, link_fault, strange_ends, unlink_fault, with_link, without_link}
 use Rattle.topology.specs.Faults.{IsCutOff}
-use Rattle.topology.specs.Graph.{Graph, IsNode, IsReached, are_linked}
+use Rattle.topology.specs.Graph.{Graph, IsNode, are_linked}
 use Rattle.topology.specs.Reaching.{is_connected, is_reached}
 use Rattle.topology.specs.declared.fault.TopoFault.{TopoFault}
 use Rattle.topology.specs.declared.fault.TopoFault.TheVariants.{StrangeNode as StrangeEnd, SelfLink, TooManyLinks, LinkIsThere as Doubled, NoSuchLink as Unlinked, Disconnected, NoMemory as WantOfMemory}
-use Rattle.topology.proofs.Walks.{walk_on}
+use Rattle.topology.proofs.Reaching.{walk_from_test}
 use Rattle.tree_layer.specs.declared.regs.TreeRegs.{TreeRegs}
 use Rattle.wave_layer.specs.declared.regs.WaveRegs.{WaveRegs}
 use Rattle.reset_machine.specs.Configuration.{Configuration, with_graph, with_local, with_tree, with_wave}
@@ -23,24 +21,6 @@ use Rattle.fault_inject.specs.declared.fault.Fault.{Fault}
 use Rattle.fault_inject.specs.declared.fault.Fault.TheVariants.{SetTree, SetWave, SetLocal, LinkDown, LinkUp}
 use Rattle.fault_inject.specs.declared.refusal.FaultRefusal.{FaultRefusal}
 use Rattle.fault_inject.specs.declared.refusal.FaultRefusal.TheVariants.{StrangeNode, BadValue, BadLocal, NoSuchLink, LinkIsThere, WouldDisconnect, NoMemory}
-
--- ---- what is reached within so many links is reached
-
-module _ (g : Graph) (a : ℕ) where
-  abbrev leads_to : ℕ → ℕ → ℕ → Bool
-  leads_to count b c = is_reached g a c count && are_linked g c b
-
-  walk_from_test : (count b : ℕ) → is_reached g a b count ≡ true → IsReached g a b
-  walk_from_test zero b e = ([], eqb-true a b e)
-  walk_from_test (suc count) b e =
-      ⊎_elim (walk_from_test count b)
-      (λ last.
-      let at = Any-from_list_any (leads_to count b) g.ids last in
-      let c : ℕ = at.1 in
-      let parts = and_parts (is_reached g a c count) (are_linked g c b) at.4 in
-      let before = walk_from_test count c parts.0 in
-      (before.0 ++ b ∷ [], walk_on g a c b before.0 (b ∷ []) before.1 (parts.1, refl)))
-      (or_cases (is_reached g a b count) (list_any (leads_to count b) g.ids) e)
 
 -- a graph with a node that is cut off isn't connected
 apart : (g : Graph) (n : ℕ) → IsCutOff g n → is_connected g ≡ false

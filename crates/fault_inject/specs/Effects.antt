@@ -44,6 +44,12 @@ damaged from_text c (SetLocal at text) = with_read c at (from_text text)
 damaged from_text c (LinkDown a b) = with_graph c (without_link c.graph a b)
 damaged from_text c (LinkUp a b) = with_graph c (with_link c.graph a b)
 
+-- a fault that asks for memory: it puts a local state, or takes a link out or puts one in
+abbrev pub AsksForMemory : Fault → Type 0
+AsksForMemory (SetTree at regs) = ⊥
+AsksForMemory (SetWave at regs) = ⊥
+AsksForMemory f = Unit {0}
+
 -- the configuration, unless there is a refusal
 abbrev unless : {L : Type 0} → Option FaultRefusal → Configuration L → Result (Configuration L) FaultRefusal
 unless None c = Ok c
