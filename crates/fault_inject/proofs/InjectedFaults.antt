@@ -5,7 +5,7 @@ use Rattle.std.proofs.lemmas.List.Elements.{All-contains}
 use Rattle.std.proofs.lemmas.List.Sums.{AllPass-from_list_all}
 use Rattle.action_tables.specs.Numbers.{is_among}
 use Rattle.app_interface.specs.Ids.{is_id}
-use Rattle.topology.specs.Changing.{first_of, is_full, link_fault, strange_ends, unlink_fault, with_link, without_link}
+use Rattle.topology.specs.Changing.{Reason, first_of, is_full, link_fault, strange_ends, unlink_fault, when, with_link, without_link}
 use Rattle.topology.specs.Faults.{IsCutOff}
 use Rattle.topology.specs.Graph.{Graph, IsNode, are_linked}
 use Rattle.topology.specs.Reaching.{is_connected, is_reached}
@@ -101,25 +101,29 @@ told Unlinked = NoSuchLink
 told (Disconnected n) = WouldDisconnect
 told f = NoMemory
 
-abbrev all_told : List (Bool × TopoFault) → List (Bool × FaultRefusal)
+abbrev all_told : List (Reason TopoFault) → List (Reason FaultRefusal)
 all_told [] = []
-all_told (f ∷ fs) = (f.0, told f.1) ∷ all_told fs
+all_told (f ∷ fs) = when f.holds (told f.told) ∷ all_told fs
 
 abbrev told_or : Option TopoFault → Option FaultRefusal → Option FaultRefusal
 told_or (Some f) o = Some (told f)
 told_or None o = o
 
-first_told : (fs : List (Bool × TopoFault)) (more : List (Bool × FaultRefusal))
+first_told : (fs : List (Reason TopoFault)) (more : List (Reason FaultRefusal))
     → first_of (all_told fs ++ more) ≡ told_or (first_of fs) (first_of more)
 first_told [] more = refl
-first_told ((true, f) ∷ fs) more = refl
-first_told ((false, f) ∷ fs) more = first_told fs more
+first_told (f ∷ fs) more = by_test f.holds (first_told fs more)
+  where
+    by_test : (holds : Bool) → first_of (all_told fs ++ more) ≡ told_or (first_of fs) (first_of more)
+        → first_of (all_told (when holds f.told ∷ fs) ++ more) ≡ told_or (first_of (when holds f.told ∷ fs)) (first_of more)
+    by_test true later = refl
+    by_test false later = later
 
-abbrev up_faults : Graph → ℕ → ℕ → List (Bool × TopoFault)
-up_faults g a b = strange_ends g.ids a b ++ (a == b, SelfLink a) ∷ (are_linked g a b, Doubled) ∷ (is_full g, TooManyLinks) ∷ []
+abbrev up_faults : Graph → ℕ → ℕ → List (Reason TopoFault)
+up_faults g a b = strange_ends g.ids a b ++ when (a == b) (SelfLink a) ∷ when (are_linked g a b) Doubled ∷ when (is_full g) TooManyLinks ∷ []
 
-abbrev down_faults : Graph → ℕ → ℕ → List (Bool × TopoFault)
-down_faults g a b = strange_ends g.ids a b ++ (not (are_linked g a b), Unlinked) ∷ []
+abbrev down_faults : Graph → ℕ → ℕ → List (Reason TopoFault)
+down_faults g a b = strange_ends g.ids a b ++ when (not (are_linked g a b)) Unlinked ∷ []
 
 abbrev is_memory : TopoFault → Bool
 is_memory WantOfMemory = true
@@ -143,8 +147,8 @@ module _ {L : Type 0} (from_text : List ℕ → Option L) (c : Configuration L) 
       (first_told (up_faults c.graph a b) [] ∙ ap (λ o. told_or o None) (ap (λ h. link_fault h a b) (sym same) ∙ is))
       (made ∙ ap (λ h. with_graph c h) whole)
 
-  abbrev cut : List (Bool × FaultRefusal)
-  cut = (not (is_connected (without_link c.graph a b)), WouldDisconnect) ∷ []
+  abbrev cut : List (Reason FaultRefusal)
+  cut = when (not (is_connected (without_link c.graph a b))) WouldDisconnect ∷ []
 
   down_first : (o : Option TopoFault) → unlink_fault c.graph a b ≡ o → first_of (refusals from_text c (LinkDown a b)) ≡ told_or o (first_of cut)
   down_first o is = first_told (down_faults c.graph a b) cut ∙ ap (λ p. told_or p (first_of cut)) is
@@ -155,11 +159,11 @@ module _ {L : Type 0} (from_text : List ℕ → Option L) (c : Configuration L) 
       refused from_text c (LinkDown a b) (told f)
       (down_first (Some f) (ap (λ h. unlink_fault h a b) (sym same) ∙ is (other_fault f other)))
 
-  abbrev first_cut : (connected : Bool) → connected ≡ false → first_of ((not connected, WouldDisconnect) ∷ []) ≡ Some WouldDisconnect
+  abbrev first_cut : (connected : Bool) → connected ≡ false → first_of (when (not connected) WouldDisconnect ∷ []) ≡ Some WouldDisconnect
   first_cut false e = refl
   first_cut true e = absurd (true≢false e)
 
-  abbrev no_cut : (connected : Bool) → connected ≡ true → first_of ((not connected, WouldDisconnect) ∷ []) ≡ None
+  abbrev no_cut : (connected : Bool) → connected ≡ true → first_of (when (not connected) WouldDisconnect ∷ []) ≡ None
   no_cut true e = refl
   no_cut false e = absurd (true≢false (sym e))
 
