@@ -115,12 +115,15 @@ first_told [] more = refl
 first_told (f ∷ fs) more = by_test f.holds (first_told fs more)
   where
     by_test : (holds : Bool) → first_of (all_told fs ++ more) ≡ told_or (first_of fs) (first_of more)
-        → first_of (all_told (when holds f.told ∷ fs) ++ more) ≡ told_or (first_of (when holds f.told ∷ fs)) (first_of more)
+        → first_of (all_told (when holds f.told ∷ fs) ++ more)
+        ≡ told_or (first_of (when holds f.told ∷ fs)) (first_of more)
     by_test true later = refl
     by_test false later = later
 
 abbrev up_faults : Graph → ℕ → ℕ → List (Reason TopoFault)
-up_faults g a b = strange_ends g.ids a b ++ when (a == b) (SelfLink a) ∷ when (are_linked g a b) Doubled ∷ when (is_full g) TooManyLinks ∷ []
+up_faults g a b =
+    strange_ends g.ids a b
+    ++ when (a == b) (SelfLink a) ∷ when (are_linked g a b) Doubled ∷ when (is_full g) TooManyLinks ∷ []
 
 abbrev down_faults : Graph → ℕ → ℕ → List (Reason TopoFault)
 down_faults g a b = strange_ends g.ids a b ++ when (not (are_linked g a b)) Unlinked ∷ []
@@ -159,7 +162,8 @@ module _ {L : Type 0} (from_text : List ℕ → Option L) (c : Configuration L) 
       refused from_text c (LinkDown a b) (told f)
       (down_first (Some f) (ap (λ h. unlink_fault h a b) (sym same) ∙ is (other_fault f other)))
 
-  abbrev first_cut : (connected : Bool) → connected ≡ false → first_of (when (not connected) WouldDisconnect ∷ []) ≡ Some WouldDisconnect
+  abbrev first_cut : (connected : Bool) → connected ≡ false
+      → first_of (when (not connected) WouldDisconnect ∷ []) ≡ Some WouldDisconnect
   first_cut false e = refl
   first_cut true e = absurd (true≢false e)
 

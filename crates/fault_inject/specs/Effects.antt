@@ -20,7 +20,8 @@ strange c i = when (not (is_among i c.graph.ids)) StrangeNode
 abbrev pub refusals : {L : Type 0} → (List ℕ → Option L) → Configuration L → Fault → List (Reason FaultRefusal)
 refusals from_text c (SetTree at regs) = strange c at ∷ when (not (is_id regs.root && is_id regs.father)) BadValue ∷ []
 refusals from_text c (SetWave at regs) = strange c at ∷ []
-refusals from_text c (SetLocal at text) = strange c at ∷ when (nat_lt 200 (length text) || is_none (from_text text)) BadLocal ∷ []
+refusals from_text c (SetLocal at text) =
+    strange c at ∷ when (nat_lt 200 (length text) || is_none (from_text text)) BadLocal ∷ []
 refusals from_text c (LinkDown a b) =
     strange c a ∷ strange c b ∷ when (not (are_linked c.graph a b)) NoSuchLink
     ∷ when (not (is_connected (without_link c.graph a b))) WouldDisconnect ∷ []

@@ -366,6 +366,7 @@ event_is_loud (Act at case with) = refl
 pub event_asked : (names : ℕ → Option (List ℕ)) (line : List ℕ) (e : Event) → Fits e → line ≡ event_line e
     → line_of names line ≡ Asks (Step e)
 event_asked names line e fits is =
-    let short : nat_lt 256 (length line) ≡ false = ap (λ l. nat_lt 256 (length l)) is ∙ le-ltb 256 (length (event_line e)) (event_is_short e fits) in
+    let short : nat_lt 256 (length line) ≡ false =
+    ap (λ l. nat_lt 256 (length l)) is ∙ le-ltb 256 (length (event_line e)) (event_is_short e fits) in
     let loud : is_silent line ≡ false = ap is_silent is ∙ event_is_loud e in
     rw (short, loud, ← command_of-is names line (Some (Step e)) (by_words fits is) tt) refl
