@@ -1,19 +1,17 @@
 -- What comes of a fault, from the reasons that there are against it.
-use Rattle.std.proofs.Common.{◌≡◌, ◌≢◌, ℕ, ◌==◌, ◌&&◌, Bool, true, false, not, List, [], ◌∷◌, ◌++◌, length, Option, Some, None, Result, Ok, Err, OnOk, IfErr, MatchResult, refl, sym, ap, subst, ◌∙◌, ⊎_elim, true≢false, eqb-true, lt-ltb, le-ltb, ◌<◌, ◌≤◌, zero, suc, slice_index}
-use Rattle.std.proofs.lemmas.Bool.{and_parts, false_from_ne_true, or_cases}
+use Rattle.std.proofs.Common.{◌≡◌, ◌≢◌, ℕ, ◌==◌, ◌&&◌, Bool, true, false, not, List, [], ◌∷◌, ◌++◌, length, Option, Some, None, Result, Ok, Err, OnOk, IfErr, MatchResult, refl, sym, ap, subst, ◌∙◌, true≢false, lt-ltb, le-ltb, ◌<◌, ◌≤◌, slice_index}
+use Rattle.std.proofs.lemmas.Bool.{false_from_ne_true}
 use Rattle.std.proofs.lemmas.List.Elements.{All-contains}
-use Rattle.std.proofs.lemmas.List.Folds.{Any-from_list_any}
 use Rattle.std.proofs.lemmas.List.Sums.{AllPass-from_list_all}
-use Rattle.std.specs.List.{list_any}
 use Rattle.action_tables.specs.Numbers.{is_among}
 use Rattle.app_interface.specs.Ids.{is_id}
-use Rattle.topology.specs.Changing.{first_of, is_full, link_fault, strange_ends, unlink_fault, with_link, without_link}
+use Rattle.topology.specs.Changing.{Reason, first_of, is_full, link_fault, strange_ends, unlink_fault, when, with_link, without_link}
 use Rattle.topology.specs.Faults.{IsCutOff}
-use Rattle.topology.specs.Graph.{Graph, IsNode, IsReached, are_linked}
+use Rattle.topology.specs.Graph.{Graph, IsNode, are_linked}
 use Rattle.topology.specs.Reaching.{is_connected, is_reached}
 use Rattle.topology.specs.declared.fault.TopoFault.{TopoFault}
 use Rattle.topology.specs.declared.fault.TopoFault.TheVariants.{StrangeNode as StrangeEnd, SelfLink, TooManyLinks, LinkIsThere as Doubled, NoSuchLink as Unlinked, Disconnected, NoMemory as WantOfMemory}
-use Rattle.topology.proofs.Walks.{walk_on}
+use Rattle.topology.proofs.Reaching.{walk_from_test}
 use Rattle.tree_layer.specs.declared.regs.TreeRegs.{TreeRegs}
 use Rattle.wave_layer.specs.declared.regs.WaveRegs.{WaveRegs}
 use Rattle.reset_model.specs.Configuration.{Configuration, with_graph, with_local, with_tree, with_wave}
@@ -23,24 +21,6 @@ use Rattle.fault_inject.specs.declared.fault.Fault.{Fault}
 use Rattle.fault_inject.specs.declared.fault.Fault.TheVariants.{SetTree, SetWave, SetLocal, LinkDown, LinkUp}
 use Rattle.fault_inject.specs.declared.refusal.FaultRefusal.{FaultRefusal}
 use Rattle.fault_inject.specs.declared.refusal.FaultRefusal.TheVariants.{StrangeNode, BadValue, BadLocal, NoSuchLink, LinkIsThere, WouldDisconnect, NoMemory}
-
--- ---- what is reached within so many links is reached
-
-module _ (g : Graph) (a : ℕ) where
-  abbrev leads_to : ℕ → ℕ → ℕ → Bool
-  leads_to count b c = is_reached g a c count && are_linked g c b
-
-  walk_from_test : (count b : ℕ) → is_reached g a b count ≡ true → IsReached g a b
-  walk_from_test zero b e = ([], eqb-true a b e)
-  walk_from_test (suc count) b e =
-      ⊎_elim (walk_from_test count b)
-      (λ last.
-      let at = Any-from_list_any (leads_to count b) g.ids last in
-      let c : ℕ = at.1 in
-      let parts = and_parts (is_reached g a c count) (are_linked g c b) at.4 in
-      let before = walk_from_test count c parts.0 in
-      (before.0 ++ b ∷ [], walk_on g a c b before.0 (b ∷ []) before.1 (parts.1, refl)))
-      (or_cases (is_reached g a b count) (list_any (leads_to count b) g.ids) e)
 
 -- a graph with a node that is cut off isn't connected
 apart : (g : Graph) (n : ℕ) → IsCutOff g n → is_connected g ≡ false
@@ -121,25 +101,32 @@ told Unlinked = NoSuchLink
 told (Disconnected n) = WouldDisconnect
 told f = NoMemory
 
-abbrev all_told : List (Bool × TopoFault) → List (Bool × FaultRefusal)
+abbrev all_told : List (Reason TopoFault) → List (Reason FaultRefusal)
 all_told [] = []
-all_told (f ∷ fs) = (f.0, told f.1) ∷ all_told fs
+all_told (f ∷ fs) = when f.holds (told f.told) ∷ all_told fs
 
 abbrev told_or : Option TopoFault → Option FaultRefusal → Option FaultRefusal
 told_or (Some f) o = Some (told f)
 told_or None o = o
 
-first_told : (fs : List (Bool × TopoFault)) (more : List (Bool × FaultRefusal))
+first_told : (fs : List (Reason TopoFault)) (more : List (Reason FaultRefusal))
     → first_of (all_told fs ++ more) ≡ told_or (first_of fs) (first_of more)
 first_told [] more = refl
-first_told ((true, f) ∷ fs) more = refl
-first_told ((false, f) ∷ fs) more = first_told fs more
+first_told (f ∷ fs) more = by_test f.holds (first_told fs more)
+  where
+    by_test : (holds : Bool) → first_of (all_told fs ++ more) ≡ told_or (first_of fs) (first_of more)
+        → first_of (all_told (when holds f.told ∷ fs) ++ more)
+        ≡ told_or (first_of (when holds f.told ∷ fs)) (first_of more)
+    by_test true later = refl
+    by_test false later = later
 
-abbrev up_faults : Graph → ℕ → ℕ → List (Bool × TopoFault)
-up_faults g a b = strange_ends g.ids a b ++ (a == b, SelfLink a) ∷ (are_linked g a b, Doubled) ∷ (is_full g, TooManyLinks) ∷ []
+abbrev up_faults : Graph → ℕ → ℕ → List (Reason TopoFault)
+up_faults g a b =
+    strange_ends g.ids a b
+    ++ when (a == b) (SelfLink a) ∷ when (are_linked g a b) Doubled ∷ when (is_full g) TooManyLinks ∷ []
 
-abbrev down_faults : Graph → ℕ → ℕ → List (Bool × TopoFault)
-down_faults g a b = strange_ends g.ids a b ++ (not (are_linked g a b), Unlinked) ∷ []
+abbrev down_faults : Graph → ℕ → ℕ → List (Reason TopoFault)
+down_faults g a b = strange_ends g.ids a b ++ when (not (are_linked g a b)) Unlinked ∷ []
 
 abbrev is_memory : TopoFault → Bool
 is_memory WantOfMemory = true
@@ -163,8 +150,8 @@ module _ {L : Type 0} (from_text : List ℕ → Option L) (c : Configuration L) 
       (first_told (up_faults c.graph a b) [] ∙ ap (λ o. told_or o None) (ap (λ h. link_fault h a b) (sym same) ∙ is))
       (made ∙ ap (λ h. with_graph c h) whole)
 
-  abbrev cut : List (Bool × FaultRefusal)
-  cut = (not (is_connected (without_link c.graph a b)), WouldDisconnect) ∷ []
+  abbrev cut : List (Reason FaultRefusal)
+  cut = when (not (is_connected (without_link c.graph a b))) WouldDisconnect ∷ []
 
   down_first : (o : Option TopoFault) → unlink_fault c.graph a b ≡ o → first_of (refusals from_text c (LinkDown a b)) ≡ told_or o (first_of cut)
   down_first o is = first_told (down_faults c.graph a b) cut ∙ ap (λ p. told_or p (first_of cut)) is
@@ -175,11 +162,12 @@ module _ {L : Type 0} (from_text : List ℕ → Option L) (c : Configuration L) 
       refused from_text c (LinkDown a b) (told f)
       (down_first (Some f) (ap (λ h. unlink_fault h a b) (sym same) ∙ is (other_fault f other)))
 
-  abbrev first_cut : (connected : Bool) → connected ≡ false → first_of ((not connected, WouldDisconnect) ∷ []) ≡ Some WouldDisconnect
+  abbrev first_cut : (connected : Bool) → connected ≡ false
+      → first_of (when (not connected) WouldDisconnect ∷ []) ≡ Some WouldDisconnect
   first_cut false e = refl
   first_cut true e = absurd (true≢false e)
 
-  abbrev no_cut : (connected : Bool) → connected ≡ true → first_of ((not connected, WouldDisconnect) ∷ []) ≡ None
+  abbrev no_cut : (connected : Bool) → connected ≡ true → first_of (when (not connected) WouldDisconnect ∷ []) ≡ None
   no_cut true e = refl
   no_cut false e = absurd (true≢false (sym e))
 

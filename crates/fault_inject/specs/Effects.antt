@@ -1,9 +1,9 @@
 -- What a fault does to a configuration, and why a configuration can't have it.
-use Rattle.std.specs.Prelude.{ℕ, ◌==◌, ◌&&◌, ◌||◌, Bool, not, nat_lt, List, [], ◌∷◌, length, Option, Some, None, Result, Ok, Err}
+use Rattle.std.specs.Prelude.{ℕ, ◌==◌, ◌&&◌, ◌||◌, not, nat_lt, List, [], ◌∷◌, length, Option, Some, None, Result, Ok, Err}
 use Rattle.std.specs.Option.{is_none}
 use Rattle.action_tables.specs.Numbers.{is_among}
 use Rattle.app_interface.specs.Ids.{is_id}
-use Rattle.topology.specs.Changing.{first_of, is_full, with_link, without_link}
+use Rattle.topology.specs.Changing.{Reason, first_of, is_full, when, with_link, without_link}
 use Rattle.topology.specs.Graph.{are_linked}
 use Rattle.topology.specs.Reaching.{is_connected}
 use Rattle.reset_model.specs.Configuration.{Configuration, with_graph, with_local, with_tree, with_wave}
@@ -12,24 +12,22 @@ use Rattle.fault_inject.specs.declared.fault.Fault.TheVariants.{SetTree, SetWave
 use Rattle.fault_inject.specs.declared.refusal.FaultRefusal.{FaultRefusal}
 use Rattle.fault_inject.specs.declared.refusal.FaultRefusal.TheVariants.{StrangeNode, BadValue, BadLocal, NoSuchLink, LinkIsThere, WouldDisconnect}
 
--- a refusal, and whether there is reason for it
-abbrev Reason : Type 0
-Reason = Bool × FaultRefusal
-
 -- there is no node i
-abbrev pub strange : {L : Type 0} → Configuration L → ℕ → Reason
-strange c i = (not (is_among i c.graph.ids), StrangeNode)
+abbrev pub strange : {L : Type 0} → Configuration L → ℕ → Reason FaultRefusal
+strange c i = when (not (is_among i c.graph.ids)) StrangeNode
 
 -- the refusals of a fault, in their order; from_text gives the local state with a text, where there is one
-abbrev pub refusals : {L : Type 0} → (List ℕ → Option L) → Configuration L → Fault → List Reason
-refusals from_text c (SetTree at regs) = strange c at ∷ (not (is_id regs.root && is_id regs.father), BadValue) ∷ []
+abbrev pub refusals : {L : Type 0} → (List ℕ → Option L) → Configuration L → Fault → List (Reason FaultRefusal)
+refusals from_text c (SetTree at regs) = strange c at ∷ when (not (is_id regs.root && is_id regs.father)) BadValue ∷ []
 refusals from_text c (SetWave at regs) = strange c at ∷ []
-refusals from_text c (SetLocal at text) = strange c at ∷ (nat_lt 200 (length text) || is_none (from_text text), BadLocal) ∷ []
+refusals from_text c (SetLocal at text) =
+    strange c at ∷ when (nat_lt 200 (length text) || is_none (from_text text)) BadLocal ∷ []
 refusals from_text c (LinkDown a b) =
-    strange c a ∷ strange c b ∷ (not (are_linked c.graph a b), NoSuchLink)
-    ∷ (not (is_connected (without_link c.graph a b)), WouldDisconnect) ∷ []
+    strange c a ∷ strange c b ∷ when (not (are_linked c.graph a b)) NoSuchLink
+    ∷ when (not (is_connected (without_link c.graph a b))) WouldDisconnect ∷ []
 refusals from_text c (LinkUp a b) =
-    strange c a ∷ strange c b ∷ (a == b, BadValue) ∷ (are_linked c.graph a b, LinkIsThere) ∷ (is_full c.graph, BadValue) ∷ []
+    strange c a ∷ strange c b ∷ when (a == b) BadValue ∷ when (are_linked c.graph a b) LinkIsThere
+    ∷ when (is_full c.graph) BadValue ∷ []
 
 -- the configuration with this local state of a node, if it is one
 abbrev pub with_read : {L : Type 0} → Configuration L → ℕ → Option L → Configuration L
@@ -43,6 +41,12 @@ damaged from_text c (SetWave at regs) = with_wave c at regs
 damaged from_text c (SetLocal at text) = with_read c at (from_text text)
 damaged from_text c (LinkDown a b) = with_graph c (without_link c.graph a b)
 damaged from_text c (LinkUp a b) = with_graph c (with_link c.graph a b)
+
+-- a fault that asks for memory: it puts a local state, or takes a link out or puts one in
+abbrev pub AsksForMemory : Fault → Type 0
+AsksForMemory (SetTree at regs) = ⊥
+AsksForMemory (SetWave at regs) = ⊥
+AsksForMemory f = Unit {0}
 
 -- the configuration, unless there is a refusal
 abbrev unless : {L : Type 0} → Option FaultRefusal → Configuration L → Result (Configuration L) FaultRefusal

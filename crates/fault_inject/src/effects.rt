@@ -4,7 +4,7 @@ ghost use Rattle.std.specs.Prelude.{◌≡◌, ◌≢◌, ◌&&◌, Ok, Err, IfE
 ghost use Rattle.action_tables.specs.Numbers.{is_among};
 ghost use Rattle.app_interface.specs.Ids.{is_id};
 ghost use Rattle.reset_model.specs.Configuration.{with_graph};
-ghost use Rattle.fault_inject.specs.Effects.{injected};
+ghost use Rattle.fault_inject.specs.Effects.{AsksForMemory, injected};
 ghost use Rattle.fault_inject.specs.declared.fault.Fault.TheVariants.{SetTree, SetWave, SetLocal, LinkDown, LinkUp};
 
 use crate::fault::Fault;
@@ -29,6 +29,7 @@ pub fn inject<P: Application>(
     ensures outcome { MatchResult result (λ _. injected P.from_text config.old fault.now ≡ Ok config.new)
         (λ f. f ≢ FaultRefusal.NoMemory → injected P.from_text config.old fault.now ≡ Err f) }
     ensures kept { OnErr result (config.new ≡ config.old) }
+    ensures memory { result ≡ Err FaultRefusal.NoMemory → AsksForMemory fault.now }
 {
     match fault {
         Fault::SetTree { at, regs } => set_tree(config, *at, *regs),
@@ -48,6 +49,7 @@ fn set_tree<P: Application>(
     ensures outcome { MatchResult result (λ _. injected P.from_text config.old (SetTree at regs) ≡ Ok config.new)
         (λ f. injected P.from_text config.old (SetTree at regs) ≡ Err f) }
     ensures kept { OnErr result (config.new ≡ config.old) }
+    ensures memory { result ≢ Err FaultRefusal.NoMemory }
 {
     if !is_node(config, at) {
         return Err(FaultRefusal::StrangeNode);
@@ -61,8 +63,8 @@ fn set_tree<P: Application>(
     }
 }
 
-// Whether the identifier is that of a node.
-fn is_node<P: Application>(config: &Config<P>, at: u32) -> bool
+/// Whether the identifier is that of a node.
+pub fn is_node<P: Application>(config: &Config<P>, at: u32) -> bool
     ensures { result ≡ is_among at config.now.graph.ids }
 {
     config.topology().index_of(at).is_some()
@@ -84,6 +86,7 @@ fn set_wave<P: Application>(
     ensures outcome { MatchResult result (λ _. injected P.from_text config.old (SetWave at regs) ≡ Ok config.new)
         (λ f. injected P.from_text config.old (SetWave at regs) ≡ Err f) }
     ensures kept { OnErr result (config.new ≡ config.old) }
+    ensures memory { result ≢ Err FaultRefusal.NoMemory }
 {
     match config.put_wave(at, regs) {
         Ok(()) => Ok(()),
@@ -113,9 +116,8 @@ fn set_local<P: Application>(
         Err(LocalFault::BadLocal) => return Err(FaultRefusal::BadLocal),
         Err(LocalFault::NoMemory) => return Err(FaultRefusal::NoMemory),
     };
-    match config.put_local(at, local) {
-        Ok(()) => {}
-        Err(_) => return Err(FaultRefusal::StrangeNode),
+    if let Err(_) = config.put_local(at, local) {
+        return Err(FaultRefusal::StrangeNode);
     }
     Ok(())
 }

@@ -10,7 +10,7 @@ mod refusal;
 mod text;
 
 pub use draw::draw_fault;
-pub use effects::inject;
+pub use effects::{inject, is_node};
 pub use fault::Fault;
 pub use local_text::LocalText;
 pub use refusal::FaultRefusal;

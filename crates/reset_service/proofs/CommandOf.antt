@@ -1,5 +1,5 @@
 -- The command of a line is the one that it spells.
-use Rattle.std.proofs.Common.{◌≡◌, ◌≢◌, IsTrue, Result, Ok, Err, IfOk, ℕ, zero, suc, ◌<◌, ◌^◌, ◌%◌, Bool, true, false, ◌⊎◌, inl, inr, List, [], ◌∷◌, ◌++◌, map, refl, sym, ap, ap₂, ◌∙◌, true≢false, arith, length, slice_get, Option, Some, None, IfSome, IfNone, cond, option_map, if◌then◌else◌}
+use Rattle.std.proofs.Common.{◌≡◌, ◌≢◌, IsTrue, Result, Ok, Err, IfOk, ℕ, zero, suc, ◌<◌, ◌≤◌, ◌*◌, ◌^◌, ◌%◌, nat_lt, le-ltb, Bool, true, false, ◌⊎◌, inl, inr, List, [], ◌∷◌, ◌++◌, map, refl, sym, ap, ap₂, ◌∙◌, true≢false, arith, length, slice_get, Option, Some, None, IfSome, IfNone, cond, option_map, if◌then◌else◌}
 use Rattle.std.specs.Fmt.{decimal}
 use Rattle.std.specs.Char.{is_ascii_graphic}
 use Rattle.std.specs.List.{find, join_with_byte, list_all}
@@ -7,18 +7,23 @@ use Rattle.std.proofs.lemmas.Bool.{and_parts}
 use Rattle.std.specs.Str.{bytes_eq}
 use Rattle.std.specs.Str.Parse.{digits_value}
 use Rattle.std.proofs.Math.Nat.{mod-eq_of_lt}
-use Rattle.std.proofs.lemmas.Fmt.{decimal_is_IsNumeral}
+use Rattle.std.proofs.lemmas.Fmt.{length-decimal-le}
+use Rattle.std.proofs.lemmas.List.{length-append}
 use Rattle.std.proofs.lemmas.Nat.{mod_below}
 use Rattle.std.proofs.lemmas.Slice.Eq.{bytes_eq-Decides}
-use Rattle.reset_model.specs.EventText.{Fits}
+use Rattle.app_interface.specs.FromText.{number_of}
+use Rattle.app_interface.proofs.FromTextLaws.{number_of-decimal as value}
+use Rattle.reset_model.specs.EventText.{Fits, event_line, event_words}
 use Rattle.reset_model.specs.Words.{words_of}
+use Rattle.reset_model.specs.declared.event.Event.{Event}
 use Rattle.reset_model.specs.declared.event.Event.TheVariants.{Claim, Follow, Adopt, Request, Relay, Open, Join, Finish, Mend, Act}
 use Rattle.reset_model.proofs.EventLines.{action_small, first_bytes, one_event, same_number}
+use Rattle.reset_service.specs.declared.script.Line.TheVariants.{Asks}
 use Rattle.reset_service.specs.declared.script.Command.{Command}
 use Rattle.reset_service.specs.declared.script.Command.TheVariants.{Step, Inject, Draw, Show, ShowNode, Newest, Enabled, Ready, Check, CheckNode, Alarm, Watch}
-use Rattle.reset_service.specs.Script.{case_named, command_words, command_line, command_of, commands_with, faults_with, in_words, local_faults_with, own_commands, with_name, is_name, is_text, actions_with, named_words, number_at, spellings, word_at, CommandFits, IsPlain, IsPrintable, Spelling, Spells}
+use Rattle.reset_service.specs.Script.{case_named, command_words, command_line, command_of, commands_with, faults_with, in_words, is_silent, line_of, local_faults_with, own_commands, with_name, is_name, is_text, actions_with, named_words, number_at, spellings, word_at, CommandFits, IsPlain, Spelling, Spells}
 use Rattle.reset_service.specs.Script.Spells.{by_words, by_name}
-use Rattle.reset_service.proofs.CommandLines.{words_of_line, event_is_no_fault, no_event, no_fault, none_of_both, plain_fits}
+use Rattle.reset_service.proofs.CommandLines.{words_of_line, event_is_no_fault, no_event, no_fault, none_of_both}
 use Rattle.fault_inject.specs.FaultText as fault
 use Rattle.fault_inject.proofs.FaultLines.{one_fault}
 use Rattle.fault_inject.specs.declared.fault.Fault.{Fault}
@@ -198,10 +203,7 @@ has_later : (line : List ℕ) (c : Command) (ss ts : List Spelling) → Has line
 has_later line c [] ts h = h
 has_later line c (s ∷ ss) ts h = inr (has_later line c ss ts h)
 
-value : (n : ℕ) → n < 2 ^ 32 → digits_value 10 (decimal n) % 2 ^ 32 ≡ n
-value n h = ap (λ v. v % 2 ^ 32) ((decimal_is_IsNumeral n (omega arith)).1) ∙ mod-eq_of_lt h
-
-case_value : (n : ℕ) → n < 2 ^ 8 → (digits_value 10 (decimal n) % 2 ^ 32) % 2 ^ 8 ≡ n
+case_value : (n : ℕ) → n < 2 ^ 8 → number_of (decimal n) % 2 ^ 8 ≡ n
 case_value n h = ap (λ v. v % 2 ^ 8) (value n (omega (arith, h))) ∙ mod-eq_of_lt h
 
 -- a command that stands at a place
@@ -309,3 +311,62 @@ pub fault_read : {E : Type 0} (names : ℕ → Option (List ℕ)) (line : List �
 fault_read names line (Ok (Some c)) apart plain found fits none = command_of-is names line (Some c) (by_words fits found) tt
 fault_read names line (Ok None) apart plain found fits none = command_of-is names line None tt (nothing_spelled names line apart none plain)
 fault_read names line (Err e) apart plain found fits none = tt
+
+-- ---- the line of an event asks for it
+
+abbrev AreShort : List (List ℕ) → Type 0
+AreShort [] = Unit {0}
+AreShort (word ∷ words) = (length word ≤ 10) × AreShort words
+
+join_short : (words : List (List ℕ)) → AreShort words → length (join_with_byte 32 words) ≤ 11 * length words
+join_short [] short = omega arith
+join_short (word ∷ []) short = omega (arith, short.0)
+join_short (word ∷ next ∷ words) short =
+    omega (arith, short.0, join_short (next ∷ words) short.1, length-append word (32 ∷ join_with_byte 32 (next ∷ words)))
+
+number_short : (n : ℕ) → n < 2 ^ 32 → length (decimal n) ≤ 10
+number_short n small = length-decimal-le 10 n (omega arith) (omega (arith, small)) (omega (arith, small))
+
+event_is_short : (e : Event) → Fits e → length (event_line e) ≤ 256
+event_is_short e fits = omega (arith, join_short (event_words e) (words_short e fits), few_words e)
+  where
+    words_short : (e : Event) → Fits e → AreShort (event_words e)
+    words_short (Claim at) h = (omega arith, (number_short at h, tt))
+    words_short (Follow at) h = (omega arith, (number_short at h, tt))
+    words_short (Adopt at from) h = (omega arith, (number_short at h.0, (number_short from h.1, tt)))
+    words_short (Request at) h = (omega arith, (number_short at h, tt))
+    words_short (Relay at child) h = (omega arith, (number_short at h.0, (number_short child h.1, tt)))
+    words_short (Open at) h = (omega arith, (number_short at h, tt))
+    words_short (Join at) h = (omega arith, (number_short at h, tt))
+    words_short (Finish at) h = (omega arith, (number_short at h, tt))
+    words_short (Mend at) h = (omega arith, (number_short at h, tt))
+    words_short (Act at case None) h = (omega arith, (number_short at h.0, (number_short case (omega (arith, h.1)), tt)))
+    words_short (Act at case (Some j)) h =
+        (omega arith, (number_short at h.0, (number_short case (omega (arith, h.1)), (number_short j h.2, tt))))
+
+    few_words : (e : Event) → length (event_words e) ≤ 4
+    few_words (Adopt at from) = omega arith
+    few_words (Relay at child) = omega arith
+    few_words (Act at case None) = omega arith
+    few_words (Act at case (Some j)) = omega arith
+    few_words e = omega arith
+
+event_is_loud : (e : Event) → is_silent (event_line e) ≡ false
+event_is_loud (Claim at) = refl
+event_is_loud (Follow at) = refl
+event_is_loud (Adopt at from) = refl
+event_is_loud (Request at) = refl
+event_is_loud (Relay at child) = refl
+event_is_loud (Open at) = refl
+event_is_loud (Join at) = refl
+event_is_loud (Finish at) = refl
+event_is_loud (Mend at) = refl
+event_is_loud (Act at case with) = refl
+
+pub event_asked : (names : ℕ → Option (List ℕ)) (line : List ℕ) (e : Event) → Fits e → line ≡ event_line e
+    → line_of names line ≡ Asks (Step e)
+event_asked names line e fits is =
+    let short : nat_lt 256 (length line) ≡ false =
+    ap (λ l. nat_lt 256 (length l)) is ∙ le-ltb 256 (length (event_line e)) (event_is_short e fits) in
+    let loud : is_silent line ≡ false = ap is_silent is ∙ event_is_loud e in
+    rw (short, loud, ← command_of-is names line (Some (Step e)) (by_words fits is) tt) refl

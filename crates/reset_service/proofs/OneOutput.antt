@@ -1,5 +1,5 @@
 -- What a run writes is one, and so is how a joined text is cut.
-use Rattle.std.proofs.Common.{◌≡◌, ◌≢◌, ℕ, suc, ◌+◌, ◌<◌, ◌⊎◌, List, [], ◌∷◌, ◌++◌, All, Contains, Result, Ok, Err, refl, sym, ap, ap₂, subst, subst₂, ◌∙◌, arith, inl, inr}
+use Rattle.std.proofs.Common.{◌≡◌, ◌≢◌, ℕ, suc, ◌⊎◌, List, [], ◌∷◌, ◌++◌, Contains, Result, Ok, Err, refl, sym, ap, ap₂, subst, subst₂, ◌∙◌, arith, inl, inr}
 use Rattle.std.specs.List.{flat_map, join_with_byte}
 use Rattle.std.proofs.lemmas.List.Elements.{All-contains, Contains-append_right}
 use Rattle.topology.specs.Faults.{IsFirstFault, IsGraphOf}
@@ -9,7 +9,7 @@ use Rattle.topology.specs.declared.fault.TopoFault.{TopoFault}
 use Rattle.topology.specs.declared.text.AppName.{AppName}
 use Rattle.topology.specs.declared.text.AppName.TheVariants.{Idle, Token, Mutex, Routes}
 use Rattle.topology.specs.declared.text.ReadFault.{ReadFault}
-use Rattle.topology.specs.declared.text.ReadFault.TheVariants.{TextTooLong, NotToml, MissingKey, UnknownKey, WrongKind, UnknownApp, Topology, NoMemory}
+use Rattle.topology.specs.declared.text.ReadFault.TheVariants.{Topology}
 use Rattle.topology.proofs.OneResult.{one_first_fault, one_graph}
 use Rattle.reset_model.proofs.OneBoot.{one_boot}
 use Rattle.reset_service.specs.Lines.{HasNoSeparator, IsCut, ended, lines_of, separator}

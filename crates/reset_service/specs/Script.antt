@@ -4,8 +4,8 @@ use Rattle.std.specs.Char.{is_ascii_alphabetic, is_ascii_graphic}
 use Rattle.std.specs.Fmt.{decimal}
 use Rattle.std.specs.List.{find, join_with_byte, list_all}
 use Rattle.std.specs.Str.{bytes_eq}
-use Rattle.std.specs.Str.Parse.{digits_value}
 use Rattle.action_tables.specs.Numbers.{all_cases}
+use Rattle.app_interface.specs.FromText.{number_of}
 use Rattle.reset_model.specs.EventText.{event_words, neighbour_words, Fits}
 use Rattle.reset_model.specs.Words.{words_of}
 use Rattle.fault_inject.specs.FaultText as fault
@@ -116,9 +116,9 @@ with_name names at word with = record { words = named_words at word with; comman
 abbrev pub word_at : List (List ℕ) → ℕ → List ℕ
 word_at words i = slice_index_or words i []
 
--- the number that its digits write, modulo 2 ^ 32: the word's own where it spells one of 32 bits
+-- the number of the word at a place: the word's own where it spells one of 32 bits
 abbrev pub number_at : List (List ℕ) → ℕ → ℕ
-number_at words i = digits_value 10 (word_at words i) % 2 ^ 32
+number_at words i = number_of (word_at words i)
 
 -- the commands with these numbers
 abbrev pub commands_with : ℕ → ℕ → ℕ → List Command

@@ -4,7 +4,6 @@ ghost use Rattle.std.specs.Prelude.{◌≡◌, ◌≢◌, ◌++◌, codes, lengt
 ghost use Rattle.std.specs.List.{flat_map};
 ghost use Rattle.std.specs.Io.KnownBytes.{Appends};
 ghost use Rattle.topology.specs.Graph.{IsNode};
-ghost use Rattle.action_tables.specs.Numbers.{is_among};
 ghost use Rattle.action_tables.specs.Written.{AppendsFront};
 ghost use Rattle.reset_service.specs.Meaning.{meaning_of};
 ghost use Rattle.reset_service.specs.Output.{alarm_line, alarm_text, answered, at_node, fault_line, faults_lines, faults_status, faults_text, found_status, node_faults_lines, watched};
@@ -14,6 +13,7 @@ use crate::answer::{answer_step, put_numbered, put_refusal};
 use crate::status::{RunStop, Status};
 use action_tables::{Part, WriteFault, put_bytes, put_parts};
 use app_interface::Application;
+use fault_inject::is_node;
 use link_predicates::{LinkFault, alarm, check_all, check_node};
 use reset_machine::{Config, Event, StepRefusal};
 use std::alloc::{AllocError, Global};
@@ -88,13 +88,6 @@ pub fn answer_alarm<P: Application, W: Write>(
     } else {
         put_refusal(out, StepRefusal::StrangeNode)
     }
-}
-
-// Whether the identifier is that of a node.
-fn is_node<P: Application>(config: &Config<P>, at: u32) -> bool
-    ensures { result ≡ is_among at config.now.graph.ids }
-{
-    config.topology().index_of(at).is_some()
 }
 
 /// As `answer_alarm`; where the node has an alarm it then asks for a reset, and the reply or the

@@ -9,7 +9,7 @@ ghost use Rattle.reset_service.specs.Meaning.{meaning_of};
 ghost use Rattle.reset_service.specs.Script.{line_of};
 ghost use Rattle.reset_service.specs.Output.{answer_to, answers, bad_topology_text, ending, script_output, too_long_text, IsJoinedOutput, IsOutput, IsReplay, IsReplayOf, Leaves};
 
-use crate::answer::{answer, put_bad_line, put_too_long, put_topology_fault};
+use crate::answer::{answer, answer_step, put_bad_line, put_too_long, put_topology_fault};
 use crate::faults::answer_check;
 use crate::input::{cut_joined, read_text, split_line};
 use crate::script::{Line, read_line};
@@ -18,7 +18,7 @@ use app_interface::{Application, Idle};
 use app_mutex::EdgeReversal;
 use app_routes::Routes;
 use app_token::Token;
-use reset_machine::Config;
+use reset_machine::{Config, read_event};
 use std::alloc::Global;
 use std::io::{Read, Write};
 use topology::{AppName, MAX_TEXT, ReadFault, Topology, read_topology};
@@ -245,8 +245,31 @@ fn answer_lines<P: Application, W: Write>(
     answer_line(alloc, config, number, rest, out)
 }
 
-// Answers the line with this number.
+// Answers the line with this number. Most lines are events: they are read first and by themselves,
+// since a command of any kind may hold the text of a fault, with which it is slow to move.
 fn answer_line<P: Application, W: Write>(
+    alloc: Global,
+    config: &mut Config<P>,
+    number: u64,
+    line: &[u8],
+    out: &mut W,
+) -> Result<Status, RunStop>
+    ensures ok { IfOk result (λ status. let a = answer_to (meaning_of P.app P.text P.from_text P.names) config.old number (line_of P.names line.now) in
+        (status ≡ a.status) × (config.new ≡ a.config) × Appends (W.contents out.old) (W.contents out.new) a.text) }
+    ensures err { OnErr result (AppendsFront (W.contents out.old) (W.contents out.new) (answer_to (meaning_of P.app P.text P.from_text P.names) config.old number (line_of P.names line.now)).text) }
+    ensures stop { IfErr result (λ stop. stop ≢ RunStop.ReadFailed) }
+{
+    match read_event(line) {
+        Some(event) => {
+            answer_step(alloc, config, event, out)?;
+            Ok(Status::Good)
+        }
+        None => answer_any_line(alloc, config, number, line, out),
+    }
+}
+
+// Answers the line with this number, whatever it is.
+fn answer_any_line<P: Application, W: Write>(
     alloc: Global,
     config: &mut Config<P>,
     number: u64,

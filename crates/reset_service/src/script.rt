@@ -1,13 +1,13 @@
 // The lines of a script.
 
-ghost use Rattle.std.specs.Prelude.{◌≡◌, ℕ, ◌<◌, ◌^◌, ◌⊎◌, [], ◌∷◌, List, Option, option_map, IsTrue, IfOk, IfSome, IfNone, ◌↔◌};
+ghost use Rattle.std.specs.Prelude.{◌≡◌, ℕ, ◌<◌, ◌^◌, ◌⊎◌, [], ◌∷◌, List, Option, option_map, IsTrue, IfOk, IfSome, IfNone, OnErr, ◌↔◌};
 ghost use Rattle.std.specs.Fmt.{decimal};
 ghost use Rattle.std.specs.Char.{is_ascii_graphic};
 ghost use Rattle.std.specs.List.{join_with_byte, list_all};
 ghost use Rattle.reset_model.specs.EventText.{Fits, neighbour_words};
 ghost use Rattle.reset_model.specs.Words.{words_of};
 ghost use Rattle.reset_model.specs.declared.event.Event.TheVariants.{Act};
-ghost use Rattle.fault_inject.specs.FaultText.{fault_line};
+ghost use Rattle.fault_inject.specs.FaultText.{IsLocalFault, fault_line};
 ghost use Rattle.fault_inject.specs.declared.fault.Fault.{Fault};
 ghost use Rattle.reset_service.specs.declared.script.Command.{Command};
 ghost use Rattle.reset_service.specs.declared.script.Command.TheVariants.{Inject, Step};
@@ -70,7 +70,8 @@ pub enum Line {
 
 /// Reads a line without its line feed.
 pub fn read_line<P: Application>(alloc: Global, line: &[u8]) -> Result<Line, AllocError>
-    ensures { IfOk result (λ read. read ≡ line_of P.names line.now) }
+    ensures read { IfOk result (λ read. read ≡ line_of P.names line.now) }
+    ensures memory { OnErr result (IsLocalFault (words_of line.now)) }
 {
     if line.len() > MAX_LINE {
         return Ok(Line::Bad);
@@ -98,6 +99,9 @@ pub fn read_command<P: Application>(
     ensures function { IfOk result (λ read. read ≡ command_of P.names line.now) }
     ensures found { IfOk result (λ read. IfSome read (Spells P.names line.now)) }
     ensures only { IfOk result (λ read. IfNone read ((command : Command) → Spells P.names line.now command → ⊥)) }
+
+    // Memory is asked for the text of a local state alone.
+    ensures memory { OnErr result (IsLocalFault (words_of line.now)) }
 {
     if let Some(command) = by_first_word(line) {
         return Ok(Some(command));
@@ -113,6 +117,7 @@ fn read_injected(alloc: Global, line: &[u8]) -> Result<Option<Command>, AllocErr
     ensures found { IfOk result (λ read. IfSome read (λ command. line.now ≡ command_line command)) }
     ensures fits { IfOk result (λ read. IfSome read CommandFits) }
     ensures only { IfOk result (λ read. IfNone read ((f : Fault) → CommandFits (Inject f) → line.now ≡ fault_line f → ⊥)) }
+    ensures memory { OnErr result (IsLocalFault (words_of line.now)) }
 {
     let read = read_fault(alloc, line)?;
     let Some(fault) = read else {

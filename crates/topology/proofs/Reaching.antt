@@ -50,7 +50,7 @@ module _ (g : Graph) (a : ℕ) where
   leads_to count b c = is_reached g a c count && are_linked g c b
 
   -- a walk leads to what the test tells
-  walk_from_test : (count b : ℕ) → is_reached g a b count ≡ true → IsReached g a b
+  pub walk_from_test : (count b : ℕ) → is_reached g a b count ≡ true → IsReached g a b
   walk_from_test zero b e = ([], eqb-true a b e)
   walk_from_test (suc count) b e =
       ⊎_elim (walk_from_test count b)

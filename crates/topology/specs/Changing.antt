@@ -15,14 +15,22 @@ with_link g a b = record { ids = g.ids; bound = g.bound; links = set.insert (set
 abbrev pub without_link : Graph → ℕ → ℕ → Graph
 without_link g a b = record { ids = g.ids; bound = g.bound; links = set.remove (set.remove g.links (a, b)) (b, a) }
 
--- the first of the list whose test passes
-abbrev pub first_of : {F : Type 0} → List (Bool × F) → Option F
+-- what is told where this holds
+pub record Reason (F : Type 0) : Type 0 where
+  pub holds : Bool
+  pub told : F
+
+abbrev pub when : {F : Type 0} → Bool → F → Reason F
+when holds told = record { holds = holds; told = told }
+
+-- what the first reason that holds tells
+abbrev pub first_of : {F : Type 0} → List (Reason F) → Option F
 first_of [] = None
-first_of (c ∷ cs) = if c.0 then Some c.1 else first_of cs
+first_of (reason ∷ reasons) = if reason.holds then Some reason.told else first_of reasons
 
 -- an end that is none of the ids, a before b
-abbrev pub strange_ends : List ℕ → ℕ → ℕ → List (Bool × TopoFault)
-strange_ends ids a b = (not (has ids a), StrangeNode a) ∷ (not (has ids b), StrangeNode b) ∷ []
+abbrev pub strange_ends : List ℕ → ℕ → ℕ → List (Reason TopoFault)
+strange_ends ids a b = when (not (has ids a)) (StrangeNode a) ∷ when (not (has ids b)) (StrangeNode b) ∷ []
 
 -- there are 8192 links or more, each of which is two pairs of the graph
 abbrev pub is_full : Graph → Bool
@@ -32,11 +40,11 @@ is_full g = not (nat_lt (set.len g.links) (2 * 8192))
 abbrev pub link_fault : Graph → ℕ → ℕ → Option TopoFault
 link_fault g a b =
     first_of (strange_ends g.ids a b
-    ++ (a == b, SelfLink a) ∷ (are_linked g a b, LinkIsThere) ∷ (is_full g, TooManyLinks) ∷ [])
+    ++ when (a == b) (SelfLink a) ∷ when (are_linked g a b) LinkIsThere ∷ when (is_full g) TooManyLinks ∷ [])
 
 -- the first reason why there is no link of a and b to be taken out
 abbrev pub unlink_fault : Graph → ℕ → ℕ → Option TopoFault
-unlink_fault g a b = first_of (strange_ends g.ids a b ++ (not (are_linked g a b), NoSuchLink) ∷ [])
+unlink_fault g a b = first_of (strange_ends g.ids a b ++ when (not (are_linked g a b)) NoSuchLink ∷ [])
 
 -- the first reason why the link of a and b can't be taken out: there is none, or the graph would fall apart
 abbrev pub IsUnlinkFault : Graph → ℕ → ℕ → TopoFault → Type 0

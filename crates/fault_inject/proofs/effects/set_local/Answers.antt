@@ -21,7 +21,7 @@ pub returns-clause-outcome : goal.returns-clause-outcome
 returns-clause-outcome g c =
     let short : length c.args.text.now ≤ 200 = omega (arith, c.if-text-gt-MAX_LOCAL.false) in
     local_put g.P.Application.from_text c.args.config.now c.args.at c.args.text.now _ _ (sym c.is_node.ensures ∙ c.if-not-is_node.false) short
-    c.in-Ok.ensures.ok c.in-Ok-put_local.ensures.ok.1
+    c.in-Ok.ensures.ok c.in_default.ensures.ok.1
 
 pub returns-in-Err-clause-outcome : goal.returns-in-Err-clause-outcome
 returns-in-Err-clause-outcome g c =

@@ -11,6 +11,7 @@ returns-in-Some g c =
       function = command_of-is g.P.Application.names c.args.line.now (Some c.in-Some.command) found tt;
       found = found;
       only = tt;
+      memory = tt;
     }
 
 pub returns-in-Some-read_named-clause-function : goal.returns-in-Some-read_named-clause-function
