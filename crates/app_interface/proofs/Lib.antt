@@ -5,3 +5,4 @@ pub mod ListingLaws
 pub mod KeptByPlace
 pub mod OneText
 pub mod FromTextLaws
+pub mod PrintableWords

@@ -1,5 +1,5 @@
 -- Laws of the application without cases.
-use Rattle.std.proofs.Common.{◌≡◌, ◌↔◌, ℕ, ◌≤◌, Bool, true, false, true≢false, cond, List, Option, None, Some, length, refl, sym, arith}
+use Rattle.std.proofs.Common.{◌≡◌, ◌↔◌, ℕ, ◌≤◌, Bool, true, false, true≢false, cond, List, Option, None, Some, length, refl, sym, ap, arith}
 use Rattle.std.specs.Prelude.{codes}
 use Rattle.std.specs.Str.{bytes_eq}
 use Rattle.std.proofs.lemmas.Slice.Eq.{bytes_eq-Decides}
@@ -7,6 +7,7 @@ use Rattle.std.proofs.lemmas.Option.{none-some}
 use Rattle.topology.specs.Graph.{Graph, IsGraph}
 use Rattle.app_interface.specs.Cases.{AreCases, IsCase}
 use Rattle.app_interface.specs.Invariant.{IsQuiet, Keeps}
+use Rattle.app_interface.specs.PrintableWord.{IsPrintableWord}
 use Rattle.app_interface.specs.Idle.{idle, idle_from_text}
 
 no_case : (n : ℕ) → IsCase 0 n → ⊥
@@ -28,6 +29,10 @@ one_idle_text t tt = (λ e. (tt, dash (bytes_eq (codes "-") t) refl e), λ p. rw
     dash : (b : Bool) → bytes_eq (codes "-") t ≡ b → ◌≡◌ {A = Option (Unit {0})} (cond b (Some tt) None) (Some tt) → codes "-" ≡ t
     dash true is e = (bytes_eq-Decides (codes "-") t).0 is
     dash false is e = absurd (none-some tt e)
+
+-- and it is one word
+pub idle_word : (local : Unit {0}) → Unit {0} → IsPrintableWord (codes "-")
+idle_word local is = ((λ e. absurd (omega (arith, ap length e))), refl)
 
 pub idle_keeps : (g : Graph) (bound : ℕ) → IsGraph g → length g.ids ≤ bound → Keeps idle g bound (λ v. Unit {0})
 idle_keeps g bound are few = record {

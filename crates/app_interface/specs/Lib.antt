@@ -7,6 +7,7 @@ pub mod Views
 pub mod LinkTables
 pub mod Listing
 pub mod FromText
+pub mod PrintableWord
 pub mod LawsOfIdle
 pub mod LawsOfViews
 pub mod LawsOfSeen

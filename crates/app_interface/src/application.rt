@@ -5,6 +5,7 @@ ghost use Rattle.action_tables.specs.Written.{AppendsFront};
 ghost use Rattle.app_interface.specs.Application.{App};
 ghost use Rattle.app_interface.specs.Cases.{AreCases};
 ghost use Rattle.app_interface.specs.Invariant.{IsQuiet, Keeps};
+ghost use Rattle.app_interface.specs.PrintableWord.{IsPrintableWord};
 ghost use Rattle.app_interface.specs.Views.{seen_values};
 ghost use Rattle.topology.specs.Graph.{Graph, IsGraph};
 
@@ -112,6 +113,9 @@ pub trait Application: Send + Sync {
 
     // A text is that of one local state, or of none.
     ghost one_text: { (t : List ℕ) (local : Self.Local) → (from_text t ≡ Some local ↔ IsLocal local × (text local ≡ t)) };
+
+    // The text of a local state is one word of a line, of printable bytes.
+    ghost one_word: { (local : Self.Local) → IsLocal local → IsPrintableWord (text local) };
 
     // On every graph, and for every bound that the number of nodes doesn't pass, the invariant holds
     // at the start and each action keeps it.

@@ -1,7 +1,7 @@
 // The application that does nothing.
 ghost use Rattle.std.specs.Prelude.{None, codes};
 ghost use Rattle.app_interface.specs.Idle.{idle, idle_from_text};
-ghost use Rattle.app_interface.specs.LawsOfIdle.{idle_cases, idle_keeps, idle_quiet, one_idle_text};
+ghost use Rattle.app_interface.specs.LawsOfIdle.{idle_cases, idle_keeps, idle_quiet, idle_word, one_idle_text};
 
 use crate::application::Application;
 use crate::reads::Reads;
@@ -36,6 +36,8 @@ impl Application for Idle {
     ghost are_cases = { idle_cases };
 
     ghost one_text = { one_idle_text };
+
+    ghost one_word = { idle_word };
 
     ghost keeps = { idle_keeps };
 

@@ -1,6 +1,7 @@
 -- A text is that of one local state, or of none.
 use Rattle.std.proofs.Common.{◌≡◌, ◌↔◌, ℕ, ◌-◌, ◌==◌, Bool, true, false, List, Some, length, get_or, refl, sym, ap, ◌∙◌, arith}
 use Rattle.std.specs.List.{Contains}
+use Rattle.app_interface.specs.PrintableWord.{IsPrintableWord}
 use Rattle.app_interface.proofs.OneText.{one_of_listed}
 use Rattle.app_mutex.specs.LocalText.{local_states, local_text, mutex_from_text}
 use Rattle.app_mutex.specs.declared.local.MutexLocal.{MutexLocal}
@@ -30,3 +31,13 @@ pub one_mutex_text : (t : List ℕ) (local : MutexLocal) → (mutex_from_text t 
 one_mutex_text t local =
     one_of_listed {IsLocal = λ v. Unit {0}} {text = local_text} {is_local = λ v. true} (λ v. (λ e. tt, λ u. refl))
     same_text t local_states (λ v is spelled. among v.inside v.bit) local
+
+-- the text of a local state is one word
+pub mutex_word : (local : MutexLocal) → Unit {0} → IsPrintableWord (local_text local)
+mutex_word local is = of local.inside local.bit
+  where
+    of : (inside bit : Bool) → IsPrintableWord (local_text (record { inside = inside; bit = bit }))
+    of true true = ((λ e. absurd (omega (arith, ap length e))), refl)
+    of true false = ((λ e. absurd (omega (arith, ap length e))), refl)
+    of false true = ((λ e. absurd (omega (arith, ap length e))), refl)
+    of false false = ((λ e. absurd (omega (arith, ap length e))), refl)

@@ -4,7 +4,7 @@ ghost use Rattle.app_mutex.specs.LawsOfLinks.{mutex_quiet};
 ghost use Rattle.app_mutex.specs.LocalText.{local_text, mutex_from_text};
 ghost use Rattle.app_mutex.specs.Mutex.{mutex, mutex_names};
 ghost use Rattle.app_mutex.specs.LawsOfCases.{mutex_cases};
-ghost use Rattle.app_mutex.specs.LawsOfText.{one_mutex_text};
+ghost use Rattle.app_mutex.specs.LawsOfText.{one_mutex_text, mutex_word};
 ghost use Rattle.app_mutex.specs.Turns.{HoldsTurns};
 
 use crate::local::MutexLocal;
@@ -40,6 +40,8 @@ impl Application for EdgeReversal {
     ghost are_cases = { mutex_cases };
 
     ghost one_text = { one_mutex_text };
+
+    ghost one_word = { mutex_word };
 
     ghost keeps = { mutex_keeps };
 

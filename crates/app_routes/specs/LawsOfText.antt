@@ -12,6 +12,8 @@ use Rattle.action_tables.specs.LawsOfCuts.{HasNo-append, HasNo-decimal, SamePart
 use Rattle.app_interface.specs.FromText.{number_of}
 use Rattle.app_interface.specs.Ids.{ascends, is_id}
 use Rattle.app_interface.proofs.FromTextLaws.{ascends_tells, is_id_tells, items_of-list_text, number_of-decimal, three_parts}
+use Rattle.app_interface.specs.PrintableWord.{IsPrintableWord}
+use Rattle.app_interface.proofs.PrintableWords.{IsPrintableWord-decimal, IsPrintableWord-joined, IsPrintableWord-list}
 use Rattle.app_interface.proofs.OneText.{one_of_spelled}
 use Rattle.app_interface.proofs.ListingLaws.{Spells, same_list}
 use Rattle.app_routes.specs.Entries.{AreRoutes, IsEntry, are_routes, is_entry}
@@ -112,3 +114,16 @@ spelled_back es are = items_of-list_text entries_spelled entry_spelled_by entry_
 pub one_routes_text : (t : List ℕ) (local : List Entry) → (routes_from_text t ≡ Some local ↔ AreRoutes local × (routes_text local ≡ t))
 one_routes_text t local =
     one_of_spelled routes_tell same_text t (spelled_by t) (λ es are e. ap spelled_by (sym e) ∙ spelled_back es are) local
+
+-- ---- a text is one word
+
+entry_word : (e : Entry) → IsEntry e → IsPrintableWord (entry_text e)
+entry_word e is =
+    IsPrintableWord-joined 58 (decimal e.destination) (decimal e.hops ∷ decimal e.next ∷ []) refl (
+      IsPrintableWord-decimal e.destination (small_id e.destination is.destination),
+      (IsPrintableWord-decimal e.hops (small_hops e.hops is.hops), (IsPrintableWord-decimal e.next (small_id e.next is.next), tt)),
+    )
+
+-- the text of a local state is one word
+pub routes_word : (local : List Entry) → AreRoutes local → IsPrintableWord (routes_text local)
+routes_word local are = IsPrintableWord-list IsEntry entry_text entry_word local are.are_entries

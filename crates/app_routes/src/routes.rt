@@ -5,7 +5,7 @@ ghost use Rattle.app_routes.specs.LawsOfLinks.{routes_quiet};
 ghost use Rattle.app_routes.specs.LocalText.{routes_from_text, routes_text};
 ghost use Rattle.app_routes.specs.Routes.{routes, routes_names};
 ghost use Rattle.app_routes.specs.LawsOfCases.{routes_cases};
-ghost use Rattle.app_routes.specs.LawsOfText.{one_routes_text};
+ghost use Rattle.app_routes.specs.LawsOfText.{one_routes_text, routes_word};
 ghost use Rattle.app_routes.specs.Ways.{HasRoutes};
 
 use crate::local::RoutesLocal;
@@ -41,6 +41,8 @@ impl Application for Routes {
     ghost are_cases = { routes_cases };
 
     ghost one_text = { one_routes_text };
+
+    ghost one_word = { routes_word };
 
     ghost keeps = { routes_keep };
 

@@ -1,5 +1,5 @@
 -- The texts of local states, taken apart.
-use Rattle.std.proofs.Common.{◌≡◌, ◌↔◌, ℕ, ◌<◌, ◌^◌, Bool, true, false, List, [], ◌∷◌, ◌++◌, Some, get_or, refl, sym, ap, ◌∙◌, arith}
+use Rattle.std.proofs.Common.{◌≡◌, ◌↔◌, ℕ, ◌<◌, ◌^◌, Bool, true, false, List, [], ◌∷◌, ◌++◌, Some, get_or, length, refl, sym, ap, ◌∙◌, arith}
 use Rattle.std.specs.Prelude.{codes, slice_index_or}
 use Rattle.std.specs.Bool.{Decides}
 use Rattle.std.specs.Fmt.{decimal}
@@ -15,6 +15,8 @@ use Rattle.action_tables.specs.RowText.{set_text}
 use Rattle.app_interface.specs.FromText.{items_of, number_of}
 use Rattle.app_interface.specs.Ids.{ascends, is_id}
 use Rattle.app_interface.proofs.FromTextLaws.{ascends_tells, ids_tell, items_of-list_text, number_of-decimal, three_parts}
+use Rattle.app_interface.specs.PrintableWord.{IsPrintableWord}
+use Rattle.app_interface.proofs.PrintableWords.{IsPrintableWord-decimal, IsPrintableWord-joined, IsPrintableWord-list}
 use Rattle.app_interface.proofs.OneText.{one_of_spelled}
 use Rattle.app_interface.proofs.ListingLaws.{HasNo-list, Spells, same_list}
 use Rattle.app_token.specs.LocalText.{IsTokenLocal, hold_text, is_token_local, local_text, spelled_by, token_from_text}
@@ -104,3 +106,18 @@ spelled_back v are =
 pub one_token_text : (t : List ℕ) (local : TokenLocal) → (token_from_text t ≡ Some local ↔ IsTokenLocal local × (local_text local ≡ t))
 one_token_text t local =
     one_of_spelled local_tells same_text t (spelled_by t) (λ w are e. ap spelled_by (sym e) ∙ spelled_back w are) local
+
+-- ---- a text is one word
+
+flag_word : (hold : Bool) → IsPrintableWord (hold_text hold)
+flag_word true = ((λ e. absurd (omega (arith, ap length e))), refl)
+flag_word false = ((λ e. absurd (omega (arith, ap length e))), refl)
+
+ids_word : (ids : List ℕ) → IsBits ids → IsPrintableWord (set_text ids)
+ids_word ids are = IsPrintableWord-list IsId decimal (λ i id. IsPrintableWord-decimal i (omega (arith, id.small))) ids are.are_ids
+
+-- the text of a local state is one word
+pub token_word : (local : TokenLocal) → IsTokenLocal local → IsPrintableWord (local_text local)
+token_word local are =
+    IsPrintableWord-joined 47 (hold_text local.hold) (set_text local.given ∷ set_text local.taken ∷ []) refl
+    (flag_word local.hold, (ids_word local.given are.given, (ids_word local.taken are.taken, tt)))

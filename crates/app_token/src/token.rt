@@ -2,7 +2,7 @@
 ghost use Rattle.app_token.specs.Laws.{token_keeps};
 ghost use Rattle.app_token.specs.LocalText.{IsTokenLocal, local_text, token_from_text};
 ghost use Rattle.app_token.specs.OneToken.{HasOneToken};
-ghost use Rattle.app_token.specs.LawsOfText.{one_token_text};
+ghost use Rattle.app_token.specs.LawsOfText.{one_token_text, token_word};
 ghost use Rattle.app_token.specs.Token.{token, token_names};
 ghost use Rattle.app_token.specs.LawsOfCases.{token_cases};
 ghost use Rattle.app_token.specs.LawsOfLinks.{token_quiet};
@@ -40,6 +40,8 @@ impl Application for Token {
     ghost are_cases = { token_cases };
 
     ghost one_text = { one_token_text };
+
+    ghost one_word = { token_word };
 
     ghost keeps = { token_keeps };
 

@@ -1,1 +1,1 @@
-pub mod OneByte
+pub mod BitText

@@ -2,7 +2,7 @@
 
 ghost use Rattle.std.specs.Prelude.{None, ◌∷◌, [], if◌then◌else◌, refl};
 ghost use Rattle.app_interface.specs.LawsOfIdle.{idle_cases};
-ghost use Rattle.machine_tests.specs.OneByte.{one_byte, only_byte};
+ghost use Rattle.machine_tests.specs.BitText.{bit_from_text, bit_text, bit_word, one_bit_text};
 ghost use Rattle.topology.specs.Graph.{are_linked, greatest};
 
 use action_tables::{WriteFault, put_bytes};
@@ -11,17 +11,16 @@ use std::alloc::{AllocError, Global};
 use std::io::Write;
 use topology::Topology;
 
-/// The application without cases in which a node starts with 1 where it is linked to the greatest, and
-/// with 0 elsewhere. There is never memory for the start state of a node with three links.
+/// The application without cases in which a node starts with whether it is linked to the greatest. There is never memory for the start state of a node with three links.
 pub(crate) struct LeaderLink;
 
 impl Application for LeaderLink {
-    type Local = u8;
+    type Local = bool;
 
     ghost app = { record {
       count = 0;
       reads = λ case. None;
-      start = λ g i. if are_linked g i (greatest g) then 1 else 0;
+      start = λ g i. are_linked g i (greatest g);
       next = λ i bound case with own seen. None;
       link_fault = λ i bound own j theirs. None;
     } };
@@ -30,15 +29,17 @@ impl Application for LeaderLink {
 
     ghost IsLocal = { λ local. Unit {0} };
 
-    ghost text = { λ local. local ∷ [] };
+    ghost text = { bit_text };
 
-    ghost from_text = { only_byte };
+    ghost from_text = { bit_from_text };
 
     ghost Inv = { λ g v. Unit {0} };
 
     ghost are_cases = { idle_cases };
 
-    ghost one_text = { one_byte };
+    ghost one_text = { one_bit_text };
+
+    ghost one_word = { bit_word };
 
     ghost keeps = { λ g bound are few. record {
       same = λ v v' h inv. tt;
@@ -60,21 +61,23 @@ impl Application for LeaderLink {
         None
     }
 
-    fn on_start(_alloc: Global, topology: &Topology, index: usize) -> Result<u8, AllocError> {
+    fn on_start(_alloc: Global, topology: &Topology, index: usize) -> Result<bool, AllocError> {
         let Some(id) = topology.id_at(index) else {
-            return Ok(0);
+            return Ok(false);
         };
         if topology.neighbours(index).len() == 3 {
             return Err(AllocError);
         }
-        if topology.linked(id.get(), topology.greatest().get()) {
-            Ok(1)
-        } else {
-            Ok(0)
-        }
+        Ok(topology.linked(id.get(), topology.greatest().get()))
     }
 
-    fn can(_here: Here, _case: u8, _with: Option<u32>, _own: &u8, _seen: &[Seen<'_, u8>]) -> bool {
+    fn can(
+        _here: Here,
+        _case: u8,
+        _with: Option<u32>,
+        _own: &bool,
+        _seen: &[Seen<'_, bool>],
+    ) -> bool {
         false
     }
 
@@ -83,34 +86,35 @@ impl Application for LeaderLink {
         _here: Here,
         _case: u8,
         _with: Option<u32>,
-        _own: &u8,
-        _seen: &[Seen<'_, u8>],
-    ) -> Result<u8, ClockRefusal> {
+        _own: &bool,
+        _seen: &[Seen<'_, bool>],
+    ) -> Result<bool, ClockRefusal> {
         Err(ClockRefusal::NotEnabled)
     }
 
-    fn link_ok(_here: Here, _own: &u8, _other: u32, _theirs: &u8) -> Option<u8> {
+    fn link_ok(_here: Here, _own: &bool, _other: u32, _theirs: &bool) -> Option<u8> {
         None
     }
 
-    fn same(a: &u8, b: &u8) -> bool {
+    fn same(a: &bool, b: &bool) -> bool {
         *a == *b
     }
 
-    fn copy(_alloc: Global, local: &u8) -> Result<u8, AllocError> {
+    fn copy(_alloc: Global, local: &bool) -> Result<bool, AllocError> {
         Ok(*local)
     }
 
-    fn show<W: Write>(local: &u8, out: &mut W) -> Result<(), WriteFault> {
-        put_bytes(out, &[*local])
+    fn show<W: Write>(local: &bool, out: &mut W) -> Result<(), WriteFault> {
+        put_bytes(out, if *local { b"1" } else { b"0" })
     }
 
-    fn read_local(_alloc: Global, bytes: &[u8]) -> Result<u8, LocalFault> {
+    fn read_local(_alloc: Global, bytes: &[u8]) -> Result<bool, LocalFault> {
         match bytes {
-            [local] => Ok(*local),
+            b"1" => Ok(true),
+            b"0" => Ok(false),
             _ => Err(LocalFault::BadLocal),
         }
     }
 
-    fn known(_local: &u8) {}
+    fn known(_local: &bool) {}
 }

@@ -35,10 +35,10 @@ fn resetting(
     ] {
         assert_eq!(rt; config.step(alloc, event), Ok(Reply::Applied));
     }
-    let mut local: u8 = 41;
+    let mut local = false;
     for id in nodes {
         assert_eq!(rt; config.put_local(*id, local), Ok(()));
-        local = local.wrapping_add(1);
+        local = !local;
     }
     config
 }
@@ -74,7 +74,7 @@ fn has_links(topology: &Topology, links: &[(u32, u32)]) -> bool {
 }
 
 // The state that a node restarts with.
-fn start_at(rt: &impl Abort, alloc: Global, config: &Config<LeaderLink>, id: u32) -> u8 {
+fn start_at(rt: &impl Abort, alloc: Global, config: &Config<LeaderLink>, id: u32) -> bool {
     match config.view(alloc, id) {
         Ok(view) => *view.start(),
         Err(_) => panic!(rt; "what a node sees"),
@@ -89,7 +89,7 @@ fn a_topology_is_put_under_the_states(rt: HostRuntime) {
     let mut config = resetting(&rt, rt.alloc(), &nodes, &line);
     let before = copied(&rt, rt.alloc(), &config);
     assert!(rt; has_links(config.topology(), &line));
-    assert_eq!(rt; start_at(&rt, rt.alloc(), &config, 1), 0);
+    assert_eq!(rt; start_at(&rt, rt.alloc(), &config, 1), false);
     assert!(rt; put_links(&rt, rt.alloc(), &mut config, &nodes, &triangle).is_ok());
     assert!(rt; has_links(config.topology(), &triangle));
     assert!(rt; have_same_states(&config, &before));
@@ -99,13 +99,13 @@ fn a_topology_is_put_under_the_states(rt: HostRuntime) {
         assert_eq!(rt; config.local_at(id), before.local_at(id), "node {id}");
     }
     // Node 1 has now a link to node 3, and so it restarts with another state than before.
-    assert_eq!(rt; start_at(&rt, rt.alloc(), &config, 1), 1);
-    assert_eq!(rt; config.local_at(1), Some(&41));
+    assert_eq!(rt; start_at(&rt, rt.alloc(), &config, 1), true);
+    assert_eq!(rt; config.local_at(1), Some(&false));
     assert_eq!(rt;
         config.step(rt.alloc(), Event::Join { at: 1 }),
         Ok(Reply::Applied)
     );
-    assert_eq!(rt; config.local_at(1), Some(&1));
+    assert_eq!(rt; config.local_at(1), Some(&true));
 }
 
 #[test]
@@ -127,7 +127,7 @@ fn without_memory_the_topology_comes_back(rt: HostRuntime) {
         }
         assert!(rt; has_links(config.topology(), &line));
         assert!(rt; have_same_states(&config, &before));
-        for (id, start) in [(1, 0), (2, 0), (3, 1), (4, 0)] {
+        for (id, start) in [(1, false), (2, false), (3, true), (4, false)] {
             assert_eq!(rt; start_at(&rt, rt.alloc(), &config, id), start);
         }
     }
