@@ -2,10 +2,14 @@
 //! the book that keeps it.
 #![tactic(auto)]
 
+mod book;
 mod entry;
 mod openings;
 mod player;
+mod refusal;
 mod verification;
 
+pub use book::{Book, MAX_ENTRIES};
 pub use entry::{Entry, Receipt, Report, Summary, VerifyFault};
+pub use refusal::{BookRefusal, DisturbRefusal};
 pub use verification::verify;
