@@ -1,5 +1,5 @@
 -- A book: a configuration with the entries that led to it from its opening, and what it makes of events and faults.
-use Rattle.std.specs.Prelude.{◌≡◌, ℕ, ◌+◌, ◌≤◌, Bool, nat_le, if◌then◌else◌, List, [], ◌∷◌, ◌++◌, length, Option, Some, None, Result, Ok, Err}
+use Rattle.std.specs.Prelude.{◌≡◌, ℕ, ◌+◌, ◌≤◌, ◌-◌, ◌==◌, Bool, nat_le, slice_get, if◌then◌else◌, List, [], ◌∷◌, ◌++◌, length, Option, Some, None, Result, Ok, Err}
 use Rattle.app_interface.specs.Application.{App}
 use Rattle.reset_machine.specs.declared.event.Event.{Event}
 use Rattle.reset_machine.specs.Configuration.{Configuration}
@@ -32,6 +32,10 @@ pub record IsBook {L : Type 0} (app : App L) (from_text : List ℕ → Option L)
 -- the book with an entry more, which left this
 abbrev pub with_entry : {L : Type 0} → BookView L → Entry → Configuration L → BookView L
 with_entry b entry left = record { opening = b.opening; entries = b.entries ++ entry ∷ []; config = left; limit = b.limit }
+
+-- the entry at this position, which counts from 1
+abbrev pub entry_at : List Entry → ℕ → Option Entry
+entry_at es position = if position == 0 then None else slice_get es (position - 1)
 
 -- there is no room for an entry more
 abbrev pub is_full : {L : Type 0} → BookView L → Bool

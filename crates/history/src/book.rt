@@ -1,6 +1,6 @@
 // Books: configurations with the entries that led to them.
 
-ghost use Rattle.std.specs.Prelude.{◌≡◌, ◌≢◌, ℕ, ◌+◌, ◌≤◌, [], length, slice_get, option_map, Ok, Err, OnErr, IfOk, IfErr, MatchResult, MatchOption, IfSome, IfNone};
+ghost use Rattle.std.specs.Prelude.{◌≡◌, ◌≢◌, ℕ, ◌+◌, ◌≤◌, [], length, option_map, Ok, Err, OnErr, IfOk, IfErr, MatchResult};
 
 use crate::entry::{Entry, Receipt, Report};
 use crate::player::Player;
@@ -48,7 +48,7 @@ impl<P: Application> Book<P> {
     ghost use Rattle.reset_machine.specs.SoundSteps.{IsSoundStep};
     ghost use Rattle.fault_inject.specs.Effects.{injected};
     ghost use Rattle.reset_machine.specs.Planned.{outcome_of};
-    ghost use Rattle.history.specs.Book.{IsBook, booked, disturbed_book};
+    ghost use Rattle.history.specs.Book.{IsBook, booked, disturbed_book, entry_at};
     ghost use Rattle.history.specs.Reports.{reports_of};
 
     /// A book without entries that opens with this configuration. It takes no memory.
@@ -165,6 +165,16 @@ impl<P: Application> Book<P> {
         ensures { result ≡ self.now.limit }
     {
         self.limit
+    }
+
+    /// The entry at this position. Positions count from 1. None outside 1 to [`len`](Book::len).
+    pub fn entry(&self, position: usize) -> Option<&Entry>
+        ensures { option_map (λ entry. entry.now) result ≡ entry_at self.now.entries position }
+    {
+        match position.checked_sub(1) {
+            Some(index) => self.entries.get(index),
+            None => None,
+        }
     }
 
     /// Its configuration.
