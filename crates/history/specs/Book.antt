@@ -1,9 +1,11 @@
 -- A book: a configuration with the entries that led to it from its opening, and what it makes of events and faults.
-use Rattle.std.specs.Prelude.{◌≡◌, ℕ, ◌+◌, ◌≤◌, ◌-◌, ◌==◌, Bool, nat_le, slice_get, if◌then◌else◌, List, [], ◌∷◌, ◌++◌, length, Option, Some, None, Result, Ok, Err}
+use Rattle.std.specs.Prelude.{◌≡◌, ℕ, ◌+◌, ◌≤◌, ◌≢◌, ⊤, ◌-◌, ◌==◌, Bool, nat_le, slice_get, if◌then◌else◌, List, [], ◌∷◌, ◌++◌, length, Option, Some, None, Result, Ok, Err}
 use Rattle.app_interface.specs.Application.{App}
 use Rattle.reset_machine.specs.declared.event.Event.{Event}
 use Rattle.reset_machine.specs.Configuration.{Configuration}
 use Rattle.reset_machine.specs.Planned.{Outcome, outcome_of}
+use Rattle.reset_machine.specs.View.{IsSeen, NodeView, view_of}
+use Rattle.topology.specs.Graph.{IsNode}
 use Rattle.fault_inject.specs.Effects.{injected}
 use Rattle.fault_inject.specs.declared.fault.Fault.{Fault}
 use Rattle.fault_inject.specs.declared.refusal.FaultRefusal.{FaultRefusal}
@@ -14,6 +16,8 @@ use Rattle.history.specs.declared.refusal.BookRefusal.{BookRefusal}
 use Rattle.history.specs.declared.refusal.BookRefusal.TheVariants as book
 use Rattle.history.specs.declared.refusal.DisturbRefusal.{DisturbRefusal}
 use Rattle.history.specs.declared.refusal.DisturbRefusal.TheVariants as disturb
+use Rattle.history.specs.declared.refusal.ApplyRefusal.{ApplyRefusal}
+use Rattle.history.specs.declared.refusal.ApplyRefusal.TheVariants.{StrangeNode, Stale, BookFull, NoMemory}
 use Rattle.history.specs.Entries.{replayed}
 
 -- what contracts see of a book: how it opened, what happened since, what that left, and how many entries it may have
@@ -58,3 +62,11 @@ disturbance b f (Err refusal) = Err (disturb.Refused refusal)
 -- what a fault makes of a book, with its position, or the first refusal
 abbrev pub disturbed_book : {L : Type 0} → (List ℕ → Option L) → BookView L → Fault → Result (BookView L × ℕ) DisturbRefusal
 disturbed_book from_text b f = disturbance b f (injected from_text b.config f)
+
+-- why a book doesn't take a plan that was made on the view v: its node isn't there, or sees something else
+-- now, or there is no room. Want of memory may stand in place of any reason
+abbrev pub IsUnapplied : {P L : Type 0} → App L → BookView L → NodeView L → ApplyRefusal P L → Type 0
+IsUnapplied app b v StrangeNode = IsNode b.config.graph v.id → ⊥
+IsUnapplied app b v (Stale now) = IsNode b.config.graph v.id × (now ≡ view_of app b.config v.id) × (v ≢ now)
+IsUnapplied app b v BookFull = IsSeen app b.config v × (b.limit ≤ length b.entries)
+IsUnapplied app b v NoMemory = ⊤

@@ -1,13 +1,13 @@
 // Books: configurations with the entries that led to them.
 
-ghost use Rattle.std.specs.Prelude.{◌≡◌, ◌≢◌, ℕ, ◌+◌, ◌≤◌, [], length, option_map, Ok, Err, OnErr, IfOk, IfErr, MatchResult};
+ghost use Rattle.std.specs.Prelude.{◌≡◌, ◌≢◌, ℕ, ◌+◌, ◌≤◌, [], length, option_map, Ok, Err, OnErr, OnOk, IfOk, IfErr, MatchResult};
 
 use crate::entry::{Entry, Receipt, Report};
 use crate::player::Player;
-use crate::refusal::{BookRefusal, DisturbRefusal, fault_refused, step_refused};
+use crate::refusal::{ApplyRefusal, BookRefusal, DisturbRefusal, fault_refused, step_refused};
 use app_interface::Application;
 use fault_inject::{Fault, inject};
-use reset_machine::{Config, Event};
+use reset_machine::{Config, Event, Plan, StepRefusal, View};
 use std::alloc::{AllocError, Global};
 use std::marker::Model;
 use std::snapshot::Snapshot;
@@ -44,11 +44,12 @@ impl<P: Application> Model for Book<P> {
 }
 
 impl<P: Application> Book<P> {
+    ghost use Rattle.reset_machine.specs.View.{IsSeen};
     ghost use Rattle.reset_machine.specs.Sound.{IsSound};
     ghost use Rattle.reset_machine.specs.SoundSteps.{IsSoundStep};
     ghost use Rattle.fault_inject.specs.Effects.{injected};
     ghost use Rattle.reset_machine.specs.Planned.{outcome_of};
-    ghost use Rattle.history.specs.Book.{IsBook, booked, disturbed_book, entry_at};
+    ghost use Rattle.history.specs.Book.{IsBook, IsUnapplied, booked, disturbed_book, entry_at};
     ghost use Rattle.history.specs.Reports.{reports_of};
 
     /// A book without entries that opens with this configuration. It takes no memory.
@@ -143,6 +144,68 @@ impl<P: Application> Book<P> {
         match inject(alloc, &mut copy, fault) {
             Ok(()) => DisturbRefusal::BookFull,
             Err(refusal) => fault_refused(refusal),
+        }
+    }
+
+    /// Does what the plan says, where its node sees now what the plan was made on, and enters it, or names
+    /// the first refusal and hands the plan back. A refused plan changes nothing.
+    pub fn apply(&mut self, alloc: Global, plan: Plan<P>) -> Result<Receipt, (ApplyRefusal<P>, Plan<P>)>
+        ensures ok { IfOk result (λ receipt. (booked P.app self.old plan.event ≡ Ok (self.new, receipt)) × (receipt.reply ≡ plan.reply)) }
+        ensures seen { OnOk result (IsSeen P.app self.old.config plan.view) }
+        ensures err { IfErr result (λ e. IsUnapplied P.app self.old plan.view e.0) }
+        ensures returned { IfErr result (λ e. e.1 ≡ plan) }
+        ensures kept { OnErr result (self.new ≡ self.old) }
+
+        // As of a step of the configuration.
+        ensures lawful { IfOk result (λ receipt. IsSound self.old.config → IsSoundStep P.app P.Inv self.old.config plan.event receipt.reply self.new.config) }
+    {
+        if self.entries.len() >= self.limit {
+            return Err((self.full_apply(alloc, plan.seen_view()), plan));
+        }
+        match self.entries.reserve(1) {
+            Ok(()) => {}
+            Err(AllocError) => return Err((ApplyRefusal::NoMemory, plan)),
+        }
+        match self.player.make_room() {
+            Ok(()) => {}
+            Err(AllocError) => return Err((ApplyRefusal::NoMemory, plan)),
+        }
+        let position = self.entries.len() + 1;
+        let event = plan.event();
+        match self.player.enter_plan(position, plan) {
+            Ok(reply) => {
+                self.entries.push_reserved(Entry::Step(event));
+                Ok(Receipt {
+                    position,
+                    event,
+                    reply,
+                })
+            }
+            Err(plan) => Err((self.unseen(alloc, plan.seen_view()), plan)),
+        }
+    }
+
+    // Why a full book doesn't take a plan that was made on this view.
+    fn full_apply(&self, alloc: Global, view: &View<P>) -> ApplyRefusal<P>
+        requires { self.now.limit ≤ length self.now.entries }
+        ensures { IsUnapplied P.app self.now view.now result }
+    {
+        if self.player.config.view_is(view) {
+            ApplyRefusal::BookFull
+        } else {
+            self.unseen(alloc, view)
+        }
+    }
+
+    // Why a plan isn't taken that was made on this view, which its node doesn't see now.
+    fn unseen(&self, alloc: Global, view: &View<P>) -> ApplyRefusal<P>
+        requires { IsSeen P.app self.now.config view.now → ⊥ }
+        ensures { IsUnapplied P.app self.now view.now result }
+    {
+        match self.player.config.view(alloc, view.id()) {
+            Ok(now) => ApplyRefusal::Stale(now),
+            Err(StepRefusal::NoMemory) => ApplyRefusal::NoMemory,
+            Err(_) => ApplyRefusal::StrangeNode,
         }
     }
 

@@ -11,5 +11,5 @@ mod verification;
 
 pub use book::{Book, MAX_ENTRIES};
 pub use entry::{Entry, Receipt, Report, Summary, VerifyFault};
-pub use refusal::{BookRefusal, DisturbRefusal};
+pub use refusal::{ApplyRefusal, BookRefusal, DisturbRefusal};
 pub use verification::verify;

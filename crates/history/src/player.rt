@@ -5,6 +5,7 @@ ghost use Rattle.std.specs.Vec.{vec_len, vec_capacity};
 ghost use Rattle.reset_machine.specs.Configuration.{Configuration};
 ghost use Rattle.reset_machine.specs.Planned.{outcome_of};
 ghost use Rattle.fault_inject.specs.Effects.{injected};
+ghost use Rattle.reset_machine.specs.View.{IsSeen};
 ghost use Rattle.reset_machine.specs.Sound.{IsSound};
 ghost use Rattle.reset_machine.specs.SoundSteps.{IsSoundStep};
 ghost use Rattle.history.specs.declared.entry.Entry.{Entry};
@@ -18,7 +19,7 @@ use crate::entry::{Entry, Report, VerifyFault};
 use crate::openings::Openings;
 use app_interface::Application;
 use fault_inject::{Fault, FaultRefusal, inject};
-use reset_machine::{Config, Event, Reply, StepRefusal};
+use reset_machine::{Config, Event, Plan, Reply, StepRefusal};
 use std::alloc::{AllocError, Global};
 
 // A configuration that entries happen to, and what they report.
@@ -118,8 +119,31 @@ impl<P: Application> Player<P> {
         }
     }
 
+    // Does what the plan says, where its node sees what it was made on, and enters it at this place.
+    pub fn enter_plan(&mut self, place: usize, plan: Plan<P>) -> Result<Reply, Plan<P>>
+        requires openings { length self.old.config.graph.ids ≤ length self.old.openings.positions.items }
+        requires reports { vec_len self.old.reports < vec_capacity self.old.reports }
+        ensures outcome { IfOk result (λ reply. outcome_of P.app self.old.config plan.event ≡ Ok (self.new.config, reply)) }
+        ensures reply { IfOk result (λ reply. reply ≡ plan.reply) }
+        ensures seen { OnOk result (IsSeen P.app self.old.config plan.view) }
+        ensures err { IfErr result (λ back. (back ≡ plan) × (IsSeen P.app self.old.config plan.view → ⊥)) }
+        ensures kept { OnErr result (self.new ≡ self.old) }
+        ensures played { OnOk result ((c : Configuration P.Local) (es : List Entry) → IsPlayed P.app P.from_text c es self.old.config self.old.openings self.old.reports.items
+            → place ≡ length es + 1 → IsPlayed P.app P.from_text c (es ++ Step plan.event ∷ []) self.new.config self.new.openings self.new.reports.items) }
+        ensures lawful { IfOk result (λ reply. IsSound self.old.config → IsSoundStep P.app P.Inv self.old.config plan.event reply self.new.config) }
+    {
+        let event = plan.event();
+        match self.config.put_plan(plan) {
+            Ok(reply) => {
+                self.note(place, event, reply);
+                Ok(reply)
+            }
+            Err(plan) => Err(plan),
+        }
+    }
+
     // Makes room for what an entry reports.
-    fn make_room(&mut self) -> Result<(), AllocError>
+    pub fn make_room(&mut self) -> Result<(), AllocError>
         ensures same { self.new.config ≡ self.old.config }
         ensures openings { OnOk result (length self.old.config.graph.ids ≤ length self.new.openings.positions.items) }
         ensures reports { OnOk result (vec_len self.new.reports < vec_capacity self.new.reports) }

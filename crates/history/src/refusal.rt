@@ -2,8 +2,9 @@
 
 ghost use Rattle.std.specs.Prelude.{◌≡◌, ◌≢◌};
 
+use app_interface::Application;
 use fault_inject::FaultRefusal;
-use reset_machine::StepRefusal;
+use reset_machine::{StepRefusal, View};
 
 /// Why a book doesn't take an event, in the order in which refusals are given.
 #[derive(Clone, Copy, Debug, PartialEq, Eq)]
@@ -21,6 +22,19 @@ pub enum BookRefusal {
 pub enum DisturbRefusal {
     /// The configuration can't have the fault.
     Refused(FaultRefusal),
+    /// The book has as many entries as it may have.
+    BookFull,
+    /// Memory is wanting.
+    NoMemory,
+}
+
+/// Why a book doesn't take a plan, in the order in which refusals are given.
+#[derive(Drop)]
+pub enum ApplyRefusal<P: Application> {
+    /// The plan's node isn't a node of the topology.
+    StrangeNode,
+    /// The node sees this now, and not what the plan was made on.
+    Stale(View<P>),
     /// The book has as many entries as it may have.
     BookFull,
     /// Memory is wanting.
