@@ -1,5 +1,5 @@
 -- One entry more of what was played.
-use Rattle.std.proofs.Common.{◌≡◌, ℕ, zero, suc, ◌+◌, ◌≤◌, ◌<◌, ◌==◌, Bool, true, false, not, if◌then◌else◌, List, [], ◌∷◌, ◌++◌, length, position, Option, Some, None, Result, Ok, Err, is_some, refl, ap, sym, ◌∙◌, arith, append_assoc, append-nil, take, drop, slice_index_or, add-one, ◌≢◌}
+use Rattle.std.proofs.Common.{◌≡◌, ℕ, suc, ◌+◌, ◌≤◌, ◌<◌, ◌==◌, true, false, not, if◌then◌else◌, List, [], ◌∷◌, ◌++◌, length, position, Option, Some, None, Ok, Err, is_some, refl, ap, sym, ◌∙◌, arith, append_assoc, append-nil, take, drop, slice_index_or, add-one, ◌≢◌}
 use Rattle.std.proofs.Math.Seq.{split_at, take-suc}
 use Rattle.std.proofs.lemmas.List.{length-append, length-take}
 use Rattle.std.specs.List.{list_any}
@@ -58,7 +58,7 @@ module _ {L : Type 0} (app : App L) (from_text : List ℕ → Option L) where
   replayed_snoc c d left [] e h k = let same : c ≡ d = cc in rw (same, k) refl
   replayed_snoc c d left (x ∷ es) e h k =
       elim (entered app from_text c x) as (λ o. option_and_then (λ after. replayed app from_text after es) o ≡ Some d
-        → option_and_then (λ after. replayed app from_text after (es ++ e ∷ [])) o ≡ Some left) [ None ↦ λ none. cc | Some a ↦ λ rest. replayed_snoc a d left es e rest k ] h
+      → option_and_then (λ after. replayed app from_text after (es ++ e ∷ [])) o ≡ Some left) [ None ↦ λ none. cc | Some a ↦ λ rest. replayed_snoc a d left es e rest k ] h
 
   pub reports_snoc : (c d left : Configuration L) (before es : List Entry) (e : Entry) → replayed app from_text c es ≡ Some d → entered app from_text d e ≡ Some left
       → reports_from app from_text c before (es ++ e ∷ []) ≡ reports_from app from_text c before es ++ report_of app d (recent before es) e
@@ -66,11 +66,12 @@ module _ {L : Type 0} (app : App L) (from_text : List ℕ → Option L) where
   reports_snoc c d left before [] e h k = let same : c ≡ d = cc in rw (same, k) (append-nil (report_of app d before e))
   reports_snoc c d left before (x ∷ es) e h k =
       elim (entered app from_text c x) as (λ o. option_and_then (λ after. replayed app from_text after es) o ≡ Some d
-        → report_of app c before x ++ option_map_or (λ after. reports_from app from_text after (x ∷ before) (es ++ e ∷ [])) o []
-          ≡ (report_of app c before x ++ option_map_or (λ after. reports_from app from_text after (x ∷ before) es) o []) ++ report_of app d (recent (x ∷ before) es) e)
-      [ None ↦ λ none. cc
-      | Some a ↦ λ rest. ap (λ rs. report_of app c before x ++ rs) (reports_snoc a d left (x ∷ before) es e rest k)
-          ∙ sym (append_assoc (report_of app c before x) (reports_from app from_text a (x ∷ before) es) (report_of app d (recent (x ∷ before) es) e)) ] h
+      → report_of app c before x ++ option_map_or (λ after. reports_from app from_text after (x ∷ before) (es ++ e ∷ [])) o []
+      ≡ (report_of app c before x ++ option_map_or (λ after. reports_from app from_text after (x ∷ before) es) o []) ++ report_of app d (recent (x ∷ before) es) e) [
+        | None ↦ λ none. cc
+        | Some a ↦ λ rest. ap (λ rs. report_of app c before x ++ rs) (reports_snoc a d left (x ∷ before) es e rest k)
+            ∙ sym (append_assoc (report_of app c before x) (reports_from app from_text a (x ∷ before) es) (report_of app d (recent (x ∷ before) es) e))
+      ] h
 
   pub reports_nil : (c : Configuration L) (before : List Entry) → reports_from app from_text c before [] ≡ []
   unfolding reports_from
@@ -95,7 +96,7 @@ module _ {L : Type 0} (app : App L) (from_text : List ℕ → Option L) where
   step_found d left e reply is =
       sym (list_any-position d.graph.ids (event_node e))
       ∙ (elim (list_any (λ k. k == event_node e) d.graph.ids) as (λ b. (if not b then Err StrangeNode else written d (event_node e) (planned app (view_of app d (event_node e)) e)) ≡ Ok (left, reply) → b ≡ true)
-         [ false ↦ λ err. cc | true ↦ λ ok. refl ] is)
+      [ false ↦ λ err. cc | true ↦ λ ok. refl ] is)
 
   pub played_step : (c d left : Configuration L) (es : List Entry) (t t' : Openings) (rs rs' : List Report) (e : Event) (reply : Reply) (position_of : ℕ)
       → IsPlayed app from_text c es d t rs → position_of ≡ length es + 1
@@ -111,17 +112,17 @@ module _ {L : Type 0} (app : App L) (from_text : List ℕ → Option L) where
       record {
         replay = replayed_snoc c d left es (Step e) played.replay entry;
         openings = λ i k found.
-          opened (length es) i k played.within (omega (arith, here)) found
-          ∙ ap (λ o. opened_by e i at o) (played.openings i k (ap (λ (g : Graph). position (λ j. j == i) g.ids) (sym same) ∙ found))
-          ∙ ap (λ n. opened_by e i n (latest_opening i (recent [] es))) (here ∙ ap (λ n. n + 1) (sym recent_is))
-          ∙ sym (latest_after i e (recent [] es))
-          ∙ ap (latest_opening i) (sym (recent_snoc [] es (Step e)));
+            opened (length es) i k played.within (omega (arith, here)) found
+            ∙ ap (λ o. opened_by e i at o) (played.openings i k (ap (λ (g : Graph). position (λ j. j == i) g.ids) (sym same) ∙ found))
+            ∙ ap (λ n. opened_by e i n (latest_opening i (recent [] es))) (here ∙ ap (λ n. n + 1) (sym recent_is))
+            ∙ sym (latest_after i e (recent [] es))
+            ∙ ap (latest_opening i) (sym (recent_snoc [] es (Step e)));
         within = rw length_is (within (length es) played.within (omega (arith, here)));
         reports =
-          told_reports
-          ∙ (let node_is = step_found d left e reply is in
-             let opening = told_found t d.graph.ids (event_node e) (recent [] es) node_is (played.openings (event_node e)) in
-             rw (same, opening, here, ← recent_is, played.reports) (rw (reports_snoc c d left [] es (Step e) played.replay entry, is) refl));
+            told_reports
+            ∙ (let node_is = step_found d left e reply is in
+            let opening = told_found t d.graph.ids (event_node e) (recent [] es) node_is (played.openings (event_node e)) in
+            rw (same, opening, here, ← recent_is, played.reports) (rw (reports_snoc c d left [] es (Step e) played.replay entry, is) refl));
       }
     where
       told_found : (t : Openings) (ids : List ℕ) (i : ℕ) (before : List Entry) → is_some (position (λ j. j == i) ids) ≡ true

@@ -1,5 +1,5 @@
 -- Tables of openings.
-use Rattle.std.proofs.Common.{◌≡◌, ℕ, zero, suc, ◌==◌, Bool, true, false, List, [], ◌∷◌, ◌++◌, slice_index_or, position, Option, Some, None, refl, sym, ap, ◌∙◌}
+use Rattle.std.proofs.Common.{◌≡◌, ℕ, zero, suc, ◌==◌, Bool, true, false, List, [], ◌∷◌, ◌++◌, slice_index_or, position, Some, refl, sym, ap, ◌∙◌}
 use Rattle.std.proofs.lemmas.Bool.{eqb-true, eq-eqb}
 use Rattle.std.proofs.lemmas.List.Quantifiers.{position-Some}
 
@@ -21,8 +21,8 @@ same_place ids i at k ix found there =
     let own = eqb-true _ _ (position-Some (λ j. j == i) ids k 0 found).1 in
     let other = eqb-true _ _ (position-Some (λ j. j == at) ids ix 0 there).1 in
     same_tests (k == ix) (at == i)
-      (λ same. eq-eqb at i (sym other ∙ ap (λ n. slice_index_or ids n 0) (sym (eqb-true k ix same)) ∙ own))
-      (λ same. eq-eqb k ix (some_is k ix (sym found ∙ ap (λ n. position (λ j. j == n) ids) (sym (eqb-true at i same)) ∙ there)))
+    (λ same. eq-eqb at i (sym other ∙ ap (λ n. slice_index_or ids n 0) (sym (eqb-true k ix same)) ∙ own))
+    (λ same. eq-eqb k ix (some_is k ix (sym found ∙ ap (λ n. position (λ j. j == n) ids) (sym (eqb-true at i same)) ∙ there)))
   where
     some_is : (a b : ℕ) → Some a ≡ Some b → a ≡ b
     some_is a b e = cc

@@ -149,7 +149,11 @@ impl<P: Application> Book<P> {
 
     /// Does what the plan says, where its node sees now what the plan was made on, and enters it, or names
     /// the first refusal and hands the plan back. A refused plan changes nothing.
-    pub fn apply(&mut self, alloc: Global, plan: Plan<P>) -> Result<Receipt, (ApplyRefusal<P>, Plan<P>)>
+    pub fn apply(
+        &mut self,
+        alloc: Global,
+        plan: Plan<P>,
+    ) -> Result<Receipt, (ApplyRefusal<P>, Plan<P>)>
         ensures ok { IfOk result (λ receipt. (booked P.app self.old plan.event ≡ Ok (self.new, receipt)) × (receipt.reply ≡ plan.reply)) }
         ensures seen { OnOk result (IsSeen P.app self.old.config plan.view) }
         ensures err { IfErr result (λ e. IsUnapplied P.app self.old plan.view e.0) }

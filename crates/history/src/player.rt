@@ -55,7 +55,7 @@ impl<P: Application> Player<P> {
         ensures kept { OnErr result (self.new.config ≡ self.old.config) }
         ensures played { (c : Configuration P.Local) (es : List Entry) → IsPlayed P.app P.from_text c es self.old.config self.old.openings self.old.reports.items
             → MatchResult result (λ reply. place ≡ length es + 1 → IsPlayed P.app P.from_text c (es ++ Step event ∷ []) self.new.config self.new.openings self.new.reports.items)
-                (λ f. IsPlayed P.app P.from_text c es self.new.config self.new.openings self.new.reports.items) }
+            (λ f. IsPlayed P.app P.from_text c es self.new.config self.new.openings self.new.reports.items) }
         ensures lawful { IfOk result (λ reply. IsSound self.old.config → IsSoundStep P.app P.Inv self.old.config event reply self.new.config) }
     {
         match self.make_room() {
@@ -83,7 +83,7 @@ impl<P: Application> Player<P> {
         ensures kept { OnErr result (self.new.config ≡ self.old.config) }
         ensures played { (c : Configuration P.Local) (es : List Entry) → IsPlayed P.app P.from_text c es self.old.config self.old.openings self.old.reports.items
             → MatchResult result (λ _. place ≡ length es + 1 → IsPlayed P.app P.from_text c (es ++ Disturbed fault.now ∷ []) self.new.config self.new.openings self.new.reports.items)
-                (λ f. IsPlayed P.app P.from_text c es self.new.config self.new.openings self.new.reports.items) }
+            (λ f. IsPlayed P.app P.from_text c es self.new.config self.new.openings self.new.reports.items) }
     {
         match inject(alloc, &mut self.config, fault) {
             Ok(()) => {
@@ -95,12 +95,7 @@ impl<P: Application> Player<P> {
     }
 
     // Plays an entry, which has this place.
-    pub fn enter(
-        &mut self,
-        alloc: Global,
-        place: usize,
-        entry: &Entry,
-    ) -> Result<(), VerifyFault>
+    pub fn enter(&mut self, alloc: Global, place: usize, entry: &Entry) -> Result<(), VerifyFault>
         ensures played { OnOk result ((c : Configuration P.Local) (es : List Entry) → IsPlayed P.app P.from_text c es self.old.config self.old.openings self.old.reports.items
             → place ≡ length es + 1 → IsPlayed P.app P.from_text c (es ++ entry.now ∷ []) self.new.config self.new.openings self.new.reports.items) }
         ensures err { IfErr result (λ f. f ≢ VerifyFault.NoMemory → (f ≡ VerifyFault.NotEnabledAt place) × (entered P.app P.from_text self.old.config entry.now ≡ None)) }
