@@ -8,6 +8,7 @@ use Rattle.reset_machine.specs.Configuration.{Configuration}
 use Rattle.history.specs.declared.entry.Entry.{Entry}
 use Rattle.history.specs.declared.entry.Report.{Report}
 use Rattle.history.specs.declared.openings.Openings.{Openings}
+use Rattle.history.specs.declared.player.Player.{Player}
 use Rattle.history.specs.Entries.{replayed}
 use Rattle.history.specs.Reports.{latest_opening, reports_of}
 
@@ -49,3 +50,7 @@ pub record IsPlayed {L : Type 0} (app : App L) (from_text : List ℕ → Option 
   pub openings : (i k : ℕ) → position (λ j. j == i) left.graph.ids ≡ Some k → told t k ≡ latest_opening i (recent [] es)
   pub within : IsWithin t (length es)
   pub reports : told_reports ≡ reports_of app from_text c es
+
+-- what the player keeps is that of these entries
+abbrev pub HasPlayed : {P L : Type 0} → App L → (List ℕ → Option L) → Configuration L → List Entry → Player P L → Type 0
+HasPlayed app from_text c es p = IsPlayed app from_text c es p.config p.openings p.reports.items

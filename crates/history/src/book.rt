@@ -28,7 +28,7 @@ pub struct Book<P: Application> {
 impl<P: Application> Model for Book<P> {
     ghost use Rattle.std.specs.Prelude.{◌≤◌, length};
     ghost use Rattle.history.specs.Book.{BookView};
-    ghost use Rattle.history.specs.Played.{IsPlayed};
+    ghost use Rattle.history.specs.Played.{HasPlayed};
 
     ghost Value = { BookView P.Local };
 
@@ -39,7 +39,7 @@ impl<P: Application> Model for Book<P> {
 
     ghost view = { λ b. record { opening = b.opening.value; entries = b.entries.items; config = b.player.config; limit = b.limit } };
 
-    ghost invariant = { λ b. IsPlayed P.app P.from_text b.opening.value b.entries.items b.player.config b.player.openings b.player.reports.items
+    ghost invariant = { λ b. HasPlayed P.app P.from_text b.opening.value b.entries.items b.player
         × (length b.entries.items ≤ b.limit) × (b.limit ≤ 1000000) };
 }
 

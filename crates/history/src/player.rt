@@ -11,7 +11,7 @@ ghost use Rattle.reset_machine.specs.SoundSteps.{IsSoundStep};
 ghost use Rattle.history.specs.declared.entry.Entry.{Entry};
 ghost use Rattle.history.specs.declared.entry.Entry.TheVariants.{Step, Disturbed};
 ghost use Rattle.history.specs.Entries.{entered};
-ghost use Rattle.history.specs.Played.{IsPlayed, IsWithin, opened_by, told, told_of};
+ghost use Rattle.history.specs.Played.{HasPlayed, IsWithin, opened_by, told, told_of};
 ghost use Rattle.history.specs.Reports.{reported};
 ghost use Rattle.reset_machine.specs.Steps.{event_node};
 
@@ -34,7 +34,7 @@ impl<P: Application> Player<P> {
     // Before the first entry.
     pub fn new(alloc: Global, config: Config<P>) -> Player<P>
         ensures same { result.config ≡ config }
-        ensures played { IsPlayed P.app P.from_text config [] result.config result.openings result.reports.items }
+        ensures played { HasPlayed P.app P.from_text config [] result }
     {
         Player {
             config,
@@ -53,9 +53,9 @@ impl<P: Application> Player<P> {
         ensures outcome { MatchResult result (λ reply. outcome_of P.app self.old.config event ≡ Ok (self.new.config, reply))
             (λ f. f ≢ StepRefusal.NoMemory → outcome_of P.app self.old.config event ≡ Err f) }
         ensures kept { OnErr result (self.new.config ≡ self.old.config) }
-        ensures played { (c : Configuration P.Local) (es : List Entry) → IsPlayed P.app P.from_text c es self.old.config self.old.openings self.old.reports.items
-            → MatchResult result (λ reply. place ≡ length es + 1 → IsPlayed P.app P.from_text c (es ++ Step event ∷ []) self.new.config self.new.openings self.new.reports.items)
-            (λ f. IsPlayed P.app P.from_text c es self.new.config self.new.openings self.new.reports.items) }
+        ensures played { (c : Configuration P.Local) (es : List Entry) → HasPlayed P.app P.from_text c es self.old
+            → MatchResult result (λ reply. place ≡ length es + 1 → HasPlayed P.app P.from_text c (es ++ Step event ∷ []) self.new)
+            (λ f. HasPlayed P.app P.from_text c es self.new) }
         ensures lawful { IfOk result (λ reply. IsSound self.old.config → IsSoundStep P.app P.Inv self.old.config event reply self.new.config) }
     {
         match self.make_room() {
@@ -81,9 +81,9 @@ impl<P: Application> Player<P> {
         ensures outcome { MatchResult result (λ _. injected P.from_text self.old.config fault.now ≡ Ok self.new.config)
             (λ f. f ≢ FaultRefusal.NoMemory → injected P.from_text self.old.config fault.now ≡ Err f) }
         ensures kept { OnErr result (self.new.config ≡ self.old.config) }
-        ensures played { (c : Configuration P.Local) (es : List Entry) → IsPlayed P.app P.from_text c es self.old.config self.old.openings self.old.reports.items
-            → MatchResult result (λ _. place ≡ length es + 1 → IsPlayed P.app P.from_text c (es ++ Disturbed fault.now ∷ []) self.new.config self.new.openings self.new.reports.items)
-            (λ f. IsPlayed P.app P.from_text c es self.new.config self.new.openings self.new.reports.items) }
+        ensures played { (c : Configuration P.Local) (es : List Entry) → HasPlayed P.app P.from_text c es self.old
+            → MatchResult result (λ _. place ≡ length es + 1 → HasPlayed P.app P.from_text c (es ++ Disturbed fault.now ∷ []) self.new)
+            (λ f. HasPlayed P.app P.from_text c es self.new) }
     {
         match inject(alloc, &mut self.config, fault) {
             Ok(()) => {
@@ -96,8 +96,8 @@ impl<P: Application> Player<P> {
 
     // Plays an entry, which has this place.
     pub fn enter(&mut self, alloc: Global, place: usize, entry: &Entry) -> Result<(), VerifyFault>
-        ensures played { OnOk result ((c : Configuration P.Local) (es : List Entry) → IsPlayed P.app P.from_text c es self.old.config self.old.openings self.old.reports.items
-            → place ≡ length es + 1 → IsPlayed P.app P.from_text c (es ++ entry.now ∷ []) self.new.config self.new.openings self.new.reports.items) }
+        ensures played { OnOk result ((c : Configuration P.Local) (es : List Entry) → HasPlayed P.app P.from_text c es self.old
+            → place ≡ length es + 1 → HasPlayed P.app P.from_text c (es ++ entry.now ∷ []) self.new) }
         ensures err { IfErr result (λ f. f ≢ VerifyFault.NoMemory → (f ≡ VerifyFault.NotEnabledAt place) × (entered P.app P.from_text self.old.config entry.now ≡ None)) }
     {
         match entry {
@@ -123,8 +123,8 @@ impl<P: Application> Player<P> {
         ensures seen { OnOk result (IsSeen P.app self.old.config plan.view) }
         ensures err { IfErr result (λ back. (back ≡ plan) × (IsSeen P.app self.old.config plan.view → ⊥)) }
         ensures kept { OnErr result (self.new ≡ self.old) }
-        ensures played { OnOk result ((c : Configuration P.Local) (es : List Entry) → IsPlayed P.app P.from_text c es self.old.config self.old.openings self.old.reports.items
-            → place ≡ length es + 1 → IsPlayed P.app P.from_text c (es ++ Step plan.event ∷ []) self.new.config self.new.openings self.new.reports.items) }
+        ensures played { OnOk result ((c : Configuration P.Local) (es : List Entry) → HasPlayed P.app P.from_text c es self.old
+            → place ≡ length es + 1 → HasPlayed P.app P.from_text c (es ++ Step plan.event ∷ []) self.new) }
         ensures lawful { IfOk result (λ reply. IsSound self.old.config → IsSoundStep P.app P.Inv self.old.config plan.event reply self.new.config) }
     {
         let event = plan.event();
@@ -142,8 +142,8 @@ impl<P: Application> Player<P> {
         ensures same { self.new.config ≡ self.old.config }
         ensures openings { OnOk result (length self.old.config.graph.ids ≤ length self.new.openings.positions.items) }
         ensures reports { OnOk result (vec_len self.new.reports < vec_capacity self.new.reports) }
-        ensures played { (c : Configuration P.Local) (es : List Entry) → IsPlayed P.app P.from_text c es self.old.config self.old.openings self.old.reports.items
-            → IsPlayed P.app P.from_text c es self.new.config self.new.openings self.new.reports.items }
+        ensures played { (c : Configuration P.Local) (es : List Entry) → HasPlayed P.app P.from_text c es self.old
+            → HasPlayed P.app P.from_text c es self.new }
     {
         self.openings.make_room(self.config.topology().len())?;
         self.reports.reserve(1)

@@ -1,9 +1,12 @@
 // What books keep.
 
 use crate::line::{line, whole_reset};
+use app_interface::Idle;
 use fault_inject::{Fault, FaultRefusal};
-use history::{Book, BookRefusal, DisturbRefusal, Entry, MAX_ENTRIES, Receipt, Report};
-use reset_machine::{Event, Reply, StepRefusal};
+use history::{ApplyRefusal, Book, BookRefusal, DisturbRefusal, Entry, MAX_ENTRIES, Receipt, Report};
+use reset_machine::{Event, Plan, Reply, StepRefusal};
+use std::alloc::Global;
+use std::process::Abort;
 use tree_layer::TreeRegs;
 
 #[test]
@@ -69,4 +72,42 @@ fn tells_the_place_of_a_fault(rt: HostRuntime) {
     let full = (DisturbRefusal::BookFull, tree_fault(2));
     assert!(rt; book.disturb(rt.alloc(), tree_fault(2)) == Err(full));
     assert!(rt; book.entry(1) == Some(&Entry::Disturbed(tree_fault(2))));
+}
+
+// What the event would do at its node, as the book is now.
+fn plan_of(rt: &impl Abort, alloc: Global, book: &Book<Idle>, at: u32, event: Event) -> Plan<Idle> {
+    match book.config().view(alloc, at) {
+        Ok(view) => match view.plan(alloc, event) {
+            Ok(plan) => plan,
+            Err(_) => panic!(rt; "a plan"),
+        },
+        Err(_) => panic!(rt; "a node"),
+    }
+}
+
+#[test]
+fn applies_a_plan_once(rt: HostRuntime) {
+    let mut book = Book::open_book(rt.alloc(), line(&rt, rt.alloc()), 2);
+    let request = Event::Request { at: 3 };
+    let first = plan_of(&rt, rt.alloc(), &book, 3, request);
+    let second = plan_of(&rt, rt.alloc(), &book, 3, request);
+    let early = plan_of(&rt, rt.alloc(), &book, 1, Event::Request { at: 1 });
+    match book.apply(rt.alloc(), first) {
+        Ok(receipt) => {
+            assert_eq!(rt; receipt.position, 1);
+            assert_eq!(rt; receipt.event, request);
+        }
+        Err(_) => panic!(rt; "room for a plan"),
+    }
+    match book.apply(rt.alloc(), second) {
+        Err((ApplyRefusal::Stale(now), _)) => assert_eq!(rt; now.id(), 3),
+        _ => panic!(rt; "a stale plan"),
+    }
+    assert!(rt; book.apply(rt.alloc(), early).is_ok());
+    let last = plan_of(&rt, rt.alloc(), &book, 3, Event::Open { at: 3 });
+    match book.apply(rt.alloc(), last) {
+        Err((ApplyRefusal::BookFull, _)) => {}
+        _ => panic!(rt; "a full book"),
+    }
+    assert_eq!(rt; book.len(), 2);
 }
