@@ -1,5 +1,6 @@
 -- A book: a configuration with the entries that led to it from its opening, and what it makes of events and faults.
-use Rattle.std.specs.Prelude.{◌≡◌, ℕ, ◌+◌, ◌≤◌, ◌≢◌, ⊤, ◌-◌, ◌==◌, Bool, nat_le, slice_get, if◌then◌else◌, List, [], ◌∷◌, ◌++◌, length, Option, Some, None, Result, Ok, Err}
+use Rattle.std.specs.Prelude.{◌≡◌, ℕ, ◌+◌, ◌≤◌, ◌≢◌, ⊤, ◌-◌, ◌==◌, Bool, nat_le, slice_get, if◌then◌else◌, List, []}
+use Rattle.std.specs.Prelude.{◌∷◌, ◌++◌, length, Option, Some, None, Result, Ok, Err}
 use Rattle.app_interface.specs.Application.{App}
 use Rattle.reset_machine.specs.declared.event.Event.{Event}
 use Rattle.reset_machine.specs.Configuration.{Configuration}
@@ -35,7 +36,8 @@ pub record IsBook {L : Type 0} (app : App L) (from_text : List ℕ → Option L)
 
 -- the book with an entry more, which left this
 abbrev pub with_entry : {L : Type 0} → BookView L → Entry → Configuration L → BookView L
-with_entry b entry left = record { opening = b.opening; entries = b.entries ++ entry ∷ []; config = left; limit = b.limit }
+with_entry b entry left =
+    record { opening = b.opening; entries = b.entries ++ entry ∷ []; config = left; limit = b.limit }
 
 -- the entry at this position, which counts from 1
 abbrev pub entry_at : List Entry → ℕ → Option Entry
@@ -55,12 +57,15 @@ book_outcome b e (Err f) = Err (book.Refused f)
 abbrev pub booked : {L : Type 0} → App L → BookView L → Event → Result (BookView L × Receipt) BookRefusal
 booked app b e = book_outcome b e (outcome_of app b.config e)
 
-abbrev pub disturbance : {L : Type 0} → BookView L → Fault → Result (Configuration L) FaultRefusal → Result (BookView L × ℕ) DisturbRefusal
-disturbance b f (Ok left) = if is_full b then Err disturb.BookFull else Ok (with_entry b (Disturbed f) left, length b.entries + 1)
+abbrev pub disturbance : {L : Type 0} → BookView L → Fault → Result (Configuration L) FaultRefusal
+    → Result (BookView L × ℕ) DisturbRefusal
+disturbance b f (Ok left) =
+    if is_full b then Err disturb.BookFull else Ok (with_entry b (Disturbed f) left, length b.entries + 1)
 disturbance b f (Err refusal) = Err (disturb.Refused refusal)
 
 -- what a fault makes of a book, with its position, or the first refusal
-abbrev pub disturbed_book : {L : Type 0} → (List ℕ → Option L) → BookView L → Fault → Result (BookView L × ℕ) DisturbRefusal
+abbrev pub disturbed_book : {L : Type 0} → (List ℕ → Option L) → BookView L → Fault
+    → Result (BookView L × ℕ) DisturbRefusal
 disturbed_book from_text b f = disturbance b f (injected from_text b.config f)
 
 -- why a book doesn't take a plan that was made on the view v: its node isn't there, or sees something else

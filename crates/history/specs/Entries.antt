@@ -25,12 +25,15 @@ entered app from_text c (Step e) = left_by_step (outcome_of app c e)
 entered app from_text c (Disturbed f) = left_by_fault (injected from_text c f)
 
 -- what entries leave in turn, where each is allowed where it stands
-unfoldable pub replayed : {L : Type 0} → App L → (List ℕ → Option L) → Configuration L → List Entry → Option (Configuration L)
+unfoldable pub replayed : {L : Type 0} → App L → (List ℕ → Option L) → Configuration L → List Entry
+    → Option (Configuration L)
 replayed app from_text c [] = Some c
-replayed app from_text c (e ∷ es) = option_and_then (λ after. replayed app from_text after es) (entered app from_text c e)
+replayed app from_text c (e ∷ es) =
+    option_and_then (λ after. replayed app from_text after es) (entered app from_text c e)
 
 -- the entry after the first ones is the first that isn't allowed where it stands. Positions count from 1
-pub record IsFirstRefused {L : Type 0} (app : App L) (from_text : List ℕ → Option L) (c : Configuration L) (es : List Entry) (position : ℕ) : Type 0 where
+pub record IsFirstRefused {L : Type 0} (app : App L) (from_text : List ℕ → Option L) (c : Configuration L)
+    (es : List Entry) (position : ℕ) : Type 0 where
   pub before : List Entry
   pub entry : Entry
   pub rest : List Entry

@@ -1,5 +1,6 @@
 -- What is kept while entries are played: where the latest openings are, and what holds of it.
-use Rattle.std.specs.Prelude.{◌≡◌, ℕ, ◌≤◌, ◌==◌, nat_lt, position, slice_index_or, if◌then◌else◌, List, [], ◌∷◌, length, Option, Some, None}
+use Rattle.std.specs.Prelude.{◌≡◌, ℕ, ◌≤◌, ◌==◌, nat_lt, position, slice_index_or, if◌then◌else◌, List, [], ◌∷◌}
+use Rattle.std.specs.Prelude.{length, Option, Some, None}
 use Rattle.std.specs.Option.{option_and_then}
 use Rattle.app_interface.specs.Application.{App}
 use Rattle.reset_machine.specs.declared.event.Event.{Event}
@@ -47,10 +48,12 @@ recent before (e ∷ es) = recent (e ∷ before) es
 pub record IsPlayed {L : Type 0} (app : App L) (from_text : List ℕ → Option L) (c : Configuration L) (es : List Entry)
     (left : Configuration L) (t : Openings) (told_reports : List Report) : Type 0 where
   pub replay : replayed app from_text c es ≡ Some left
-  pub openings : (i k : ℕ) → position (λ j. j == i) left.graph.ids ≡ Some k → told t k ≡ latest_opening i (recent [] es)
+  pub openings : (i k : ℕ) → position (λ j. j == i) left.graph.ids ≡ Some k
+      → told t k ≡ latest_opening i (recent [] es)
   pub within : IsWithin t (length es)
   pub reports : told_reports ≡ reports_of app from_text c es
 
 -- what the player keeps is that of these entries
-abbrev pub HasPlayed : {P L : Type 0} → App L → (List ℕ → Option L) → Configuration L → List Entry → Player P L → Type 0
+abbrev pub HasPlayed : {P L : Type 0} → App L → (List ℕ → Option L) → Configuration L → List Entry → Player P L
+    → Type 0
 HasPlayed app from_text c es p = IsPlayed app from_text c es p.config p.openings p.reports.items

@@ -32,14 +32,17 @@ outcome_reported (Err f) opened finished = []
 
 -- the report of an entry, where entries came before, the latest first: a step may have one, a fault has none
 abbrev pub report_of : {L : Type 0} → App L → Configuration L → List Entry → Entry → List Report
-report_of app c before (Step e) = outcome_reported (outcome_of app c e) (latest_opening (event_node e) before) (length before + 1)
+report_of app c before (Step e) =
+    outcome_reported (outcome_of app c e) (latest_opening (event_node e) before) (length before + 1)
 report_of app c before (Disturbed f) = []
 
 -- the reports of entries, from c on, where entries came before, the latest first
-unfoldable pub reports_from : {L : Type 0} → App L → (List ℕ → Option L) → Configuration L → List Entry → List Entry → List Report
+unfoldable pub reports_from : {L : Type 0} → App L → (List ℕ → Option L) → Configuration L → List Entry
+    → List Entry → List Report
 reports_from app from_text c before [] = []
 reports_from app from_text c before (e ∷ es) =
-    report_of app c before e ++ option_map_or (λ after. reports_from app from_text after (e ∷ before) es) (entered app from_text c e) []
+    report_of app c before e
+    ++ option_map_or (λ after. reports_from app from_text after (e ∷ before) es) (entered app from_text c e) []
 
 -- the reports of the entries of a history
 abbrev pub reports_of : {L : Type 0} → App L → (List ℕ → Option L) → Configuration L → List Entry → List Report

@@ -1,6 +1,7 @@
 // Books: configurations with the entries that led to them.
 
-ghost use Rattle.std.specs.Prelude.{◌≡◌, ◌≢◌, ℕ, ◌+◌, ◌≤◌, [], length, option_map, Ok, Err, OnErr, OnOk, IfOk, IfErr, MatchResult};
+ghost use Rattle.std.specs.Prelude.{◌≡◌, ◌≢◌, ℕ, ◌+◌, ◌≤◌, [], length, option_map, Ok, Err, OnErr, OnOk, IfOk, IfErr};
+ghost use Rattle.std.specs.Prelude.{MatchResult};
 
 use crate::entry::{Entry, Receipt, Report};
 use crate::player::Player;
@@ -37,7 +38,8 @@ impl<P: Application> Model for Book<P> {
 
     ghost coded = { Prim.hlevel (codes, graph_code) };
 
-    ghost view = { λ b. record { opening = b.opening.value; entries = b.entries.items; config = b.player.config; limit = b.limit } };
+    ghost view = { λ b. record { opening = b.opening.value; entries = b.entries.items; config = b.player.config;
+        limit = b.limit } };
 
     ghost invariant = { λ b. HasPlayed P.app P.from_text b.opening.value b.entries.items b.player
         × (length b.entries.items ≤ b.limit) × (b.limit ≤ 1000000) };
@@ -73,7 +75,8 @@ impl<P: Application> Book<P> {
         ensures kept { OnErr result (self.new ≡ self.old) }
 
         // As of a step of the configuration.
-        ensures lawful { IfOk result (λ receipt. IsSound self.old.config → IsSoundStep P.app P.Inv self.old.config event receipt.reply self.new.config) }
+        ensures lawful { IfOk result (λ receipt. IsSound self.old.config
+            → IsSoundStep P.app P.Inv self.old.config event receipt.reply self.new.config) }
     {
         if self.entries.len() >= self.limit {
             return Err(self.full_step(alloc, event));
@@ -112,7 +115,8 @@ impl<P: Application> Book<P> {
     /// Does the fault, and enters it, or names the first refusal and hands the fault back. A refused fault
     /// changes nothing. It tells the position of the entry.
     pub fn disturb(&mut self, alloc: Global, fault: Fault) -> Result<usize, (DisturbRefusal, Fault)>
-        ensures outcome { MatchResult result (λ position. disturbed_book P.from_text self.old fault ≡ Ok (self.new, position))
+        ensures outcome { MatchResult result (λ position.
+            disturbed_book P.from_text self.old fault ≡ Ok (self.new, position))
             (λ e. e.0 ≢ DisturbRefusal.NoMemory → disturbed_book P.from_text self.old fault ≡ Err e.0) }
         ensures returned { IfErr result (λ e. e.1 ≡ fault) }
         ensures kept { OnErr result (self.new ≡ self.old) }
@@ -154,14 +158,16 @@ impl<P: Application> Book<P> {
         alloc: Global,
         plan: Plan<P>,
     ) -> Result<Receipt, (ApplyRefusal<P>, Plan<P>)>
-        ensures ok { IfOk result (λ receipt. (booked P.app self.old plan.event ≡ Ok (self.new, receipt)) × (receipt.reply ≡ plan.reply)) }
+        ensures ok { IfOk result (λ receipt. (booked P.app self.old plan.event ≡ Ok (self.new, receipt))
+            × (receipt.reply ≡ plan.reply)) }
         ensures seen { OnOk result (IsSeen P.app self.old.config plan.view) }
         ensures err { IfErr result (λ e. IsUnapplied P.app self.old plan.view e.0) }
         ensures returned { IfErr result (λ e. e.1 ≡ plan) }
         ensures kept { OnErr result (self.new ≡ self.old) }
 
         // As of a step of the configuration.
-        ensures lawful { IfOk result (λ receipt. IsSound self.old.config → IsSoundStep P.app P.Inv self.old.config plan.event receipt.reply self.new.config) }
+        ensures lawful { IfOk result (λ receipt. IsSound self.old.config
+            → IsSoundStep P.app P.Inv self.old.config plan.event receipt.reply self.new.config) }
     {
         if self.entries.len() >= self.limit {
             return Err((self.full_apply(alloc, plan.seen_view()), plan));

@@ -50,7 +50,8 @@ impl Openings {
     // Puts an opening at the node with this index.
     pub fn open(&mut self, index: usize, position: usize)
         requires { index < length self.old.positions.items }
-        ensures told { (n k : ℕ) → IsWithin self.old n → n < position → told self.new k ≡ (if k == index then Some position else told self.old k) }
+        ensures told { (n k : ℕ) → IsWithin self.old n → n < position
+            → told self.new k ≡ (if k == index then Some position else told self.old k) }
         ensures within { (n : ℕ) → IsWithin self.old n → n ≤ position → IsWithin self.new position }
     {
         self.positions[index] = position;

@@ -1,6 +1,7 @@
 // A configuration that entries happen to, with what they report.
 
-ghost use Rattle.std.specs.Prelude.{◌≡◌, ◌≢◌, ℕ, ◌+◌, ◌<◌, ◌≤◌, ◌==◌, ◌++◌, ◌∷◌, [], List, length, position, if◌then◌else◌, OnOk, OnErr, IfOk, IfErr, MatchResult, Ok, Err, Some, None};
+ghost use Rattle.std.specs.Prelude.{◌≡◌, ◌≢◌, ℕ, ◌+◌, ◌<◌, ◌≤◌, ◌==◌, ◌++◌, ◌∷◌, [], List, length, position};
+ghost use Rattle.std.specs.Prelude.{if◌then◌else◌, OnOk, OnErr, IfOk, IfErr, MatchResult, Ok, Err, Some, None};
 ghost use Rattle.std.specs.Vec.{vec_len, vec_capacity};
 ghost use Rattle.reset_machine.specs.Configuration.{Configuration};
 ghost use Rattle.reset_machine.specs.Planned.{outcome_of};
@@ -50,13 +51,16 @@ impl<P: Application> Player<P> {
         place: usize,
         event: Event,
     ) -> Result<Reply, StepRefusal>
-        ensures outcome { MatchResult result (λ reply. outcome_of P.app self.old.config event ≡ Ok (self.new.config, reply))
+        ensures outcome { MatchResult result (λ reply.
+            outcome_of P.app self.old.config event ≡ Ok (self.new.config, reply))
             (λ f. f ≢ StepRefusal.NoMemory → outcome_of P.app self.old.config event ≡ Err f) }
         ensures kept { OnErr result (self.new.config ≡ self.old.config) }
         ensures played { (c : Configuration P.Local) (es : List Entry) → HasPlayed P.app P.from_text c es self.old
-            → MatchResult result (λ reply. place ≡ length es + 1 → HasPlayed P.app P.from_text c (es ++ Step event ∷ []) self.new)
+            → MatchResult result (λ reply. place ≡ length es + 1
+            → HasPlayed P.app P.from_text c (es ++ Step event ∷ []) self.new)
             (λ f. HasPlayed P.app P.from_text c es self.new) }
-        ensures lawful { IfOk result (λ reply. IsSound self.old.config → IsSoundStep P.app P.Inv self.old.config event reply self.new.config) }
+        ensures lawful { IfOk result (λ reply. IsSound self.old.config
+            → IsSoundStep P.app P.Inv self.old.config event reply self.new.config) }
     {
         match self.make_room() {
             Ok(()) => {}
@@ -82,7 +86,8 @@ impl<P: Application> Player<P> {
             (λ f. f ≢ FaultRefusal.NoMemory → injected P.from_text self.old.config fault.now ≡ Err f) }
         ensures kept { OnErr result (self.new.config ≡ self.old.config) }
         ensures played { (c : Configuration P.Local) (es : List Entry) → HasPlayed P.app P.from_text c es self.old
-            → MatchResult result (λ _. place ≡ length es + 1 → HasPlayed P.app P.from_text c (es ++ Disturbed fault.now ∷ []) self.new)
+            → MatchResult result (λ _. place ≡ length es + 1
+            → HasPlayed P.app P.from_text c (es ++ Disturbed fault.now ∷ []) self.new)
             (λ f. HasPlayed P.app P.from_text c es self.new) }
     {
         match inject(alloc, &mut self.config, fault) {
@@ -96,9 +101,11 @@ impl<P: Application> Player<P> {
 
     // Plays an entry, which has this place.
     pub fn enter(&mut self, alloc: Global, place: usize, entry: &Entry) -> Result<(), VerifyFault>
-        ensures played { OnOk result ((c : Configuration P.Local) (es : List Entry) → HasPlayed P.app P.from_text c es self.old
+        ensures played { OnOk result ((c : Configuration P.Local) (es : List Entry)
+            → HasPlayed P.app P.from_text c es self.old
             → place ≡ length es + 1 → HasPlayed P.app P.from_text c (es ++ entry.now ∷ []) self.new) }
-        ensures err { IfErr result (λ f. f ≢ VerifyFault.NoMemory → (f ≡ VerifyFault.NotEnabledAt place) × (entered P.app P.from_text self.old.config entry.now ≡ None)) }
+        ensures err { IfErr result (λ f. f ≢ VerifyFault.NoMemory → (f ≡ VerifyFault.NotEnabledAt place)
+            × (entered P.app P.from_text self.old.config entry.now ≡ None)) }
     {
         match entry {
             Entry::Step(event) => match self.enter_step(alloc, place, *event) {
@@ -118,14 +125,17 @@ impl<P: Application> Player<P> {
     pub fn enter_plan(&mut self, place: usize, plan: Plan<P>) -> Result<Reply, Plan<P>>
         requires openings { length self.old.config.graph.ids ≤ length self.old.openings.positions.items }
         requires reports { vec_len self.old.reports < vec_capacity self.old.reports }
-        ensures outcome { IfOk result (λ reply. outcome_of P.app self.old.config plan.event ≡ Ok (self.new.config, reply)) }
+        ensures outcome { IfOk result (λ reply.
+            outcome_of P.app self.old.config plan.event ≡ Ok (self.new.config, reply)) }
         ensures reply { IfOk result (λ reply. reply ≡ plan.reply) }
         ensures seen { OnOk result (IsSeen P.app self.old.config plan.view) }
         ensures err { IfErr result (λ back. (back ≡ plan) × (IsSeen P.app self.old.config plan.view → ⊥)) }
         ensures kept { OnErr result (self.new ≡ self.old) }
-        ensures played { OnOk result ((c : Configuration P.Local) (es : List Entry) → HasPlayed P.app P.from_text c es self.old
+        ensures played { OnOk result ((c : Configuration P.Local) (es : List Entry)
+            → HasPlayed P.app P.from_text c es self.old
             → place ≡ length es + 1 → HasPlayed P.app P.from_text c (es ++ Step plan.event ∷ []) self.new) }
-        ensures lawful { IfOk result (λ reply. IsSound self.old.config → IsSoundStep P.app P.Inv self.old.config plan.event reply self.new.config) }
+        ensures lawful { IfOk result (λ reply. IsSound self.old.config
+            → IsSoundStep P.app P.Inv self.old.config plan.event reply self.new.config) }
     {
         let event = plan.event();
         match self.config.put_plan(plan) {
@@ -156,7 +166,8 @@ impl<P: Application> Player<P> {
         ensures same { self.new.config ≡ self.old.config }
         ensures reports { self.new.reports.items ≡ self.old.reports.items
             ++ reported reply (told_of self.old.openings self.old.config.graph.ids (event_node event)) place }
-        ensures openings { (n i k : ℕ) → IsWithin self.old.openings n → n < place → position (λ j. j == i) self.old.config.graph.ids ≡ Some k
+        ensures openings { (n i k : ℕ) → IsWithin self.old.openings n → n < place
+            → position (λ j. j == i) self.old.config.graph.ids ≡ Some k
             → told self.new.openings k ≡ opened_by event i place (told self.old.openings k) }
         ensures within { (n : ℕ) → IsWithin self.old.openings n → n ≤ place → IsWithin self.new.openings place }
     {
@@ -203,7 +214,8 @@ impl<P: Application> Player<P> {
         requires { length self.old.config.graph.ids ≤ length self.old.openings.positions.items }
         ensures same { self.new.config ≡ self.old.config }
         ensures reports { self.new.reports ≡ self.old.reports }
-        ensures openings { (n i k : ℕ) → IsWithin self.old.openings n → n < place → position (λ j. j == i) self.old.config.graph.ids ≡ Some k
+        ensures openings { (n i k : ℕ) → IsWithin self.old.openings n → n < place
+            → position (λ j. j == i) self.old.config.graph.ids ≡ Some k
             → told self.new.openings k ≡ (if at == i then Some place else told self.old.openings k) }
         ensures within { (n : ℕ) → IsWithin self.old.openings n → n ≤ place → IsWithin self.new.openings place }
     {

@@ -20,7 +20,8 @@ pub fn verify<P: Application>(
     ensures allowed { IfOk result (λ s. IsSome (replayed P.app P.from_text opening entries.now)) }
     ensures entries { IfOk result (λ s. s.entries ≡ length entries.now) }
     ensures reports { IfOk result (λ s. s.reports.items ≡ reports_of P.app P.from_text opening entries.now) }
-    ensures err { IfErr result (λ f. (position : ℕ) → f ≡ VerifyFault.NotEnabledAt position → IsFirstRefused P.app P.from_text opening entries.now position) }
+    ensures err { IfErr result (λ f. (position : ℕ) → f ≡ VerifyFault.NotEnabledAt position
+        → IsFirstRefused P.app P.from_text opening entries.now position) }
 {
     let mut player = Player::new(alloc, opening);
     let mut place = 0;
