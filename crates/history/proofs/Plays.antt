@@ -141,9 +141,12 @@ module _ {L : Type 0} (app : App L) (from_text : List ℕ → Option L) where
             told_reports
             ∙ (let node_is = step_found d left e reply is in
             let opening = told_found t d.graph.ids (event_node e) (recent [] es) node_is (played.openings (event_node
-                e)) in
-            rw (same, opening, here, ← recent_is, played.reports) (rw (reports_snoc c d left [] es (Step e)
-                played.replay entry, is) refl));
+            e)) in
+            rw (same, opening, here, ← recent_is, played.reports) (rw (
+              reports_snoc c d left [] es (Step e)
+                  played.replay entry,
+              is,
+            ) refl));
       }
     where
       told_found : (t : Openings) (ids : List ℕ) (i : ℕ) (before : List Entry)
@@ -152,7 +155,7 @@ module _ {L : Type 0} (app : App L) (from_text : List ℕ → Option L) where
           ≡ latest_opening i before
       told_found t ids i before =
           elim (position (λ j. j == i) ids) as (λ o. is_some o ≡ true → ((k : ℕ) → o ≡ Some k → told t k
-              ≡ latest_opening i before) → option_and_then (told t) o ≡ latest_opening i before)
+          ≡ latest_opening i before) → option_and_then (told t) o ≡ latest_opening i before)
           [ None ↦ λ none told_is. cc | Some k ↦ λ some told_is. told_is k refl ]
 
   pub played_fault : (c d left : Configuration L) (es : List Entry) (t t' : Openings) (rs : List Report) (f : Fault)
@@ -180,7 +183,7 @@ module _ {L : Type 0} (app : App L) (from_text : List ℕ → Option L) where
       → IsPlayed app from_text c (take i es ++ x ∷ []) left t rs → IsPlayed app from_text c (take (i + 1) es) left t rs
   played_more c left es i x t rs short is played =
       let taken : take (i + 1) es ≡ take i es ++ x ∷ [] = ap (λ k. take k es) (add-one i) ∙ take-suc es i x short
-          ∙ ap (λ e. take i es ++ e ∷ []) (sym is) in
+      ∙ ap (λ e. take i es ++ e ∷ []) (sym is) in
       rw taken played
 
   -- an entry of a list that is refused after those before it

@@ -38,8 +38,12 @@ impl<P: Application> Model for Book<P> {
 
     ghost coded = { Prim.hlevel (codes, graph_code) };
 
-    ghost view = { λ b. record { opening = b.opening.value; entries = b.entries.items; config = b.player.config;
-        limit = b.limit } };
+    ghost view = { λ b. record {
+      opening = b.opening.value;
+      entries = b.entries.items;
+      config = b.player.config;
+      limit = b.limit;
+    } };
 
     ghost invariant = { λ b. HasPlayed P.app P.from_text b.opening.value b.entries.items b.player
         × (length b.entries.items ≤ b.limit) × (b.limit ≤ 1000000) };

@@ -3,7 +3,9 @@
 use crate::line::{line, whole_reset};
 use app_interface::Idle;
 use fault_inject::{Fault, FaultRefusal};
-use history::{ApplyRefusal, Book, BookRefusal, DisturbRefusal, Entry, MAX_ENTRIES, Receipt, Report};
+use history::{
+    ApplyRefusal, Book, BookRefusal, DisturbRefusal, Entry, MAX_ENTRIES, Receipt, Report,
+};
 use reset_machine::{Event, Plan, Reply, StepRefusal};
 use std::alloc::Global;
 use std::process::Abort;
@@ -66,7 +68,10 @@ fn tree_fault(at: u32) -> Fault {
 #[test]
 fn tells_the_place_of_a_fault(rt: HostRuntime) {
     let mut book = Book::open_book(rt.alloc(), line(&rt, rt.alloc()), 1);
-    let strange = (DisturbRefusal::Refused(FaultRefusal::StrangeNode), tree_fault(9));
+    let strange = (
+        DisturbRefusal::Refused(FaultRefusal::StrangeNode),
+        tree_fault(9),
+    );
     assert!(rt; book.disturb(rt.alloc(), tree_fault(9)) == Err(strange));
     assert!(rt; book.disturb(rt.alloc(), tree_fault(2)) == Ok(1));
     let full = (DisturbRefusal::BookFull, tree_fault(2));

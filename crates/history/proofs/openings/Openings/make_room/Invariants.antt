@@ -6,4 +6,4 @@ use Rattle.history.proofs.openings.Openings.make_room.Given as goal
 abbrev pub invariant-loop : goal.invariant-loop
 invariant-loop l =
     ((k : ℕ) → table_at l.self k ≡ table_at l.initial.self k) × (l.self.last_fault ≡ l.initial.self.last_fault)
-        × (l.counter ≤ length l.self.positions.items)
+    × (l.counter ≤ length l.self.positions.items)
