@@ -105,14 +105,17 @@ fn applies_a_plan_once(rt: HostRuntime) {
         Err(_) => panic!(rt; "room for a plan"),
     }
     match book.apply(rt.alloc(), second) {
-        Err((ApplyRefusal::Stale(now), _)) => assert_eq!(rt; now.id(), 3),
-        _ => panic!(rt; "a stale plan"),
+        Ok(_) => panic!(rt; "a stale plan"),
+        Err((refusal, _)) => match refusal {
+            ApplyRefusal::Stale(now) => assert_eq!(rt; now.id(), 3),
+            _ => panic!(rt; "a stale plan"),
+        },
     }
     assert!(rt; book.apply(rt.alloc(), early).is_ok());
     let last = plan_of(&rt, rt.alloc(), &book, 3, Event::Open { at: 3 });
     match book.apply(rt.alloc(), last) {
-        Err((ApplyRefusal::BookFull, _)) => {}
-        _ => panic!(rt; "a full book"),
+        Ok(_) => panic!(rt; "a full book"),
+        Err((refusal, _)) => assert!(rt; matches!(refusal, ApplyRefusal::BookFull)),
     }
     assert_eq!(rt; book.len(), 2);
 }
