@@ -1,0 +1,270 @@
+// Books: configurations with the entries that led to them.
+
+ghost use Rattle.std.specs.Prelude.{◌≡◌, ◌≢◌, ℕ, ◌+◌, ◌≤◌, [], length, option_map, Ok, Err, OnErr, OnOk, IfOk, IfErr};
+ghost use Rattle.std.specs.Prelude.{MatchResult};
+
+use crate::entry::{Entry, Receipt, Report};
+use crate::player::Player;
+use crate::refusal::{ApplyRefusal, BookRefusal, DisturbRefusal, fault_refused, step_refused};
+use app_interface::Application;
+use fault_inject::{Fault, inject};
+use reset_machine::{Config, Event, Plan, StepRefusal, View};
+use std::alloc::{AllocError, Global};
+use std::marker::Model;
+use std::snapshot::Snapshot;
+
+/// The most entries that a book may have.
+pub const MAX_ENTRIES: usize = 1_000_000;
+
+/// A configuration with the entries that led to it from its opening, and their completions.
+#[derive(Drop)]
+pub struct Book<P: Application> {
+    player: Player<P>,
+    entries: Vec<Entry>,
+    limit: usize,
+    // Contracts tell the opening. It takes no memory.
+    opening: Snapshot<Config<P>>,
+}
+
+impl<P: Application> Model for Book<P> {
+    ghost use Rattle.std.specs.Prelude.{◌≤◌, length};
+    ghost use Rattle.history.specs.Book.{BookView};
+    ghost use Rattle.history.specs.Played.{HasPlayed};
+
+    ghost Value = { BookView P.Local };
+
+    ghost use Rattle.std.specs.Coded.{codes};
+    ghost use Rattle.topology.specs.Graph.{graph_code};
+
+    ghost coded = { Prim.hlevel (codes, graph_code) };
+
+    ghost view = { λ b. record {
+      opening = b.opening.value;
+      entries = b.entries.items;
+      config = b.player.config;
+      limit = b.limit;
+    } };
+
+    ghost invariant = { λ b. HasPlayed P.app P.from_text b.opening.value b.entries.items b.player
+        × (length b.entries.items ≤ b.limit) × (b.limit ≤ 1000000) };
+}
+
+impl<P: Application> Book<P> {
+    ghost use Rattle.reset_model.specs.View.{IsSeen};
+    ghost use Rattle.reset_model.specs.Sound.{IsSound};
+    ghost use Rattle.reset_model.specs.SoundSteps.{IsSoundStep};
+    ghost use Rattle.fault_inject.specs.Effects.{injected};
+    ghost use Rattle.reset_model.specs.Planned.{outcome_of};
+    ghost use Rattle.history.specs.Book.{IsBook, IsUnapplied, booked, disturbed_book, entry_at};
+    ghost use Rattle.history.specs.Reports.{reports_of};
+
+    /// A book without entries that opens with this configuration. It takes no memory.
+    pub fn open_book(alloc: Global, config: Config<P>, limit: usize) -> Book<P>
+        requires { limit ≤ 1000000 }
+        ensures { result ≡ record { opening = config; entries = []; config = config; limit = limit } }
+    {
+        Book {
+            opening: Snapshot::of(&config),
+            player: Player::new(alloc, config),
+            entries: Vec::new(alloc),
+            limit,
+        }
+    }
+
+    /// Does what the event says, and enters it, or names the first refusal. A refused event changes
+    /// nothing.
+    pub fn step(&mut self, alloc: Global, event: Event) -> Result<Receipt, BookRefusal>
+        ensures outcome { MatchResult result (λ receipt. booked P.app self.old event ≡ Ok (self.new, receipt))
+            (λ f. f ≢ BookRefusal.NoMemory → booked P.app self.old event ≡ Err f) }
+        ensures kept { OnErr result (self.new ≡ self.old) }
+
+        // As of a step of the configuration.
+        ensures lawful { IfOk result (λ receipt. IsSound self.old.config
+            → IsSoundStep P.app P.Inv self.old.config event receipt.reply self.new.config) }
+    {
+        if self.entries.len() >= self.limit {
+            return Err(self.full_step(alloc, event));
+        }
+        if self.entries.reserve(1).is_err() {
+            return Err(BookRefusal::NoMemory);
+        }
+        let position = self.entries.len() + 1;
+        match self.player.enter_step(alloc, position, event) {
+            Ok(reply) => {
+                self.entries.push_reserved(Entry::Step(event));
+                Ok(Receipt {
+                    position,
+                    event,
+                    reply,
+                })
+            }
+            Err(refusal) => Err(step_refused(refusal)),
+        }
+    }
+
+    // Why a full book doesn't take the event: it would be refused, or there is no room.
+    fn full_step(&self, alloc: Global, event: Event) -> BookRefusal
+        requires { self.now.limit ≤ length self.now.entries }
+        ensures { result ≢ BookRefusal.NoMemory → booked P.app self.now event ≡ Err result }
+    {
+        let Ok(mut copy) = self.player.config.copy(alloc) else {
+            return BookRefusal::NoMemory;
+        };
+        match copy.step(alloc, event) {
+            Ok(_) => BookRefusal::BookFull,
+            Err(refusal) => step_refused(refusal),
+        }
+    }
+
+    /// Does the fault, and enters it, or names the first refusal and hands the fault back. A refused fault
+    /// changes nothing. It tells the position of the entry.
+    pub fn disturb(&mut self, alloc: Global, fault: Fault) -> Result<usize, (DisturbRefusal, Fault)>
+        ensures outcome { MatchResult result (λ position.
+            disturbed_book P.from_text self.old fault ≡ Ok (self.new, position))
+            (λ e. e.0 ≢ DisturbRefusal.NoMemory → disturbed_book P.from_text self.old fault ≡ Err e.0) }
+        ensures returned { IfErr result (λ e. e.1 ≡ fault) }
+        ensures kept { OnErr result (self.new ≡ self.old) }
+    {
+        if self.entries.len() >= self.limit {
+            return Err((self.full_disturb(alloc, &fault), fault));
+        }
+        if self.entries.reserve(1).is_err() {
+            return Err((DisturbRefusal::NoMemory, fault));
+        }
+        let position = self.entries.len() + 1;
+        match self.player.enter_fault(alloc, position, &fault) {
+            Ok(()) => {
+                self.entries.push_reserved(Entry::Disturbed(fault));
+                Ok(position)
+            }
+            Err(refusal) => Err((fault_refused(refusal), fault)),
+        }
+    }
+
+    // Why a full book doesn't take the fault: it would be refused, or there is no room.
+    fn full_disturb(&self, alloc: Global, fault: &Fault) -> DisturbRefusal
+        requires { self.now.limit ≤ length self.now.entries }
+        ensures { result ≢ DisturbRefusal.NoMemory → disturbed_book P.from_text self.now fault.now ≡ Err result }
+    {
+        let Ok(mut copy) = self.player.config.copy(alloc) else {
+            return DisturbRefusal::NoMemory;
+        };
+        match inject(alloc, &mut copy, fault) {
+            Ok(()) => DisturbRefusal::BookFull,
+            Err(refusal) => fault_refused(refusal),
+        }
+    }
+
+    /// Does what the plan says, where its node sees now what the plan was made on, and enters it, or names
+    /// the first refusal and hands the plan back. A refused plan changes nothing.
+    pub fn apply(
+        &mut self,
+        alloc: Global,
+        plan: Plan<P>,
+    ) -> Result<Receipt, (ApplyRefusal<P>, Plan<P>)>
+        ensures ok { IfOk result (λ receipt. (booked P.app self.old plan.event ≡ Ok (self.new, receipt))
+            × (receipt.reply ≡ plan.reply)) }
+        ensures seen { OnOk result (IsSeen P.app self.old.config plan.view) }
+        ensures err { IfErr result (λ e. IsUnapplied P.app self.old plan.view e.0) }
+        ensures returned { IfErr result (λ e. e.1 ≡ plan) }
+        ensures kept { OnErr result (self.new ≡ self.old) }
+
+        // As of a step of the configuration.
+        ensures lawful { IfOk result (λ receipt. IsSound self.old.config
+            → IsSoundStep P.app P.Inv self.old.config plan.event receipt.reply self.new.config) }
+    {
+        if self.entries.len() >= self.limit {
+            return Err((self.full_apply(alloc, plan.seen_view()), plan));
+        }
+        match self.entries.reserve(1) {
+            Ok(()) => {}
+            Err(AllocError) => return Err((ApplyRefusal::NoMemory, plan)),
+        }
+        match self.player.make_room() {
+            Ok(()) => {}
+            Err(AllocError) => return Err((ApplyRefusal::NoMemory, plan)),
+        }
+        let position = self.entries.len() + 1;
+        let event = plan.event();
+        match self.player.enter_plan(position, plan) {
+            Ok(reply) => {
+                self.entries.push_reserved(Entry::Step(event));
+                Ok(Receipt {
+                    position,
+                    event,
+                    reply,
+                })
+            }
+            Err(plan) => Err((self.unseen(alloc, plan.seen_view()), plan)),
+        }
+    }
+
+    // Why a full book doesn't take a plan that was made on this view.
+    fn full_apply(&self, alloc: Global, view: &View<P>) -> ApplyRefusal<P>
+        requires { self.now.limit ≤ length self.now.entries }
+        ensures { IsUnapplied P.app self.now view.now result }
+    {
+        if self.player.config.view_is(view) {
+            ApplyRefusal::BookFull
+        } else {
+            self.unseen(alloc, view)
+        }
+    }
+
+    // Why a plan isn't taken that was made on this view, which its node doesn't see now.
+    fn unseen(&self, alloc: Global, view: &View<P>) -> ApplyRefusal<P>
+        requires { IsSeen P.app self.now.config view.now → ⊥ }
+        ensures { IsUnapplied P.app self.now view.now result }
+    {
+        match self.player.config.view(alloc, view.id()) {
+            Ok(now) => ApplyRefusal::Stale(now),
+            Err(StepRefusal::NoMemory) => ApplyRefusal::NoMemory,
+            Err(_) => ApplyRefusal::StrangeNode,
+        }
+    }
+
+    /// Its configuration is what its entries leave from its opening, and they are within its limit.
+    pub fn is_book(&self)
+        ensures { IsBook P.app P.from_text self.now }
+    {
+        let _ = &self.player;
+    }
+
+    /// How many entries it has.
+    pub fn len(&self) -> usize
+        ensures { result ≡ length self.now.entries }
+    {
+        self.entries.len()
+    }
+
+    /// How many entries it may have.
+    pub fn limit(&self) -> usize
+        ensures { result ≡ self.now.limit }
+    {
+        self.limit
+    }
+
+    /// The entry at this position. Positions count from 1. None outside 1 to [`len`](Book::len).
+    pub fn entry(&self, position: usize) -> Option<&Entry>
+        ensures { option_map (λ entry. entry.now) result ≡ entry_at self.now.entries position }
+    {
+        match position.checked_sub(1) {
+            Some(index) => self.entries.get(index),
+            None => None,
+        }
+    }
+
+    /// Its configuration.
+    pub fn config(&self) -> &Config<P>
+        ensures { result.now ≡ self.now.config }
+    {
+        &self.player.config
+    }
+
+    /// The completions that its entries tell, in turn.
+    pub fn reports(&self) -> &[Report]
+        ensures { result.now ≡ reports_of P.app P.from_text self.now.opening self.now.entries }
+    {
+        &self.player.reports
+    }
+}

@@ -1,0 +1,50 @@
+// What a history tells.
+
+use fault_inject::Fault;
+use reset_machine::{Event, Reply};
+
+/// What happened to a configuration.
+#[derive(Debug, PartialEq, Eq, Drop)]
+pub enum Entry {
+    /// The event was applied.
+    Step(Event),
+    /// The fault was done.
+    Disturbed(Fault),
+}
+
+/// That an event was applied, and how its node replied. Positions count from 1.
+#[derive(Clone, Copy, Debug, PartialEq, Eq)]
+pub struct Receipt {
+    pub position: usize,
+    pub event: Event,
+    pub reply: Reply,
+}
+
+/// That the reset of a session was told complete.
+#[derive(Clone, Copy, Debug, PartialEq, Eq)]
+pub struct Report {
+    /// The number of the session.
+    pub number: u32,
+    /// The position of the latest opening at the same node, where no fault came after it.
+    pub opened: Option<usize>,
+    /// The position of the step that completed it.
+    pub finished: usize,
+}
+
+/// What a history comes to.
+#[derive(Debug, Drop)]
+pub struct Summary {
+    /// How many entries it has.
+    pub entries: usize,
+    /// Its completions, in turn.
+    pub reports: Vec<Report>,
+}
+
+/// Why a history isn't one.
+#[derive(Clone, Copy, Debug, PartialEq, Eq)]
+pub enum VerifyFault {
+    /// The entry at this position isn't allowed where it stands. It is the first such one.
+    NotEnabledAt(usize),
+    /// Memory is wanting.
+    NoMemory,
+}

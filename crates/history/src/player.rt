@@ -1,0 +1,245 @@
+// A configuration that entries happen to, with what they report.
+
+ghost use Rattle.std.specs.Prelude.{◌≡◌, ◌≢◌, ℕ, ◌+◌, ◌<◌, ◌≤◌, ◌==◌, ◌++◌, ◌∷◌, [], List, length, position};
+ghost use Rattle.std.specs.Prelude.{if◌then◌else◌, OnOk, OnErr, IfOk, IfErr, MatchResult, Ok, Err, Some, None};
+ghost use Rattle.std.specs.Vec.{vec_len, vec_capacity};
+ghost use Rattle.reset_model.specs.Configuration.{Configuration};
+ghost use Rattle.reset_model.specs.Planned.{outcome_of};
+ghost use Rattle.fault_inject.specs.Effects.{injected};
+ghost use Rattle.reset_model.specs.View.{IsSeen};
+ghost use Rattle.reset_model.specs.Sound.{IsSound};
+ghost use Rattle.reset_model.specs.SoundSteps.{IsSoundStep};
+ghost use Rattle.history.specs.declared.entry.Entry.{Entry};
+ghost use Rattle.history.specs.declared.entry.Entry.TheVariants.{Step, Disturbed};
+ghost use Rattle.history.specs.Entries.{entered};
+ghost use Rattle.history.specs.Played.{HasPlayed, IsWithin, opened_by, told, told_of};
+ghost use Rattle.history.specs.Reports.{reported};
+ghost use Rattle.reset_model.specs.Steps.{event_node};
+
+use crate::entry::{Entry, Report, VerifyFault};
+use crate::openings::Openings;
+use app_interface::Application;
+use fault_inject::{Fault, FaultRefusal, inject};
+use reset_machine::{Config, Event, Plan, Reply, StepRefusal};
+use std::alloc::{AllocError, Global};
+
+// A configuration that entries happen to, and what they report.
+#[derive(Drop)]
+pub struct Player<P: Application> {
+    pub config: Config<P>,
+    pub openings: Openings,
+    pub reports: Vec<Report>,
+}
+
+impl<P: Application> Player<P> {
+    // Before the first entry.
+    pub fn new(alloc: Global, config: Config<P>) -> Player<P>
+        ensures same { result.config ≡ config }
+        ensures played { HasPlayed P.app P.from_text config [] result }
+    {
+        Player {
+            config,
+            openings: Openings::new(alloc),
+            reports: Vec::new(alloc),
+        }
+    }
+
+    // Does the event, which is entered at this place.
+    pub fn enter_step(
+        &mut self,
+        alloc: Global,
+        place: usize,
+        event: Event,
+    ) -> Result<Reply, StepRefusal>
+        ensures outcome { MatchResult result (λ reply.
+            outcome_of P.app self.old.config event ≡ Ok (self.new.config, reply))
+            (λ f. f ≢ StepRefusal.NoMemory → outcome_of P.app self.old.config event ≡ Err f) }
+        ensures kept { OnErr result (self.new.config ≡ self.old.config) }
+        ensures played { (c : Configuration P.Local) (es : List Entry) → HasPlayed P.app P.from_text c es self.old
+            → MatchResult result (λ reply. place ≡ length es + 1
+            → HasPlayed P.app P.from_text c (es ++ Step event ∷ []) self.new)
+            (λ f. HasPlayed P.app P.from_text c es self.new) }
+        ensures lawful { IfOk result (λ reply. IsSound self.old.config
+            → IsSoundStep P.app P.Inv self.old.config event reply self.new.config) }
+    {
+        match self.make_room() {
+            Ok(()) => {}
+            Err(AllocError) => return Err(StepRefusal::NoMemory),
+        }
+        match self.config.step(alloc, event) {
+            Ok(reply) => {
+                self.note(place, event, reply);
+                Ok(reply)
+            }
+            Err(refusal) => Err(refusal),
+        }
+    }
+
+    // Does the fault, which is entered at this place.
+    pub fn enter_fault(
+        &mut self,
+        alloc: Global,
+        place: usize,
+        fault: &Fault,
+    ) -> Result<(), FaultRefusal>
+        ensures outcome { MatchResult result (λ _. injected P.from_text self.old.config fault.now ≡ Ok self.new.config)
+            (λ f. f ≢ FaultRefusal.NoMemory → injected P.from_text self.old.config fault.now ≡ Err f) }
+        ensures kept { OnErr result (self.new.config ≡ self.old.config) }
+        ensures played { (c : Configuration P.Local) (es : List Entry) → HasPlayed P.app P.from_text c es self.old
+            → MatchResult result (λ _. place ≡ length es + 1
+            → HasPlayed P.app P.from_text c (es ++ Disturbed fault.now ∷ []) self.new)
+            (λ f. HasPlayed P.app P.from_text c es self.new) }
+    {
+        match inject(alloc, &mut self.config, fault) {
+            Ok(()) => {
+                self.openings.disturb(place);
+                Ok(())
+            }
+            Err(refusal) => Err(refusal),
+        }
+    }
+
+    // Plays an entry, which has this place.
+    pub fn enter(&mut self, alloc: Global, place: usize, entry: &Entry) -> Result<(), VerifyFault>
+        ensures played { OnOk result ((c : Configuration P.Local) (es : List Entry)
+            → HasPlayed P.app P.from_text c es self.old
+            → place ≡ length es + 1 → HasPlayed P.app P.from_text c (es ++ entry.now ∷ []) self.new) }
+        ensures err { IfErr result (λ f. f ≢ VerifyFault.NoMemory → (f ≡ VerifyFault.NotEnabledAt place)
+            × (entered P.app P.from_text self.old.config entry.now ≡ None)) }
+    {
+        match entry {
+            Entry::Step(event) => match self.enter_step(alloc, place, *event) {
+                Ok(_) => Ok(()),
+                Err(StepRefusal::NoMemory) => Err(VerifyFault::NoMemory),
+                Err(_) => Err(VerifyFault::NotEnabledAt(place)),
+            },
+            Entry::Disturbed(fault) => match self.enter_fault(alloc, place, fault) {
+                Ok(()) => Ok(()),
+                Err(FaultRefusal::NoMemory) => Err(VerifyFault::NoMemory),
+                Err(_) => Err(VerifyFault::NotEnabledAt(place)),
+            },
+        }
+    }
+
+    // Does what the plan says, where its node sees what it was made on, and enters it at this place.
+    pub fn enter_plan(&mut self, place: usize, plan: Plan<P>) -> Result<Reply, Plan<P>>
+        requires openings { length self.old.config.graph.ids ≤ length self.old.openings.positions.items }
+        requires reports { vec_len self.old.reports < vec_capacity self.old.reports }
+        ensures outcome { IfOk result (λ reply.
+            outcome_of P.app self.old.config plan.event ≡ Ok (self.new.config, reply)) }
+        ensures reply { IfOk result (λ reply. reply ≡ plan.reply) }
+        ensures seen { OnOk result (IsSeen P.app self.old.config plan.view) }
+        ensures err { IfErr result (λ back. (back ≡ plan) × (IsSeen P.app self.old.config plan.view → ⊥)) }
+        ensures kept { OnErr result (self.new ≡ self.old) }
+        ensures played { OnOk result ((c : Configuration P.Local) (es : List Entry)
+            → HasPlayed P.app P.from_text c es self.old
+            → place ≡ length es + 1 → HasPlayed P.app P.from_text c (es ++ Step plan.event ∷ []) self.new) }
+        ensures lawful { IfOk result (λ reply. IsSound self.old.config
+            → IsSoundStep P.app P.Inv self.old.config plan.event reply self.new.config) }
+    {
+        let event = plan.event();
+        match self.config.put_plan(plan) {
+            Ok(reply) => {
+                self.note(place, event, reply);
+                Ok(reply)
+            }
+            Err(plan) => Err(plan),
+        }
+    }
+
+    // Makes room for what an entry reports.
+    pub fn make_room(&mut self) -> Result<(), AllocError>
+        ensures same { self.new.config ≡ self.old.config }
+        ensures openings { OnOk result (length self.old.config.graph.ids ≤ length self.new.openings.positions.items) }
+        ensures reports { OnOk result (vec_len self.new.reports < vec_capacity self.new.reports) }
+        ensures played { (c : Configuration P.Local) (es : List Entry) → HasPlayed P.app P.from_text c es self.old
+            → HasPlayed P.app P.from_text c es self.new }
+    {
+        self.openings.make_room(self.config.topology().len())?;
+        self.reports.reserve(1)
+    }
+
+    // Keeps that an event was answered so, at this position.
+    fn note(&mut self, place: usize, event: Event, reply: Reply)
+        requires openings { length self.old.config.graph.ids ≤ length self.old.openings.positions.items }
+        requires reports { vec_len self.old.reports < vec_capacity self.old.reports }
+        ensures same { self.new.config ≡ self.old.config }
+        ensures reports { self.new.reports.items ≡ self.old.reports.items
+            ++ reported reply (told_of self.old.openings self.old.config.graph.ids (event_node event)) place }
+        ensures openings { (n i k : ℕ) → IsWithin self.old.openings n → n < place
+            → position (λ j. j == i) self.old.config.graph.ids ≡ Some k
+            → told self.new.openings k ≡ opened_by event i place (told self.old.openings k) }
+        ensures within { (n : ℕ) → IsWithin self.old.openings n → n ≤ place → IsWithin self.new.openings place }
+    {
+        self.report(place, event, reply);
+        match event {
+            Event::Open { at } => self.open(place, at),
+            _ => {}
+        }
+    }
+
+    // Keeps the report of a reply.
+    fn report(&mut self, place: usize, event: Event, reply: Reply)
+        requires { vec_len self.old.reports < vec_capacity self.old.reports }
+        ensures same { self.new.config ≡ self.old.config }
+        ensures openings { self.new.openings ≡ self.old.openings }
+        ensures reports { self.new.reports.items ≡ self.old.reports.items
+            ++ reported reply (told_of self.old.openings self.old.config.graph.ids (event_node event)) place }
+    {
+        match reply {
+            Reply::Applied => {}
+            Reply::Complete(number) => {
+                let opened = self.latest(event_node(event));
+                self.reports.push_reserved(Report {
+                    number,
+                    opened,
+                    finished: place,
+                });
+            }
+        }
+    }
+
+    // The latest opening at the node with this identifier.
+    fn latest(&self, at: u32) -> Option<usize>
+        ensures { result ≡ told_of self.now.openings self.now.config.graph.ids at }
+    {
+        match self.config.topology().index_of(at) {
+            Some(index) => self.openings.latest(index),
+            None => None,
+        }
+    }
+
+    // Keeps that the node with this identifier opened a session at this position.
+    fn open(&mut self, place: usize, at: u32)
+        requires { length self.old.config.graph.ids ≤ length self.old.openings.positions.items }
+        ensures same { self.new.config ≡ self.old.config }
+        ensures reports { self.new.reports ≡ self.old.reports }
+        ensures openings { (n i k : ℕ) → IsWithin self.old.openings n → n < place
+            → position (λ j. j == i) self.old.config.graph.ids ≡ Some k
+            → told self.new.openings k ≡ (if at == i then Some place else told self.old.openings k) }
+        ensures within { (n : ℕ) → IsWithin self.old.openings n → n ≤ place → IsWithin self.new.openings place }
+    {
+        match self.config.topology().index_of(at) {
+            Some(index) => self.openings.open(index, place),
+            None => {}
+        }
+    }
+}
+
+// The identifier of the node at which the event happens.
+fn event_node(event: Event) -> u32
+    ensures { result ≡ event_node event }
+{
+    match event {
+        Event::Claim { at }
+        | Event::Follow { at }
+        | Event::Adopt { at, .. }
+        | Event::Request { at }
+        | Event::Relay { at, .. }
+        | Event::Open { at }
+        | Event::Join { at }
+        | Event::Finish { at }
+        | Event::Mend { at }
+        | Event::Act { at, .. } => at,
+    }
+}

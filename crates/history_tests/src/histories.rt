@@ -1,0 +1,69 @@
+// What verifying a history tells.
+
+use crate::line::{line, whole_reset};
+use fault_inject::Fault;
+use history::{Entry, Report, VerifyFault, verify};
+use reset_machine::Event;
+use std::test::Fail;
+use wave_layer::{Phase, WaveRegs};
+
+#[test]
+fn reports_a_whole_reset(rt: HostRuntime) -> Result<(), Fail> {
+    let mut entries = Vec::new(rt.alloc());
+    for event in whole_reset() {
+        entries.push(Entry::Step(event))?;
+    }
+    match verify(rt.alloc(), line(&rt, rt.alloc()), &entries) {
+        Ok(summary) => {
+            let reset = Report {
+                number: 1,
+                opened: Some(4),
+                finished: 9,
+            };
+            assert_eq!(rt; summary.entries, 9);
+            assert!(rt; summary.reports.as_slice() == [reset].as_slice());
+        }
+        Err(_) => panic!(rt; "a history"),
+    }
+    Ok(())
+}
+
+#[test]
+fn names_the_first_refused(rt: HostRuntime) {
+    let entries = [
+        Entry::Step(Event::Request { at: 3 }),
+        Entry::Step(Event::Open { at: 3 }),
+        Entry::Step(Event::Join { at: 1 }),
+    ];
+    match verify(rt.alloc(), line(&rt, rt.alloc()), &entries) {
+        Ok(_) => panic!(rt; "no history"),
+        Err(fault) => assert_eq!(rt; fault, VerifyFault::NotEnabledAt(3)),
+    }
+}
+
+#[test]
+fn forgets_openings_before_a_fault(rt: HostRuntime) {
+    let regs = WaveRegs {
+        phase: Phase::Normal,
+        session: 1,
+    };
+    let entries = [
+        Entry::Step(Event::Request { at: 3 }),
+        Entry::Step(Event::Open { at: 3 }),
+        Entry::Step(Event::Join { at: 2 }),
+        Entry::Disturbed(Fault::SetWave { at: 1, regs }),
+        Entry::Step(Event::Finish { at: 2 }),
+        Entry::Step(Event::Finish { at: 3 }),
+    ];
+    match verify(rt.alloc(), line(&rt, rt.alloc()), &entries) {
+        Ok(summary) => {
+            let reset = Report {
+                number: 1,
+                opened: None,
+                finished: 6,
+            };
+            assert!(rt; summary.reports.as_slice() == [reset].as_slice());
+        }
+        Err(_) => panic!(rt; "a history"),
+    }
+}

@@ -1,0 +1,9 @@
+//! Tests of histories: what verifying them tells, and what books keep.
+#![tactic(auto)]
+
+#[cfg(test)]
+mod books;
+#[cfg(test)]
+mod histories;
+#[cfg(test)]
+mod line;
