@@ -1,2 +1,5 @@
 mod Tables
 mod Plays
+pub mod HistoryLines
+mod HistoryReadings
+mod ReadLines

@@ -2,3 +2,5 @@ pub mod Entries
 pub mod Reports
 pub mod Played
 pub mod Book
+pub mod HistoryText
+pub mod Reading

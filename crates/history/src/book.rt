@@ -244,6 +244,13 @@ impl<P: Application> Book<P> {
         self.limit
     }
 
+    // Its entries.
+    pub(crate) fn entries(&self) -> &[Entry]
+        ensures { result.now ≡ self.now.entries }
+    {
+        &self.entries
+    }
+
     /// The entry at this position. Positions count from 1. None outside 1 to [`len`](Book::len).
     pub fn entry(&self, position: usize) -> Option<&Entry>
         ensures { option_map (λ entry. entry.now) result ≡ entry_at self.now.entries position }

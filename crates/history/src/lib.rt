@@ -6,10 +6,14 @@ mod book;
 mod entry;
 mod openings;
 mod player;
+mod read;
 mod refusal;
+mod text;
 mod verification;
 
 pub use book::{Book, MAX_ENTRIES};
 pub use entry::{Entry, Receipt, Report, Summary, VerifyFault};
+pub use read::read_book;
 pub use refusal::{ApplyRefusal, BookRefusal, DisturbRefusal};
+pub use text::{BookFault, one_reading_a_text, write_book};
 pub use verification::verify;

@@ -189,7 +189,7 @@ impl<P: Application> Player<P> {
         match reply {
             Reply::Applied => {}
             Reply::Complete(number) => {
-                let opened = self.latest(event_node(event));
+                let opened = self.latest(event.node());
                 self.reports.push_reserved(Report {
                     number,
                     opened,
@@ -223,23 +223,5 @@ impl<P: Application> Player<P> {
             Some(index) => self.openings.open(index, place),
             None => {}
         }
-    }
-}
-
-// The identifier of the node at which the event happens.
-fn event_node(event: Event) -> u32
-    ensures { result ≡ event_node event }
-{
-    match event {
-        Event::Claim { at }
-        | Event::Follow { at }
-        | Event::Adopt { at, .. }
-        | Event::Request { at }
-        | Event::Relay { at, .. }
-        | Event::Open { at }
-        | Event::Join { at }
-        | Event::Finish { at }
-        | Event::Mend { at }
-        | Event::Act { at, .. } => at,
     }
 }

@@ -7,3 +7,5 @@ mod books;
 mod histories;
 #[cfg(test)]
 mod line;
+#[cfg(test)]
+mod texts;

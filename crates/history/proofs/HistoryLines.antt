@@ -1,0 +1,122 @@
+-- The line of an entry is its own, and has no line feed.
+use Rattle.std.proofs.Common.{◌≡◌, ◌≢◌, ℕ, ◌<◌, ◌^◌, nat_lt, Bool, true, true≢false, List, [], ◌∷◌, ◌++◌, get_or, refl, sym, ap, ◌∙◌, arith}
+use Rattle.std.specs.Prelude.{codes, IsTrue, Option, Some, None}
+use Rattle.std.specs.Char.{is_ascii_graphic}
+use Rattle.std.specs.Fmt.{decimal}
+use Rattle.std.specs.List.{AllByRecursion, join_with_byte, list_all}
+use Rattle.std.proofs.lemmas.Bool.{and_parts}
+use Rattle.action_tables.specs.Cuts.{HasNo}
+use Rattle.action_tables.specs.LawsOfCuts.{HasNo-append, HasNo-decimal}
+use Rattle.wave_layer.specs.Names.{phase_name}
+use Rattle.wave_layer.specs.declared.regs.Phase.{Phase}
+use Rattle.wave_layer.specs.declared.regs.Phase.TheVariants.{Normal, Initiate, Reset}
+use Rattle.reset_model.specs.EventText as event
+use Rattle.reset_model.specs.declared.event.Event.{Event}
+use Rattle.reset_model.specs.declared.event.Event.TheVariants.{Claim, Follow, Adopt, Request, Relay, Open, Join, Finish, Mend, Act}
+use Rattle.reset_model.proofs.EventLines.{one_event}
+use Rattle.fault_inject.specs.FaultText as fault
+use Rattle.fault_inject.specs.declared.fault.Fault.{Fault}
+use Rattle.fault_inject.specs.declared.fault.Fault.TheVariants.{SetTree, SetWave, SetLocal, LinkDown, LinkUp}
+use Rattle.fault_inject.proofs.FaultLines.{one_fault}
+use Rattle.history.specs.declared.entry.Entry.{Entry}
+use Rattle.history.specs.declared.entry.Entry.TheVariants.{Step, Disturbed}
+use Rattle.history.specs.HistoryText.{Fits, IsPrintable, entry_line}
+
+-- ---- no line feed
+
+pub letters : (word : List ℕ) → list_all (λ b. nat_lt 10 b) word ≡ true → HasNo 10 word
+letters [] h = tt
+letters (b ∷ word) h =
+    let parts = and_parts (nat_lt 10 b) (list_all (λ b. nat_lt 10 b) word) h in
+    ((λ is. true≢false (sym parts.0 ∙ ap (nat_lt 10) is)), letters word parts.1)
+
+printed : (word : List ℕ) → list_all is_ascii_graphic word ≡ true → HasNo 10 word
+printed [] h = tt
+printed (b ∷ word) h =
+    let parts = and_parts (is_ascii_graphic b) (list_all is_ascii_graphic word) h in
+    ((λ is. true≢false (sym parts.0 ∙ ap is_ascii_graphic is)), printed word parts.1)
+
+-- nor a space
+pub printed_word : (word : List ℕ) → list_all is_ascii_graphic word ≡ true → HasNo 32 word
+printed_word [] h = tt
+printed_word (b ∷ word) h =
+    let parts = and_parts (is_ascii_graphic b) (list_all is_ascii_graphic word) h in
+    ((λ is. true≢false (sym parts.0 ∙ ap is_ascii_graphic is)), printed_word word parts.1)
+
+pub number : (n : ℕ) → n < 2 ^ 32 → HasNo 10 (decimal n)
+number n small = HasNo-decimal 10 n (λ digit. omega (arith, digit.0)) (omega (arith, small))
+
+joined : (word : List ℕ) (words : List (List ℕ)) → AllByRecursion (HasNo 10) (word ∷ words) → HasNo 10 (join_with_byte 32 (word ∷ words))
+joined word [] all = all.0
+joined word (next ∷ words) all =
+    HasNo-append 10 word (32 ∷ join_with_byte 32 (next ∷ words)) all.0 ((λ e. absurd (omega (arith, e))), joined next words all.1)
+
+event_plain : (e : Event) → event.Fits e → HasNo 10 (event.event_line e)
+event_plain (Claim at) h = joined (codes "claim") (decimal at ∷ []) (letters (codes "claim") refl, (number at h, tt))
+event_plain (Follow at) h = joined (codes "follow") (decimal at ∷ []) (letters (codes "follow") refl, (number at h, tt))
+event_plain (Adopt at from) h = joined (codes "adopt") (decimal at ∷ decimal from ∷ []) (letters (codes "adopt") refl, (number at h.0, (number from h.1, tt)))
+event_plain (Request at) h = joined (codes "request") (decimal at ∷ []) (letters (codes "request") refl, (number at h, tt))
+event_plain (Relay at child) h = joined (codes "relay") (decimal at ∷ decimal child ∷ []) (letters (codes "relay") refl, (number at h.0, (number child h.1, tt)))
+event_plain (Open at) h = joined (codes "open") (decimal at ∷ []) (letters (codes "open") refl, (number at h, tt))
+event_plain (Join at) h = joined (codes "join") (decimal at ∷ []) (letters (codes "join") refl, (number at h, tt))
+event_plain (Finish at) h = joined (codes "finish") (decimal at ∷ []) (letters (codes "finish") refl, (number at h, tt))
+event_plain (Mend at) h = joined (codes "mend") (decimal at ∷ []) (letters (codes "mend") refl, (number at h, tt))
+event_plain (Act at case None) h =
+    joined (codes "act") (decimal at ∷ decimal case ∷ []) (letters (codes "act") refl, (number at h.0, (number case (omega (arith, h.1)), tt)))
+event_plain (Act at case (Some j)) h =
+    joined (codes "act") (decimal at ∷ decimal case ∷ decimal j ∷ [])
+    (letters (codes "act") refl, (number at h.0, (number case (omega (arith, h.1)), (number j h.2, tt))))
+
+phase_plain : (phase : Phase) → HasNo 10 (phase_name phase)
+phase_plain Normal = letters (codes "normal") refl
+phase_plain Initiate = letters (codes "initiate") refl
+phase_plain Reset = letters (codes "reset") refl
+
+fault_plain : (f : Fault) → fault.Fits f → IsPrintable f → HasNo 10 (fault.fault_line f)
+fault_plain (SetTree at regs) h p =
+    joined (codes "fault") (codes "tree" ∷ decimal at ∷ decimal regs.root ∷ decimal regs.father ∷ decimal regs.dist ∷ [])
+    (letters (codes "fault") refl, (letters (codes "tree") refl, (number at h.0, (number regs.root h.1, (number regs.father h.2, (number regs.dist h.3, tt))))))
+fault_plain (SetWave at regs) h p =
+    joined (codes "fault") (codes "wave" ∷ decimal at ∷ phase_name regs.phase ∷ decimal regs.session ∷ [])
+    (letters (codes "fault") refl, (letters (codes "wave") refl, (number at h.0, (phase_plain regs.phase, (number regs.session h.1, tt)))))
+fault_plain (SetLocal at text) h p =
+    joined (codes "fault") (codes "local" ∷ decimal at ∷ text ∷ [])
+    (letters (codes "fault") refl, (letters (codes "local") refl, (number at h.0, (printed text p, tt))))
+fault_plain (LinkDown a b) h p =
+    joined (codes "fault") (codes "down" ∷ decimal a ∷ decimal b ∷ [])
+    (letters (codes "fault") refl, (letters (codes "down") refl, (number a h.0, (number b h.1, tt))))
+fault_plain (LinkUp a b) h p =
+    joined (codes "fault") (codes "up" ∷ decimal a ∷ decimal b ∷ [])
+    (letters (codes "fault") refl, (letters (codes "up") refl, (number a h.0, (number b h.1, tt))))
+
+pub entry_plain : (entry : Entry) → Fits entry → HasNo 10 (entry_line entry)
+entry_plain (Step e) h = event_plain e h
+entry_plain (Disturbed f) h = fault_plain f h.0 h.1
+
+-- ---- its own
+
+-- the second byte of a fault's line is that of no event's
+event_second : (e : Event) → get_or (event.event_line e) 1 0 ≡ 97 → ⊥
+event_second (Claim at) is = omega (arith, is)
+event_second (Follow at) is = omega (arith, is)
+event_second (Adopt at from) is = omega (arith, is)
+event_second (Request at) is = omega (arith, is)
+event_second (Relay at child) is = omega (arith, is)
+event_second (Open at) is = omega (arith, is)
+event_second (Join at) is = omega (arith, is)
+event_second (Finish at) is = omega (arith, is)
+event_second (Mend at) is = omega (arith, is)
+event_second (Act at case with) is = omega (arith, is)
+
+fault_second : (f : Fault) → get_or (fault.fault_line f) 1 0 ≡ 97
+fault_second (SetTree at regs) = refl
+fault_second (SetWave at regs) = refl
+fault_second (SetLocal at text) = refl
+fault_second (LinkDown a b) = refl
+fault_second (LinkUp a b) = refl
+
+pub one_entry : (a b : Entry) → Fits a → Fits b → entry_line a ≡ entry_line b → a ≡ b
+one_entry (Step e) (Step f) h k is = ap Step (one_event e f h k is)
+one_entry (Disturbed f) (Disturbed g) h k is = ap Disturbed (one_fault f g h.0 k.0 is)
+one_entry (Step e) (Disturbed f) h k is = absurd (event_second e (ap (λ line. get_or line 1 0) is ∙ fault_second f))
+one_entry (Disturbed f) (Step e) h k is = absurd (event_second e (ap (λ line. get_or line 1 0) (sym is) ∙ fault_second f))

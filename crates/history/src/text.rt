@@ -1,0 +1,84 @@
+// The texts of histories.
+
+ghost use Rattle.std.specs.Prelude.{◌≡◌, ◌≢◌, ◌++◌, ℕ, List, IfErr, IfOk, IfSome, OnErr, OnOk, Result, Ok, Err};
+ghost use Rattle.std.specs.Io.KnownBytes.{Appends};
+ghost use Rattle.action_tables.specs.Written.{AppendsFront};
+ghost use Rattle.history.specs.declared.entry.Entry.{Entry};
+ghost use Rattle.history.specs.HistoryText.{IsReadAs, ended, entries_text, entry_line, history_text};
+
+use crate::book::Book;
+use crate::entry::Entry;
+use action_tables::{WriteFault, put_bytes};
+use app_interface::Application;
+use fault_inject::write_fault;
+use reset_machine::write_event;
+use std::io::Write;
+
+/// Why a text is no history that can be read, or can't be read.
+#[derive(Clone, Copy, Debug, PartialEq, Eq)]
+pub enum BookFault {
+    /// The line with this number, the first that is no entry's, is longer than 256 bytes or lacks its
+    /// line feed. Lines count from 1.
+    BadLine(usize),
+    /// The history has another version than 1.
+    BadVersion,
+    /// There is an entry after the millionth.
+    TooLong,
+    /// Memory is wanting.
+    NoMemory,
+    /// The reader failed.
+    ReadFailed,
+}
+
+/// Two texts of a history can't be read as different things.
+pub fn one_reading_a_text()
+    ensures { (text : List ℕ) (r s : Result (List Entry) BookFault) → IsReadAs text r → IsReadAs text s → r ≡ s }
+{}
+
+/// Writes the text of a book's history.
+pub fn write_book<P: Application, W: Write>(book: &Book<P>, out: &mut W) -> Result<(), WriteFault>
+    ensures ok { OnOk result (Appends (W.contents out.old) (W.contents out.new) (history_text book.now.entries)) }
+    ensures err { OnErr result (AppendsFront (W.contents out.old) (W.contents out.new) (history_text book.now.entries)) }
+{
+    write_entries(book.entries(), out)
+}
+
+// Writes the text of the history that has these entries.
+fn write_entries<W: Write>(entries: &[Entry], out: &mut W) -> Result<(), WriteFault>
+    ensures ok { OnOk result (Appends (W.contents out.old) (W.contents out.new) (history_text entries.now)) }
+    ensures err { OnErr result (AppendsFront (W.contents out.old) (W.contents out.new) (history_text entries.now)) }
+{
+    put_bytes(out, b"reset-history 1\n")?;
+    put_entries(out, entries)
+}
+
+// Writes the lines of entries.
+fn put_entries<W: Write>(out: &mut W, entries: &[Entry]) -> Result<(), WriteFault>
+    ensures ok { OnOk result (Appends (W.contents out.old) (W.contents out.new) (entries_text entries.now)) }
+    ensures err { OnErr result (AppendsFront (W.contents out.old) (W.contents out.new) (entries_text entries.now)) }
+{
+    for entry in entries {
+        put_entry(out, entry)?;
+    }
+    Ok(())
+}
+
+// Writes the line of an entry, with its line feed.
+fn put_entry<W: Write>(out: &mut W, entry: &Entry) -> Result<(), WriteFault>
+    ensures ok { OnOk result (Appends (W.contents out.old) (W.contents out.new) (ended (entry_line entry.now))) }
+    ensures err { OnErr result (AppendsFront (W.contents out.old) (W.contents out.new) (ended (entry_line entry.now))) }
+{
+    put_command(out, entry)?;
+    put_bytes(out, b"\n")
+}
+
+// Writes the command that makes an entry happen.
+fn put_command<W: Write>(out: &mut W, entry: &Entry) -> Result<(), WriteFault>
+    ensures ok { OnOk result (Appends (W.contents out.old) (W.contents out.new) (entry_line entry.now)) }
+    ensures err { OnErr result (AppendsFront (W.contents out.old) (W.contents out.new) (entry_line entry.now)) }
+{
+    match entry {
+        Entry::Step(event) => write_event(event, out),
+        Entry::Disturbed(fault) => write_fault(fault, out),
+    }
+}

@@ -1,0 +1,147 @@
+// The texts of histories.
+
+use crate::line::{line, whole_reset};
+use history::{Book, BookFault, Entry, MAX_ENTRIES, read_book, verify, write_book};
+use std::alloc::Global;
+use std::io;
+use std::io::Read;
+use std::process::Abort;
+use std::test::Fail;
+
+// The history of one whole reset of the line.
+const WHOLE_RESET: &[u8] = b"reset-history 1
+request 1
+relay 2 1
+relay 3 2
+open 3
+join 2
+join 1
+finish 1
+finish 2
+finish 3
+";
+
+// Gives its bytes, at most seven at a read. The read numbered `stop`, from 1, fails.
+#[derive(Drop)]
+struct Failing<'t> {
+    rest: &'t [u8],
+    stop: usize,
+    reads: usize,
+}
+
+impl Read for Failing<'_> {
+    fn read(&mut self, buf: &mut [u8]) -> io::Result<usize> {
+        self.reads = self.reads.saturating_add(1);
+        if self.reads == self.stop {
+            return Err(io::Error::from(io::ErrorKind::Interrupted));
+        }
+        let count = buf.len().min(self.rest.len()).min(7);
+        buf[..count].copy_from_slice(&self.rest[..count]);
+        self.rest = &self.rest[count..];
+        Ok(count)
+    }
+}
+
+// Gives the byte `1` for ever.
+#[derive(Drop)]
+struct Endless;
+
+impl Read for Endless {
+    fn read(&mut self, buf: &mut [u8]) -> io::Result<usize> {
+        buf.fill(b'1');
+        Ok(buf.len())
+    }
+}
+
+// Why a text is no history.
+fn fault_of(rt: &impl Abort, alloc: Global, text: &[u8]) -> BookFault {
+    let mut rest = text;
+    match read_book(alloc, &mut rest) {
+        Ok(_) => panic!(rt; "no history"),
+        Err(fault) => fault,
+    }
+}
+
+#[test]
+fn a_book_is_written_and_read(rt: HostRuntime) -> Result<(), Fail> {
+    let mut book = Book::open_book(rt.alloc(), line(&rt, rt.alloc()), MAX_ENTRIES);
+    for event in whole_reset() {
+        assert!(rt; book.step(rt.alloc(), event).is_ok());
+    }
+    let mut text = Vec::new(rt.alloc());
+    assert!(rt; write_book(&book, &mut text).is_ok());
+    assert!(rt; text.as_slice() == WHOLE_RESET);
+    let mut rest = text.as_slice();
+    match read_book(rt.alloc(), &mut rest) {
+        Ok(entries) => match verify(rt.alloc(), line(&rt, rt.alloc()), &entries) {
+            Ok(summary) => assert_eq!(rt; summary.reports.len(), 1),
+            Err(_) => panic!(rt; "a history of the line"),
+        },
+        Err(_) => panic!(rt; "a history"),
+    }
+    Ok(())
+}
+
+#[test]
+fn names_the_first_bad_line(rt: HostRuntime) {
+    for text in [
+        b"".as_slice(),
+        b"reset-history 1",
+        b"reset-history 01\n",
+        b"reset-histor 2\n",
+    ] {
+        assert_eq!(rt; fault_of(&rt, rt.alloc(), text), BookFault::BadLine(1));
+    }
+    for text in [
+        b"reset-history 1\nrequest 01\n".as_slice(),
+        b"reset-history 1\n\nrequest 1\n",
+        b"reset-history 1\n# note\n",
+        b"reset-history 1\nact 3 pass 2\n",
+        b"reset-history 1\nshow\n",
+        b"reset-history 1\nfault local 1 \x07\n",
+    ] {
+        assert_eq!(rt; fault_of(&rt, rt.alloc(), text), BookFault::BadLine(2));
+    }
+    let cut = b"reset-history 1\nrequest 1\nrela".as_slice();
+    assert_eq!(rt; fault_of(&rt, rt.alloc(), cut), BookFault::BadLine(3));
+    let other = b"reset-history 9\n".as_slice();
+    assert_eq!(rt; fault_of(&rt, rt.alloc(), other), BookFault::BadVersion);
+}
+
+#[test]
+fn reads_piece_by_piece(rt: HostRuntime) {
+    let mut pieces = Failing {
+        rest: WHOLE_RESET,
+        stop: 0,
+        reads: 0,
+    };
+    match read_book(rt.alloc(), &mut pieces) {
+        Ok(entries) => {
+            assert_eq!(rt; entries.len(), 9);
+            for (entry, event) in entries.iter().zip(whole_reset()) {
+                assert!(rt; *entry == Entry::Step(event));
+            }
+        }
+        Err(_) => panic!(rt; "a history"),
+    }
+    match read_book(rt.alloc(), &mut Endless) {
+        Ok(_) => panic!(rt; "no history"),
+        Err(fault) => assert_eq!(rt; fault, BookFault::BadLine(1)),
+    }
+}
+
+#[test]
+fn each_failed_read_is_told(rt: HostRuntime) {
+    for stop in 1..=15 {
+        let mut failing = Failing {
+            rest: WHOLE_RESET,
+            stop,
+            reads: 0,
+        };
+        match read_book(rt.alloc(), &mut failing) {
+            Ok(_) => panic!(rt; "a failed read"),
+            Err(fault) => assert_eq!(rt; fault, BookFault::ReadFailed),
+        }
+        assert_eq!(rt; failing.reads, stop);
+    }
+}
