@@ -32,7 +32,7 @@ pub struct Report {
 }
 
 /// What a history comes to.
-#[derive(Debug, Drop)]
+#[derive(Debug, PartialEq, Eq, Drop)]
 pub struct Summary {
     /// How many entries it has.
     pub entries: usize,
