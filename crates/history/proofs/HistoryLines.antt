@@ -1,6 +1,6 @@
 -- The line of an entry is its own, and has no line feed.
-use Rattle.std.proofs.Common.{◌≡◌, ◌≢◌, ℕ, ◌<◌, ◌^◌, nat_lt, Bool, true, true≢false, List, [], ◌∷◌, ◌++◌, get_or, refl, sym, ap, ◌∙◌, arith}
-use Rattle.std.specs.Prelude.{codes, IsTrue, Option, Some, None}
+use Rattle.std.proofs.Common.{◌≡◌, ℕ, ◌<◌, ◌^◌, nat_lt, true, true≢false, List, [], ◌∷◌, get_or, refl, sym, ap, ◌∙◌, arith}
+use Rattle.std.specs.Prelude.{codes, Some, None}
 use Rattle.std.specs.Char.{is_ascii_graphic}
 use Rattle.std.specs.Fmt.{decimal}
 use Rattle.std.specs.List.{AllByRecursion, join_with_byte, list_all}

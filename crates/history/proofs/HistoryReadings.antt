@@ -1,13 +1,13 @@
 -- A text is read as one thing.
-use Rattle.std.proofs.Common.{◌≡◌, ◌≢◌, ℕ, ◌+◌, ◌<◌, ◌≤◌, ◌^◌, List, [], ◌∷◌, ◌++◌, All, Result, Ok, Err, length, refl, sym, ap, ap₂, subst, ◌∙◌, arith, append_assoc}
+use Rattle.std.proofs.Common.{◌≡◌, ℕ, ◌+◌, ◌<◌, ◌^◌, List, [], ◌∷◌, ◌++◌, Result, Ok, Err, length, refl, sym, ap, ap₂, subst, ◌∙◌, arith, append_assoc}
 use Rattle.std.specs.Prelude.{codes}
 use Rattle.std.specs.Fmt.{decimal}
-use Rattle.std.specs.List.{AllByRecursion, list_all}
+use Rattle.std.specs.List.{AllByRecursion}
 use Rattle.std.proofs.lemmas.Fmt.{decimal_digit, decimal_injective}
 use Rattle.std.proofs.lemmas.List.Elements.{recursion_from_All}
 use Rattle.std.proofs.lemmas.List.{append_cancel_left}
 use Rattle.action_tables.specs.Cuts.{HasNo}
-use Rattle.action_tables.specs.LawsOfCuts.{HasNo-append, HasNo-decimal, SameCut, same_cut}
+use Rattle.action_tables.specs.LawsOfCuts.{HasNo-append, SameCut, same_cut}
 use Rattle.history.specs.declared.entry.Entry.{Entry}
 use Rattle.history.specs.declared.text.BookFault.{BookFault}
 use Rattle.history.specs.declared.text.BookFault.TheVariants.{BadLine}
@@ -62,7 +62,7 @@ same_first : (a b : Entry) (es es' : List Entry) (rest rest' : List ℕ) → Has
     → entries_text (a ∷ es) ++ rest ≡ entries_text (b ∷ es') ++ rest' → (a ≡ b) × (entries_text es ++ rest ≡ entries_text es' ++ rest')
 same_first a b es es' rest rest' has has' is =
     let same = same_ended (entry_line a) (entry_line b) (entries_text es ++ rest) (entries_text es' ++ rest') (entry_plain a has.fits) (entry_plain b has'.fits)
-      (sym (append_assoc (ended (entry_line a)) (entries_text es) rest) ∙ is ∙ append_assoc (ended (entry_line b)) (entries_text es') rest') in
+    (sym (append_assoc (ended (entry_line a)) (entries_text es) rest) ∙ is ∙ append_assoc (ended (entry_line b)) (entries_text es') rest') in
     (one_entry a b has.fits has'.fits same.front, same.back)
 
 same_begin : (es es' : List Entry) (rest rest' : List ℕ) → AllByRecursion HasLine es → AllByRecursion HasLine es' → IsStuck rest → IsStuck rest'
@@ -101,8 +101,13 @@ module _ (text : List ℕ) where
   not_both : (es es' : List Entry) (rest rest' : List ℕ) (entry : Entry) → Begins text es rest → Begins text es' rest' → length es ≡ 1000000
       → HasLine entry → BeginsWith rest (entry_line entry) → IsStuck rest' → ⊥
   not_both es es' rest rest' entry b b' full has begins stuck =
-      omega (arith, full, b'.few, is_longer es es' rest rest' entry (recursion_from_All HasLine es b.lines) (recursion_from_All HasLine es' b'.lines) has begins stuck
-      (same_bodies es es' rest rest' b b'))
+      omega (
+        arith,
+        full,
+        b'.few,
+        is_longer es es' rest rest' entry (recursion_from_All HasLine es b.lines) (recursion_from_All HasLine es' b'.lines) has begins stuck
+            (same_bodies es es' rest rest' b b'),
+      )
 
   pub one_reading : (r s : Result (List Entry) BookFault) → IsReadAs text r → IsReadAs text s → r ≡ s
   one_reading r s (IsReadAs.no_version none) (IsReadAs.no_version none') = refl

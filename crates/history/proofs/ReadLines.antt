@@ -1,9 +1,8 @@
 -- What a history's text is read as, line by line.
-use Rattle.std.proofs.Common.{◌≡◌, ◌≢◌, ℕ, ◌+◌, ◌<◌, ◌≤◌, ◌^◌, Bool, true, false, true≢false, if◌then◌else◌, List, [], ◌∷◌, ◌++◌, All, Option, None, Some, IfErr, IfOk, IfSome, Result, Ok, Err, length, refl, sym, ap, subst, ◌∙◌, arith, Vec, Global, append_assoc, append-nil}
+use Rattle.std.proofs.Common.{◌≡◌, ◌≢◌, ℕ, ◌+◌, ◌<◌, ◌≤◌, ◌^◌, Bool, true, false, true≢false, if◌then◌else◌, List, [], ◌∷◌, ◌++◌, Option, None, Some, IfErr, IfOk, IfSome, Result, Ok, Err, length, refl, sym, ap, subst, ◌∙◌, arith, Vec, Global, append_assoc, append-nil}
 use Rattle.std.specs.Prelude.{codes}
 use Rattle.std.specs.Fmt.{decimal}
 use Rattle.std.specs.Io.KnownBytes.{Consumes, IsAtEnd}
-use Rattle.std.specs.List.{AllByRecursion, flat_map}
 use Rattle.std.proofs.lemmas.Fmt.{length-decimal-le}
 use Rattle.std.proofs.lemmas.List.{length-append}
 use Rattle.std.proofs.lemmas.List.Elements.{All-push}
@@ -97,7 +96,7 @@ whole_lines lines line text so = of lines.begun refl
     of true is =
         let b = subst (λ b. IsSoFar b lines.entries.items line text) is so in
         let before : Begins (history_text lines.entries.items) lines.entries.items [] =
-          record { lines = b.lines; few = b.few; spelled = sym (append-nil (history_text lines.entries.items)) } in
+        record { lines = b.lines; few = b.few; spelled = sym (append-nil (history_text lines.entries.items)) } in
         record { whole = history_text lines.entries.items; so = subst (λ b. IsSoFar b lines.entries.items [] (history_text lines.entries.items)) (sym is) before; cut = b.spelled }
     of false is =
         let b = subst (λ b. IsSoFar b lines.entries.items line text) is so in
@@ -136,7 +135,7 @@ bad_long begun es line bytes text so plain plain' long more =
     let all : HasNo 10 (line ++ bytes) = HasNo-append 10 line bytes plain plain' in
     let size = length-append line bytes in
     let late : (other : List ℕ) → length other ≤ 256 → BeginsWith ((line ++ bytes) ++ more) other → ⊥ =
-      λ other short begins. begins_late other (line ++ bytes) more all (omega (arith, size, long, short)) begins in
+    λ other short begins. begins_late other (line ++ bytes) more all (omega (arith, size, long, short)) begins in
     bad_next begun es ((line ++ bytes) ++ more) ((text ++ bytes) ++ more)
     (goes_on begun es (line ++ bytes) more (text ++ bytes) (goes_on begun es line bytes text so))
     (omega (arith, size, long, length-append (line ++ bytes) more))
@@ -170,8 +169,8 @@ begun_by false es line text is so same = record {
   lines = λ k d few. absurd (omega (arith, few, ap length so.0));
   few = omega (arith, ap length so.0);
   spelled =
-    ap (λ t. t ++ ended line) so.1 ∙ ap ended same
-    ∙ sym (ap (λ es'. (ended first_line ++ entries_text es') ++ []) so.0);
+      ap (λ t. t ++ ended line) so.1 ∙ ap ended same
+      ∙ sym (ap (λ es'. (ended first_line ++ entries_text es') ++ []) so.0);
 }
 
 pub bad_version : (begun : Bool) (es : List Entry) (line text : List ℕ) (fault : BookFault) → begun ≡ false → IsSoFar begun es [] text → HasNo 10 line
@@ -180,7 +179,7 @@ bad_version true es line text fault is so plain bad = absurd (true≢false is)
 bad_version false es line text (BadLine n) is so plain bad = λ more.
     subst (λ k. IsReadAs ((text ++ ended line) ++ more) (Err (BadLine k))) (sym bad.0)
     (IsReadAs.no_version (λ v small begins. bad.1 v small
-      (begins_same line (version_line v) more plain (version_plain v small) (subst (λ t. BeginsWith ((t ++ ended line) ++ more) (version_line v)) so.1 begins))))
+    (begins_same line (version_line v) more plain (version_plain v small) (subst (λ t. BeginsWith ((t ++ ended line) ++ more) (version_line v)) so.1 begins))))
 bad_version false es line text BadVersion is so plain bad = λ more.
     let (v, small, other, spelled) = bad in
     IsReadAs.other_version v small other (more, ap (λ t. (t ++ ended line) ++ more) so.1 ∙ ap (λ l. ended l ++ more) spelled)
@@ -196,9 +195,9 @@ one_more true es entry line text is b some has same = record {
   lines = All-push HasLine es entry b.lines has;
   few = omega (arith, length-append es (entry ∷ []), b.few, some);
   spelled =
-    ap (λ t. t ++ ended line) (b.spelled ∙ append-nil (history_text es)) ∙ ap (λ l. history_text es ++ ended l) same
-    ∙ append_assoc (ended first_line) (entries_text es) (ended (entry_line entry))
-    ∙ ap (λ t. ended first_line ++ t) (sym (texts es entry)) ∙ sym (append-nil (history_text (es ++ entry ∷ [])));
+      ap (λ t. t ++ ended line) (b.spelled ∙ append-nil (history_text es)) ∙ ap (λ l. history_text es ++ ended l) same
+      ∙ append_assoc (ended first_line) (entries_text es) (ended (entry_line entry))
+      ∙ ap (λ t. ended first_line ++ t) (sym (texts es entry)) ∙ sym (append-nil (history_text (es ++ entry ∷ [])));
 }
   where
     texts : (es : List Entry) (entry : Entry) → entries_text (es ++ entry ∷ []) ≡ entries_text es ++ ended (entry_line entry)

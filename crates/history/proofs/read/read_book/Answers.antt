@@ -1,8 +1,8 @@
-use Rattle.std.proofs.Common.{◌<◌, List, ℕ, [], ◌≡◌, ◌++◌, take, length, arith, ap, ◌∙◌, subst, append-nil, sym, Result, Ok, Err, IfOk, IfErr}
+use Rattle.std.proofs.Common.{◌<◌, ◌≡◌, ◌++◌, take, length, arith, ap, ◌∙◌, subst, append-nil, sym}
 use Rattle.std.proofs.lemmas.Result.{err_from_is_err_and}
 use Rattle.std.proofs.KnownBytes.{Consumes-trans}
 use Rattle.history.specs.Reading.{HasRead}
-use Rattle.history.proofs.ReadLines.{all_given, end_ok, end_err, some_given}
+use Rattle.history.proofs.ReadLines.{end_ok, end_err, some_given}
 use Rattle.history.proofs.read.read_book.Goals as goal
 
 pub returns-then-count-eq0-clause-ok : goal.returns-then-count-eq0-clause-ok

@@ -8,10 +8,13 @@ use Rattle.history.proofs.HistoryReadings.{first_is}
 use Rattle.history.proofs.read.read_version.Goals as goal
 
 pub returns-then-ne-clause-err : goal.returns-then-ne-clause-err
-returns-then-ne-clause-err c = (refl, λ v small is.
-    let same = same_cut 32 c.in-Some.word.now (codes "reset-history") c.in-Some.version.now (decimal v) c.in-Some.ensures.first
+returns-then-ne-clause-err c = (
+  refl,
+  λ v small is.
+      let same = same_cut 32 c.in-Some.word.now (codes "reset-history") c.in-Some.version.now (decimal v) c.in-Some.ensures.first
       (printed_word (codes "reset-history") refl) (sym c.in-Some.ensures.found ∙ is) in
-    true≢false ((rw c.as_slice.ensures at c.if-ne.ensures) ∙ ap not ((bytes_eq-Decides c.in-Some.word.now (codes "reset-history")).1 same.front)))
+      true≢false ((rw c.as_slice.ensures at c.if-ne.ensures) ∙ ap not ((bytes_eq-Decides c.in-Some.word.now (codes "reset-history")).1 same.front)),
+)
 
 pub returns-in-Some-eq1-clause-ok : goal.returns-in-Some-eq1-clause-ok
 returns-in-Some-eq1-clause-ok c =

@@ -1,8 +1,8 @@
-use Rattle.std.proofs.Common.{subst, [], ◌++◌, refl, sym, ap, ◌∙◌, Bool, Result, IfErr, arith}
+use Rattle.std.proofs.Common.{subst, [], ◌++◌, sym, arith}
 use Rattle.std.proofs.lemmas.Result.{err_from_is_err_and}
 use Rattle.history.specs.HistoryText.{ended}
 use Rattle.history.specs.Reading.{IsSoFar}
-use Rattle.history.proofs.ReadLines.{bad_version, begun_by, no_entry, one_more, too_many}
+use Rattle.history.proofs.ReadLines.{bad_version, no_entry, one_more, too_many}
 use Rattle.history.proofs.read.Lines.take.Goals as goal
 use Rattle.history.proofs.read.Lines.take.Goals.{in-Ok, in-Err-push}
 
@@ -30,12 +30,12 @@ pub returns-clause-ok : goal.returns-clause-ok
 returns-clause-ok c =
     let self = c.args.self.now in
     elim c.match-push.branch [
-      in-Ok w ↦
-        rw w.result-is
-        (λ text so.
-        let found = rw c.in-Ok-Some.field-0-is at c.in-Ok-Some.ensures.found in
-        subst (λ es. IsSoFar self.begun es [] (text ++ ended c.args.line.now)) (sym w.in-Ok.ensures.items)
-        (one_more self.begun self.entries.items c.in-Ok-Some.entry c.args.line.now text c.if-not-self.false so
-        (λ full. c.if-len-eq-MAX_ENTRIES.false (omega (arith, c.len.ensures, full))) found.0 found.1))
-    | in-Err-push w ↦ rw w.result-is tt
+      | in-Ok w ↦
+          rw w.result-is
+          (λ text so.
+          let found = rw c.in-Ok-Some.field-0-is at c.in-Ok-Some.ensures.found in
+          subst (λ es. IsSoFar self.begun es [] (text ++ ended c.args.line.now)) (sym w.in-Ok.ensures.items)
+          (one_more self.begun self.entries.items c.in-Ok-Some.entry c.args.line.now text c.if-not-self.false so
+          (λ full. c.if-len-eq-MAX_ENTRIES.false (omega (arith, c.len.ensures, full))) found.0 found.1))
+      | in-Err-push w ↦ rw w.result-is tt
     ]

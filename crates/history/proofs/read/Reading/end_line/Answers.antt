@@ -28,7 +28,7 @@ returns-clause-ok c text plain read =
     let taken = (rw c.deref.ensures.value at c.in_ok-take.ensures.ok) lines.whole lines.so in
     record {
       lines = subst (λ line. GoesOn c.take-2.new.self line (text ++ ended c.args.bytes.now)) (sym c.clear.ensures.items)
-        (subst (GoesOn c.take-2.new.self []) (ended_at lines.whole c.go_on.new.self.line.items text c.args.bytes.now lines.cut) taken);
+          (subst (GoesOn c.take-2.new.self []) (ended_at lines.whole c.go_on.new.self.line.items text c.args.bytes.now lines.cut) taken);
       plain = rw c.clear.ensures.items tt;
       short = omega (arith, ap length c.clear.ensures.items);
     }

@@ -16,8 +16,9 @@ returns-in_err-end_line-clause-err c =
 
 pub loop-line-preserved : goal.loop-line-preserved
 loop-line-preserved c =
-    let (done, cut, fed) = c.loop-line.invariant in
-    (done ++ ended c.in-Some.line.now,
-    fed_line done c.loop-line.rest.now c.in-Some.line.now c.in-Some.after.now c.args.bytes.now cut c.in-Some.ensures.found,
-    λ text read. subst (HasRead c.end_line.new.self) (append_assoc text done (ended c.in-Some.line.now))
-      (c.in_ok-end_line.ensures.ok (text ++ done) c.in-Some.ensures.first (fed text read)))
+    let (done, cut, fed) = c.loop-line.invariant in (
+      done ++ ended c.in-Some.line.now,
+      fed_line done c.loop-line.rest.now c.in-Some.line.now c.in-Some.after.now c.args.bytes.now cut c.in-Some.ensures.found,
+      λ text read. subst (HasRead c.end_line.new.self) (append_assoc text done (ended c.in-Some.line.now))
+          (c.in_ok-end_line.ensures.ok (text ++ done) c.in-Some.ensures.first (fed text read)),
+    )
