@@ -10,7 +10,8 @@ use crate::topology::number;
 use std::io::{self, Write};
 use std::slice;
 
-const MAX_LINE: usize = 256;
+/// The most bytes of a line, without its line feed.
+pub const MAX_LINE: usize = 256;
 
 /// Answers the lines of a script, and says whether all of it was good.
 pub fn replay(network: &mut Network, script: &[u8], out: &mut impl Write) -> io::Result<bool> {

@@ -13,4 +13,5 @@ pub mod Subcommands
 pub mod TableRuns
 pub mod ReadyTexts
 pub mod OneOutput
+pub mod Verifying
 pub mod Stretches

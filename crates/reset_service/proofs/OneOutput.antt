@@ -15,9 +15,9 @@ use Rattle.reset_model.proofs.OneBoot.{one_boot}
 use Rattle.reset_service.specs.Lines.{HasNoSeparator, IsCut, ended, lines_of, separator}
 use Rattle.reset_service.specs.Lines.IsCut.{at_separator, topology_alone}
 use Rattle.reset_service.specs.Meaning.{Meaning, idle_meaning, token_meaning, mutex_meaning, routes_meaning}
-use Rattle.reset_service.specs.Output.{Describes, IsJoinedOutput, IsOutput, IsReplay, IsReplayOf, bad_topology_text, script_output}
+use Rattle.reset_service.specs.Output.{Describes, IsJoinedOutput, IsJudged, IsOutput, IsReplay, IsReplayOf, bad_topology_text, script_output}
 use Rattle.reset_service.specs.Output.IsJoinedOutput.{cut, too_long}
-use Rattle.reset_service.specs.Output.IsOutput.{bad_topology, replayed as ran}
+use Rattle.reset_service.specs.Output.IsJudged.{bad_topology, good_topology}
 use Rattle.reset_service.specs.Output.IsReplay.{replayed}
 use Rattle.reset_service.specs.declared.status.Purpose.{Purpose}
 use Rattle.reset_service.specs.declared.status.Purpose.TheVariants as purposes
@@ -118,14 +118,21 @@ one_replay_of Token = one_replay token_meaning
 one_replay_of Mutex = one_replay mutex_meaning
 one_replay_of Routes = one_replay routes_meaning
 
-pub one_output : (purpose : Purpose) (topology script : List ℕ) (o p : Output) → IsOutput purpose topology script o → IsOutput purpose topology script p → o ≡ p
-one_output purpose topology script o p (bad_topology f bad is) (bad_topology e other is') =
+-- one thing is written where a topology is judged first, if one thing follows a good one
+pub one_judged : (Follows : AppName → Graph → Output → Type 0)
+    → ((app : AppName) (g : Graph) (o p : Output) → Follows app g o → Follows app g p → o ≡ p) → (topology : List ℕ) (o p : Output)
+    → IsJudged Follows topology o → IsJudged Follows topology p → o ≡ p
+one_judged Follows one topology o p (bad_topology f bad is) (bad_topology e other is') =
     is ∙ ap (λ x. (bad_topology_text x, BadInput)) (one_read_fault topology f e bad other) ∙ sym is'
-one_output purpose topology script o p (bad_topology f bad is) (ran g app good runs) = absurd (bad_or_good topology f g app bad good)
-one_output purpose topology script o p (ran g app good runs) (bad_topology f bad is) = absurd (bad_or_good topology f g app bad good)
-one_output purpose topology script o p (ran g app good runs) (ran h other good' runs') =
+one_judged Follows one topology o p (bad_topology f bad is) (good_topology g app good follows) = absurd (bad_or_good topology f g app bad good)
+one_judged Follows one topology o p (good_topology g app good follows) (bad_topology f bad is) = absurd (bad_or_good topology f g app bad good)
+one_judged Follows one topology o p (good_topology g app good follows) (good_topology h other good' follows') =
     let same = one_description topology g h app other good good' in
-    one_replay_of other purpose h script o p (subst₂ (λ x y. IsReplayOf y purpose x script o) same.0 same.1 runs) runs'
+    one other h o p (subst₂ (λ x y. Follows y x o) same.0 same.1 follows) follows'
+
+pub one_output : (purpose : Purpose) (topology script : List ℕ) (o p : Output) → IsOutput purpose topology script o → IsOutput purpose topology script p → o ≡ p
+one_output purpose topology script =
+    one_judged (λ app g. IsReplayOf app purpose g script) (λ app g o p. one_replay_of app purpose g script o p) topology
 
 pub one_joined_output : (joined : List ℕ) (o p : Output) → IsJoinedOutput joined o → IsJoinedOutput joined p → o ≡ p
 one_joined_output joined o p (too_long long is) (too_long long' is') = is ∙ sym is'

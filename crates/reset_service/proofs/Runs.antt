@@ -11,7 +11,7 @@ use Rattle.reset_service.specs.Meaning.{Meaning}
 use Rattle.reset_service.specs.Script.{line_of}
 use Rattle.reset_service.specs.Output.{answer_to, answers, ending, if_good, output_for, script_output, told_after, too_long_text, Answer, Leaves, HasFront}
 use Rattle.reset_service.specs.declared.status.Status.{Status}
-use Rattle.reset_service.specs.declared.status.Status.TheVariants.{Good, FaultsFound, BadInput}
+use Rattle.reset_service.specs.declared.status.Status.TheVariants.{Good, FaultsFound, NotEnabled, BadInput}
 use Rattle.reset_service.specs.declared.status.Purpose.{Purpose}
 use Rattle.reset_service.specs.declared.status.RunStop.{RunStop}
 use Rattle.reset_service.specs.declared.status.RunStop.TheVariants.{ReadFailed, WriteFailed, NoMemory}
@@ -50,6 +50,7 @@ told_twice {L = L} done text a =
 if_bad : {A : Type 0} (s : Status) (next last : A) → s ≢ Good → if_good s next last ≡ last
 if_bad Good next last bad = absurd (bad refl)
 if_bad FaultsFound next last bad = refl
+if_bad NotEnabled next last bad = refl
 if_bad BadInput next last bad = refl
 
 -- nothing follows the last line
@@ -59,6 +60,7 @@ last_answer {L = L} c text Good a is =
     let with : List ℕ → Answer L = λ t. record { config = c; text = t; status = Good } in
     ap with (append-nil text) ∙ sym is
 last_answer c text FaultsFound a is = refl
+last_answer c text NotEnabled a is = refl
 last_answer c text BadInput a is = refl
 
 -- what was written at first is a front of the whole
@@ -66,6 +68,7 @@ front_of : {L : Type 0} (done : List ℕ) (a rest : Answer L) (s : Status)
     → (tail : List ℕ) × (done ++ (if_good s (told_after a.text rest) a).text ≡ (done ++ a.text) ++ tail)
 front_of done a rest Good = (rest.text, sym (append_assoc done a.text rest.text))
 front_of done a rest FaultsFound = ([], sym (append-nil (done ++ a.text)))
+front_of done a rest NotEnabled = ([], sym (append-nil (done ++ a.text)))
 front_of done a rest BadInput = ([], sym (append-nil (done ++ a.text)))
 
 -- ---- the lines that are left, after `done` was written

@@ -115,30 +115,30 @@ module _ (s : Shape) (has_help : s.disable_help_subcommand ≡ false) where
 -- ---- the program
 
 -- a subcommand with two paths, as it is built
-abbrev the_texts : Text → Shape
-the_texts name =
-    slice_index_or (built (with_subcommand (new_app (codes "reset-service")) (texts_command name).top)).subs 0 (texts_command name).top
+abbrev the_texts : Text → Text → Shape
+the_texts name input =
+    slice_index_or (built (with_subcommand (new_app (codes "reset-service")) (texts_command name input).top)).subs 0 (texts_command name input).top
 
 abbrev the_tables : Shape
-the_tables = slice_index_or (built program).subs 2 tables_command.top
+the_tables = slice_index_or (built program).subs 3 tables_command.top
 
 abbrev the_help : Shape
-the_help = slice_index_or (built program).subs 3 tables_command.top
+the_help = slice_index_or (built program).subs 4 tables_command.top
 
-abbrev help_flag : Text → Rule
-help_flag name = slice_index_or (the_texts name).rules 2 (new_rule [])
+abbrev help_flag : Text → Text → Rule
+help_flag name input = slice_index_or (the_texts name input).rules 2 (new_rule [])
 
 -- its flags are those of help, which make no row
-quiet_help : (name : Text) (b : Bool) → MakesNoRow (cond b (Some (help_flag name)) None)
+quiet_help : (name input : Text) (b : Bool) → MakesNoRow (cond b (Some (help_flag name input)) None)
 unfolding texts_command
-quiet_help name true = (refl, λ rows. refl)
-quiet_help name false = tt
+quiet_help name input true = (refl, λ rows. refl)
+quiet_help name input false = tt
 
-quiet_flags : (name : Text) → HasQuietFlags (the_texts name).rules
+quiet_flags : (name input : Text) → HasQuietFlags (the_texts name input).rules
 unfolding texts_command
-quiet_flags name = record {
-  long = λ flag. quiet_help name (has_long (help_flag name) flag);
-  short = λ x. quiet_help name (has_short (help_flag name) x);
+quiet_flags name input = record {
+  long = λ flag. quiet_help name input (has_long (help_flag name input) flag);
+  short = λ x. quiet_help name input (has_short (help_flag name input) x);
 }
 
 both_given : (a b : Bool) (k : ErrorKind) → cond (not a || (not b || false)) (k ∷ []) [] ≡ [] → (a ≡ true) × (b ≡ true)
@@ -147,27 +147,32 @@ both_given true false k e = absurd (cc)
 both_given false b k e = absurd (cc)
 
 -- the rows of the words after it
-abbrev rows_of_texts : Text → List Text → List Row
-rows_of_texts name words = (rows_at (the_texts name) words).1
+abbrev rows_of_texts : Text → Text → List Text → List Row
+rows_of_texts name input words = (rows_at (the_texts name input) words).1
 
-paths_given : (name : Text) (words : List Text) → level_fault (the_texts name) [] nothing_held words false [] ≡ []
-    → (is_given (codes "TOPOLOGY") (rows_of_texts name words) ≡ true) × (is_given (codes "SCRIPT") (rows_of_texts name words) ≡ true)
+abbrev TakesTexts : Text → Text → List Text → Type 0
+TakesTexts name input words = level_fault (the_texts name input) [] nothing_held words false [] ≡ []
+
+paths_given : (name input : Text) (words : List Text) → TakesTexts name input words
+    → (is_given (codes "TOPOLOGY") (rows_of_texts name input words) ≡ true) × (is_given input (rows_of_texts name input words) ≡ true)
 unfolding texts_command
-paths_given name words e =
-    let s = the_texts name in
+paths_given name input words e =
+    let s = the_texts name input in
     let walked_well = or_else-nil (walk_fault s [] (walk_from nothing_held) words) _ e in
     let settled_well = or_else-nil (settle_fault s.rules false (walk s.rules [] nothing_held words).held) _ walked_well.1 in
     let filled_well = or_else-nil (defaults_fault (settled s.rules (walk s.rules [] nothing_held words).held).rows s.rules) _ settled_well.1 in
-    both_given (is_given (codes "TOPOLOGY") (rows_of_texts name words)) (is_given (codes "SCRIPT") (rows_of_texts name words)) MissingRequiredArgument filled_well.1
+    both_given (is_given (codes "TOPOLOGY") (rows_of_texts name input words)) (is_given input (rows_of_texts name input words)) MissingRequiredArgument filled_well.1
 
 -- where clap finds no fault in them, they have a value for each path
-has_texts : (name : Text) (words : List Text) → level_fault (the_texts name) [] nothing_held words false [] ≡ [] → HasTexts (rows_of_texts name words)
-has_texts name words e =
-    let s = the_texts name in
+has_texts : (name input : Text) (words : List Text) → TakesTexts name input words → HasTexts input (rows_of_texts name input words)
+has_texts name input words e =
+    let s = the_texts name input in
     let filled = Filled-finished s.rules (walk s.rules [] nothing_held words).held
-    (IsFilled-walk s.rules (quiet_flags name) [] (walk_from nothing_held) words (tt, tt)) in
-    let given = paths_given name words e in
-    (given_has_value (codes "TOPOLOGY") (rows_of_texts name words) filled given.0, given_has_value (codes "SCRIPT") (rows_of_texts name words) filled given.1)
+    (IsFilled-walk s.rules (quiet_flags name input) [] (walk_from nothing_held) words (tt, tt)) in
+    let given = paths_given name input words e in (
+      given_has_value (codes "TOPOLOGY") (rows_of_texts name input words) filled given.0,
+      given_has_value input (rows_of_texts name input words) filled given.1,
+    )
 
 -- `==` of texts reads both ways
 bytes_eq-swap : (xs ys : List ℕ) → bytes_eq xs ys ≡ false → (bytes_eq ys xs || false) ≡ true → ⊥
@@ -178,33 +183,38 @@ bytes_eq-swap xs ys differs same = true≢false (sym ((bytes_eq-Decides xs ys).1
     go false e = e
 
 abbrev the_replay : Shape
-the_replay = the_texts (codes "replay")
+the_replay = the_texts (codes "replay") (codes "SCRIPT")
 
 abbrev the_check : Shape
-the_check = the_texts (codes "check")
+the_check = the_texts (codes "check") (codes "SCRIPT")
 
--- the subcommand whose name is the word: `replay`, `check`, `tables` or `help`
-abbrev sub_met : Bool → Bool → Bool → Bool → Option Shape
-sub_met a b c d = cond a (Some the_replay) (cond b (Some the_check) (cond c (Some the_tables) (cond d (Some the_help) None)))
+abbrev the_verify : Shape
+the_verify = the_texts (codes "verify") (codes "HISTORY")
+
+-- the subcommand whose name is the word: `replay`, `check`, `verify`, `tables` or `help`
+abbrev sub_met : Bool → Bool → Bool → Bool → Bool → Option Shape
+sub_met r c v t h =
+    cond r (Some the_replay) (cond c (Some the_check) (cond v (Some the_verify) (cond t (Some the_tables) (cond h (Some the_help) None))))
 
 abbrev fault_at : List Text → Option Shape → Kinds
 fault_at words sub = option_map_or (λ s. level_fault s [] nothing_held words false []) sub []
 
-job_of_sub : (p : Text × List Text) → bytes_eq p.0 (codes "help") ≡ false → (a b c d : Bool) → answers_to p.0 (label_of the_help) ≡ d
-    → fault_at p.1 (sub_met a b c d) ≡ [] → HasJob (option_map (λ s. rows_at s p.1) (sub_met a b c d))
+job_of_sub : (p : Text × List Text) → bytes_eq p.0 (codes "help") ≡ false → (r c v t h : Bool) → answers_to p.0 (label_of the_help) ≡ h
+    → fault_at p.1 (sub_met r c v t h) ≡ [] → HasJob (option_map (λ s. rows_at s p.1) (sub_met r c v t h))
 unfolding program texts_command tables_command
-job_of_sub p no_help true b c d h f = inl (inl refl, has_texts (codes "replay") p.1 f)
-job_of_sub p no_help false true c d h f = inl (inr refl, has_texts (codes "check") p.1 f)
-job_of_sub p no_help false false true d h f = inr refl
-job_of_sub p no_help false false false true h f = absurd (bytes_eq-swap p.0 (codes "help") no_help h)
-job_of_sub p no_help false false false false h f = tt
+job_of_sub p no_help true c v t h a f = inl (inl refl, has_texts (codes "replay") (codes "SCRIPT") p.1 f)
+job_of_sub p no_help false true v t h a f = inl (inr refl, has_texts (codes "check") (codes "SCRIPT") p.1 f)
+job_of_sub p no_help false false true t h a f = inr (inl (refl, has_texts (codes "verify") (codes "HISTORY") p.1 f))
+job_of_sub p no_help false false false true h a f = inr (inr refl)
+job_of_sub p no_help false false false false true a f = absurd (bytes_eq-swap p.0 (codes "help") no_help a)
+job_of_sub p no_help false false false false false a f = tt
 
 job_at : (stop : Option (Text × List Text)) → IsNoHelp stop → entered_fault (built program) stop ≡ [] → HasJob (entered (built program) stop)
 unfolding program texts_command tables_command
 job_at None no_help e = tt
 job_at (Some p) no_help e =
-    job_of_sub p no_help (answers_to p.0 (label_of the_replay)) (answers_to p.0 (label_of the_check)) (answers_to p.0 (label_of the_tables))
-    (answers_to p.0 (label_of the_help)) refl e
+    job_of_sub p no_help (answers_to p.0 (label_of the_replay)) (answers_to p.0 (label_of the_check)) (answers_to p.0 (label_of the_verify))
+    (answers_to p.0 (label_of the_tables)) (answers_to p.0 (label_of the_help)) refl e
 
 -- words in which clap finds no fault ask for a job
 pub has_job : (words : List Text) → fault_of program words ≡ [] → HasJob (subcommand_of program words)

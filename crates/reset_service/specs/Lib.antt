@@ -1,6 +1,7 @@
 pub mod Meaning
 pub mod Script
 pub mod Output
+pub mod Verified
 pub mod Parts
 pub mod Lines
 pub mod Words

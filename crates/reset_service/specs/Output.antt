@@ -264,8 +264,7 @@ answer_to m c n Bad = record { config = c; text = bad_line_text n; status = BadI
 -- what follows where all was good, and what was where it wasn't
 abbrev pub if_good : {A : Type 0} → Status → A → A → A
 if_good Good next last = next
-if_good FaultsFound next last = last
-if_good BadInput next last = last
+if_good _ next last = last
 
 -- an answer before which this text was written
 abbrev pub told_after : {L : Type 0} → List ℕ → Answer L → Answer L
@@ -308,11 +307,14 @@ IsReplayOf Routes = IsReplay routes_meaning
 abbrev pub Describes : List ℕ → Graph → AppName → Type 0
 Describes topology g app = (d : Description) × (description_of topology ≡ Ok d) × IsTopologyOf d.nodes d.links g × (app ≡ d.app)
 
+-- what is written, and the status, where a topology is judged first: the line of its fault, or what follows a good one
+pub data IsJudged (Follows : AppName → Graph → List ℕ × Status → Type 0) (topology : List ℕ) (output : List ℕ × Status) : Type 0 where
+  bad_topology : (f : ReadFault) → IsReadFault topology f → output ≡ (bad_topology_text f, BadInput) → IsJudged Follows topology output
+  good_topology : (g : Graph) (app : AppName) → Describes topology g app → Follows app g output → IsJudged Follows topology output
+
 -- what a run writes, and its status: the topology is judged before the script
-pub data IsOutput (purpose : Purpose) (topology script : List ℕ) (output : List ℕ × Status) : Type 0 where
-  bad_topology : (f : ReadFault) → IsReadFault topology f → output ≡ (bad_topology_text f, BadInput) → IsOutput purpose topology script output
-  replayed : (g : Graph) (app : AppName) → Describes topology g app → IsReplayOf app purpose g script output
-      → IsOutput purpose topology script output
+abbrev pub IsOutput : Purpose → List ℕ → List ℕ → List ℕ × Status → Type 0
+IsOutput purpose topology script = IsJudged (λ app g. IsReplayOf app purpose g script) topology
 
 -- the same of a joined text that is replayed, which is judged by its length before it is cut
 pub data IsJoinedOutput (joined : List ℕ) (output : List ℕ × Status) : Type 0 where

@@ -4,7 +4,7 @@ use Rattle.clap.specs.Words.{App, Kinds, Row, Rule, Text, IsAmong, fault_of, fir
 use Rattle.clap.specs.declared.error.Error.{Error}
 use Rattle.clap.specs.declared.error.ErrorKind.TheVariants.{InvalidValue, OutOfMemory}
 use Rattle.reset_service.specs.declared.words.Job.{Job}
-use Rattle.reset_service.specs.declared.words.Job.TheVariants.{Joined, Replay, Check, Tables}
+use Rattle.reset_service.specs.declared.words.Job.TheVariants.{Joined, Replay, Check, Verify, Tables}
 use Rattle.reset_service.specs.declared.words.LineFault.{LineFault}
 use Rattle.reset_service.specs.declared.words.Paths.{Paths}
 use Rattle.reset_service.specs.declared.words.LineFault.TheVariants.{BadWords, NoMemory}
@@ -15,19 +15,20 @@ use Rattle.reset_service.specs.declared.words.LineFault.TheVariants.{BadWords, N
 abbrev pub path : Text → Rule
 path name = record (new_rule name) { required = true }
 
--- a subcommand with two paths: `NAME TOPOLOGY SCRIPT`
-unfoldable pub texts_command : Text → App
-texts_command name = with_rule (with_rule (new_app name) (path (codes "TOPOLOGY"))) (path (codes "SCRIPT"))
+-- a subcommand with two paths: `NAME TOPOLOGY INPUT`
+unfoldable pub texts_command : Text → Text → App
+texts_command name input = with_rule (with_rule (new_app name) (path (codes "TOPOLOGY"))) (path input)
 
 -- `tables`
 unfoldable pub tables_command : App
 tables_command = new_app (codes "tables")
 
--- the program with its three subcommands
+-- the program with its four subcommands
 unfoldable pub program : App
 program =
-    with_subcommand (with_subcommand (with_subcommand (new_app (codes "reset-service")) (texts_command (codes "replay")).top)
-    (texts_command (codes "check")).top) tables_command.top
+    with_subcommand (with_subcommand (with_subcommand (with_subcommand (new_app (codes "reset-service"))
+    (texts_command (codes "replay") (codes "SCRIPT")).top) (texts_command (codes "check") (codes "SCRIPT")).top)
+    (texts_command (codes "verify") (codes "HISTORY")).top) tables_command.top
 
 -- ---- what words ask for
 
@@ -41,16 +42,17 @@ name_in = option_map (λ s. s.0)
 abbrev pub value_in : Found → Text → Option Text
 value_in found argument = option_and_then (λ s. first_of argument s.1) found
 
--- it is the subcommand of this name, with these paths
-abbrev pub HasPaths : Found → Text → Paths → Type 0
-HasPaths found name paths = (name_in found ≡ Some name)
-    × (value_in found (codes "TOPOLOGY") ≡ Some paths.topology.now) × (value_in found (codes "SCRIPT") ≡ Some paths.script.now)
+-- it is the subcommand of this name, with these paths, of which the second is that of the argument input
+abbrev pub HasPaths : Found → Text → Text → Paths → Type 0
+HasPaths found name input paths = (name_in found ≡ Some name)
+    × (value_in found (codes "TOPOLOGY") ≡ Some paths.topology.now) × (value_in found input ≡ Some paths.input.now)
 
 -- the subcommand and its values are those of the job
 abbrev pub AskedBy : Found → Job → Type 0
 AskedBy found Joined = found ≡ None
-AskedBy found (Replay paths) = HasPaths found (codes "replay") paths
-AskedBy found (Check paths) = HasPaths found (codes "check") paths
+AskedBy found (Replay paths) = HasPaths found (codes "replay") (codes "SCRIPT") paths
+AskedBy found (Check paths) = HasPaths found (codes "check") (codes "SCRIPT") paths
+AskedBy found (Verify paths) = HasPaths found (codes "verify") (codes "HISTORY") paths
 AskedBy found Tables = name_in found ≡ Some (codes "tables")
 
 -- what clap finds in the words asks for the job
@@ -74,13 +76,18 @@ IsInvalidValue NoMemory = ⊤
 -- ---- what private clauses cite
 
 -- a value was found for each of the two paths
-abbrev pub HasTexts : List Row → Type 0
-HasTexts rows = IsSome (first_of (codes "TOPOLOGY") rows) × IsSome (first_of (codes "SCRIPT") rows)
+abbrev pub HasTexts : Text → List Row → Type 0
+HasTexts input rows = IsSome (first_of (codes "TOPOLOGY") rows) × IsSome (first_of input rows)
+
+-- it is the name of a subcommand that runs a script
+abbrev pub IsOfScript : Text → Type 0
+IsOfScript name = (name ≡ codes "replay") ⊎ (name ≡ codes "check")
 
 -- a subcommand of the program with the values that it needs, or none
 abbrev pub HasJob : Found → Type 0
 HasJob None = ⊤
-HasJob (Some s) = (((s.0 ≡ codes "replay") ⊎ (s.0 ≡ codes "check")) × HasTexts s.1) ⊎ (s.0 ≡ codes "tables")
+HasJob (Some s) = (IsOfScript s.0 × HasTexts (codes "SCRIPT") s.1)
+    ⊎ (((s.0 ≡ codes "verify") × HasTexts (codes "HISTORY") s.1) ⊎ (s.0 ≡ codes "tables"))
 
 -- clap's error as a fault
 abbrev pub StandsFor : Error → LineFault → Type 0

@@ -27,25 +27,35 @@ Examples:
 
 Exit status:
   0  good, refused commands included
-  1  the subcommand `check` found faults
-  2  a bad topology, script or command line
+  1  the subcommand `check` found faults, or `verify` an entry that isn't allowed
+  2  a bad topology, script, history or command line
   3  a file or a standard stream could not be read or written
   4  out of memory";
-
-const REPLAY_ABOUT: &str = "Runs a script on a topology, from its booted configuration";
-
-const REPLAY_LONG_ABOUT: &str = "\
-Runs a script on a topology, from its booted configuration.
-
-Each command writes its answer to standard output. A command that is refused changes
-nothing, and the run goes on; a bad line ends it.";
 
 const TOPOLOGY_HELP: &str =
     "A file in TOML that names the nodes, the links between them, and the application";
 
 const SCRIPT_HELP: &str = "A file with one command a line";
 
-const REPLAY_AFTER_HELP: &str = "\
+const HISTORY_HELP: &str = "A file with the history, one entry a line";
+
+// What `--help` says of a subcommand that reads two files.
+struct Help {
+    about: &'static str,
+    long_about: &'static str,
+    input: &'static str,
+    after_help: &'static str,
+}
+
+const REPLAY_HELP: Help = Help {
+    about: "Runs a script on a topology, from its booted configuration",
+    long_about: "\
+Runs a script on a topology, from its booted configuration.
+
+Each command writes its answer to standard output. A command that is refused changes
+nothing, and the run goes on; a bad line ends it.",
+    input: SCRIPT_HELP,
+    after_help: "\
 A topology:
   nodes = [1, 2, 3]
   links = [[1, 2], [2, 3]]
@@ -71,21 +81,52 @@ letters, a zero before a number or a comment behind the command makes the line b
 `cat -A SCRIPT` shows what the eye misses.
 
 Example:
-  reset-service replay examples/one-wave/topology.toml examples/one-wave/script";
+  reset-service replay examples/one-wave/topology.toml examples/one-wave/script",
+};
 
-const CHECK_ABOUT: &str = "Runs a script on a topology, and checks the network that it leaves";
-
-const CHECK_LONG_ABOUT: &str = "\
+const CHECK_HELP: Help = Help {
+    about: "Runs a script on a topology, and checks the network that it leaves",
+    long_about: "\
 Runs a script on a topology, and checks the network that it leaves.
 
 The script is run as `replay` runs it. Then each link whose ends contradict each other is named
 in a line `link AT OTHER FAMILY ROW`: the node, its neighbour (or the node itself), which table
 (tree, wave or app) and which of its rows; `reset-service tables` prints the tables. The last line is
-`faults COUNT`, and the exit status is 1 where COUNT isn't 0. After a bad line nothing is checked.";
-
-const CHECK_AFTER_HELP: &str = "\
+`faults COUNT`, and the exit status is 1 where COUNT isn't 0. After a bad line nothing is checked.",
+    input: SCRIPT_HELP,
+    after_help: "\
 Example:
-  reset-service check examples/sound-network/topology.toml examples/sound-network/script";
+  reset-service check examples/sound-network/topology.toml examples/sound-network/script",
+};
+
+const VERIFY_HELP: Help = Help {
+    about: "Tells whether a history could happen, and which resets it completed",
+    long_about: "\
+Tells whether a history could happen, and which resets it completed.
+
+A history is what happened to a network, from the booted configuration of its topology on: each
+event that a node took, and each fault. For each reset that was completed there is a line `report
+NUMBER opened POSITION finished POSITION`: the number of the session, and the entries that opened
+and finished it, counted from 1 (`-` where it wasn't opened since the last fault). The last line is
+`verified E entries R reports`.
+
+Where an entry isn't allowed where it stands, the answer is `not enabled at POSITION` of the first
+such entry, and the exit status is 1. A file that isn't a history is answered by `bad history` and
+its first bad line, and the exit status is 2.",
+    input: HISTORY_HELP,
+    after_help: "\
+A history:
+  reset-history 1
+  request 3
+  open 3
+The first line is always this one. Each line after it is one entry, a command of a script that
+`replay` answers with `applied`, `complete NUMBER` or `disturbed`, an action with the number of its
+case; `reset-service replay --help` tells the commands. There are no comments, no empty lines, no
+questions and no draws, and each line, the last one too, ends with a line feed.
+
+Example:
+  reset-service verify examples/verified-wave/topology.toml examples/verified-wave/history",
+};
 
 const TABLES_ABOUT: &str = "Prints the tables that the nodes act by";
 
@@ -105,46 +146,35 @@ other the far end.";
 pub fn command_line<'a>(alloc: Global) -> Result<Command<'a>, AllocError>
     ensures { IfOk result (λ command. app_of command ≡ program) }
 {
-    let replay = texts_words(
-        alloc,
-        "replay",
-        REPLAY_ABOUT,
-        REPLAY_LONG_ABOUT,
-        REPLAY_AFTER_HELP,
-    )?;
-    let check = texts_words(
-        alloc,
-        "check",
-        CHECK_ABOUT,
-        CHECK_LONG_ABOUT,
-        CHECK_AFTER_HELP,
-    )?;
+    let replay = texts_words(alloc, "replay", "SCRIPT", &REPLAY_HELP)?;
+    let check = texts_words(alloc, "check", "SCRIPT", &CHECK_HELP)?;
+    let verify = texts_words(alloc, "verify", "HISTORY", &VERIFY_HELP)?;
     Command::new(alloc, "reset-service")
         .about(ABOUT)
         .long_about(LONG_ABOUT)
         .after_help(AFTER_HELP)
         .subcommand(replay)?
         .subcommand(check)?
+        .subcommand(verify)?
         .subcommand(tables_words(alloc))
 }
 
-// A subcommand with the paths of a topology and a script.
+// A subcommand with the paths of a topology and of another file.
 fn texts_words<'a>(
     alloc: Global,
     name: &'a str,
-    about: &'a str,
-    long_about: &'a str,
-    after_help: &'a str,
+    input: &'a str,
+    help: &Help,
 ) -> Result<Command<'a>, AllocError>
-    ensures app { IfOk result (λ command. app_of command ≡ texts_command name.entry.now) }
+    ensures app { IfOk result (λ command. app_of command ≡ texts_command name.entry.now input.entry.now) }
     ensures local { IfOk result (λ command. (fields_of command).has_globals ≡ false) }
 {
     Command::new(alloc, name)
-        .about(about)
-        .long_about(long_about)
-        .after_help(after_help)
+        .about(help.about)
+        .long_about(help.long_about)
+        .after_help(help.after_help)
         .arg(path_word(alloc, "TOPOLOGY", TOPOLOGY_HELP))?
-        .arg(path_word(alloc, "SCRIPT", SCRIPT_HELP))
+        .arg(path_word(alloc, input, help.input))
 }
 
 fn tables_words<'a>(alloc: Global) -> Command<'a>

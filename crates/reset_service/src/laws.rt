@@ -7,6 +7,7 @@ ghost use Rattle.reset_model.specs.Sound.{IsSound};
 ghost use Rattle.reset_service.specs.Meaning.{meaning_of};
 ghost use Rattle.reset_service.specs.Output.{IsJoinedOutput, IsOutput};
 ghost use Rattle.reset_service.specs.Stretches.{AreUndisturbed, MakeRun, MakeSoundRun};
+ghost use Rattle.reset_service.specs.Verified.{IsVerification};
 ghost use Rattle.reset_service.specs.declared.status.Purpose.{Purpose};
 ghost use Rattle.reset_service.specs.declared.status.Status.{Status};
 
@@ -22,6 +23,12 @@ pub fn one_output()
 /// A joined text has at most one output, status included.
 pub fn one_joined_output()
     ensures { (joined : List ℕ) (o p : List ℕ × Status) → IsJoinedOutput joined o → IsJoinedOutput joined p → o ≡ p }
+{}
+
+/// A topology and a history are answered with one thing at most, status included.
+pub fn one_verification()
+    ensures { (topology history : List ℕ) (o p : List ℕ × Status)
+        → IsVerification topology history o → IsVerification topology history p → o ≡ p }
 {}
 
 /// Between two faults the lines of a script make a run happen: whatever the configuration, lines of which

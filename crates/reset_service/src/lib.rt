@@ -1,7 +1,7 @@
 //! What the program of the distributed reset service does, as calls on texts, readers and writers: it
 //! replays scripts of reset events on the booted configuration of a topology and writes an answer to
-//! each line, checks the network that a script leaves, prints the tables that the nodes act by, and reads
-//! the words of its command line.
+//! each line, checks the network that a script leaves, verifies histories, prints the tables that the
+//! nodes act by, and reads the words of its command line.
 #![tactic(auto)]
 
 mod answer;
@@ -17,12 +17,14 @@ mod script;
 mod show;
 mod status;
 mod tables;
+mod verified;
 mod words;
 
 pub use gather::Gathered;
 pub use input::{READ_LIMIT, read_text};
-pub use laws::{one_joined_output, one_output, stretches_are_runs};
+pub use laws::{one_joined_output, one_output, one_verification, stretches_are_runs};
 pub use replays::{check_text, replay, replay_joined, replay_text};
 pub use status::{RunStop, Status};
 pub use tables::print_tables;
+pub use verified::verify_text;
 pub use words::{Job, LineFault, Paths, no_text, read_words};

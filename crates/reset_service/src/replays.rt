@@ -158,8 +158,8 @@ fn run_booted<P: Application, W: Write>(
     }
 }
 
-// Answers a text that is no topology.
-fn refuse_topology<W: Write>(fault: ReadFault, out: &mut W) -> Result<Status, RunStop>
+/// Answers a text that is no topology.
+pub fn refuse_topology<W: Write>(fault: ReadFault, out: &mut W) -> Result<Status, RunStop>
     ensures leaves { Leaves (λ output. (fault ≢ ReadFault.NoMemory) × (output ≡ (bad_topology_text fault, Status.BadInput))) (W.contents out.old) (W.contents out.new) result }
     ensures stop { IfErr result (λ stop. stop ≢ RunStop.ReadFailed) }
 {

@@ -16,7 +16,9 @@ pub enum Status {
     Good,
     /// They were good, and the check at the end found faults.
     FaultsFound,
-    /// The topology, the script or one of its lines is bad.
+    /// They were good, and an entry of the history isn't allowed where it stands.
+    NotEnabled,
+    /// The topology, the script or the history is bad, or one of its lines.
     BadInput,
 }
 

@@ -17,8 +17,8 @@ use std::{error, fmt};
 pub struct Paths<'a> {
     /// The path of the topology.
     pub topology: &'a str,
-    /// The path of the script.
-    pub script: &'a str,
+    /// The path of the script, or of the history.
+    pub input: &'a str,
 }
 
 /// What the program is to do.
@@ -30,6 +30,8 @@ pub enum Job<'a> {
     Replay(Paths<'a>),
     /// The same, and check the network that the script leaves.
     Check(Paths<'a>),
+    /// Verify the history of a file from the booted configuration of another's topology.
+    Verify(Paths<'a>),
     /// Print the tables.
     Tables,
 }
@@ -91,21 +93,22 @@ fn job_of<'a>(matches: &ArgMatches<'a>) -> Job<'a>
 {
     match matches.subcommand() {
         None => Job::Joined,
-        Some(("replay", values)) => Job::Replay(paths_of(values)),
-        Some(("check", values)) => Job::Check(paths_of(values)),
+        Some(("replay", values)) => Job::Replay(paths_of(values, "SCRIPT")),
+        Some(("check", values)) => Job::Check(paths_of(values, "SCRIPT")),
+        Some(("verify", values)) => Job::Verify(paths_of(values, "HISTORY")),
         Some(_) => Job::Tables,
     }
 }
 
-// The paths of matches that have both.
-fn paths_of<'a>(values: &ArgMatches<'a>) -> Paths<'a>
-    requires { HasTexts (rows_of (found_of values.now)) }
+// The paths of matches that have both: that of the topology, and that of the argument of this name.
+fn paths_of<'a>(values: &ArgMatches<'a>, input: &str) -> Paths<'a>
+    requires { HasTexts input.now (rows_of (found_of values.now)) }
     ensures topology { first_of (codes "TOPOLOGY") (rows_of (found_of values.now)) ≡ Some result.topology.now }
-    ensures script { first_of (codes "SCRIPT") (rows_of (found_of values.now)) ≡ Some result.script.now }
+    ensures input { first_of input.now (rows_of (found_of values.now)) ≡ Some result.input.now }
 {
     Paths {
         topology: values.get_str("TOPOLOGY").unwrap(),
-        script: values.get_str("SCRIPT").unwrap(),
+        input: values.get_str(input).unwrap(),
     }
 }
 

@@ -1,13 +1,14 @@
 -- The status that the process exits with.
 use Rattle.std.specs.Prelude.{ℕ, Result, Ok, Err}
 use Rattle.reset_service.specs.declared.status.Status.{Status}
-use Rattle.reset_service.specs.declared.status.Status.TheVariants.{Good, FaultsFound, BadInput}
+use Rattle.reset_service.specs.declared.status.Status.TheVariants.{Good, FaultsFound, NotEnabled, BadInput}
 use Rattle.reset_service.specs.declared.status.RunStop.{RunStop}
 use Rattle.reset_service.specs.declared.status.RunStop.TheVariants.{ReadFailed, WriteFailed, NoMemory}
 
 abbrev pub status_of : Result Status RunStop → ℕ
 status_of (Ok Good) = 0
 status_of (Ok FaultsFound) = 1
+status_of (Ok NotEnabled) = 1
 status_of (Ok BadInput) = 2
 status_of (Err ReadFailed) = 3
 status_of (Err WriteFailed) = 3

@@ -1,6 +1,6 @@
 //! The program of the distributed reset service: it replays a script of reset events on the booted
-//! configuration of a topology, and writes an answer to each. Here stand the files and the streams that
-//! it opens and its exit status; all else is the library `reset_service`.
+//! configuration of a topology and writes an answer to each, and it verifies histories. Here stand the
+//! files and the streams that it opens and its exit status; all else is the library `reset_service`.
 #![tactic(auto)]
 
 mod files;
@@ -11,7 +11,7 @@ use crate::status::exit_code;
 use action_tables::put_bytes;
 use reset_service::{
     Gathered, Job, LineFault, Paths, RunStop, Status, check_text, no_text, print_tables,
-    read_words, replay, replay_joined,
+    read_words, replay, replay_joined, verify_text,
 };
 use std::io::Write;
 use std::process::ExitCode;
@@ -80,16 +80,20 @@ fn job_output<W: Write>(rt: &HostRuntime, job: Job<'_>, out: &mut W) -> Result<S
             let (topology, mut script) = open_texts(rt, paths)?;
             check_text(rt.alloc(), &topology, &mut script, out)
         }
+        Job::Verify(paths) => {
+            let (topology, mut history) = open_texts(rt, paths)?;
+            verify_text(rt.alloc(), &topology, &mut history, out)
+        }
         Job::Tables => print_tables(out),
     }
 }
 
-// The text of the topology, and the script, opened: both before anything is judged.
+// The text of the topology, and the script or the history, opened: both before anything is judged.
 fn open_texts<R: Files + AllocGlobal>(
     rt: &R,
     paths: Paths<'_>,
 ) -> Result<(Vec<u8>, R::File), RunStop> {
     let topology = read_file(rt, paths.topology)?;
-    let script = open_file(rt, paths.script)?;
-    Ok((topology, script))
+    let input = open_file(rt, paths.input)?;
+    Ok((topology, input))
 }

@@ -13,7 +13,7 @@ pub fn exit_code(ended: Result<Status, RunStop>) -> ExitCode
 {
     match ended {
         Ok(Status::Good) => ExitCode::from(0),
-        Ok(Status::FaultsFound) => ExitCode::from(1),
+        Ok(Status::FaultsFound | Status::NotEnabled) => ExitCode::from(1),
         Ok(Status::BadInput) => ExitCode::from(2),
         Err(RunStop::ReadFailed | RunStop::WriteFailed) => ExitCode::from(3),
         Err(RunStop::NoMemory) => ExitCode::from(4),

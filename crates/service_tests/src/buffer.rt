@@ -30,6 +30,7 @@ fn ends_as_the_run_did(rt: HostRuntime) -> Result<(), Fail> {
     for run in [
         Ok(Status::Good),
         Ok(Status::FaultsFound),
+        Ok(Status::NotEnabled),
         Ok(Status::BadInput),
         Err(RunStop::ReadFailed),
         Err(RunStop::NoMemory),

@@ -11,6 +11,8 @@ mod checks;
 #[cfg(test)]
 mod devices;
 #[cfg(test)]
+mod histories;
+#[cfg(test)]
 mod replays;
 #[cfg(test)]
 mod words;

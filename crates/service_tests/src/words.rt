@@ -18,7 +18,7 @@ fn jobs(rt: HostRuntime) {
     let alloc = rt.alloc();
     let paths = Paths {
         topology: "a",
-        script: "b c",
+        input: "b c",
     };
     assert!(rt; matches!(read_words(alloc, &["reset-service"]), Ok(Job::Joined)));
     assert!(rt;
@@ -31,6 +31,8 @@ fn jobs(rt: HostRuntime) {
     assert!(rt; matches!(read_words(alloc, &words), Ok(job) if job == Job::Replay(paths)));
     let words = ["reset-service", "check", "a", "b c"];
     assert!(rt; matches!(read_words(alloc, &words), Ok(job) if job == Job::Check(paths)));
+    let words = ["reset-service", "verify", "a", "b c"];
+    assert!(rt; matches!(read_words(alloc, &words), Ok(job) if job == Job::Verify(paths)));
 }
 
 #[test]
@@ -41,10 +43,10 @@ fn mistakes_and_help(rt: HostRuntime) {
     let missing = Some(ErrorKind::MissingRequiredArgument);
     let help = Some(ErrorKind::DisplayHelp);
     assert!(rt;
-        kind_at(alloc, &[program, "verify", "a", "b"]) == Some(ErrorKind::InvalidSubcommand)
+        kind_at(alloc, &[program, "threads", "a", "b"]) == Some(ErrorKind::InvalidSubcommand)
     );
     assert!(rt; kind_at(alloc, &[program, "--help"]) == help);
-    for name in ["replay", "check"] {
+    for name in ["replay", "check", "verify"] {
         assert!(rt; kind_at(alloc, &[program, name, "a", "b", "c"]) == mistake);
         assert!(rt; kind_at(alloc, &[program, name, "a"]) == missing);
         assert!(rt; kind_at(alloc, &[program, name]) == missing);

@@ -1,6 +1,6 @@
 use Rattle.std.proofs.Common.{◌≡◌, ◌≢◌}
 use Rattle.reset_service.specs.Output.{IsOutput, IsReplayOf, bad_topology_text}
-use Rattle.reset_service.specs.Output.IsOutput.{bad_topology, replayed}
+use Rattle.reset_service.specs.Output.IsJudged.{bad_topology, good_topology}
 use Rattle.reset_service.specs.declared.status.Purpose.TheVariants.{Replay}
 use Rattle.reset_service.specs.declared.status.Status.TheVariants.{BadInput}
 use Rattle.topology.specs.declared.text.ReadFault.TheVariants.{NoMemory}
@@ -10,7 +10,7 @@ use Rattle.reset_service.proofs.replays.replay_text.Goals as goal
 pub returns-in-Ok-clause-leaves : goal.returns-in-Ok-clause-leaves
 returns-in-Ok-clause-leaves g c =
     leaves_weaker (IsReplayOf c.in-Ok.app Replay c.in-Ok.topology c.args.script.now) (IsOutput Replay c.args.topology.now c.args.script.now) _ _ c.run_app.result
-    (λ o is. replayed c.in-Ok.topology c.in-Ok.app c.in-Ok.ensures.ok is) c.run_app.ensures.leaves
+    (λ o is. good_topology c.in-Ok.topology c.in-Ok.app c.in-Ok.ensures.ok is) c.run_app.ensures.leaves
 
 pub returns-in-Err-clause-leaves : goal.returns-in-Err-clause-leaves
 returns-in-Err-clause-leaves g c =

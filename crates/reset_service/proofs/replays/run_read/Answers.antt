@@ -1,6 +1,6 @@
 use Rattle.std.proofs.Common.{◌≡◌, ◌≢◌}
 use Rattle.reset_service.specs.Output.{IsOutput, IsReplayOf, bad_topology_text}
-use Rattle.reset_service.specs.Output.IsOutput.{bad_topology, replayed}
+use Rattle.reset_service.specs.Output.IsJudged.{bad_topology, good_topology}
 use Rattle.reset_service.specs.declared.status.Status.TheVariants.{BadInput}
 use Rattle.topology.specs.declared.text.ReadFault.TheVariants.{NoMemory}
 use Rattle.reset_service.proofs.Runs.{leaves_unread, leaves_weaker}
@@ -21,7 +21,7 @@ returns-in-Ok-read_text-clause-leaves g c = (
   c.deref.result.now,
   rw c.deref.ensures.value c.in-Ok-read_text.ensures.ok,
   leaves_weaker (IsReplayOf c.in-Ok.app c.args.purpose c.in-Ok.topology c.deref.result.now) (IsOutput c.args.purpose c.args.topology.now c.deref.result.now) _ _ c.run_app.result
-      (λ o is. replayed c.in-Ok.topology c.in-Ok.app c.in-Ok.ensures.ok is) c.run_app.ensures.leaves,
+      (λ o is. good_topology c.in-Ok.topology c.in-Ok.app c.in-Ok.ensures.ok is) c.run_app.ensures.leaves,
 )
 
 pub returns-in-Err-read_text-clause-leaves : goal.returns-in-Err-read_text-clause-leaves

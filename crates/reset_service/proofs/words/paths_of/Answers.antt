@@ -11,14 +11,14 @@ unwrap-requires c =
 
 pub unwrap-requires-2 : goal.unwrap-requires-2
 unwrap-requires-2 c =
-    some_text c.get_str-2.result _ (c.get_str-2.ensures ∙ first_value-rows (found_of c.args.values.now) (codes "SCRIPT")) c.requires.1
+    some_text c.get_str-2.result _ (c.get_str-2.ensures ∙ first_value-rows (found_of c.args.values.now) c.args.input.now) c.requires.1
 
 pub returns-clause-topology : goal.returns-clause-topology
 returns-clause-topology c =
     sym (first_value-rows (found_of c.args.values.now) (codes "TOPOLOGY")) ∙ sym c.get_str.ensures
     ∙ ap (option_map (λ s. s.now)) c.unwrap.ensures
 
-pub returns-clause-script : goal.returns-clause-script
-returns-clause-script c =
-    sym (first_value-rows (found_of c.args.values.now) (codes "SCRIPT")) ∙ sym c.get_str-2.ensures
+pub returns-clause-input : goal.returns-clause-input
+returns-clause-input c =
+    sym (first_value-rows (found_of c.args.values.now) c.args.input.now) ∙ sym c.get_str-2.ensures
     ∙ ap (option_map (λ s. s.now)) c.unwrap-2.ensures

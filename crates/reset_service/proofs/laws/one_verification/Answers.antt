@@ -1,0 +1,5 @@
+use Rattle.reset_service.proofs.Verifying.{one_verification as one}
+use Rattle.reset_service.proofs.laws.one_verification.Goals as goal
+
+pub returns : goal.returns
+returns c = one

@@ -1,0 +1,84 @@
+-- What a verification of a history writes.
+use Rattle.std.specs.Prelude.{◌≡◌, ℕ, List, [], ◌∷◌, ◌++◌, length, codes, Option, Some, None, IsSome, Ok, Err}
+use Rattle.std.specs.Fmt.{decimal}
+use Rattle.std.specs.List.{concat, flat_map}
+use Rattle.topology.specs.Graph.{Graph}
+use Rattle.topology.specs.declared.text.AppName.{AppName}
+use Rattle.topology.specs.declared.text.AppName.TheVariants.{Idle, Token, Mutex, Routes}
+use Rattle.reset_model.specs.Configuration.{Configuration}
+use Rattle.reset_model.specs.Outcome.{IsBoot}
+use Rattle.history.specs.Entries.{IsFirstRefused, replayed}
+use Rattle.history.specs.HistoryText.{IsReadAs}
+use Rattle.history.specs.Reports.{reports_of}
+use Rattle.history.specs.declared.entry.Entry.{Entry}
+use Rattle.history.specs.declared.entry.Report.{Report}
+use Rattle.history.specs.declared.text.BookFault.{BookFault}
+use Rattle.history.specs.declared.text.BookFault.TheVariants.{BadLine, BadVersion, TooLong, NoMemory, ReadFailed}
+use Rattle.reset_service.specs.Lines.{ended}
+use Rattle.reset_service.specs.Meaning.{Meaning, idle_meaning, token_meaning, mutex_meaning, routes_meaning}
+use Rattle.reset_service.specs.Output.{IsJudged, numbered}
+use Rattle.reset_service.specs.declared.status.Status.{Status}
+use Rattle.reset_service.specs.declared.status.Status.TheVariants.{Good, NotEnabled, BadInput}
+
+-- ---- lines
+
+-- a position, or a dash where there is none
+abbrev pub position_text : Option ℕ → List ℕ
+position_text None = codes "-"
+position_text (Some position) = decimal position
+
+-- the line of a reset that was completed: its number, and the positions at which it was opened and finished
+abbrev pub report_line : Report → List ℕ
+report_line report =
+    concat (codes "report " ∷ decimal report.number ∷ codes " opened " ∷ position_text report.opened
+    ∷ codes " finished " ∷ decimal report.finished ∷ ended [] ∷ [])
+
+-- the line of the numbers of entries and of reports
+abbrev pub counts_line : ℕ → ℕ → List ℕ
+counts_line entries reports =
+    concat (codes "verified " ∷ decimal entries ∷ codes " entries " ∷ decimal reports ∷ ended (codes " reports") ∷ [])
+
+-- what a history with so many entries and these reports is answered with
+abbrev pub verified_text : ℕ → List Report → List ℕ
+verified_text entries reports = flat_map report_line reports ++ counts_line entries (length reports)
+
+-- the line of the first entry that isn't allowed where it stands
+abbrev pub not_enabled_text : ℕ → List ℕ
+not_enabled_text position = numbered (codes "not enabled at ") position
+
+-- the line of a text that is no history
+abbrev pub bad_history_text : BookFault → List ℕ
+bad_history_text (BadLine n) = numbered (codes "bad history BadLine ") n
+bad_history_text BadVersion = ended (codes "bad history BadVersion")
+bad_history_text TooLong = ended (codes "bad history TooLong")
+bad_history_text NoMemory = ended (codes "bad history NoMemory")
+bad_history_text ReadFailed = ended (codes "bad history ReadFailed")
+
+-- ---- the output of texts
+
+-- what entries are answered with from a configuration on, and the status
+pub data IsAnswered {L : Type 0} (m : Meaning L) (c : Configuration L) (es : List Entry) (output : List ℕ × Status) : Type 0 where
+  not_enabled : (position : ℕ) → IsFirstRefused m.app m.from_text c es position → output ≡ (not_enabled_text position, NotEnabled)
+      → IsAnswered m c es output
+  allowed : IsSome (replayed m.app m.from_text c es)
+      → output ≡ (verified_text (length es) (reports_of m.app m.from_text c es), Good) → IsAnswered m c es output
+
+-- what a text is answered with: it is read to its end, or to its first bad line, before an entry is judged
+pub data IsVerified {L : Type 0} (m : Meaning L) (c : Configuration L) (history : List ℕ) (output : List ℕ × Status) : Type 0 where
+  bad_history : (f : BookFault) → IsReadAs history (Err f) → output ≡ (bad_history_text f, BadInput) → IsVerified m c history output
+  is_history : (es : List Entry) → IsReadAs history (Ok es) → IsAnswered m c es output → IsVerified m c history output
+
+-- the same from the booted configuration of a graph
+abbrev pub IsVerifiedFrom : {L : Type 0} → Meaning L → Graph → List ℕ → List ℕ × Status → Type 0
+IsVerifiedFrom {L = L} m g history output = (c : Configuration L) × IsBoot m.app g c × IsVerified m c history output
+
+-- the same for the application of a name
+abbrev pub IsVerifiedOf : AppName → Graph → List ℕ → List ℕ × Status → Type 0
+IsVerifiedOf Idle = IsVerifiedFrom idle_meaning
+IsVerifiedOf Token = IsVerifiedFrom token_meaning
+IsVerifiedOf Mutex = IsVerifiedFrom mutex_meaning
+IsVerifiedOf Routes = IsVerifiedFrom routes_meaning
+
+-- what a verification writes, and its status: the topology is judged before the history
+abbrev pub IsVerification : List ℕ → List ℕ → List ℕ × Status → Type 0
+IsVerification topology history = IsJudged (λ app g. IsVerifiedOf app g history) topology

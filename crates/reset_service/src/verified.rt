@@ -1,0 +1,216 @@
+// The verification of a history from a booted configuration.
+
+ghost use Rattle.std.specs.Prelude.{◌≡◌, ◌≢◌, Err, IfErr, IfSome, OnErr, OnOk};
+ghost use Rattle.std.specs.List.{flat_map};
+ghost use Rattle.std.specs.Io.KnownBytes.{Appends, Keeps};
+ghost use Rattle.topology.specs.TopologyText.{IsReadFault};
+ghost use Rattle.action_tables.specs.RowText.{part_text};
+ghost use Rattle.action_tables.specs.Written.{AppendsFront};
+ghost use Rattle.reset_service.specs.Meaning.{meaning_of};
+ghost use Rattle.reset_service.specs.Output.{Leaves};
+ghost use Rattle.reset_service.specs.Verified.{bad_history_text, counts_line, not_enabled_text, position_text, report_line, verified_text, IsAnswered, IsVerification, IsVerified, IsVerifiedFrom, IsVerifiedOf};
+
+use crate::answer::put_numbered;
+use crate::replays::refuse_topology;
+use crate::status::{RunStop, Status};
+use action_tables::{Part, WriteFault, put_bytes, put_parts};
+use app_interface::{Application, Idle};
+use app_mutex::EdgeReversal;
+use app_routes::Routes;
+use app_token::Token;
+use history::{BookFault, Entry, Report, Summary, VerifyFault, read_book, verify};
+use reset_machine::Config;
+use std::alloc::Global;
+use std::io::{Read, Write};
+use topology::{AppName, ReadFault, Topology, read_topology};
+
+/// Verifies the history that a reader gives, from the booted configuration of a topology text, and writes
+/// its reports, one a line, and then how many entries and reports it has.
+///
+/// The topology is judged before the reader is touched. A text that isn't a history is answered by its
+/// first line that a history can't have there, before an entry is judged, and a history in which an entry
+/// isn't allowed where it stands by the position of the first such entry.
+pub fn verify_text<R: Read, W: Write>(
+    alloc: Global,
+    topology: &[u8],
+    history: &mut R,
+    out: &mut W,
+) -> Result<Status, RunStop>
+    ensures leaves { IfSome (R.remaining history.old) (λ text. Leaves (IsVerification topology.now text) (W.contents out.old) (W.contents out.new) result) }
+    ensures unread { result ≡ Err RunStop.ReadFailed → Keeps (W.contents out.old) (W.contents out.new) }
+    ensures untouched { (f : ReadFault) → IsReadFault topology.now f → history.new ≡ history.old }
+{
+    match read_topology(alloc, topology) {
+        Ok((topology, app)) => verify_app(alloc, app, topology, history, out),
+        Err(fault) => refuse_topology(fault, out),
+    }
+}
+
+// Verifies a history from the booted configuration of a topology, with the application of this name.
+fn verify_app<R: Read, W: Write>(
+    alloc: Global,
+    app: AppName,
+    topology: Topology,
+    history: &mut R,
+    out: &mut W,
+) -> Result<Status, RunStop>
+    ensures leaves { IfSome (R.remaining history.old) (λ text. Leaves (IsVerifiedOf app topology text) (W.contents out.old) (W.contents out.new) result) }
+    ensures unread { result ≡ Err RunStop.ReadFailed → Keeps (W.contents out.old) (W.contents out.new) }
+{
+    match app {
+        AppName::Idle => verify_booted::<Idle, R, W>(alloc, topology, history, out),
+        AppName::Token => verify_booted::<Token, R, W>(alloc, topology, history, out),
+        AppName::Mutex => verify_booted::<EdgeReversal, R, W>(alloc, topology, history, out),
+        AppName::Routes => verify_booted::<Routes, R, W>(alloc, topology, history, out),
+    }
+}
+
+fn verify_booted<P: Application, R: Read, W: Write>(
+    alloc: Global,
+    topology: Topology,
+    history: &mut R,
+    out: &mut W,
+) -> Result<Status, RunStop>
+    ensures leaves { IfSome (R.remaining history.old) (λ text. Leaves (IsVerifiedFrom (meaning_of P.app P.text P.from_text P.names) topology text) (W.contents out.old) (W.contents out.new) result) }
+    ensures unread { result ≡ Err RunStop.ReadFailed → Keeps (W.contents out.old) (W.contents out.new) }
+{
+    match Config::<P>::boot(alloc, topology) {
+        Ok(opening) => verify_from(alloc, opening, history, out),
+        Err(_) => Err(RunStop::NoMemory),
+    }
+}
+
+// Verifies a history from this configuration on.
+fn verify_from<P: Application, R: Read, W: Write>(
+    alloc: Global,
+    opening: Config<P>,
+    history: &mut R,
+    out: &mut W,
+) -> Result<Status, RunStop>
+    ensures leaves { IfSome (R.remaining history.old) (λ text. Leaves (IsVerified (meaning_of P.app P.text P.from_text P.names) opening text) (W.contents out.old) (W.contents out.new) result) }
+    ensures unread { result ≡ Err RunStop.ReadFailed → Keeps (W.contents out.old) (W.contents out.new) }
+{
+    match read_book(alloc, history) {
+        Ok(entries) => answer_entries(alloc, opening, &entries, out),
+        Err(BookFault::NoMemory) => Err(RunStop::NoMemory),
+        Err(BookFault::ReadFailed) => Err(RunStop::ReadFailed),
+        Err(fault) => refuse_history(fault, out),
+    }
+}
+
+// Answers a text that is no history.
+fn refuse_history<W: Write>(fault: BookFault, out: &mut W) -> Result<Status, RunStop>
+    ensures leaves { Leaves (λ output. output ≡ (bad_history_text fault, Status.BadInput)) (W.contents out.old) (W.contents out.new) result }
+    ensures stop { IfErr result (λ stop. stop ≢ RunStop.ReadFailed) }
+{
+    put_history_fault(out, fault)?;
+    Ok(Status::BadInput)
+}
+
+// Answers entries: what they report, or the first that isn't allowed where it stands.
+fn answer_entries<P: Application, W: Write>(
+    alloc: Global,
+    opening: Config<P>,
+    entries: &[Entry],
+    out: &mut W,
+) -> Result<Status, RunStop>
+    ensures leaves { Leaves (IsAnswered (meaning_of P.app P.text P.from_text P.names) opening entries.now) (W.contents out.old) (W.contents out.new) result }
+    ensures stop { IfErr result (λ stop. stop ≢ RunStop.ReadFailed) }
+{
+    match verify(alloc, opening, entries) {
+        Ok(summary) => {
+            put_summary(out, &summary)?;
+            Ok(Status::Good)
+        }
+        Err(VerifyFault::NotEnabledAt(position)) => {
+            put_not_enabled(out, position)?;
+            Ok(Status::NotEnabled)
+        }
+        Err(VerifyFault::NoMemory) => Err(RunStop::NoMemory),
+    }
+}
+
+// Writes what a text that is no history is answered with.
+fn put_history_fault<W: Write>(out: &mut W, fault: BookFault) -> Result<(), WriteFault>
+    ensures ok { OnOk result (Appends (W.contents out.old) (W.contents out.new) (bad_history_text fault)) }
+    ensures err { OnErr result (AppendsFront (W.contents out.old) (W.contents out.new) (bad_history_text fault)) }
+{
+    match fault {
+        BookFault::BadLine(number) => put_numbered(out, b"bad history BadLine ", number as u64),
+        BookFault::BadVersion => put_bytes(out, b"bad history BadVersion\n"),
+        BookFault::TooLong => put_bytes(out, b"bad history TooLong\n"),
+        BookFault::NoMemory => put_bytes(out, b"bad history NoMemory\n"),
+        BookFault::ReadFailed => put_bytes(out, b"bad history ReadFailed\n"),
+    }
+}
+
+// Writes what a history is answered with whose first refused entry has this position.
+fn put_not_enabled<W: Write>(out: &mut W, position: usize) -> Result<(), WriteFault>
+    ensures ok { OnOk result (Appends (W.contents out.old) (W.contents out.new) (not_enabled_text position)) }
+    ensures err { OnErr result (AppendsFront (W.contents out.old) (W.contents out.new) (not_enabled_text position)) }
+{
+    put_numbered(out, b"not enabled at ", position as u64)
+}
+
+// Writes what a history comes to.
+fn put_summary<W: Write>(out: &mut W, summary: &Summary) -> Result<(), WriteFault>
+    ensures ok { OnOk result (Appends (W.contents out.old) (W.contents out.new) (verified_text summary.now.entries summary.now.reports.items)) }
+    ensures err { OnErr result (AppendsFront (W.contents out.old) (W.contents out.new) (verified_text summary.now.entries summary.now.reports.items)) }
+{
+    put_reports(out, &summary.reports)?;
+    put_counts(out, summary.entries, summary.reports.len())
+}
+
+fn put_counts<W: Write>(out: &mut W, entries: usize, reports: usize) -> Result<(), WriteFault>
+    ensures ok { OnOk result (Appends (W.contents out.old) (W.contents out.new) (counts_line entries reports)) }
+    ensures err { OnErr result (AppendsFront (W.contents out.old) (W.contents out.new) (counts_line entries reports)) }
+{
+    put_parts(
+        out,
+        &[
+            Part::Text(b"verified "),
+            Part::Number(entries as u64),
+            Part::Text(b" entries "),
+            Part::Number(reports as u64),
+            Part::Text(b" reports\n"),
+        ],
+    )
+}
+
+fn put_reports<W: Write>(out: &mut W, reports: &[Report]) -> Result<(), WriteFault>
+    ensures ok { OnOk result (Appends (W.contents out.old) (W.contents out.new) (flat_map report_line reports.now)) }
+    ensures err { OnErr result (AppendsFront (W.contents out.old) (W.contents out.new) (flat_map report_line reports.now)) }
+{
+    for report in reports {
+        put_report(out, *report)?;
+    }
+    Ok(())
+}
+
+fn put_report<W: Write>(out: &mut W, report: Report) -> Result<(), WriteFault>
+    ensures ok { OnOk result (Appends (W.contents out.old) (W.contents out.new) (report_line report)) }
+    ensures err { OnErr result (AppendsFront (W.contents out.old) (W.contents out.new) (report_line report)) }
+{
+    put_parts(
+        out,
+        &[
+            Part::Text(b"report "),
+            Part::Number(u64::from(report.number)),
+            Part::Text(b" opened "),
+            position_part(report.opened),
+            Part::Text(b" finished "),
+            Part::Number(report.finished as u64),
+            Part::Text(b"\n"),
+        ],
+    )
+}
+
+// A position, or a dash where there is none.
+fn position_part(position: Option<usize>) -> Part<'static>
+    ensures { part_text result ≡ position_text position }
+{
+    match position {
+        Some(position) => Part::Number(position as u64),
+        None => Part::Text(b"-"),
+    }
+}
