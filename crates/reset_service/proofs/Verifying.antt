@@ -12,9 +12,8 @@ use Rattle.history.specs.Entries.{IsFirstRefused, entered, replayed}
 use Rattle.history.specs.HistoryText.{IsReadAs}
 use Rattle.history.specs.declared.entry.Entry.{Entry}
 use Rattle.history.specs.declared.text.BookFault.{BookFault}
-use Rattle.history.proofs.HistoryReadings.{one_reading}
 use Rattle.reset_service.specs.Meaning.{Meaning, idle_meaning, token_meaning, mutex_meaning, routes_meaning}
-use Rattle.reset_service.specs.Output.{IsJudged, Leaves}
+use Rattle.reset_service.specs.Output.{Leaves}
 use Rattle.reset_service.specs.Verified.{IsAnswered, IsVerification, IsVerified, IsVerifiedFrom, IsVerifiedOf, bad_history_text, not_enabled_text}
 use Rattle.reset_service.specs.Verified.IsAnswered.{not_enabled, allowed}
 use Rattle.reset_service.specs.Verified.IsVerified.{bad_history, is_history}
@@ -132,7 +131,11 @@ module _ {L : Type 0} (app : App L) (from_text : List ℕ → Option L) where
   not_both c es p a some =
       refused_or_allowed c a.left a.before a.rest a.entry a.allowed a.refused (subst (λ xs. IsSome (replayed app from_text c xs)) a.split some)
 
-module _ {L : Type 0} (m : Meaning L) where
+-- no text has two readings
+abbrev pub OneReading : Type 0
+OneReading = (text : List ℕ) (r s : Result (List Entry) BookFault) → IsReadAs text r → IsReadAs text s → r ≡ s
+
+module _ (one_reading : OneReading) {L : Type 0} (m : Meaning L) where
   one_answer : (c : Configuration L) (es : List Entry) (o p : Output) → IsAnswered m c es o → IsAnswered m c es p → o ≡ p
   one_answer c es o p (not_enabled n first is) (not_enabled k other is') =
       is ∙ ap (λ x. (not_enabled_text x, NotEnabled)) (one_refused m.app m.from_text c es n k first other) ∙ sym is'
@@ -158,12 +161,12 @@ module _ {L : Type 0} (m : Meaning L) where
   one_from g history o p (c, boot, verified) (d, other, verified') =
       one_verified d history o p (subst (λ x. IsVerified m x history o) (one_boot m.app g c d boot other) verified) verified'
 
-one_of : (app : AppName) (g : Graph) (history : List ℕ) (o p : Output) → IsVerifiedOf app g history o → IsVerifiedOf app g history p → o ≡ p
-one_of Idle = one_from idle_meaning
-one_of Token = one_from token_meaning
-one_of Mutex = one_from mutex_meaning
-one_of Routes = one_from routes_meaning
+one_of : OneReading → (app : AppName) (g : Graph) (history : List ℕ) (o p : Output) → IsVerifiedOf app g history o → IsVerifiedOf app g history p → o ≡ p
+one_of reading Idle = one_from reading idle_meaning
+one_of reading Token = one_from reading token_meaning
+one_of reading Mutex = one_from reading mutex_meaning
+one_of reading Routes = one_from reading routes_meaning
 
-pub one_verification : (topology history : List ℕ) (o p : Output) → IsVerification topology history o → IsVerification topology history p → o ≡ p
-one_verification topology history =
-    one_judged (λ app g. IsVerifiedOf app g history) (λ app g o p. one_of app g history o p) topology
+pub one_verification : OneReading → (topology history : List ℕ) (o p : Output) → IsVerification topology history o → IsVerification topology history p → o ≡ p
+one_verification reading topology history =
+    one_judged (λ app g. IsVerifiedOf app g history) (λ app g o p. one_of reading app g history o p) topology

@@ -12,6 +12,7 @@ ghost use Rattle.reset_service.specs.declared.status.Purpose.{Purpose};
 ghost use Rattle.reset_service.specs.declared.status.Status.{Status};
 
 use app_interface::Application;
+use history::one_reading_a_text;
 use reset_machine::{completions, invariants, refinement, runs_stay_sound};
 
 /// A topology and a script have at most one output, status included.
@@ -29,7 +30,9 @@ pub fn one_joined_output()
 pub fn one_verification()
     ensures { (topology history : List ℕ) (o p : List ℕ × Status)
         → IsVerification topology history o → IsVerification topology history p → o ≡ p }
-{}
+{
+    one_reading_a_text();
+}
 
 /// Between two faults the lines of a script make a run happen: whatever the configuration, lines of which
 /// none asks for a fault leave exactly what a run of their events leaves, each event answered by its

@@ -18,7 +18,7 @@ use app_interface::{Application, Idle};
 use app_mutex::EdgeReversal;
 use app_routes::Routes;
 use app_token::Token;
-use history::{BookFault, Entry, Report, Summary, VerifyFault, read_book, verify};
+use history::{BookFault, Entry, Report, VerifyFault, read_book, verify};
 use reset_machine::Config;
 use std::alloc::Global;
 use std::io::{Read, Write};
@@ -119,7 +119,7 @@ fn answer_entries<P: Application, W: Write>(
 {
     match verify(alloc, opening, entries) {
         Ok(summary) => {
-            put_summary(out, &summary)?;
+            put_summary(out, summary.entries, &summary.reports)?;
             Ok(Status::Good)
         }
         Err(VerifyFault::NotEnabledAt(position)) => {
@@ -152,13 +152,13 @@ fn put_not_enabled<W: Write>(out: &mut W, position: usize) -> Result<(), WriteFa
     put_numbered(out, b"not enabled at ", position as u64)
 }
 
-// Writes what a history comes to.
-fn put_summary<W: Write>(out: &mut W, summary: &Summary) -> Result<(), WriteFault>
-    ensures ok { OnOk result (Appends (W.contents out.old) (W.contents out.new) (verified_text summary.now.entries summary.now.reports.items)) }
-    ensures err { OnErr result (AppendsFront (W.contents out.old) (W.contents out.new) (verified_text summary.now.entries summary.now.reports.items)) }
+// Writes what a history of so many entries comes to.
+fn put_summary<W: Write>(out: &mut W, entries: usize, reports: &[Report]) -> Result<(), WriteFault>
+    ensures ok { OnOk result (Appends (W.contents out.old) (W.contents out.new) (verified_text entries reports.now)) }
+    ensures err { OnErr result (AppendsFront (W.contents out.old) (W.contents out.new) (verified_text entries reports.now)) }
 {
-    put_reports(out, &summary.reports)?;
-    put_counts(out, summary.entries, summary.reports.len())
+    put_reports(out, reports)?;
+    put_counts(out, entries, reports.len())
 }
 
 fn put_counts<W: Write>(out: &mut W, entries: usize, reports: usize) -> Result<(), WriteFault>
