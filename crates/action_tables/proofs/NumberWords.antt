@@ -1,15 +1,14 @@
--- The words that spell numbers: what `parse` reads of words without a sign or leading zeros.
-use Rattle.std.proofs.Common.{◌≡◌, ℕ, zero, suc, ◌<◌, ◌^◌, ◌⊎◌, inl, inr, List, Result, Ok, Err, IfSome, IfNone, sym, ap, ◌∙◌, subst, arith, rules, length, get_or, IsUtf8}
+-- The words that spell numbers: digits, of which the first is no zero where more follow.
+use Rattle.std.proofs.Common.{◌≡◌, ℕ, zero, suc, ◌+◌, ◌*◌, ◌<◌, ◌≤◌, ◌^◌, ◌⊎◌, inl, inr, List, [], ◌∷◌, Option, Some, None, IfSome, IfNone, refl, sym, ap, ◌∙◌, subst, arith, rules, length, get_or}
+use Rattle.std.specs.Char.{digit_value}
 use Rattle.std.specs.Fmt.{decimal}
-use Rattle.std.specs.Result.{result_ok}
-use Rattle.std.specs.Str.Parse.{AllDigits, digits_value, ParsesUnsigned}
-use Rattle.std.proofs.lemmas.Fmt.{decimal_is_IsNumeral, decimal_digit, decimal-digits_value, first_decimal, IsAscii-decimal}
-use Rattle.std.proofs.lemmas.Str.{IsUtf8-from_ascii}
-use Rattle.std.proofs.lemmas.Str.Parse.{IsNumeralModel, numerals_by_value, tells_digits, parse_plain, digit_at}
+use Rattle.std.specs.Str.Parse.{AllDigits, digits_value, digits_value_after}
+use Rattle.std.proofs.lemmas.Fmt.{decimal_is_IsNumeral, decimal_digit, decimal-digits_value, first_decimal}
+use Rattle.std.proofs.lemmas.Str.Parse.{IsNumeralModel, numerals_by_value, tells_digits}
 
--- a sign or a leading zero begins the word
-abbrev pub HasSignOrZeros : List ℕ → Type 0
-HasSignOrZeros w = (get_or w 0 0 ≡ 43) ⊎ ((get_or w 0 0 ≡ 48) × (1 < length w))
+-- a word is empty, or has a zero before its digits
+abbrev pub IsEmptyOrPadded : List ℕ → Type 0
+IsEmptyOrPadded w = (length w ≡ 0) ⊎ ((get_or w 0 0 ≡ 48) × (1 < length w))
 
 own : IsNumeralModel (AllDigits 10) (digits_value 10)
 own = numerals_by_value (AllDigits 10) tells_digits
@@ -18,35 +17,52 @@ decimal_short : (n : ℕ) → n < 2 ^ 64 → get_or (decimal n) 0 0 ≡ 48 → 1
 decimal_short zero h e long = omega (arith, ap length (decimal_digit 0 (search rules)))
 decimal_short (suc n) h e long = omega (arith, first_decimal (suc n) (search rules) (omega arith))
 
--- no decimal spelling begins so
-pub decimal_plain : (n : ℕ) → n < 2 ^ 32 → HasSignOrZeros (decimal n) → ⊥
-decimal_plain n h (inl sign) =
-    let numeral = (decimal_is_IsNumeral n (omega arith)).0 in
-    omega (arith, digit_at (decimal n) 0 numeral.1 numeral.0)
+-- no decimal spelling is so
+pub decimal_plain : (n : ℕ) → n < 2 ^ 32 → IsEmptyOrPadded (decimal n) → ⊥
+decimal_plain n h (inl none) = omega (arith, none, (decimal_is_IsNumeral n (omega arith)).0.0)
 decimal_plain n h (inr zeros) = decimal_short n (omega arith) zeros.0 zeros.1
 
-pub IsUtf8-decimal : (n : ℕ) → n < 2 ^ 32 → IsUtf8 (decimal n)
-IsUtf8-decimal n h = IsUtf8-from_ascii (decimal n) (IsAscii-decimal n (omega arith))
+-- digits behind a number make it no smaller
+pub after-le : (n : ℕ) (digits : List ℕ) → n ≤ digits_value_after 10 n digits
+after-le n [] = omega arith
+after-le n (c ∷ cs) = omega (arith, after-le (n * 10 + digit_value c) cs)
 
-pub read_found : {E : Type 0} (w : List ℕ) (r : Result ℕ E) → (HasSignOrZeros w → ⊥) → ParsesUnsigned 32 10 w r → IfSome (result_ok r) (λ n. w ≡ decimal n)
-read_found {E = E} w (Ok n) plain h =
-    let read : (AllDigits 10 w × (0 < length w) × (digits_value 10 w < 2 ^ 32)) × (n ≡ digits_value 10 w) =
-    parse_plain own {E = E} 32 w (Ok n) h (λ sign. plain (inl sign)) in
-    let small : digits_value 10 w < 2 ^ 64 = omega arith in
-    let short : get_or w 0 0 ≡ 48 → length w ≡ 1 = λ e. length_one w read.0.1 (λ long. plain (inr (e, long))) in
-    sym (ap decimal read.1 ∙ decimal-digits_value own w read.0.0 read.0.1 short small)
-  where
-    length_one : (w : List ℕ) → 0 < length w → (1 < length w → ⊥) → length w ≡ 1
-    length_one w some h = omega (arith, h)
-read_found w (Err e) plain h = tt
+-- a next digit that makes the number too large makes the whole so
+pub too_large : (n : ℕ) (rest : List ℕ) → 1 ≤ length rest
+    → (digit_value (get_or rest 0 0) < 10 → 2 ^ 32 ≤ n * 10 + digit_value (get_or rest 0 0))
+    → AllDigits 10 rest → 2 ^ 32 ≤ digits_value_after 10 n rest
+too_large n [] some large digits = absurd (omega (arith, some))
+too_large n (c ∷ cs) some large digits = omega (arith, large digits.0, after-le (n * 10 + digit_value c) cs)
 
-pub read_only : {E : Type 0} (w : List ℕ) (r : Result ℕ E) → (HasSignOrZeros w → ⊥) → ParsesUnsigned 32 10 w r → IfNone (result_ok r) ((n : ℕ) → n < 2 ^ 32 → w ≡ decimal n → ⊥)
-read_only w (Ok n) plain h = tt
-read_only {E = E} w (Err e) plain h = λ n small is.
+positive : (n : ℕ) → (n ≡ 0 → ⊥) → 0 < n
+positive zero some = absurd (some refl)
+positive (suc n) some = omega arith
+
+only_one : (n : ℕ) → 0 < n → (1 < n → ⊥) → n ≡ 1
+only_one zero some short = absurd (omega (arith, some))
+only_one (suc zero) some short = refl
+only_one (suc (suc n)) some short = absurd (short (omega arith))
+
+read_found : (w : List ℕ) → (IsEmptyOrPadded w → ⊥) → AllDigits 10 w → digits_value 10 w < 2 ^ 32
+    → w ≡ decimal (digits_value 10 w)
+read_found w plain digits small =
+    let some : 0 < length w = positive (length w) (λ none. plain (inl none)) in
+    let short : get_or w 0 0 ≡ 48 → length w ≡ 1 = λ zero. only_one (length w) some (λ long. plain (inr (zero, long))) in
+    sym (decimal-digits_value own w digits some short (omega (arith, small)))
+
+read_only : (w : List ℕ) → (AllDigits 10 w → 2 ^ 32 ≤ digits_value 10 w) → (n : ℕ) → n < 2 ^ 32 → w ≡ decimal n → ⊥
+read_only w large n small is =
     let numeral = decimal_is_IsNumeral n (omega arith) in
-    let unread = parse_plain own {E = E} 32 w (Err e) h (λ sign. plain (inl sign)) in
-    unread (
-      subst (AllDigits 10) (sym is) numeral.0.1,
-      subst (λ l. 0 < length l) (sym is) numeral.0.0,
-      subst (λ l. digits_value 10 l < 2 ^ 32) (sym is) (omega (arith, numeral.1)),
-    )
+    omega (arith, large (subst (AllDigits 10) (sym is) numeral.0.1), ap (digits_value 10) is, numeral.1)
+
+-- what is read of digits is the number that the word spells
+pub found_number : (w : List ℕ) (r : Option ℕ) → (IsEmptyOrPadded w → ⊥)
+    → IfSome r (λ n. AllDigits 10 w × (n ≡ digits_value 10 w)) → IfSome r (λ n. n < 2 ^ 32) → IfSome r (λ n. w ≡ decimal n)
+found_number w (Some n) plain found small =
+    read_found w plain found.0 (omega (arith, found.1, small)) ∙ ap decimal (sym found.1)
+found_number w None plain found small = tt
+
+pub only_number : (w : List ℕ) (r : Option ℕ) → IfNone r (AllDigits 10 w → 2 ^ 32 ≤ digits_value 10 w)
+    → IfNone r ((n : ℕ) → n < 2 ^ 32 → w ≡ decimal n → ⊥)
+only_number w (Some n) large = tt
+only_number w None large = read_only w large

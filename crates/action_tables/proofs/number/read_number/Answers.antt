@@ -1,22 +1,15 @@
 use Rattle.std.proofs.Common.{subst}
-use Rattle.std.specs.Str.Parse.{ParsesUnsigned}
-use Rattle.action_tables.proofs.NumberWords.{HasSignOrZeros, decimal_plain, IsUtf8-decimal, read_found, read_only}
+use Rattle.action_tables.proofs.NumberWords.{IsEmptyOrPadded, decimal_plain, found_number, only_number}
 use Rattle.action_tables.proofs.number.read_number.Goals as goal
 
-pub returns-then-has_sign_or_zeros-clause-only : goal.returns-then-has_sign_or_zeros-clause-only
-returns-then-has_sign_or_zeros-clause-only c = λ n small is. decimal_plain n small (subst HasSignOrZeros is (c.has_sign_or_zeros.ensures.0 c.if-has_sign_or_zeros.true))
+pub returns-then-is_empty_or_padded-clause-only : goal.returns-then-is_empty_or_padded-clause-only
+returns-then-is_empty_or_padded-clause-only c =
+    λ n small is. decimal_plain n small (subst IsEmptyOrPadded is (c.is_empty_or_padded.ensures.0 c.if-is_empty_or_padded.true))
 
-pub returns-in-Ok-clause-found : goal.returns-in-Ok-clause-found
-returns-in-Ok-clause-found c =
-    let plain : HasSignOrZeros c.args.word.now → ⊥ = λ h. cc (c.if-has_sign_or_zeros.false, c.has_sign_or_zeros.ensures.1 h) in
-    rw c.ok.ensures.value (read_found c.args.word.now c.parse.result plain
-    (subst (λ w. ParsesUnsigned 32 10 w c.parse.result) c.in-Ok.ensures.cases.0 c.parse.ensures.value.0))
+pub returns-clause-found : goal.returns-clause-found
+returns-clause-found c =
+    found_number c.args.word.now c.value_of.result (λ h. cc (c.if-is_empty_or_padded.false, c.is_empty_or_padded.ensures.1 h))
+    c.value_of.ensures.found c.value_of.ensures.small
 
-pub returns-in-Ok-clause-only : goal.returns-in-Ok-clause-only
-returns-in-Ok-clause-only c =
-    let plain : HasSignOrZeros c.args.word.now → ⊥ = λ h. cc (c.if-has_sign_or_zeros.false, c.has_sign_or_zeros.ensures.1 h) in
-    rw c.ok.ensures.value (read_only c.args.word.now c.parse.result plain
-    (subst (λ w. ParsesUnsigned 32 10 w c.parse.result) c.in-Ok.ensures.cases.0 c.parse.ensures.value.0))
-
-pub returns-in-Err-clause-only : goal.returns-in-Err-clause-only
-returns-in-Err-clause-only c = λ n small is. c.in-Err.ensures.cases.0 (rw is (IsUtf8-decimal n small))
+pub returns-clause-only : goal.returns-clause-only
+returns-clause-only c = only_number c.args.word.now c.value_of.result c.value_of.ensures.only
