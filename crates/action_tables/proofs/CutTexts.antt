@@ -1,5 +1,7 @@
 -- The place of a byte, and a text that is cut there.
-use Rattle.std.proofs.Common.{◌≡◌, ℕ, zero, suc, ◌+◌, ◌<◌, ◌≤◌, ◌==◌, Bool, true, false, cond, ltb, true≢false, List, [], ◌∷◌, ◌++◌, length, get_or, take, drop, position, None, Some, refl, sym, ap, ◌∙◌, arith, eq-eqb, eqb-true}
+use Rattle.std.proofs.Common.{◌≡◌, ℕ, zero, suc, ◌+◌, ◌<◌, ◌≤◌, ◌==◌, Bool, true, false, cond, ltb, true≢false, List}
+use Rattle.std.proofs.Common.{[], ◌∷◌, ◌++◌, length, get_or, take, drop, position, None, Some, refl, sym, ap, ◌∙◌}
+use Rattle.std.proofs.Common.{arith, eq-eqb, eqb-true}
 use Rattle.std.specs.List.{position_or_len}
 use Rattle.std.proofs.lemmas.Bool.{ltb-false}
 use Rattle.std.proofs.lemmas.List.{drop_more, take-append-drop}
@@ -11,7 +13,9 @@ use Rattle.action_tables.specs.Cuts.{HasNo}
 -- a text has no byte that it has at no place
 has_no : (byte : ℕ) (xs : List ℕ) → ((k : ℕ) → k < length xs → (get_or xs k 0 == byte) ≡ false) → HasNo byte xs
 has_no byte [] h = tt
-has_no byte (x ∷ xs) h = (λ e. absurd (true≢false (sym (eq-eqb x byte e) ∙ h 0 (omega arith))), has_no byte xs (λ k lt. h (suc k) (omega arith)))
+has_no byte (x ∷ xs) h =
+    (λ e. absurd (true≢false (sym (eq-eqb x byte e) ∙ h 0 (omega arith))), has_no byte xs
+    (λ k lt. h (suc k) (omega arith)))
 
 none_where : (b : Bool) (n : ℕ) → None ≡ cond b (Some n) None → b ≡ false
 none_where true n e = absurd (none-some n e)
@@ -23,16 +27,19 @@ unplaced byte xs none =
     let past : length xs ≤ place = ltb-false place (length xs) (none_where (ltb place (length xs)) place none) in
     has_no byte xs (λ k lt. fails_before_first (λ b. b == byte) xs k 0 (omega (arith, past)))
 
-has_no_before : (byte : ℕ) (xs : List ℕ) (i : ℕ) → ((k : ℕ) → k < i → (get_or xs k 0 == byte) ≡ false) → HasNo byte (take i xs)
+has_no_before : (byte : ℕ) (xs : List ℕ) (i : ℕ) → ((k : ℕ) → k < i → (get_or xs k 0 == byte) ≡ false)
+    → HasNo byte (take i xs)
 has_no_before byte xs zero h = tt
 has_no_before byte [] (suc i) h = tt
 has_no_before byte (x ∷ xs) (suc i) h =
-    (λ e. absurd (true≢false (sym (eq-eqb x byte e) ∙ h 0 (omega arith))), has_no_before byte xs i (λ k lt. h (suc k) (omega arith)))
+    (λ e. absurd (true≢false (sym (eq-eqb x byte e) ∙ h 0 (omega arith))), has_no_before byte xs i
+        (λ k lt. h (suc k) (omega arith)))
 
 pub placed_front : (byte : ℕ) (xs : List ℕ) (i : ℕ) → Some i ≡ position (λ b. b == byte) xs → HasNo byte (take i xs)
 placed_front byte xs i at = has_no_before byte xs i (position-Some (λ b. b == byte) xs i 0 (sym at)).2
 
-pub placed_whole : (byte : ℕ) (xs : List ℕ) (i : ℕ) → Some i ≡ position (λ b. b == byte) xs → xs ≡ take i xs ++ byte ∷ drop (i + 1) xs
+pub placed_whole : (byte : ℕ) (xs : List ℕ) (i : ℕ) → Some i ≡ position (λ b. b == byte) xs
+    → xs ≡ take i xs ++ byte ∷ drop (i + 1) xs
 placed_whole byte xs i at =
     let found = position-Some (λ b. b == byte) xs i 0 (sym at) in
     sym (take-append-drop i xs)

@@ -1,5 +1,6 @@
 -- One write after another, of which the last may have failed.
-use Rattle.std.proofs.Common.{ℕ, List, ◌++◌, Option, Result, Ok, Err, OnOk, OnErr, subst, ◌≡◌, ap, ◌∙◌, append_assoc, sym}
+use Rattle.std.proofs.Common.{ℕ, List, ◌++◌, Option, Result, Ok, Err, OnOk, OnErr, subst, ◌≡◌, ap, ◌∙◌, append_assoc}
+use Rattle.std.proofs.Common.{sym}
 use Rattle.std.specs.Io.KnownBytes.{Appends}
 use Rattle.std.proofs.KnownBytes.{Appends-trans}
 use Rattle.action_tables.specs.Written.{AppendsFront}
@@ -14,7 +15,8 @@ AppendsFront-first a b xs ys h = record {
 }
 
 -- the second of two writes failed
-pub AppendsFront-then : (a b c : Option (List ℕ)) (xs ys : List ℕ) → Appends a b xs → AppendsFront b c ys → AppendsFront a c (xs ++ ys)
+pub AppendsFront-then : (a b c : Option (List ℕ)) (xs ys : List ℕ) → Appends a b xs → AppendsFront b c ys
+    → AppendsFront a c (xs ++ ys)
 AppendsFront-then a b c xs ys p h = record {
   front = xs ++ h.front;
   rest = h.rest;
@@ -28,11 +30,15 @@ OnErr-always (Ok x) Q q = tt
 OnErr-always (Err e) Q q = q
 
 -- two writes make one text, where the second went well
-pub OnOk-then : {T E : Type 0} (r : Result T E) (a b c : Option (List ℕ)) (xs ys zs : List ℕ) → zs ≡ xs ++ ys → Appends a b xs → OnOk r (Appends b c ys) → OnOk r (Appends a c zs)
-OnOk-then (Ok x) a b c xs ys zs is p h = let P : List ℕ → Type 0 = λ l. Appends a c l in subst P (sym is) (Appends-trans a b c xs ys p h)
+pub OnOk-then : {T E : Type 0} (r : Result T E) (a b c : Option (List ℕ)) (xs ys zs : List ℕ) → zs ≡ xs ++ ys
+    → Appends a b xs → OnOk r (Appends b c ys) → OnOk r (Appends a c zs)
+OnOk-then (Ok x) a b c xs ys zs is p h = let P : List ℕ → Type 0 =
+    λ l. Appends a c l in subst P (sym is) (Appends-trans a b c xs ys p h)
 OnOk-then (Err e) a b c xs ys zs is p h = tt
 
 -- two writes make one text, of which a front is written where the second failed
-pub OnErr-then : {T E : Type 0} (r : Result T E) (a b c : Option (List ℕ)) (xs ys zs : List ℕ) → zs ≡ xs ++ ys → Appends a b xs → OnErr r (AppendsFront b c ys) → OnErr r (AppendsFront a c zs)
+pub OnErr-then : {T E : Type 0} (r : Result T E) (a b c : Option (List ℕ)) (xs ys zs : List ℕ) → zs ≡ xs ++ ys
+    → Appends a b xs → OnErr r (AppendsFront b c ys) → OnErr r (AppendsFront a c zs)
 OnErr-then (Ok x) a b c xs ys zs is p h = tt
-OnErr-then (Err e) a b c xs ys zs is p h = let P : List ℕ → Type 0 = λ l. AppendsFront a c l in subst P (sym is) (AppendsFront-then a b c xs ys p h)
+OnErr-then (Err e) a b c xs ys zs is p h = let P : List ℕ → Type 0 =
+    λ l. AppendsFront a c l in subst P (sym is) (AppendsFront-then a b c xs ys p h)

@@ -1,5 +1,6 @@
 -- Texts that are written piece by piece.
-use Rattle.std.proofs.Common.{◌≡◌, ℕ, zero, suc, ◌+◌, ◌<◌, List, [], ◌∷◌, ◌++◌, refl, sym, ap, ◌∙◌, append_assoc, append-nil, add-one, arith, length, take, drop, get_or, Option}
+use Rattle.std.proofs.Common.{◌≡◌, ℕ, zero, suc, ◌+◌, ◌<◌, List, [], ◌∷◌, ◌++◌, refl, sym, ap, ◌∙◌, append_assoc}
+use Rattle.std.proofs.Common.{append-nil, add-one, arith, length, take, drop, get_or, Option}
 use Rattle.std.specs.List.{flat_map}
 use Rattle.std.specs.Io.KnownBytes.{Appends}
 use Rattle.std.proofs.KnownBytes.{Appends-trans}
@@ -10,10 +11,12 @@ pub flat_map_at : {X : Type 0} (f : X → List ℕ) (xs : List X) (i : ℕ) (d :
     → flat_map f xs ≡ flat_map f (take i xs) ++ (f (get_or xs i d) ++ flat_map f (drop (suc i) xs))
 flat_map_at f [] i d h = absurd (omega arith)
 flat_map_at f (x ∷ xs) zero d h = refl
-flat_map_at f (x ∷ xs) (suc i) d h = ap (λ l. f x ++ l) (flat_map_at f xs i d (omega arith)) ∙ sym (append_assoc (f x) _ _)
+flat_map_at f (x ∷ xs) (suc i) d h =
+    ap (λ l. f x ++ l) (flat_map_at f xs i d (omega arith)) ∙ sym (append_assoc (f x) _ _)
 
 -- the pieces before the i-th were written, and the i-th failed
-pub AppendsFront-piece : {X : Type 0} (a b c : Option (List ℕ)) (f : X → List ℕ) (xs : List X) (i : ℕ) (d : X) → i < length xs
+pub AppendsFront-piece : {X : Type 0} (a b c : Option (List ℕ)) (f : X → List ℕ) (xs : List X) (i : ℕ) (d : X)
+    → i < length xs
     → Appends a b (flat_map f (take i xs)) → AppendsFront b c (f (get_or xs i d)) → AppendsFront a c (flat_map f xs)
 AppendsFront-piece a b c f xs i d h before here =
     rw (flat_map_at f xs i d h)
@@ -21,13 +24,18 @@ AppendsFront-piece a b c f xs i d h before here =
     (AppendsFront-first b c (f (get_or xs i d)) (flat_map f (drop (suc i) xs)) here))
 
 -- one piece more
-pub flat_map_next : {X : Type 0} (f : X → List ℕ) (xs : List X) (i : ℕ) (d : X) → i < length xs → flat_map f (take (suc i) xs) ≡ flat_map f (take i xs) ++ f (get_or xs i d)
+pub flat_map_next : {X : Type 0} (f : X → List ℕ) (xs : List X) (i : ℕ) (d : X) → i < length xs
+    → flat_map f (take (suc i) xs) ≡ flat_map f (take i xs) ++ f (get_or xs i d)
 flat_map_next f [] i d h = absurd (omega arith)
 flat_map_next f (x ∷ xs) zero d h = append-nil (f x)
-flat_map_next f (x ∷ xs) (suc i) d h = ap (λ l. f x ++ l) (flat_map_next f xs i d (omega arith)) ∙ sym (append_assoc (f x) _ _)
+flat_map_next f (x ∷ xs) (suc i) d h =
+    ap (λ l. f x ++ l) (flat_map_next f xs i d (omega arith)) ∙ sym (append_assoc (f x) _ _)
 
 -- the pieces before the i-th were written, and then the i-th
-pub Appends-piece : {X : Type 0} (a b c : Option (List ℕ)) (f : X → List ℕ) (xs : List X) (i : ℕ) (d : X) → i < length xs
-    → Appends a b (flat_map f (take i xs)) → Appends b c (f (get_or xs i d)) → Appends a c (flat_map f (take (i + 1) xs))
+pub Appends-piece : {X : Type 0} (a b c : Option (List ℕ)) (f : X → List ℕ) (xs : List X) (i : ℕ) (d : X)
+    → i < length xs
+    → Appends a b (flat_map f (take i xs)) → Appends b c (f (get_or xs i d))
+        → Appends a c (flat_map f (take (i + 1) xs))
 Appends-piece a b c f xs i d h before here =
-    rw (add-one, flat_map_next f xs i d h) (Appends-trans a b c (flat_map f (take i xs)) (f (get_or xs i d)) before here)
+    rw (add-one, flat_map_next f xs i d h)
+        (Appends-trans a b c (flat_map f (take i xs)) (f (get_or xs i d)) before here)

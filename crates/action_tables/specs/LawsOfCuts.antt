@@ -27,7 +27,8 @@ first_of x y xs ys e = cc
 rest_of : (x y : ℕ) (xs ys : List ℕ) → ◌≡◌ {A = List ℕ} (x ∷ xs) (y ∷ ys) → xs ≡ ys
 rest_of x y xs ys e = cc
 
-pub same_cut : (byte : ℕ) (xs xs' ys ys' : List ℕ) → HasNo byte xs → HasNo byte xs' → xs ++ byte ∷ ys ≡ xs' ++ byte ∷ ys' → SameCut xs xs' ys ys'
+pub same_cut : (byte : ℕ) (xs xs' ys ys' : List ℕ) → HasNo byte xs → HasNo byte xs'
+    → xs ++ byte ∷ ys ≡ xs' ++ byte ∷ ys' → SameCut xs xs' ys ys'
 same_cut byte [] [] ys ys' none none' e = record { front = refl; back = rest_of byte byte ys ys' e }
 same_cut byte [] (x ∷ xs') ys ys' none none' e = absurd (none'.0 (sym (first_of byte x ys (xs' ++ byte ∷ ys') e)))
 same_cut byte (x ∷ xs) [] ys ys' none none' e = absurd (none.0 (first_of x byte (xs ++ byte ∷ ys) ys' e))
@@ -43,7 +44,9 @@ pub record SameParts (xs xs' ys ys' zs zs' : List ℕ) : Type 0 where
   pub third : zs ≡ zs'
 
 -- a text in three parts that are joined by a byte, cut at the first such byte
-module _ (byte : ℕ) (xs ys zs text first rest : List ℕ) (none : HasNo byte xs) (joined : xs ++ byte ∷ (ys ++ byte ∷ zs) ≡ text) (cut : text ≡ first ++ byte ∷ rest) (none' : HasNo byte first) where
+module _ (byte : ℕ) (xs ys zs text first rest : List ℕ) (none : HasNo byte xs)
+    (joined : xs ++ byte ∷ (ys ++ byte ∷ zs) ≡ text) (cut : text ≡ first ++ byte ∷ rest) (none' : HasNo byte first)
+    where
   at_first : SameCut xs first (ys ++ byte ∷ zs) rest
   at_first = same_cut byte xs first (ys ++ byte ∷ zs) rest none none' (joined ∙ cut)
 
@@ -52,14 +55,16 @@ module _ (byte : ℕ) (xs ys zs text first rest : List ℕ) (none : HasNo byte x
   has_second none'' = has_byte byte ys zs (subst (HasNo byte) (sym at_first.back) none'')
 
   -- cut at the next one, it has the three parts
-  pub same_parts : (second third : List ℕ) → HasNo byte ys → rest ≡ second ++ byte ∷ third → HasNo byte second → SameParts xs first ys second zs third
+  pub same_parts : (second third : List ℕ) → HasNo byte ys → rest ≡ second ++ byte ∷ third → HasNo byte second
+      → SameParts xs first ys second zs third
   same_parts second third none-ys cut' none-second =
       let at_second = same_cut byte ys second zs third none-ys none-second (at_first.back ∙ cut') in
       record { first = at_first.front; second = at_second.front; third = at_second.back }
 
 no_such_digit : (byte : ℕ) (ds : List ℕ) → (IsInRange 48 57 byte → ⊥) → AllDigits 10 ds → HasNo byte ds
 no_such_digit byte [] other h = tt
-no_such_digit byte (d ∷ ds) other h = (λ e. other (subst (IsInRange 48 57) e (digit_from_value d h.0)), no_such_digit byte ds other h.1)
+no_such_digit byte (d ∷ ds) other h =
+    (λ e. other (subst (IsInRange 48 57) e (digit_from_value d h.0)), no_such_digit byte ds other h.1)
 
 -- the digits of a number are from 48 to 57
 pub HasNo-decimal : (byte n : ℕ) → (IsInRange 48 57 byte → ⊥) → n < 2 ^ 64 → HasNo byte (decimal n)

@@ -1,5 +1,6 @@
 -- The numbers of some bits give the bits back.
-use Rattle.std.proofs.Common.{◌≡◌, ◌≢◌, ℕ, zero, suc, ◌+◌, ◌-◌, ◌^◌, ◌<◌, ◌≤◌, Bool, true, false, ◌==◌, ◌||◌, ◌&&◌, cond, List, [], ◌∷◌, ⊎_elim, refl, sym, ap, ◌∙◌, max, arith}
+use Rattle.std.proofs.Common.{◌≡◌, ◌≢◌, ℕ, zero, suc, ◌+◌, ◌-◌, ◌^◌, ◌<◌, ◌≤◌, Bool, true, false, ◌==◌, ◌||◌, ◌&&◌}
+use Rattle.std.proofs.Common.{cond, List, [], ◌∷◌, ⊎_elim, refl, sym, ap, ◌∙◌, max, arith}
 use Rattle.std.specs.Int.{bit_at}
 use Rattle.std.specs.List.{filter, range_with_len}
 use Rattle.std.proofs.lemmas.Bool.{eqb-true}
@@ -7,7 +8,8 @@ use Rattle.std.proofs.lemmas.Bool.Decides.{eqb_tells}
 use Rattle.std.proofs.lemmas.Map.Views.{any-filter_same}
 use Rattle.std.proofs.lemmas.Nat.{or_lt}
 use Rattle.std.proofs.Math.Pow.{pow-lt}
-use Rattle.std.proofs.lemmas.Nat.Bits.{bit_at-zero, bit_at-lt, bit_at_or, bit_at-pow_same, bit_at-pow_other, same_from_bits_below}
+use Rattle.std.proofs.lemmas.Nat.Bits.{bit_at-zero, bit_at-lt, bit_at_or, bit_at-pow_same, bit_at-pow_other}
+use Rattle.std.proofs.lemmas.Nat.Bits.{same_from_bits_below}
 use Rattle.action_tables.specs.declared.case_set.CaseSet.TheInside.{Inside}
 use Rattle.action_tables.specs.Numbers.{has_bit, is_among, all_cases, numbers_of, bits_of}
 
@@ -29,7 +31,8 @@ each_kept P p (x ∷ xs) h =
 
 are_cases : (a k : ℕ) → 1 ≤ a → a + k ≤ 17 → Each IsCase (range_with_len a k)
 are_cases a zero low high = tt
-are_cases a (suc k) low high = (record { first = low; last = omega arith }, are_cases (a + 1) k (omega arith) (omega arith))
+are_cases a (suc k) low high =
+    (record { first = low; last = omega arith }, are_cases (a + 1) k (omega arith) (omega arith))
 
 pub every_case : Each IsCase all_cases
 unfolding all_cases
@@ -38,7 +41,9 @@ every_case = are_cases 1 16 (omega arith) (omega arith)
 in_range : (a k n : ℕ) → a ≤ n → n < a + k → is_among n (range_with_len a k) ≡ true
 in_range a zero n low high = absurd (omega arith)
 in_range a (suc k) n low high =
-    ⊎_elim (λ same. rw same.0) (λ other. let ne : a ≢ n = other.1 in rw (other.0, in_range (a + 1) k n (omega arith) (omega arith))) (eqb_tells a n)
+    ⊎_elim (λ same. rw same.0)
+        (λ other. let ne : a ≢ n = other.1 in rw (other.0, in_range (a + 1) k n (omega arith) (omega arith)))
+        (eqb_tells a n)
 
 -- which of 1 to 16 a filter of them leaves
 pub is_among-filter : (p : ℕ → Bool) (n : ℕ) → IsCase n → is_among n (filter p all_cases) ≡ p n
@@ -65,17 +70,20 @@ bit_at-bits_of (n ∷ ns) i h =
     (λ same.
     let at : i ≡ n - 1 = omega (arith, same.1) in
     let one : bit_at (2 ^ (n - 1)) i ≡ 1 = ap (bit_at (2 ^ (n - 1))) at ∙ bit_at-pow_same (n - 1) in
-    ap (λ x. max x (bit_at (bits_of ns) i)) one ∙ max_one _ (bit_at-lt (bits_of ns) i) ∙ sym (ap (λ b. cond (b || is_among (i + 1) ns) 1 0) same.0))
+    ap (λ x. max x (bit_at (bits_of ns) i)) one ∙ max_one _ (bit_at-lt (bits_of ns) i)
+        ∙ sym (ap (λ b. cond (b || is_among (i + 1) ns) 1 0) same.0))
     (λ other.
     let ne : n ≢ i + 1 = other.1 in
     let none : bit_at (2 ^ (n - 1)) i ≡ 0 = bit_at-pow_other (n - 1) i (λ e. ne (omega arith)) in
-    ap (λ x. max x (bit_at (bits_of ns) i)) none ∙ max_zero _ ∙ rest ∙ sym (ap (λ b. cond (b || is_among (i + 1) ns) 1 0) other.0))
+    ap (λ x. max x (bit_at (bits_of ns) i)) none ∙ max_zero _ ∙ rest
+        ∙ sym (ap (λ b. cond (b || is_among (i + 1) ns) 1 0) other.0))
     (eqb_tells n (i + 1))
 
 bits_of-lt : (ns : List ℕ) → Each IsCase ns → bits_of ns < 2 ^ 16
 unfolding bits_of
 bits_of-lt [] h = omega arith
-bits_of-lt (n ∷ ns) h = or_lt 16 (2 ^ (n - 1)) (bits_of ns) (pow-lt {i = n - 1} {j = 16} (omega (arith, h.0.last))) (bits_of-lt ns h.1)
+bits_of-lt (n ∷ ns) h =
+    or_lt 16 (2 ^ (n - 1)) (bits_of ns) (pow-lt {i = n - 1} {j = 16} (omega (arith, h.0.last))) (bits_of-lt ns h.1)
 
 cond_bit : (b : ℕ) → b < 2 → cond (b == 1) 1 0 ≡ b
 cond_bit zero h = refl
@@ -89,7 +97,8 @@ bits_of-numbers_of s h =
     same_from_bits_below 16 (bits_of (numbers_of s)) s (bits_of-lt (numbers_of s) cases) h (λ i small.
     let place : (i + 1) - 1 ≡ i = omega arith in
     bit_at-bits_of (numbers_of s) i cases
-    ∙ ap (λ b. cond b 1 0) (is_among-filter (λ n. has_bit s n) (i + 1) (record { first = omega arith; last = omega arith }))
+    ∙ ap (λ b. cond b 1 0)
+        (is_among-filter (λ n. has_bit s n) (i + 1) (record { first = omega arith; last = omega arith }))
     ∙ ap (λ k. cond (bit_at s k == 1) 1 0) place
     ∙ cond_bit (bit_at s i) (bit_at-lt s i))
 

@@ -28,14 +28,16 @@ enabled_of rows = map (λ row. row.number) (filter (λ row. row.holds) rows)
 abbrev pub fired_of : {T E : Type 0} → E → E → List (Row (Result T E)) → ℕ → Result T E
 fired_of no_such_case not_enabled [] n = Err no_such_case
 fired_of no_such_case not_enabled (row ∷ rows) n =
-    if row.number == n then (if row.holds then row.does else Err not_enabled) else fired_of no_such_case not_enabled rows n
+    if row.number == n then (if row.holds then row.does else Err not_enabled) else fired_of no_such_case not_enabled
+        rows n
 
 abbrev pub printed : {E : Type 0} → Row E → PrintedRow
 printed row = record { number = row.number; name = row.name; guard = row.guard; effect = row.effect }
 
 -- NUMBER NAME | GUARD | EFFECT, and the end of the line
 abbrev pub row_line : PrintedRow → List ℕ
-row_line row = decimal row.number ++ codes " " ++ row.name ++ codes " | " ++ row.guard ++ codes " | " ++ row.effect ++ codes "\n"
+row_line row =
+    decimal row.number ++ codes " " ++ row.name ++ codes " | " ++ row.guard ++ codes " | " ++ row.effect ++ codes "\n"
 
 abbrev pub title_line : List ℕ → List ℕ
 title_line title = codes "table " ++ title ++ codes "\n"

@@ -47,8 +47,10 @@ pub fn put_list<W: Write, T: ListItem>(out: &mut W, items: &[T]) -> Result<(), W
 
 // Writes each item after a comma.
 fn put_more<W: Write, T: ListItem>(out: &mut W, items: &[T]) -> Result<(), WriteFault>
-    ensures ok { OnOk result (Appends (W.contents out.old) (W.contents out.new) (flat_map (λ item. 44 ∷ T.text item) items.now)) }
-    ensures err { OnErr result (AppendsFront (W.contents out.old) (W.contents out.new) (flat_map (λ item. 44 ∷ T.text item) items.now)) }
+    ensures ok { OnOk result
+        (Appends (W.contents out.old) (W.contents out.new) (flat_map (λ item. 44 ∷ T.text item) items.now)) }
+    ensures err { OnErr result
+        (AppendsFront (W.contents out.old) (W.contents out.new) (flat_map (λ item. 44 ∷ T.text item) items.now)) }
 {
     for item in items {
         put_after_comma(out, item)?;

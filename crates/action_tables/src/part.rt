@@ -67,8 +67,10 @@ fn put_cases_above<W: Write>(
     number: u8,
     cases: &[u8],
 ) -> Result<(), WriteFault>
-    ensures ok { OnOk result (Appends (W.contents out.old) (W.contents out.new) (flat_map (case_above set number) cases.now)) }
-    ensures err { OnErr result (AppendsFront (W.contents out.old) (W.contents out.new) (flat_map (case_above set number) cases.now)) }
+    ensures ok { OnOk result
+        (Appends (W.contents out.old) (W.contents out.new) (flat_map (case_above set number) cases.now)) }
+    ensures err { OnErr result
+        (AppendsFront (W.contents out.old) (W.contents out.new) (flat_map (case_above set number) cases.now)) }
 {
     for case in cases {
         put_case_above(out, set, number, *case)?;

@@ -24,8 +24,10 @@ pub fn print_rows<W: Write>(
     rows: &[CaseRow<'_>],
     out: &mut W,
 ) -> Result<(), WriteFault>
-    ensures ok { OnOk result (Appends (W.contents out.old) (W.contents out.new) (table_text title.now (map as_printed rows.now))) }
-    ensures err { OnErr result (AppendsFront (W.contents out.old) (W.contents out.new) (table_text title.now (map as_printed rows.now))) }
+    ensures ok { OnOk result
+        (Appends (W.contents out.old) (W.contents out.new) (table_text title.now (map as_printed rows.now))) }
+    ensures err { OnErr result
+        (AppendsFront (W.contents out.old) (W.contents out.new) (table_text title.now (map as_printed rows.now))) }
 {
     print_title(title, out)?;
     for row in rows {
@@ -50,7 +52,8 @@ fn print_title<W: Write>(title: &str, out: &mut W) -> Result<(), WriteFault>
 
 fn print_row<W: Write>(row: &CaseRow<'_>, out: &mut W) -> Result<(), WriteFault>
     ensures ok { OnOk result (Appends (W.contents out.old) (W.contents out.new) (row_line (as_printed row.now))) }
-    ensures err { OnErr result (AppendsFront (W.contents out.old) (W.contents out.new) (row_line (as_printed row.now))) }
+    ensures err { OnErr result
+        (AppendsFront (W.contents out.old) (W.contents out.new) (row_line (as_printed row.now))) }
 {
     put_parts(
         out,

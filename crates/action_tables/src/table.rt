@@ -16,7 +16,8 @@ macro_rules! enabled_cases {
 /// refusal of a number that no row has, and that of a row whose guard doesn't hold.
 #[macro_export]
 macro_rules! fire_case {
-    (($case:expr, $no_such_case:expr, $not_enabled:expr) $($number:literal $name:literal | $asks:literal | $effects:literal : $guard:expr => $effect:expr;)*) => {
+    (($case:expr, $no_such_case:expr, $not_enabled:expr)
+        $($number:literal $name:literal | $asks:literal | $effects:literal : $guard:expr => $effect:expr;)*) => {
         match $case {
             $($number => {
                 if $guard {

@@ -1,5 +1,6 @@
 -- What texts spell, where they are the texts of numbers, of parts and of lists.
-use Rattle.std.proofs.Common.{◌≡◌, ℕ, zero, suc, ◌+◌, ◌<◌, ◌^◌, ◌%◌, eqb, ltb, Bool, true, false, List, [], ◌∷◌, ◌++◌, All, map, length, get_or, refl, sym, subst, ap, ap₂, ◌∙◌, arith, eq-eqb, ne_eqb}
+use Rattle.std.proofs.Common.{◌≡◌, ℕ, zero, suc, ◌+◌, ◌<◌, ◌^◌, ◌%◌, eqb, ltb, Bool, true, false, List, [], ◌∷◌, ◌++◌}
+use Rattle.std.proofs.Common.{All, map, length, get_or, refl, sym, subst, ap, ap₂, ◌∙◌, arith, eq-eqb, ne_eqb}
 use Rattle.std.specs.Bool.{Decides}
 use Rattle.std.specs.Fmt.{decimal}
 use Rattle.std.specs.List.{AllByRecursion, join_with_byte, slice_split, list_all}
@@ -21,7 +22,8 @@ use Rattle.app_interface.specs.Ids.{ascends, is_id}
 -- ---- numbers
 
 pub number_of-decimal : (n : ℕ) → n < 2 ^ 32 → number_of (decimal n) ≡ n
-number_of-decimal n small = ap (λ v. v % 2 ^ 32) ((decimal_is_IsNumeral n (omega (arith, small))).1) ∙ mod-eq_of_lt small
+number_of-decimal n small =
+    ap (λ v. v % 2 ^ 32) ((decimal_is_IsNumeral n (omega (arith, small))).1) ∙ mod-eq_of_lt small
 
 -- ---- parts
 
@@ -79,7 +81,8 @@ module _ {X : Type 0} {IsItem : X → Type 0} {text : X → List ℕ} (spells : 
 pub is_id_tells : (n : ℕ) → Decides (is_id n) (IsId n)
 is_id_tells n =
     let both = Decides-and (ltb 0 n) (ltb n 65536) (Decides-ltb 0 n) (Decides-ltb n 65536) in
-    (λ e. let p = both.0 e in record { positive = p.0; small = omega (arith, p.1) }, λ id. both.1 (id.positive, omega (arith, id.small)))
+    (λ e. let p = both.0 e in record { positive = p.0; small = omega (arith, p.1) }, λ id. both.1
+        (id.positive, omega (arith, id.small)))
 
 pub ids_tell : (ns : List ℕ) → Decides (list_all is_id ns) (All IsId ns)
 ids_tell = Decides-by_and is_id IsId (list_all is_id) is_id_tells refl (λ _ _. refl)
@@ -89,14 +92,17 @@ ascends_tells [] = (λ e k lt. absurd (omega (arith, lt)), λ up. refl)
 ascends_tells (n ∷ []) = (λ e k lt. absurd (omega (arith, lt)), λ up. refl)
 ascends_tells (m ∷ n ∷ ns) =
     let both = Decides-and (ltb m n) (ascends (n ∷ ns)) (Decides-ltb m n) (ascends_tells (n ∷ ns)) in
-    (λ e. let p = both.0 e in rising p.0 p.1, λ up. both.1 (up 0 (omega arith), λ k lt. tail k (up (suc k) (omega (arith, lt)))))
+    (λ e. let p = both.0 e in rising p.0 p.1, λ up. both.1
+        (up 0 (omega arith), λ k lt. tail k (up (suc k) (omega (arith, lt)))))
   where
     after : (k : ℕ) → suc (k + 1) ≡ suc k + 1
     after k = omega arith
 
-    tail : (k : ℕ) → get_or (n ∷ ns) k 0 < get_or (m ∷ n ∷ ns) (suc k + 1) 0 → get_or (n ∷ ns) k 0 < get_or (n ∷ ns) (k + 1) 0
+    tail : (k : ℕ) → get_or (n ∷ ns) k 0 < get_or (m ∷ n ∷ ns) (suc k + 1) 0
+        → get_or (n ∷ ns) k 0 < get_or (n ∷ ns) (k + 1) 0
     tail k less = subst (λ i. get_or (n ∷ ns) k 0 < get_or (m ∷ n ∷ ns) i 0) (sym (after k)) less
 
     rising : m < n → IsStrictlyIncreasing (n ∷ ns) → IsStrictlyIncreasing (m ∷ n ∷ ns)
     rising less up zero lt = less
-    rising less up (suc k) lt = subst (λ i. get_or (n ∷ ns) k 0 < get_or (m ∷ n ∷ ns) i 0) (after k) (up k (omega (arith, lt)))
+    rising less up (suc k) lt =
+        subst (λ i. get_or (n ∷ ns) k 0 < get_or (m ∷ n ∷ ns) i 0) (after k) (up k (omega (arith, lt)))

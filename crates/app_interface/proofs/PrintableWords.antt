@@ -1,5 +1,6 @@
 -- Which texts are one word of a line.
-use Rattle.std.proofs.Common.{◌≡◌, ℕ, ◌<◌, ◌≤◌, ◌^◌, leb, inl, inr, ◌&&◌, true, List, [], ◌∷◌, ◌++◌, All, map, length, refl, ap, ap₂, ◌∙◌, arith}
+use Rattle.std.proofs.Common.{◌≡◌, ℕ, ◌<◌, ◌≤◌, ◌^◌, leb, inl, inr, ◌&&◌, true, List, [], ◌∷◌, ◌++◌, All, map, length}
+use Rattle.std.proofs.Common.{refl, ap, ap₂, ◌∙◌, arith}
 use Rattle.std.specs.Char.{digit_value, is_ascii_graphic}
 use Rattle.std.specs.Fmt.{decimal}
 use Rattle.std.specs.List.{AllByRecursion, join_with_byte, list_all}
@@ -12,7 +13,8 @@ use Rattle.std.proofs.lemmas.Str.Parse.{digit_from_value}
 use Rattle.action_tables.specs.Lists.{list_text}
 use Rattle.app_interface.specs.PrintableWord.{IsPrintableWord}
 
-pub IsPrintableWord-append : (xs ys : List ℕ) → IsPrintableWord xs → list_all is_ascii_graphic ys ≡ true → IsPrintableWord (xs ++ ys)
+pub IsPrintableWord-append : (xs ys : List ℕ) → IsPrintableWord xs → list_all is_ascii_graphic ys ≡ true
+    → IsPrintableWord (xs ++ ys)
 IsPrintableWord-append [] ys word more = absurd (word.0 refl)
 IsPrintableWord-append (x ∷ xs) ys word more = (
   (λ e. absurd (omega (arith, ap length e))),
@@ -40,18 +42,21 @@ IsPrintableWord-decimal n small =
 
 -- ---- words joined by a byte, and lists
 
-pub IsPrintableWord-joined : (byte : ℕ) (word : List ℕ) (words : List (List ℕ)) → is_ascii_graphic byte ≡ true → AllByRecursion IsPrintableWord (word ∷ words)
+pub IsPrintableWord-joined : (byte : ℕ) (word : List ℕ) (words : List (List ℕ)) → is_ascii_graphic byte ≡ true
+    → AllByRecursion IsPrintableWord (word ∷ words)
     → IsPrintableWord (join_with_byte byte (word ∷ words))
 IsPrintableWord-joined byte word [] is all = all.0
 IsPrintableWord-joined byte word (next ∷ words) is all =
     IsPrintableWord-append word (byte ∷ join_with_byte byte (next ∷ words)) all.0
     (ap₂ (λ a b. a && b) is (IsPrintableWord-joined byte next words is all.1).1)
 
-module _ {X : Type 0} (IsItem : X → Type 0) (text : X → List ℕ) (word : (x : X) → IsItem x → IsPrintableWord (text x)) where
+module _ {X : Type 0} (IsItem : X → Type 0) (text : X → List ℕ) (word : (x : X) → IsItem x → IsPrintableWord (text x))
+    where
   texts : (xs : List X) → AllByRecursion IsItem xs → AllByRecursion IsPrintableWord (map text xs)
   texts [] all = tt
   texts (x ∷ xs) all = (word x all.0, texts xs all.1)
 
   pub IsPrintableWord-list : (xs : List X) → All IsItem xs → IsPrintableWord (list_text text xs)
   IsPrintableWord-list [] all = ((λ e. absurd (omega (arith, ap length e))), refl)
-  IsPrintableWord-list (x ∷ xs) all = IsPrintableWord-joined 44 (text x) (map text xs) refl (texts (x ∷ xs) (recursion_from_All IsItem (x ∷ xs) all))
+  IsPrintableWord-list (x ∷ xs) all =
+      IsPrintableWord-joined 44 (text x) (map text xs) refl (texts (x ∷ xs) (recursion_from_All IsItem (x ∷ xs) all))

@@ -1,5 +1,6 @@
 -- Laws of the application without cases.
-use Rattle.std.proofs.Common.{◌≡◌, ◌↔◌, ℕ, ◌≤◌, Bool, true, false, true≢false, cond, List, Option, None, Some, length, refl, sym, ap, arith}
+use Rattle.std.proofs.Common.{◌≡◌, ◌↔◌, ℕ, ◌≤◌, Bool, true, false, true≢false, cond, List, Option, None, Some, length}
+use Rattle.std.proofs.Common.{refl, sym, ap, arith}
 use Rattle.std.specs.Prelude.{codes}
 use Rattle.std.specs.Str.{bytes_eq}
 use Rattle.std.proofs.lemmas.Slice.Eq.{bytes_eq-Decides}
@@ -24,9 +25,11 @@ idle_cases = record {
 
 -- one local state a text
 pub one_idle_text : (t : List ℕ) (local : Unit {0}) → (idle_from_text t ≡ Some local ↔ Unit {0} × (codes "-" ≡ t))
-one_idle_text t tt = (λ e. (tt, dash (bytes_eq (codes "-") t) refl e), λ p. rw ((bytes_eq-Decides (codes "-") t).1 p.1) refl)
+one_idle_text t tt =
+    (λ e. (tt, dash (bytes_eq (codes "-") t) refl e), λ p. rw ((bytes_eq-Decides (codes "-") t).1 p.1) refl)
   where
-    dash : (b : Bool) → bytes_eq (codes "-") t ≡ b → ◌≡◌ {A = Option (Unit {0})} (cond b (Some tt) None) (Some tt) → codes "-" ≡ t
+    dash : (b : Bool) → bytes_eq (codes "-") t ≡ b → ◌≡◌ {A = Option (Unit {0})} (cond b (Some tt) None) (Some tt)
+        → codes "-" ≡ t
     dash true is e = (bytes_eq-Decides (codes "-") t).0 is
     dash false is e = absurd (none-some tt e)
 

@@ -2,7 +2,8 @@
 use Rattle.std.specs.Prelude.{◌≡◌, ℕ, ◌-◌, ◌<◌, List, [], ◌∷◌, ◌++◌, length, slice_index}
 
 -- the piece spells an item, which goes to the end of the list
-pub record ReadsOn {X : Type 0} (Are : List X → Type 0) (text : X → List ℕ) (old : List X) (piece : List ℕ) (new : List X) : Type 0 where
+pub record ReadsOn {X : Type 0} (Are : List X → Type 0) (text : X → List ℕ) (old : List X) (piece : List ℕ)
+    (new : List X) : Type 0 where
   pub item : X
   pub spelled : piece ≡ text item
   pub pushed : new ≡ old ++ item ∷ []

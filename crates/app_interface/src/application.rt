@@ -1,5 +1,6 @@
 // The trait of applications.
-ghost use Rattle.std.specs.Prelude.{◌≡◌, ℕ, ◌≤◌, ◌↔◌, List, Option, None, Some, Err, IsTrue, IfOk, IfSome, OnOk, OnErr, is_some, length, option_map, slice_get};
+ghost use Rattle.std.specs.Prelude.{◌≡◌, ℕ, ◌≤◌, ◌↔◌, List, Option, None, Some, Err, IsTrue, IfOk, IfSome, OnOk, OnErr};
+ghost use Rattle.std.specs.Prelude.{is_some, length, option_map, slice_get};
 ghost use Rattle.std.specs.Io.KnownBytes.{Appends};
 ghost use Rattle.action_tables.specs.Written.{AppendsFront};
 ghost use Rattle.app_interface.specs.Application.{App};
@@ -57,7 +58,8 @@ pub trait Application: Send + Sync {
 
     /// The declared start state of the node at this index, and any where no node has it.
     fn on_start(alloc: Global, topology: &Topology, index: usize) -> Result<Self::Local, AllocError>
-        ensures { IfSome (slice_get topology.now.ids index) (λ id. IfOk result (λ local. local ≡ app.start topology.now id)) };
+        ensures { IfSome (slice_get topology.now.ids index)
+            (λ id. IfOk result (λ local. local ≡ app.start topology.now id)) };
 
     /// Whether the case is enabled, where `seen` holds the neighbours that it reads, ascending.
     fn can(
@@ -79,7 +81,8 @@ pub trait Application: Send + Sync {
         seen: &[Seen<'_, Self::Local>],
     ) -> Result<Self::Local, ClockRefusal>
         ensures ok { IfOk result (λ new. app.next here.id here.k case with own.now (seen_values seen.now) ≡ Some new) }
-        ensures not_enabled { result ≡ Err ClockRefusal.NotEnabled ↔ app.next here.id here.k case with own.now (seen_values seen.now) ≡ None };
+        ensures not_enabled { result ≡ Err ClockRefusal.NotEnabled
+            ↔ app.next here.id here.k case with own.now (seen_values seen.now) ≡ None };
 
     /// The least failing row of the link table, asked at this node of its link to `other`. None where
     /// the link is good.
@@ -112,7 +115,8 @@ pub trait Application: Send + Sync {
     ghost are_cases: { AreCases app.count names app.reads };
 
     // A text is that of one local state, or of none.
-    ghost one_text: { (t : List ℕ) (local : Self.Local) → (from_text t ≡ Some local ↔ IsLocal local × (text local ≡ t)) };
+    ghost one_text: { (t : List ℕ) (local : Self.Local)
+        → (from_text t ≡ Some local ↔ IsLocal local × (text local ≡ t)) };
 
     // The text of a local state is one word of a line, of printable bytes.
     ghost one_word: { (local : Self.Local) → IsLocal local → IsPrintableWord (text local) };

@@ -1,5 +1,6 @@
 -- A text is that of one local state, or of none.
-use Rattle.std.proofs.Common.{◌≡◌, ◌↔◌, ℕ, ◌-◌, ◌==◌, Bool, true, false, List, Some, length, get_or, refl, sym, ap, ◌∙◌, arith}
+use Rattle.std.proofs.Common.{◌≡◌, ◌↔◌, ℕ, ◌-◌, ◌==◌, Bool, true, false, List, Some, length, get_or, refl, sym, ap, ◌∙◌}
+use Rattle.std.proofs.Common.{arith}
 use Rattle.std.specs.List.{Contains}
 use Rattle.app_interface.specs.PrintableWord.{IsPrintableWord}
 use Rattle.app_interface.proofs.OneText.{one_of_listed}
@@ -10,7 +11,8 @@ use Rattle.app_mutex.specs.declared.local.MutexLocal.{MutexLocal}
 abbrev spelled : List ℕ → MutexLocal
 spelled text = record { inside = get_or text 0 0 == 105; bit = get_or text (length text - 1) 0 == 49 }
 
-spelled_text : (inside bit : Bool) → spelled (local_text (record { inside = inside; bit = bit })) ≡ record { inside = inside; bit = bit }
+spelled_text : (inside bit : Bool)
+    → spelled (local_text (record { inside = inside; bit = bit })) ≡ record { inside = inside; bit = bit }
 spelled_text true true = refl
 spelled_text true false = refl
 spelled_text false true = refl
@@ -27,7 +29,8 @@ among true false = (2, omega arith, refl)
 among true true = (3, omega arith, refl)
 
 -- one local state a text
-pub one_mutex_text : (t : List ℕ) (local : MutexLocal) → (mutex_from_text t ≡ Some local ↔ Unit {0} × (local_text local ≡ t))
+pub one_mutex_text : (t : List ℕ) (local : MutexLocal)
+    → (mutex_from_text t ≡ Some local ↔ Unit {0} × (local_text local ≡ t))
 one_mutex_text t local =
     one_of_listed {IsLocal = λ v. Unit {0}} {text = local_text} {is_local = λ v. true} (λ v. (λ e. tt, λ u. refl))
     same_text t local_states (λ v is spelled. among v.inside v.bit) local

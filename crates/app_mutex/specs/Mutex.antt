@@ -1,5 +1,6 @@
 -- What the two cases of neighbour exclusion do, and the start states.
-use Rattle.std.specs.Prelude.{ℕ, ◌==◌, ◌&&◌, if◌then◌else◌, Bool, true, false, not, List, [], ◌∷◌, Option, Some, None, Result, Ok, codes}
+use Rattle.std.specs.Prelude.{ℕ, ◌==◌, ◌&&◌, if◌then◌else◌, Bool, true, false, not, List, [], ◌∷◌, Option, Some, None}
+use Rattle.std.specs.Prelude.{Result, Ok, codes}
 use Rattle.std.specs.List.{list_all}
 use Rattle.std.specs.Result.{result_ok}
 use Rattle.action_tables.specs.Table.{Row, fired_of}
@@ -40,7 +41,8 @@ mutex_table own held =
 
 -- what a case leaves, where no neighbour is named
 abbrev pub mutex_next : ℕ → ℕ → Option ℕ → MutexLocal → List (ℕ × MutexLocal) → Option MutexLocal
-mutex_next i case None own seen = result_ok (fired_of NotEnabled NotEnabled (mutex_table own (holds_turns i own.bit seen)) case)
+mutex_next i case None own seen =
+    result_ok (fired_of NotEnabled NotEnabled (mutex_table own (holds_turns i own.bit seen)) case)
 mutex_next i case (Some j) own seen = None
 
 abbrev pub mutex_reads : ℕ → Option Reads

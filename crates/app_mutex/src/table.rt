@@ -48,7 +48,8 @@ pub fn on_clock(
     seen: &[Seen<'_, MutexLocal>],
 ) -> Result<MutexLocal, ClockRefusal>
     ensures ok { IfOk result (λ new. mutex_next id case with own.now (seen_values seen.now) ≡ Some new) }
-    ensures not_enabled { result ≡ Err ClockRefusal.NotEnabled ↔ mutex_next id case with own.now (seen_values seen.now) ≡ None }
+    ensures not_enabled { result ≡ Err ClockRefusal.NotEnabled
+        ↔ mutex_next id case with own.now (seen_values seen.now) ≡ None }
     ensures memory { result ≢ Err ClockRefusal.NoMemory }
 {
     if with.is_some() {

@@ -13,20 +13,28 @@ use Rattle.app_routes.specs.declared.entry.Entry.{Entry}
 abbrev pub destinations : List Entry → List ℕ
 destinations es = map (λ e. e.destination) es
 
-pub routes_push : (es : List Entry) (e : Entry) → AreRoutes es → IsEntry e → EndsBelow (destinations es) e.destination → AreRoutes (es ++ e ∷ [])
+pub routes_push : (es : List Entry) (e : Entry) → AreRoutes es → IsEntry e → EndsBelow (destinations es) e.destination
+    → AreRoutes (es ++ e ∷ [])
 routes_push es e are is above = record {
-  ascending = subst IsStrictlyIncreasing (sym (map-append (λ f. f.destination) es (e ∷ []))) (rises_push (destinations es) e.destination are.ascending above);
+  ascending =
+      subst IsStrictlyIncreasing (sym (map-append (λ f. f.destination) es (e ∷ [])))
+      (rises_push (destinations es) e.destination are.ascending above);
   are_entries = All-append IsEntry es (e ∷ []) are.are_entries (all_one IsEntry e is);
 }
 
-pub routes_end_below : (es : List Entry) (e : Entry) → AreRoutes (es ++ e ∷ []) → EndsBelow (destinations es) e.destination
-routes_end_below es e are = ends_below (destinations es) e.destination (subst IsStrictlyIncreasing (map-append (λ f. f.destination) es (e ∷ [])) are.ascending)
+pub routes_end_below : (es : List Entry) (e : Entry) → AreRoutes (es ++ e ∷ [])
+    → EndsBelow (destinations es) e.destination
+routes_end_below es e are =
+    ends_below (destinations es) e.destination
+    (subst IsStrictlyIncreasing (map-append (λ f. f.destination) es (e ∷ [])) are.ascending)
 
 pub routes_fronts : HasFronts IsEntry AreRoutes
 routes_fronts = record {
   each = λ es are. are.are_entries;
   front = λ es more are. record {
-    ascending = front_rises (destinations es) (destinations more) (subst IsStrictlyIncreasing (map-append (λ f. f.destination) es more) are.ascending);
+    ascending =
+        front_rises (destinations es) (destinations more)
+        (subst IsStrictlyIncreasing (map-append (λ f. f.destination) es more) are.ascending);
     are_entries = front_all IsEntry es more are.are_entries;
   };
 }

@@ -1,5 +1,7 @@
 -- The place of a destination among ascending entries, and what stands there.
-use Rattle.std.proofs.Common.{◌≡◌, ℕ, ◌+◌, ◌<◌, ◌≤◌, eqb, ltb, List, [], ◌∷◌, ◌++◌, Some, None, Ok, Err, Result, map, length, get_or, set, take, drop, insert, refl, sym, ap, ap₂, ◌∙◌, subst, arith, nat_cmp, eq-eqb, ne_eqb, le-ltb, lt-ltb, ⊎_elim, take-append-drop, option_map}
+use Rattle.std.proofs.Common.{◌≡◌, ℕ, ◌+◌, ◌<◌, ◌≤◌, eqb, ltb, List, [], ◌∷◌, ◌++◌, Some, None, Ok, Err, Result, map}
+use Rattle.std.proofs.Common.{length, get_or, set, take, drop, insert, refl, sym, ap, ap₂, ◌∙◌, subst, arith, nat_cmp}
+use Rattle.std.proofs.Common.{eq-eqb, ne_eqb, le-ltb, lt-ltb, ⊎_elim, take-append-drop, option_map}
 use Rattle.std.specs.Cmp.{ranks}
 use Rattle.std.specs.List.{filter, refill}
 use Rattle.std.specs.List.Sorted.{IsBinarySearchResult, IsSearchInRange}
@@ -31,7 +33,8 @@ is_greater a b e = subst (λ o. MatchOrdering o (a < b) (a ≡ b) (b < a)) e (ra
 ranks_up : (a b x : ℕ) → a ≤ b → ordering_index (nat_cmp a x) ≤ ordering_index (nat_cmp b x)
 ranks_up a b x le = at (nat_cmp a x) (nat_cmp b x) (ranks a x) (ranks b x)
   where
-    at : (o p : Ordering) → MatchOrdering o (a < x) (a ≡ x) (x < a) → MatchOrdering p (b < x) (b ≡ x) (x < b) → ordering_index o ≤ ordering_index p
+    at : (o p : Ordering) → MatchOrdering o (a < x) (a ≡ x) (x < a) → MatchOrdering p (b < x) (b ≡ x) (x < b)
+        → ordering_index o ≤ ordering_index p
     at Less Less h k = omega arith
     at Less Equal h k = omega arith
     at Less Greater h k = omega arith
@@ -60,24 +63,31 @@ module _ (es : List Entry) (up : IsAscending es) where
   long : length (map (λ e. e.destination) es) ≡ length es
   long = length-map es (λ e. e.destination)
 
-  pub destination_at : (i : ℕ) (x : Entry) → i < length es → get_or (map (λ e. e.destination) es) i 0 ≡ (get_or es i x).destination
+  pub destination_at : (i : ℕ) (x : Entry) → i < length es
+      → get_or (map (λ e. e.destination) es) i 0 ≡ (get_or es i x).destination
   destination_at i x lt = get_or-map (λ e. e.destination) es i x 0 lt
 
-  pub in_order : (i j : ℕ) (x : Entry) → i < j → j < length es → (get_or es i x).destination < (get_or es j x).destination
+  pub in_order : (i j : ℕ) (x : Entry) → i < j → j < length es
+      → (get_or es i x).destination < (get_or es j x).destination
   in_order i j x less lt =
-      omega (arith, rises (map (λ e. e.destination) es) up i j less (omega (arith, lt, long)), destination_at i x (omega arith), destination_at j x lt)
+      omega (arith, rises (map (λ e. e.destination) es) up i j less (omega (arith, lt, long)), destination_at i x
+          (omega arith), destination_at j x lt)
 
-  pub in_weak_order : (i j : ℕ) (x : Entry) → i ≤ j → j < length es → (get_or es i x).destination ≤ (get_or es j x).destination
+  pub in_weak_order : (i j : ℕ) (x : Entry) → i ≤ j → j < length es
+      → (get_or es i x).destination ≤ (get_or es j x).destination
   in_weak_order i j x le lt =
       ⊎_elim
       (λ same. subst (λ k. (get_or es i x).destination ≤ (get_or es k x).destination) same (omega arith))
       (λ other. omega (arith, in_order i j x (omega (arith, le, other)) lt))
       (cases_eq i j)
 
-  pub placed : (d : ℕ) (r : Result ℕ ℕ) → IsSearchInRange r (length es) → IsBinarySearchResult (λ e. nat_cmp e.destination d) es r → IsPlaceOf es d r
+  pub placed : (d : ℕ) (r : Result ℕ ℕ) → IsSearchInRange r (length es)
+      → IsBinarySearchResult (λ e. nat_cmp e.destination d) es r → IsPlaceOf es d r
   placed d (Ok i) within h = (within, λ x. is_equal (get_or es i x).destination d (h x))
   placed d (Err i) within h =
-      let parted = h (λ a b x le lt. ranks_up (get_or es a x).destination (get_or es b x).destination d (in_weak_order a b x le lt)) in (
+      let parted =
+          h (λ a b x le lt. ranks_up (get_or es a x).destination (get_or es b x).destination d
+          (in_weak_order a b x le lt)) in (
         within,
         λ k x low lt. is_less (get_or es k x).destination d (parted.0 k x low lt),
         λ k x low lt. is_greater (get_or es k x).destination d (parted.1 k x low lt),
@@ -99,7 +109,8 @@ module _ (es : List Entry) (up : IsAscending es) where
       (cases_lt k i)))
 
   -- how many hops the entry has
-  pub hops_at : (d i : ℕ) (x : Entry) → IsPlaceOf es d (Ok i) → Some (get_or es i x).hops ≡ option_map (λ e. e.hops) (route_of es d)
+  pub hops_at : (d i : ℕ) (x : Entry) → IsPlaceOf es d (Ok i)
+      → Some (get_or es i x).hops ≡ option_map (λ e. e.hops) (route_of es d)
   hops_at d i x place = rw (at_place d i x place) refl
 
   pub no_hops : (d i : ℕ) (x : Entry) → IsPlaceOf es d (Err i) → None ≡ option_map (λ e. e.hops) (route_of es d)
@@ -136,5 +147,7 @@ module _ (es : List Entry) (up : IsAscending es) where
 pub routes_set : (es : List Entry) (e : Entry) → AreRoutes es → IsEntry e → AreRoutes (set_route es e)
 routes_set es e are is = record {
   ascending = set_ascends es e are.ascending;
-  are_entries = All-append IsEntry _ (e ∷ _) (All-filter _ IsEntry es are.are_entries) (All-append IsEntry (e ∷ []) _ (all_one IsEntry e is) (All-filter _ IsEntry es are.are_entries));
+  are_entries =
+      All-append IsEntry _ (e ∷ _) (All-filter _ IsEntry es are.are_entries)
+      (All-append IsEntry (e ∷ []) _ (all_one IsEntry e is) (All-filter _ IsEntry es are.are_entries));
 }

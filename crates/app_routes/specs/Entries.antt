@@ -1,5 +1,6 @@
 -- Routes: entries in the order of their destinations, and those that are pulled from a neighbour.
-use Rattle.std.specs.Prelude.{◌≡◌, ℕ, ◌+◌, ◌<◌, ◌≤◌, ◌^◌, ◌==◌, ◌&&◌, if◌then◌else◌, Bool, true, ltb, List, ◌∷◌, ◌++◌, Option, Result, MatchResult, All, length, map, fold}
+use Rattle.std.specs.Prelude.{◌≡◌, ℕ, ◌+◌, ◌<◌, ◌≤◌, ◌^◌, ◌==◌, ◌&&◌, if◌then◌else◌, Bool, true, ltb, List, ◌∷◌, ◌++◌}
+use Rattle.std.specs.Prelude.{Option, Result, MatchResult, All, length, map, fold}
 use Rattle.std.specs.List.{AllWithin, HoldsAt, filter, find, list_all, list_any}
 use Rattle.std.specs.List.Sorted.{IsStrictlyIncreasing}
 use Rattle.std.specs.Option.{option_map_or}
@@ -34,7 +35,8 @@ abbrev pub IsPlaceOf : List Entry → ℕ → Result ℕ ℕ → Type 0
 IsPlaceOf es d r =
     MatchResult r
     (λ i. (i < length es) × HoldsAt (λ e. e.destination ≡ d) es i)
-    (λ i. (i ≤ length es) × AllWithin (λ e. e.destination < d) es 0 i × AllWithin (λ e. d < e.destination) es i (length es))
+    (λ i. (i ≤ length es) × AllWithin (λ e. e.destination < d) es 0 i
+        × AllWithin (λ e. d < e.destination) es i (length es))
 
 -- the entry for destination d
 abbrev pub route_of : List Entry → ℕ → Option Entry
@@ -42,7 +44,8 @@ route_of es d = find (λ e. e.destination == d) es
 
 -- the entries with e in its place, and no other for its destination
 abbrev pub set_route : List Entry → Entry → List Entry
-set_route es e = filter (λ f. ltb f.destination e.destination) es ++ e ∷ filter (λ f. ltb e.destination f.destination) es
+set_route es e =
+    filter (λ f. ltb f.destination e.destination) es ++ e ∷ filter (λ f. ltb e.destination f.destination) es
 
 -- the way to j, and from there as e says
 abbrev pub over : ℕ → Entry → Entry

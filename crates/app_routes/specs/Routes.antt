@@ -34,7 +34,8 @@ routes_table K j own theirs =
 -- what a case leaves, toward a neighbour that is named by an identifier
 abbrev pub routes_next : ℕ → ℕ → Option ℕ → List Entry → List (ℕ × List Entry) → Option (List Entry)
 routes_next K case None own seen = None
-routes_next K case (Some j) own seen = if is_id j then result_ok (fired_of NotEnabled NotEnabled (routes_table K j own (entries_of j seen)) case) else None
+routes_next K case (Some j) own seen =
+    if is_id j then result_ok (fired_of NotEnabled NotEnabled (routes_table K j own (entries_of j seen)) case) else None
 
 abbrev pub routes_reads : ℕ → Option Reads
 routes_reads case = if 1 == case then Some One else None

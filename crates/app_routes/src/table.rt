@@ -61,7 +61,8 @@ pub fn on_clock(
     seen: &[Seen<'_, RoutesLocal>],
 ) -> Result<RoutesLocal, ClockRefusal>
     ensures ok { IfOk result (λ new. routes_next here.k case with own.now (seen_values seen.now) ≡ Some new) }
-    ensures not_enabled { result ≡ Err ClockRefusal.NotEnabled ↔ routes_next here.k case with own.now (seen_values seen.now) ≡ None }
+    ensures not_enabled { result ≡ Err ClockRefusal.NotEnabled
+        ↔ routes_next here.k case with own.now (seen_values seen.now) ≡ None }
 {
     match with {
         Some(j) => {
@@ -86,11 +87,14 @@ fn fire(
 ) -> Result<RoutesLocal, ClockRefusal>
     requires neighbour { IsId j }
     requires theirs { AreRoutes theirs.now }
-    ensures ok { IfOk result (λ new. result_ok (fired_of NotEnabled NotEnabled (routes_table bound j own.now theirs.now) case) ≡ Some new) }
-    ensures not_enabled { result ≡ Err NotEnabled ↔ result_ok (fired_of NotEnabled NotEnabled (routes_table bound j own.now theirs.now) case) ≡ None }
+    ensures ok { IfOk result
+        (λ new. result_ok (fired_of NotEnabled NotEnabled (routes_table bound j own.now theirs.now) case) ≡ Some new) }
+    ensures not_enabled { result ≡ Err NotEnabled
+        ↔ result_ok (fired_of NotEnabled NotEnabled (routes_table bound j own.now theirs.now) case) ≡ None }
 {
     let better = pull::some_better(bound, own, theirs);
-    routes_table!(fire_case!(case, ClockRefusal::NotEnabled, ClockRefusal::NotEnabled); alloc, bound, own, j, theirs, better)
+    routes_table!(fire_case!(case, ClockRefusal::NotEnabled, ClockRefusal::NotEnabled);
+        alloc, bound, own, j, theirs, better)
 }
 
 // The node's entries after each better one of the neighbour is taken.
@@ -122,7 +126,8 @@ fn entries_of<'a>(j: u32, seen: &[Seen<'a, RoutesLocal>]) -> &'a [Entry]
 
 /// The row of the routes' table as it is printed.
 pub fn app_rows() -> [CaseRow<'static>; 1]
-    ensures { (bound j : ℕ) (own theirs : List Entry) → map as_printed result ≡ map printed (routes_table bound j own theirs) }
+    ensures { (bound j : ℕ) (own theirs : List Entry)
+        → map as_printed result ≡ map printed (routes_table bound j own theirs) }
 {
     routes_table!(case_rows!(); alloc, bound, own, j, theirs, better)
 }

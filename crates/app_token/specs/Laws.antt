@@ -1,5 +1,7 @@
 -- There is one token at the start, and each action keeps it the one.
-use Rattle.std.proofs.Common.{◌≡◌, ◌≢◌, ◌⊎◌, ℕ, ◌+◌, ◌-◌, ◌<◌, ◌≤◌, Bool, true, false, not, ◌&&◌, ◌==◌, cond, List, [], ◌∷◌, Option, Some, None, Ok, Err, length, inl, inr, refl, sym, ap, ap₂, ◌∙◌, subst, arith, eq-eqb, ne_eqb, eqb-true, ⊎_elim}
+use Rattle.std.proofs.Common.{◌≡◌, ◌≢◌, ◌⊎◌, ℕ, ◌+◌, ◌-◌, ◌<◌, ◌≤◌, Bool, true, false, not, ◌&&◌, ◌==◌, cond, List, []}
+use Rattle.std.proofs.Common.{◌∷◌, Option, Some, None, Ok, Err, length, inl, inr, refl, sym, ap, ap₂, ◌∙◌, subst, arith}
+use Rattle.std.proofs.Common.{eq-eqb, ne_eqb, eqb-true, ⊎_elim}
 use Rattle.std.specs.List.{count_by, sum_by}
 use Rattle.std.specs.Result.{result_ok}
 use Rattle.std.proofs.Math.Bool.{and-false}
@@ -37,7 +39,9 @@ data Moves (i case : ℕ) (own : TokenLocal) (near : List (ℕ × TokenLocal)) (
   takes : 2 ≡ case → own.hold ≡ false → arrives i j own near ≡ true → new ≡ took own j → Moves i case own near new j
 
 fired : (b h c a : Bool) (p t new : TokenLocal) →
-    result_ok (cond b (cond h (Ok p) (Err NotEnabled)) (cond c (cond (not h && a) (Ok t) (Err NotEnabled)) (Err NotEnabled))) ≡ Some new →
+    result_ok
+        (cond b (cond h (Ok p) (Err NotEnabled)) (cond c (cond (not h && a) (Ok t) (Err NotEnabled)) (Err NotEnabled)))
+        ≡ Some new →
     ((b ≡ true) × (h ≡ true) × (new ≡ p)) ⊎ ((c ≡ true) × (h ≡ false) × (a ≡ true) × (new ≡ t))
 fired true true c a p t new e = inl (refl, refl, cc)
 fired true false c a p t new e = absurd (cc)
@@ -46,10 +50,16 @@ fired false true true a p t new e = absurd (cc)
 fired false false true true p t new e = inr (refl, refl, refl, cc)
 fired false false true false p t new e = absurd (cc)
 
-moves_toward : (i case j : ℕ) (own new : TokenLocal) (near : List (ℕ × TokenLocal)) → token_next i case (Some j) own near ≡ Some new → Moves i case own near new j
+moves_toward : (i case j : ℕ) (own new : TokenLocal) (near : List (ℕ × TokenLocal))
+    → token_next i case (Some j) own near ≡ Some new → Moves i case own near new j
 moves_toward i case j own new near = at (is_id j)
   where
-    at : (b : Bool) → cond b (result_ok (cond (1 == case) (cond own.hold (Ok (passed own j)) (Err NotEnabled)) (cond (2 == case) (cond (not own.hold && arrives i j own near) (Ok (took own j)) (Err NotEnabled)) (Err NotEnabled)))) None ≡ Some new
+    at : (b : Bool)
+        → cond b
+        (result_ok
+        (cond (1 == case) (cond own.hold (Ok (passed own j)) (Err NotEnabled))
+        (cond (2 == case) (cond (not own.hold && arrives i j own near) (Ok (took own j)) (Err NotEnabled))
+        (Err NotEnabled)))) None ≡ Some new
         → Moves i case own near new j
     at false e = absurd (cc)
     at true e =
@@ -58,7 +68,8 @@ moves_toward i case j own new near = at (is_id j)
         (λ t. takes (eqb-true 2 case t.0) t.1 t.2 t.3)
         (fired (1 == case) own.hold (2 == case) (arrives i j own near) (passed own j) (took own j) new e)
 
-arrived : (f : TokenLocal → Bool) (o : Option TokenLocal) → option_map_or f o false ≡ true → (w : TokenLocal) × (o ≡ Some w) × (f w ≡ true)
+arrived : (f : TokenLocal → Bool) (o : Option TokenLocal) → option_map_or f o false ≡ true
+    → (w : TokenLocal) × (o ≡ Some w) × (f w ≡ true)
 arrived f (Some w) e = (w, refl, e)
 arrived f None e = absurd (cc)
 
@@ -82,7 +93,8 @@ one_of_both false = refl
 
 -- ---- an action at i toward its neighbour j
 
-module _ (g : Graph) (are : IsGraph g) (v v' : ℕ → TokenLocal) (i j : ℕ) (node : IsNode g i) (linked : AreLinked g i j) (new : TokenLocal) (changes : Changes g v i new v') where
+module _ (g : Graph) (are : IsGraph g) (v v' : ℕ → TokenLocal) (i j : ℕ) (node : IsNode g i) (linked : AreLinked g i j)
+    (new : TokenLocal) (changes : Changes g v i new v') where
   back : AreLinked g j i
   back = are.symmetric j i ∙ linked
 
@@ -98,7 +110,9 @@ module _ (g : Graph) (are : IsGraph g) (v v' : ℕ → TokenLocal) (i j : ℕ) (
       (cases_eq c i)
 
   holders_change : holders g v' + number_of (v i).hold ≡ holders g v + number_of (v' i).hold
-  holders_change = sum_at g are (λ a. number_of (v a).hold) (λ a. number_of (v' a).hold) i node (λ k at ne. ap (λ s. number_of s.hold) (changes.others k at ne))
+  holders_change =
+      sum_at g are (λ a. number_of (v a).hold) (λ a. number_of (v' a).hold) i node
+      (λ k at ne. ap (λ s. number_of s.hold) (changes.others k at ne))
 
   module _ (held : (v i).hold ≡ true) (is : new ≡ passed (v i) j) where
     given_after : (c : ℕ) → c ≢ j → bit_of (v' i).given c ≡ bit_of (v i).given c
@@ -118,17 +132,20 @@ module _ (g : Graph) (are : IsGraph g) (v v' : ℕ → TokenLocal) (i j : ℕ) (
     flights_sent =
         pairs_at g are (in_flight g v) (in_flight g v') i j node to
         (λ c at ne. ap₂ (λ x y. are_linked g i c && differ x (bit_of y i)) (given_after c ne) (taken_kept c at))
-        (λ k c from at ne. ap₂ (λ x y. are_linked g k c && differ (bit_of x.given c) (bit_of y k)) (changes.others k from ne) (taken_kept c at))
+        (λ k c from at ne. ap₂ (λ x y. are_linked g k c && differ (bit_of x.given c) (bit_of y k))
+            (changes.others k from ne) (taken_kept c at))
 
     -- the token goes on its way
     pass_keeps : HasOneToken g v → HasOneToken g v'
     pass_keeps inv =
         let was : number_of (v i).hold ≡ 1 = ap number_of held in
         let now : number_of (v' i).hold ≡ 0 = ap (λ s. number_of s.hold) (changes.here ∙ is) in
-        let both : number_of (in_flight g v' i j) + number_of (in_flight g v i j) ≡ 1 = ap (λ b. number_of b + number_of (in_flight g v i j)) sent ∙ one_of_both (in_flight g v i j) in
+        let both : number_of (in_flight g v' i j) + number_of (in_flight g v i j) ≡ 1 =
+            ap (λ b. number_of b + number_of (in_flight g v i j)) sent ∙ one_of_both (in_flight g v i j) in
         omega (arith, inv, was, now, holders_change, both, flights_sent)
 
-  module _ (free : (v i).hold ≡ false) (flying : differ (bit_of (v j).given i) (bit_of (v i).taken j) ≡ true) (is : new ≡ took (v i) j) where
+  module _ (free : (v i).hold ≡ false) (flying : differ (bit_of (v j).given i) (bit_of (v i).taken j) ≡ true)
+      (is : new ≡ took (v i) j) where
     given_kept : (c : ℕ) → IsNode g c → (v' c).given ≡ (v c).given
     given_kept = kept_all (λ s. s.given) (ap (λ s. s.given) is)
 
@@ -136,7 +153,8 @@ module _ (g : Graph) (are : IsGraph g) (v v' : ℕ → TokenLocal) (i j : ℕ) (
     taken_after k c at ne =
         ⊎_elim
         (λ same.
-        let here : bit_of (v' i).taken k ≡ bit_of (v i).taken k = ap (λ s. bit_of s.taken k) (changes.here ∙ is) ∙ toggled_other (v i).taken j k ne in
+        let here : bit_of (v' i).taken k ≡ bit_of (v i).taken k =
+            ap (λ s. bit_of s.taken k) (changes.here ∙ is) ∙ toggled_other (v i).taken j k ne in
         subst (λ n. bit_of (v' n).taken k ≡ bit_of (v n).taken k) (sym same) here)
         (λ other. ap (λ s. bit_of s.taken k) (changes.others c at other))
         (cases_eq c i)
@@ -155,8 +173,10 @@ module _ (g : Graph) (are : IsGraph g) (v v' : ℕ → TokenLocal) (i j : ℕ) (
     flights_landed : flights g v' + number_of (in_flight g v j i) ≡ flights g v + number_of (in_flight g v' j i)
     flights_landed =
         pairs_at g are (in_flight g v) (in_flight g v') j i to node
-        (λ c at ne. ap₂ (λ x y. are_linked g j c && differ (bit_of x c) (bit_of y.taken j)) (given_kept j to) (changes.others c at ne))
-        (λ k c from at ne. ap₂ (λ x y. are_linked g k c && differ (bit_of x c) y) (given_kept k from) (taken_after k c at ne))
+        (λ c at ne. ap₂ (λ x y. are_linked g j c && differ (bit_of x c) (bit_of y.taken j)) (given_kept j to)
+            (changes.others c at ne))
+        (λ k c from at ne. ap₂ (λ x y. are_linked g k c && differ (bit_of x c) y) (given_kept k from)
+            (taken_after k c at ne))
 
     -- the token comes to rest
     take_keeps : HasOneToken g v → HasOneToken g v'
@@ -167,7 +187,8 @@ module _ (g : Graph) (are : IsGraph g) (v v' : ℕ → TokenLocal) (i j : ℕ) (
         let after : number_of (in_flight g v' j i) ≡ 0 = ap number_of landed in
         omega (arith, inv, was, now, holders_change, before, after, flights_landed)
 
-acts : (g : Graph) → IsGraph g → (bound i case : ℕ) (with : Option ℕ) (v v' : ℕ → TokenLocal) → Action token g bound i case with v v' → HasOneToken g v → HasOneToken g v'
+acts : (g : Graph) → IsGraph g → (bound i case : ℕ) (with : Option ℕ) (v v' : ℕ → TokenLocal)
+    → Action token g bound i case with v v' → HasOneToken g v → HasOneToken g v'
 acts g are bound i case None v v' h inv = let e : None ≡ Some h.new = h.next in absurd (cc)
 acts g are bound i case (Some j) v v' h inv = moved (moves_toward i case j (v i) h.new _ h.next)
   where
@@ -180,8 +201,12 @@ acts g are bound i case (Some j) v v' h inv = moved (moves_toward i case j (v i)
         pass_keeps g are v v' i j h.node fits h.new h.changes held is inv
     moved (takes two free comes is) =
         let fits : AreLinked g i j = subst (λ c. Fits g i (token_reads c) (Some j)) (sym two) h.fits in
-        let comes_two : arrives i j (v i) (seen (λ k. k == j) v g.ids) ≡ true = subst (λ c. arrives i j (v i) (seen (is_read g i (token_reads c) (Some j)) v g.ids) ≡ true) (sym two) comes in
-        let from = arrived (λ theirs. differ (bit_of theirs.given i) (bit_of (v i).taken j)) (seen_at j (seen (λ k. k == j) v g.ids)) comes_two in
+        let comes_two : arrives i j (v i) (seen (λ k. k == j) v g.ids) ≡ true =
+            subst (λ c. arrives i j (v i) (seen (is_read g i (token_reads c) (Some j)) v g.ids) ≡ true) (sym two) comes
+            in
+        let from =
+            arrived (λ theirs. differ (bit_of theirs.given i) (bit_of (v i).taken j))
+            (seen_at j (seen (λ k. k == j) v g.ids)) comes_two in
         let flying : differ (bit_of (v j).given i) (bit_of (v i).taken j) ≡ true =
         subst (λ w. differ (bit_of w.given i) (bit_of (v i).taken j) ≡ true) (seen_is j v g.ids from.0 from.1) from.2 in
         take_keeps g are v v' i j h.node fits h.new h.changes free flying is inv
@@ -197,21 +222,27 @@ starts g are =
     let top : length g.ids - 1 < length g.ids = omega (arith, are.some) in
     let node : IsNode g (greatest g) = (length g.ids - 1, top, get_or_default g.ids (length g.ids - 1) _ 0 top) in
     let one : holders g (token_start g) + 0 ≡ sum_by (λ k. 0) g.ids + number_of (greatest g == greatest g) =
-    sum_at g are (λ k. 0) (λ k. number_of (k == greatest g)) (greatest g) node (λ k at ne. ap number_of (ne_eqb k (greatest g) ne)) in
+    sum_at g are (λ k. 0) (λ k. number_of (k == greatest g)) (greatest g) node
+        (λ k at ne. ap number_of (ne_eqb k (greatest g) ne)) in
     let itself : number_of (greatest g == greatest g) ≡ 1 = ap number_of (eq-eqb (greatest g) (greatest g) refl) in
     let row : (a : ℕ) → count_by (λ b. in_flight g (token_start g) a b) g.ids ≡ 0 =
-    λ a. same_sum g (λ k. 0) (λ b. number_of (in_flight g (token_start g) a b)) (λ b at. ap number_of (and-false (are_linked g a b))) ∙ none_counted g.ids in
+    λ a. same_sum g (λ k. 0) (λ b. number_of (in_flight g (token_start g) a b))
+        (λ b at. ap number_of (and-false (are_linked g a b))) ∙ none_counted g.ids in
     let none : flights g (token_start g) ≡ 0 =
-    same_sum g (λ k. 0) (λ a. count_by (λ b. in_flight g (token_start g) a b) g.ids) (λ a at. row a) ∙ none_counted g.ids in
+    same_sum g (λ k. 0) (λ a. count_by (λ b. in_flight g (token_start g) a b) g.ids) (λ a at. row a)
+        ∙ none_counted g.ids in
     omega (arith, one, itself, none, none_counted g.ids)
 
 same_token : (g : Graph) (v v' : ℕ → TokenLocal) → SameAtNodes g v v' → HasOneToken g v → HasOneToken g v'
 same_token g v v' same inv =
-    let held : holders g v' ≡ holders g v = same_sum g (λ a. number_of (v a).hold) (λ a. number_of (v' a).hold) (λ a at. ap (λ s. number_of s.hold) (same a at)) in
+    let held : holders g v' ≡ holders g v =
+        same_sum g (λ a. number_of (v a).hold) (λ a. number_of (v' a).hold)
+        (λ a at. ap (λ s. number_of s.hold) (same a at)) in
     let flown : flights g v' ≡ flights g v =
     same_sum g (λ a. count_by (λ b. in_flight g v a b) g.ids) (λ a. count_by (λ b. in_flight g v' a b) g.ids)
     (λ a from. same_sum g (λ b. number_of (in_flight g v a b)) (λ b. number_of (in_flight g v' a b))
-    (λ b to. ap₂ (λ x y. number_of (are_linked g a b && differ (bit_of x.given b) (bit_of y.taken a))) (same a from) (same b to))) in
+    (λ b to. ap₂ (λ x y. number_of (are_linked g a b && differ (bit_of x.given b) (bit_of y.taken a))) (same a from)
+        (same b to))) in
     omega (arith, inv, held, flown)
 
 -- one token, at the start and after each action

@@ -1,5 +1,6 @@
 -- The bits of a list after one of them is turned over, whatever the list.
-use Rattle.std.proofs.Common.{◌≡◌, ◌≢◌, ℕ, ◌≤◌, Bool, true, false, not, ◌&&◌, ◌||◌, ltb, eqb, List, ◌∷◌, refl, sym, ap₂, ◌∙◌, arith, eq-eqb, ne_eqb, lt-ltb, le-ltb, ⊎_elim}
+use Rattle.std.proofs.Common.{◌≡◌, ◌≢◌, ℕ, ◌≤◌, Bool, true, false, not, ◌&&◌, ◌||◌, ltb, eqb, List, ◌∷◌, refl, sym, ap₂}
+use Rattle.std.proofs.Common.{◌∙◌, arith, eq-eqb, ne_eqb, lt-ltb, le-ltb, ⊎_elim}
 use Rattle.std.specs.List.{filter}
 use Rattle.std.proofs.Math.Bool.{or-false, or-true}
 use Rattle.std.proofs.lemmas.Bool.{cases_order}
@@ -8,7 +9,8 @@ use Rattle.topology.proofs.Membership.{has-filter}
 use Rattle.app_token.specs.Bits.{bit_of, toggled, with_id}
 
 -- the members of a list with j
-with_members : (ids : List ℕ) (j k : ℕ) → bit_of (with_id ids j) k ≡ ((ltb k j && bit_of ids k) || (eqb j k || (ltb j k && bit_of ids k)))
+with_members : (ids : List ℕ) (j k : ℕ)
+    → bit_of (with_id ids j) k ≡ ((ltb k j && bit_of ids k) || (eqb j k || (ltb j k && bit_of ids k)))
 with_members ids j k =
     list_any-append (λ i. eqb i k) (filter (λ i. ltb i j) ids) (j ∷ filter (λ i. ltb j i) ids)
     ∙ ap₂ (λ a b. a || (eqb j k || b)) (has-filter (λ i. ltb i j) ids k) (has-filter (λ i. ltb j i) ids k)

@@ -1,5 +1,6 @@
 -- Where there is one token, no row of the link table holds.
-use Rattle.std.proofs.Common.{◌≡◌, ◌≢◌, ℕ, ◌+◌, ◌≤◌, Bool, true, false, ◌&&◌, ◌||◌, None, length, refl, ◌∙◌, subst, arith}
+use Rattle.std.proofs.Common.{◌≡◌, ◌≢◌, ℕ, ◌+◌, ◌≤◌, Bool, true, false, ◌&&◌, ◌||◌, None, length, refl, ◌∙◌, subst}
+use Rattle.std.proofs.Common.{arith}
 use Rattle.std.specs.List.{count_by}
 use Rattle.topology.specs.Graph.{Graph, IsGraph, IsNode, AreLinked}
 use Rattle.action_tables.specs.Table.{enabled_of}
@@ -17,7 +18,8 @@ record NoRow (hold hold' leaves arrives : Bool) : Type 0 where
   third : (leaves && arrives) ≡ false
 
 -- so it is where one of these four holds at most
-no_row : (hold hold' leaves arrives : Bool) → number_of hold + number_of hold' + (number_of leaves + number_of arrives) ≤ 1 → NoRow hold hold' leaves arrives
+no_row : (hold hold' leaves arrives : Bool)
+    → number_of hold + number_of hold' + (number_of leaves + number_of arrives) ≤ 1 → NoRow hold hold' leaves arrives
 no_row false false false arrives few = record { first = refl; second = refl; third = refl }
 no_row false false true false few = record { first = refl; second = refl; third = refl }
 no_row false false true true few = absurd (omega (arith, few))
@@ -29,7 +31,9 @@ no_row true false false true few = absurd (omega (arith, few))
 no_row true false true arrives few = absurd (omega (arith, few))
 no_row true true leaves arrives few = absurd (omega (arith, few))
 
-no_fault : (i j : ℕ) (own theirs : TokenLocal) → NoRow own.hold theirs.hold (is_in_flight i j own theirs) (is_in_flight j i theirs own) → token_link_fault i j own theirs ≡ None
+no_fault : (i j : ℕ) (own theirs : TokenLocal)
+    → NoRow own.hold theirs.hold (is_in_flight i j own theirs) (is_in_flight j i theirs own)
+    → token_link_fault i j own theirs ≡ None
 unfolding enabled_of
 no_fault i j own theirs none = rw (none.first, none.second, none.third) refl
 
@@ -47,7 +51,8 @@ module _ (g : Graph) (are : IsGraph g) (v : ℕ → TokenLocal) (i j : ℕ) (lin
   apart same = are.irreflexive i (subst (λ k. AreLinked g i k) same linked)
 
   -- the two ends among the holders, and the two directions among the bits in flight
-  on_link : number_of (v i).hold + number_of (v j).hold + (number_of (is_in_flight i j (v i) (v j)) + number_of (is_in_flight j i (v j) (v i))) ≤ holders g v + flights g v
+  on_link : number_of (v i).hold + number_of (v j).hold +
+      (number_of (is_in_flight i j (v i) (v j)) + number_of (is_in_flight j i (v j) (v i))) ≤ holders g v + flights g v
   on_link =
       let held = two_terms_in_sum g are (λ a. number_of (v a).hold) i j near far apart in
       let flown = two_terms_in_sum g are (λ a. count_by (λ b. in_flight g v a b) g.ids) i j near far apart in

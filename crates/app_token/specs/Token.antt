@@ -1,5 +1,6 @@
 -- What the two cases of the token do, and the start states.
-use Rattle.std.specs.Prelude.{ℕ, ◌==◌, ◌&&◌, if◌then◌else◌, Bool, true, false, not, List, [], ◌∷◌, Option, Some, None, Result, Ok, codes}
+use Rattle.std.specs.Prelude.{ℕ, ◌==◌, ◌&&◌, if◌then◌else◌, Bool, true, false, not, List, [], ◌∷◌, Option, Some, None}
+use Rattle.std.specs.Prelude.{Result, Ok, codes}
 use Rattle.std.specs.Option.{option_map_or}
 use Rattle.std.specs.Result.{result_ok}
 use Rattle.action_tables.specs.Table.{Row, fired_of}
@@ -43,7 +44,8 @@ token_table j own arriving =
 -- what a case leaves, toward a neighbour that is named by an identifier
 abbrev pub token_next : ℕ → ℕ → Option ℕ → TokenLocal → List (ℕ × TokenLocal) → Option TokenLocal
 token_next i case None own seen = None
-token_next i case (Some j) own seen = if is_id j then result_ok (fired_of NotEnabled NotEnabled (token_table j own (arrives i j own seen)) case) else None
+token_next i case (Some j) own seen =
+    if is_id j then result_ok (fired_of NotEnabled NotEnabled (token_table j own (arrives i j own seen)) case) else None
 
 abbrev pub token_reads : ℕ → Option Reads
 token_reads case = if 1 == case then Some Toward else (if 2 == case then Some One else None)

@@ -60,7 +60,8 @@ pub fn on_clock(
     seen: &[Seen<'_, TokenLocal>],
 ) -> Result<TokenLocal, ClockRefusal>
     ensures ok { IfOk result (λ new. token_next here.id case with own.now (seen_values seen.now) ≡ Some new) }
-    ensures not_enabled { result ≡ Err ClockRefusal.NotEnabled ↔ token_next here.id case with own.now (seen_values seen.now) ≡ None }
+    ensures not_enabled { result ≡ Err ClockRefusal.NotEnabled
+        ↔ token_next here.id case with own.now (seen_values seen.now) ≡ None }
 {
     match with {
         Some(j) => {
@@ -84,8 +85,10 @@ fn fire(
     arriving: bool,
 ) -> Result<TokenLocal, ClockRefusal>
     requires { IsId j }
-    ensures ok { IfOk result (λ new. result_ok (fired_of NotEnabled NotEnabled (token_table j own.now arriving) case) ≡ Some new) }
-    ensures not_enabled { result ≡ Err NotEnabled ↔ result_ok (fired_of NotEnabled NotEnabled (token_table j own.now arriving) case) ≡ None }
+    ensures ok { IfOk result
+        (λ new. result_ok (fired_of NotEnabled NotEnabled (token_table j own.now arriving) case) ≡ Some new) }
+    ensures not_enabled { result ≡ Err NotEnabled
+        ↔ result_ok (fired_of NotEnabled NotEnabled (token_table j own.now arriving) case) ≡ None }
 {
     token_table!(fire_case!(case, ClockRefusal::NotEnabled, ClockRefusal::NotEnabled); alloc, own, j, arriving)
 }
@@ -93,7 +96,8 @@ fn fire(
 // The node without the token, and its given bit for the neighbour turned over.
 fn passed(alloc: Global, own: &TokenLocal, j: u32) -> Result<TokenLocal, ClockRefusal>
     requires { IsId j }
-    ensures ok { IfOk result (λ new. new ≡ record { hold = Bool.false; given = toggled own.now.given j; taken = own.now.taken }) }
+    ensures ok { IfOk result
+        (λ new. new ≡ record { hold = Bool.false; given = toggled own.now.given j; taken = own.now.taken }) }
     ensures err { result ≢ Err NotEnabled }
 {
     Ok(TokenLocal {
@@ -106,7 +110,8 @@ fn passed(alloc: Global, own: &TokenLocal, j: u32) -> Result<TokenLocal, ClockRe
 // The node with the token, and its taken bit for the neighbour turned over.
 fn taken(alloc: Global, own: &TokenLocal, j: u32) -> Result<TokenLocal, ClockRefusal>
     requires { IsId j }
-    ensures ok { IfOk result (λ new. new ≡ record { hold = Bool.true; given = own.now.given; taken = toggled own.now.taken j }) }
+    ensures ok { IfOk result
+        (λ new. new ≡ record { hold = Bool.true; given = own.now.given; taken = toggled own.now.taken j }) }
     ensures err { result ≢ Err NotEnabled }
 {
     Ok(TokenLocal {
@@ -128,7 +133,8 @@ fn arrives(id: u32, j: u32, own: &TokenLocal, seen: &[Seen<'_, TokenLocal>]) -> 
 
 /// The rows of the token table as they are printed.
 pub fn app_rows() -> [CaseRow<'static>; 2]
-    ensures { (j : ℕ) (own : TokenLocal) (arriving : Bool) → map as_printed result ≡ map printed (token_table j own arriving) }
+    ensures { (j : ℕ) (own : TokenLocal) (arriving : Bool)
+        → map as_printed result ≡ map printed (token_table j own arriving) }
 {
     token_table!(case_rows!(); alloc, own, j, arriving)
 }

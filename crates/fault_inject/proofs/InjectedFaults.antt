@@ -1,16 +1,21 @@
 -- What comes of a fault, from the reasons that there are against it.
-use Rattle.std.proofs.Common.{◌≡◌, ◌≢◌, ℕ, ◌==◌, ◌&&◌, Bool, true, false, not, List, [], ◌∷◌, ◌++◌, length, Option, Some, None, Result, Ok, Err, OnOk, IfErr, MatchResult, refl, sym, ap, subst, ◌∙◌, true≢false, lt-ltb, le-ltb, ◌<◌, ◌≤◌, slice_index}
+use Rattle.std.proofs.Common.{◌≡◌, ◌≢◌, ℕ, ◌==◌, ◌&&◌, Bool, true, false, not, List, [], ◌∷◌, ◌++◌, length, Option}
+use Rattle.std.proofs.Common.{Some, None, Result, Ok, Err, OnOk, IfErr, MatchResult, refl, sym, ap, subst, ◌∙◌}
+use Rattle.std.proofs.Common.{true≢false, lt-ltb, le-ltb, ◌<◌, ◌≤◌, slice_index}
 use Rattle.std.proofs.lemmas.Bool.{false_from_ne_true}
 use Rattle.std.proofs.lemmas.List.Elements.{All-contains}
 use Rattle.std.proofs.lemmas.List.Sums.{AllPass-from_list_all}
 use Rattle.action_tables.specs.Numbers.{is_among}
 use Rattle.app_interface.specs.Ids.{is_id}
-use Rattle.topology.specs.Changing.{Reason, first_of, is_full, link_fault, strange_ends, unlink_fault, when, with_link, without_link}
+use Rattle.topology.specs.Changing.{Reason, first_of, is_full, link_fault, strange_ends, unlink_fault, when, with_link}
+use Rattle.topology.specs.Changing.{without_link}
 use Rattle.topology.specs.Faults.{IsCutOff}
 use Rattle.topology.specs.Graph.{Graph, IsNode, are_linked}
 use Rattle.topology.specs.Reaching.{is_connected, is_reached}
 use Rattle.topology.specs.declared.fault.TopoFault.{TopoFault}
-use Rattle.topology.specs.declared.fault.TopoFault.TheVariants.{StrangeNode as StrangeEnd, SelfLink, TooManyLinks, LinkIsThere as Doubled, NoSuchLink as Unlinked, Disconnected, NoMemory as WantOfMemory}
+use Rattle.topology.specs.declared.fault.TopoFault.TheVariants.{StrangeNode as StrangeEnd, SelfLink, TooManyLinks}
+use Rattle.topology.specs.declared.fault.TopoFault.TheVariants.{LinkIsThere as Doubled, NoSuchLink as Unlinked}
+use Rattle.topology.specs.declared.fault.TopoFault.TheVariants.{Disconnected, NoMemory as WantOfMemory}
 use Rattle.topology.proofs.Reaching.{walk_from_test}
 use Rattle.tree_layer.specs.declared.regs.TreeRegs.{TreeRegs}
 use Rattle.wave_layer.specs.declared.regs.WaveRegs.{WaveRegs}
@@ -20,7 +25,8 @@ use Rattle.fault_inject.specs.Effects.{damaged, injected, refusals}
 use Rattle.fault_inject.specs.declared.fault.Fault.{Fault}
 use Rattle.fault_inject.specs.declared.fault.Fault.TheVariants.{SetTree, SetWave, SetLocal, LinkDown, LinkUp}
 use Rattle.fault_inject.specs.declared.refusal.FaultRefusal.{FaultRefusal}
-use Rattle.fault_inject.specs.declared.refusal.FaultRefusal.TheVariants.{StrangeNode, BadValue, BadLocal, NoSuchLink, LinkIsThere, WouldDisconnect, NoMemory}
+use Rattle.fault_inject.specs.declared.refusal.FaultRefusal.TheVariants.{StrangeNode, BadValue, BadLocal, NoSuchLink}
+use Rattle.fault_inject.specs.declared.refusal.FaultRefusal.TheVariants.{LinkIsThere, WouldDisconnect, NoMemory}
 
 -- a graph with a node that is cut off isn't connected
 apart : (g : Graph) (n : ℕ) → IsCutOff g n → is_connected g ≡ false
@@ -50,29 +56,36 @@ module _ {L : Type 0} (from_text : List ℕ → Option L) (c : Configuration L) 
       → injected from_text c (SetWave at regs) ≡ Ok new
   wave_put at regs new node made = allowed (SetWave at regs) new (rw (a_node c.graph.ids at node) refl) made
 
-  pub wave_strange : (at : ℕ) (regs : WaveRegs) → (IsNode c.graph at → ⊥) → injected from_text c (SetWave at regs) ≡ Err StrangeNode
+  pub wave_strange : (at : ℕ) (regs : WaveRegs) → (IsNode c.graph at → ⊥)
+      → injected from_text c (SetWave at regs) ≡ Err StrangeNode
   wave_strange at regs none = refused (SetWave at regs) StrangeNode (rw (no_node c.graph.ids at none) refl)
 
   pub tree_put : (at : ℕ) (regs : TreeRegs) (new : Configuration L) → is_among at c.graph.ids ≡ true
-      → (is_id regs.root && is_id regs.father) ≡ true → new ≡ with_tree c at regs → injected from_text c (SetTree at regs) ≡ Ok new
+      → (is_id regs.root && is_id regs.father) ≡ true → new ≡ with_tree c at regs
+          → injected from_text c (SetTree at regs) ≡ Ok new
   tree_put at regs new node ids made = allowed (SetTree at regs) new (rw (node, ids) refl) made
 
-  pub tree_strange : (at : ℕ) (regs : TreeRegs) → is_among at c.graph.ids ≡ false → injected from_text c (SetTree at regs) ≡ Err StrangeNode
+  pub tree_strange : (at : ℕ) (regs : TreeRegs) → is_among at c.graph.ids ≡ false
+      → injected from_text c (SetTree at regs) ≡ Err StrangeNode
   tree_strange at regs none = refused (SetTree at regs) StrangeNode (rw none refl)
 
-  pub tree_lost : (at : ℕ) (regs : TreeRegs) → (IsNode c.graph at → ⊥) → injected from_text c (SetTree at regs) ≡ Err StrangeNode
+  pub tree_lost : (at : ℕ) (regs : TreeRegs) → (IsNode c.graph at → ⊥)
+      → injected from_text c (SetTree at regs) ≡ Err StrangeNode
   tree_lost at regs none = tree_strange at regs (no_node c.graph.ids at none)
 
-  pub tree_bad : (at : ℕ) (regs : TreeRegs) → is_among at c.graph.ids ≡ true → (is_id regs.root && is_id regs.father) ≡ false
+  pub tree_bad : (at : ℕ) (regs : TreeRegs) → is_among at c.graph.ids ≡ true
+      → (is_id regs.root && is_id regs.father) ≡ false
       → injected from_text c (SetTree at regs) ≡ Err BadValue
   tree_bad at regs node bad = refused (SetTree at regs) BadValue (rw (node, bad) refl)
 
   -- ---- local states
 
-  pub local_strange : (at : ℕ) (text : List ℕ) → is_among at c.graph.ids ≡ false → injected from_text c (SetLocal at text) ≡ Err StrangeNode
+  pub local_strange : (at : ℕ) (text : List ℕ) → is_among at c.graph.ids ≡ false
+      → injected from_text c (SetLocal at text) ≡ Err StrangeNode
   local_strange at text none = refused (SetLocal at text) StrangeNode (rw none refl)
 
-  pub local_lost : (at : ℕ) (text : List ℕ) → (IsNode c.graph at → ⊥) → injected from_text c (SetLocal at text) ≡ Err StrangeNode
+  pub local_lost : (at : ℕ) (text : List ℕ) → (IsNode c.graph at → ⊥)
+      → injected from_text c (SetLocal at text) ≡ Err StrangeNode
   local_lost at text none = local_strange at text (no_node c.graph.ids at none)
 
   pub local_long : (at : ℕ) (text : List ℕ) → is_among at c.graph.ids ≡ true → 200 < length text
@@ -81,7 +94,8 @@ module _ {L : Type 0} (from_text : List ℕ → Option L) (c : Configuration L) 
 
   pub local_bad : (at : ℕ) (text : List ℕ) → is_among at c.graph.ids ≡ true → length text ≤ 200 → from_text text ≡ None
       → injected from_text c (SetLocal at text) ≡ Err BadLocal
-  local_bad at text node short bad = refused (SetLocal at text) BadLocal (rw (node, le-ltb 200 (length text) short, bad) refl)
+  local_bad at text node short bad =
+      refused (SetLocal at text) BadLocal (rw (node, le-ltb 200 (length text) short, bad) refl)
 
   pub local_put : (at : ℕ) (text : List ℕ) (local : L) (new : Configuration L) → is_among at c.graph.ids ≡ true
       → length text ≤ 200 → from_text text ≡ Some local → new ≡ with_local c at local
@@ -136,13 +150,16 @@ other_fault : (f : TopoFault) → is_memory f ≡ false → f ≢ WantOfMemory
 other_fault f is e = true≢false (sym (ap is_memory e) ∙ is)
 
 module _ {L : Type 0} (from_text : List ℕ → Option L) (c : Configuration L) (a b : ℕ) where
-  pub up_refused : (g : Graph) (f : TopoFault) → g ≡ c.graph → is_memory f ≡ false → (f ≢ WantOfMemory → link_fault g a b ≡ Some f)
+  pub up_refused : (g : Graph) (f : TopoFault) → g ≡ c.graph → is_memory f ≡ false
+      → (f ≢ WantOfMemory → link_fault g a b ≡ Some f)
       → injected from_text c (LinkUp a b) ≡ Err (told f)
   up_refused g f same other is =
       refused from_text c (LinkUp a b) (told f)
-      (first_told (up_faults c.graph a b) [] ∙ ap (λ o. told_or o None) (ap (λ h. link_fault h a b) (sym same) ∙ is (other_fault f other)))
+      (first_told (up_faults c.graph a b) []
+          ∙ ap (λ o. told_or o None) (ap (λ h. link_fault h a b) (sym same) ∙ is (other_fault f other)))
 
-  pub up_put : (g changed : Graph) (new : Configuration L) → g ≡ c.graph → link_fault g a b ≡ None → changed ≡ with_link g a b
+  pub up_put : (g changed : Graph) (new : Configuration L) → g ≡ c.graph → link_fault g a b ≡ None
+      → changed ≡ with_link g a b
       → new ≡ with_graph c changed → injected from_text c (LinkUp a b) ≡ Ok new
   up_put g changed new same is linked made =
       let whole : changed ≡ with_link c.graph a b = linked ∙ ap (λ h. with_link h a b) same in
@@ -153,10 +170,12 @@ module _ {L : Type 0} (from_text : List ℕ → Option L) (c : Configuration L) 
   abbrev cut : List (Reason FaultRefusal)
   cut = when (not (is_connected (without_link c.graph a b))) WouldDisconnect ∷ []
 
-  down_first : (o : Option TopoFault) → unlink_fault c.graph a b ≡ o → first_of (refusals from_text c (LinkDown a b)) ≡ told_or o (first_of cut)
+  down_first : (o : Option TopoFault) → unlink_fault c.graph a b ≡ o
+      → first_of (refusals from_text c (LinkDown a b)) ≡ told_or o (first_of cut)
   down_first o is = first_told (down_faults c.graph a b) cut ∙ ap (λ p. told_or p (first_of cut)) is
 
-  pub down_refused : (g : Graph) (f : TopoFault) → g ≡ c.graph → is_memory f ≡ false → (f ≢ WantOfMemory → unlink_fault g a b ≡ Some f)
+  pub down_refused : (g : Graph) (f : TopoFault) → g ≡ c.graph → is_memory f ≡ false
+      → (f ≢ WantOfMemory → unlink_fault g a b ≡ Some f)
       → injected from_text c (LinkDown a b) ≡ Err (told f)
   down_refused g f same other is =
       refused from_text c (LinkDown a b) (told f)
@@ -181,7 +200,8 @@ module _ {L : Type 0} (from_text : List ℕ → Option L) (c : Configuration L) 
       (down_first None (ap (λ h. unlink_fault h a b) (sym same) ∙ told.0)
       ∙ first_cut (is_connected (without_link c.graph a b)) (apart (without_link c.graph a b) n off))
 
-  pub down_put : (g changed : Graph) (new : Configuration L) → g ≡ c.graph → unlink_fault g a b ≡ None → changed ≡ without_link g a b
+  pub down_put : (g changed : Graph) (new : Configuration L) → g ≡ c.graph → unlink_fault g a b ≡ None
+      → changed ≡ without_link g a b
       → is_connected changed ≡ true → new ≡ with_graph c changed → injected from_text c (LinkDown a b) ≡ Ok new
   down_put g changed new same is unlinked whole made =
       let gone : changed ≡ without_link c.graph a b = unlinked ∙ ap (λ h. without_link h a b) same in
@@ -191,7 +211,8 @@ module _ {L : Type 0} (from_text : List ℕ → Option L) (c : Configuration L) 
       (made ∙ ap (λ h. with_graph c h) gone)
 
   -- where the topology was put, or memory was wanting
-  pub put_or_not : {A : Type 0} (f : Fault) (r : Result A FaultRefusal) (g : Graph) (new : Configuration L) → OnOk r (new ≡ with_graph c g)
+  pub put_or_not : {A : Type 0} (f : Fault) (r : Result A FaultRefusal) (g : Graph) (new : Configuration L)
+      → OnOk r (new ≡ with_graph c g)
       → IfErr r (λ e. e ≡ NoMemory) → (new ≡ with_graph c g → injected from_text c f ≡ Ok new)
       → MatchResult r (λ _. injected from_text c f ≡ Ok new) (λ e. e ≢ NoMemory → injected from_text c f ≡ Err e)
   put_or_not f (Ok x) g new ok err to = to ok

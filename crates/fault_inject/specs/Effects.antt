@@ -1,5 +1,6 @@
 -- What a fault does to a configuration, and why a configuration can't have it.
-use Rattle.std.specs.Prelude.{ℕ, ◌==◌, ◌&&◌, ◌||◌, not, nat_lt, List, [], ◌∷◌, length, Option, Some, None, Result, Ok, Err}
+use Rattle.std.specs.Prelude.{ℕ, ◌==◌, ◌&&◌, ◌||◌, not, nat_lt, List, [], ◌∷◌, length, Option, Some, None, Result, Ok}
+use Rattle.std.specs.Prelude.{Err}
 use Rattle.std.specs.Option.{is_none}
 use Rattle.action_tables.specs.Numbers.{is_among}
 use Rattle.app_interface.specs.Ids.{is_id}
@@ -10,7 +11,8 @@ use Rattle.reset_model.specs.Configuration.{Configuration, with_graph, with_loca
 use Rattle.fault_inject.specs.declared.fault.Fault.{Fault}
 use Rattle.fault_inject.specs.declared.fault.Fault.TheVariants.{SetTree, SetWave, SetLocal, LinkDown, LinkUp}
 use Rattle.fault_inject.specs.declared.refusal.FaultRefusal.{FaultRefusal}
-use Rattle.fault_inject.specs.declared.refusal.FaultRefusal.TheVariants.{StrangeNode, BadValue, BadLocal, NoSuchLink, LinkIsThere, WouldDisconnect}
+use Rattle.fault_inject.specs.declared.refusal.FaultRefusal.TheVariants.{StrangeNode, BadValue, BadLocal, NoSuchLink}
+use Rattle.fault_inject.specs.declared.refusal.FaultRefusal.TheVariants.{LinkIsThere, WouldDisconnect}
 
 -- there is no node i
 abbrev pub strange : {L : Type 0} → Configuration L → ℕ → Reason FaultRefusal
@@ -53,6 +55,8 @@ abbrev unless : {L : Type 0} → Option FaultRefusal → Configuration L → Res
 unless None c = Ok c
 unless (Some refusal) c = Err refusal
 
--- what comes of a fault: what it leaves, or the first refusal. It stays folded: unfolded, it has the search for a connection
-unfoldable pub injected : {L : Type 0} → (List ℕ → Option L) → Configuration L → Fault → Result (Configuration L) FaultRefusal
+-- what comes of a fault: what it leaves, or the first refusal. It stays folded: unfolded, it has the search for a
+-- connection
+unfoldable pub injected : {L : Type 0} → (List ℕ → Option L) → Configuration L → Fault
+    → Result (Configuration L) FaultRefusal
 injected from_text c f = unless (first_of (refusals from_text c f)) (damaged from_text c f)

@@ -1,15 +1,16 @@
 // What books keep.
 
-use crate::line::{line, whole_reset};
+use crate::line::{line, single, whole_reset};
 use app_interface::Idle;
 use fault_inject::{Fault, FaultRefusal};
 use history::{
     ApplyRefusal, Book, BookRefusal, DisturbRefusal, Entry, MAX_ENTRIES, Receipt, Report,
 };
-use reset_machine::{Event, Plan, Reply, StepRefusal};
+use reset_machine::{Event, Plan, Reply, StepRefusal, View};
 use std::alloc::Global;
 use std::process::Abort;
 use tree_layer::TreeRegs;
+use wave_layer::{Phase, WaveRegs};
 
 #[test]
 fn reports_a_whole_reset(rt: HostRuntime) {
@@ -118,4 +119,71 @@ fn applies_a_plan_once(rt: HostRuntime) {
         Err((refusal, _)) => assert!(rt; matches!(refusal, ApplyRefusal::BookFull)),
     }
     assert_eq!(rt; book.len(), 2);
+}
+
+#[test]
+fn a_neighbours_step_makes_a_plan_stale(rt: HostRuntime) {
+    let mut book = Book::open_book(rt.alloc(), line(&rt, rt.alloc()), MAX_ENTRIES);
+    let first = plan_of(&rt, rt.alloc(), &book, 1, Event::Request { at: 1 });
+    let second = plan_of(&rt, rt.alloc(), &book, 2, Event::Request { at: 2 });
+    let receipt = Receipt {
+        position: 1,
+        event: Event::Request { at: 1 },
+        reply: Reply::Applied,
+    };
+    match book.apply(rt.alloc(), first) {
+        Ok(answer) => assert_eq!(rt; answer, receipt),
+        Err(_) => panic!(rt; "a plan of now"),
+    }
+    match book.apply(rt.alloc(), second) {
+        Ok(_) => panic!(rt; "a stale plan"),
+        Err((refusal, back)) => {
+            assert_eq!(rt; back.event(), Event::Request { at: 2 });
+            match refusal {
+                ApplyRefusal::Stale(now) => assert!(rt; sees_initiate(&now, 1)),
+                _ => panic!(rt; "a stale plan"),
+            }
+        }
+    }
+    assert_eq!(rt; book.len(), 1);
+}
+
+// Whether the node with this view sees that the node with this identifier, the least of its neighbours, is
+// initiate.
+fn sees_initiate(view: &View<Idle>, at: u32) -> bool {
+    match view.near(0) {
+        Some(near) => near.id == at && near.wave.phase == Phase::Initiate,
+        None => false,
+    }
+}
+
+#[test]
+fn a_plan_of_another_topology_is_strange(rt: HostRuntime) {
+    let other = Book::open_book(rt.alloc(), single(&rt, rt.alloc()), MAX_ENTRIES);
+    let plan = plan_of(&rt, rt.alloc(), &other, 7, Event::Request { at: 7 });
+    let mut book = Book::open_book(rt.alloc(), line(&rt, rt.alloc()), MAX_ENTRIES);
+    match book.apply(rt.alloc(), plan) {
+        Ok(_) => panic!(rt; "a plan of no node"),
+        Err((refusal, back)) => {
+            assert_eq!(rt; back.event(), Event::Request { at: 7 });
+            assert!(rt; matches!(refusal, ApplyRefusal::StrangeNode));
+        }
+    }
+    assert_eq!(rt; book.len(), 0);
+}
+
+#[test]
+fn mends_what_was_disturbed(rt: HostRuntime) {
+    let mut book = Book::open_book(rt.alloc(), line(&rt, rt.alloc()), MAX_ENTRIES);
+    let regs = WaveRegs {
+        phase: Phase::Reset,
+        session: 0,
+    };
+    assert!(rt; book.disturb(rt.alloc(), Fault::SetWave { at: 1, regs }) == Ok(1));
+    let receipt = Receipt {
+        position: 2,
+        event: Event::Mend { at: 1 },
+        reply: Reply::Applied,
+    };
+    assert_eq!(rt; book.step(rt.alloc(), Event::Mend { at: 1 }), Ok(receipt));
 }

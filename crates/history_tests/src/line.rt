@@ -1,4 +1,4 @@
-// The line of the nodes 1, 2, 3, and one whole reset of it.
+// The line of the nodes 1, 2, 3, one whole reset of it, and a node alone.
 
 use app_interface::Idle;
 use reset_machine::{Config, Event};
@@ -8,7 +8,16 @@ use topology::Topology;
 
 // The booted line.
 pub fn line(rt: &impl Abort, alloc: Global) -> Config<Idle> {
-    let topology = Topology::build(alloc, &[1, 2, 3], &[(1, 2), (2, 3)]).expect(rt, "a graph");
+    booted(rt, alloc, &[1, 2, 3], &[(1, 2), (2, 3)])
+}
+
+// The node 7 without links, booted.
+pub fn single(rt: &impl Abort, alloc: Global) -> Config<Idle> {
+    booted(rt, alloc, &[7], &[])
+}
+
+fn booted(rt: &impl Abort, alloc: Global, nodes: &[u32], links: &[(u32, u32)]) -> Config<Idle> {
+    let topology = Topology::build(alloc, nodes, links).expect(rt, "a graph");
     match Config::<Idle>::boot(alloc, topology) {
         Ok(config) => config,
         Err(_) => panic!(rt; "memory for the graph"),

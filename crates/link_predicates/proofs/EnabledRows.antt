@@ -1,5 +1,6 @@
 -- A row is among the enabled ones exactly where its guard holds.
-use Rattle.std.proofs.Common.{◌≡◌, ◌≢◌, ◌⊎◌, ◌<◌, ◌≤◌, suc, nat_eq, nat_lt, ℕ, Bool, true, false, cond, ◌&&◌, ◌||◌, ◌==◌, List, [], ◌∷◌, map, filter, Option, Some, None, Result, Ok, Err, refl, sym, ap, ◌∙◌}
+use Rattle.std.proofs.Common.{◌≡◌, ◌≢◌, ◌⊎◌, ◌<◌, ◌≤◌, suc, nat_eq, nat_lt, ℕ, Bool, true, false, cond, ◌&&◌, ◌||◌}
+use Rattle.std.proofs.Common.{◌==◌, List, [], ◌∷◌, map, filter, Option, Some, None, Result, Ok, Err, refl, sym, ap, ◌∙◌}
 use Rattle.std.specs.List.{list_any}
 use Rattle.action_tables.specs.Numbers.{is_among}
 use Rattle.std.proofs.lemmas.Option.{none-some}
@@ -21,14 +22,16 @@ and_false : (b : Bool) → (b && false) ≡ false
 and_false true = refl
 and_false false = refl
 
-pub among_enabled : {E : Type 0} (n : ℕ) (rows : List (Row E)) → is_among n (enabled_of rows) ≡ list_any (λ row. row.number == n && row.holds) rows
+pub among_enabled : {E : Type 0} (n : ℕ) (rows : List (Row E))
+    → is_among n (enabled_of rows) ≡ list_any (λ row. row.number == n && row.holds) rows
 unfolding enabled_of
 among_enabled n [] = refl
 among_enabled n (row ∷ rows) =
     let rest = among_enabled n rows in
     let later = filter (λ r. r.holds) rows in
     let any = list_any (λ r. r.number == n && r.holds) rows in
-    elim row.holds as (λ b. is_among n (map (λ r. r.number) (cond b (row ∷ later) later)) ≡ ((row.number == n && b) || any)) [
+    elim row.holds
+        as (λ b. is_among n (map (λ r. r.number) (cond b (row ∷ later) later)) ≡ ((row.number == n && b) || any)) [
       | true ↦ ap (λ b. (row.number == n) || b) rest ∙ ap (λ b. b || any) (sym (and_true (row.number == n)))
       | false ↦ rest ∙ ap (λ b. b || any) (sym (and_false (row.number == n)))
     ]
@@ -42,7 +45,8 @@ abbrev pub first_of : ℕ → ℕ → ℕ → ℕ → Bool → Bool → Bool →
 first_of a b c d p q r s = cond p (Some a) (cond q (Some b) (cond r (Some c) (cond s (Some d) None)))
 
 pub first_by : {E : Type 0} (rows : List (Row E)) (a b c d : ℕ)
-    → first_enabled (a ∷ b ∷ c ∷ d ∷ []) (enabled_of rows) ≡ first_of a b c d (row_holds a rows) (row_holds b rows) (row_holds c rows) (row_holds d rows)
+    → first_enabled (a ∷ b ∷ c ∷ d ∷ []) (enabled_of rows)
+        ≡ first_of a b c d (row_holds a rows) (row_holds b rows) (row_holds c rows) (row_holds d rows)
 first_by rows a b c d =
     let among : ℕ → Bool = λ n. is_among n (enabled_of rows) in
     ap (λ p. first_of a b c d p (among b) (among c) (among d)) (among_enabled a rows)

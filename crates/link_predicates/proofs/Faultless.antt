@@ -1,5 +1,7 @@
 -- All faults are the application's exactly where the registers are sound.
-use Rattle.std.proofs.Common.{◌≡◌, ◌≢◌, ◌⊎◌, inl, inr, ℕ, zero, suc, ◌<◌, nat_eq, Bool, true, false, cond, List, [], ◌∷◌, ◌++◌, Option, Some, None, length, get_or, flat_map, map, refl, sym, ap, subst, ◌∙◌, true≢false, arith}
+use Rattle.std.proofs.Common.{◌≡◌, ◌≢◌, ◌⊎◌, inl, inr, ℕ, zero, suc, ◌<◌, nat_eq, Bool, true, false, cond, List, []}
+use Rattle.std.proofs.Common.{◌∷◌, ◌++◌, Option, Some, None, length, get_or, flat_map, map, refl, sym, ap, subst, ◌∙◌}
+use Rattle.std.proofs.Common.{true≢false, arith}
 use Rattle.std.specs.List.{Contains, list_all}
 use Rattle.std.proofs.lemmas.Bool.{and_from, and_parts, eq-eqb}
 use Rattle.std.proofs.lemmas.Bool.Decides.{eqb_tells}
@@ -16,7 +18,8 @@ use Rattle.wave_layer.specs.WaveTable.{WaveHolds}
 use Rattle.reset_model.specs.Configuration.{Configuration, tree_of, wave_of}
 use Rattle.reset_model.specs.Sound.{IsSound}
 use Rattle.reset_model.specs.View.{near_of}
-use Rattle.link_predicates.specs.Faults.{app_row, fault_of, faults, is_of_app, link_faults, mending_row, node_faults, own_row, tree_row, wave_row}
+use Rattle.link_predicates.specs.Faults.{app_row, fault_of, faults, is_of_app, link_faults, mending_row, node_faults}
+use Rattle.link_predicates.specs.Faults.{own_row, tree_row, wave_row}
 use Rattle.link_predicates.specs.declared.fault.Family.TheVariants.{Tree, Wave, App as OfApp}
 use Rattle.link_predicates.specs.declared.fault.LinkFault.{LinkFault}
 use Rattle.link_predicates.proofs.EnabledRows.{told_right, told_wrong}
@@ -25,23 +28,29 @@ use Rattle.link_predicates.proofs.OwnRows.{own_tells}
 
 -- all that the lists have pass exactly where all of each list do
 module _ {A : Type 0} (p : A → Bool) (f : ℕ → List A) where
-  passes_at : (ids : List ℕ) (k : ℕ) → k < length ids → list_all p (flat_map f ids) ≡ true → (j : ℕ) → get_or ids k j ≡ j → list_all p (f j) ≡ true
+  passes_at : (ids : List ℕ) (k : ℕ) → k < length ids → list_all p (flat_map f ids) ≡ true → (j : ℕ)
+      → get_or ids k j ≡ j → list_all p (f j) ≡ true
   passes_at [] k short all j is = absurd (omega arith)
-  passes_at (i ∷ ids) zero short all j is = subst (λ n. list_all p (f n) ≡ true) is (and_parts _ _ (sym (list_all-append p (f i) (flat_map f ids)) ∙ all)).0
-  passes_at (i ∷ ids) (suc k) short all j is = passes_at ids k (omega arith) (and_parts _ _ (sym (list_all-append p (f i) (flat_map f ids)) ∙ all)).1 j is
+  passes_at (i ∷ ids) zero short all j is =
+      subst (λ n. list_all p (f n) ≡ true) is (and_parts _ _ (sym (list_all-append p (f i) (flat_map f ids)) ∙ all)).0
+  passes_at (i ∷ ids) (suc k) short all j is =
+      passes_at ids k (omega arith) (and_parts _ _ (sym (list_all-append p (f i) (flat_map f ids)) ∙ all)).1 j is
 
   all_pass : (ids : List ℕ) → ((j : ℕ) → Contains ids j → list_all p (f j) ≡ true) → list_all p (flat_map f ids) ≡ true
   all_pass [] each = refl
   all_pass (i ∷ ids) each =
       list_all-append p (f i) (flat_map f ids)
-      ∙ and_from _ _ (each i (0, omega arith, refl)) (all_pass ids (λ j there. each j (suc there.0, omega (arith, there.1), there.2)))
+      ∙ and_from _ _ (each i (0, omega arith, refl))
+          (all_pass ids (λ j there. each j (suc there.0, omega (arith, there.1), there.2)))
 
 -- a list with a row's fault passes exactly where no row fails
-no_tree : (i j : ℕ) (row : Option ℕ) (rest : List LinkFault) → list_all is_of_app (fault_of i j Tree row ++ rest) ≡ true → (row ≡ None) × (list_all is_of_app rest ≡ true)
+no_tree : (i j : ℕ) (row : Option ℕ) (rest : List LinkFault) → list_all is_of_app (fault_of i j Tree row ++ rest) ≡ true
+    → (row ≡ None) × (list_all is_of_app rest ≡ true)
 no_tree i j None rest all = (refl, all)
 no_tree i j (Some row) rest all = absurd (true≢false (sym all))
 
-no_wave : (i j : ℕ) (row : Option ℕ) (rest : List LinkFault) → list_all is_of_app (fault_of i j Wave row ++ rest) ≡ true → (row ≡ None) × (list_all is_of_app rest ≡ true)
+no_wave : (i j : ℕ) (row : Option ℕ) (rest : List LinkFault) → list_all is_of_app (fault_of i j Wave row ++ rest) ≡ true
+    → (row ≡ None) × (list_all is_of_app rest ≡ true)
 no_wave i j None rest all = (refl, all)
 no_wave i j (Some row) rest all = absurd (true≢false (sym all))
 
@@ -74,12 +83,19 @@ module _ {L : Type 0} (app : App L) (c : Configuration L) (graph : IsGraph c.gra
   later i j = fault_of i j Wave (wave_row (near_of app c i) (near_of app c j)) ++ last i j
 
   linked_there : (i j : ℕ) → AreLinked g i j → Contains (neighbours_of g i) j
-  linked_there i j linked = Contains-has (neighbours_of g i) j (has-filter (are_linked g i) g.ids j ∙ and_from _ _ linked (has-Contains g.ids j (graph.ends j i (graph.symmetric j i ∙ linked))))
+  linked_there i j linked =
+      Contains-has (neighbours_of g i) j
+      (has-filter (are_linked g i) g.ids j
+      ∙ and_from _ _ linked (has-Contains g.ids j (graph.ends j i (graph.symmetric j i ∙ linked))))
 
   there_linked : (i j : ℕ) → Contains (neighbours_of g i) j → AreLinked g i j
-  there_linked i j there = (and_parts (are_linked g i j) (has g.ids j) (sym (has-filter (are_linked g i) g.ids j) ∙ has-Contains (neighbours_of g i) j there)).0
+  there_linked i j there =
+      (and_parts (are_linked g i j) (has g.ids j)
+      (sym (has-filter (are_linked g i) g.ids j) ∙ has-Contains (neighbours_of g i) j there)).0
 
-  near_list : (i : ℕ) → flat_map (link_faults app g.bound (near_of app c i)) (map (near_of app c) (neighbours_of g i)) ≡ flat_map (links i) (neighbours_of g i)
+  near_list : (i : ℕ)
+      → flat_map (link_faults app g.bound (near_of app c i)) (map (near_of app c) (neighbours_of g i))
+      ≡ flat_map (links i) (neighbours_of g i)
   near_list i = flat_map-map (link_faults app g.bound (near_of app c i)) (near_of app c) (neighbours_of g i)
 
   -- ---- from faults that are all the application's to sound registers
@@ -94,23 +110,29 @@ module _ {L : Type 0} (app : App L) (c : Configuration L) (graph : IsGraph c.gra
     link : (i j : ℕ) → AreLinked g i j → list_all is_of_app (links i j) ≡ true
     link i j linked =
         let there = linked_there i j linked in
-        let all_links = ap (list_all is_of_app) (sym (near_list i)) ∙ (no_tree i i (own_row c i) _ (node i (graph.ends i j linked))).1 in
+        let all_links =
+            ap (list_all is_of_app) (sym (near_list i))
+            ∙ (no_tree i i (own_row c i) _ (node i (graph.ends i j linked))).1 in
         passes_at is_of_app (links i) (neighbours_of g i) there.0 there.1 all_links j there.2
 
     tree : (i j : ℕ) → AreLinked g i j → tree_row g.bound (near_of app c i) (near_of app c j) ≡ None
-    tree i j linked = (no_tree i j (tree_row g.bound (near_of app c i) (near_of app c j)) (later i j) (link i j linked)).0
+    tree i j linked =
+        (no_tree i j (tree_row g.bound (near_of app c i) (near_of app c j)) (later i j) (link i j linked)).0
 
     wave : (i j : ℕ) → AreLinked g i j → wave_row (near_of app c i) (near_of app c j) ≡ None
     wave i j linked =
         (no_wave i j (wave_row (near_of app c i) (near_of app c j)) (last i j)
         (no_tree i j (tree_row g.bound (near_of app c i) (near_of app c j)) (later i j) (link i j linked)).1).0
 
-    right : (i j : ℕ) (linked : AreLinked g i j) → (IsFather g t i j × Follows g g.bound t i) ⊎ Adopts g g.bound t i j → ⊥
+    right : (i j : ℕ) (linked : AreLinked g i j) → (IsFather g t i j × Follows g g.bound t i) ⊎ Adopts g g.bound t i j
+        → ⊥
     right i j linked = told_right _ (end_tells g g.bound t graph i j linked) (tree i j linked)
 
     follows : (i : ℕ) → Follows g g.bound t i → ⊥
-    follows i (follow_root j father near apart) = right i j father.linked (inl (father, follow_root j father near apart))
-    follows i (follow_dist j father near same apart) = right i j father.linked (inl (father, follow_dist j father near same apart))
+    follows i (follow_root j father near apart) =
+        right i j father.linked (inl (father, follow_root j father near apart))
+    follows i (follow_dist j father near same apart) =
+        right i j father.linked (inl (father, follow_dist j father near same apart))
 
     adopts : (i j : ℕ) → Adopts g g.bound t i j → ⊥
     adopts i j (adopt_root linked near higher) = right i j linked (inr (adopt_root linked near higher))
@@ -123,7 +145,8 @@ module _ {L : Type 0} (app : App L) (c : Configuration L) (graph : IsGraph c.gra
 
     pub sound : IsSound c
     sound = record {
-      tree = λ i there. record { claims = told_right _ (own_tells g t graph i) (own i there); follows = follows i; adopts = adopts i };
+      tree = λ i there. record { claims = told_right _ (own_tells g t graph i) (own i there); follows = follows i;
+          adopts = adopts i };
       wave = holds;
     }
 
@@ -140,10 +163,13 @@ module _ {L : Type 0} (app : App L) (c : Configuration L) (graph : IsGraph c.gra
     wave_silent : (i j : ℕ) → AreLinked g i j → wave_row (near_of app c i) (near_of app c j) ≡ None
     wave_silent i j linked = at (eqb_tells (t i).father j)
       where
-        at : ((nat_eq (t i).father j ≡ true) × ((t i).father ≡ j)) ⊎ ((nat_eq (t i).father j ≡ false) × ((t i).father ≢ j)) → wave_row (near_of app c i) (near_of app c j) ≡ None
+        at : ((nat_eq (t i).father j ≡ true) × ((t i).father ≡ j))
+            ⊎ ((nat_eq (t i).father j ≡ false) × ((t i).father ≢ j))
+            → wave_row (near_of app c i) (near_of app c j) ≡ None
         at (inl father) =
             ap (λ b. cond b (mending_row (w i) (w j)) None) father.0
-            ∙ denied_where_right (mending_row (w i) (w j)) (mending_tells (w i) (w j)) (are.wave i j (record { named = father.1; linked = linked }))
+            ∙ denied_where_right (mending_row (w i) (w j)) (mending_tells (w i) (w j))
+                (are.wave i j (record { named = father.1; linked = linked }))
         at (inr other) = ap (λ b. cond b (mending_row (w i) (w j)) None) other.0
 
     link_silent : (i j : ℕ) → AreLinked g i j → list_all is_of_app (links i j) ≡ true
@@ -154,7 +180,10 @@ module _ {L : Type 0} (app : App L) (c : Configuration L) (graph : IsGraph c.gra
 
     node_silent : (i : ℕ) → IsNode g i → list_all is_of_app (node_faults app c i) ≡ true
     node_silent i there =
-        ap (λ o. list_all is_of_app (fault_of i i Tree o ++ flat_map (link_faults app g.bound (near_of app c i)) (map (near_of app c) (neighbours_of g i)))) (told_wrong _ (own_tells g t graph i) (are.tree i there).claims)
+        ap (λ o. list_all is_of_app
+            (fault_of i i Tree o
+            ++ flat_map (link_faults app g.bound (near_of app c i)) (map (near_of app c) (neighbours_of g i))))
+            (told_wrong _ (own_tells g t graph i) (are.tree i there).claims)
         ∙ ap (list_all is_of_app) (near_list i)
         ∙ all_pass is_of_app (links i) (neighbours_of g i) (λ j near. link_silent i j (there_linked i j near))
 

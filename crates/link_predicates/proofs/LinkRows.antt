@@ -1,5 +1,7 @@
 -- What the first failing row at an end of a link says of the registers at its ends.
-use Rattle.std.proofs.Common.{arith, ◌≡◌, ◌≢◌, ◌⊎◌, inl, inr, ℕ, suc, ◌+◌, nat_eq, true≢false, subst, Bool, true, false, cond, ◌&&◌, ◌||◌, ◌==◌, nat_lt, [], ◌∷◌, Option, Some, None, Result, Err, refl, sym, ap, ◌∙◌}
+use Rattle.std.proofs.Common.{arith, ◌≡◌, ◌≢◌, ◌⊎◌, inl, inr, ℕ, suc, ◌+◌, nat_eq, true≢false, subst, Bool, true, false}
+use Rattle.std.proofs.Common.{cond, ◌&&◌, ◌||◌, ◌==◌, nat_lt, [], ◌∷◌, Option, Some, None, Result, Err, refl, sym, ap}
+use Rattle.std.proofs.Common.{◌∙◌}
 use Rattle.std.proofs.lemmas.Bool.Decides.{eqb_tells, leb_tells}
 use Rattle.action_tables.specs.Table.{enabled_of}
 use Rattle.topology.specs.Graph.{Graph, AreLinked, IsGraph}
@@ -30,7 +32,8 @@ either_tells E a b regs true q is = is.0
 either_tells E a b regs false true is = is.0
 either_tells E a b regs false false is = is
 
-both_tell : (A B : Type 0) (a b c d : ℕ) (p q r s : Bool) → Tells A (first_of_two a b p q) → Tells B (first_of_two c d r s) → Tells (A ⊎ B) (first_of a b c d p q r s)
+both_tell : (A B : Type 0) (a b c d : ℕ) (p q r s : Bool) → Tells A (first_of_two a b p q)
+    → Tells B (first_of_two c d r s) → Tells (A ⊎ B) (first_of a b c d p q r s)
 both_tell A B a b c d true q r s wrong other = inl wrong
 both_tell A B a b c d false true r s wrong other = inl wrong
 both_tell A B a b c d false false true s right other = inr other
@@ -61,19 +64,27 @@ module _ (g : Graph) (K : ℕ) (t : ℕ → TreeRegs) (graph : IsGraph g) (i j :
       Answered : Type 0
       Answered = Tells (IsOtherFather g K t i j) (first_of_two 5 6 (rows 5) (rows 6))
 
-      up : nat_eq j (t i).father ≡ true → j ≡ (t i).father → Lt (t i).dist K → Eq (t i).root (t j).root → Eq (t i).dist ((t j).dist + 1) → Answered
+      up : nat_eq j (t i).father ≡ true → j ≡ (t i).father → Lt (t i).dist K → Eq (t i).root (t j).root
+          → Eq (t i).dist ((t j).dist + 1) → Answered
       up test named (inr far) root dist = rw (test, far.0) rests
         where
           rests : IsOtherFather g K t i j → ⊥
           rests (_, follow_root k _ near _) = absurd (omega (arith, near, far.1))
           rests (_, follow_dist k _ near _ _) = absurd (omega (arith, near, far.1))
-      up test named (inl near) (inr root) dist = rw (test, near.0, root.0) (record { named = sym named; linked = linked }, follow_root j (record { named = sym named; linked = linked }) near.1 root.1)
-      up test named (inl near) (inl root) (inr dist) = rw (test, near.0, root.0, dist.0) (record { named = sym named; linked = linked }, follow_dist j (record { named = sym named; linked = linked }) near.1 root.1 dist.1)
+      up test named (inl near) (inr root) dist =
+          rw (test, near.0, root.0)
+          (record { named = sym named; linked = linked }, follow_root j (record { named = sym named; linked = linked })
+          near.1 root.1)
+      up test named (inl near) (inl root) (inr dist) =
+          rw (test, near.0, root.0, dist.0)
+          (record { named = sym named; linked = linked }, follow_dist j (record { named = sym named; linked = linked })
+          near.1 root.1 dist.1)
       up test named (inl near) (inl root) (inl dist) = rw (test, near.0, root.0, dist.0) rests
         where
           rests : IsOtherFather g K t i j → ⊥
           rests (_, follow_root k father _ apart) = apart (root.1 ∙ ap (λ n. (t n).root) (sym (same k father named)))
-          rests (_, follow_dist k father _ _ apart) = apart (dist.1 ∙ ap (λ n. (t n).dist + 1) (sym (same k father named)))
+          rests (_, follow_dist k father _ _ apart) =
+              apart (dist.1 ∙ ap (λ n. (t n).dist + 1) (sym (same k father named)))
 
       father : Eq j (t i).father → Answered
       father (inl named) = up named.0 named.1 (leb_tells (suc (t i).dist) K) (eqb_tells _ _) (eqb_tells _ _)
@@ -87,13 +98,17 @@ module _ (g : Graph) (K : ℕ) (t : ℕ → TreeRegs) (graph : IsGraph g) (i j :
       let higher = (near && nat_lt (t i).root (t j).root) || false in
       let shorter = (near && (t i).root == (t j).root && nat_lt ((t j).dist + 1) (t i).dist) || false in
       either_tells (Adopts g K t i j) 7 8 (adopted j (t j)) higher shorter
-      (subst (λ o. IsTreeAnswer (or_next (row o 7) (or_next (row o 8) (Err NotEnabled))) (Adopts g K t i j) (adopted j (t j)))
+      (subst (λ o. IsTreeAnswer (or_next (row o 7) (or_next (row o 8) (Err NotEnabled))) (Adopts g K t i j)
+          (adopted j (t j)))
       (near_some g K t no_wave graph i j linked) (adopt_is g K t no_wave graph i j linked))
 
   -- rows 5 to 8 tell whether the neighbour is another father than i takes it to be, or is to be adopted
-  pub end_tells : Tells (IsOtherFather g K t i j ⊎ Adopts g K t i j) (first_enabled (5 ∷ 6 ∷ 7 ∷ 8 ∷ []) (enabled_of (tree_table seen seen.near)))
-  end_tells = subst (Tells (IsOtherFather g K t i j ⊎ Adopts g K t i j)) (sym (first_by (tree_table seen seen.near) 5 6 7 8))
-      (both_tell (IsOtherFather g K t i j) (Adopts g K t i j) 5 6 7 8 (rows 5) (rows 6) (rows 7) (rows 8) follow_tells adopt_tells)
+  pub end_tells : Tells (IsOtherFather g K t i j ⊎ Adopts g K t i j)
+      (first_enabled (5 ∷ 6 ∷ 7 ∷ 8 ∷ []) (enabled_of (tree_table seen seen.near)))
+  end_tells =
+      subst (Tells (IsOtherFather g K t i j ⊎ Adopts g K t i j)) (sym (first_by (tree_table seen seen.near) 5 6 7 8))
+      (both_tell (IsOtherFather g K t i j) (Adopts g K t i j) 5 6 7 8 (rows 5) (rows 6) (rows 7) (rows 8) follow_tells
+          adopt_tells)
 
 -- a row that is told says that this doesn't hold, and none that it does
 abbrev pub Denies : Type 0 → Option ℕ → Type 0
@@ -108,7 +123,8 @@ denied_where_right (Some row) denies right = absurd (denies right)
 pub mending_tells : (own up : WaveRegs) → Denies (WaveHolds own up) (mending_row own up)
 mending_tells own up =
     subst (Denies (WaveHolds own up)) (sym (first_by (wave_table seen_up []) 8 9 10 11))
-    (at (is_reset own.phase) (is_reset up.phase) refl refl (eqb_tells own.session up.session) (eqb_tells up.session own.session) (eqb_tells up.session (next_session own.session)))
+    (at (is_reset own.phase) (is_reset up.phase) refl refl (eqb_tells own.session up.session)
+        (eqb_tells up.session own.session) (eqb_tells up.session (next_session own.session)))
   where
     seen_up : wave.LocalView
     seen_up = record { own = own; father = Is up; children = [] }
@@ -126,19 +142,30 @@ mending_tells own up =
         fits (inl same) = apart same
         fits (inr behind) = true≢false (sym reset ∙ behind.0)
 
-    late : is_reset up.phase ≡ true → up.session ≢ own.session → up.session ≢ next_session own.session → WaveHolds own up → ⊥
+    late : is_reset up.phase ≡ true → up.session ≢ own.session → up.session ≢ next_session own.session
+        → WaveHolds own up → ⊥
     late up_reset apart beyond holds = fits (holds.resetting up_reset)
       where
         fits : (own.session ≡ up.session) ⊎ ((is_reset own.phase ≡ false) × (up.session ≡ next_session own.session)) → ⊥
         fits (inl same) = apart (sym same)
         fits (inr behind) = beyond behind.1
 
-    at : (p q : Bool) → is_reset own.phase ≡ p → is_reset up.phase ≡ q → Eq own.session up.session → Eq up.session own.session → Eq up.session (next_session own.session) → Answered
-    at true false own_is up_is s back next = rw (own_is, up_is) (λ holds. true≢false (sym own_is ∙ (holds.awake up_is).0))
-    at false false own_is up_is (inl s) back next = rw (own_is, up_is, s.0) (record { awake = λ is. (own_is, s.1); resetting = λ is. absurd (true≢false (sym is ∙ up_is)) })
+    at : (p q : Bool) → is_reset own.phase ≡ p → is_reset up.phase ≡ q → Eq own.session up.session
+        → Eq up.session own.session → Eq up.session (next_session own.session) → Answered
+    at true false own_is up_is s back next =
+        rw (own_is, up_is) (λ holds. true≢false (sym own_is ∙ (holds.awake up_is).0))
+    at false false own_is up_is (inl s) back next =
+        rw (own_is, up_is, s.0)
+        (record { awake = λ is. (own_is, s.1); resetting = λ is. absurd (true≢false (sym is ∙ up_is)) })
     at false false own_is up_is (inr s) back next = rw (own_is, up_is, s.0) (λ holds. s.1 (holds.awake up_is).1)
-    at true true own_is up_is (inl s) back next = rw (own_is, up_is, s.0) (record { awake = λ is. absurd (true≢false (sym up_is ∙ is)); resetting = λ is. inl s.1 })
+    at true true own_is up_is (inl s) back next =
+        rw (own_is, up_is, s.0)
+        (record { awake = λ is. absurd (true≢false (sym up_is ∙ is)); resetting = λ is. inl s.1 })
     at true true own_is up_is (inr s) back next = rw (own_is, up_is, s.0) (awake_only own_is up_is s.1)
-    at false true own_is up_is s (inl back) next = rw (own_is, up_is, back.0) (record { awake = λ is. absurd (true≢false (sym up_is ∙ is)); resetting = λ is. inl (sym back.1) })
-    at false true own_is up_is s (inr back) (inl next) = rw (own_is, up_is, back.0, next.0) (record { awake = λ is. absurd (true≢false (sym up_is ∙ is)); resetting = λ is. inr (own_is, next.1) })
+    at false true own_is up_is s (inl back) next =
+        rw (own_is, up_is, back.0)
+        (record { awake = λ is. absurd (true≢false (sym up_is ∙ is)); resetting = λ is. inl (sym back.1) })
+    at false true own_is up_is s (inr back) (inl next) =
+        rw (own_is, up_is, back.0, next.0)
+        (record { awake = λ is. absurd (true≢false (sym up_is ∙ is)); resetting = λ is. inr (own_is, next.1) })
     at false true own_is up_is s (inr back) (inr next) = rw (own_is, up_is, back.0, next.0) (late up_is back.1 next.1)

@@ -1,5 +1,7 @@
 -- The faults of one link after another are those of all of them.
-use Rattle.std.proofs.Common.{◌≡◌, ℕ, ◌+◌, ◌<◌, ◌==◌, Bool, true, false, List, [], ◌∷◌, ◌++◌, Option, Some, None, Contains, length, take, drop, get_or, slice_index, position, find, flat_map, map, refl, sym, ap, ◌∙◌, add-one, true≢false}
+use Rattle.std.proofs.Common.{◌≡◌, ℕ, ◌+◌, ◌<◌, ◌==◌, Bool, true, false, List, [], ◌∷◌, ◌++◌, Option, Some, None}
+use Rattle.std.proofs.Common.{Contains, length, take, drop, get_or, slice_index, position, find, flat_map, map, refl}
+use Rattle.std.proofs.Common.{sym, ap, ◌∙◌, add-one, true≢false}
 use Rattle.std.specs.Option.{IfNone, IfSome, is_some, option_map, option_or}
 use Rattle.std.proofs.Math.Seq.{take-suc}
 use Rattle.std.proofs.lemmas.List.{at_drop_more, flat_map_more}
@@ -11,7 +13,8 @@ use Rattle.reset_model.specs.Configuration.{Configuration}
 use Rattle.reset_machine.proofs.NearSeen.{at_indexes, one_more}
 use Rattle.reset_model.proofs.Places.{Contains-position, id_at-position, position-Contains}
 use Rattle.reset_model.specs.View.{Neighbour, near_of}
-use Rattle.link_predicates.specs.Faults.{alarm_of, app_row, fault_of, is_of_app, link_faults, own_row, tree_row, wave_row}
+use Rattle.link_predicates.specs.Faults.{alarm_of, app_row, fault_of, is_of_app, link_faults, own_row, tree_row}
+use Rattle.link_predicates.specs.Faults.{wave_row}
 use Rattle.link_predicates.specs.declared.fault.Family.TheVariants.{Tree, Wave, App as OfApp}
 use Rattle.link_predicates.specs.declared.fault.LinkFault.{LinkFault}
 
@@ -28,49 +31,71 @@ no_node ids id None found = λ there. position-Contains ids id there (sym found)
 no_node ids id (Some index) found = tt
 
 -- what is told of one more node of a list
-pub more_told : {X A : Type 0} (f : X → List A) (xs : List X) (k : ℕ) (d : X) (first before after : List A) → k < length xs
-    → after ≡ before ++ f (get_or xs k d) → before ≡ first ++ flat_map f (take k xs) → after ≡ first ++ flat_map f (take (k + 1) xs)
+pub more_told : {X A : Type 0} (f : X → List A) (xs : List X) (k : ℕ) (d : X) (first before after : List A)
+    → k < length xs
+    → after ≡ before ++ f (get_or xs k d) → before ≡ first ++ flat_map f (take k xs)
+        → after ≡ first ++ flat_map f (take (k + 1) xs)
 more_told f xs k d first before after short told so_far =
     told ∙ ap (λ l. l ++ f (get_or xs k d)) so_far ∙ flat_map_more f first (take k xs) (get_or xs k d)
     ∙ ap (λ l. first ++ flat_map f l) (sym (take-suc xs k d short) ∙ ap (λ n. take n xs) (sym (add-one k)))
 
 -- the same of what stands at one more of a list of indexes
-pub more_told_at : {X A : Type 0} (seen : ℕ → X) (f : X → List A) (ids near : List ℕ) (k : ℕ) (first before after : List A) → k < length near
-    → after ≡ before ++ f (seen (slice_index ids (slice_index near k))) → before ≡ first ++ flat_map f (at_indexes seen ids (take k near))
+pub more_told_at : {X A : Type 0} (seen : ℕ → X) (f : X → List A) (ids near : List ℕ) (k : ℕ)
+    (first before after : List A) → k < length near
+    → after ≡ before ++ f (seen (slice_index ids (slice_index near k)))
+        → before ≡ first ++ flat_map f (at_indexes seen ids (take k near))
     → after ≡ first ++ flat_map f (at_indexes seen ids (take (k + 1) near))
 more_told_at seen f ids near k first before after short told so_far =
     let here = seen (slice_index ids (slice_index near k)) in
     let so_many = at_indexes seen ids (take k near) in
     told ∙ ap (λ l. l ++ f here) so_far ∙ flat_map_more f first so_many here
-    ∙ ap (λ l. first ++ flat_map f l) (one_more seen ids near k so_many (so_many ++ here ∷ []) here short refl refl refl)
+    ∙ ap (λ l. first ++ flat_map f l)
+        (one_more seen ids near k so_many (so_many ++ here ∷ []) here short refl refl refl)
 
 -- of the faults at an end of a link the application's is the only one of the application
 pub app_alone : {L : Type 0} (app : App L) (K : ℕ) (own other : Neighbour L)
-    → find is_of_app (link_faults app K own other) ≡ option_map (λ row. record { at = own.id; other = other.id; family = OfApp; row = row }) (app_row app K own other)
+    → find is_of_app (link_faults app K own other)
+        ≡ option_map (λ row. record { at = own.id; other = other.id; family = OfApp; row = row })
+        (app_row app K own other)
 app_alone app K own other = tree (tree_row K own other)
   where
-    last : (r : Option ℕ) → find is_of_app (fault_of own.id other.id OfApp r) ≡ option_map (λ row. record { at = own.id; other = other.id; family = OfApp; row = row }) r
+    last : (r : Option ℕ)
+        → find is_of_app (fault_of own.id other.id OfApp r)
+        ≡ option_map (λ row. record { at = own.id; other = other.id; family = OfApp; row = row }) r
     last None = refl
     last (Some row) = refl
 
-    wave : (w : Option ℕ) → find is_of_app (fault_of own.id other.id Wave w ++ fault_of own.id other.id OfApp (app_row app K own other)) ≡ option_map (λ row. record { at = own.id; other = other.id; family = OfApp; row = row }) (app_row app K own other)
+    wave : (w : Option ℕ)
+        → find is_of_app (fault_of own.id other.id Wave w ++ fault_of own.id other.id OfApp (app_row app K own other))
+        ≡ option_map (λ row. record { at = own.id; other = other.id; family = OfApp; row = row })
+        (app_row app K own other)
     wave None = last (app_row app K own other)
     wave (Some row) = last (app_row app K own other)
 
-    tree : (t : Option ℕ) → find is_of_app (fault_of own.id other.id Tree t ++ (fault_of own.id other.id Wave (wave_row own other) ++ fault_of own.id other.id OfApp (app_row app K own other))) ≡ option_map (λ row. record { at = own.id; other = other.id; family = OfApp; row = row }) (app_row app K own other)
+    tree : (t : Option ℕ)
+        → find is_of_app
+        (fault_of own.id other.id Tree t
+        ++ (fault_of own.id other.id Wave (wave_row own other)
+        ++ fault_of own.id other.id OfApp (app_row app K own other)))
+        ≡ option_map (λ row. record { at = own.id; other = other.id; family = OfApp; row = row })
+        (app_row app K own other)
     tree None = wave (wave_row own other)
     tree (Some row) = wave (wave_row own other)
 
 -- what is found in what is told of one more node, or of those that are left
-pub found_later : {X A : Type 0} (p : A → Bool) (seen : ℕ → X) (f : X → List A) (ids near : List ℕ) (k : ℕ) → k < length near
+pub found_later : {X A : Type 0} (p : A → Bool) (seen : ℕ → X) (f : X → List A) (ids near : List ℕ) (k : ℕ)
+    → k < length near
     → find p (flat_map f (at_indexes seen ids (drop k near)))
-    ≡ option_or (find p (f (seen (slice_index ids (slice_index near k))))) (find p (flat_map f (at_indexes seen ids (drop (k + 1) near))))
+    ≡ option_or (find p (f (seen (slice_index ids (slice_index near k)))))
+        (find p (flat_map f (at_indexes seen ids (drop (k + 1) near))))
 found_later p seen f ids near k short =
     at_drop_more (λ left. find p (flat_map f (at_indexes seen ids left))) near k 0 short
-    ∙ find-append p (f (seen (slice_index ids (slice_index near k)))) (flat_map f (at_indexes seen ids (drop (k + 1) near)))
+    ∙ find-append p (f (seen (slice_index ids (slice_index near k))))
+        (flat_map f (at_indexes seen ids (drop (k + 1) near)))
 
 -- a node's own fault is none of the application
-pub none_of_own : (i : ℕ) (row : Option ℕ) (rest : List LinkFault) → find is_of_app (fault_of i i Tree row ++ rest) ≡ find is_of_app rest
+pub none_of_own : (i : ℕ) (row : Option ℕ) (rest : List LinkFault)
+    → find is_of_app (fault_of i i Tree row ++ rest) ≡ find is_of_app rest
 none_of_own i None rest = refl
 none_of_own i (Some row) rest = refl
 
@@ -93,8 +118,13 @@ none_told N None found same = λ node. sym same
 none_told N (Some x) found same = tt
 
 -- the first fault of the application at a node is the first of its links to these indexes
-pub alarm_is : {L : Type 0} (app : App L) (c : Configuration L) (i : ℕ) (near : List ℕ) → map (λ n. slice_index c.graph.ids n) near ≡ neighbours_of c.graph i
-    → find is_of_app (flat_map (link_faults app c.graph.bound (near_of app c i)) (at_indexes (near_of app c) c.graph.ids near)) ≡ alarm_of app c i
+pub alarm_is : {L : Type 0} (app : App L) (c : Configuration L) (i : ℕ) (near : List ℕ)
+    → map (λ n. slice_index c.graph.ids n) near ≡ neighbours_of c.graph i
+    → find is_of_app
+        (flat_map (link_faults app c.graph.bound (near_of app c i)) (at_indexes (near_of app c) c.graph.ids near))
+        ≡ alarm_of app c i
 alarm_is app c i near lists =
-    ap (λ js. find is_of_app (flat_map (link_faults app c.graph.bound (near_of app c i)) (map (near_of app c) js))) lists
-    ∙ sym (none_of_own i (own_row c i) (flat_map (link_faults app c.graph.bound (near_of app c i)) (map (near_of app c) (neighbours_of c.graph i))))
+    ap (λ js. find is_of_app (flat_map (link_faults app c.graph.bound (near_of app c i)) (map (near_of app c) js)))
+        lists
+    ∙ sym (none_of_own i (own_row c i)
+        (flat_map (link_faults app c.graph.bound (near_of app c i)) (map (near_of app c) (neighbours_of c.graph i))))

@@ -1,5 +1,6 @@
 -- Rows 1 to 4 of the tree table ask of the neighbours only whether one of them is the father.
-use Rattle.std.proofs.Common.{◌≡◌, ℕ, nat_le, nat_lt, subst, Bool, true, false, not, cond, ◌&&◌, ◌||◌, ◌==◌, List, [], ◌∷◌, map, Option, Some, None, Err, refl, sym, ap, ◌∙◌}
+use Rattle.std.proofs.Common.{◌≡◌, ℕ, nat_le, nat_lt, subst, Bool, true, false, not, cond, ◌&&◌, ◌||◌, ◌==◌, List, []}
+use Rattle.std.proofs.Common.{◌∷◌, map, Option, Some, None, Err, refl, sym, ap, ◌∙◌}
 use Rattle.std.specs.Option.{option_map_or}
 use Rattle.std.proofs.lemmas.Bool.{eq-eqb}
 use Rattle.action_tables.specs.Table.{enabled_of}
@@ -26,18 +27,21 @@ module _ (id bound : ℕ) (own : TreeRegs) (near near' asked asked' : List (ℕ 
   abbrev pub rows' : List ℕ
   rows' = enabled_of (tree_table (seeing id bound own near') asked')
 
-  pub same_own_rows : father_passes (λ _. true) (seeing id bound own near) ≡ father_passes (λ _. true) (seeing id bound own near')
+  pub same_own_rows : father_passes (λ _. true) (seeing id bound own near)
+      ≡ father_passes (λ _. true) (seeing id bound own near')
       → first_enabled (1 ∷ 2 ∷ 3 ∷ 4 ∷ []) rows ≡ first_enabled (1 ∷ 2 ∷ 3 ∷ 4 ∷ []) rows'
   same_own_rows seen =
       let table = tree_table (seeing id bound own near) asked in
       let table' = tree_table (seeing id bound own near') asked' in
       first_by table 1 2 3 4
-      ∙ ap (λ b. first_of 1 2 3 4 (row_holds 1 table) (row_holds 2 table) ((not (own.father == id) && not b) || false) (row_holds 4 table)) seen
+      ∙ ap (λ b. first_of 1 2 3 4 (row_holds 1 table) (row_holds 2 table) ((not (own.father == id) && not b) || false)
+          (row_holds 4 table)) seen
       ∙ sym (first_by table' 1 2 3 4)
 
 -- the first of them, where these neighbours are seen
 abbrev pub first_own : ℕ → ℕ → TreeRegs → List (ℕ × TreeRegs) → Option ℕ
-first_own id bound own near = first_enabled (1 ∷ 2 ∷ 3 ∷ 4 ∷ []) (enabled_of (tree_table (seeing id bound own near) near))
+first_own id bound own near =
+    first_enabled (1 ∷ 2 ∷ 3 ∷ 4 ∷ []) (enabled_of (tree_table (seeing id bound own near) near))
 
 -- what the first of rows 1 to 4 tells is what they answer, one after the other
 first_tells : (E : Type 0) (regs : TreeRegs) (p q r s : Bool)
@@ -58,16 +62,22 @@ module _ (g : Graph) (t : ℕ → TreeRegs) (graph : IsGraph g) (i : ℕ) where
   abbrev passes : Bool → Bool
   passes linked = option_map_or (λ _. true) (cond linked (Some (t (t i).father)) None) false
 
-  whole : (b : Bool) → are_linked g i (t i).father ≡ b → father_passes (λ _. true) (seeing i g.bound (t i) all_near) ≡ passes b
-  whole b linked = ap (λ o. option_map_or (λ (_ : TreeRegs). true) o false) (near_regs-linked g g.bound t no_wave graph i (t i).father) ∙ ap passes linked
+  whole : (b : Bool) → are_linked g i (t i).father ≡ b
+      → father_passes (λ _. true) (seeing i g.bound (t i) all_near) ≡ passes b
+  whole b linked =
+      ap (λ o. option_map_or (λ (_ : TreeRegs). true) o false)
+      (near_regs-linked g g.bound t no_wave graph i (t i).father) ∙ ap passes linked
 
-  father_seen : (up : TreeRegs) → are_linked g i (t i).father ≡ true → first_own i g.bound (t i) (((t i).father, up) ∷ []) ≡ first_own i g.bound (t i) all_near
+  father_seen : (up : TreeRegs) → are_linked g i (t i).father ≡ true
+      → first_own i g.bound (t i) (((t i).father, up) ∷ []) ≡ first_own i g.bound (t i) all_near
   father_seen up linked =
       let near = ((t i).father, up) ∷ [] in
       same_own_rows i g.bound (t i) near all_near near all_near
-      (ap (λ b. option_map_or (λ (_ : TreeRegs). true) (cond b (Some up) None) false) (eq-eqb _ _ refl) ∙ sym (whole true linked))
+      (ap (λ b. option_map_or (λ (_ : TreeRegs). true) (cond b (Some up) None) false) (eq-eqb _ _ refl)
+          ∙ sym (whole true linked))
 
-  no_father_seen : are_linked g i (t i).father ≡ false → first_own i g.bound (t i) [] ≡ first_own i g.bound (t i) all_near
+  no_father_seen : are_linked g i (t i).father ≡ false
+      → first_own i g.bound (t i) [] ≡ first_own i g.bound (t i) all_near
   no_father_seen stray = same_own_rows i g.bound (t i) [] all_near [] all_near (sym (whole false stray))
 
   -- rows 1 to 4 tell whether what the node knows of its root and father is wrong

@@ -1,5 +1,6 @@
 -- Where no link table tells anything at a node that has joined, the node has no alarm.
-use Rattle.std.proofs.Common.{◌≡◌, ◌≢◌, ◌⊎◌, inl, inr, ℕ, nat_eq, Bool, true, false, cond, List, [], ◌∷◌, None, filter, find, flat_map, map, refl, sym, ap, ◌∙◌}
+use Rattle.std.proofs.Common.{◌≡◌, ◌≢◌, ◌⊎◌, inl, inr, ℕ, nat_eq, Bool, true, false, cond, List, [], ◌∷◌, None, filter}
+use Rattle.std.proofs.Common.{find, flat_map, map, refl, sym, ap, ◌∙◌}
 use Rattle.std.specs.Option.{option_map, option_or}
 use Rattle.std.proofs.lemmas.Bool.{eq-eqb}
 use Rattle.std.proofs.lemmas.Bool.Decides.{eqb_tells}
@@ -20,7 +21,8 @@ none_found : {X A : Type 0} (p : A → Bool) (f : X → List A) (of : ℕ → X)
 none_found p f of keeps [] each = refl
 none_found p f of keeps (j ∷ js) each = at (keeps j) refl (none_found p f of keeps js each)
   where
-    at : (b : Bool) → keeps j ≡ b → find p (flat_map f (map of (filter keeps js))) ≡ None → find p (flat_map f (map of (cond b (j ∷ filter keeps js) (filter keeps js)))) ≡ None
+    at : (b : Bool) → keeps j ≡ b → find p (flat_map f (map of (filter keeps js))) ≡ None
+        → find p (flat_map f (map of (cond b (j ∷ filter keeps js) (filter keeps js)))) ≡ None
     at false is rest = rest
     at true is rest =
         find-append p (f (of j)) (flat_map f (map of (filter keeps js)))
@@ -33,17 +35,24 @@ module _ {L : Type 0} (app : App L) (c : Configuration L) where
   joined_local : (i : ℕ) → HasJoined c.graph (wave_of c) i → abstract i ≡ local_of app c i
   joined_local i joined = ap (λ b. cond b (local_of app c i) (app.start c.graph i)) (eq-eqb _ _ joined)
 
-  module _ (i : ℕ) (joined : HasJoined c.graph (wave_of c) i) (quiet : (j : ℕ) → AreLinked c.graph i j → app.link_fault i c.graph.bound (abstract i) j (abstract j) ≡ None) where
+  module _ (i : ℕ) (joined : HasJoined c.graph (wave_of c) i)
+      (quiet : (j : ℕ) → AreLinked c.graph i j → app.link_fault i c.graph.bound (abstract i) j (abstract j) ≡ None)
+      where
     silent_row : (j : ℕ) → AreLinked c.graph i j → app_row app c.graph.bound (near_of app c i) (near_of app c j) ≡ None
     silent_row j linked = at (eqb_tells (wave_of c i).session (wave_of c j).session)
       where
-        at : ((nat_eq (wave_of c i).session (wave_of c j).session ≡ true) × ((wave_of c i).session ≡ (wave_of c j).session)) ⊎ ((nat_eq (wave_of c i).session (wave_of c j).session ≡ false) × ((wave_of c i).session ≢ (wave_of c j).session))
+        at : ((nat_eq (wave_of c i).session (wave_of c j).session ≡ true)
+            × ((wave_of c i).session ≡ (wave_of c j).session))
+            ⊎ ((nat_eq (wave_of c i).session (wave_of c j).session ≡ false)
+            × ((wave_of c i).session ≢ (wave_of c j).session))
             → app_row app c.graph.bound (near_of app c i) (near_of app c j) ≡ None
-        at (inr apart) = ap (λ b. cond b (app.link_fault i c.graph.bound (local_of app c i) j (local_of app c j)) None) apart.0
+        at (inr apart) =
+            ap (λ b. cond b (app.link_fault i c.graph.bound (local_of app c i) j (local_of app c j)) None) apart.0
         at (inl same) =
             ap (λ b. cond b (app.link_fault i c.graph.bound (local_of app c i) j (local_of app c j)) None) same.0
             ∙ ap (λ own. app.link_fault i c.graph.bound own j (local_of app c j)) (sym (joined_local i joined))
-            ∙ ap (λ theirs. app.link_fault i c.graph.bound (abstract i) j theirs) (sym (joined_local j (sym same.1 ∙ joined)))
+            ∙ ap (λ theirs. app.link_fault i c.graph.bound (abstract i) j theirs)
+                (sym (joined_local j (sym same.1 ∙ joined)))
             ∙ quiet j linked
 
     pub silent : alarm_of app c i ≡ None

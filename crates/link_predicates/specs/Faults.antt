@@ -1,5 +1,6 @@
 -- The faults of a configuration: which row of which table fails at which end of which link.
-use Rattle.std.specs.Prelude.{◌≡◌, ℕ, ◌==◌, Bool, true, false, if◌then◌else◌, List, [], ◌∷◌, ◌++◌, Option, Some, None, map, find, codes}
+use Rattle.std.specs.Prelude.{◌≡◌, ℕ, ◌==◌, Bool, true, false, if◌then◌else◌, List, [], ◌∷◌, ◌++◌, Option, Some, None}
+use Rattle.std.specs.Prelude.{map, find, codes}
 use Rattle.std.specs.List.{flat_map, list_all}
 use Rattle.action_tables.specs.Numbers.{is_among}
 use Rattle.action_tables.specs.Table.{enabled_of}
@@ -39,12 +40,14 @@ tree_end K own other = record { id = own.id; bound = K; own = own.tree; near = (
 
 -- rows 5 to 8: its father is this neighbour and not as it takes it to be, or the neighbour would be adopted
 abbrev pub tree_row : {L : Type 0} → ℕ → Neighbour L → Neighbour L → Option ℕ
-tree_row K own other = let v = tree_end K own other in first_enabled (5 ∷ 6 ∷ 7 ∷ 8 ∷ []) (enabled_of (tree_table v v.near))
+tree_row K own other = let v =
+    tree_end K own other in first_enabled (5 ∷ 6 ∷ 7 ∷ 8 ∷ []) (enabled_of (tree_table v v.near))
 
 -- of rows 8 to 11 of the wave table the first that is enabled, where the father has these registers
 abbrev pub mending_row : WaveRegs → WaveRegs → Option ℕ
 mending_row own up =
-    first_enabled (8 ∷ 9 ∷ 10 ∷ 11 ∷ []) (enabled_of (wave_table (record { own = own; father = Is up; children = [] }) []))
+    first_enabled (8 ∷ 9 ∷ 10 ∷ 11 ∷ [])
+        (enabled_of (wave_table (record { own = own; father = Is up; children = [] }) []))
 
 -- the same at an end, where the neighbour is the father
 abbrev pub wave_row : {L : Type 0} → Neighbour L → Neighbour L → Option ℕ
@@ -52,7 +55,8 @@ wave_row own other = if own.tree.father == other.id then mending_row own.wave ot
 
 -- the row of the application's link table, where both ends have one session
 abbrev pub app_row : {L : Type 0} → App L → ℕ → Neighbour L → Neighbour L → Option ℕ
-app_row app K own other = if own.wave.session == other.wave.session then app.link_fault own.id K own.local other.id other.local else None
+app_row app K own other =
+    if own.wave.session == other.wave.session then app.link_fault own.id K own.local other.id other.local else None
 
 -- ---- the lists
 

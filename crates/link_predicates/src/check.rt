@@ -1,9 +1,11 @@
 // The checker, and the alarm of an application.
 
-ghost use Rattle.std.specs.Prelude.{◌≡◌, ◌≢◌, ◌<◌, ◌++◌, None, Some, IfErr, IfNone, IfOk, IfSome, OnOk, find, flat_map, length, map, slice_index};
+ghost use Rattle.std.specs.Prelude.{◌≡◌, ◌≢◌, ◌<◌, ◌++◌, None, Some, IfErr, IfNone, IfOk, IfSome, OnOk, find, flat_map};
+ghost use Rattle.std.specs.Prelude.{length, map, slice_index};
 ghost use Rattle.topology.specs.Graph.{IsNode, neighbours_of};
 ghost use Rattle.reset_model.specs.View.{near_of};
-ghost use Rattle.link_predicates.specs.Faults.{alarm_of, app_row, fault_of, faults, is_of_app, link_faults, node_faults, own_row};
+ghost use Rattle.link_predicates.specs.Faults.{alarm_of, app_row, fault_of, faults, is_of_app, link_faults};
+ghost use Rattle.link_predicates.specs.Faults.{node_faults, own_row};
 ghost use Rattle.link_predicates.specs.declared.fault.Family.TheVariants.{Tree};
 
 use crate::end::{End, end_at};
@@ -22,7 +24,8 @@ pub fn check_node<P: Application>(
     at: u32,
 ) -> Result<Vec<LinkFault>, StepRefusal>
     ensures ok { IfOk result (λ found. IsNode config.now.graph at × (found.items ≡ node_faults P.app config.now at)) }
-    ensures err { IfErr result (λ f. f ≢ StepRefusal.NoMemory → (f ≡ StepRefusal.StrangeNode) × (IsNode config.now.graph at → ⊥)) }
+    ensures err { IfErr result
+        (λ f. f ≢ StepRefusal.NoMemory → (f ≡ StepRefusal.StrangeNode) × (IsNode config.now.graph at → ⊥)) }
 {
     let Some(index) = index_of(config, at) else {
         return Err(StepRefusal::StrangeNode);
@@ -113,7 +116,8 @@ fn add_node<P: Application>(
     index: usize,
 ) -> Result<(), AllocError>
     requires { index < length config.now.graph.ids }
-    ensures { OnOk result (found.new.items ≡ found.old.items ++ node_faults P.app config.now (slice_index config.now.graph.ids index)) }
+    ensures { OnOk result
+        (found.new.items ≡ found.old.items ++ node_faults P.app config.now (slice_index config.now.graph.ids index)) }
 {
     let own = end_at(config, index);
     let row = own_row(config, index, &own);
@@ -147,7 +151,8 @@ fn add_links<P: Application>(
 ) -> Result<(), AllocError>
     requires within { index < length config.now.graph.ids }
     requires there { own.now ≡ near_of P.app config.now (slice_index config.now.graph.ids index) }
-    ensures { OnOk result (found.new.items ≡ found.old.items ++ flat_map (link_faults P.app config.now.graph.bound own.now)
+    ensures { OnOk result
+        (found.new.items ≡ found.old.items ++ flat_map (link_faults P.app config.now.graph.bound own.now)
         (map (near_of P.app config.now) (neighbours_of config.now.graph (slice_index config.now.graph.ids index)))) }
 {
     config.is_graph();

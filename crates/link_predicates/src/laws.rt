@@ -26,7 +26,8 @@ pub fn faultless_is_sound<P: Application>()
 /// No fault of the tree or of the wave is told exactly where both pictures hold.
 pub fn faultless_is_pictured<P: Application>()
     ensures { (c : Configuration P.Local) → IsGraph c.graph → IsConnected c.graph
-        → (AreOfApp (faults P.app c) ↔ (TreePicture c.graph (tree_of c) × WavePicture c.graph (tree_of c) (wave_of c))) }
+        → (AreOfApp (faults P.app c)
+            ↔ (TreePicture c.graph (tree_of c) × WavePicture c.graph (tree_of c) (wave_of c))) }
 {
     faultless_is_sound::<P>();
     tree_pictures();
@@ -38,7 +39,8 @@ pub fn faultless_is_pictured<P: Application>()
 pub fn joined_are_silent<P: Application>()
     ensures invariant { (c : Configuration P.Local) (i : ℕ) → IsGraph c.graph → P.Inv c.graph (abstract_of P.app c)
         → HasJoined c.graph (wave_of c) i → alarm_of P.app c i ≡ None }
-    ensures opened { (c c' : Configuration P.Local) (es : List Event) (ds : List Done) (i : ℕ) → IsGraph c.graph → IsConnected c.graph
+    ensures opened { (c c' : Configuration P.Local) (es : List Event) (ds : List Done) (i : ℕ) → IsGraph c.graph
+        → IsConnected c.graph
         → IsShaped c → IsSound c → IsRun P.app c es ds c' → 0 < times is_open (applied es ds)
         → HasJoined c'.graph (wave_of c') i → alarm_of P.app c' i ≡ None }
 {

@@ -26,7 +26,9 @@ fn first_enabled(rows: &[u8], enabled: CaseSet) -> Option<u8>
 // Of rows 1 to 4 of the tree table the first that is enabled, where the node sees these neighbours.
 pub(crate) fn own_row(k: u32, id: u32, own: TreeRegs, near: &[(u32, TreeRegs)]) -> Option<u8>
     requires { IsView id k near.now }
-    ensures { result ≡ first_enabled (1 ∷ 2 ∷ 3 ∷ 4 ∷ []) (enabled_of (tree_table (record { id = id; bound = k; own = own; near = near.now }) near.now)) }
+    ensures { result
+        ≡ first_enabled (1 ∷ 2 ∷ 3 ∷ 4 ∷ [])
+        (enabled_of (tree_table (record { id = id; bound = k; own = own; near = near.now }) near.now)) }
 {
     let view = TreeView::new(id, k, own, near).unwrap();
     first_enabled(&[1, 2, 3, 4], tree_enabled(&view))

@@ -1,5 +1,6 @@
 -- The texts of a bit.
-use Rattle.std.proofs.Common.{◌≡◌, ◌↔◌, ℕ, Bool, true, false, List, Option, Some, None, get_or, length, refl, sym, ap, ◌∙◌, arith}
+use Rattle.std.proofs.Common.{◌≡◌, ◌↔◌, ℕ, Bool, true, false, List, Option, Some, None, get_or, length, refl, sym, ap}
+use Rattle.std.proofs.Common.{◌∙◌, arith}
 use Rattle.std.specs.Prelude.{◌==◌, ◌∷◌, [], codes}
 use Rattle.std.specs.List.{Contains, find}
 use Rattle.std.specs.Str.{bytes_eq}

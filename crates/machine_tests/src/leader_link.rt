@@ -11,7 +11,8 @@ use std::alloc::{AllocError, Global};
 use std::io::Write;
 use topology::Topology;
 
-/// The application without cases in which a node starts with whether it is linked to the greatest. There is never memory for the start state of a node with three links.
+/// The application without cases in which a node starts with whether it is linked to the greatest. There is
+/// never memory for the start state of a node with three links.
 pub(crate) struct LeaderLink;
 
 impl Application for LeaderLink {

@@ -1,5 +1,6 @@
 -- The one child that shows the rows of an event as much as all of them.
-use Rattle.std.proofs.Common.{◌≡◌, ℕ, ◌+◌, ◌<◌, ◌==◌, Bool, true, false, cond, ◌&&◌, List, [], ◌∷◌, Some, None, length, drop, map, slice_index, refl, sym, ap, ◌∙◌}
+use Rattle.std.proofs.Common.{◌≡◌, ℕ, ◌+◌, ◌<◌, ◌==◌, Bool, true, false, cond, ◌&&◌, List, [], ◌∷◌, Some, None, length}
+use Rattle.std.proofs.Common.{drop, map, slice_index, refl, sym, ap, ◌∙◌}
 use Rattle.std.proofs.lemmas.Bool.{eq-eqb}
 use Rattle.topology.specs.Building.{has}
 use Rattle.topology.specs.Graph.{Graph, are_linked}
@@ -13,23 +14,29 @@ use Rattle.reset_model.proofs.Seen.{has-children_of, lookup-among}
 -- ---- the child that a relay names
 
 module _ (g : Graph) (t : ℕ → TreeRegs) (w : ℕ → WaveRegs) (i c : ℕ) where
-  asked : (b : Bool) → has (children_of g t i) c ≡ b → child_regs c (map (λ k. (k, w k)) (children_of g t i)) ≡ cond b (Some (w c)) None
+  asked : (b : Bool) → has (children_of g t i) c ≡ b
+      → child_regs c (map (λ k. (k, w k)) (children_of g t i)) ≡ cond b (Some (w c)) None
   asked b child = lookup-among w (children_of g t i) c ∙ ap (λ d. cond d (Some (w c)) None) child
 
   -- it is a child
-  pub asked_child : (regs : WaveRegs) → (t c).father ≡ i → are_linked g i c ≡ true → has g.ids c ≡ true → w c ≡ regs → child_regs c ((c, regs) ∷ []) ≡ child_regs c (map (λ k. (k, w k)) (children_of g t i))
+  pub asked_child : (regs : WaveRegs) → (t c).father ≡ i → are_linked g i c ≡ true → has g.ids c ≡ true → w c ≡ regs
+      → child_regs c ((c, regs) ∷ []) ≡ child_regs c (map (λ k. (k, w k)) (children_of g t i))
   asked_child regs father linked node same =
       let named = eq-eqb (t c).father i father in
       let child : has (children_of g t i) c ≡ true = rw (has-children_of g t i c, named, linked, node) refl in
       ap (λ b. cond b (Some regs) None) (eq-eqb c c refl) ∙ ap (λ r. Some r) (sym same) ∙ sym (asked true child)
 
   -- its father is another node
-  pub asked_of_another : ((t c).father == i) ≡ false → child_regs c [] ≡ child_regs c (map (λ k. (k, w k)) (children_of g t i))
+  pub asked_of_another : ((t c).father == i) ≡ false
+      → child_regs c [] ≡ child_regs c (map (λ k. (k, w k)) (children_of g t i))
   asked_of_another other = sym (asked false (rw (has-children_of g t i c, other) refl))
 
   -- it is no neighbour
-  pub asked_stranger : are_linked g i c ≡ false → child_regs c [] ≡ child_regs c (map (λ k. (k, w k)) (children_of g t i))
-  asked_stranger stray = sym (asked false (has-children_of g t i c ∙ ap (λ b. ((t c).father == i) && (b && has g.ids c)) stray ∙ never ((t c).father == i)))
+  pub asked_stranger : are_linked g i c ≡ false
+      → child_regs c [] ≡ child_regs c (map (λ k. (k, w k)) (children_of g t i))
+  asked_stranger stray =
+      sym (asked false
+      (has-children_of g t i c ∙ ap (λ b. ((t c).father == i) && (b && has g.ids c)) stray ∙ never ((t c).father == i)))
     where
       never : (b : Bool) → (b && false) ≡ false
       never true = refl
@@ -37,24 +44,32 @@ module _ (g : Graph) (t : ℕ → TreeRegs) (w : ℕ → WaveRegs) (i c : ℕ) w
 
 -- ---- the first child that isn't done
 
-module _ (ids : List ℕ) (t : ℕ → TreeRegs) (w : ℕ → WaveRegs) (i s : ℕ) (near : List ℕ) (n : ℕ) (short : n < length near) where
+module _ (ids : List ℕ) (t : ℕ → TreeRegs) (w : ℕ → WaveRegs) (i s : ℕ) (near : List ℕ) (n : ℕ)
+    (short : n < length near) where
   abbrev c : ℕ
   c = slice_index ids (slice_index near n)
 
   abbrev later : List (ℕ × WaveRegs)
   later = children_among ids t w i (drop (n + 1) near)
 
-  turn : (b : Bool) → ((t c).father == i) ≡ b → children_done s (children_among ids t w i (drop n near)) ≡ children_done s (cond b ((c, w c) ∷ later) later)
-  turn b father = ap (children_done s) (among-drop ids (λ k. (t k).father == i) (λ k. (k, w k)) near n short ∙ ap (λ d. cond d ((c, w c) ∷ later) later) father)
+  turn : (b : Bool) → ((t c).father == i) ≡ b
+      → children_done s (children_among ids t w i (drop n near)) ≡ children_done s (cond b ((c, w c) ∷ later) later)
+  turn b father =
+      ap (children_done s)
+      (among-drop ids (λ k. (t k).father == i) (λ k. (k, w k)) near n short
+      ∙ ap (λ d. cond d ((c, w c) ∷ later) later) father)
 
   -- a child that isn't done
-  pub undone_here : ((t c).father == i) ≡ true → is_done s (w c) ≡ false → children_done s (children_among ids t w i (drop n near)) ≡ false
+  pub undone_here : ((t c).father == i) ≡ true → is_done s (w c) ≡ false
+      → children_done s (children_among ids t w i (drop n near)) ≡ false
   undone_here father undone = turn true father ∙ ap (λ b. b && children_done s later) undone
 
   -- one that is
-  pub done_here : ((t c).father == i) ≡ true → is_done s (w c) ≡ true → children_done s later ≡ children_done s (children_among ids t w i (drop n near))
+  pub done_here : ((t c).father == i) ≡ true → is_done s (w c) ≡ true
+      → children_done s later ≡ children_done s (children_among ids t w i (drop n near))
   done_here father done = sym (turn true father ∙ ap (λ b. b && children_done s later) done)
 
   -- no child
-  pub another_here : ((t c).father == i) ≡ false → children_done s later ≡ children_done s (children_among ids t w i (drop n near))
+  pub another_here : ((t c).father == i) ≡ false
+      → children_done s later ≡ children_done s (children_among ids t w i (drop n near))
   another_here father = sym (turn false father)

@@ -1,5 +1,7 @@
 -- What the outcome of a step says of its answer.
-use Rattle.std.proofs.Common.{◌≡◌, ◌≢◌, ℕ, ◌==◌, Bool, true, false, cond, ◌+◌, ◌<◌, List, [], ◌∷◌, ◌++◌, length, slice_get, slice_index, slice_set, slice_index_or, map, take, position, add-one, Option, Some, IfSome, Result, Ok, Err, IfOk, IfErr, MatchResult, refl, sym, ap, ap₂, ◌∙◌}
+use Rattle.std.proofs.Common.{◌≡◌, ◌≢◌, ℕ, ◌==◌, Bool, true, false, cond, ◌+◌, ◌<◌, List, [], ◌∷◌, ◌++◌, length}
+use Rattle.std.proofs.Common.{slice_get, slice_index, slice_set, slice_index_or, map, take, position, add-one, Option}
+use Rattle.std.proofs.Common.{Some, IfSome, Result, Ok, Err, IfOk, IfErr, MatchResult, refl, sym, ap, ap₂, ◌∙◌}
 use Rattle.std.proofs.lemmas.List.{get_or-map, map-append}
 use Rattle.std.proofs.lemmas.List.Quantifiers.{position-Some}
 use Rattle.std.proofs.lemmas.Option.{slice_get-get_or}
@@ -8,13 +10,15 @@ use Rattle.topology.specs.Graph.{Graph, IsConnected, IsGraph, node_bound}
 use Rattle.wave_layer.specs.declared.regs.WaveRegs.{WaveRegs}
 use Rattle.wave_layer.specs.declared.regs.WaveMove.{WaveMove}
 use Rattle.reset_model.specs.declared.event.Event.{Event}
-use Rattle.reset_model.specs.declared.event.Event.TheVariants.{Claim, Follow, Adopt, Request, Relay, Open, Join, Finish, Mend, Act}
+use Rattle.reset_model.specs.declared.event.Event.TheVariants.{Claim, Follow, Adopt, Request, Relay, Open, Join, Finish}
+use Rattle.reset_model.specs.declared.event.Event.TheVariants.{Mend, Act}
 use Rattle.reset_model.specs.declared.plan.Fired.TheVariants.{Wave}
 use Rattle.reset_model.specs.declared.step.Reply.{Reply}
 use Rattle.reset_model.specs.declared.step.Reply.TheVariants.{Complete}
 use Rattle.reset_model.specs.declared.step.StepRefusal.{StepRefusal}
 use Rattle.reset_model.specs.declared.step.StepRefusal.TheVariants.{NoMemory}
-use Rattle.reset_model.specs.Configuration.{Configuration, IsShaped, put_at, start_list, tree_of, wave_of, with_locals, with_wave}
+use Rattle.reset_model.specs.Configuration.{Configuration, IsShaped, put_at, start_list, tree_of, wave_of, with_locals}
+use Rattle.reset_model.specs.Configuration.{with_wave}
 use Rattle.reset_model.specs.LocalSteps.{planned_of}
 use Rattle.reset_model.specs.MachineSteps.{IsStep, IsRefused}
 use Rattle.reset_model.specs.Outcome.{act_outcome, after_fired, fired_reply, restarted, row_outcome}
@@ -43,15 +47,21 @@ no_act (Act i case with) other = absurd (other i case with refl)
 module _ {L : Type 0} (app : App L) (c c' : Configuration L) (e : Event) where
   -- the answer r, which leaves c', is the outcome
   abbrev pub IsOutcome : Result Reply StepRefusal → Type 0
-  IsOutcome r = MatchResult r (λ reply. outcome_of app c e ≡ Ok (c', reply)) (λ f. f ≢ NoMemory → outcome_of app c e ≡ Err f)
+  IsOutcome r =
+      MatchResult r (λ reply. outcome_of app c e ≡ Ok (c', reply)) (λ f. f ≢ NoMemory → outcome_of app c e ≡ Err f)
 
-  pub act_is_outcome : IsGraph c.graph → (i case : ℕ) (with : Option ℕ) → e ≡ Act i case with → (r : Result Reply StepRefusal)
-      → MatchResult r (λ reply. act_outcome app c i case with ≡ Ok (c', reply)) (λ f. f ≢ NoMemory → act_outcome app c i case with ≡ Err f) → IsOutcome r
-  act_is_outcome graph i case with is (Ok reply) h = ap (outcome_of app c) is ∙ outcome-is app c graph (Act i case with) ∙ h
-  act_is_outcome graph i case with is (Err f) h = λ other. ap (outcome_of app c) is ∙ outcome-is app c graph (Act i case with) ∙ h other
+  pub act_is_outcome : IsGraph c.graph → (i case : ℕ) (with : Option ℕ)
+      → e ≡ Act i case with → (r : Result Reply StepRefusal)
+      → MatchResult r (λ reply. act_outcome app c i case with ≡ Ok (c', reply))
+          (λ f. f ≢ NoMemory → act_outcome app c i case with ≡ Err f) → IsOutcome r
+  act_is_outcome graph i case with is (Ok reply) h =
+      ap (outcome_of app c) is ∙ outcome-is app c graph (Act i case with) ∙ h
+  act_is_outcome graph i case with is (Err f) h =
+      λ other. ap (outcome_of app c) is ∙ outcome-is app c graph (Act i case with) ∙ h other
 
   pub row_is_outcome : IsGraph c.graph → is_act e ≡ false → (r : Result Reply StepRefusal)
-      → MatchResult r (λ reply. row_outcome app c e ≡ Ok (c', reply)) (λ f. f ≢ NoMemory → row_outcome app c e ≡ Err f) → IsOutcome r
+      → MatchResult r (λ reply. row_outcome app c e ≡ Ok (c', reply)) (λ f. f ≢ NoMemory → row_outcome app c e ≡ Err f)
+          → IsOutcome r
   row_is_outcome graph row (Ok reply) h = outcome-rows app c e graph row ∙ h
   row_is_outcome graph row (Err f) h = λ other. outcome-rows app c e graph row ∙ h other
 
@@ -60,11 +70,13 @@ module _ {L : Type 0} (app : App L) (c c' : Configuration L) (e : Event) where
     answer_step (Ok reply) is = (outcome_is_step app c graph shaped e c' reply is).0
     answer_step (Err f) is = tt
 
-    pub answer_reply : (r : Result Reply StepRefusal) → IsOutcome r → IfOk r (λ reply. reply ≡ reply_of (tree_of c) (wave_of c) e)
+    pub answer_reply : (r : Result Reply StepRefusal) → IsOutcome r
+        → IfOk r (λ reply. reply ≡ reply_of (tree_of c) (wave_of c) e)
     answer_reply (Ok reply) is = (outcome_is_step app c graph shaped e c' reply is).1
     answer_reply (Err f) is = tt
 
-    pub answer_refused : (r : Result Reply StepRefusal) → IsOutcome r → IfErr r (λ f. f ≢ NoMemory → IsRefused app c e f)
+    pub answer_refused : (r : Result Reply StepRefusal) → IsOutcome r
+        → IfErr r (λ f. f ≢ NoMemory → IsRefused app c e f)
     answer_refused (Ok reply) is = tt
     answer_refused (Err f) is = λ other. outcome_is_refused app c graph shaped e f (is other)
 
@@ -76,53 +88,74 @@ module _ {L : Type 0} (app : App L) (c c' : Configuration L) (e : Event) where
     answer_quiet (Ok reply) is = step_quiet app c c' e (outcome_is_step app c graph shaped e c' reply is).0
     answer_quiet (Err f) is = tt
 
-    pub answer_complete : IsConnected c.graph → (r : Result Reply StepRefusal) → IsOutcome r → (session : ℕ) → IsSound c → r ≡ Ok (Complete session) → IsComplete c' session
+    pub answer_complete : IsConnected c.graph → (r : Result Reply StepRefusal) → IsOutcome r → (session : ℕ) → IsSound c
+        → r ≡ Ok (Complete session) → IsComplete c' session
     answer_complete whole (Ok reply) is session sound told =
         let step = outcome_is_step app c graph shaped e c' reply is in
         step_complete app c c' e session graph whole step.0 sound (sym step.1 ∙ same_value told)
     answer_complete whole (Err f) is session sound told = absurd (cc)
 
   -- what a row of the wave table leaves is the outcome
-  pub wave_is_outcome : (move : WaveMove) (at : ℕ) → planned_of c.graph (node_bound c.graph) (tree_of c) (wave_of c) e ≡ Ok (Wave move) → at ≡ event_node e → (r : Result Reply StepRefusal)
-      → IfOk r (λ reply. (reply ≡ fired_reply (Wave move)) × (c' ≡ after_fired app c at (Wave move))) → IfErr r (λ f. f ≡ NoMemory)
+  pub wave_is_outcome : (move : WaveMove) (at : ℕ)
+      → planned_of c.graph (node_bound c.graph) (tree_of c) (wave_of c) e ≡ Ok (Wave move) → at ≡ event_node e
+      → (r : Result Reply StepRefusal)
+      → IfOk r (λ reply. (reply ≡ fired_reply (Wave move)) × (c' ≡ after_fired app c at (Wave move)))
+          → IfErr r (λ f. f ≡ NoMemory)
       → MatchResult r (λ reply. row_outcome app c e ≡ Ok (c', reply)) (λ f. f ≢ NoMemory → row_outcome app c e ≡ Err f)
-  wave_is_outcome move at planned here (Ok reply) h none = put_wave_outcome app c c' e move reply planned h.0 (h.1 ∙ ap (λ i. after_fired app c i (Wave move)) here)
+  wave_is_outcome move at planned here (Ok reply) h none =
+      put_wave_outcome app c c' e move reply planned h.0 (h.1 ∙ ap (λ i. after_fired app c i (Wave move)) here)
   wave_is_outcome move at planned here (Err f) h none = λ other. absurd (other none)
 
 -- ---- start states
 
 -- the start state at a place is that of the id
-pub start_at : {L : Type 0} (app : App L) (g : Graph) (starts : List L) (ix at : ℕ) (x d : L) → starts ≡ start_list app g → position (λ i. i == at) g.ids ≡ Some ix → x ≡ slice_index_or starts ix d → x ≡ app.start g at
+pub start_at : {L : Type 0} (app : App L) (g : Graph) (starts : List L) (ix at : ℕ) (x d : L)
+    → starts ≡ start_list app g → position (λ i. i == at) g.ids ≡ Some ix → x ≡ slice_index_or starts ix d
+    → x ≡ app.start g at
 start_at app g starts ix at x d is found read =
     let short = (position-Some (λ i. i == at) g.ids ix 0 found).0 in
-    read ∙ ap (λ xs. slice_index_or xs ix d) is ∙ get_or-map (app.start g) g.ids ix 0 d short ∙ ap (app.start g) (id_at-position g.ids ix at found)
+    read ∙ ap (λ xs. slice_index_or xs ix d) is ∙ get_or-map (app.start g) g.ids ix 0 d short
+        ∙ ap (app.start g) (id_at-position g.ids ix at found)
 
 -- one node more has its start state
-pub start_more : {L : Type 0} (f : ℕ → L) (ids : List ℕ) (i : ℕ) (before after : List L) (x : L) → i < length ids → x ≡ f (slice_index ids i) → after ≡ before ++ x ∷ [] → before ≡ map f (take i ids) → after ≡ map f (take (i + 1) ids)
+pub start_more : {L : Type 0} (f : ℕ → L) (ids : List ℕ) (i : ℕ) (before after : List L) (x : L) → i < length ids
+    → x ≡ f (slice_index ids i) → after ≡ before ++ x ∷ [] → before ≡ map f (take i ids)
+    → after ≡ map f (take (i + 1) ids)
 start_more {L} f ids i before after x short is pushed so_far =
     let one : L → List L = λ y. y ∷ [] in
-    pushed ∙ ap₂ (λ xs y. xs ++ one y) so_far is ∙ sym (map-append f (take i ids) (slice_index ids i ∷ [])) ∙ ap (map f) (sym (take_more 0 ids i short)) ∙ ap (λ k. map f (take k ids)) (sym (add-one i))
+    pushed ∙ ap₂ (λ xs y. xs ++ one y) so_far is ∙ sym (map-append f (take i ids) (slice_index ids i ∷ []))
+        ∙ ap (map f) (sym (take_more 0 ids i short)) ∙ ap (λ k. map f (take k ids)) (sym (add-one i))
 
 -- what is answered of an id that is there
-pub start_is : {L : Type 0} (f : ℕ → L) (ids : List ℕ) (i : ℕ) (x : L) → i < length ids → IfSome (slice_get ids i) (λ id. x ≡ f id) → x ≡ f (slice_index ids i)
+pub start_is : {L : Type 0} (f : ℕ → L) (ids : List ℕ) (i : ℕ) (x : L) → i < length ids
+    → IfSome (slice_get ids i) (λ id. x ≡ f id) → x ≡ f (slice_index ids i)
 start_is f ids i x short h = rw (slice_get-get_or ids i 0 short) at h
 
 -- ---- what is written
 
 -- what is written at a place is what the row leaves at its id
-pub wave_written : {L : Type 0} (app : App L) (c : Configuration L) (at ix : ℕ) (regs : WaveRegs) (b : Bool) (locals : List L) → length c.waves ≡ length c.graph.ids → position (λ i. i == at) c.graph.ids ≡ Some ix
-    → locals ≡ restarted app c at b → record { graph = c.graph; trees = c.trees; waves = slice_set c.waves ix regs; locals = locals } ≡ with_wave (with_locals c (restarted app c at b)) at regs
+pub wave_written : {L : Type 0} (app : App L) (c : Configuration L) (at ix : ℕ) (regs : WaveRegs) (b : Bool)
+    (locals : List L) → length c.waves ≡ length c.graph.ids → position (λ i. i == at) c.graph.ids ≡ Some ix
+    → locals ≡ restarted app c at b
+        → record { graph = c.graph; trees = c.trees; waves = slice_set c.waves ix regs; locals = locals }
+        ≡ with_wave (with_locals c (restarted app c at b)) at regs
 wave_written {L} app c at ix regs b locals same found is =
-    let after : List WaveRegs → List L → Configuration L = λ ws ls. record { graph = c.graph; trees = c.trees; waves = ws; locals = ls } in
-    ap (λ ws. after ws locals) (sym (put_at-position c.graph.ids c.waves ix at regs same found)) ∙ ap (after (put_at c.graph.ids c.waves at regs)) is
+    let after : List WaveRegs → List L → Configuration L =
+        λ ws ls. record { graph = c.graph; trees = c.trees; waves = ws; locals = ls } in
+    ap (λ ws. after ws locals) (sym (put_at-position c.graph.ids c.waves ix at regs same found))
+        ∙ ap (after (put_at c.graph.ids c.waves at regs)) is
 
 -- a copy of the start state is put where the row restarts
-pub restarted_at : {L : Type 0} (app : App L) (c : Configuration L) (starts : List L) (at ix : ℕ) (b : Bool) (x start : L) → b ≡ true → length c.locals ≡ length c.graph.ids → position (λ i. i == at) c.graph.ids ≡ Some ix
-    → starts ≡ start_list app c.graph → x ≡ slice_index_or starts ix x → start ≡ x → slice_set c.locals ix start ≡ restarted app c at b
+pub restarted_at : {L : Type 0} (app : App L) (c : Configuration L) (starts : List L) (at ix : ℕ) (b : Bool)
+    (x start : L) → b ≡ true → length c.locals ≡ length c.graph.ids → position (λ i. i == at) c.graph.ids ≡ Some ix
+    → starts ≡ start_list app c.graph → x ≡ slice_index_or starts ix x → start ≡ x
+        → slice_set c.locals ix start ≡ restarted app c at b
 restarted_at app c starts at ix b x start restarts same found is read copied =
     sym (put_at-position c.graph.ids c.locals ix at start same found)
     ∙ ap (put_at c.graph.ids c.locals at) (copied ∙ start_at app c.graph starts ix at x x is found read)
     ∙ ap (λ d. cond d (put_at c.graph.ids c.locals at (app.start c.graph at)) c.locals) (sym restarts)
 
-pub not_restarted : {L : Type 0} (app : App L) (c : Configuration L) (at : ℕ) (b : Bool) → b ≡ false → c.locals ≡ restarted app c at b
-not_restarted app c at b stays = ap (λ d. cond d (put_at c.graph.ids c.locals at (app.start c.graph at)) c.locals) (sym stays)
+pub not_restarted : {L : Type 0} (app : App L) (c : Configuration L) (at : ℕ) (b : Bool) → b ≡ false
+    → c.locals ≡ restarted app c at b
+not_restarted app c at b stays =
+    ap (λ d. cond d (put_at c.graph.ids c.locals at (app.start c.graph at)) c.locals) (sym stays)

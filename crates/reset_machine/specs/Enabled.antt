@@ -18,7 +18,8 @@ use Rattle.reset_model.specs.LocalSteps.{tree_view_of, view_of}
 -- among these rows and cases is one of the tree table, one of the wave table other than the request,
 -- its row 1, or one of the application
 abbrev pub has_work : List ℕ → List ℕ → List ℕ → Bool
-has_work trees waves acts = list_any (λ n. true) trees || (list_any (λ n. not (n == 1)) waves || list_any (λ n. true) acts)
+has_work trees waves acts =
+    list_any (λ n. true) trees || (list_any (λ n. not (n == 1)) waves || list_any (λ n. true) acts)
 
 -- the numbers of the rows of the tree table that are enabled at i
 abbrev pub enabled_trees : {L : Type 0} → Configuration L → ℕ → List ℕ
@@ -38,7 +39,8 @@ choices g i (Some All) = None ∷ []
 
 -- the case is taken at i with some choice: no node that it reads disagrees, and it is enabled
 abbrev pub is_taken : {L : Type 0} → App L → Graph → ℕ → (ℕ → WaveRegs) → (ℕ → L) → ℕ → ℕ → Bool
-is_taken app g K w l i case = list_any (λ with. is_ok (fitted_of app g K w l i case with)) (choices g i (app.reads case))
+is_taken app g K w l i case =
+    list_any (λ with. is_ok (fitted_of app g K w l i case with)) (choices g i (app.reads case))
 
 -- the numbers of the cases of the application that are enabled at i
 abbrev pub enabled_acts : {L : Type 0} → App L → Configuration L → ℕ → List ℕ

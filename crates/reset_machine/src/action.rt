@@ -23,7 +23,8 @@ pub fn acted<P: Application>(
 ) -> Result<(usize, P::Local), StepRefusal>
     ensures place { IfOk result (λ p. position (λ i. i == at) config.now.graph.ids ≡ Some p.0) }
     ensures exact { let c = config.now in
-        let act = acted_of P.app c.graph (node_bound c.graph) (wave_of c) (local_of P.app c) at choice.case choice.with in
+        let act = acted_of P.app c.graph (node_bound c.graph) (wave_of c) (local_of P.app c)
+            at choice.case choice.with in
         MatchResult result (λ p. act ≡ Ok p.1) (λ f. f ≢ StepRefusal.NoMemory → act ≡ Err f) }
 {
     let Some(place) = Place::of(config, at) else {

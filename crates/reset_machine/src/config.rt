@@ -1,6 +1,7 @@
 // Configurations, and what they tell.
 
-ghost use Rattle.std.specs.Prelude.{◌≡◌, ◌≢◌, ◌↔◌, IsTrue, ℕ, ◌<◌, true, ◌==◌, position, Some, IfOk, IfErr, IfSome, IfNone, OnOk, OnErr, MatchResult, Ok, Err};
+ghost use Rattle.std.specs.Prelude.{◌≡◌, ◌≢◌, ◌↔◌, IsTrue, ℕ, ◌<◌, true, ◌==◌, position, Some, IfOk, IfErr, IfSome};
+ghost use Rattle.std.specs.Prelude.{IfNone, OnOk, OnErr, MatchResult, Ok, Err};
 ghost use Rattle.topology.specs.Graph.{IsConnected, IsGraph, IsNode, greatest, node_bound};
 ghost use Rattle.reset_model.specs.Configuration.{IsShaped, start_list};
 ghost use Rattle.reset_model.specs.Outcome.{after_fired, fired_reply};
@@ -46,11 +47,20 @@ impl<P: Application> Model for Config<P> {
 
     ghost coded = { Prim.hlevel (codes, graph_code) };
 
-    ghost view = { λ c. record { graph = c.topology; trees = c.trees.items; waves = c.waves.items; locals = c.locals.items } };
+    ghost view = { λ c. record {
+      graph = c.topology;
+      trees = c.trees.items;
+      waves = c.waves.items;
+      locals = c.locals.items;
+    } };
 
     // A contract doesn't see the start states: the application and the graph give them.
-    ghost invariant = { λ c. IsShaped (record { graph = c.topology; trees = c.trees.items; waves = c.waves.items; locals = c.locals.items })
-        × (c.starts.items ≡ start_list P.app c.topology) };
+    ghost invariant = { λ c. IsShaped (record {
+      graph = c.topology;
+      trees = c.trees.items;
+      waves = c.waves.items;
+      locals = c.locals.items;
+    }) × (c.starts.items ≡ start_list P.app c.topology) };
 }
 
 impl<P: Application> Config<P> {
@@ -118,7 +128,8 @@ impl<P: Application> Config<P> {
         ensures kept { OnErr result (self.new ≡ self.old) }
 
         // From a sound configuration it keeps what is to be kept, and a completion that it tells is true.
-        ensures lawful { IfOk result (λ reply. IsSound self.old → IsSoundStep P.app P.Inv self.old event reply self.new) }
+        ensures lawful { IfOk result
+            (λ reply. IsSound self.old → IsSoundStep P.app P.Inv self.old event reply self.new) }
 
         // The same as a function.
         ensures outcome { MatchResult result (λ reply. outcome_of P.app self.old event ≡ Ok (self.new, reply))
@@ -135,7 +146,8 @@ impl<P: Application> Config<P> {
     // Takes a case of the application.
     fn act(&mut self, alloc: Global, at: u32, choice: Choice) -> Result<Reply, StepRefusal>
         ensures kept { OnErr result (self.new ≡ self.old) }
-        ensures outcome { MatchResult result (λ reply. act_outcome P.app self.old at choice.case choice.with ≡ Ok (self.new, reply))
+        ensures outcome { MatchResult result
+            (λ reply. act_outcome P.app self.old at choice.case choice.with ≡ Ok (self.new, reply))
             (λ f. f ≢ StepRefusal.NoMemory → act_outcome P.app self.old at choice.case choice.with ≡ Err f) }
     {
         match acted(alloc, self, at, choice) {
@@ -175,7 +187,8 @@ impl<P: Application> Config<P> {
         fired: WaveMove,
     ) -> Result<Reply, StepRefusal>
         requires place { position (λ i. i == at) self.old.graph.ids ≡ Some ix }
-        ensures ok { IfOk result (λ reply. (reply ≡ fired_reply (Wave fired)) × (self.new ≡ after_fired P.app self.old at (Wave fired))) }
+        ensures ok { IfOk result
+            (λ reply. (reply ≡ fired_reply (Wave fired)) × (self.new ≡ after_fired P.app self.old at (Wave fired))) }
         ensures memory { IfErr result (λ f. f ≡ StepRefusal.NoMemory) }
         ensures kept { OnErr result (self.new ≡ self.old) }
     {
@@ -206,7 +219,8 @@ impl<P: Application> Config<P> {
         ensures kept { OnErr result (self.new ≡ self.old) }
 
         // From a sound configuration it keeps what is to be kept, and each completion in it is true.
-        ensures lawful { IfOk result (λ answers. IsSound self.old → IsSoundRun P.app P.Inv self.old events.now answers.items self.new) }
+        ensures lawful { IfOk result
+            (λ answers. IsSound self.old → IsSoundRun P.app P.Inv self.old events.now answers.items self.new) }
     {
         self.is_graph();
         completions::<P>();
@@ -327,7 +341,8 @@ impl<P: Application> Config<P> {
     /// What the node with this identifier sees now, or a refusal: `StrangeNode`, or `NoMemory`.
     pub fn view(&self, alloc: Global, at: u32) -> Result<View<P>, StepRefusal>
         ensures ok { IfOk result (λ view. IsNode self.now.graph at × (view ≡ view_of P.app self.now at)) }
-        ensures err { IfErr result (λ f. f ≢ StepRefusal.NoMemory → (f ≡ StepRefusal.StrangeNode) × (IsNode self.now.graph at → ⊥)) }
+        ensures err { IfErr result
+            (λ f. f ≢ StepRefusal.NoMemory → (f ≡ StepRefusal.StrangeNode) × (IsNode self.now.graph at → ⊥)) }
     {
         match Place::of(self, at) {
             Some(place) => Ok(read_view(alloc, &place)?),
@@ -365,7 +380,8 @@ impl<P: Application> Config<P> {
         ensures kept { OnErr result (self.new ≡ self.old) }
 
         // As of a step.
-        ensures lawful { IfOk result (λ reply. IsSound self.old → IsSoundStep P.app P.Inv self.old plan.event reply self.new) }
+        ensures lawful { IfOk result
+            (λ reply. IsSound self.old → IsSoundStep P.app P.Inv self.old plan.event reply self.new) }
         ensures outcome { IfOk result (λ reply. outcome_of P.app self.old plan.event ≡ Ok (self.new, reply)) }
     {
         self.is_graph();
@@ -399,7 +415,8 @@ impl<P: Application> Config<P> {
     /// `StrangeNode`, or `NoMemory`. A case is enabled where some choice of a neighbour is.
     pub fn enabled(&self, alloc: Global, at: u32) -> Result<Enabled, StepRefusal>
         ensures ok { IfOk result (λ rows. IsNode self.now.graph at × (rows ≡ enabled_rows P.app self.now at)) }
-        ensures err { IfErr result (λ f. f ≢ StepRefusal.NoMemory → (f ≡ StepRefusal.StrangeNode) × (IsNode self.now.graph at → ⊥)) }
+        ensures err { IfErr result
+            (λ f. f ≢ StepRefusal.NoMemory → (f ≡ StepRefusal.StrangeNode) × (IsNode self.now.graph at → ⊥)) }
     {
         match Place::of(self, at) {
             Some(place) => Ok(enabled_at(alloc, &place)?),
@@ -492,7 +509,9 @@ impl<P: Application> Config<P> {
     /// The local state of the node with this identifier, where it has joined the newest session. None
     /// elsewhere, and where there is no such node.
     pub fn newest_local(&self, id: u32) -> Option<&P::Local>
-        ensures found { IfSome result (λ local. IsNode self.now.graph id × HasJoined self.now.graph (wave_of self.now) id × (local.now ≡ local_of P.app self.now id)) }
+        ensures found { IfSome result
+            (λ local. IsNode self.now.graph id × HasJoined self.now.graph (wave_of self.now) id
+            × (local.now ≡ local_of P.app self.now id)) }
         ensures none { IfNone result (IsNode self.now.graph id → HasJoined self.now.graph (wave_of self.now) id → ⊥) }
     {
         let regs = self.wave_at(id)?;

@@ -1,5 +1,6 @@
 -- What one step of a sound configuration is on the abstract machine.
-use Rattle.std.proofs.Common.{◌≡◌, ◌≢◌, ℕ, suc, Bool, true, false, cond, nat_eq, List, [], ◌∷◌, Contains, Option, refl, sym, ap, ap₂, ◌∙◌, ⊎_elim, arith}
+use Rattle.std.proofs.Common.{◌≡◌, ◌≢◌, ℕ, suc, Bool, true, false, cond, nat_eq, List, [], ◌∷◌, Contains, Option, refl}
+use Rattle.std.proofs.Common.{sym, ap, ap₂, ◌∙◌, ⊎_elim, arith}
 use Rattle.std.proofs.lemmas.Bool.{cases_eq, eq-eqb, ne_eqb}
 use Rattle.app_interface.specs.Application.{App, Action, is_read, seen}
 use Rattle.app_interface.specs.Invariant.{SameAtNodes}
@@ -23,30 +24,37 @@ use Rattle.reset_model.proofs.WavePictures.{sound_where_picture}
 -- ---- abstract runs see the states of the nodes alone
 
 -- what is seen depends on what stands at the ids that are read
-seen_same : {L : Type 0} (p : ℕ → Bool) (v u : ℕ → L) (js : List ℕ) → ((j : ℕ) → Contains js j → p j ≡ true → v j ≡ u j) → seen p v js ≡ seen p u js
+seen_same : {L : Type 0} (p : ℕ → Bool) (v u : ℕ → L) (js : List ℕ) → ((j : ℕ) → Contains js j → p j ≡ true → v j ≡ u j)
+    → seen p v js ≡ seen p u js
 seen_same p v u [] same = refl
-seen_same {L} p v u (j ∷ js) same = at (p j) refl (seen_same p v u js (λ k there read. same k (suc there.0, omega (arith, there.1), there.2) read))
+seen_same {L} p v u (j ∷ js) same =
+    at (p j) refl (seen_same p v u js (λ k there read. same k (suc there.0, omega (arith, there.1), there.2) read))
   where
     at : (b : Bool) → p j ≡ b → seen p v js ≡ seen p u js → seen p v (j ∷ js) ≡ seen p u (j ∷ js)
-    at true is rest = let here : v j ≡ u j = same j (0, omega arith, refl) is in rw is (ap₂ (λ x xs. (j, x) ∷ xs) here rest)
+    at true is rest = let here : v j ≡ u j =
+        same j (0, omega arith, refl) is in rw is (ap₂ (λ x xs. (j, x) ∷ xs) here rest)
     at false is rest = rw is rest
 
 module _ {L : Type 0} (app : App L) (g : Graph) (K : ℕ) where
-  pub run_from : (ss : List AbstractStep) (v u v' : ℕ → L) → SameAtNodes g v u → IsAbstractRun app g K ss u v' → IsAbstractRun app g K ss v v'
+  pub run_from : (ss : List AbstractStep) (v u v' : ℕ → L) → SameAtNodes g v u → IsAbstractRun app g K ss u v'
+      → IsAbstractRun app g K ss v v'
   run_from [] v u v' same run = λ i node. run i node ∙ same i node
   run_from (Reset_all ∷ ss) v u v' same run = run
   run_from (Do i case with ∷ ss) v u v' same run =
       let act : Action app g K i case with u run.0 = run.1 in
       let reads : ℕ → Bool = is_read g i (app.reads case) with in
       let own : v i ≡ u i = sym (same i act.node) in
-      let near : seen reads v g.ids ≡ seen reads u g.ids = seen_same reads v u g.ids (λ j node read. sym (same j node)) in (
+      let near : seen reads v g.ids ≡ seen reads u g.ids =
+          seen_same reads v u g.ids (λ j node read. sym (same j node)) in (
         run.0,
         record {
           node = act.node;
           fits = act.fits;
           new = act.new;
           next = ap₂ (λ x xs. app.next i K case with x xs) own near ∙ act.next;
-          changes = record { here = act.changes.here; others = λ k node other. act.changes.others k node other ∙ same k node };
+          changes =
+              record { here = act.changes.here;
+              others = λ k node other. act.changes.others k node other ∙ same k node };
         },
         run.2,
       )
@@ -58,11 +66,13 @@ module _ (g : Graph) (w w' : ℕ → WaveRegs) (i : ℕ) (x : WaveRegs) (changes
   pub sessions_stay : x.session ≡ (w i).session → (k : ℕ) → IsNode g k → (w' k).session ≡ (w k).session
   sessions_stay same k node =
       ⊎_elim
-      (λ here. ap (λ n. (w' n).session) here ∙ ap (λ (r : WaveRegs). r.session) changes.here ∙ same ∙ ap (λ n. (w n).session) (sym here))
+      (λ here. ap (λ n. (w' n).session) here ∙ ap (λ (r : WaveRegs). r.session) changes.here ∙ same
+          ∙ ap (λ n. (w n).session) (sym here))
       (λ other. ap (λ (r : WaveRegs). r.session) (changes.others k node other))
       (cases_eq k i)
 
-locals_stay : {L : Type 0} (g : Graph) (l l' : ℕ → L) (i : ℕ) → Changes g l i (l i) l' → (k : ℕ) → IsNode g k → l' k ≡ l k
+locals_stay : {L : Type 0} (g : Graph) (l l' : ℕ → L) (i : ℕ) → Changes g l i (l i) l' → (k : ℕ) → IsNode g k
+    → l' k ≡ l k
 locals_stay g l l' i changes k node =
     ⊎_elim
     (λ here. ap l' here ∙ changes.here ∙ ap l (sym here))
@@ -70,12 +80,15 @@ locals_stay g l l' i changes k node =
     (cases_eq k i)
 
 -- where the sessions stay, so do the nodes that have joined
-pub joined_stays : (g : Graph) (w w' : ℕ → WaveRegs) → IsGraph g → ((k : ℕ) → IsNode g k → (w' k).session ≡ (w k).session) → (k : ℕ) → IsNode g k → has_joined g w' k ≡ has_joined g w k
+pub joined_stays : (g : Graph) (w w' : ℕ → WaveRegs) → IsGraph g
+    → ((k : ℕ) → IsNode g k → (w' k).session ≡ (w k).session) → (k : ℕ) → IsNode g k
+    → has_joined g w' k ≡ has_joined g w k
 joined_stays g w w' graph same k node = ap₂ nat_eq (same k node) (same (greatest g) (greatest_node g graph))
 
 -- ---- opening a session and joining it
 
-module _ (g : Graph) (graph : IsGraph g) (whole : IsConnected g) (K : ℕ) (t t' : ℕ → TreeRegs) (w w' : ℕ → WaveRegs) (sound : Sound g K t w) (i : ℕ) where
+module _ (g : Graph) (graph : IsGraph g) (whole : IsConnected g) (K : ℕ) (t t' : ℕ → TreeRegs) (w w' : ℕ → WaveRegs)
+    (sound : Sound g K t w) (i : ℕ) where
   -- only the leader opens
   pub opens_at_leader : RegsStep g K t w (Open i) t' w' → i ≡ greatest g
   opens_at_leader step = own_father g graph whole t (rests_picture g graph K t sound.tree) i step.node step.enabled.0
@@ -84,9 +97,12 @@ module _ (g : Graph) (graph : IsGraph g) (whole : IsConnected g) (K : ℕ) (t t'
   pub opened_apart : RegsStep g K t w (Open i) t' w' → (k : ℕ) → IsNode g k → k ≢ i → has_joined g w' k ≡ false
   opened_apart step k node other =
       let top : i ≡ greatest g = opens_at_leader step in
-      let old : (w k).session ≡ (w i).session = (all_awake g K t w i graph whole step.node sound step.enabled.0 (ap is_reset step.enabled.1) k node).1 in
-      let own : (w' k).session ≡ (w i).session = ap (λ (r : WaveRegs). r.session) (step.waves.others k node other) ∙ old in
-      let up : (w' (greatest g)).session ≡ next_session (w i).session = ap (λ n. (w' n).session) (sym top) ∙ ap (λ (r : WaveRegs). r.session) step.waves.here in
+      let old : (w k).session ≡ (w i).session =
+          (all_awake g K t w i graph whole step.node sound step.enabled.0 (ap is_reset step.enabled.1) k node).1 in
+      let own : (w' k).session ≡ (w i).session =
+          ap (λ (r : WaveRegs). r.session) (step.waves.others k node other) ∙ old in
+      let up : (w' (greatest g)).session ≡ next_session (w i).session =
+          ap (λ n. (w' n).session) (sym top) ∙ ap (λ (r : WaveRegs). r.session) step.waves.here in
       ne_eqb _ _ (λ same. next_differs (w i).session (sym up ∙ sym same ∙ own))
 
   joins_from : Joins g t w i → (j : ℕ) × IsFather g t i j × ((w j).session ≡ next_session (w i).session)
@@ -109,20 +125,23 @@ module _ (g : Graph) (graph : IsGraph g) (whole : IsConnected g) (K : ℕ) (t t'
     joins_apart = ne_eqb _ _ was_apart
 
     leader_stays : w' (greatest g) ≡ w (greatest g)
-    leader_stays = step.waves.others (greatest g) (greatest_node g graph) (λ top. was_apart (ap (λ n. (w n).session) (sym top)))
+    leader_stays =
+        step.waves.others (greatest g) (greatest_node g graph) (λ top. was_apart (ap (λ n. (w n).session) (sym top)))
 
     -- it has joined afterwards
     pub joins_after : has_joined g w' i ≡ true
     joins_after =
         let from = joins_from step.enabled in
         let own : (w' i).session ≡ (w (t i).father).session = ap (λ (r : WaveRegs). r.session) step.waves.here in
-        let up : (w (t i).father).session ≡ next_session (w i).session = ap (λ n. (w n).session) from.1.named ∙ from.2 in
+        let up : (w (t i).father).session ≡ next_session (w i).session =
+            ap (λ n. (w n).session) from.1.named ∙ from.2 in
         let next : next_session (w i).session ≡ (w (greatest g)).session = (picture.outside i step.node was_apart).1 in
         eq-eqb _ _ (own ∙ up ∙ next ∙ ap (λ (r : WaveRegs). r.session) (sym leader_stays))
 
     -- and the others as before
     pub joins_others : (k : ℕ) → IsNode g k → k ≢ i → has_joined g w' k ≡ has_joined g w k
-    joins_others k node other = ap₂ (λ (a b : WaveRegs). nat_eq a.session b.session) (step.waves.others k node other) leader_stays
+    joins_others k node other =
+        ap₂ (λ (a b : WaveRegs). nat_eq a.session b.session) (step.waves.others k node other) leader_stays
 
 -- ---- what each step is on the abstract machine
 
@@ -136,17 +155,22 @@ module _ {L : Type 0} (app : App L) (g : Graph) (graph : IsGraph g) where
   abstract_at w l i = cond (has_joined g w i) (l i) (app.start g i)
 
   -- an event that changes neither sessions nor local states is nothing
-  pub nothing : (w w' : ℕ → WaveRegs) (i : ℕ) (x : WaveRegs) (l l' : ℕ → L) → Changes g w i x w' → x.session ≡ (w i).session → Changes g l i (l i) l' → SameAtNodes g (abstract_at w l) (abstract_at w' l')
+  pub nothing : (w w' : ℕ → WaveRegs) (i : ℕ) (x : WaveRegs) (l l' : ℕ → L) → Changes g w i x w'
+      → x.session ≡ (w i).session → Changes g l i (l i) l' → SameAtNodes g (abstract_at w l) (abstract_at w' l')
   nothing w w' i x l l' waves same locals k node =
-      ap₂ (λ b y. cond b y (app.start g k)) (joined_stays g w w' graph (sessions_stay g w w' i x waves same) k node) (locals_stay g l l' i locals k node)
+      ap₂ (λ b y. cond b y (app.start g k)) (joined_stays g w w' graph (sessions_stay g w w' i x waves same) k node)
+          (locals_stay g l l' i locals k node)
 
-  module _ (whole : IsConnected g) (K : ℕ) (t t' : ℕ → TreeRegs) (w w' : ℕ → WaveRegs) (sound : Sound g K t w) (i : ℕ) (l l' : ℕ → L) (locals : Changes g l i (app.start g i) l') where
+  module _ (whole : IsConnected g) (K : ℕ) (t t' : ℕ → TreeRegs) (w w' : ℕ → WaveRegs) (sound : Sound g K t w) (i : ℕ)
+      (l l' : ℕ → L) (locals : Changes g l i (app.start g i) l') where
     -- to open a session is to reset all nodes
     pub opening : RegsStep g K t w (Open i) t' w' → SameAtNodes g (app.start g) (abstract_at w' l')
     opening step k node =
         ⊎_elim
-        (λ here. either (has_joined g w' k) (l' k) (app.start g k) (ap l' here ∙ locals.here ∙ ap (app.start g) (sym here)))
-        (λ other. ap (λ b. cond b (l' k) (app.start g k)) (opened_apart g graph whole K t t' w w' sound i step k node other))
+        (λ here. either (has_joined g w' k) (l' k) (app.start g k)
+            (ap l' here ∙ locals.here ∙ ap (app.start g) (sym here)))
+        (λ other. ap (λ b. cond b (l' k) (app.start g k))
+            (opened_apart g graph whole K t t' w w' sound i step k node other))
         (cases_eq k i)
 
     -- to join is nothing: the node's state was its start state
@@ -155,17 +179,21 @@ module _ {L : Type 0} (app : App L) (g : Graph) (graph : IsGraph g) where
         ⊎_elim
         (λ here.
         let started : l' k ≡ app.start g k = ap l' here ∙ locals.here ∙ ap (app.start g) (sym here) in
-        let apart : has_joined g w k ≡ false = ap (has_joined g w) here ∙ joins_apart g graph whole K t t' w w' sound i step in
+        let apart : has_joined g w k ≡ false =
+            ap (has_joined g w) here ∙ joins_apart g graph whole K t t' w w' sound i step in
         either (has_joined g w' k) (l' k) (app.start g k) started ∙ ap (λ b. cond b (l k) (app.start g k)) (sym apart))
-        (λ other. ap₂ (λ b y. cond b y (app.start g k)) (joins_others g graph whole K t t' w w' sound i step k node other) (locals.others k node other))
+        (λ other. ap₂ (λ b y. cond b y (app.start g k))
+            (joins_others g graph whole K t t' w w' sound i step k node other) (locals.others k node other))
         (cases_eq k i)
 
-  module _ (K : ℕ) (w : ℕ → WaveRegs) (i case : ℕ) (with : Option ℕ) (l l' : ℕ → L) (act : ActStep app g K w i case with l l') where
+  module _ (K : ℕ) (w : ℕ → WaveRegs) (i case : ℕ) (with : Option ℕ) (l l' : ℕ → L)
+      (act : ActStep app g K w i case with l l') where
     -- an action of a node that hasn't joined is nothing
     pub acting_apart : has_joined g w i ≡ false → SameAtNodes g (abstract_at w l) (abstract_at w l')
     acting_apart apart k node =
         ⊎_elim
-        (λ here. let is = ap (has_joined g w) here ∙ apart in ap (λ b. cond b (l' k) (app.start g k)) is ∙ ap (λ b. cond b (l k) (app.start g k)) (sym is))
+        (λ here. let is = ap (has_joined g w) here ∙ apart in ap (λ b. cond b (l' k) (app.start g k)) is
+            ∙ ap (λ b. cond b (l k) (app.start g k)) (sym is))
         (λ other. ap (λ y. cond (has_joined g w k) y (app.start g k)) (act.action.changes.others k node other))
         (cases_eq k i)
 
@@ -174,14 +202,19 @@ module _ {L : Type 0} (app : App L) (g : Graph) (graph : IsGraph g) where
     acting joined =
         let reads : ℕ → Bool = is_read g i (app.reads case) with in
         let own : abstract_at w l i ≡ l i = ap (λ b. cond b (l i) (app.start g i)) joined in
-        let there : (j : ℕ) → IsNode g j → reads j ≡ true → abstract_at w l j ≡ l j = λ j node read. ap (λ b. cond b (l j) (app.start g j)) (ap (λ s. nat_eq s (w (greatest g)).session) (act.agree j node read) ∙ joined) in
+        let there : (j : ℕ) → IsNode g j → reads j ≡ true → abstract_at w l j ≡ l j =
+            λ j node read. ap (λ b. cond b (l j) (app.start g j))
+            (ap (λ s. nat_eq s (w (greatest g)).session) (act.agree j node read) ∙ joined) in
         record {
           node = act.action.node;
           fits = act.action.fits;
           new = act.action.new;
-          next = ap₂ (λ x xs. app.next i K case with x xs) own (seen_same reads (abstract_at w l) l g.ids there) ∙ act.action.next;
+          next = ap₂ (λ x xs. app.next i K case with x xs) own (seen_same reads (abstract_at w l) l g.ids there)
+              ∙ act.action.next;
           changes = record {
             here = ap (λ b. cond b (l' i) (app.start g i)) joined ∙ act.action.changes.here;
-            others = λ k node other. ap (λ y. cond (has_joined g w k) y (app.start g k)) (act.action.changes.others k node other);
+            others =
+                λ k node other. ap (λ y. cond (has_joined g w k) y (app.start g k))
+                (act.action.changes.others k node other);
           };
         }

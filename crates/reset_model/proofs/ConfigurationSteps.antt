@@ -1,5 +1,6 @@
 -- The outcome of an event is a step of the configuration with its reply, or the first refusal.
-use Rattle.std.proofs.Common.{◌≡◌, ℕ, ◌==◌, Bool, true, false, cond, List, length, slice_set, position, Option, Some, Result, Ok, Err, MatchResult, refl, sym, ap, subst, ◌∙◌}
+use Rattle.std.proofs.Common.{◌≡◌, ℕ, ◌==◌, Bool, true, false, cond, List, length, slice_set, position, Option, Some}
+use Rattle.std.proofs.Common.{Result, Ok, Err, MatchResult, refl, sym, ap, subst, ◌∙◌}
 use Rattle.app_interface.specs.Application.{App}
 use Rattle.topology.specs.Graph.{Graph, IsGraph, IsNode, Changes, node_bound}
 use Rattle.tree_layer.specs.declared.regs.TreeRegs.{TreeRegs}
@@ -7,16 +8,20 @@ use Rattle.wave_layer.specs.declared.regs.WaveRegs.{WaveRegs}
 use Rattle.wave_layer.specs.declared.regs.WaveMove.{WaveMove}
 use Rattle.wave_layer.specs.declared.regs.Phase.TheVariants.{Normal}
 use Rattle.reset_model.specs.declared.event.Event.{Event}
-use Rattle.reset_model.specs.declared.event.Event.TheVariants.{Claim, Follow, Adopt, Request, Relay, Open, Join, Finish, Mend, Act}
+use Rattle.reset_model.specs.declared.event.Event.TheVariants.{Claim, Follow, Adopt, Request, Relay, Open, Join, Finish}
+use Rattle.reset_model.specs.declared.event.Event.TheVariants.{Mend, Act}
 use Rattle.reset_model.specs.declared.plan.Fired.{Fired}
 use Rattle.reset_model.specs.declared.plan.Fired.TheVariants.{Tree, Wave}
 use Rattle.reset_model.specs.declared.step.Reply.{Reply}
 use Rattle.reset_model.specs.declared.step.Reply.TheVariants.{Applied}
 use Rattle.reset_model.specs.declared.step.StepRefusal.{StepRefusal}
-use Rattle.reset_model.specs.Configuration.{Configuration, IsShaped, tree_of, wave_of, local_of, tree_map, wave_map, local_map}
+use Rattle.reset_model.specs.Configuration.{Configuration, IsShaped, tree_of, wave_of, local_of, tree_map, wave_map}
+use Rattle.reset_model.specs.Configuration.{local_map}
 use Rattle.reset_model.specs.Steps.{event_node, is_act, reply_of}
-use Rattle.reset_model.specs.MachineSteps.{IsStep, IsRefused, RowStep, row_step, row_refused, act_step, act_refused, local_effect}
-use Rattle.reset_model.specs.Outcome.{map_outcome, row_outcome, act_outcome, acted, done, after_fired, fired_reply, restarted}
+use Rattle.reset_model.specs.MachineSteps.{IsStep, IsRefused, RowStep, row_step, row_refused, act_step, act_refused}
+use Rattle.reset_model.specs.MachineSteps.{local_effect}
+use Rattle.reset_model.specs.Outcome.{map_outcome, row_outcome, act_outcome, acted, done, after_fired, fired_reply}
+use Rattle.reset_model.specs.Outcome.{restarted}
 use Rattle.reset_model.specs.Actions.{acted_of}
 use Rattle.reset_model.specs.Planned.{outcome_of}
 use Rattle.reset_model.specs.LocalSteps.{planned_of}
@@ -28,7 +33,8 @@ use Rattle.reset_model.proofs.ActionSteps.{acted_steps, IsActed}
 
 -- ---- the events of the two tables
 
-local_effect-restarts : {L : Type 0} (app : App L) (g : Graph) (l : ℕ → L) (e : Event) → local_effect app g l e ≡ cond (restarts_of e) (app.start g (event_node e)) (l (event_node e))
+local_effect-restarts : {L : Type 0} (app : App L) (g : Graph) (l : ℕ → L) (e : Event)
+    → local_effect app g l e ≡ cond (restarts_of e) (app.start g (event_node e)) (l (event_node e))
 local_effect-restarts app g l (Claim i) = refl
 local_effect-restarts app g l (Follow i) = refl
 local_effect-restarts app g l (Adopt i j) = refl
@@ -42,22 +48,32 @@ local_effect-restarts app g l (Act i case with) = refl
 
 -- a node that restarts has its start state, and any other its own
 restarts_one : {L : Type 0} (app : App L) (c : Configuration L) (i : ℕ) (b : Bool) → IsShaped c → IsNode c.graph i
-    → Changes c.graph (local_of app c) i (cond b (app.start c.graph i) (local_of app c i)) (local_map app c.graph (restarted app c i b))
+    → Changes c.graph (local_of app c) i (cond b (app.start c.graph i) (local_of app c i))
+        (local_map app c.graph (restarted app c i b))
 restarts_one app c i true shaped node = record {
   here = value_at-put_at (app.start c.graph i) c.graph.ids c.locals i (app.start c.graph i) shaped.locals node;
-  others = λ k _ other. value_at-put_at_other (app.start c.graph k) c.graph.ids c.locals i k (app.start c.graph i) other;
+  others =
+      λ k _ other. value_at-put_at_other (app.start c.graph k) c.graph.ids c.locals i k (app.start c.graph i) other;
 }
 restarts_one app c i false shaped node = record { here = refl; others = λ k _ other. refl }
 
 module _ {L : Type 0} (app : App L) (c : Configuration L) (graph : IsGraph c.graph) (shaped : IsShaped c) where
   locals_step : (e : Event) (b : Bool) → IsNode c.graph (event_node e) → b ≡ restarts_of e
-      → Changes c.graph (local_of app c) (event_node e) (local_effect app c.graph (local_of app c) e) (local_map app c.graph (restarted app c (event_node e) b))
+      → Changes c.graph (local_of app c) (event_node e) (local_effect app c.graph (local_of app c) e)
+          (local_map app c.graph (restarted app c (event_node e) b))
   locals_step e b node is =
-      let Steps : L → Type 0 = λ x. Changes c.graph (local_of app c) (event_node e) x (local_map app c.graph (restarted app c (event_node e) b)) in
-      subst Steps (ap (λ d. cond d (app.start c.graph (event_node e)) (local_of app c (event_node e))) is ∙ sym (local_effect-restarts app c.graph (local_of app c) e)) (restarts_one app c (event_node e) b shaped node)
+      let Steps : L → Type 0 =
+          λ x. Changes c.graph (local_of app c) (event_node e) x
+          (local_map app c.graph (restarted app c (event_node e) b)) in
+      subst Steps
+          (ap (λ d. cond d (app.start c.graph (event_node e)) (local_of app c (event_node e))) is
+          ∙ sym (local_effect-restarts app c.graph (local_of app c) e))
+          (restarts_one app c (event_node e) b shaped node)
 
   -- what is planned in a configuration is a step
-  fired_is_step : (e : Event) (does : Fired) → IsPlannedStep c.graph (node_bound c.graph) (tree_of c) (wave_of c) graph e does → RowStep app c e (after_fired app c (event_node e) does)
+  fired_is_step : (e : Event) (does : Fired)
+      → IsPlannedStep c.graph (node_bound c.graph) (tree_of c) (wave_of c) graph e does
+      → RowStep app c e (after_fired app c (event_node e) does)
   fired_is_step e (Tree regs) step =
       record {
         graph = refl;
@@ -66,8 +82,11 @@ module _ {L : Type 0} (app : App L) (c : Configuration L) (graph : IsGraph c.gra
           enabled = step.enabled;
           unspent = step.unspent;
           trees = record {
-            here = value_at-put_at (record { root = 0; father = 0; dist = 0 }) c.graph.ids c.trees (event_node e) regs shaped.trees step.node ∙ step.leaves.tree;
-            others = λ k node other. value_at-put_at_other (record { root = 0; father = 0; dist = 0 }) c.graph.ids c.trees (event_node e) k regs other;
+            here = value_at-put_at (record { root = 0; father = 0; dist = 0 }) c.graph.ids c.trees (event_node e) regs
+                shaped.trees step.node ∙ step.leaves.tree;
+            others =
+                λ k node other. value_at-put_at_other (record { root = 0; father = 0; dist = 0 }) c.graph.ids c.trees
+                (event_node e) k regs other;
           };
           waves = record { here = step.leaves.wave; others = λ k node other. refl };
         };
@@ -82,8 +101,11 @@ module _ {L : Type 0} (app : App L) (c : Configuration L) (graph : IsGraph c.gra
           unspent = step.unspent;
           trees = record { here = step.leaves.tree; others = λ k node other. refl };
           waves = record {
-            here = value_at-put_at (record { phase = Normal; session = 0 }) c.graph.ids c.waves (event_node e) move.regs shaped.waves step.node ∙ step.leaves.wave;
-            others = λ k node other. value_at-put_at_other (record { phase = Normal; session = 0 }) c.graph.ids c.waves (event_node e) k move.regs other;
+            here = value_at-put_at (record { phase = Normal; session = 0 }) c.graph.ids c.waves (event_node e) move.regs
+                shaped.waves step.node ∙ step.leaves.wave;
+            others =
+                λ k node other. value_at-put_at_other (record { phase = Normal; session = 0 }) c.graph.ids c.waves
+                (event_node e) k move.regs other;
           };
         };
         locals = locals_step e move.restarts step.node step.leaves.restarts;
@@ -91,12 +113,17 @@ module _ {L : Type 0} (app : App L) (c : Configuration L) (graph : IsGraph c.gra
 
   -- an outcome is a step with its reply, or the first refusal
   abbrev IsJudged : Event → Result (Configuration L × Reply) StepRefusal → Type 0
-  IsJudged e r = MatchResult r (λ after. IsStep app c e after.0 × (after.1 ≡ reply_of (tree_of c) (wave_of c) e)) (IsRefused app c e)
+  IsJudged e r =
+      MatchResult r (λ after. IsStep app c e after.0 × (after.1 ≡ reply_of (tree_of c) (wave_of c) e))
+      (IsRefused app c e)
 
-  done_steps : (e : Event) (r : Result Fired StepRefusal) → is_act e ≡ false → planned_of c.graph (node_bound c.graph) (tree_of c) (wave_of c) e ≡ r → IsJudged e (done app c (event_node e) r)
-  done_steps e (Err f) row planned = row_refused row (planned_steps c.graph (node_bound c.graph) (tree_of c) (wave_of c) graph e (Err f) planned)
+  done_steps : (e : Event) (r : Result Fired StepRefusal) → is_act e ≡ false
+      → planned_of c.graph (node_bound c.graph) (tree_of c) (wave_of c) e ≡ r → IsJudged e (done app c (event_node e) r)
+  done_steps e (Err f) row planned =
+      row_refused row (planned_steps c.graph (node_bound c.graph) (tree_of c) (wave_of c) graph e (Err f) planned)
   done_steps e (Ok does) row planned =
-      let step : IsPlannedStep c.graph (node_bound c.graph) (tree_of c) (wave_of c) graph e does = planned_steps c.graph (node_bound c.graph) (tree_of c) (wave_of c) graph e (Ok does) planned in
+      let step : IsPlannedStep c.graph (node_bound c.graph) (tree_of c) (wave_of c) graph e does =
+          planned_steps c.graph (node_bound c.graph) (tree_of c) (wave_of c) graph e (Ok does) planned in
       (row_step (fired_is_step e does step), step.leaves.reply)
 
   row_steps : (e : Event) → is_act e ≡ false → IsJudged e (row_outcome app c e)
@@ -104,7 +131,9 @@ module _ {L : Type 0} (app : App L) (c : Configuration L) (graph : IsGraph c.gra
 
   -- ---- the actions
 
-  acted_is_step : (i case : ℕ) (with : Option ℕ) (r : Result L StepRefusal) → IsActed app c.graph (node_bound c.graph) (wave_of c) (local_of app c) i case with r → IsJudged (Act i case with) (acted c i r)
+  acted_is_step : (i case : ℕ) (with : Option ℕ) (r : Result L StepRefusal)
+      → IsActed app c.graph (node_bound c.graph) (wave_of c) (local_of app c) i case with r
+      → IsJudged (Act i case with) (acted c i r)
   acted_is_step i case with (Err f) is = act_refused i case with refl is
   acted_is_step i case with (Ok new) is = (
     act_step i case with refl (record {
@@ -129,7 +158,9 @@ module _ {L : Type 0} (app : App L) (c : Configuration L) (graph : IsGraph c.gra
   )
 
   act_steps : (i case : ℕ) (with : Option ℕ) → IsJudged (Act i case with) (act_outcome app c i case with)
-  act_steps i case with = acted_is_step i case with _ (acted_steps app c.graph graph (node_bound c.graph) (wave_of c) (local_of app c) i case with)
+  act_steps i case with =
+      acted_is_step i case with _
+      (acted_steps app c.graph graph (node_bound c.graph) (wave_of c) (local_of app c) i case with)
 
   map_steps : (e : Event) → IsJudged e (map_outcome app c e)
   map_steps (Claim i) = row_steps (Claim i) refl
@@ -146,14 +177,16 @@ module _ {L : Type 0} (app : App L) (c : Configuration L) (graph : IsGraph c.gra
   pub outcome_steps : (e : Event) → IsJudged e (outcome_of app c e)
   outcome_steps e = subst (IsJudged e) (sym (outcome-is app c graph e)) (map_steps e)
 
-  pub outcome_is_step : (e : Event) (c' : Configuration L) (reply : Reply) → outcome_of app c e ≡ Ok (c', reply) → IsStep app c e c' × (reply ≡ reply_of (tree_of c) (wave_of c) e)
+  pub outcome_is_step : (e : Event) (c' : Configuration L) (reply : Reply) → outcome_of app c e ≡ Ok (c', reply)
+      → IsStep app c e c' × (reply ≡ reply_of (tree_of c) (wave_of c) e)
   outcome_is_step e c' reply is = subst (IsJudged e) is (outcome_steps e)
 
   pub outcome_is_refused : (e : Event) (f : StepRefusal) → outcome_of app c e ≡ Err f → IsRefused app c e f
   outcome_is_refused e f is = subst (IsJudged e) is (outcome_steps e)
 
 -- an event that is no action is one of the two tables
-map-rows : {L : Type 0} (app : App L) (c : Configuration L) (e : Event) → is_act e ≡ false → map_outcome app c e ≡ row_outcome app c e
+map-rows : {L : Type 0} (app : App L) (c : Configuration L) (e : Event) → is_act e ≡ false
+    → map_outcome app c e ≡ row_outcome app c e
 map-rows app c (Claim i) row = refl
 map-rows app c (Follow i) row = refl
 map-rows app c (Adopt i j) row = refl
@@ -165,31 +198,51 @@ map-rows app c (Finish i) row = refl
 map-rows app c (Mend i) row = refl
 map-rows app c (Act i case with) row = absurd (cc)
 
-pub outcome-rows : {L : Type 0} (app : App L) (c : Configuration L) (e : Event) → IsGraph c.graph → is_act e ≡ false → outcome_of app c e ≡ row_outcome app c e
+pub outcome-rows : {L : Type 0} (app : App L) (c : Configuration L) (e : Event) → IsGraph c.graph → is_act e ≡ false
+    → outcome_of app c e ≡ row_outcome app c e
 outcome-rows app c e graph row = outcome-is app c graph e ∙ map-rows app c e row
 
 -- ---- what is written at the place of the event's node is the outcome
 
-pub put_tree_outcome : {L : Type 0} (app : App L) (g : Graph) (trees : List TreeRegs) (waves : List WaveRegs) (locals : List L) (e : Event) (ix : ℕ) (regs : TreeRegs) → length trees ≡ length g.ids → position (λ k. k == event_node e) g.ids ≡ Some ix →
-    planned_of g (node_bound g) (tree_map g trees) (wave_map g waves) e ≡ Ok (Tree regs) → row_outcome app (record { graph = g; trees = trees; waves = waves; locals = locals }) e ≡ Ok (record { graph = g; trees = slice_set trees ix regs; waves = waves; locals = locals }, Applied)
+pub put_tree_outcome : {L : Type 0} (app : App L) (g : Graph) (trees : List TreeRegs) (waves : List WaveRegs)
+    (locals : List L) (e : Event) (ix : ℕ) (regs : TreeRegs) → length trees ≡ length g.ids
+    → position (λ k. k == event_node e) g.ids ≡ Some ix →
+    planned_of g (node_bound g) (tree_map g trees) (wave_map g waves) e ≡ Ok (Tree regs)
+        → row_outcome app (record { graph = g; trees = trees; waves = waves; locals = locals }) e
+        ≡ Ok (record { graph = g; trees = slice_set trees ix regs; waves = waves; locals = locals }, Applied)
 put_tree_outcome {L} app g trees waves locals e ix regs same found planned =
-    let after : List TreeRegs → Result (Configuration L × Reply) StepRefusal = λ ts. Ok (record { graph = g; trees = ts; waves = waves; locals = locals }, Applied) in
-    ap (done app (record { graph = g; trees = trees; waves = waves; locals = locals }) (event_node e)) planned ∙ ap after (put_at-position g.ids trees ix (event_node e) regs same found)
+    let after : List TreeRegs → Result (Configuration L × Reply) StepRefusal =
+        λ ts. Ok (record { graph = g; trees = ts; waves = waves; locals = locals }, Applied) in
+    ap (done app (record { graph = g; trees = trees; waves = waves; locals = locals }) (event_node e)) planned
+        ∙ ap after (put_at-position g.ids trees ix (event_node e) regs same found)
 
-pub put_wave_outcome : {L : Type 0} (app : App L) (c c' : Configuration L) (e : Event) (move : WaveMove) (reply : Reply) → planned_of c.graph (node_bound c.graph) (tree_of c) (wave_of c) e ≡ Ok (Wave move)
-    → reply ≡ fired_reply (Wave move) → c' ≡ after_fired app c (event_node e) (Wave move) → row_outcome app c e ≡ Ok (c', reply)
+pub put_wave_outcome : {L : Type 0} (app : App L) (c c' : Configuration L) (e : Event) (move : WaveMove) (reply : Reply)
+    → planned_of c.graph (node_bound c.graph) (tree_of c) (wave_of c) e ≡ Ok (Wave move)
+    → reply ≡ fired_reply (Wave move) → c' ≡ after_fired app c (event_node e) (Wave move)
+        → row_outcome app c e ≡ Ok (c', reply)
 put_wave_outcome {L} app c c' e move reply planned replied written =
     let after : Configuration L → Reply → Result (Configuration L × Reply) StepRefusal = λ d r. Ok (d, r) in
-    ap (done app c (event_node e)) planned ∙ ap (λ r. after (after_fired app c (event_node e) (Wave move)) r) (sym replied) ∙ ap (λ d. after d reply) (sym written)
+    ap (done app c (event_node e)) planned
+        ∙ ap (λ r. after (after_fired app c (event_node e) (Wave move)) r) (sym replied)
+        ∙ ap (λ d. after d reply) (sym written)
 
-pub refused_outcome : {L : Type 0} (app : App L) (c : Configuration L) (e : Event) (f : StepRefusal) → planned_of c.graph (node_bound c.graph) (tree_of c) (wave_of c) e ≡ Err f → row_outcome app c e ≡ Err f
+pub refused_outcome : {L : Type 0} (app : App L) (c : Configuration L) (e : Event) (f : StepRefusal)
+    → planned_of c.graph (node_bound c.graph) (tree_of c) (wave_of c) e ≡ Err f → row_outcome app c e ≡ Err f
 refused_outcome app c e f planned = ap (done app c (event_node e)) planned
 
-pub put_local_outcome : {L : Type 0} (app : App L) (g : Graph) (trees : List TreeRegs) (waves : List WaveRegs) (locals : List L) (i case : ℕ) (with : Option ℕ) (ix : ℕ) (new : L) → length locals ≡ length g.ids → position (λ k. k == i) g.ids ≡ Some ix →
-    acted_of app g (node_bound g) (wave_map g waves) (local_map app g locals) i case with ≡ Ok new → act_outcome app (record { graph = g; trees = trees; waves = waves; locals = locals }) i case with ≡ Ok (record { graph = g; trees = trees; waves = waves; locals = slice_set locals ix new }, Applied)
+pub put_local_outcome : {L : Type 0} (app : App L) (g : Graph) (trees : List TreeRegs) (waves : List WaveRegs)
+    (locals : List L) (i case : ℕ) (with : Option ℕ) (ix : ℕ) (new : L) → length locals ≡ length g.ids
+    → position (λ k. k == i) g.ids ≡ Some ix →
+    acted_of app g (node_bound g) (wave_map g waves) (local_map app g locals) i case with ≡ Ok new
+        → act_outcome app (record { graph = g; trees = trees; waves = waves; locals = locals }) i case with ≡ Ok
+        (record { graph = g; trees = trees; waves = waves; locals = slice_set locals ix new }, Applied)
 put_local_outcome {L} app g trees waves locals i case with ix new same found done =
-    let after : List L → Result (Configuration L × Reply) StepRefusal = λ ls. Ok (record { graph = g; trees = trees; waves = waves; locals = ls }, Applied) in
-    ap (acted (record { graph = g; trees = trees; waves = waves; locals = locals }) i) done ∙ ap after (put_at-position g.ids locals ix i new same found)
+    let after : List L → Result (Configuration L × Reply) StepRefusal =
+        λ ls. Ok (record { graph = g; trees = trees; waves = waves; locals = ls }, Applied) in
+    ap (acted (record { graph = g; trees = trees; waves = waves; locals = locals }) i) done
+        ∙ ap after (put_at-position g.ids locals ix i new same found)
 
-pub refused_act : {L : Type 0} (app : App L) (c : Configuration L) (i case : ℕ) (with : Option ℕ) (f : StepRefusal) → acted_of app c.graph (node_bound c.graph) (wave_of c) (local_of app c) i case with ≡ Err f → act_outcome app c i case with ≡ Err f
+pub refused_act : {L : Type 0} (app : App L) (c : Configuration L) (i case : ℕ) (with : Option ℕ) (f : StepRefusal)
+    → acted_of app c.graph (node_bound c.graph) (wave_of c) (local_of app c) i case with ≡ Err f
+    → act_outcome app c i case with ≡ Err f
 refused_act app c i case with f is = ap (acted c i) is

@@ -1,5 +1,6 @@
 -- The leader of a connected graph, and what passes down the father links of a tree picture.
-use Rattle.std.proofs.Common.{◌≡◌, ◌≢◌, ℕ, zero, suc, ◌+◌, ◌-◌, ◌<◌, ◌≤◌, ◌⊎◌, inl, inr, length, refl, sym, subst, ◌∙◌, ⊎_elim, arith}
+use Rattle.std.proofs.Common.{◌≡◌, ◌≢◌, ℕ, zero, suc, ◌+◌, ◌-◌, ◌<◌, ◌≤◌, ◌⊎◌, inl, inr, length, refl, sym, subst, ◌∙◌}
+use Rattle.std.proofs.Common.{⊎_elim, arith}
 use Rattle.std.proofs.lemmas.Bool.{cases_eq}
 use Rattle.std.proofs.lemmas.List.{get_or_default}
 use Rattle.topology.specs.Graph.{Graph, IsGraph, IsConnected, IsNode, AreLinked, IsLeader, greatest}
@@ -21,7 +22,8 @@ module _ (g : Graph) (graph : IsGraph g) where
   node_below : (i : ℕ) → IsNode g i → i ≤ greatest g
   node_below i node =
       let at = index_of_node g.ids i node in
-      omega (arith, at.2, rises_weakly g.ids graph.ascending at.0 (length g.ids - 1) (omega (arith, at.1)) (omega (arith, graph.some)))
+      omega (arith, at.2, rises_weakly g.ids graph.ascending at.0 (length g.ids - 1) (omega (arith, at.1))
+          (omega (arith, graph.some)))
 
   pub leader_greatest : IsConnected g → (i top : ℕ) → IsNode g i → IsLeader g i top → top ≡ greatest g
   leader_greatest whole i top node leads =
@@ -46,8 +48,12 @@ module _ (g : Graph) (graph : IsGraph g) (whole : IsConnected g) (t : ℕ → Tr
   pub top_or_under : (i : ℕ) → IsNode g i → IsTop g t i ⊎ IsUnder g t i
   top_or_under i node =
       ⊎_elim
-      (λ same. inl (record { greatest = same ∙ leader_greatest g graph whole i (t i).root node (picture.root i node); father = picture.top i node same }))
-      (λ below. inr (record { father = record { named = refl; linked = picture.linked i node below }; dist = picture.nearer i node below }))
+      (λ same. inl
+          (record { greatest = same ∙ leader_greatest g graph whole i (t i).root node (picture.root i node);
+          father = picture.top i node same }))
+      (λ below. inr
+          (record { father = record { named = refl; linked = picture.linked i node below };
+          dist = picture.nearer i node below }))
       (cases_eq i (t i).root)
 
   -- only the leader is its own father
@@ -72,7 +78,8 @@ module _ (g : Graph) (graph : IsGraph g) (whole : IsConnected g) (t : ℕ → Tr
         (λ (is : IsTop g t i). subst P (sym is.greatest) top)
         (λ (under : IsUnder g t i).
         let up = (t i).father in
-        below i up under.father (down_from d up (linked_node g graph i up under.father.linked) (omega (arith, under.dist))))
+        below i up under.father
+            (down_from d up (linked_node g graph i up under.father.linked) (omega (arith, under.dist))))
         (top_or_under i node)
 
     pub down_tree : (i : ℕ) → IsNode g i → P i

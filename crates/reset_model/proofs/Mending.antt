@@ -12,19 +12,24 @@ use Rattle.reset_model.specs.WavePicture.{WaveSound}
 module _ (g : Graph) (t : ℕ → TreeRegs) (w : ℕ → WaveRegs) where
   module _ (rests : (i : ℕ) → Mends g t w i → ⊥) (i j : ℕ) (father : IsFather g t i j) where
     awake_below : reset_at w j ≡ false → reset_at w i ≡ false
-    awake_below up = ⊎_elim (λ own. absurd (rests i (mend_reset j father up own))) (λ own. own) (cases_Bool (reset_at w i))
+    awake_below up =
+        ⊎_elim (λ own. absurd (rests i (mend_reset j father up own))) (λ own. own) (cases_Bool (reset_at w i))
 
     same_below : reset_at w j ≡ false → (w i).session ≡ (w j).session
-    same_below up = ⊎_elim (λ same. same) (λ other. absurd (rests i (mend_number j father up (awake_below up) other))) (cases_eq (w i).session (w j).session)
+    same_below up =
+        ⊎_elim (λ same. same) (λ other. absurd (rests i (mend_number j father up (awake_below up) other)))
+        (cases_eq (w i).session (w j).session)
 
-    late_below : reset_at w j ≡ true → reset_at w i ≡ false → (w i).session ≢ (w j).session → (w j).session ≡ next_session (w i).session
+    late_below : reset_at w j ≡ true → reset_at w i ≡ false → (w i).session ≢ (w j).session
+        → (w j).session ≡ next_session (w i).session
     late_below up own other =
         ⊎_elim
         (λ next. next)
         (λ further. absurd (rests i (mend_late j father up own (λ same. other (sym same)) further)))
         (cases_eq (w j).session (next_session (w i).session))
 
-    differing_below : reset_at w j ≡ true → (w i).session ≢ (w j).session → (reset_at w i ≡ false) × ((w j).session ≡ next_session (w i).session)
+    differing_below : reset_at w j ≡ true → (w i).session ≢ (w j).session
+        → (reset_at w i ≡ false) × ((w j).session ≡ next_session (w i).session)
     differing_below up other =
         ⊎_elim
         (λ own. absurd (rests i (mend_both j father up own other)))
@@ -34,7 +39,9 @@ module _ (g : Graph) (t : ℕ → TreeRegs) (w : ℕ → WaveRegs) where
     holds_at_rest : WaveHolds (w i) (w j)
     holds_at_rest = record {
       awake = λ up. (awake_below up, same_below up);
-      resetting = λ up. ⊎_elim (λ same. inl same) (λ other. inr (differing_below up other)) (cases_eq (w i).session (w j).session);
+      resetting =
+          λ up. ⊎_elim (λ same. inl same) (λ other. inr (differing_below up other))
+          (cases_eq (w i).session (w j).session);
     }
 
   pub no_mend_where_sound : WaveSound g t w → (i : ℕ) → Mends g t w i → ⊥
@@ -45,5 +52,6 @@ module _ (g : Graph) (t : ℕ → TreeRegs) (w : ℕ → WaveRegs) where
   no_mend_where_sound sound i (mend_late j father up own other further) =
       ⊎_elim (λ same. other (sym same)) (λ late. further late.1) ((sound i j father).resetting up)
 
-pub rests_where_sound : (g : Graph) (t : ℕ → TreeRegs) (w : ℕ → WaveRegs) → (((i : ℕ) → Mends g t w i → ⊥) ↔ WaveSound g t w)
+pub rests_where_sound : (g : Graph) (t : ℕ → TreeRegs) (w : ℕ → WaveRegs)
+    → (((i : ℕ) → Mends g t w i → ⊥) ↔ WaveSound g t w)
 rests_where_sound g t w = (holds_at_rest g t w, no_mend_where_sound g t w)

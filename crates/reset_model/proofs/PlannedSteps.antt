@@ -1,23 +1,30 @@
 -- What is planned on a node's view is a step of the whole configuration, or its first refusal.
-use Rattle.std.proofs.Common.{◌≡◌, ℕ, Bool, true, false, cond, Option, Some, None, Result, Ok, Err, MatchResult, refl, sym, ap, subst, ◌∙◌, true≢false}
+use Rattle.std.proofs.Common.{◌≡◌, ℕ, Bool, true, false, cond, Option, Some, None, Result, Ok, Err, MatchResult, refl}
+use Rattle.std.proofs.Common.{sym, ap, subst, ◌∙◌, true≢false}
 use Rattle.topology.specs.Graph.{Graph, IsGraph, IsNode, AreLinked}
 use Rattle.topology.specs.Building.{has}
 use Rattle.topology.proofs.Membership.{has-Contains, Contains-has}
 use Rattle.tree_layer.specs.declared.regs.TreeRegs.{TreeRegs}
 use Rattle.wave_layer.specs.declared.regs.WaveRegs.{WaveRegs}
 use Rattle.reset_model.specs.declared.event.Event.{Event}
-use Rattle.reset_model.specs.declared.event.Event.TheVariants.{Claim, Follow, Adopt, Request, Relay, Open, Join, Finish, Mend, Act}
+use Rattle.reset_model.specs.declared.event.Event.TheVariants.{Claim, Follow, Adopt, Request, Relay, Open, Join, Finish}
+use Rattle.reset_model.specs.declared.event.Event.TheVariants.{Mend, Act}
 use Rattle.reset_model.specs.declared.plan.Fired.{Fired}
 use Rattle.reset_model.specs.declared.plan.Fired.TheVariants.{Tree, Wave}
 use Rattle.reset_model.specs.declared.step.Reply.TheVariants.{Applied, Complete}
 use Rattle.reset_model.specs.declared.step.StepRefusal.{StepRefusal}
-use Rattle.reset_model.specs.declared.step.StepRefusal.TheVariants.{StrangeNode, StrangeNeighbour, NoSuchCase, WantsNeighbour, TakesNoNeighbour, Disagrees, NotEnabled, SessionsSpent, NoMemory}
-use Rattle.reset_model.specs.Steps.{strange_node, strange_neighbour, not_enabled, sessions_spent, event_node, named_node, IsEnabled, IsSpent, IsNamed, RowRefused, reply_of, tree_effect, wave_effect}
+use Rattle.reset_model.specs.declared.step.StepRefusal.TheVariants.{StrangeNode, StrangeNeighbour, NoSuchCase}
+use Rattle.reset_model.specs.declared.step.StepRefusal.TheVariants.{WantsNeighbour, TakesNoNeighbour, Disagrees}
+use Rattle.reset_model.specs.declared.step.StepRefusal.TheVariants.{NotEnabled, SessionsSpent, NoMemory}
+use Rattle.reset_model.specs.Steps.{strange_node, strange_neighbour, not_enabled, sessions_spent, event_node}
+use Rattle.reset_model.specs.Steps.{named_node, IsEnabled, IsSpent, IsNamed, RowRefused, reply_of, tree_effect}
+use Rattle.reset_model.specs.Steps.{wave_effect}
 use Rattle.reset_model.specs.LocalSteps.{is_neighbour, answer_of, planned_of}
 use Rattle.reset_model.specs.Outcome.{tree_left, wave_left, fired_reply, fired_restarts}
 use Rattle.reset_model.proofs.Planned.{planned_of-strange_node, planned_of-strange_neighbour, planned_of-named}
 use Rattle.reset_model.proofs.WaveRows.{IsAnswer}
-use Rattle.reset_model.proofs.WavePlans.{completes_of, restarts_of, request_is, relay_is, open_is, join_is, finish_is, mend_is}
+use Rattle.reset_model.proofs.WavePlans.{completes_of, restarts_of, request_is, relay_is, open_is, join_is, finish_is}
+use Rattle.reset_model.proofs.WavePlans.{mend_is}
 use Rattle.reset_model.proofs.TreePlans.{IsTreeAnswer, claim_is, follow_is, adopt_is}
 
 module _ (g : Graph) (K : ℕ) (t : ℕ → TreeRegs) (w : ℕ → WaveRegs) (graph : IsGraph g) where
@@ -42,8 +49,11 @@ module _ (g : Graph) (K : ℕ) (t : ℕ → TreeRegs) (w : ℕ → WaveRegs) (gr
   IsAnswered e (Err NoMemory) = ⊥
 
   -- a wave event leaves the tree registers, and its reply says whether it completes a reset
-  by_wave : (e : Event) → tree_effect K t e ≡ t (event_node e) → reply_of t w e ≡ cond (completes_of t e) (Complete (wave_effect t w e).session) Applied
-      → (r : Result Fired StepRefusal) → IsAnswer r (IsEnabled g K t w e) (IsSpent w e) (wave_effect t w e) (completes_of t e) (restarts_of e) → IsAnswered e r
+  by_wave : (e : Event) → tree_effect K t e ≡ t (event_node e)
+      → reply_of t w e ≡ cond (completes_of t e) (Complete (wave_effect t w e).session) Applied
+      → (r : Result Fired StepRefusal)
+          → IsAnswer r (IsEnabled g K t w e) (IsSpent w e) (wave_effect t w e) (completes_of t e) (restarts_of e)
+          → IsAnswered e r
   by_wave e stays reply (Ok (Tree regs)) h = absurd h
   by_wave e stays reply (Ok (Wave move)) h = (
     h.0,
@@ -51,7 +61,8 @@ module _ (g : Graph) (K : ℕ) (t : ℕ → TreeRegs) (w : ℕ → WaveRegs) (gr
     record {
       tree = sym stays;
       wave = h.2;
-      reply = ap (λ b. cond b (Complete move.regs.session) Applied) h.3 ∙ ap (λ (regs : WaveRegs). cond (completes_of t e) (Complete regs.session) Applied) h.2 ∙ sym reply;
+      reply = ap (λ b. cond b (Complete move.regs.session) Applied) h.3
+          ∙ ap (λ (regs : WaveRegs). cond (completes_of t e) (Complete regs.session) Applied) h.2 ∙ sym reply;
       restarts = h.4;
     },
   )
@@ -66,9 +77,11 @@ module _ (g : Graph) (K : ℕ) (t : ℕ → TreeRegs) (w : ℕ → WaveRegs) (gr
   by_wave e stays reply (Err NoMemory) h = h
 
   -- a tree event leaves the wave registers, and opens no session
-  by_tree : (e : Event) → wave_effect t w e ≡ w (event_node e) → reply_of t w e ≡ Applied → restarts_of e ≡ false → (IsSpent w e → ⊥)
+  by_tree : (e : Event) → wave_effect t w e ≡ w (event_node e) → reply_of t w e ≡ Applied → restarts_of e ≡ false
+      → (IsSpent w e → ⊥)
       → (r : Result Fired StepRefusal) → IsTreeAnswer r (IsEnabled g K t w e) (tree_effect K t e) → IsAnswered e r
-  by_tree e stays reply kept unspent (Ok (Tree regs)) h = (h.0, unspent, record { tree = h.1; wave = sym stays; reply = sym reply; restarts = sym kept })
+  by_tree e stays reply kept unspent (Ok (Tree regs)) h =
+      (h.0, unspent, record { tree = h.1; wave = sym stays; reply = sym reply; restarts = sym kept })
   by_tree e stays reply kept unspent (Ok (Wave move)) h = absurd h
   by_tree e stays reply kept unspent (Err StrangeNode) h = h
   by_tree e stays reply kept unspent (Err StrangeNeighbour) h = h
@@ -83,7 +96,8 @@ module _ (g : Graph) (K : ℕ) (t : ℕ → TreeRegs) (w : ℕ → WaveRegs) (gr
   answered : (e : Event) → IsNamed g e → IsAnswered e (answer_of g K t w e)
   answered (Claim i) named = by_tree (Claim i) refl refl refl (λ h. h) _ (claim_is g K t w graph i)
   answered (Follow i) named = by_tree (Follow i) refl refl refl (λ h. h) _ (follow_is g K t w graph i)
-  answered (Adopt i j) named = by_tree (Adopt i j) refl refl refl (λ h. h) _ (adopt_is g K t w graph i j (named.neighbour j refl))
+  answered (Adopt i j) named =
+      by_tree (Adopt i j) refl refl refl (λ h. h) _ (adopt_is g K t w graph i j (named.neighbour j refl))
   answered (Request i) named = by_wave (Request i) refl refl _ (request_is g K t w graph i)
   answered (Relay i c) named = by_wave (Relay i c) refl refl _ (relay_is g K t w graph i c _ refl)
   answered (Open i) named = by_wave (Open i) refl refl _ (open_is g K t w graph i)
@@ -99,7 +113,8 @@ module _ (g : Graph) (K : ℕ) (t : ℕ → TreeRegs) (w : ℕ → WaveRegs) (gr
     pub unspent : IsSpent w e → ⊥
     pub leaves : IsFired e does
 
-  step_of : (e : Event) → IsNamed g e → (r : Result Fired StepRefusal) → IsAnswered e r → MatchResult r (IsPlannedStep e) (RowRefused g K t w e)
+  step_of : (e : Event) → IsNamed g e → (r : Result Fired StepRefusal) → IsAnswered e r
+      → MatchResult r (IsPlannedStep e) (RowRefused g K t w e)
   step_of e named (Ok does) h = record { node = named.node; enabled = h.0; unspent = h.1; leaves = h.2 }
   step_of e named (Err StrangeNode) h = absurd h
   step_of e named (Err StrangeNeighbour) h = absurd h
@@ -118,18 +133,24 @@ module _ (g : Graph) (K : ℕ) (t : ℕ → TreeRegs) (w : ℕ → WaveRegs) (gr
   neighbour : (i : ℕ) (o : Option ℕ) → is_neighbour g i o ≡ true → (j : ℕ) → o ≡ Some j → AreLinked g i j
   neighbour i o is j named = let P : Option ℕ → Type 0 = λ o. is_neighbour g i o ≡ true in subst P named is
 
-  pub planned_steps : (e : Event) (r : Result Fired StepRefusal) → planned_of g K t w e ≡ r → MatchResult r (IsPlannedStep e) (RowRefused g K t w e)
+  pub planned_steps : (e : Event) (r : Result Fired StepRefusal) → planned_of g K t w e ≡ r
+      → MatchResult r (IsPlannedStep e) (RowRefused g K t w e)
   planned_steps e r is = at (has g.ids (event_node e)) (is_neighbour g (event_node e) (named_node e)) refl refl
     where
       Steps : Result Fired StepRefusal → Type 0
       Steps r = MatchResult r (IsPlannedStep e) (RowRefused g K t w e)
 
-      at : (b d : Bool) → has g.ids (event_node e) ≡ b → is_neighbour g (event_node e) (named_node e) ≡ d → MatchResult r (IsPlannedStep e) (RowRefused g K t w e)
-      at false d node named = subst Steps (sym (planned_of-strange_node g K t w e node) ∙ is) (strange_node (λ there. true≢false (sym (has-Contains g.ids (event_node e) there) ∙ node)))
+      at : (b d : Bool) → has g.ids (event_node e) ≡ b → is_neighbour g (event_node e) (named_node e) ≡ d
+          → MatchResult r (IsPlannedStep e) (RowRefused g K t w e)
+      at false d node named =
+          subst Steps (sym (planned_of-strange_node g K t w e node) ∙ is)
+          (strange_node (λ there. true≢false (sym (has-Contains g.ids (event_node e) there) ∙ node)))
       at true false node named =
           let other = stranger (event_node e) (named_node e) named in
-          subst Steps (sym (planned_of-strange_neighbour g K t w e node named) ∙ is) (strange_neighbour other.0 (Contains-has g.ids (event_node e) node) other.1 other.2)
+          subst Steps (sym (planned_of-strange_neighbour g K t w e node named) ∙ is)
+              (strange_neighbour other.0 (Contains-has g.ids (event_node e) node) other.1 other.2)
       at true true node named =
           subst Steps (sym (planned_of-named g K t w e node named) ∙ is)
-          (let named_nodes : IsNamed g e = record { node = Contains-has g.ids (event_node e) node; neighbour = neighbour (event_node e) (named_node e) named } in
+          (let named_nodes : IsNamed g e = record { node = Contains-has g.ids (event_node e) node;
+              neighbour = neighbour (event_node e) (named_node e) named } in
           step_of e named_nodes (answer_of g K t w e) (answered e named_nodes))

@@ -1,5 +1,7 @@
 -- Sound configurations: the booted one, and what steps make of one.
-use Rattle.std.proofs.Common.{Option, Result, Ok, ◌≡◌, ℕ, zero, suc, Bool, true, false, cond, nat_eq, List, [], ◌∷◌, length, replicate, slice_index, slice_index_or, refl, sym, ap, subst, ◌∙◌, true≢false, arith}
+use Rattle.std.proofs.Common.{Option, Result, Ok, ◌≡◌, ℕ, zero, suc, Bool, true, false, cond, nat_eq, List, [], ◌∷◌}
+use Rattle.std.proofs.Common.{length, replicate, slice_index, slice_index_or, refl, sym, ap, subst, ◌∙◌, true≢false}
+use Rattle.std.proofs.Common.{arith}
 use Rattle.std.proofs.lemmas.Bool.{eqb-true}
 use Rattle.std.proofs.lemmas.List.{get_or_default}
 use Rattle.app_interface.specs.Application.{App}
@@ -11,7 +13,8 @@ use Rattle.tree_layer.proofs.TreePictures.{rests_where_picture, booted_picture}
 use Rattle.wave_layer.specs.declared.regs.WaveRegs.{WaveRegs}
 use Rattle.wave_layer.specs.declared.regs.Phase.TheVariants.{Normal}
 use Rattle.reset_model.specs.declared.event.Event.{Event}
-use Rattle.reset_model.specs.declared.event.Event.TheVariants.{Claim, Follow, Adopt, Request, Relay, Open, Join, Finish, Mend, Act}
+use Rattle.reset_model.specs.declared.event.Event.TheVariants.{Claim, Follow, Adopt, Request, Relay, Open, Join, Finish}
+use Rattle.reset_model.specs.declared.event.Event.TheVariants.{Mend, Act}
 use Rattle.reset_model.specs.declared.step.Reply.TheVariants.{Applied, Complete}
 use Rattle.reset_model.specs.Configuration.{Configuration, value_at, tree_of, wave_of, tree_map}
 use Rattle.wave_layer.specs.WaveTable.{is_reset}
@@ -31,29 +34,39 @@ use Rattle.reset_model.proofs.CompleteResets.{completed}
 value_at-replicate : {X : Type 0} (x : X) (ids : List ℕ) (n i : ℕ) → value_at x ids (replicate n x) i ≡ x
 value_at-replicate x [] n i = refl
 value_at-replicate x (k ∷ ks) zero i = refl
-value_at-replicate x (k ∷ ks) (suc n) i = elim (nat_eq k i) as (λ b. cond b x (value_at x ks (replicate n x) i) ≡ x) [ true ↦ refl | false ↦ value_at-replicate x ks n i ]
+value_at-replicate x (k ∷ ks) (suc n) i =
+    elim (nat_eq k i) as (λ b. cond b x (value_at x ks (replicate n x) i) ≡ x)
+    [ true ↦ refl | false ↦ value_at-replicate x ks n i ]
 
-booted_waves : {L : Type 0} (app : App L) (g : Graph) (c : Configuration L) → IsBoot app g c → (i : ℕ) → wave_of c i ≡ record { phase = Normal; session = 0 }
-booted_waves app g c boot i = ap (λ ws. value_at (record { phase = Normal; session = 0 }) c.graph.ids ws i) boot.waves ∙ value_at-replicate (record { phase = Normal; session = 0 }) c.graph.ids (length g.ids) i
+booted_waves : {L : Type 0} (app : App L) (g : Graph) (c : Configuration L) → IsBoot app g c → (i : ℕ)
+    → wave_of c i ≡ record { phase = Normal; session = 0 }
+booted_waves app g c boot i =
+    ap (λ ws. value_at (record { phase = Normal; session = 0 }) c.graph.ids ws i) boot.waves
+    ∙ value_at-replicate (record { phase = Normal; session = 0 }) c.graph.ids (length g.ids) i
 
-booted_trees : {L : Type 0} (app : App L) (g : Graph) (c : Configuration L) → IsGraph g → IsBoot app g c → (i : ℕ) → IsNode g i → IsBooted g i (tree_map g c.trees i)
+booted_trees : {L : Type 0} (app : App L) (g : Graph) (c : Configuration L) → IsGraph g → IsBoot app g c → (i : ℕ)
+    → IsNode g i → IsBooted g i (tree_map g c.trees i)
 booted_trees app g c graph boot i (k, short, here) =
     let d : TreeRegs = record { root = 0; father = 0; dist = 0 } in
     let at : slice_index g.ids k ≡ i = get_or_default g.ids k 0 i short ∙ here in
     let booted = boot.trees.each k d (omega (arith, short, boot.trees.count)) in
-    let regs : tree_map g c.trees (slice_index g.ids k) ≡ slice_index_or c.trees k d = value_at-place d g.ids c.trees k graph.ascending boot.trees.count short in
+    let regs : tree_map g c.trees (slice_index g.ids k) ≡ slice_index_or c.trees k d =
+        value_at-place d g.ids c.trees k graph.ascending boot.trees.count short in
     let P : ℕ → Type 0 = λ j. IsBooted g j (tree_map g c.trees j) in
     subst P at (subst (IsBooted g (slice_index g.ids k)) (sym regs) booted)
 
-pub boot_tree_picture : {L : Type 0} (app : App L) (g : Graph) (c : Configuration L) → IsGraph g → IsBoot app g c → TreePicture c.graph (tree_of c)
+pub boot_tree_picture : {L : Type 0} (app : App L) (g : Graph) (c : Configuration L) → IsGraph g → IsBoot app g c
+    → TreePicture c.graph (tree_of c)
 boot_tree_picture app g c graph boot =
     let P : Graph → Type 0 = λ h. TreePicture h (tree_map h c.trees) in
     subst P (sym boot.graph) (booted_picture g (tree_map g c.trees) graph (booted_trees app g c graph boot))
 
-pub boot_wave_picture : {L : Type 0} (app : App L) (g : Graph) (c : Configuration L) → IsBoot app g c → WavePicture c.graph (tree_of c) (wave_of c)
+pub boot_wave_picture : {L : Type 0} (app : App L) (g : Graph) (c : Configuration L) → IsBoot app g c
+    → WavePicture c.graph (tree_of c) (wave_of c)
 boot_wave_picture app g c boot =
     let waves = booted_waves app g c boot in
-    let same : (i j : ℕ) → (wave_of c i).session ≡ (wave_of c j).session = λ i j. ap (λ (r : WaveRegs). r.session) (waves i ∙ sym (waves j)) in
+    let same : (i j : ℕ) → (wave_of c i).session ≡ (wave_of c j).session =
+        λ i j. ap (λ (r : WaveRegs). r.session) (waves i ∙ sym (waves j)) in
     let awake : (i : ℕ) → reset_at (wave_of c) i ≡ false = λ i. ap (λ (r : WaveRegs). is_reset r.phase) (waves i) in
     record {
       upward = λ i node joined. same _ _;
@@ -62,7 +75,8 @@ boot_wave_picture app g c boot =
       edge = λ i node apart up. absurd (apart (same _ _));
     }
 
-pub pictures_sound : {L : Type 0} (c : Configuration L) → IsGraph c.graph → IsConnected c.graph → TreePicture c.graph (tree_of c) → WavePicture c.graph (tree_of c) (wave_of c) → IsSound c
+pub pictures_sound : {L : Type 0} (c : Configuration L) → IsGraph c.graph → IsConnected c.graph
+    → TreePicture c.graph (tree_of c) → WavePicture c.graph (tree_of c) (wave_of c) → IsSound c
 pictures_sound c graph whole tree wave =
     record {
       tree = (rests_where_picture c.graph (node_bound c.graph) (tree_of c) graph graph.bounded).1 tree;
@@ -71,14 +85,19 @@ pictures_sound c graph whole tree wave =
 
 -- ---- steps
 
-same_regs_sound : {L : Type 0} (c c' : Configuration L) → c'.graph ≡ c.graph → c'.trees ≡ c.trees → c'.waves ≡ c.waves → IsSound c → IsSound c'
+same_regs_sound : {L : Type 0} (c c' : Configuration L) → c'.graph ≡ c.graph → c'.trees ≡ c.trees → c'.waves ≡ c.waves
+    → IsSound c → IsSound c'
 same_regs_sound c c' graph trees waves sound = rw (graph, trees, waves) sound
 
-pub step_sound : {L : Type 0} (app : App L) (c c' : Configuration L) (e : Event) → IsGraph c.graph → IsStep app c e c' → IsSound c → IsSound c'
+pub step_sound : {L : Type 0} (app : App L) (c c' : Configuration L) (e : Event) → IsGraph c.graph → IsStep app c e c'
+    → IsSound c → IsSound c'
 step_sound app c c' e graph (row_step step) sound =
     let P : Graph → Type 0 = λ g. Sound g (node_bound g) (tree_of c') (wave_of c') in
-    subst P (sym step.graph) (sound_stays c.graph (node_bound c.graph) (tree_of c) (tree_of c') (wave_of c) (wave_of c') e graph sound step.regs)
-step_sound app c c' e graph (act_step i case with is step) sound = same_regs_sound c c' step.graph step.trees step.waves sound
+    subst P (sym step.graph)
+        (sound_stays c.graph (node_bound c.graph) (tree_of c) (tree_of c') (wave_of c) (wave_of c') e graph sound
+        step.regs)
+step_sound app c c' e graph (act_step i case with is step) sound =
+    same_regs_sound c c' step.graph step.trees step.waves sound
 
 no_repair : (i case : ℕ) (with : Option ℕ) (e : Event) → e ≡ Act i case with → Repairs e → ⊥
 no_repair i case with e is (claims k) = absurd (cc)
@@ -86,20 +105,31 @@ no_repair i case with e is (follows k) = absurd (cc)
 no_repair i case with e is (adopts k j) = absurd (cc)
 no_repair i case with e is (mends k) = absurd (cc)
 
-pub step_quiet : {L : Type 0} (app : App L) (c c' : Configuration L) (e : Event) → IsStep app c e c' → IsSound c → Repairs e → ⊥
-step_quiet app c c' e (row_step step) sound repairs = sound_rests c.graph (node_bound c.graph) (tree_of c) (wave_of c) e step.regs.node sound repairs step.regs.enabled
+pub step_quiet : {L : Type 0} (app : App L) (c c' : Configuration L) (e : Event) → IsStep app c e c' → IsSound c
+    → Repairs e → ⊥
+step_quiet app c c' e (row_step step) sound repairs =
+    sound_rests c.graph (node_bound c.graph) (tree_of c) (wave_of c) e step.regs.node sound repairs step.regs.enabled
 step_quiet app c c' e (act_step i case with is step) sound repairs = no_repair i case with e is repairs
 
-finished : {L : Type 0} (app : App L) (c c' : Configuration L) (i x : ℕ) → IsGraph c.graph → IsConnected c.graph → IsStep app c (Finish i) c' → IsSound c → (b : Bool) → nat_eq (tree_of c i).father i ≡ b → cond b (Complete (wave_of c i).session) Applied ≡ Complete x → IsComplete c' x
+finished : {L : Type 0} (app : App L) (c c' : Configuration L) (i x : ℕ) → IsGraph c.graph → IsConnected c.graph
+    → IsStep app c (Finish i) c' → IsSound c → (b : Bool) → nat_eq (tree_of c i).father i ≡ b
+    → cond b (Complete (wave_of c i).session) Applied ≡ Complete x → IsComplete c' x
 finished app c c' i x graph whole (act_step k case with is step) sound b own told = absurd (cc)
 finished app c c' i x graph whole (row_step step) sound false other told = absurd (cc)
 finished app c c' i x graph whole (row_step step) sound true own told =
-    let P : Graph → Type 0 = λ g. (j : ℕ) → IsNode g j → (reset_at (wave_of c') j ≡ false) × ((wave_of c' j).session ≡ (wave_of c i).session) in
+    let P : Graph → Type 0 =
+        λ g. (j : ℕ) → IsNode g j
+        → (reset_at (wave_of c') j ≡ false) × ((wave_of c' j).session ≡ (wave_of c i).session) in
     let session : (wave_of c i).session ≡ x = cc in
-    let all = subst P (sym step.graph) (completed c.graph (node_bound c.graph) (tree_of c) (tree_of c') (wave_of c) (wave_of c') i graph whole sound (eqb-true _ _ own) step.regs) in
+    let all =
+        subst P (sym step.graph)
+        (completed c.graph (node_bound c.graph) (tree_of c) (tree_of c') (wave_of c) (wave_of c') i graph whole sound
+        (eqb-true _ _ own) step.regs) in
     λ j node. ((all j node).0, (all j node).1 ∙ session)
 
-pub step_complete : {L : Type 0} (app : App L) (c c' : Configuration L) (e : Event) (x : ℕ) → IsGraph c.graph → IsConnected c.graph → IsStep app c e c' → IsSound c → reply_of (tree_of c) (wave_of c) e ≡ Complete x → IsComplete c' x
+pub step_complete : {L : Type 0} (app : App L) (c c' : Configuration L) (e : Event) (x : ℕ) → IsGraph c.graph
+    → IsConnected c.graph → IsStep app c e c' → IsSound c → reply_of (tree_of c) (wave_of c) e ≡ Complete x
+    → IsComplete c' x
 step_complete app c c' (Claim i) x graph whole step sound told = absurd (cc)
 step_complete app c c' (Follow i) x graph whole step sound told = absurd (cc)
 step_complete app c c' (Adopt i j) x graph whole step sound told = absurd (cc)
@@ -107,7 +137,8 @@ step_complete app c c' (Request i) x graph whole step sound told = absurd (cc)
 step_complete app c c' (Relay i k) x graph whole step sound told = absurd (cc)
 step_complete app c c' (Open i) x graph whole step sound told = absurd (cc)
 step_complete app c c' (Join i) x graph whole step sound told = absurd (cc)
-step_complete app c c' (Finish i) x graph whole step sound told = finished app c c' i x graph whole step sound _ refl told
+step_complete app c c' (Finish i) x graph whole step sound told =
+    finished app c c' i x graph whole step sound _ refl told
 step_complete app c c' (Mend i) x graph whole step sound told = absurd (cc)
 step_complete app c c' (Act i case with) x graph whole step sound told = absurd (cc)
 

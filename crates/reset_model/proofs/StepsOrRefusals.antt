@@ -8,7 +8,8 @@ use Rattle.tree_layer.specs.declared.regs.TreeRegs.{TreeRegs}
 use Rattle.tree_layer.specs.TreeRows.{adopt_root, adopt_short}
 use Rattle.wave_layer.specs.declared.regs.WaveRegs.{WaveRegs}
 use Rattle.reset_model.specs.declared.event.Event.{Event}
-use Rattle.reset_model.specs.declared.event.Event.TheVariants.{Claim, Follow, Adopt, Request, Relay, Open, Join, Finish, Mend, Act}
+use Rattle.reset_model.specs.declared.event.Event.TheVariants.{Claim, Follow, Adopt, Request, Relay, Open, Join, Finish}
+use Rattle.reset_model.specs.declared.event.Event.TheVariants.{Mend, Act}
 use Rattle.reset_model.specs.declared.step.StepRefusal.{StepRefusal}
 use Rattle.reset_model.specs.Actions as act
 use Rattle.reset_model.specs.Actions.{ActStep, ActRefused, NamesOne}
@@ -20,22 +21,28 @@ use Rattle.reset_model.specs.Steps.{IsEnabled, RegsStep, RowRefused, event_node,
 -- ---- rows
 
 -- the node that an enabled event names is a neighbour
-named_linked : (g : Graph) (K : ℕ) (t : ℕ → TreeRegs) (w : ℕ → WaveRegs) (e : Event) (j : ℕ) → IsGraph g → IsEnabled g K t w e → named_node e ≡ Some j → AreLinked g (event_node e) j
+named_linked : (g : Graph) (K : ℕ) (t : ℕ → TreeRegs) (w : ℕ → WaveRegs) (e : Event) (j : ℕ) → IsGraph g
+    → IsEnabled g K t w e → named_node e ≡ Some j → AreLinked g (event_node e) j
 named_linked g K t w (Claim i) j graph enabled named = absurd (cc)
 named_linked g K t w (Follow i) j graph enabled named = absurd (cc)
-named_linked g K t w (Adopt i k) j graph (adopt_root linked near above) named = let same : k ≡ j = cc in subst (AreLinked g i) same linked
-named_linked g K t w (Adopt i k) j graph (adopt_short linked near alike shorter) named = let same : k ≡ j = cc in subst (AreLinked g i) same linked
+named_linked g K t w (Adopt i k) j graph (adopt_root linked near above) named = let same : k ≡ j =
+    cc in subst (AreLinked g i) same linked
+named_linked g K t w (Adopt i k) j graph (adopt_short linked near alike shorter) named = let same : k ≡ j =
+    cc in subst (AreLinked g i) same linked
 named_linked g K t w (Request i) j graph enabled named = absurd (cc)
-named_linked g K t w (Relay i k) j graph enabled named = let same : k ≡ j = cc in subst (AreLinked g i) same (graph.symmetric i k ∙ enabled.1.linked)
+named_linked g K t w (Relay i k) j graph enabled named = let same : k ≡ j =
+    cc in subst (AreLinked g i) same (graph.symmetric i k ∙ enabled.1.linked)
 named_linked g K t w (Open i) j graph enabled named = absurd (cc)
 named_linked g K t w (Join i) j graph enabled named = absurd (cc)
 named_linked g K t w (Finish i) j graph enabled named = absurd (cc)
 named_linked g K t w (Mend i) j graph enabled named = absurd (cc)
 named_linked g K t w (Act i case with) j graph enabled named = absurd enabled
 
-rows_apart : (g : Graph) (K : ℕ) (t t' : ℕ → TreeRegs) (w w' : ℕ → WaveRegs) (e : Event) (f : StepRefusal) → IsGraph g → RegsStep g K t w e t' w' → RowRefused g K t w e f → ⊥
+rows_apart : (g : Graph) (K : ℕ) (t t' : ℕ → TreeRegs) (w w' : ℕ → WaveRegs) (e : Event) (f : StepRefusal) → IsGraph g
+    → RegsStep g K t w e t' w' → RowRefused g K t w e f → ⊥
 rows_apart g K t t' w w' e f graph step (row.strange_node none) = none step.node
-rows_apart g K t t' w w' e f graph step (row.strange_neighbour j node named stranger) = stranger (named_linked g K t w e j graph step.enabled named)
+rows_apart g K t t' w w' e f graph step (row.strange_neighbour j node named stranger) =
+    stranger (named_linked g K t w e j graph step.enabled named)
 rows_apart g K t t' w w' e f graph step (row.not_enabled named none) = none step.enabled
 rows_apart g K t t' w w' e f graph step (row.sessions_spent named enabled spent) = step.unspent spent
 
@@ -62,16 +69,19 @@ module _ (g : Graph) (i : ℕ) where
   fits_alone All j none fits = fits
 
 module _ {L : Type 0} (app : App L) (g : Graph) (K : ℕ) (w : ℕ → WaveRegs) (l l' : ℕ → L) where
-  acts_apart : (i case : ℕ) (with : Option ℕ) (f : StepRefusal) → ActStep app g K w i case with l l' → ActRefused app g K w l i case with f → ⊥
+  acts_apart : (i case : ℕ) (with : Option ℕ) (f : StepRefusal) → ActStep app g K w i case with l l'
+      → ActRefused app g K w l i case with f → ⊥
   acts_apart i case with f step (act.strange_node none) = none step.action.node
-  acts_apart i case with f step (act.strange_neighbour j node named stranger) = stranger (fits_linked g i (app.reads case) j (subst (Fits g i (app.reads case)) named step.action.fits))
+  acts_apart i case with f step (act.strange_neighbour j node named stranger) =
+      stranger (fits_linked g i (app.reads case) j (subst (Fits g i (app.reads case)) named step.action.fits))
   acts_apart i case with f step (act.no_such_case named none) = subst (λ r. Fits g i r with) none step.action.fits
   acts_apart i case with f step (act.wants_neighbour r named reads names none) =
       fits_named g i r names (subst (Fits g i (Some r)) none (subst (λ o. Fits g i o with) reads step.action.fits))
   acts_apart i case with f step (act.takes_no_neighbour r j named reads alone one) =
       fits_alone g i r j alone (subst (Fits g i (Some r)) one (subst (λ o. Fits g i o with) reads step.action.fits))
   acts_apart i case with f step (act.disagrees j node fits first) = first.apart (step.agree j first.node first.read)
-  acts_apart i case with f step (act.not_enabled node fits agree none) = let both : Some step.action.new ≡ None = sym step.action.next ∙ none in absurd (cc)
+  acts_apart i case with f step (act.not_enabled node fits agree none) = let both : Some step.action.new ≡ None =
+      sym step.action.next ∙ none in absurd (cc)
 
   -- the event is an action that takes the local states to these
   abbrev Acts : Event → Type 0
@@ -80,10 +90,16 @@ module _ {L : Type 0} (app : App L) (g : Graph) (K : ℕ) (w : ℕ → WaveRegs)
 
 -- ---- events
 
-pub step_or_refusal : {L : Type 0} (app : App L) (c c' : Configuration L) (e : Event) (f : StepRefusal) → IsGraph c.graph → IsStep app c e c' → IsRefused app c e f → ⊥
-step_or_refusal app c c' e f graph (row_step step) (row_refused is_row refused) = rows_apart c.graph (node_bound c.graph) (tree_of c) (tree_of c') (wave_of c) (wave_of c') e f graph step.regs refused
-step_or_refusal app c c' e f graph (row_step step) (act_refused i case with is refused) = subst (IsEnabled c.graph (node_bound c.graph) (tree_of c) (wave_of c)) is step.regs.enabled
-step_or_refusal app c c' e f graph (act_step i case with is step) (row_refused is_row refused) = absurd (true≢false (sym (ap is_act is) ∙ is_row))
+pub step_or_refusal : {L : Type 0} (app : App L) (c c' : Configuration L) (e : Event) (f : StepRefusal)
+    → IsGraph c.graph → IsStep app c e c' → IsRefused app c e f → ⊥
+step_or_refusal app c c' e f graph (row_step step) (row_refused is_row refused) =
+    rows_apart c.graph (node_bound c.graph) (tree_of c) (tree_of c') (wave_of c) (wave_of c') e f graph step.regs
+    refused
+step_or_refusal app c c' e f graph (row_step step) (act_refused i case with is refused) =
+    subst (IsEnabled c.graph (node_bound c.graph) (tree_of c) (wave_of c)) is step.regs.enabled
+step_or_refusal app c c' e f graph (act_step i case with is step) (row_refused is_row refused) =
+    absurd (true≢false (sym (ap is_act is) ∙ is_row))
 step_or_refusal app c c' e f graph (act_step i case with is step) (act_refused i' case' with' is' refused) =
     acts_apart app c.graph (node_bound c.graph) (wave_of c) (local_of app c) (local_of app c') i' case' with' f
-    (subst (Acts app c.graph (node_bound c.graph) (wave_of c) (local_of app c) (local_of app c')) (sym is ∙ is') step.locals) refused
+    (subst (Acts app c.graph (node_bound c.graph) (wave_of c) (local_of app c) (local_of app c')) (sym is ∙ is')
+        step.locals) refused

@@ -1,18 +1,24 @@
 -- What the rows of the tree table answer on a node's view is what the event does to the tree's registers.
-use Rattle.std.proofs.Common.{arith, ◌≡◌, ◌≢◌, ℕ, suc, ◌+◌, ◌<◌, ◌≤◌, Bool, true, false, cond, ◌&&◌, nat_eq, nat_lt, nat_le, map, Some, None, Result, Ok, Err, refl, sym, ap, subst, ◌∙◌, ◌⊎◌, inl, inr, true≢false}
+use Rattle.std.proofs.Common.{arith, ◌≡◌, ◌≢◌, ℕ, suc, ◌+◌, ◌<◌, ◌≤◌, Bool, true, false, cond, ◌&&◌, nat_eq, nat_lt}
+use Rattle.std.proofs.Common.{nat_le, map, Some, None, Result, Ok, Err, refl, sym, ap, subst, ◌∙◌, ◌⊎◌, inl, inr}
+use Rattle.std.proofs.Common.{true≢false}
 use Rattle.std.proofs.lemmas.Bool.Decides.{eqb_tells, leb_tells}
 use Rattle.topology.specs.Building.{has}
 use Rattle.topology.proofs.Membership.{has-Contains, has-filter}
 use Rattle.topology.specs.Graph.{Graph, IsGraph, AreLinked, are_linked, neighbours_of}
 use Rattle.tree_layer.specs.declared.regs.TreeRegs.{TreeRegs}
-use Rattle.tree_layer.specs.TreeRows.{IsFather, Claims, claim_low, claim_self, claim_stray, claim_far, Follows, follow_root, follow_dist, Adopts, adopt_root, adopt_short, claimed, followed, adopted}
+use Rattle.tree_layer.specs.TreeRows.{IsFather, Claims, claim_low, claim_self, claim_stray, claim_far, Follows}
+use Rattle.tree_layer.specs.TreeRows.{follow_root, follow_dist, Adopts, adopt_root, adopt_short, claimed, followed}
+use Rattle.tree_layer.specs.TreeRows.{adopted}
 use Rattle.tree_layer.specs.TreeTable.{near_regs}
 use Rattle.wave_layer.specs.declared.regs.WaveRegs.{WaveRegs}
 use Rattle.reset_model.specs.declared.event.Event.TheVariants.{Claim, Follow, Adopt}
 use Rattle.reset_model.specs.declared.plan.Fired.{Fired}
 use Rattle.reset_model.specs.declared.plan.Fired.TheVariants.{Tree, Wave}
 use Rattle.reset_model.specs.declared.step.StepRefusal.{StepRefusal}
-use Rattle.reset_model.specs.declared.step.StepRefusal.TheVariants.{StrangeNode, StrangeNeighbour, NoSuchCase, WantsNeighbour, TakesNoNeighbour, Disagrees, NotEnabled, SessionsSpent, NoMemory}
+use Rattle.reset_model.specs.declared.step.StepRefusal.TheVariants.{StrangeNode, StrangeNeighbour, NoSuchCase}
+use Rattle.reset_model.specs.declared.step.StepRefusal.TheVariants.{WantsNeighbour, TakesNoNeighbour, Disagrees}
+use Rattle.reset_model.specs.declared.step.StepRefusal.TheVariants.{NotEnabled, SessionsSpent, NoMemory}
 use Rattle.reset_model.specs.LocalSteps.{answer_of}
 use Rattle.reset_model.proofs.Seen.{lookup-among}
 
@@ -41,8 +47,11 @@ Le a b = ((nat_le a b ≡ true) × (a ≤ b)) ⊎ ((nat_le a b ≡ false) × (b 
 
 module _ (g : Graph) (K : ℕ) (t : ℕ → TreeRegs) (w : ℕ → WaveRegs) (graph : IsGraph g) where
   -- what a node's view has of another node: its registers, where they are linked
-  pub near_regs-linked : (i j : ℕ) → near_regs j (map (λ k. (k, t k)) (neighbours_of g i)) ≡ cond (are_linked g i j) (Some (t j)) None
-  near_regs-linked i j = lookup-among t (neighbours_of g i) j ∙ ap (λ b. cond b (Some (t j)) None) (has-filter (are_linked g i) g.ids j ∙ both (are_linked g i j) refl)
+  pub near_regs-linked : (i j : ℕ)
+      → near_regs j (map (λ k. (k, t k)) (neighbours_of g i)) ≡ cond (are_linked g i j) (Some (t j)) None
+  near_regs-linked i j =
+      lookup-among t (neighbours_of g i) j
+      ∙ ap (λ b. cond b (Some (t j)) None) (has-filter (are_linked g i) g.ids j ∙ both (are_linked g i j) refl)
     where
       both : (b : Bool) → are_linked g i j ≡ b → (are_linked g i j && has g.ids j) ≡ are_linked g i j
       both true linked = rw linked (has-Contains g.ids j (graph.ends j i (graph.symmetric j i ∙ linked)))
@@ -64,7 +73,8 @@ module _ (g : Graph) (K : ℕ) (t : ℕ → TreeRegs) (w : ℕ → WaveRegs) (gr
       Answered = IsTreeAnswer (answer_of g K t w (Claim i)) (Claims g K t i) (claimed i)
 
       -- a node that is its own father has a root of its own at distance 0
-      rooted : nat_lt (t i).root i ≡ false → i ≤ (t i).root → (t i).father ≡ i → nat_eq (t i).father i ≡ true → Eq (t i).root i → Eq (t i).dist 0 → Le K (t i).dist → Answered
+      rooted : nat_lt (t i).root i ≡ false → i ≤ (t i).root → (t i).father ≡ i → nat_eq (t i).father i ≡ true
+          → Eq (t i).root i → Eq (t i).dist 0 → Le K (t i).dist → Answered
       rooted low high named own (inr r) d far = rw (low, own, r.0) (claim_self named (inl r.1), refl)
       rooted low high named own (inl r) (inr d) far = rw (low, own, r.0, d.0) (claim_self named (inr d.1), refl)
       rooted low high named own (inl r) (inl d) (inl far) = rw (low, own, r.0, d.0, far.0) (claim_far far.1, refl)
@@ -78,9 +88,13 @@ module _ (g : Graph) (K : ℕ) (t : ℕ → TreeRegs) (w : ℕ → WaveRegs) (gr
           rests (claim_far beyond) = absurd (omega (arith, beyond, far.1))
 
       -- another node has a neighbour as its father
-      led : nat_lt (t i).root i ≡ false → i ≤ (t i).root → (t i).father ≢ i → nat_eq (t i).father i ≡ false → (b : Bool) → are_linked g i (t i).father ≡ b → Le K (t i).dist → Answered
-      led low high other own false stray far = rw (low, own, near_none i (t i).father stray) (claim_stray other (λ linked. true≢false (sym linked ∙ stray)), refl)
-      led low high other own true linked (inl far) = rw (low, own, near_some i (t i).father linked, far.0) (claim_far far.1, refl)
+      led : nat_lt (t i).root i ≡ false → i ≤ (t i).root → (t i).father ≢ i → nat_eq (t i).father i ≡ false → (b : Bool)
+          → are_linked g i (t i).father ≡ b → Le K (t i).dist → Answered
+      led low high other own false stray far =
+          rw (low, own, near_none i (t i).father stray)
+          (claim_stray other (λ linked. true≢false (sym linked ∙ stray)), refl)
+      led low high other own true linked (inl far) =
+          rw (low, own, near_some i (t i).father linked, far.0) (claim_far far.1, refl)
       led low high other own true linked (inr far) = rw (low, own, near_some i (t i).father linked, far.0) rests
         where
           rests : Claims g K t i → ⊥
@@ -90,30 +104,39 @@ module _ (g : Graph) (K : ℕ) (t : ℕ → TreeRegs) (w : ℕ → WaveRegs) (gr
           rests (claim_far beyond) = absurd (omega (arith, beyond, far.1))
 
       high_root : nat_lt (t i).root i ≡ false → i ≤ (t i).root → Eq (t i).father i → Answered
-      high_root low high (inl own) = rooted low high own.1 own.0 (eqb_tells (t i).root i) (eqb_tells (t i).dist 0) (leb_tells K (t i).dist)
-      high_root low high (inr own) = led low high own.1 own.0 (are_linked g i (t i).father) refl (leb_tells K (t i).dist)
+      high_root low high (inl own) =
+          rooted low high own.1 own.0 (eqb_tells (t i).root i) (eqb_tells (t i).dist 0) (leb_tells K (t i).dist)
+      high_root low high (inr own) =
+          led low high own.1 own.0 (are_linked g i (t i).father) refl (leb_tells K (t i).dist)
 
       low : Lt (t i).root i → Answered
       low (inl below) = rw below.0 (claim_low below.1, refl)
       low (inr high) = high_root high.0 (omega (arith, high.1)) (eqb_tells (t i).father i)
 
-  pub follow_is : (i : ℕ) → IsTreeAnswer (answer_of g K t w (Follow i)) (Follows g K t i) (followed K (t i).father (t (t i).father))
+  pub follow_is : (i : ℕ)
+      → IsTreeAnswer (answer_of g K t w (Follow i)) (Follows g K t i) (followed K (t i).father (t (t i).father))
   follow_is i = led (are_linked g i (t i).father) refl
     where
       Answered : Type 0
-      Answered = IsTreeAnswer (answer_of g K t w (Follow i)) (Follows g K t i) (followed K (t i).father (t (t i).father))
+      Answered =
+          IsTreeAnswer (answer_of g K t w (Follow i)) (Follows g K t i) (followed K (t i).father (t (t i).father))
 
       same : (j : ℕ) → IsFather g t i j → j ≡ (t i).father
       same j father = sym father.named
 
-      up : AreLinked g i (t i).father → Lt (t i).dist K → Eq (t i).root (t (t i).father).root → Eq (t i).dist ((t (t i).father).dist + 1) → Answered
+      up : AreLinked g i (t i).father → Lt (t i).dist K → Eq (t i).root (t (t i).father).root
+          → Eq (t i).dist ((t (t i).father).dist + 1) → Answered
       up linked (inr far) r d = rw (near_some i (t i).father linked, far.0) rests
         where
           rests : Follows g K t i → ⊥
           rests (follow_root j father near _) = absurd (omega (arith, near, far.1))
           rests (follow_dist j father near _ _) = absurd (omega (arith, near, far.1))
-      up linked (inl far) (inr r) d = rw (near_some i (t i).father linked, far.0, r.0) (follow_root (t i).father (record { named = refl; linked = linked }) far.1 r.1, refl)
-      up linked (inl far) (inl r) (inr d) = rw (near_some i (t i).father linked, far.0, r.0, d.0) (follow_dist (t i).father (record { named = refl; linked = linked }) far.1 r.1 d.1, refl)
+      up linked (inl far) (inr r) d =
+          rw (near_some i (t i).father linked, far.0, r.0)
+          (follow_root (t i).father (record { named = refl; linked = linked }) far.1 r.1, refl)
+      up linked (inl far) (inl r) (inr d) =
+          rw (near_some i (t i).father linked, far.0, r.0, d.0)
+          (follow_dist (t i).father (record { named = refl; linked = linked }) far.1 r.1 d.1, refl)
       up linked (inl far) (inl r) (inl d) = rw (near_some i (t i).father linked, far.0, r.0, d.0) rests
         where
           rests : Follows g K t i → ⊥
@@ -125,18 +148,26 @@ module _ (g : Graph) (K : ℕ) (t : ℕ → TreeRegs) (w : ℕ → WaveRegs) (gr
       led false stray = rw (near_none i (t i).father stray) rests
         where
           none : (j : ℕ) → IsFather g t i j → ⊥
-          none j father = true≢false (sym (let P : ℕ → Type 0 = λ k. AreLinked g i k in subst P (same j father) father.linked) ∙ stray)
+          none j father =
+              true≢false
+              (sym (let P : ℕ → Type 0 = λ k. AreLinked g i k in subst P (same j father) father.linked) ∙ stray)
 
           rests : Follows g K t i → ⊥
           rests (follow_root j father _ _) = none j father
           rests (follow_dist j father _ _ _) = none j father
 
-  pub adopt_is : (i j : ℕ) → AreLinked g i j → IsTreeAnswer (answer_of g K t w (Adopt i j)) (Adopts g K t i j) (adopted j (t j))
-  adopt_is i j linked = at (far_tells j) (leb_tells (suc (t i).root) (t j).root) (eqb_tells (t i).root (t j).root) (leb_tells (suc ((t j).dist + 1)) (t i).dist)
+  pub adopt_is : (i j : ℕ) → AreLinked g i j
+      → IsTreeAnswer (answer_of g K t w (Adopt i j)) (Adopts g K t i j) (adopted j (t j))
+  adopt_is i j linked =
+      at (far_tells j) (leb_tells (suc (t i).root) (t j).root) (eqb_tells (t i).root (t j).root)
+      (leb_tells (suc ((t j).dist + 1)) (t i).dist)
     where
-      at : Lt (t j).dist K → Lt (t i).root (t j).root → Eq (t i).root (t j).root → Lt ((t j).dist + 1) (t i).dist → IsTreeAnswer (answer_of g K t w (Adopt i j)) (Adopts g K t i j) (adopted j (t j))
-      at (inl near) (inl higher) r s = rw (near_some i j linked, near.0, higher.0) (adopt_root linked near.1 higher.1, refl)
-      at (inl near) (inr higher) (inl r) (inl s) = rw (near_some i j linked, near.0, higher.0, r.0, s.0) (adopt_short linked near.1 r.1 s.1, refl)
+      at : Lt (t j).dist K → Lt (t i).root (t j).root → Eq (t i).root (t j).root → Lt ((t j).dist + 1) (t i).dist
+          → IsTreeAnswer (answer_of g K t w (Adopt i j)) (Adopts g K t i j) (adopted j (t j))
+      at (inl near) (inl higher) r s =
+          rw (near_some i j linked, near.0, higher.0) (adopt_root linked near.1 higher.1, refl)
+      at (inl near) (inr higher) (inl r) (inl s) =
+          rw (near_some i j linked, near.0, higher.0, r.0, s.0) (adopt_short linked near.1 r.1 s.1, refl)
       at (inl near) (inr higher) (inl r) (inr s) = rw (near_some i j linked, near.0, higher.0, r.0, s.0) rests
         where
           rests : Adopts g K t i j → ⊥

@@ -20,7 +20,8 @@ record IsBehind (g : Graph) (w : ℕ → WaveRegs) (i : ℕ) : Type 0 where
 
 -- ---- from the predicate to the picture
 
-module _ (g : Graph) (graph : IsGraph g) (whole : IsConnected g) (t : ℕ → TreeRegs) (picture : TreePicture g t) (w : ℕ → WaveRegs) (sound : WaveSound g t w) where
+module _ (g : Graph) (graph : IsGraph g) (whole : IsConnected g) (t : ℕ → TreeRegs) (picture : TreePicture g t)
+    (w : ℕ → WaveRegs) (sound : WaveSound g t w) where
   below_joined : (i j : ℕ) → IsFather g t i j → HasJoined g w j → HasJoined g w i ⊎ IsBehind g w i
   below_joined i j father joined =
       ⊎_elim
@@ -39,7 +40,8 @@ module _ (g : Graph) (graph : IsGraph g) (whole : IsConnected g) (t : ℕ → Tr
   joined_or_behind : (i : ℕ) → IsNode g i → HasJoined g w i ⊎ IsBehind g w i
   joined_or_behind =
       down_tree g graph whole t picture (λ i. HasJoined g w i ⊎ IsBehind g w i) (inl refl)
-      (λ i j father up. ⊎_elim (λ joined. below_joined i j father joined) (λ behind. inr (below_behind i j father behind)) up)
+      (λ i j father up. ⊎_elim (λ joined. below_joined i j father joined)
+          (λ behind. inr (below_behind i j father behind)) up)
 
   fathers_joined : (i : ℕ) → IsNode g i → HasJoined g w i → HasJoined g w (t i).father
   fathers_joined i node joined =
@@ -65,7 +67,8 @@ module _ (g : Graph) (graph : IsGraph g) (whole : IsConnected g) (t : ℕ → Tr
       (cases_Bool (reset_at w up)))
       (top_or_under g graph whole t picture i node)
 
-  reset_at_edge : (i : ℕ) → IsNode g i → (HasJoined g w i → ⊥) → HasJoined g w (t i).father → reset_at w (t i).father ≡ true
+  reset_at_edge : (i : ℕ) → IsNode g i → (HasJoined g w i → ⊥) → HasJoined g w (t i).father
+      → reset_at w (t i).father ≡ true
   reset_at_edge i node apart joined =
       ⊎_elim
       (λ (top : IsTop g t i). absurd (apart (ap (λ k. (w k).session) top.greatest)))
@@ -80,16 +83,21 @@ module _ (g : Graph) (graph : IsGraph g) (whole : IsConnected g) (t : ℕ → Tr
   sound_picture : WavePicture g t w
   sound_picture = record {
     upward = fathers_joined;
-    outside = λ i node apart. ⊎_elim (λ joined. absurd (apart joined)) (λ (behind : IsBehind g w i). (behind.awake, behind.next)) (joined_or_behind i node);
+    outside =
+        λ i node apart. ⊎_elim (λ joined. absurd (apart joined))
+        (λ (behind : IsBehind g w i). (behind.awake, behind.next)) (joined_or_behind i node);
     resetting = fathers_reset;
     edge = reset_at_edge;
   }
 
 -- ---- from the picture to the predicate
 
-module _ (g : Graph) (graph : IsGraph g) (t : ℕ → TreeRegs) (w : ℕ → WaveRegs) (wave : WavePicture g t w) (i : ℕ) (node : IsNode g i) (up_node : IsNode g (t i).father) where
+module _ (g : Graph) (graph : IsGraph g) (t : ℕ → TreeRegs) (w : ℕ → WaveRegs) (wave : WavePicture g t w) (i : ℕ)
+    (node : IsNode g i) (up_node : IsNode g (t i).father) where
   awake_under : reset_at w (t i).father ≡ false → reset_at w i ≡ false
-  awake_under up = ⊎_elim (λ own. absurd (true≢false (sym (wave.resetting i node own) ∙ up))) (λ own. own) (cases_Bool (reset_at w i))
+  awake_under up =
+      ⊎_elim (λ own. absurd (true≢false (sym (wave.resetting i node own) ∙ up))) (λ own. own)
+      (cases_Bool (reset_at w i))
 
   same_under : reset_at w (t i).father ≡ false → (w i).session ≡ (w (t i).father).session
   same_under up =
@@ -97,15 +105,19 @@ module _ (g : Graph) (graph : IsGraph g) (t : ℕ → TreeRegs) (w : ℕ → Wav
       (λ (joined : HasJoined g w i). joined ∙ sym (wave.upward i node joined))
       (λ (apart : HasJoined g w i → ⊥).
       let above : HasJoined g w (t i).father → ⊥ = λ joined. true≢false (sym (wave.edge i node apart joined) ∙ up) in
-      next_injective (w i).session (w (t i).father).session ((wave.outside i node apart).1 ∙ sym (wave.outside (t i).father up_node above).1))
+      next_injective (w i).session (w (t i).father).session
+          ((wave.outside i node apart).1 ∙ sym (wave.outside (t i).father up_node above).1))
       (cases_eq (w i).session (w (leader g i)).session)
 
-  late_under : reset_at w (t i).father ≡ true → ((w i).session ≡ (w (t i).father).session) ⊎ ((reset_at w i ≡ false) × ((w (t i).father).session ≡ next_session (w i).session))
+  late_under : reset_at w (t i).father ≡ true
+      → ((w i).session ≡ (w (t i).father).session)
+      ⊎ ((reset_at w i ≡ false) × ((w (t i).father).session ≡ next_session (w i).session))
   late_under up =
       let above : HasJoined g w (t i).father =
       ⊎_elim
       (λ joined. joined)
-      (λ (apart : HasJoined g w (t i).father → ⊥). absurd (true≢false (sym up ∙ (wave.outside (t i).father up_node apart).0)))
+      (λ (apart : HasJoined g w (t i).father → ⊥). absurd
+          (true≢false (sym up ∙ (wave.outside (t i).father up_node apart).0)))
       (cases_eq (w (t i).father).session (w (leader g i)).session) in
       ⊎_elim
       (λ (joined : HasJoined g w i). inl (joined ∙ sym above))
@@ -117,8 +129,11 @@ module _ (g : Graph) (graph : IsGraph g) (t : ℕ → TreeRegs) (w : ℕ → Wav
 
 picture_sound : (g : Graph) → IsGraph g → (t : ℕ → TreeRegs) (w : ℕ → WaveRegs) → WavePicture g t w → WaveSound g t w
 picture_sound g graph t w wave i j father =
-    let held = holds_under g graph t w wave i (graph.ends i j father.linked) (rw father.named (linked_node g graph i j father.linked)) in
+    let held =
+        holds_under g graph t w wave i (graph.ends i j father.linked)
+        (rw father.named (linked_node g graph i j father.linked)) in
     rw father.named at held
 
-pub sound_where_picture : (g : Graph) (t : ℕ → TreeRegs) (w : ℕ → WaveRegs) → IsGraph g → IsConnected g → TreePicture g t → (WaveSound g t w ↔ WavePicture g t w)
+pub sound_where_picture : (g : Graph) (t : ℕ → TreeRegs) (w : ℕ → WaveRegs) → IsGraph g → IsConnected g
+    → TreePicture g t → (WaveSound g t w ↔ WavePicture g t w)
 sound_where_picture g t w graph whole picture = (sound_picture g graph whole t picture w, picture_sound g graph t w)

@@ -1,5 +1,6 @@
 -- What the rows of the wave table answer on a node's view is what the event does to the wave's registers.
-use Rattle.std.proofs.Common.{◌≡◌, ℕ, ◌≤◌, Bool, true, false, cond, nat_eq, List, map, Some, None, Result, Ok, Err, refl, sym, ap, subst, ◌∙◌, ◌⊎◌, inl, inr, ⊎_elim, true≢false}
+use Rattle.std.proofs.Common.{◌≡◌, ℕ, ◌≤◌, Bool, true, false, cond, nat_eq, List, map, Some, None, Result, Ok, Err}
+use Rattle.std.proofs.Common.{refl, sym, ap, subst, ◌∙◌, ◌⊎◌, inl, inr, ⊎_elim, true≢false}
 use Rattle.std.proofs.lemmas.Bool.{eqb-true, eq-eqb}
 use Rattle.topology.specs.Graph.{Graph, IsGraph}
 use Rattle.tree_layer.specs.declared.regs.TreeRegs.{TreeRegs}
@@ -8,20 +9,29 @@ use Rattle.wave_layer.specs.declared.regs.Phase.{Phase}
 use Rattle.wave_layer.specs.declared.regs.Phase.TheVariants.{Normal, Initiate, Reset}
 use Rattle.wave_layer.specs.WaveTable.{is_reset, father_regs, child_regs, children_done, is_done, next_session}
 use Rattle.reset_model.specs.declared.event.Event.{Event}
-use Rattle.reset_model.specs.declared.event.Event.TheVariants.{Claim, Follow, Adopt, Request, Relay, Open, Join, Finish, Mend, Act}
+use Rattle.reset_model.specs.declared.event.Event.TheVariants.{Claim, Follow, Adopt, Request, Relay, Open, Join, Finish}
+use Rattle.reset_model.specs.declared.event.Event.TheVariants.{Mend, Act}
 use Rattle.reset_model.specs.declared.step.StepRefusal.{StepRefusal}
-use Rattle.reset_model.specs.declared.step.StepRefusal.TheVariants.{StrangeNode, StrangeNeighbour, NoSuchCase, WantsNeighbour, TakesNoNeighbour, Disagrees, NotEnabled, SessionsSpent, NoMemory}
+use Rattle.reset_model.specs.declared.step.StepRefusal.TheVariants.{StrangeNode, StrangeNeighbour, NoSuchCase}
+use Rattle.reset_model.specs.declared.step.StepRefusal.TheVariants.{WantsNeighbour, TakesNoNeighbour, Disagrees}
+use Rattle.reset_model.specs.declared.step.StepRefusal.TheVariants.{NotEnabled, SessionsSpent, NoMemory}
 use Rattle.tree_layer.specs.TreeRows.{IsFather}
 use Rattle.reset_model.specs.declared.plan.Fired.{Fired}
 use Rattle.reset_model.specs.declared.plan.Fired.TheVariants as fired
-use Rattle.reset_model.specs.Steps.{join_normal, join_asked, mend_reset, mend_number, mend_both, mend_late, IsEnabled, IsSpent, Joins, Finishes, Mends, wave_effect}
+use Rattle.reset_model.specs.Steps.{join_normal, join_asked, mend_reset, mend_number, mend_both, mend_late, IsEnabled}
+use Rattle.reset_model.specs.Steps.{IsSpent, Joins, Finishes, Mends, wave_effect}
 use Rattle.reset_model.specs.LocalSteps.{father_seen, children_of, answer_of}
-use Rattle.reset_model.proofs.WaveRows.{IsAnswer, IsInvited, IsTorn, Contradict, one_reset, other_number, both_reset, too_late, request_answers, relay_answers, relay_answers-stranger, open_answers, join_answers, finish_answers, mend_answers}
+use Rattle.reset_model.proofs.WaveRows.{IsAnswer, IsInvited, IsTorn, Contradict, one_reset, other_number, both_reset}
+use Rattle.reset_model.proofs.WaveRows.{too_late, request_answers, relay_answers, relay_answers-stranger, open_answers}
+use Rattle.reset_model.proofs.WaveRows.{join_answers, finish_answers, mend_answers}
 use Rattle.topology.specs.Building.{has}
-use Rattle.reset_model.proofs.Seen.{father_seen-itself, father_seen-IsFather, IsFather-father_seen, is_root-father_seen, itself-father_seen, lookup-among, children_done-each, each-children_done, IsFather-is_child, is_child-IsFather}
+use Rattle.reset_model.proofs.Seen.{father_seen-itself, father_seen-IsFather, IsFather-father_seen, is_root-father_seen}
+use Rattle.reset_model.proofs.Seen.{itself-father_seen, lookup-among, children_done-each, each-children_done}
+use Rattle.reset_model.proofs.Seen.{IsFather-is_child, is_child-IsFather}
 
 -- an answer under other names of its parts
-answer_as : (r : Result Fired StepRefusal) (S : Type 0) (d : Bool) {E E' : Type 0} {regs regs' : WaveRegs} {b b' : Bool} → IsAnswer r E S regs b d → (E → E') → (E' → E) → (E → regs ≡ regs') → b ≡ b' → IsAnswer r E' S regs' b' d
+answer_as : (r : Result Fired StepRefusal) (S : Type 0) (d : Bool) {E E' : Type 0} {regs regs' : WaveRegs} {b b' : Bool}
+    → IsAnswer r E S regs b d → (E → E') → (E' → E) → (E → regs ≡ regs') → b ≡ b' → IsAnswer r E' S regs' b' d
 answer_as (Ok (fired.Tree regs)) S d h there back same flag = h
 answer_as (Ok (fired.Wave move)) S d h there back same flag = (there h.0, h.1, h.2 ∙ same h.0, h.3 ∙ flag, h.4)
 answer_as (Err NotEnabled) S d h there back same flag = λ e. h (back e)
@@ -73,7 +83,8 @@ module _ (g : Graph) (K : ℕ) (t : ℕ → TreeRegs) (w : ℕ → WaveRegs) (gr
   children i = map (λ c. (c, w c)) (children_of g t i)
 
   abbrev pub WaveAnswers : Event → Type 0
-  WaveAnswers e = IsAnswer (answer e) (IsEnabled g K t w e) (IsSpent w e) (wave_effect t w e) (completes_of t e) (restarts_of e)
+  WaveAnswers e =
+      IsAnswer (answer e) (IsEnabled g K t w e) (IsSpent w e) (wave_effect t w e) (completes_of t e) (restarts_of e)
 
   mended : {i : ℕ} (j : ℕ) → IsFather g t i j → Contradict (w i).phase (w i).session (w j) → Mends g t w i
   mended j father (one_reset above own) = mend_reset j father above own
@@ -81,43 +92,64 @@ module _ (g : Graph) (K : ℕ) (t : ℕ → TreeRegs) (w : ℕ → WaveRegs) (gr
   mended j father (both_reset above own number) = mend_both j father above own number
   mended j father (too_late above own number next) = mend_late j father above own number next
 
-  parts : {c s : ℕ} (b : Bool) → is_reset (w c).phase ≡ b → is_done s (w c) ≡ true → (is_reset (w c).phase ≡ false) × ((w c).session ≡ s)
+  parts : {c s : ℕ} (b : Bool) → is_reset (w c).phase ≡ b → is_done s (w c) ≡ true
+      → (is_reset (w c).phase ≡ false) × ((w c).session ≡ s)
   parts true is done = absurd (true≢false (sym (rw is at done)))
   parts false is done = (is, eqb-true _ _ (rw is at done))
 
   pub relay_is : (i c : ℕ) → (b : Bool) → has (children_of g t i) c ≡ b → WaveAnswers (Relay i c)
   relay_is i c true among =
-      let regs : child_regs c (children i) ≡ Some (record { phase = (w c).phase; session = (w c).session }) = lookup-among w (children_of g t i) c ∙ ap (λ b. cond b (Some (w c)) None) among in
-      answer_as (answer (Relay i c)) ⊥ false (relay_answers (w i).phase (w i).session (father_seen g t w i) (children i) c (w c).phase (w c).session regs)
+      let regs : child_regs c (children i) ≡ Some (record { phase = (w c).phase; session = (w c).session }) =
+          lookup-among w (children_of g t i) c ∙ ap (λ b. cond b (Some (w c)) None) among in
+      answer_as (answer (Relay i c)) ⊥ false
+          (relay_answers (w i).phase (w i).session (father_seen g t w i) (children i) c (w c).phase (w c).session regs)
       (λ h. (h.0, is_child-IsFather g t i c graph among, h.1)) (λ h. (h.0, h.2)) (λ _. refl) refl
   relay_is i c false among =
-      relay_answers-stranger (w i).phase (w i).session (father_seen g t w i) (children i) c _ _ (lookup-among w (children_of g t i) c ∙ ap (λ b. cond b (Some (w c)) None) among)
+      relay_answers-stranger (w i).phase (w i).session (father_seen g t w i) (children i) c _ _
+          (lookup-among w (children_of g t i) c ∙ ap (λ b. cond b (Some (w c)) None) among)
       (λ h. absurd (true≢false (sym (IsFather-is_child g t i c graph h.1) ∙ among)))
 
   pub join_is : (i : ℕ) → WaveAnswers (Join i)
-  join_is i = answer_as (answer (Join i)) ⊥ true (join_answers (w i).phase (w i).session (father_seen g t w i) (children i)) there back same refl
+  join_is i =
+      answer_as (answer (Join i)) ⊥ true (join_answers (w i).phase (w i).session (father_seen g t w i) (children i))
+      there back same refl
     where
       there : IsInvited (w i).phase (w i).session (father_seen g t w i) → Joins g t w i
       there h =
           let seen = IsFather-father_seen g t w i h.up h.father in
           let reset : is_reset (w (t i).father).phase ≡ true = ap (λ r. is_reset r.phase) (sym seen.1) ∙ h.reset in
-          let next : (w (t i).father).session ≡ next_session (w i).session = ap (λ r. r.session) (sym seen.1) ∙ h.next in
-          ⊎_elim (λ p. join_normal _ seen.0 reset p next) (λ p. join_asked _ seen.0 reset p next) (awake_phase _ h.awake)
+          let next : (w (t i).father).session ≡ next_session (w i).session =
+              ap (λ r. r.session) (sym seen.1) ∙ h.next in
+          ⊎_elim (λ p. join_normal _ seen.0 reset p next) (λ p. join_asked _ seen.0 reset p next)
+              (awake_phase _ h.awake)
 
       back : Joins g t w i → IsInvited (w i).phase (w i).session (father_seen g t w i)
-      back (join_normal j father reset p next) = record { up = w j; father = father_seen-IsFather g t w i graph j father; reset = reset; awake = ap is_reset p; next = next }
-      back (join_asked j father reset p next) = record { up = w j; father = father_seen-IsFather g t w i graph j father; reset = reset; awake = ap is_reset p; next = next }
+      back (join_normal j father reset p next) =
+          record { up = w j; father = father_seen-IsFather g t w i graph j father; reset = reset; awake = ap is_reset p;
+          next = next }
+      back (join_asked j father reset p next) =
+          record { up = w j; father = father_seen-IsFather g t w i graph j father; reset = reset; awake = ap is_reset p;
+          next = next }
 
-      same : IsInvited (w i).phase (w i).session (father_seen g t w i) → record { phase = Reset; session = (father_regs (w i) (father_seen g t w i)).session } ≡ wave_effect t w (Join i)
+      same : IsInvited (w i).phase (w i).session (father_seen g t w i)
+          → record { phase = Reset; session = (father_regs (w i) (father_seen g t w i)).session }
+          ≡ wave_effect t w (Join i)
       same h =
           let after : WaveRegs → WaveRegs = λ r. record { phase = Reset; session = r.session } in
           ap (λ f. after (father_regs (w i) f)) h.father ∙ ap after (IsFather-father_seen g t w i h.up h.father).1
 
   pub finish_is : (i : ℕ) → WaveAnswers (Finish i)
-  finish_is i = answer_as (answer (Finish i)) ⊥ false (finish_answers (w i).phase (w i).session (father_seen g t w i) (children i) _ refl) there back (λ _. refl) (is_root-father_seen g t w i)
+  finish_is i =
+      answer_as (answer (Finish i)) ⊥ false
+      (finish_answers (w i).phase (w i).session (father_seen g t w i) (children i) _ refl) there back (λ _. refl)
+      (is_root-father_seen g t w i)
     where
       there : ((w i).phase ≡ Reset) × (children_done (w i).session (children i) ≡ true) → Finishes g t w i
-      there h = record { reset = h.0; children = λ c father. parts (is_reset (w c).phase) refl (each-children_done w (w i).session (children_of g t i) h.1 c (IsFather-is_child g t i c graph father)) }
+      there h =
+          record { reset = h.0;
+          children =
+          λ c father. parts (is_reset (w c).phase) refl
+          (each-children_done w (w i).session (children_of g t i) h.1 c (IsFather-is_child g t i c graph father)) }
 
       back : Finishes g t w i → ((w i).phase ≡ Reset) × (children_done (w i).session (children i) ≡ true)
       back h = (
@@ -130,7 +162,9 @@ module _ (g : Graph) (K : ℕ) (t : ℕ → TreeRegs) (w : ℕ → WaveRegs) (gr
       )
 
   pub mend_is : (i : ℕ) → WaveAnswers (Mend i)
-  mend_is i = answer_as (answer (Mend i)) ⊥ false (mend_answers (w i).phase (w i).session (father_seen g t w i) (children i)) there back same refl
+  mend_is i =
+      answer_as (answer (Mend i)) ⊥ false (mend_answers (w i).phase (w i).session (father_seen g t w i) (children i))
+      there back same refl
     where
       there : IsTorn (w i).phase (w i).session (father_seen g t w i) → Mends g t w i
       there h =
@@ -138,12 +172,20 @@ module _ (g : Graph) (K : ℕ) (t : ℕ → TreeRegs) (w : ℕ → WaveRegs) (gr
           mended (t i).father seen.0 (subst (Contradict (w i).phase (w i).session) seen.1 h.contradict)
 
       back : Mends g t w i → IsTorn (w i).phase (w i).session (father_seen g t w i)
-      back (mend_reset j father above own) = record { up = w j; father = father_seen-IsFather g t w i graph j father; contradict = one_reset above own }
-      back (mend_number j father above own number) = record { up = w j; father = father_seen-IsFather g t w i graph j father; contradict = other_number above own number }
-      back (mend_both j father above own number) = record { up = w j; father = father_seen-IsFather g t w i graph j father; contradict = both_reset above own number }
-      back (mend_late j father above own number next) = record { up = w j; father = father_seen-IsFather g t w i graph j father; contradict = too_late above own number next }
+      back (mend_reset j father above own) =
+          record { up = w j; father = father_seen-IsFather g t w i graph j father; contradict = one_reset above own }
+      back (mend_number j father above own number) =
+          record { up = w j; father = father_seen-IsFather g t w i graph j father;
+          contradict = other_number above own number }
+      back (mend_both j father above own number) =
+          record { up = w j; father = father_seen-IsFather g t w i graph j father;
+          contradict = both_reset above own number }
+      back (mend_late j father above own number next) =
+          record { up = w j; father = father_seen-IsFather g t w i graph j father;
+          contradict = too_late above own number next }
 
-      same : IsTorn (w i).phase (w i).session (father_seen g t w i) → father_regs (w i) (father_seen g t w i) ≡ w (t i).father
+      same : IsTorn (w i).phase (w i).session (father_seen g t w i)
+          → father_regs (w i) (father_seen g t w i) ≡ w (t i).father
       same h = ap (father_regs (w i)) h.father ∙ (IsFather-father_seen g t w i h.up h.father).1
 
   pub request_is : (i : ℕ) → WaveAnswers (Request i)
@@ -151,5 +193,6 @@ module _ (g : Graph) (K : ℕ) (t : ℕ → TreeRegs) (w : ℕ → WaveRegs) (gr
 
   pub open_is : (i : ℕ) → WaveAnswers (Open i)
   open_is i =
-      answer_as (answer (Open i)) (4294967295 ≤ (w i).session) true (open_answers (w i).phase (w i).session (father_seen g t w i) (children i))
+      answer_as (answer (Open i)) (4294967295 ≤ (w i).session) true
+          (open_answers (w i).phase (w i).session (father_seen g t w i) (children i))
       (λ h. (itself-father_seen g t w i h.0, h.1)) (λ h. (father_seen-itself g t w i h.0, h.1)) (λ _. refl) refl

@@ -1,5 +1,6 @@
 -- What the rows of each event of the wave answer on a view, in terms of the view's parts.
-use Rattle.std.proofs.Common.{◌≡◌, ◌≢◌, ℕ, ◌≤◌, Bool, true, false, nat_eq, nat_lt, List, [], ◌∷◌, Some, None, Result, Ok, Err, refl, sym, ap, subst, ◌∙◌, ◌⊎◌, inl, inr, arith}
+use Rattle.std.proofs.Common.{◌≡◌, ◌≢◌, ℕ, ◌≤◌, Bool, true, false, nat_eq, nat_lt, List, [], ◌∷◌, Some, None, Result}
+use Rattle.std.proofs.Common.{Ok, Err, refl, sym, ap, subst, ◌∙◌, ◌⊎◌, inl, inr, arith}
 use Rattle.std.proofs.lemmas.Bool.{true≢false, ltb-true, ltb-false}
 use Rattle.std.proofs.lemmas.Bool.Decides.{eqb_tells}
 use Rattle.wave_layer.specs.declared.regs.WaveRegs.{WaveRegs}
@@ -7,18 +8,23 @@ use Rattle.wave_layer.specs.declared.regs.Phase.{Phase}
 use Rattle.wave_layer.specs.declared.regs.Phase.TheVariants.{Normal, Initiate, Reset}
 use Rattle.wave_layer.specs.declared.regs.FatherSeen.{FatherSeen}
 use Rattle.wave_layer.specs.declared.regs.FatherSeen.TheVariants.{Itself, Lost, Is}
-use Rattle.wave_layer.specs.WaveTable.{LocalView, is_reset, is_root, father_regs, children_done, child_regs, next_session}
+use Rattle.wave_layer.specs.WaveTable.{LocalView, is_reset, is_root, father_regs, children_done, child_regs}
+use Rattle.wave_layer.specs.WaveTable.{next_session}
 use Rattle.reset_model.specs.declared.step.StepRefusal.{StepRefusal}
-use Rattle.reset_model.specs.declared.step.StepRefusal.TheVariants.{StrangeNode, StrangeNeighbour, NoSuchCase, WantsNeighbour, TakesNoNeighbour, Disagrees, NotEnabled, SessionsSpent, NoMemory}
+use Rattle.reset_model.specs.declared.step.StepRefusal.TheVariants.{StrangeNode, StrangeNeighbour, NoSuchCase}
+use Rattle.reset_model.specs.declared.step.StepRefusal.TheVariants.{WantsNeighbour, TakesNoNeighbour, Disagrees}
+use Rattle.reset_model.specs.declared.step.StepRefusal.TheVariants.{NotEnabled, SessionsSpent, NoMemory}
 use Rattle.reset_model.specs.declared.plan.Fired.{Fired}
 use Rattle.reset_model.specs.declared.plan.Fired.TheVariants as fired
 use Rattle.reset_model.specs.declared.plan.Seen.TheVariants.{Wave}
 use Rattle.reset_model.specs.LocalSteps.{first_answer}
 
--- an event that is enabled where E holds and spent where S does leaves these registers, and completes a reset, and restarts the local state, or not
+-- an event that is enabled where E holds and spent where S does leaves these registers, and completes a reset, and
+-- restarts the local state, or not
 abbrev pub IsAnswer : Result Fired StepRefusal → Type 0 → Type 0 → WaveRegs → Bool → Bool → Type 0
 IsAnswer (Ok (fired.Tree own)) E S regs completes restarts = ⊥
-IsAnswer (Ok (fired.Wave move)) E S regs completes restarts = E × (S → ⊥) × (move.regs ≡ regs) × (move.completes ≡ completes) × (move.restarts ≡ restarts)
+IsAnswer (Ok (fired.Wave move)) E S regs completes restarts =
+    E × (S → ⊥) × (move.regs ≡ regs) × (move.completes ≡ completes) × (move.restarts ≡ restarts)
 IsAnswer (Err NotEnabled) E S regs completes restarts = E → ⊥
 IsAnswer (Err SessionsSpent) E S regs completes restarts = E × S
 IsAnswer (Err StrangeNode) E S regs completes restarts = ⊥
@@ -34,19 +40,23 @@ abbrev pub parts : Phase → ℕ → FatherSeen → List (ℕ × WaveRegs) → L
 parts p s f cs = record { own = record { phase = p; session = s }; father = f; children = cs }
 
 pub request_answers : (p : Phase) (s : ℕ) (f : FatherSeen) (cs : List (ℕ × WaveRegs)) →
-    IsAnswer (first_answer (Wave (parts p s f cs)) None (1 ∷ [])) (p ≡ Normal) ⊥ (record { phase = Initiate; session = s }) false false
+    IsAnswer (first_answer (Wave (parts p s f cs)) None (1 ∷ [])) (p ≡ Normal) ⊥
+        (record { phase = Initiate; session = s }) false false
 request_answers Normal s f cs = (refl, λ h. h, refl, refl, refl)
 request_answers Initiate s f cs = λ e. cc
 request_answers Reset s f cs = λ e. cc
 
 -- the named node is no child
-pub relay_answers-stranger : (p : Phase) (s : ℕ) (f : FatherSeen) (cs : List (ℕ × WaveRegs)) (c : ℕ) (E : Type 0) (regs : WaveRegs) → child_regs c cs ≡ None → (E → ⊥) →
+pub relay_answers-stranger : (p : Phase) (s : ℕ) (f : FatherSeen) (cs : List (ℕ × WaveRegs)) (c : ℕ) (E : Type 0)
+    (regs : WaveRegs) → child_regs c cs ≡ None → (E → ⊥) →
     IsAnswer (first_answer (Wave (parts p s f cs)) (Some c) (2 ∷ [])) E ⊥ regs false false
 relay_answers-stranger p s f cs c E regs is none = rw is none
 
 -- the named child is in phase q
-pub relay_answers : (p : Phase) (s : ℕ) (f : FatherSeen) (cs : List (ℕ × WaveRegs)) (c : ℕ) (q : Phase) (u : ℕ) → child_regs c cs ≡ Some (record { phase = q; session = u }) →
-    IsAnswer (first_answer (Wave (parts p s f cs)) (Some c) (2 ∷ [])) ((p ≡ Normal) × (q ≡ Initiate)) ⊥ (record { phase = Initiate; session = s }) false false
+pub relay_answers : (p : Phase) (s : ℕ) (f : FatherSeen) (cs : List (ℕ × WaveRegs)) (c : ℕ) (q : Phase) (u : ℕ)
+    → child_regs c cs ≡ Some (record { phase = q; session = u }) →
+    IsAnswer (first_answer (Wave (parts p s f cs)) (Some c) (2 ∷ [])) ((p ≡ Normal) × (q ≡ Initiate)) ⊥
+        (record { phase = Initiate; session = s }) false false
 relay_answers Normal s f cs c Initiate u is = rw is ((refl, refl), λ h. h, refl, refl, refl)
 relay_answers Normal s f cs c Normal u is = rw is (λ e. let h = e.1 in cc)
 relay_answers Normal s f cs c Reset u is = rw is (λ e. let h = e.1 in cc)
@@ -54,11 +64,16 @@ relay_answers Initiate s f cs c q u is = rw is (λ e. let h = e.0 in cc)
 relay_answers Reset s f cs c q u is = rw is (λ e. let h = e.0 in cc)
 
 pub open_answers : (p : Phase) (s : ℕ) (f : FatherSeen) (cs : List (ℕ × WaveRegs)) →
-    IsAnswer (first_answer (Wave (parts p s f cs)) None (3 ∷ [])) ((f ≡ Itself) × (p ≡ Initiate)) (4294967295 ≤ s) (record { phase = Reset; session = next_session s }) false true
+    IsAnswer (first_answer (Wave (parts p s f cs)) None (3 ∷ [])) ((f ≡ Itself) × (p ≡ Initiate)) (4294967295 ≤ s)
+        (record { phase = Reset; session = next_session s }) false true
 open_answers Initiate s Itself cs = first (nat_lt s 4294967295) refl
   where
-    first : (b : Bool) → nat_lt s 4294967295 ≡ b → IsAnswer (first_answer (Wave (parts Initiate s Itself cs)) None (3 ∷ [])) ((Itself ≡ Itself) × (Initiate ≡ Initiate)) (4294967295 ≤ s) (record { phase = Reset; session = next_session s }) false true
-    first true below = rw below ((refl, refl), λ h. absurd (omega (arith, ltb-true s 4294967295 below)), refl, refl, refl)
+    first : (b : Bool) → nat_lt s 4294967295 ≡ b
+        → IsAnswer (first_answer (Wave (parts Initiate s Itself cs)) None (3 ∷ []))
+        ((Itself ≡ Itself) × (Initiate ≡ Initiate)) (4294967295 ≤ s)
+        (record { phase = Reset; session = next_session s }) false true
+    first true below =
+        rw below ((refl, refl), λ h. absurd (omega (arith, ltb-true s 4294967295 below)), refl, refl, refl)
     first false below = rw below ((refl, refl), omega (arith, ltb-false s 4294967295 below))
 open_answers Initiate s Lost cs = λ e. let h = e.0 in cc
 open_answers Initiate s (Is up) cs = λ e. let h = e.0 in cc
@@ -78,38 +93,55 @@ pub record IsInvited (p : Phase) (s : ℕ) (f : FatherSeen) : Type 0 where
   pub next : up.session ≡ next_session s
 
 pub join_answers : (p : Phase) (s : ℕ) (f : FatherSeen) (cs : List (ℕ × WaveRegs)) →
-    IsAnswer (first_answer (Wave (parts p s f cs)) None (4 ∷ 5 ∷ [])) (IsInvited p s f) ⊥ (record { phase = Reset; session = (father_regs (record { phase = p; session = s }) f).session }) false true
+    IsAnswer (first_answer (Wave (parts p s f cs)) None (4 ∷ 5 ∷ [])) (IsInvited p s f) ⊥
+        (record { phase = Reset; session = (father_regs (record { phase = p; session = s }) f).session }) false true
 join_answers p s Itself cs = λ e. let h = e.father in cc
 join_answers p s Lost cs = λ e. let h = e.father in cc
 join_answers p s (Is up) cs = at p up.phase up.session (eqb_tells up.session (next_session s))
   where
-    up_of : {q : Phase} {u : ℕ} {p : Phase} (e : IsInvited p s (Is (record { phase = q; session = u }))) → record { phase = q; session = u } ≡ e.up
+    up_of : {q : Phase} {u : ℕ} {p : Phase} (e : IsInvited p s (Is (record { phase = q; session = u })))
+        → record { phase = q; session = u } ≡ e.up
     up_of e = let h = e.father in cc
 
-    asleep : {A : Type 0} {q : Phase} {u : ℕ} {p : Phase} → IsInvited p s (Is (record { phase = q; session = u })) → is_reset q ≡ false → A
+    asleep : {A : Type 0} {q : Phase} {u : ℕ} {p : Phase} → IsInvited p s (Is (record { phase = q; session = u }))
+        → is_reset q ≡ false → A
     asleep e not_reset = absurd (true≢false (sym e.reset ∙ sym (ap (λ r. is_reset r.phase) (up_of e)) ∙ not_reset))
 
-    at : (p q : Phase) (u : ℕ) → ((nat_eq u (next_session s) ≡ true) × (u ≡ next_session s)) ⊎ ((nat_eq u (next_session s) ≡ false) × (u ≢ next_session s)) →
-        IsAnswer (first_answer (Wave (parts p s (Is (record { phase = q; session = u })) cs)) None (4 ∷ 5 ∷ [])) (IsInvited p s (Is (record { phase = q; session = u }))) ⊥ (record { phase = Reset; session = u }) false true
+    at : (p q : Phase) (u : ℕ)
+        → ((nat_eq u (next_session s) ≡ true) × (u ≡ next_session s))
+        ⊎ ((nat_eq u (next_session s) ≡ false) × (u ≢ next_session s)) →
+        IsAnswer (first_answer (Wave (parts p s (Is (record { phase = q; session = u })) cs)) None (4 ∷ 5 ∷ []))
+            (IsInvited p s (Is (record { phase = q; session = u }))) ⊥ (record { phase = Reset; session = u }) false
+            true
     at p Normal u t = λ e. asleep e refl
     at p Initiate u t = λ e. asleep e refl
-    at Normal Reset u (inl t) = rw t.0 (record { up = record { phase = Reset; session = u }; father = refl; reset = refl; awake = refl; next = t.1 }, λ h. h, refl, refl, refl)
+    at Normal Reset u (inl t) =
+        rw t.0 (record { up = record { phase = Reset; session = u }; father = refl; reset = refl; awake = refl;
+        next = t.1 }, λ h. h, refl, refl, refl)
     at Normal Reset u (inr t) = rw t.0 (λ e. t.1 (ap (λ r. r.session) (up_of e) ∙ e.next))
-    at Initiate Reset u (inl t) = rw t.0 (record { up = record { phase = Reset; session = u }; father = refl; reset = refl; awake = refl; next = t.1 }, λ h. h, refl, refl, refl)
+    at Initiate Reset u (inl t) =
+        rw t.0 (record { up = record { phase = Reset; session = u }; father = refl; reset = refl; awake = refl;
+        next = t.1 }, λ h. h, refl, refl, refl)
     at Initiate Reset u (inr t) = rw t.0 (λ e. t.1 (ap (λ r. r.session) (up_of e) ∙ e.next))
     at Reset Reset u t = λ e. absurd (true≢false e.awake)
 
-pub finish_answers : (p : Phase) (s : ℕ) (f : FatherSeen) (cs : List (ℕ × WaveRegs)) (done : Bool) → children_done s cs ≡ done →
-    IsAnswer (first_answer (Wave (parts p s f cs)) None (6 ∷ 7 ∷ [])) ((p ≡ Reset) × (done ≡ true)) ⊥ (record { phase = Normal; session = s }) (is_root f) false
+pub finish_answers : (p : Phase) (s : ℕ) (f : FatherSeen) (cs : List (ℕ × WaveRegs)) (done : Bool)
+    → children_done s cs ≡ done →
+    IsAnswer (first_answer (Wave (parts p s f cs)) None (6 ∷ 7 ∷ [])) ((p ≡ Reset) × (done ≡ true)) ⊥
+        (record { phase = Normal; session = s }) (is_root f) false
 finish_answers Normal s f cs done is = idle f
   where
-    idle : (f : FatherSeen) → IsAnswer (first_answer (Wave (parts Normal s f cs)) None (6 ∷ 7 ∷ [])) ((Normal ≡ Reset) × (done ≡ true)) ⊥ (record { phase = Normal; session = s }) (is_root f) false
+    idle : (f : FatherSeen)
+        → IsAnswer (first_answer (Wave (parts Normal s f cs)) None (6 ∷ 7 ∷ [])) ((Normal ≡ Reset) × (done ≡ true)) ⊥
+        (record { phase = Normal; session = s }) (is_root f) false
     idle Itself = λ e. let h = e.0 in cc
     idle Lost = λ e. let h = e.0 in cc
     idle (Is up) = λ e. let h = e.0 in cc
 finish_answers Initiate s f cs done is = idle f
   where
-    idle : (f : FatherSeen) → IsAnswer (first_answer (Wave (parts Initiate s f cs)) None (6 ∷ 7 ∷ [])) ((Initiate ≡ Reset) × (done ≡ true)) ⊥ (record { phase = Normal; session = s }) (is_root f) false
+    idle : (f : FatherSeen)
+        → IsAnswer (first_answer (Wave (parts Initiate s f cs)) None (6 ∷ 7 ∷ [])) ((Initiate ≡ Reset) × (done ≡ true))
+        ⊥ (record { phase = Normal; session = s }) (is_root f) false
     idle Itself = λ e. let h = e.0 in cc
     idle Lost = λ e. let h = e.0 in cc
     idle (Is up) = λ e. let h = e.0 in cc
@@ -125,7 +157,8 @@ pub data Contradict (p : Phase) (s : ℕ) (up : WaveRegs) : Type 0 where
   one_reset : is_reset up.phase ≡ false → is_reset p ≡ true → Contradict p s up
   other_number : is_reset up.phase ≡ false → is_reset p ≡ false → s ≢ up.session → Contradict p s up
   both_reset : is_reset up.phase ≡ true → is_reset p ≡ true → s ≢ up.session → Contradict p s up
-  too_late : is_reset up.phase ≡ true → is_reset p ≡ false → up.session ≢ s → up.session ≢ next_session s → Contradict p s up
+  too_late : is_reset up.phase ≡ true → is_reset p ≡ false → up.session ≢ s → up.session ≢ next_session s
+      → Contradict p s up
 
 -- the father is a neighbour with which the node's registers contradict the wave
 pub record IsTorn (p : Phase) (s : ℕ) (f : FatherSeen) : Type 0 where
@@ -137,19 +170,22 @@ clash : {A : Type 0} {b : Bool} → b ≡ true → b ≡ false → A
 clash yes_is no_is = absurd (true≢false (sym yes_is ∙ no_is))
 
 -- registers that agree with the wave
-agree_awake : {p : Phase} {s : ℕ} {up : WaveRegs} → is_reset p ≡ false → is_reset up.phase ≡ false → s ≡ up.session → Contradict p s up → ⊥
+agree_awake : {p : Phase} {s : ℕ} {up : WaveRegs} → is_reset p ≡ false → is_reset up.phase ≡ false → s ≡ up.session
+    → Contradict p s up → ⊥
 agree_awake own above same (one_reset f g) = clash g own
 agree_awake own above same (other_number f g h) = h same
 agree_awake own above same (both_reset f g h) = clash f above
 agree_awake own above same (too_late f g h k) = clash f above
 
-agree_reset : {p : Phase} {s : ℕ} {up : WaveRegs} → is_reset p ≡ true → is_reset up.phase ≡ true → s ≡ up.session → Contradict p s up → ⊥
+agree_reset : {p : Phase} {s : ℕ} {up : WaveRegs} → is_reset p ≡ true → is_reset up.phase ≡ true → s ≡ up.session
+    → Contradict p s up → ⊥
 agree_reset own above same (one_reset f g) = clash above f
 agree_reset own above same (other_number f g h) = clash above f
 agree_reset own above same (both_reset f g h) = h same
 agree_reset own above same (too_late f g h k) = clash own g
 
-agree_late : {p : Phase} {s : ℕ} {up : WaveRegs} → is_reset p ≡ false → is_reset up.phase ≡ true → (up.session ≡ s) ⊎ (up.session ≡ next_session s) → Contradict p s up → ⊥
+agree_late : {p : Phase} {s : ℕ} {up : WaveRegs} → is_reset p ≡ false → is_reset up.phase ≡ true
+    → (up.session ≡ s) ⊎ (up.session ≡ next_session s) → Contradict p s up → ⊥
 agree_late own above same (one_reset f g) = clash above f
 agree_late own above same (other_number f g h) = clash above f
 agree_late own above same (both_reset f g h) = clash g own
@@ -157,10 +193,13 @@ agree_late own above (inl same) (too_late f g h k) = h same
 agree_late own above (inr same) (too_late f g h k) = k same
 
 pub mend_answers : (p : Phase) (s : ℕ) (f : FatherSeen) (cs : List (ℕ × WaveRegs)) →
-    IsAnswer (first_answer (Wave (parts p s f cs)) None (8 ∷ 9 ∷ 10 ∷ 11 ∷ [])) (IsTorn p s f) ⊥ (father_regs (record { phase = p; session = s }) f) false false
+    IsAnswer (first_answer (Wave (parts p s f cs)) None (8 ∷ 9 ∷ 10 ∷ 11 ∷ [])) (IsTorn p s f) ⊥
+        (father_regs (record { phase = p; session = s }) f) false false
 mend_answers p s Itself cs = λ e. let h = e.father in cc
 mend_answers p s Lost cs = λ e. let h = e.father in cc
-mend_answers p s (Is up) cs = at (is_reset p) (is_reset up.phase) refl refl (eqb_tells s up.session) (eqb_tells up.session s) (eqb_tells up.session (next_session s))
+mend_answers p s (Is up) cs =
+    at (is_reset p) (is_reset up.phase) refl refl (eqb_tells s up.session) (eqb_tells up.session s)
+    (eqb_tells up.session (next_session s))
   where
     torn : (Contradict p s up → ⊥) → IsTorn p s (Is up) → ⊥
     torn none e = none (subst (Contradict p s) (let h = e.father in let k : e.up ≡ up = cc in k) e.contradict)
@@ -171,13 +210,18 @@ mend_answers p s (Is up) cs = at (is_reset p) (is_reset up.phase) refl refl (eqb
     at : (b d : Bool) → is_reset p ≡ b → is_reset up.phase ≡ d
         → ((nat_eq s up.session ≡ true) × (s ≡ up.session)) ⊎ ((nat_eq s up.session ≡ false) × (s ≢ up.session))
         → ((nat_eq up.session s ≡ true) × (up.session ≡ s)) ⊎ ((nat_eq up.session s ≡ false) × (up.session ≢ s))
-        → ((nat_eq up.session (next_session s) ≡ true) × (up.session ≡ next_session s)) ⊎ ((nat_eq up.session (next_session s) ≡ false) × (up.session ≢ next_session s))
-        → IsAnswer (first_answer (Wave (parts p s (Is up) cs)) None (8 ∷ 9 ∷ 10 ∷ 11 ∷ [])) (IsTorn p s (Is up)) ⊥ up false false
+        → ((nat_eq up.session (next_session s) ≡ true) × (up.session ≡ next_session s))
+            ⊎ ((nat_eq up.session (next_session s) ≡ false) × (up.session ≢ next_session s))
+        → IsAnswer (first_answer (Wave (parts p s (Is up) cs)) None (8 ∷ 9 ∷ 10 ∷ 11 ∷ [])) (IsTorn p s (Is up)) ⊥ up
+            false false
     at true false own above t u v = rw (own, above) (tear (one_reset above own), λ h. h, refl, refl, refl)
     at false false own above (inl t) u v = rw (own, above, t.0) (torn (agree_awake own above t.1))
-    at false false own above (inr t) u v = rw (own, above, t.0) (tear (other_number above own t.1), λ h. h, refl, refl, refl)
+    at false false own above (inr t) u v =
+        rw (own, above, t.0) (tear (other_number above own t.1), λ h. h, refl, refl, refl)
     at true true own above (inl t) u v = rw (own, above, t.0) (torn (agree_reset own above t.1))
-    at true true own above (inr t) u v = rw (own, above, t.0) (tear (both_reset above own t.1), λ h. h, refl, refl, refl)
+    at true true own above (inr t) u v =
+        rw (own, above, t.0) (tear (both_reset above own t.1), λ h. h, refl, refl, refl)
     at false true own above t (inl u) v = rw (own, above, u.0) (torn (agree_late own above (inl u.1)))
     at false true own above t (inr u) (inl v) = rw (own, above, u.0, v.0) (torn (agree_late own above (inr v.1)))
-    at false true own above t (inr u) (inr v) = rw (own, above, u.0, v.0) (tear (too_late above own u.1 v.1), λ h. h, refl, refl, refl)
+    at false true own above t (inr u) (inr v) =
+        rw (own, above, u.0, v.0) (tear (too_late above own u.1 v.1), λ h. h, refl, refl, refl)

@@ -1,5 +1,6 @@
 -- The actions of the application: between whole configurations, and as the node judges them.
-use Rattle.std.specs.Prelude.{◌≡◌, ℕ, ◌<◌, Bool, true, false, not, ◌==◌, if◌then◌else◌, List, Option, Some, None, Result, Ok, Err, map, filter, find}
+use Rattle.std.specs.Prelude.{◌≡◌, ℕ, ◌<◌, Bool, true, false, not, ◌==◌, if◌then◌else◌, List, Option, Some, None}
+use Rattle.std.specs.Prelude.{Result, Ok, Err, map, filter, find}
 use Rattle.std.specs.List.{list_any}
 use Rattle.app_interface.specs.Application.{App, Action, Fits, is_read, seen}
 use Rattle.app_interface.specs.declared.reads.Reads.{Reads}
@@ -7,7 +8,9 @@ use Rattle.app_interface.specs.declared.reads.Reads.TheVariants.{Alone, Toward, 
 use Rattle.topology.specs.Graph.{Graph, IsNode, AreLinked, neighbours_of}
 use Rattle.wave_layer.specs.declared.regs.WaveRegs.{WaveRegs}
 use Rattle.reset_model.specs.declared.step.StepRefusal.{StepRefusal}
-use Rattle.reset_model.specs.declared.step.StepRefusal.TheVariants.{StrangeNode, StrangeNeighbour, NoSuchCase, WantsNeighbour, TakesNoNeighbour, Disagrees, NotEnabled}
+use Rattle.reset_model.specs.declared.step.StepRefusal.TheVariants.{StrangeNode, StrangeNeighbour, NoSuchCase}
+use Rattle.reset_model.specs.declared.step.StepRefusal.TheVariants.{WantsNeighbour, TakesNoNeighbour, Disagrees}
+use Rattle.reset_model.specs.declared.step.StepRefusal.TheVariants.{NotEnabled}
 use Rattle.reset_model.specs.declared.event.Event.TheVariants.{Act}
 use Rattle.reset_model.specs.LocalSteps.{is_neighbour}
 use Rattle.reset_model.specs.Steps.{IsNamed}
@@ -25,7 +28,8 @@ pub record IsFirstApart (g : Graph) (w : ℕ → WaveRegs) (i : ℕ) (reads : �
 
 -- the case at i, with this choice of a neighbour, takes the local states l to l': processes
 -- communicate only where their session numbers are equal
-pub record ActStep {L : Type 0} (app : App L) (g : Graph) (K : ℕ) (w : ℕ → WaveRegs) (i case : ℕ) (with : Option ℕ) (l l' : ℕ → L) : Type 0 where
+pub record ActStep {L : Type 0} (app : App L) (g : Graph) (K : ℕ) (w : ℕ → WaveRegs) (i case : ℕ) (with : Option ℕ)
+    (l l' : ℕ → L) : Type 0 where
   pub agree : AllAgree g w i (is_read g i (app.reads case) with)
   pub action : Action app g K i case with l l'
 
@@ -37,15 +41,22 @@ NamesOne One = Unit {0}
 NamesOne All = ⊥
 
 -- why an action isn't a step: the first that applies, in this order
-pub data ActRefused {L : Type 0} (app : App L) (g : Graph) (K : ℕ) (w : ℕ → WaveRegs) (l : ℕ → L) (i case : ℕ) (with : Option ℕ) : StepRefusal → Type 0 where
+pub data ActRefused {L : Type 0} (app : App L) (g : Graph) (K : ℕ) (w : ℕ → WaveRegs) (l : ℕ → L) (i case : ℕ)
+    (with : Option ℕ) : StepRefusal → Type 0 where
   strange_node : (IsNode g i → ⊥) → ActRefused app g K w l i case with StrangeNode
-  strange_neighbour : (j : ℕ) → IsNode g i → with ≡ Some j → (AreLinked g i j → ⊥) → ActRefused app g K w l i case with StrangeNeighbour
+  strange_neighbour : (j : ℕ) → IsNode g i → with ≡ Some j → (AreLinked g i j → ⊥)
+      → ActRefused app g K w l i case with StrangeNeighbour
   no_such_case : IsNamed g (Act i case with) → app.reads case ≡ None → ActRefused app g K w l i case with NoSuchCase
-  wants_neighbour : (reads : Reads) → IsNamed g (Act i case with) → app.reads case ≡ Some reads → NamesOne reads → with ≡ None → ActRefused app g K w l i case with WantsNeighbour
-  takes_no_neighbour : (reads : Reads) (j : ℕ) → IsNamed g (Act i case with) → app.reads case ≡ Some reads → (NamesOne reads → ⊥) → with ≡ Some j → ActRefused app g K w l i case with TakesNoNeighbour
-  disagrees : (j : ℕ) → IsNode g i → Fits g i (app.reads case) with → IsFirstApart g w i (is_read g i (app.reads case) with) j → ActRefused app g K w l i case with (Disagrees j)
+  wants_neighbour : (reads : Reads) → IsNamed g (Act i case with) → app.reads case ≡ Some reads → NamesOne reads
+      → with ≡ None → ActRefused app g K w l i case with WantsNeighbour
+  takes_no_neighbour : (reads : Reads) (j : ℕ) → IsNamed g (Act i case with) → app.reads case ≡ Some reads
+      → (NamesOne reads → ⊥) → with ≡ Some j → ActRefused app g K w l i case with TakesNoNeighbour
+  disagrees : (j : ℕ) → IsNode g i
+      → Fits g i (app.reads case) with → IsFirstApart g w i (is_read g i (app.reads case) with) j
+      → ActRefused app g K w l i case with (Disagrees j)
   not_enabled : IsNode g i → Fits g i (app.reads case) with → AllAgree g w i (is_read g i (app.reads case) with)
-      → app.next i K case with (l i) (seen (is_read g i (app.reads case) with) l g.ids) ≡ None → ActRefused app g K w l i case with NotEnabled
+      → app.next i K case with (l i) (seen (is_read g i (app.reads case) with) l g.ids) ≡ None
+          → ActRefused app g K w l i case with NotEnabled
 
 -- ---- the same as the node judges it
 
@@ -79,13 +90,16 @@ judged None None (Some new) = Ok new
 judged None None None = Err NotEnabled
 
 -- what the case at i does with this choice, where i is a node and the choice a neighbour
-abbrev pub fitted_of : {L : Type 0} → App L → Graph → ℕ → (ℕ → WaveRegs) → (ℕ → L) → ℕ → ℕ → Option ℕ → Result L StepRefusal
+abbrev pub fitted_of : {L : Type 0} → App L → Graph → ℕ → (ℕ → WaveRegs) → (ℕ → L) → ℕ → ℕ → Option ℕ
+    → Result L StepRefusal
 fitted_of app g K w l i case with =
     let read : List ℕ = filter (reads_near (app.reads case) with) (neighbours_of g i) in
-    judged (misfit (app.reads case) with) (first_apart w i read) (app.next i K case with (l i) (map (λ j. (j, l j)) read))
+    judged (misfit (app.reads case) with) (first_apart w i read)
+        (app.next i K case with (l i) (map (λ j. (j, l j)) read))
 
 -- the local state that the action leaves, or the first refusal
-abbrev pub acted_of : {L : Type 0} → App L → Graph → ℕ → (ℕ → WaveRegs) → (ℕ → L) → ℕ → ℕ → Option ℕ → Result L StepRefusal
+abbrev pub acted_of : {L : Type 0} → App L → Graph → ℕ → (ℕ → WaveRegs) → (ℕ → L) → ℕ → ℕ → Option ℕ
+    → Result L StepRefusal
 acted_of app g K w l i case with =
     if not (list_any (λ k. k == i) g.ids) then Err StrangeNode
     else (if not (is_neighbour g i with) then Err StrangeNeighbour

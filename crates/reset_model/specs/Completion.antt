@@ -52,7 +52,8 @@ pub record Moment (L : Type 0) : Type 0 where
 abbrev pub moments : {L : Type 0} → App L → Configuration L → List Event → List Done → List (Moment L)
 moments app c [] ds = []
 moments app c (e ∷ es) [] = []
-moments app c (e ∷ es) (Did reply ∷ ds) = let left = after app c e (Did reply) in record { event = e; reply = reply; left = left } ∷ moments app left es ds
+moments app c (e ∷ es) (Did reply ∷ ds) = let left =
+    after app c e (Did reply) in record { event = e; reply = reply; left = left } ∷ moments app left es ds
 moments app c (e ∷ es) (Refused f ∷ ds) = moments app c es ds
 
 -- the events of these moments
@@ -65,6 +66,7 @@ events_of ms = map (λ m. m.event) ms
 pub record CompletionsHold {L : Type 0} (app : App L) (g : Graph) (ms : List (Moment L)) : Type 0 where
   pub complete : All (λ (m : Moment L). (session : ℕ) → m.reply ≡ Complete session → IsComplete m.left session) ms
   pub once : (before between rest : List (Moment L)) (opening completion : Moment L) (top session : ℕ)
-      → ms ≡ before ++ opening ∷ (between ++ completion ∷ rest) → opening.event ≡ Open top → times (is_open_at top) (events_of between) ≡ 0
+      → ms ≡ before ++ opening ∷ (between ++ completion ∷ rest) → opening.event ≡ Open top
+          → times (is_open_at top) (events_of between) ≡ 0
       → completion.event ≡ Finish top → completion.reply ≡ Complete session → JoinsOnce g top (events_of between)
   pub restarts : All (λ (m : Moment L). (i : ℕ) → m.event ≡ Join i → local_of app m.left i ≡ app.start g i) ms

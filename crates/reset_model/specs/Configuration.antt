@@ -62,15 +62,18 @@ local_of app c = local_map app c.graph c.locals
 
 -- the configuration with other tree registers of a node
 abbrev pub with_tree : {L : Type 0} → Configuration L → ℕ → TreeRegs → Configuration L
-with_tree c i regs = record { graph = c.graph; trees = put_at c.graph.ids c.trees i regs; waves = c.waves; locals = c.locals }
+with_tree c i regs =
+    record { graph = c.graph; trees = put_at c.graph.ids c.trees i regs; waves = c.waves; locals = c.locals }
 
 -- the configuration with other wave registers of a node
 abbrev pub with_wave : {L : Type 0} → Configuration L → ℕ → WaveRegs → Configuration L
-with_wave c i regs = record { graph = c.graph; trees = c.trees; waves = put_at c.graph.ids c.waves i regs; locals = c.locals }
+with_wave c i regs =
+    record { graph = c.graph; trees = c.trees; waves = put_at c.graph.ids c.waves i regs; locals = c.locals }
 
 -- the configuration with another local state of a node
 abbrev pub with_local : {L : Type 0} → Configuration L → ℕ → L → Configuration L
-with_local c i local = record { graph = c.graph; trees = c.trees; waves = c.waves; locals = put_at c.graph.ids c.locals i local }
+with_local c i local =
+    record { graph = c.graph; trees = c.trees; waves = c.waves; locals = put_at c.graph.ids c.locals i local }
 
 -- the configuration with another graph
 abbrev pub with_graph : {L : Type 0} → Configuration L → Graph → Configuration L

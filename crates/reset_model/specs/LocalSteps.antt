@@ -1,5 +1,6 @@
 -- The same steps as one node sees them: the rows of an event are tried on its local view.
-use Rattle.std.specs.Prelude.{ℕ, Bool, true, not, ◌==◌, if◌then◌else◌, List, [], ◌∷◌, Option, Some, None, Result, Ok, Err, map, filter}
+use Rattle.std.specs.Prelude.{ℕ, Bool, true, not, ◌==◌, if◌then◌else◌, List, [], ◌∷◌, Option, Some, None, Result, Ok}
+use Rattle.std.specs.Prelude.{Err, map, filter}
 use Rattle.std.specs.List.{list_any}
 use Rattle.topology.specs.Graph.{Graph, are_linked, neighbours_of}
 use Rattle.tree_layer.specs.declared.regs.TreeRegs.{TreeRegs}
@@ -15,13 +16,16 @@ use Rattle.wave_layer.specs.declared.regs.WaveRefusal.{WaveRefusal}
 use Rattle.wave_layer.specs.declared.regs.WaveRefusal.TheVariants as wave_refusal
 use Rattle.wave_layer.specs.WaveTable.{LocalView, wave_fired}
 use Rattle.reset_model.specs.declared.event.Event.{Event}
-use Rattle.reset_model.specs.declared.event.Event.TheVariants.{Claim, Follow, Adopt, Request, Relay, Open, Join, Finish, Mend, Act}
+use Rattle.reset_model.specs.declared.event.Event.TheVariants.{Claim, Follow, Adopt, Request, Relay, Open, Join, Finish}
+use Rattle.reset_model.specs.declared.event.Event.TheVariants.{Mend, Act}
 use Rattle.reset_model.specs.declared.plan.Fired.{Fired}
 use Rattle.reset_model.specs.declared.plan.Fired.TheVariants as fired
 use Rattle.reset_model.specs.declared.plan.Seen.{Seen}
 use Rattle.reset_model.specs.declared.plan.Seen.TheVariants.{Tree, Wave}
 use Rattle.reset_model.specs.declared.step.StepRefusal.{StepRefusal}
-use Rattle.reset_model.specs.declared.step.StepRefusal.TheVariants.{StrangeNode, StrangeNeighbour, NoSuchCase, WantsNeighbour, TakesNoNeighbour, Disagrees, NotEnabled, SessionsSpent, NoMemory}
+use Rattle.reset_model.specs.declared.step.StepRefusal.TheVariants.{StrangeNode, StrangeNeighbour, NoSuchCase}
+use Rattle.reset_model.specs.declared.step.StepRefusal.TheVariants.{WantsNeighbour, TakesNoNeighbour, Disagrees}
+use Rattle.reset_model.specs.declared.step.StepRefusal.TheVariants.{NotEnabled, SessionsSpent, NoMemory}
 use Rattle.reset_model.specs.Steps.{event_node, named_node, is_of_tree}
 
 -- what i sees of the tree, where K bounds the distances
@@ -30,7 +34,8 @@ tree_view_of g K t i = record { id = i; bound = K; own = t i; near = map (λ j. 
 
 -- what i's father register names
 abbrev pub father_seen : Graph → (ℕ → TreeRegs) → (ℕ → WaveRegs) → ℕ → FatherSeen
-father_seen g t w i = if (t i).father == i then Itself else (if are_linked g i (t i).father then Is (w (t i).father) else Lost)
+father_seen g t w i =
+    if (t i).father == i then Itself else (if are_linked g i (t i).father then Is (w (t i).father) else Lost)
 
 -- the neighbours whose father register names i
 abbrev pub children_of : Graph → (ℕ → TreeRegs) → ℕ → List ℕ
@@ -42,7 +47,8 @@ view_of g t w i = record { own = w i; father = father_seen g t w i; children = m
 
 -- what the event's node sees of the event's layer
 abbrev pub seen_of : Graph → ℕ → (ℕ → TreeRegs) → (ℕ → WaveRegs) → Event → Seen
-seen_of g K t w e = if is_of_tree e then Tree (tree_view_of g K t (event_node e)) else Wave (view_of g t w (event_node e))
+seen_of g K t w e =
+    if is_of_tree e then Tree (tree_view_of g K t (event_node e)) else Wave (view_of g t w (event_node e))
 
 -- the rows of an event in its layer's table
 abbrev pub cases_of : Event → List ℕ

@@ -3,7 +3,8 @@ use Rattle.std.specs.Prelude.{◌≡◌, ℕ, false, Option}
 use Rattle.app_interface.specs.Application.{App}
 use Rattle.topology.specs.Graph.{Graph, Changes, node_bound}
 use Rattle.reset_model.specs.declared.event.Event.{Event}
-use Rattle.reset_model.specs.declared.event.Event.TheVariants.{Claim, Follow, Adopt, Request, Relay, Open, Join, Finish, Mend, Act}
+use Rattle.reset_model.specs.declared.event.Event.TheVariants.{Claim, Follow, Adopt, Request, Relay, Open, Join, Finish}
+use Rattle.reset_model.specs.declared.event.Event.TheVariants.{Mend, Act}
 use Rattle.reset_model.specs.declared.step.StepRefusal.{StepRefusal}
 use Rattle.reset_model.specs.Actions.{ActStep, ActRefused}
 use Rattle.reset_model.specs.Configuration.{Configuration, tree_of, wave_of, local_of}
@@ -27,10 +28,12 @@ local_effect app g l (Act i case with) = l i
 pub record RowStep {L : Type 0} (app : App L) (c : Configuration L) (e : Event) (c' : Configuration L) : Type 0 where
   pub graph : c'.graph ≡ c.graph
   pub regs : RegsStep c.graph (node_bound c.graph) (tree_of c) (wave_of c) e (tree_of c') (wave_of c')
-  pub locals : Changes c.graph (local_of app c) (event_node e) (local_effect app c.graph (local_of app c) e) (local_of app c')
+  pub locals : Changes c.graph (local_of app c) (event_node e) (local_effect app c.graph (local_of app c) e)
+      (local_of app c')
 
 -- an action takes the configuration c to c': no registers change
-pub record IsActStep {L : Type 0} (app : App L) (c : Configuration L) (i case : ℕ) (with : Option ℕ) (c' : Configuration L) : Type 0 where
+pub record IsActStep {L : Type 0} (app : App L) (c : Configuration L) (i case : ℕ) (with : Option ℕ)
+    (c' : Configuration L) : Type 0 where
   pub graph : c'.graph ≡ c.graph
   pub trees : c'.trees ≡ c.trees
   pub waves : c'.waves ≡ c.waves
@@ -43,6 +46,7 @@ pub data IsStep {L : Type 0} (app : App L) (c : Configuration L) (e : Event) (c'
 
 -- the event isn't a step, for this reason, the first that applies
 pub data IsRefused {L : Type 0} (app : App L) (c : Configuration L) (e : Event) (f : StepRefusal) : Type 0 where
-  row_refused : is_act e ≡ false → RowRefused c.graph (node_bound c.graph) (tree_of c) (wave_of c) e f → IsRefused app c e f
+  row_refused : is_act e ≡ false → RowRefused c.graph (node_bound c.graph) (tree_of c) (wave_of c) e f
+      → IsRefused app c e f
   act_refused : (i case : ℕ) (with : Option ℕ) → e ≡ Act i case with
       → ActRefused app c.graph (node_bound c.graph) (wave_of c) (local_of app c) i case with f → IsRefused app c e f

@@ -7,14 +7,16 @@ use Rattle.tree_layer.specs.declared.regs.TreeRegs.{TreeRegs}
 use Rattle.wave_layer.specs.declared.regs.WaveRegs.{WaveRegs}
 use Rattle.wave_layer.specs.declared.regs.Phase.TheVariants.{Normal}
 use Rattle.reset_model.specs.declared.event.Event.{Event}
-use Rattle.reset_model.specs.declared.event.Event.TheVariants.{Claim, Follow, Adopt, Request, Relay, Open, Join, Finish, Mend, Act}
+use Rattle.reset_model.specs.declared.event.Event.TheVariants.{Claim, Follow, Adopt, Request, Relay, Open, Join, Finish}
+use Rattle.reset_model.specs.declared.event.Event.TheVariants.{Mend, Act}
 use Rattle.reset_model.specs.declared.plan.Fired.{Fired}
 use Rattle.reset_model.specs.declared.plan.Fired.TheVariants.{Tree, Wave}
 use Rattle.reset_model.specs.declared.step.Reply.{Reply}
 use Rattle.reset_model.specs.declared.step.Reply.TheVariants.{Applied, Complete}
 use Rattle.reset_model.specs.declared.step.StepRefusal.{StepRefusal}
 use Rattle.reset_model.specs.Actions.{acted_of}
-use Rattle.reset_model.specs.Configuration.{Configuration, start_list, tree_of, wave_of, local_of, put_at, with_tree, with_wave, with_local, with_locals}
+use Rattle.reset_model.specs.Configuration.{Configuration, start_list, tree_of, wave_of, local_of, put_at, with_tree}
+use Rattle.reset_model.specs.Configuration.{with_wave, with_local, with_locals}
 use Rattle.reset_model.specs.Steps.{event_node}
 use Rattle.reset_model.specs.LocalSteps.{planned_of}
 
@@ -47,7 +49,8 @@ abbrev pub fired_reply : Fired → Reply
 fired_reply (Tree regs) = Applied
 fired_reply (Wave move) = if move.completes then Complete move.regs.session else Applied
 
-abbrev pub done : {L : Type 0} → App L → Configuration L → ℕ → Result Fired StepRefusal → Result (Configuration L × Reply) StepRefusal
+abbrev pub done : {L : Type 0} → App L → Configuration L → ℕ → Result Fired StepRefusal
+    → Result (Configuration L × Reply) StepRefusal
 done app c i (Ok does) = Ok (after_fired app c i does, fired_reply does)
 done app c i (Err refusal) = Err refusal
 
@@ -55,13 +58,16 @@ done app c i (Err refusal) = Err refusal
 abbrev pub row_outcome : {L : Type 0} → App L → Configuration L → Event → Result (Configuration L × Reply) StepRefusal
 row_outcome app c e = done app c (event_node e) (planned_of c.graph (node_bound c.graph) (tree_of c) (wave_of c) e)
 
-abbrev pub acted : {L : Type 0} → Configuration L → ℕ → Result L StepRefusal → Result (Configuration L × Reply) StepRefusal
+abbrev pub acted : {L : Type 0} → Configuration L → ℕ → Result L StepRefusal
+    → Result (Configuration L × Reply) StepRefusal
 acted c i (Ok local) = Ok (with_local c i local, Applied)
 acted c i (Err refusal) = Err refusal
 
 -- the outcome of an action
-abbrev pub act_outcome : {L : Type 0} → App L → Configuration L → ℕ → ℕ → Option ℕ → Result (Configuration L × Reply) StepRefusal
-act_outcome app c i case with = acted c i (acted_of app c.graph (node_bound c.graph) (wave_of c) (local_of app c) i case with)
+abbrev pub act_outcome : {L : Type 0} → App L → Configuration L → ℕ → ℕ → Option ℕ
+    → Result (Configuration L × Reply) StepRefusal
+act_outcome app c i case with =
+    acted c i (acted_of app c.graph (node_bound c.graph) (wave_of c) (local_of app c) i case with)
 
 -- the configuration after the event, with the reply
 abbrev pub map_outcome : {L : Type 0} → App L → Configuration L → Event → Result (Configuration L × Reply) StepRefusal

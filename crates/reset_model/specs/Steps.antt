@@ -8,11 +8,13 @@ use Rattle.wave_layer.specs.declared.regs.WaveRegs.{WaveRegs}
 use Rattle.wave_layer.specs.declared.regs.Phase.TheVariants.{Normal, Initiate, Reset}
 use Rattle.wave_layer.specs.WaveTable.{is_reset, next_session}
 use Rattle.reset_model.specs.declared.event.Event.{Event}
-use Rattle.reset_model.specs.declared.event.Event.TheVariants.{Claim, Follow, Adopt, Request, Relay, Open, Join, Finish, Mend, Act}
+use Rattle.reset_model.specs.declared.event.Event.TheVariants.{Claim, Follow, Adopt, Request, Relay, Open, Join, Finish}
+use Rattle.reset_model.specs.declared.event.Event.TheVariants.{Mend, Act}
 use Rattle.reset_model.specs.declared.step.Reply.{Reply}
 use Rattle.reset_model.specs.declared.step.Reply.TheVariants.{Applied, Complete}
 use Rattle.reset_model.specs.declared.step.StepRefusal.{StepRefusal}
-use Rattle.reset_model.specs.declared.step.StepRefusal.TheVariants.{StrangeNode, StrangeNeighbour, NotEnabled, SessionsSpent}
+use Rattle.reset_model.specs.declared.step.StepRefusal.TheVariants.{StrangeNode, StrangeNeighbour, NotEnabled}
+use Rattle.reset_model.specs.declared.step.StepRefusal.TheVariants.{SessionsSpent}
 
 -- the node at which the event happens, which alone it changes
 abbrev pub event_node : Event → ℕ
@@ -71,8 +73,10 @@ reset_at w i = is_reset (w i).phase
 
 -- rows 4 and 5: the father is reset in the next session
 pub data Joins (g : Graph) (t : ℕ → TreeRegs) (w : ℕ → WaveRegs) (i : ℕ) : Type 0 where
-  join_normal : (j : ℕ) → IsFather g t i j → reset_at w j ≡ true → (w i).phase ≡ Normal → (w j).session ≡ next_session (w i).session → Joins g t w i
-  join_asked : (j : ℕ) → IsFather g t i j → reset_at w j ≡ true → (w i).phase ≡ Initiate → (w j).session ≡ next_session (w i).session → Joins g t w i
+  join_normal : (j : ℕ) → IsFather g t i j → reset_at w j ≡ true → (w i).phase ≡ Normal
+      → (w j).session ≡ next_session (w i).session → Joins g t w i
+  join_asked : (j : ℕ) → IsFather g t i j → reset_at w j ≡ true → (w i).phase ≡ Initiate
+      → (w j).session ≡ next_session (w i).session → Joins g t w i
 
 -- rows 6 and 7: the node is reset, and each child has its session and is not
 pub record Finishes (g : Graph) (t : ℕ → TreeRegs) (w : ℕ → WaveRegs) (i : ℕ) : Type 0 where
@@ -82,9 +86,12 @@ pub record Finishes (g : Graph) (t : ℕ → TreeRegs) (w : ℕ → WaveRegs) (i
 -- rows 8 to 11: the registers of the node and of its father contradict the wave
 pub data Mends (g : Graph) (t : ℕ → TreeRegs) (w : ℕ → WaveRegs) (i : ℕ) : Type 0 where
   mend_reset : (j : ℕ) → IsFather g t i j → reset_at w j ≡ false → reset_at w i ≡ true → Mends g t w i
-  mend_number : (j : ℕ) → IsFather g t i j → reset_at w j ≡ false → reset_at w i ≡ false → (w i).session ≢ (w j).session → Mends g t w i
-  mend_both : (j : ℕ) → IsFather g t i j → reset_at w j ≡ true → reset_at w i ≡ true → (w i).session ≢ (w j).session → Mends g t w i
-  mend_late : (j : ℕ) → IsFather g t i j → reset_at w j ≡ true → reset_at w i ≡ false → (w j).session ≢ (w i).session → (w j).session ≢ next_session (w i).session → Mends g t w i
+  mend_number : (j : ℕ) → IsFather g t i j → reset_at w j ≡ false → reset_at w i ≡ false → (w i).session ≢ (w j).session
+      → Mends g t w i
+  mend_both : (j : ℕ) → IsFather g t i j → reset_at w j ≡ true → reset_at w i ≡ true → (w i).session ≢ (w j).session
+      → Mends g t w i
+  mend_late : (j : ℕ) → IsFather g t i j → reset_at w j ≡ true → reset_at w i ≡ false → (w j).session ≢ (w i).session
+      → (w j).session ≢ next_session (w i).session → Mends g t w i
 
 -- the guard of a row of the event holds, where K bounds the distances; an action has no rows
 abbrev pub IsEnabled : Graph → ℕ → (ℕ → TreeRegs) → (ℕ → WaveRegs) → Event → Type 0
@@ -157,7 +164,8 @@ pub record IsNamed (g : Graph) (e : Event) : Type 0 where
   pub neighbour : (j : ℕ) → named_node e ≡ Some j → AreLinked g (event_node e) j
 
 -- the event takes the tree registers t and the wave registers w to t' and w'
-pub record RegsStep (g : Graph) (K : ℕ) (t : ℕ → TreeRegs) (w : ℕ → WaveRegs) (e : Event) (t' : ℕ → TreeRegs) (w' : ℕ → WaveRegs) : Type 0 where
+pub record RegsStep (g : Graph) (K : ℕ) (t : ℕ → TreeRegs) (w : ℕ → WaveRegs) (e : Event) (t' : ℕ → TreeRegs)
+    (w' : ℕ → WaveRegs) : Type 0 where
   pub node : IsNode g (event_node e)
   pub enabled : IsEnabled g K t w e
   pub unspent : IsSpent w e → ⊥
@@ -167,6 +175,7 @@ pub record RegsStep (g : Graph) (K : ℕ) (t : ℕ → TreeRegs) (w : ℕ → Wa
 -- why an event of the two tables isn't a step: the first that applies, in this order
 pub data RowRefused (g : Graph) (K : ℕ) (t : ℕ → TreeRegs) (w : ℕ → WaveRegs) (e : Event) : StepRefusal → Type 0 where
   strange_node : (IsNode g (event_node e) → ⊥) → RowRefused g K t w e StrangeNode
-  strange_neighbour : (j : ℕ) → IsNode g (event_node e) → named_node e ≡ Some j → (AreLinked g (event_node e) j → ⊥) → RowRefused g K t w e StrangeNeighbour
+  strange_neighbour : (j : ℕ) → IsNode g (event_node e) → named_node e ≡ Some j → (AreLinked g (event_node e) j → ⊥)
+      → RowRefused g K t w e StrangeNeighbour
   not_enabled : IsNamed g e → (IsEnabled g K t w e → ⊥) → RowRefused g K t w e NotEnabled
   sessions_spent : IsNamed g e → IsEnabled g K t w e → IsSpent w e → RowRefused g K t w e SessionsSpent

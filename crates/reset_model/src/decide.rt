@@ -1,6 +1,7 @@
 // What an event does at the node of a view, by the view alone.
 
-ghost use Rattle.std.specs.Prelude.{◌≡◌, ◌≢◌, ◌==◌, if◌then◌else◌, not, true, false, IfOk, MatchResult, Ok, Err, Some, None, filter, find, map, option_map};
+ghost use Rattle.std.specs.Prelude.{◌≡◌, ◌≢◌, ◌==◌, if◌then◌else◌, not, true, false, IfOk, MatchResult, Ok, Err, Some};
+ghost use Rattle.std.specs.Prelude.{None, filter, find, map, option_map};
 ghost use Rattle.app_interface.specs.Views.{seen_values};
 ghost use Rattle.reset_model.specs.Actions.{reads_near};
 ghost use Rattle.reset_model.specs.Planned.{case_taken, planned, row_fired, row_planned, sees};
@@ -224,7 +225,9 @@ fn first_apart<P: Application>(
     reads: Option<Reads>,
     with: Option<u32>,
 ) -> Option<u32>
-    ensures { result ≡ option_map (λ n. n.id) (find (λ n. not (n.wave.session == session)) (filter (λ n. reads_near reads with n.id) near.now)) }
+    ensures { result
+        ≡ option_map (λ n. n.id)
+        (find (λ n. not (n.wave.session == session)) (filter (λ n. reads_near reads with n.id) near.now)) }
 {
     for other in near {
         if reads_near(reads, with, other.id) && other.wave.session != session {
@@ -241,7 +244,9 @@ fn read<'a, P: Application>(
     reads: Option<Reads>,
     with: Option<u32>,
 ) -> Result<Vec<app_interface::Seen<'a, P::Local>>, AllocError>
-    ensures { IfOk result (λ seen. seen_values seen.items ≡ map (λ n. (n.id, n.local)) (filter (λ n. reads_near reads with n.id) near.now)) }
+    ensures { IfOk result
+        (λ seen. seen_values seen.items
+        ≡ map (λ n. (n.id, n.local)) (filter (λ n. reads_near reads with n.id) near.now)) }
 {
     let mut seen = Vec::new(alloc);
     for other in near {

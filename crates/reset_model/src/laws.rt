@@ -32,14 +32,16 @@ pub fn states_stay<P: Application>()
 
 /// The outcome of an event, as a function, is a step with its reply, or the first refusal.
 pub fn outcomes_are_steps<P: Application>()
-    ensures { (c : Configuration P.Local) (e : Event) → IsGraph c.graph → IsShaped c → MatchResult (outcome_of P.app c e)
+    ensures { (c : Configuration P.Local) (e : Event) → IsGraph c.graph → IsShaped c
+        → MatchResult (outcome_of P.app c e)
         (λ after. IsStep P.app c e after.0 × (after.1 ≡ reply_of (tree_of c) (wave_of c) e))
         (IsRefused P.app c e) }
 {}
 
 /// No event is both a step and refused; by its outcome it is one of the two.
 pub fn no_step_is_refused<P: Application>()
-    ensures { (c c' : Configuration P.Local) (e : Event) (f : StepRefusal) → IsGraph c.graph → IsStep P.app c e c' → IsRefused P.app c e f → ⊥ }
+    ensures { (c c' : Configuration P.Local) (e : Event) (f : StepRefusal) → IsGraph c.graph → IsStep P.app c e c'
+        → IsRefused P.app c e f → ⊥ }
 {}
 
 /// The outcome of an event, which is what its node's view says of it, written at the node, is what the

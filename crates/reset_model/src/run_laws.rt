@@ -8,7 +8,8 @@ ghost use Rattle.reset_model.specs.declared.step.Done.{Done};
 ghost use Rattle.reset_model.specs.declared.step.Done.TheVariants.{Did};
 ghost use Rattle.reset_model.specs.declared.step.Reply.{Reply};
 ghost use Rattle.reset_model.specs.declared.step.Reply.TheVariants.{Complete};
-ghost use Rattle.reset_model.specs.Completion.{applied, CompletionsHold, is_open, is_open_at, JoinsOnce, moments, times};
+ghost use Rattle.reset_model.specs.Completion.{applied, CompletionsHold, is_open, is_open_at, JoinsOnce, moments};
+ghost use Rattle.reset_model.specs.Completion.{times};
 ghost use Rattle.reset_model.specs.Configuration.{Configuration, IsShaped, local_of};
 ghost use Rattle.reset_model.specs.Refinement.{abstract_of, IsAbstractRun, shadow};
 ghost use Rattle.reset_model.specs.Runs.{Answers, IsRun};
@@ -23,7 +24,8 @@ use app_interface::Application;
 pub fn refinement<P: Application>()
     ensures { (c c' : Configuration P.Local) (es : List Event) (ds : List Done) → IsGraph c.graph → IsConnected c.graph
         → IsShaped c → IsSound c → IsRun P.app c es ds c'
-        → IsAbstractRun P.app c.graph (node_bound c.graph) (shadow P.app c es ds) (abstract_of P.app c) (abstract_of P.app c') }
+        → IsAbstractRun P.app c.graph (node_bound c.graph) (shadow P.app c es ds) (abstract_of P.app c)
+            (abstract_of P.app c') }
 {}
 
 /// Whatever events are tried and however they are answered, the graph stays, no node loses its
@@ -37,10 +39,12 @@ pub fn runs_stay_sound<P: Application>()
 /// The application's invariant, once it holds of the abstract state, holds on. Where a session was
 /// opened it holds, whatever the local states were before.
 pub fn invariants<P: Application>()
-    ensures kept { (c c' : Configuration P.Local) (es : List Event) (ds : List Done) → IsGraph c.graph → IsConnected c.graph
+    ensures kept { (c c' : Configuration P.Local) (es : List Event) (ds : List Done) → IsGraph c.graph
+        → IsConnected c.graph
         → IsShaped c → IsSound c → IsRun P.app c es ds c'
         → P.Inv c.graph (abstract_of P.app c) → P.Inv c'.graph (abstract_of P.app c') }
-    ensures opened { (c c' : Configuration P.Local) (es : List Event) (ds : List Done) → IsGraph c.graph → IsConnected c.graph
+    ensures opened { (c c' : Configuration P.Local) (es : List Event) (ds : List Done) → IsGraph c.graph
+        → IsConnected c.graph
         → IsShaped c → IsSound c → IsRun P.app c es ds c'
         → 0 < times is_open (applied es ds) → P.Inv c'.graph (abstract_of P.app c') }
 {}
@@ -49,7 +53,8 @@ pub fn invariants<P: Application>()
 /// in between: both happen at the leader, nobody else opens a session, and each other node joins
 /// exactly once. Right after it joins, a node has its start state.
 pub fn joins_once<P: Application>()
-    ensures once { (c c1 c2 c3 : Configuration P.Local) (o p session : ℕ) (reply : Reply) (es : List Event) (ds : List Done)
+    ensures once { (c c1 c2 c3 : Configuration P.Local) (o p session : ℕ) (reply : Reply) (es : List Event)
+        (ds : List Done)
         → IsGraph c.graph → IsConnected c.graph → IsShaped c → IsSound c
         → Answers P.app c (Open o) (Did reply) c1 → IsRun P.app c1 es ds c2 → times (is_open_at p) (applied es ds) ≡ 0
         → Answers P.app c2 (Finish p) (Did (Complete session)) c3

@@ -1,5 +1,6 @@
 // The lines that stand for events, and the words that lines are made of.
-ghost use Rattle.std.specs.Prelude.{◌≡◌, ℕ, ◌<◌, ◌≤◌, ◌^◌, List, [], ◌∷◌, ◌++◌, Option, codes, IfSome, IfNone, OnOk, OnErr};
+ghost use Rattle.std.specs.Prelude.{◌≡◌, ℕ, ◌<◌, ◌≤◌, ◌^◌, List, [], ◌∷◌, ◌++◌, Option, codes, IfSome, IfNone, OnOk};
+ghost use Rattle.std.specs.Prelude.{OnErr};
 ghost use Rattle.std.specs.Fmt.{decimal};
 ghost use Rattle.std.specs.Io.KnownBytes.{Appends};
 ghost use Rattle.reset_model.specs.EventText.{event_line, event_words, neighbour_words, Fits};
@@ -81,7 +82,8 @@ pub fn event_of(command: &[u8], rest: &[u8]) -> Option<Event>
 fn two_numbers(text: &[u8]) -> Option<(u32, u32)>
     ensures found { IfSome result (λ ns. words_of text.now ≡ decimal ns.0 ∷ decimal ns.1 ∷ []) }
     ensures small { IfSome result (λ ns. (ns.0 < 2 ^ 32) × (ns.1 < 2 ^ 32)) }
-    ensures only { IfNone result ((m n : ℕ) → m < 2 ^ 32 → n < 2 ^ 32 → words_of text.now ≡ decimal m ∷ decimal n ∷ [] → ⊥) }
+    ensures only { IfNone result
+        ((m n : ℕ) → m < 2 ^ 32 → n < 2 ^ 32 → words_of text.now ≡ decimal m ∷ decimal n ∷ [] → ⊥) }
 {
     let (first, second) = split_word(text)?;
     Some((read_number(first)?, read_number(second)?))
@@ -102,7 +104,9 @@ fn action_of(text: &[u8]) -> Option<Event>
 pub fn word_and_neighbour(text: &[u8]) -> Option<(&[u8], Option<u32>)>
     ensures found { IfSome result (λ r. words_of text.now ≡ r.0.now ∷ neighbour_words r.1) }
     ensures fits { IfSome result (λ r. IfSome r.1 (λ j. j < 2 ^ 32)) }
-    ensures only { IfNone result ((word : List ℕ) (with : Option ℕ) → IfSome with (λ j. j < 2 ^ 32) → words_of text.now ≡ word ∷ neighbour_words with → ⊥) }
+    ensures only { IfNone result
+        ((word : List ℕ) (with : Option ℕ) → IfSome with (λ j. j < 2 ^ 32)
+        → words_of text.now ≡ word ∷ neighbour_words with → ⊥) }
 {
     match split_word(text) {
         None => Some((text, None)),
@@ -147,7 +151,8 @@ pub fn write_event<W: Write>(event: &Event, out: &mut W) -> Result<(), WriteFaul
 // Writes an action.
 fn put_act<W: Write>(out: &mut W, at: u32, case: u8, with: Option<u32>) -> Result<(), WriteFault>
     ensures ok { OnOk result (Appends (W.contents out.old) (W.contents out.new) (event_line (Act at case with))) }
-    ensures err { OnErr result (AppendsFront (W.contents out.old) (W.contents out.new) (event_line (Act at case with))) }
+    ensures err { OnErr result
+        (AppendsFront (W.contents out.old) (W.contents out.new) (event_line (Act at case with))) }
 {
     put_command_of_two(out, b"act", at, u32::from(case))?;
     if let Some(near) = with {
@@ -164,8 +169,12 @@ fn put_command_of_two<W: Write>(
     at: u32,
     other: u32,
 ) -> Result<(), WriteFault>
-    ensures ok { OnOk result (Appends (W.contents out.old) (W.contents out.new) ((command.now ++ (32 ∷ decimal at)) ++ (32 ∷ decimal other))) }
-    ensures err { OnErr result (AppendsFront (W.contents out.old) (W.contents out.new) ((command.now ++ (32 ∷ decimal at)) ++ (32 ∷ decimal other))) }
+    ensures ok { OnOk result
+        (Appends (W.contents out.old) (W.contents out.new)
+        ((command.now ++ (32 ∷ decimal at)) ++ (32 ∷ decimal other))) }
+    ensures err { OnErr result
+        (AppendsFront (W.contents out.old) (W.contents out.new)
+        ((command.now ++ (32 ∷ decimal at)) ++ (32 ∷ decimal other))) }
 {
     put_command(out, command, at)?;
     put_bytes(out, b" ")?;
@@ -175,7 +184,8 @@ fn put_command_of_two<W: Write>(
 // Writes a command and its first number.
 fn put_command<W: Write>(out: &mut W, command: &[u8], at: u32) -> Result<(), WriteFault>
     ensures ok { OnOk result (Appends (W.contents out.old) (W.contents out.new) (command.now ++ (32 ∷ decimal at))) }
-    ensures err { OnErr result (AppendsFront (W.contents out.old) (W.contents out.new) (command.now ++ (32 ∷ decimal at))) }
+    ensures err { OnErr result
+        (AppendsFront (W.contents out.old) (W.contents out.new) (command.now ++ (32 ∷ decimal at))) }
 {
     put_bytes(out, command)?;
     put_bytes(out, b" ")?;

@@ -29,7 +29,8 @@ impl<P: Application> Model for Plan<P> {
 
     ghost view = { λ p. record { view = p.view; event = p.event; effect = p.effect; reply = p.reply } };
 
-    ghost invariant = { λ p. IsPlan P.app (record { view = p.view; event = p.event; effect = p.effect; reply = p.reply }) };
+    ghost invariant = { λ p. IsPlan P.app
+        (record { view = p.view; event = p.event; effect = p.effect; reply = p.reply }) };
 }
 
 impl<P: Application> View<P> {

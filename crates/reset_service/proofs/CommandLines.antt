@@ -1,11 +1,13 @@
 -- A command's line has the command's words, and no other command has them.
 use Rattle.std.specs.Prelude.{codes}
-use Rattle.std.proofs.Common.{◌≡◌, inl, inr, ℕ, ◌<◌, ◌^◌, List, [], ◌∷◌, refl, sym, ap, ◌∙◌, Option, None, Some, IfNone, Bool, true, false, ◌==◌, ◌||◌, true≢false}
+use Rattle.std.proofs.Common.{◌≡◌, inl, inr, ℕ, ◌<◌, ◌^◌, List, [], ◌∷◌, refl, sym, ap, ◌∙◌, Option, None, Some, IfNone}
+use Rattle.std.proofs.Common.{Bool, true, false, ◌==◌, ◌||◌, true≢false}
 use Rattle.std.specs.Fmt.{decimal}
 use Rattle.reset_model.specs.EventText.{event_words, Fits}
 use Rattle.reset_model.specs.Words.{words_of}
 use Rattle.reset_model.specs.declared.event.Event.{Event}
-use Rattle.reset_model.specs.declared.event.Event.TheVariants.{Claim, Follow, Adopt, Request, Relay, Open, Join, Finish, Mend, Act}
+use Rattle.reset_model.specs.declared.event.Event.TheVariants.{Claim, Follow, Adopt, Request, Relay, Open, Join, Finish}
+use Rattle.reset_model.specs.declared.event.Event.TheVariants.{Mend, Act}
 use Rattle.reset_model.proofs.EventLines.{first_bytes, two_bytes, words_of-decimal, words_of-event_line}
 use Rattle.reset_model.proofs.WordLines.{words_of-some, line-words}
 use Rattle.fault_inject.proofs.FaultLines.{words_of-fault_line}
@@ -13,7 +15,8 @@ use Rattle.fault_inject.specs.FaultText.{fault_words}
 use Rattle.fault_inject.specs.declared.fault.Fault.{Fault}
 use Rattle.fault_inject.specs.declared.fault.Fault.TheVariants.{SetTree, SetWave, SetLocal, LinkDown, LinkUp}
 use Rattle.reset_service.specs.declared.script.Command.{Command}
-use Rattle.reset_service.specs.declared.script.Command.TheVariants.{Step, Inject, Draw, Show, ShowNode, Newest, Enabled, Ready, Check, CheckNode, Alarm, Watch}
+use Rattle.reset_service.specs.declared.script.Command.TheVariants.{Step, Inject, Draw, Show, ShowNode, Newest, Enabled}
+use Rattle.reset_service.specs.declared.script.Command.TheVariants.{Ready, Check, CheckNode, Alarm, Watch}
 use Rattle.reset_service.specs.Script.{command_words, command_line, AsksAbout, CommandFits, IsPlain}
 
 pub words_of-command_line : (c : Command) → CommandFits c → words_of (command_line c) ≡ command_words c
@@ -50,7 +53,8 @@ words_of-plain_line c h = words_of-command_line c (plain_fits c h)
 
 -- where a line is that of no fault and of no other command, it is that of none
 pub none_of_both : (line : List ℕ) → ((f : Fault) → CommandFits (Inject f) → line ≡ command_line (Inject f) → ⊥)
-    → ((c : Command) → IsPlain c → line ≡ command_line c → ⊥) → (c : Command) → CommandFits c → line ≡ command_line c → ⊥
+    → ((c : Command) → IsPlain c → line ≡ command_line c → ⊥) → (c : Command) → CommandFits c → line ≡ command_line c
+        → ⊥
 none_of_both line fault plain (Step e) h = plain (Step e) h
 none_of_both line fault plain (Inject f) h = fault f h
 none_of_both line fault plain (Draw seed) h = plain (Draw seed) h
@@ -65,7 +69,8 @@ none_of_both line fault plain (Alarm at) h = plain (Alarm at) h
 none_of_both line fault plain (Watch at) h = plain (Watch at) h
 
 -- the words of a command's line
-pub words_of_line : (line : List ℕ) (c : Command) → CommandFits c → line ≡ command_line c → command_words c ≡ words_of line
+pub words_of_line : (line : List ℕ) (c : Command) → CommandFits c → line ≡ command_line c
+    → command_words c ≡ words_of line
 words_of_line line c fits is = sym (words_of-command_line c fits) ∙ ap words_of (sym is)
 
 -- the words begin as those of a command that is no event
@@ -100,7 +105,8 @@ fault_begins (SetLocal at text) = refl
 fault_begins (LinkDown a b) = refl
 fault_begins (LinkUp a b) = refl
 
-pub no_fault : (f : Fault) {ws : List (List ℕ)} → fault_words f ≡ ws → (first_bytes ws ≡ two_bytes (codes "fault") → ⊥) → ⊥
+pub no_fault : (f : Fault) {ws : List (List ℕ)} → fault_words f ≡ ws → (first_bytes ws ≡ two_bytes (codes "fault") → ⊥)
+    → ⊥
 no_fault f is other = other (ap first_bytes (sym is) ∙ fault_begins f)
 
 pub event_is_no_fault : (e : Event) (f : Fault) → event_words e ≡ fault_words f → ⊥
@@ -122,11 +128,14 @@ no_question word rest none at small (inl is) = none at small (line-words rest (d
 no_question word rest none at small (inr (inl is)) = none at small (line-words rest (decimal at ∷ []) (cc))
 no_question word rest none at small (inr (inr (inl is))) = none at small (line-words rest (decimal at ∷ []) (cc))
 no_question word rest none at small (inr (inr (inr (inl is)))) = none at small (line-words rest (decimal at ∷ []) (cc))
-no_question word rest none at small (inr (inr (inr (inr (inl is))))) = none at small (line-words rest (decimal at ∷ []) (cc))
-no_question word rest none at small (inr (inr (inr (inr (inr is))))) = none at small (line-words rest (decimal at ∷ []) (cc))
+no_question word rest none at small (inr (inr (inr (inr (inl is))))) =
+    none at small (line-words rest (decimal at ∷ []) (cc))
+no_question word rest none at small (inr (inr (inr (inr (inr is))))) =
+    none at small (line-words rest (decimal at ∷ []) (cc))
 
 -- what is neither an event nor a question is no command of a word and more
-pub no_command : (word rest : List ℕ) (o : Option Command) → ((e : Event) → Fits e → word ∷ words_of rest ≡ event_words e → ⊥)
+pub no_command : (word rest : List ℕ) (o : Option Command)
+    → ((e : Event) → Fits e → word ∷ words_of rest ≡ event_words e → ⊥)
     → IfNone o ((at : ℕ) → at < 2 ^ 32 → AsksAbout at (word ∷ words_of rest) → ⊥)
     → IfNone o ((c : Command) → IsPlain c → word ∷ words_of rest ≡ command_words c → ⊥)
 no_command word rest (Some c) event question = tt

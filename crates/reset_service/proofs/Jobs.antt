@@ -14,7 +14,8 @@ some_text None text e some = absurd (cc)
 some_text (Some s) text e some = refl
 
 -- clap's error as a fault
-pub fault_is : (words : List Text) (e : Error) (r : Result Job LineFault) → HasKind (faults_of words) e → IsErrAnd r (StandsFor e) → IfErr r (IsFaultOf words)
+pub fault_is : (words : List Text) (e : Error) (r : Result Job LineFault) → HasKind (faults_of words) e
+    → IsErrAnd r (StandsFor e) → IfErr r (IsFaultOf words)
 fault_is words e (Ok job) kind stands = tt
 fault_is words e (Err NoMemory) kind stands = tt
 fault_is words e (Err (BadWords kept)) kind stands = go kind

@@ -1,5 +1,6 @@
 -- What a run writes is one, and so is how a joined text is cut.
-use Rattle.std.proofs.Common.{◌≡◌, ◌≢◌, ℕ, suc, ◌⊎◌, List, [], ◌∷◌, ◌++◌, Contains, Result, Ok, Err, refl, sym, ap, ap₂, subst, subst₂, ◌∙◌, arith, inl, inr}
+use Rattle.std.proofs.Common.{◌≡◌, ◌≢◌, ℕ, suc, ◌⊎◌, List, [], ◌∷◌, ◌++◌, Contains, Result, Ok, Err, refl, sym, ap, ap₂}
+use Rattle.std.proofs.Common.{subst, subst₂, ◌∙◌, arith, inl, inr}
 use Rattle.std.specs.List.{flat_map, join_with_byte}
 use Rattle.std.proofs.lemmas.List.Elements.{All-contains, Contains-append_right}
 use Rattle.topology.specs.Faults.{IsFirstFault, IsGraphOf}
@@ -15,7 +16,8 @@ use Rattle.reset_model.proofs.OneBoot.{one_boot}
 use Rattle.reset_service.specs.Lines.{HasNoSeparator, IsCut, ended, lines_of, separator}
 use Rattle.reset_service.specs.Lines.IsCut.{at_separator, topology_alone}
 use Rattle.reset_service.specs.Meaning.{Meaning, idle_meaning, token_meaning, mutex_meaning, routes_meaning}
-use Rattle.reset_service.specs.Output.{Describes, IsJoinedOutput, IsJudged, IsOutput, IsReplay, IsReplayOf, bad_topology_text, script_output}
+use Rattle.reset_service.specs.Output.{Describes, IsJoinedOutput, IsJudged, IsOutput, IsReplay, IsReplayOf}
+use Rattle.reset_service.specs.Output.{bad_topology_text, script_output}
 use Rattle.reset_service.specs.Output.IsJoinedOutput.{cut, too_long}
 use Rattle.reset_service.specs.Output.IsJudged.{bad_topology, good_topology}
 use Rattle.reset_service.specs.Output.IsReplay.{replayed}
@@ -31,7 +33,9 @@ Output = List ℕ × Status
 
 -- a fault is the text's own, or that of the lists that it describes
 abbrev OfLists : List ℕ → ReadFault → Type 0
-OfLists text f = (d : Description) × (x : TopoFault) × (description_of text ≡ Ok d) × IsFirstFault d.nodes d.links x × (f ≡ Topology x)
+OfLists text f =
+    (d : Description) × (x : TopoFault) × (description_of text ≡ Ok d) × IsFirstFault d.nodes d.links x
+    × (f ≡ Topology x)
 
 own_or_lists : (text : List ℕ) (f : ReadFault) → IsReadFault text f → (description_of text ≡ Err f) ⊎ OfLists text f
 own_or_lists text (Topology x) (d, is, first) = inr (d, x, is, first, refl)
@@ -49,33 +53,42 @@ ok_or_err r x e a b = let same : Ok x ≡ Err e = sym a ∙ b in absurd (cc)
 -- ---- how a joined text is cut
 
 -- before the first separator stands one list of lines, and behind it one
-one_front : (xs ys after behind : List (List ℕ)) → HasNoSeparator xs → HasNoSeparator ys → xs ++ separator ∷ after ≡ ys ++ separator ∷ behind
+one_front : (xs ys after behind : List (List ℕ)) → HasNoSeparator xs → HasNoSeparator ys
+    → xs ++ separator ∷ after ≡ ys ++ separator ∷ behind
     → (xs ≡ ys) × (after ≡ behind)
 one_front [] [] after behind none nor is = let same : separator ∷ after ≡ separator ∷ behind = is in (refl, cc)
 one_front [] (y ∷ ys) after behind none nor is =
-    let same : separator ∷ after ≡ y ∷ ys ++ separator ∷ behind = is in let first : y ≡ separator = cc in absurd (nor 0 [] (omega arith) first)
+    let same : separator ∷ after ≡ y ∷ ys ++ separator ∷ behind = is in let first : y ≡ separator =
+        cc in absurd (nor 0 [] (omega arith) first)
 one_front (x ∷ xs) [] after behind none nor is =
-    let same : x ∷ xs ++ separator ∷ after ≡ separator ∷ behind = is in let first : x ≡ separator = cc in absurd (none 0 [] (omega arith) first)
+    let same : x ∷ xs ++ separator ∷ after ≡ separator ∷ behind = is in let first : x ≡ separator =
+        cc in absurd (none 0 [] (omega arith) first)
 one_front (x ∷ xs) (y ∷ ys) after behind none nor is =
     let same : x ∷ xs ++ separator ∷ after ≡ y ∷ ys ++ separator ∷ behind = is in
     let first : x ≡ y = cc in
     let rest : xs ++ separator ∷ after ≡ ys ++ separator ∷ behind = cc in
-    let both = one_front xs ys after behind (λ k d low. none (suc k) d (omega (arith, low))) (λ k d low. nor (suc k) d (omega (arith, low))) rest in
+    let both =
+        one_front xs ys after behind (λ k d low. none (suc k) d (omega (arith, low)))
+        (λ k d low. nor (suc k) d (omega (arith, low))) rest in
     (ap₂ (λ l ls. l ∷ ls) first both.0, both.1)
 
 -- a list with a separator has one
 has_separator : (lines front rest : List (List ℕ)) → lines ≡ front ++ separator ∷ rest → HasNoSeparator lines → ⊥
 has_separator lines front rest is none =
     All-contains (λ line. line ≢ separator) lines separator none
-    (subst (λ ls. Contains ls separator) (sym is) (Contains-append_right front (separator ∷ rest) separator (0, omega arith, refl))) refl
+    (subst (λ ls. Contains ls separator) (sym is)
+        (Contains-append_right front (separator ∷ rest) separator (0, omega arith, refl))) refl
 
 one_cut : (joined t t' s s' : List ℕ) → IsCut joined t s → IsCut joined t' s' → (t ≡ t') × (s ≡ s')
 one_cut joined t t' s s' (at_separator front rest is none t_is s_is) (at_separator fore after is' none' t'_is s'_is) =
     let same = one_front front fore rest after none none' (sym is ∙ is') in
     (t_is ∙ ap (flat_map ended) same.0 ∙ sym t'_is, s_is ∙ ap (join_with_byte 10) same.1 ∙ sym s'_is)
-one_cut joined t t' s s' (at_separator front rest is none t_is s_is) (topology_alone whole t'_is s'_is) = absurd (has_separator (lines_of joined) front rest is whole)
-one_cut joined t t' s s' (topology_alone whole t_is s_is) (at_separator front rest is none t'_is s'_is) = absurd (has_separator (lines_of joined) front rest is whole)
-one_cut joined t t' s s' (topology_alone whole t_is s_is) (topology_alone whole' t'_is s'_is) = (t_is ∙ sym t'_is, s_is ∙ sym s'_is)
+one_cut joined t t' s s' (at_separator front rest is none t_is s_is) (topology_alone whole t'_is s'_is) =
+    absurd (has_separator (lines_of joined) front rest is whole)
+one_cut joined t t' s s' (topology_alone whole t_is s_is) (at_separator front rest is none t'_is s'_is) =
+    absurd (has_separator (lines_of joined) front rest is whole)
+one_cut joined t t' s s' (topology_alone whole t_is s_is) (topology_alone whole' t'_is s'_is) =
+    (t_is ∙ sym t'_is, s_is ∙ sym s'_is)
 
 one_read_fault : (text : List ℕ) (f e : ReadFault) → IsReadFault text f → IsReadFault text e → f ≡ e
 one_read_fault text f e a b = go (own_or_lists text f a) (own_or_lists text e b)
@@ -86,11 +99,13 @@ one_read_fault text f e a b = go (own_or_lists text f a) (own_or_lists text e b)
     go (inr (d, x, is, first, f_is)) (inl own) = absurd (ok_or_err (description_of text) d e is own)
     go (inr (d, x, is, first, f_is)) (inr (d', y, is', first', e_is)) =
         let same : d ≡ d' = ok_once (description_of text) d d' is is' in
-        let lists : IsFirstFault d'.nodes d'.links x = subst (λ (l : Description). IsFirstFault l.nodes l.links x) same first in
+        let lists : IsFirstFault d'.nodes d'.links x =
+            subst (λ (l : Description). IsFirstFault l.nodes l.links x) same first in
         f_is ∙ ap Topology (one_first_fault d'.nodes d'.links x y lists first') ∙ sym e_is
 
 -- no text is both bad and good
-bad_or_good : (text : List ℕ) (f : ReadFault) (g : Graph) (app : AppName) → IsReadFault text f → Describes text g app → ⊥
+bad_or_good : (text : List ℕ) (f : ReadFault) (g : Graph) (app : AppName) → IsReadFault text f → Describes text g app
+    → ⊥
 bad_or_good text f g app bad (d, is, sound, app_is) = go (own_or_lists text f bad)
   where
     go : (description_of text ≡ Err f) ⊎ OfLists text f → ⊥
@@ -99,20 +114,24 @@ bad_or_good text f g app bad (d, is, sound, app_is) = go (own_or_lists text f ba
         let same : d' ≡ d = ok_once (description_of text) d' d is' is in
         sound.sound x (subst (λ (l : Description). IsFirstFault l.nodes l.links x) same first).fault
 
-one_description : (text : List ℕ) (g h : Graph) (app other : AppName) → Describes text g app → Describes text h other → (g ≡ h) × (app ≡ other)
+one_description : (text : List ℕ) (g h : Graph) (app other : AppName) → Describes text g app → Describes text h other
+    → (g ≡ h) × (app ≡ other)
 one_description text g h app other (d, is, of_g, app_is) (d', is', of_h, other_is) =
     let same : d ≡ d' = ok_once (description_of text) d d' is is' in (
-      one_graph d'.nodes d'.links g h (subst (λ (l : Description). IsGraphOf l.nodes l.links g) same of_g.exact) of_h.exact,
+      one_graph d'.nodes d'.links g h (subst (λ (l : Description). IsGraphOf l.nodes l.links g) same of_g.exact)
+          of_h.exact,
       app_is ∙ ap (λ (l : Description). l.app) same ∙ sym other_is,
     )
 
 -- ---- what a run writes
 
-one_replay : {L : Type 0} (m : Meaning L) (purpose : Purpose) (g : Graph) (script : List ℕ) (o p : Output) → IsReplay m purpose g script o → IsReplay m purpose g script p → o ≡ p
+one_replay : {L : Type 0} (m : Meaning L) (purpose : Purpose) (g : Graph) (script : List ℕ) (o p : Output)
+    → IsReplay m purpose g script o → IsReplay m purpose g script p → o ≡ p
 one_replay m purpose g script o p (replayed c boot is) (replayed d other is') =
     is ∙ ap (λ k. script_output m purpose k script) (one_boot m.app g c d boot other) ∙ sym is'
 
-one_replay_of : (app : AppName) (purpose : Purpose) (g : Graph) (script : List ℕ) (o p : Output) → IsReplayOf app purpose g script o → IsReplayOf app purpose g script p → o ≡ p
+one_replay_of : (app : AppName) (purpose : Purpose) (g : Graph) (script : List ℕ) (o p : Output)
+    → IsReplayOf app purpose g script o → IsReplayOf app purpose g script p → o ≡ p
 one_replay_of Idle = one_replay idle_meaning
 one_replay_of Token = one_replay token_meaning
 one_replay_of Mutex = one_replay mutex_meaning
@@ -120,17 +139,21 @@ one_replay_of Routes = one_replay routes_meaning
 
 -- one thing is written where a topology is judged first, if one thing follows a good one
 pub one_judged : (Follows : AppName → Graph → Output → Type 0)
-    → ((app : AppName) (g : Graph) (o p : Output) → Follows app g o → Follows app g p → o ≡ p) → (topology : List ℕ) (o p : Output)
+    → ((app : AppName) (g : Graph) (o p : Output) → Follows app g o → Follows app g p → o ≡ p)
+        → (topology : List ℕ) (o p : Output)
     → IsJudged Follows topology o → IsJudged Follows topology p → o ≡ p
 one_judged Follows one topology o p (bad_topology f bad is) (bad_topology e other is') =
     is ∙ ap (λ x. (bad_topology_text x, BadInput)) (one_read_fault topology f e bad other) ∙ sym is'
-one_judged Follows one topology o p (bad_topology f bad is) (good_topology g app good follows) = absurd (bad_or_good topology f g app bad good)
-one_judged Follows one topology o p (good_topology g app good follows) (bad_topology f bad is) = absurd (bad_or_good topology f g app bad good)
+one_judged Follows one topology o p (bad_topology f bad is) (good_topology g app good follows) =
+    absurd (bad_or_good topology f g app bad good)
+one_judged Follows one topology o p (good_topology g app good follows) (bad_topology f bad is) =
+    absurd (bad_or_good topology f g app bad good)
 one_judged Follows one topology o p (good_topology g app good follows) (good_topology h other good' follows') =
     let same = one_description topology g h app other good good' in
     one other h o p (subst₂ (λ x y. Follows y x o) same.0 same.1 follows) follows'
 
-pub one_output : (purpose : Purpose) (topology script : List ℕ) (o p : Output) → IsOutput purpose topology script o → IsOutput purpose topology script p → o ≡ p
+pub one_output : (purpose : Purpose) (topology script : List ℕ) (o p : Output) → IsOutput purpose topology script o
+    → IsOutput purpose topology script p → o ≡ p
 one_output purpose topology script =
     one_judged (λ app g. IsReplayOf app purpose g script) (λ app g o p. one_replay_of app purpose g script o p) topology
 

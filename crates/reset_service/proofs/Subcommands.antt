@@ -1,19 +1,25 @@
 -- The subcommand of words in which clap finds no fault is one of the program's own, with its values.
-use Rattle.std.proofs.Common.{◌≡◌, ◌∙◌, ◌&&◌, ◌||◌, not, ℕ, Bool, cond, true, false, refl, sym, ap, subst, List, [], ◌∷◌, codes, Option, Some, None, inl, inr, true≢false}
+use Rattle.std.proofs.Common.{◌≡◌, ◌∙◌, ◌&&◌, ◌||◌, not, ℕ, Bool, cond, true, false, refl, sym, ap, subst, List, []}
+use Rattle.std.proofs.Common.{◌∷◌, codes, Option, Some, None, inl, inr, true≢false}
 use Rattle.std.specs.List.{fold, slice_index_or}
 use Rattle.std.specs.Option.{option_map_or}
 use Rattle.std.specs.Str.{bytes_eq}
 use Rattle.std.specs.Prelude.{⊤, is_some, option_map}
 use Rattle.std.proofs.lemmas.Slice.Eq.{bytes_eq-Decides}
 use Rattle.clap.specs.Lexer.{long_of, short_of}
-use Rattle.clap.specs.Words.{App, Kinds, Row, Rule, Shape, Text, built, fault_of, is_simple, is_simple_and_free, new_app, new_rule, subcommand_of, with_subcommand}
+use Rattle.clap.specs.Words.{App, Kinds, Row, Rule, Shape, Text, built, fault_of, is_simple, is_simple_and_free}
+use Rattle.clap.specs.Words.{new_app, new_rule, subcommand_of, with_subcommand}
 use Rattle.clap.specs.Kinds.{or_else}
 use Rattle.clap.specs.Simple.{argument_words, entered, label_of, names_of, rows_at}
 use Rattle.clap.specs.Takes.{is_given}
-use Rattle.clap.specs.Faults.{entered_fault, level_fault, other_fault, settle_fault, defaults_fault, step_fault, turn_fault, walk_fault, word_fault}
+use Rattle.clap.specs.Faults.{entered_fault, level_fault, other_fault, settle_fault, defaults_fault, step_fault}
+use Rattle.clap.specs.Faults.{turn_fault, walk_fault, word_fault}
 use Rattle.clap.specs.declared.error.ErrorKind.{ErrorKind}
 use Rattle.clap.specs.declared.error.ErrorKind.TheVariants.{DisplayHelp, InvalidSubcommand, MissingRequiredArgument}
-use Rattle.clap.specs.Walk.{Held, Names, Outcome, Step, Waiting, Walk, after_flag, after_step, answers_to, arg_by_index, bundle, has_long, has_short, settled, long_met, arg_by_long, long_or_other, nothing_held, plain_word, short_or_plain, subcommand_met, subcommand_or_other, to_positional, walk, walk_from, walked, walked_from, word_met}
+use Rattle.clap.specs.Walk.{Held, Names, Outcome, Step, Waiting, Walk, after_flag, after_step, answers_to, arg_by_index}
+use Rattle.clap.specs.Walk.{bundle, has_long, has_short, settled, long_met, arg_by_long, long_or_other, nothing_held}
+use Rattle.clap.specs.Walk.{plain_word, short_or_plain, subcommand_met, subcommand_or_other, to_positional, walk}
+use Rattle.clap.specs.Walk.{walk_from, walked, walked_from, word_met}
 use Rattle.clap.specs.Walk.{done, waits, plain, refused, idle, option, positional, next, trailing, subcommand, value}
 use Rattle.clap.proofs.OnLiterals.{clap_on_literals}
 use Rattle.reset_service.specs.Words.{HasJob, HasTexts, faults_of, program, tables_command, texts_command}
@@ -38,22 +44,27 @@ StepsToNoHelp (next waiting) = ⊤
 StepsToNoHelp (trailing position) = ⊤
 StepsToNoHelp value = ⊤
 
-plain_word-step : (c : List Rule) (waiting : Waiting) (word : Text) (h : Held) → StepsToNoHelp (plain_word c waiting word h).1
+plain_word-step : (c : List Rule) (waiting : Waiting) (word : Text) (h : Held)
+    → StepsToNoHelp (plain_word c waiting word h).1
 plain_word-step c idle word h = tt
 plain_word-step c (option id) word h = tt
 plain_word-step c positional word h = tt
 
-after_flag-step : (c : List Rule) (waiting : Waiting) (word : Text) (h : Held) (o : Outcome) → StepsToNoHelp (after_flag c waiting word h o).1
+after_flag-step : (c : List Rule) (waiting : Waiting) (word : Text) (h : Held) (o : Outcome)
+    → StepsToNoHelp (after_flag c waiting word h o).1
 after_flag-step c waiting word h done = tt
 after_flag-step c waiting word h (waits id) = tt
 after_flag-step c waiting word h plain = plain_word-step c waiting word h
 after_flag-step c waiting word h refused = plain_word-step c waiting word h
 
-short_or_plain-step : (c : List Rule) (waiting : Waiting) (word : Text) (o : Option Text) (h : Held) → StepsToNoHelp (short_or_plain c waiting word o h).1
+short_or_plain-step : (c : List Rule) (waiting : Waiting) (word : Text) (o : Option Text) (h : Held)
+    → StepsToNoHelp (short_or_plain c waiting word o h).1
 short_or_plain-step c waiting word None h = plain_word-step c waiting word h
-short_or_plain-step c waiting word (Some flags) h = after_flag-step c waiting word (bundle c flags h).0 (bundle c flags h).1
+short_or_plain-step c waiting word (Some flags) h =
+    after_flag-step c waiting word (bundle c flags h).0 (bundle c flags h).1
 
-long_or_other-step : (c : List Rule) (waiting : Waiting) (word : Text) (o : Option (Text × Option Text)) (h : Held) → StepsToNoHelp (long_or_other c waiting word o h).1
+long_or_other-step : (c : List Rule) (waiting : Waiting) (word : Text) (o : Option (Text × Option Text)) (h : Held)
+    → StepsToNoHelp (long_or_other c waiting word o h).1
 long_or_other-step c waiting word None h = short_or_plain-step c waiting word (short_of word) h
 long_or_other-step c waiting word (Some p) h =
     after_flag-step c waiting word (long_met c (arg_by_long c p.0) p.1 h).0 (long_met c (arg_by_long c p.0) p.1 h).1
@@ -65,7 +76,8 @@ plain_fault s names w word =
     or_else (word_fault s names w.is_trailing w.waiting word w.held) (step_fault s w.position met.0 met.1)
 
 module _ (s : Shape) (has_help : s.disable_help_subcommand ≡ false) where
-  subcommand_or_other-step : (o : Option Text) (waiting : Waiting) (position : ℕ) (word : Text) (h : Held) → other_fault s o word h ≡ []
+  subcommand_or_other-step : (o : Option Text) (waiting : Waiting) (position : ℕ) (word : Text) (h : Held)
+      → other_fault s o word h ≡ []
       → StepsToNoHelp (subcommand_or_other s.rules o waiting position word h).1
   subcommand_or_other-step (Some name) waiting position word h e = go (bytes_eq name (codes "help")) (rw has_help at e)
     where
@@ -74,33 +86,41 @@ module _ (s : Shape) (has_help : s.disable_help_subcommand ≡ false) where
       go false e = refl
   subcommand_or_other-step None waiting position word h e = go (bytes_eq word (45 ∷ 45 ∷ []))
     where
-      go : (b : Bool) → StepsToNoHelp (cond b (h, trailing position) (long_or_other s.rules waiting word (long_of word) h)).1
+      go : (b : Bool)
+          → StepsToNoHelp (cond b (h, trailing position) (long_or_other s.rules waiting word (long_of word) h)).1
       go true = tt
       go false = long_or_other-step s.rules waiting word (long_of word) h
 
   word_met-step : (names : Names) (is_trailing : Bool) (waiting : Waiting) (position : ℕ) (word : Text) (h : Held)
-      → word_fault s names is_trailing waiting word h ≡ [] → StepsToNoHelp (word_met s.rules names is_trailing waiting position word h).1
+      → word_fault s names is_trailing waiting word h ≡ []
+          → StepsToNoHelp (word_met s.rules names is_trailing waiting position word h).1
   word_met-step names true waiting position word h e = tt
-  word_met-step names false waiting position word h e = subcommand_or_other-step (subcommand_met names waiting word) waiting position word h e
+  word_met-step names false waiting position word h e =
+      subcommand_or_other-step (subcommand_met names waiting word) waiting position word h e
 
-  to_positional-stop : (found : Option Rule) (word : Text) (w : Walk) (h : Held) → IsNoHelp w.stopped → IsNoHelp (to_positional s.rules found word w h).stopped
+  to_positional-stop : (found : Option Rule) (word : Text) (w : Walk) (h : Held) → IsNoHelp w.stopped
+      → IsNoHelp (to_positional s.rules found word w h).stopped
   to_positional-stop None word w h n = n
   to_positional-stop (Some a) word w h n = tt
 
-  after_step-stop : (word : Text) (w : Walk) (h : Held) (step : Step) → StepsToNoHelp step → IsNoHelp w.stopped → IsNoHelp (after_step s.rules word w h step).stopped
+  after_step-stop : (word : Text) (w : Walk) (h : Held) (step : Step) → StepsToNoHelp step → IsNoHelp w.stopped
+      → IsNoHelp (after_step s.rules word w h step).stopped
   after_step-stop word w h (next waiting) ok n = n
   after_step-stop word w h (trailing position) ok n = n
   after_step-stop word w h (subcommand name) ok n = ok
   after_step-stop word w h value ok n = to_positional-stop (arg_by_index s.rules w.position) word w h n
 
-  walked_from-stop : (names : Names) (stop : Option (Text × List Text)) (w : Walk) (word : Text) → cond (is_some stop) [] (plain_fault s names w word) ≡ []
+  walked_from-stop : (names : Names) (stop : Option (Text × List Text)) (w : Walk) (word : Text)
+      → cond (is_some stop) [] (plain_fault s names w word) ≡ []
       → IsNoHelp stop → IsNoHelp w.stopped → IsNoHelp (walked_from s.rules names stop w word).stopped
   walked_from-stop names (Some p) w word e m n = m
   walked_from-stop names None w word e m n =
       let met = word_met s.rules names w.is_trailing w.waiting w.position word w.held in
-      after_step-stop word w met.0 met.1 (word_met-step names w.is_trailing w.waiting w.position word w.held (or_else-nil _ _ e).0) n
+      after_step-stop word w met.0 met.1
+          (word_met-step names w.is_trailing w.waiting w.position word w.held (or_else-nil _ _ e).0) n
 
-  walked-stop : (names : Names) (w : Walk) (word : Text) → turn_fault s names w word ≡ [] → IsNoHelp w.stopped → IsNoHelp (walked s.rules names w word).stopped
+  walked-stop : (names : Names) (w : Walk) (word : Text) → turn_fault s names w word ≡ [] → IsNoHelp w.stopped
+      → IsNoHelp (walked s.rules names w word).stopped
   unfolding walked
   walked-stop names w word e n = walked_from-stop names w.stopped w word e n n
 
@@ -117,7 +137,8 @@ module _ (s : Shape) (has_help : s.disable_help_subcommand ≡ false) where
 -- a subcommand with two paths, as it is built
 abbrev the_texts : Text → Text → Shape
 the_texts name input =
-    slice_index_or (built (with_subcommand (new_app (codes "reset-service")) (texts_command name input).top)).subs 0 (texts_command name input).top
+    slice_index_or (built (with_subcommand (new_app (codes "reset-service")) (texts_command name input).top)).subs 0
+        (texts_command name input).top
 
 abbrev the_tables : Shape
 the_tables = slice_index_or (built program).subs 3 tables_command.top
@@ -154,17 +175,23 @@ abbrev TakesTexts : Text → Text → List Text → Type 0
 TakesTexts name input words = level_fault (the_texts name input) [] nothing_held words false [] ≡ []
 
 paths_given : (name input : Text) (words : List Text) → TakesTexts name input words
-    → (is_given (codes "TOPOLOGY") (rows_of_texts name input words) ≡ true) × (is_given input (rows_of_texts name input words) ≡ true)
+    → (is_given (codes "TOPOLOGY") (rows_of_texts name input words) ≡ true)
+        × (is_given input (rows_of_texts name input words) ≡ true)
 unfolding texts_command
 paths_given name input words e =
     let s = the_texts name input in
     let walked_well = or_else-nil (walk_fault s [] (walk_from nothing_held) words) _ e in
-    let settled_well = or_else-nil (settle_fault s.rules false (walk s.rules [] nothing_held words).held) _ walked_well.1 in
-    let filled_well = or_else-nil (defaults_fault (settled s.rules (walk s.rules [] nothing_held words).held).rows s.rules) _ settled_well.1 in
-    both_given (is_given (codes "TOPOLOGY") (rows_of_texts name input words)) (is_given input (rows_of_texts name input words)) MissingRequiredArgument filled_well.1
+    let settled_well =
+        or_else-nil (settle_fault s.rules false (walk s.rules [] nothing_held words).held) _ walked_well.1 in
+    let filled_well =
+        or_else-nil (defaults_fault (settled s.rules (walk s.rules [] nothing_held words).held).rows s.rules) _
+        settled_well.1 in
+    both_given (is_given (codes "TOPOLOGY") (rows_of_texts name input words))
+        (is_given input (rows_of_texts name input words)) MissingRequiredArgument filled_well.1
 
 -- where clap finds no fault in them, they have a value for each path
-has_texts : (name input : Text) (words : List Text) → TakesTexts name input words → HasTexts input (rows_of_texts name input words)
+has_texts : (name input : Text) (words : List Text) → TakesTexts name input words
+    → HasTexts input (rows_of_texts name input words)
 has_texts name input words e =
     let s = the_texts name input in
     let filled = Filled-finished s.rules (walk s.rules [] nothing_held words).held
@@ -176,7 +203,9 @@ has_texts name input words e =
 
 -- `==` of texts reads both ways
 bytes_eq-swap : (xs ys : List ℕ) → bytes_eq xs ys ≡ false → (bytes_eq ys xs || false) ≡ true → ⊥
-bytes_eq-swap xs ys differs same = true≢false (sym ((bytes_eq-Decides xs ys).1 (sym ((bytes_eq-Decides ys xs).0 (go (bytes_eq ys xs) same)))) ∙ differs)
+bytes_eq-swap xs ys differs same =
+    true≢false
+    (sym ((bytes_eq-Decides xs ys).1 (sym ((bytes_eq-Decides ys xs).0 (go (bytes_eq ys xs) same)))) ∙ differs)
   where
     go : (b : Bool) → (b || false) ≡ true → b ≡ true
     go true e = refl
@@ -194,12 +223,14 @@ the_verify = the_texts (codes "verify") (codes "HISTORY")
 -- the subcommand whose name is the word: `replay`, `check`, `verify`, `tables` or `help`
 abbrev sub_met : Bool → Bool → Bool → Bool → Bool → Option Shape
 sub_met r c v t h =
-    cond r (Some the_replay) (cond c (Some the_check) (cond v (Some the_verify) (cond t (Some the_tables) (cond h (Some the_help) None))))
+    cond r (Some the_replay)
+        (cond c (Some the_check) (cond v (Some the_verify) (cond t (Some the_tables) (cond h (Some the_help) None))))
 
 abbrev fault_at : List Text → Option Shape → Kinds
 fault_at words sub = option_map_or (λ s. level_fault s [] nothing_held words false []) sub []
 
-job_of_sub : (p : Text × List Text) → bytes_eq p.0 (codes "help") ≡ false → (r c v t h : Bool) → answers_to p.0 (label_of the_help) ≡ h
+job_of_sub : (p : Text × List Text) → bytes_eq p.0 (codes "help") ≡ false → (r c v t h : Bool)
+    → answers_to p.0 (label_of the_help) ≡ h
     → fault_at p.1 (sub_met r c v t h) ≡ [] → HasJob (option_map (λ s. rows_at s p.1) (sub_met r c v t h))
 unfolding program texts_command tables_command
 job_of_sub p no_help true c v t h a f = inl (inl refl, has_texts (codes "replay") (codes "SCRIPT") p.1 f)
@@ -209,11 +240,13 @@ job_of_sub p no_help false false false true h a f = inr (inr refl)
 job_of_sub p no_help false false false false true a f = absurd (bytes_eq-swap p.0 (codes "help") no_help a)
 job_of_sub p no_help false false false false false a f = tt
 
-job_at : (stop : Option (Text × List Text)) → IsNoHelp stop → entered_fault (built program) stop ≡ [] → HasJob (entered (built program) stop)
+job_at : (stop : Option (Text × List Text)) → IsNoHelp stop → entered_fault (built program) stop ≡ []
+    → HasJob (entered (built program) stop)
 unfolding program texts_command tables_command
 job_at None no_help e = tt
 job_at (Some p) no_help e =
-    job_of_sub p no_help (answers_to p.0 (label_of the_replay)) (answers_to p.0 (label_of the_check)) (answers_to p.0 (label_of the_verify))
+    job_of_sub p no_help (answers_to p.0 (label_of the_replay)) (answers_to p.0 (label_of the_check))
+        (answers_to p.0 (label_of the_verify))
     (answers_to p.0 (label_of the_tables)) (answers_to p.0 (label_of the_help)) refl e
 
 -- words in which clap finds no fault ask for a job
@@ -222,10 +255,14 @@ unfolding program texts_command tables_command
 has_job words e =
     let a : App = built program in
     let given : List Text = argument_words program words in
-    let stop : Option (Text × List Text) = (walk (built program).top.rules (names_of (built program)) nothing_held given).stopped in
-    let walked_well = or_else-nil (walk_fault (built program).top (names_of (built program)) (walk_from nothing_held) given) _ e in
+    let stop : Option (Text × List Text) =
+        (walk (built program).top.rules (names_of (built program)) nothing_held given).stopped in
+    let walked_well =
+        or_else-nil (walk_fault (built program).top (names_of (built program)) (walk_from nothing_held) given) _ e in
     let entered_well = or_else-nil (entered_fault (built program) stop) _ walked_well.1 in
-    job_at stop (walk-stop (built program).top refl (names_of (built program)) (walk_from nothing_held) given walked_well.0 tt) entered_well.0
+    job_at stop
+        (walk-stop (built program).top refl (names_of (built program)) (walk_from nothing_held) given walked_well.0 tt)
+        entered_well.0
 
 -- ---- the answer of clap for a command that is the program
 
@@ -237,9 +274,13 @@ program_is_free : is_simple_and_free program ≡ true
 unfolding program texts_command tables_command clap_on_literals
 program_is_free = refl
 
-pub faults_are : (a : App) (words : List Text) (P : Kinds → Type 0) → a ≡ program → (is_simple_and_free a ≡ true → P (fault_of a words)) → P (faults_of words)
-faults_are a words P is kinds = subst P (ap (λ (x : App). fault_of x words) is) (kinds (ap is_simple_and_free is ∙ program_is_free))
+pub faults_are : (a : App) (words : List Text) (P : Kinds → Type 0) → a ≡ program
+    → (is_simple_and_free a ≡ true → P (fault_of a words)) → P (faults_of words)
+faults_are a words P is kinds =
+    subst P (ap (λ (x : App). fault_of x words) is) (kinds (ap is_simple_and_free is ∙ program_is_free))
 
-pub found_is : (a : App) (words : List Text) (P : Type 0) (found : Option (Text × List Row)) → a ≡ program → (is_simple a ≡ true → P × (found ≡ subcommand_of a words))
+pub found_is : (a : App) (words : List Text) (P : Type 0) (found : Option (Text × List Row)) → a ≡ program
+    → (is_simple a ≡ true → P × (found ≡ subcommand_of a words))
     → found ≡ subcommand_of program words
-found_is a words P found is matches = (matches (ap is_simple is ∙ program_is_simple)).1 ∙ ap (λ (x : App). subcommand_of x words) is
+found_is a words P found is matches =
+    (matches (ap is_simple is ∙ program_is_simple)).1 ∙ ap (λ (x : App). subcommand_of x words) is

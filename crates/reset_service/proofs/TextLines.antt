@@ -1,12 +1,15 @@
 -- The lines of a text that is cut at its first line feed.
-use Rattle.std.proofs.Common.{◌≡◌, ◌≢◌, append-nil, ℕ, ◌+◌, ◌-◌, ◌<◌, ◌≤◌, Bool, true, false, List, [], ◌∷◌, ◌++◌, refl, sym, ap, ◌∙◌, subst, append_assoc, arith, length, take, drop, Option, None, Some, cond, ltb}
+use Rattle.std.proofs.Common.{◌≡◌, ◌≢◌, append-nil, ℕ, ◌+◌, ◌-◌, ◌<◌, ◌≤◌, Bool, true, false, List, [], ◌∷◌, ◌++◌, refl}
+use Rattle.std.proofs.Common.{sym, ap, ◌∙◌, subst, append_assoc, arith, length, take, drop, Option, None, Some, cond}
+use Rattle.std.proofs.Common.{ltb}
 use Rattle.std.specs.List.{position, position_or_len, join_with_byte, flat_map}
 use Rattle.std.proofs.Math.Seq.{take-append_seam}
 use Rattle.std.proofs.lemmas.Bool.Decides.{nat_tests}
 use Rattle.std.proofs.lemmas.Grind.{flat_map-append}
 use Rattle.std.proofs.lemmas.List.{length-append}
 use Rattle.std.proofs.lemmas.List.Elements.{All-append, All-cons, All-nil}
-use Rattle.std.proofs.lemmas.List.Splits.{slice_split_none, slice_split_first, length-slice_split, join_with_byte-slice_split}
+use Rattle.std.proofs.lemmas.List.Splits.{slice_split_none, slice_split_first, length-slice_split}
+use Rattle.std.proofs.lemmas.List.Splits.{join_with_byte-slice_split}
 use Rattle.std.proofs.lemmas.List.Sums.{fails_before_first, position_or_len_is}
 use Rattle.memchr.specs.Find.{is_byte, IsFirstByte}
 use Rattle.reset_service.specs.Lines.{is_line_feed, lines_of, ended, separator, HasNoSeparator}
@@ -28,27 +31,37 @@ not_true false h = refl
 -- the first place of a line feed is where a search for the byte finds one
 pub first_place : (text : List ℕ) (r : Option ℕ) → IsFirstByte (is_byte 10) text r → r ≡ position is_line_feed text
 first_place text None none =
-    let end = position_or_len_is is_line_feed text (length text) 0 (omega arith) (λ k below. not_true _ (none k (omega arith) below)) (λ h. absurd (omega (arith, h))) in
+    let end =
+        position_or_len_is is_line_feed text (length text) 0 (omega arith)
+        (λ k below. not_true _ (none k (omega arith) below)) (λ h. absurd (omega (arith, h))) in
     rw end (grind (arith, nat_tests))
 first_place text (Some k) (first, here) =
-    let place = position_or_len_is is_line_feed text k 0 (omega (arith, first.high)) (λ j below. not_true _ (first.before j (omega arith) below)) (λ _. here) in
+    let place =
+        position_or_len_is is_line_feed text k 0 (omega (arith, first.high))
+        (λ j below. not_true _ (first.before j (omega arith) below)) (λ _. here) in
     let inside : ltb k (length text) ≡ true = let high = first.high in grind (arith, nat_tests) in
     sym (rw (place, inside) refl)
 
 no_line_feed : (text : List ℕ) → length text ≤ position_or_len is_line_feed text → lines_of text ≡ text ∷ []
-no_line_feed text h = slice_split_none is_line_feed text (λ k d inside. fails_before_first is_line_feed text k d (omega arith))
+no_line_feed text h =
+    slice_split_none is_line_feed text (λ k d inside. fails_before_first is_line_feed text k d (omega arith))
 
 pub uncut : (text : List ℕ) → position is_line_feed text ≡ None → lines_of text ≡ text ∷ []
 uncut text h =
     let past = none_at (ltb (position_or_len is_line_feed text) (length text)) (position_or_len is_line_feed text) h in
     no_line_feed text (grind (arith, nat_tests))
 
-cut_at : (text : List ℕ) (i : ℕ) → position_or_len is_line_feed text ≡ i → i < length text → lines_of text ≡ take i text ∷ lines_of (drop (i + 1) text)
-cut_at text i e inside = subst (λ k. lines_of text ≡ take k text ∷ lines_of (drop (k + 1) text)) e (slice_split_first is_line_feed text 0 (omega arith))
+cut_at : (text : List ℕ) (i : ℕ) → position_or_len is_line_feed text ≡ i → i < length text
+    → lines_of text ≡ take i text ∷ lines_of (drop (i + 1) text)
+cut_at text i e inside =
+    subst (λ k. lines_of text ≡ take k text ∷ lines_of (drop (k + 1) text)) e
+    (slice_split_first is_line_feed text 0 (omega arith))
 
-pub cut : (text : List ℕ) (i : ℕ) → position is_line_feed text ≡ Some i → lines_of text ≡ take i text ∷ lines_of (drop (i + 1) text)
+pub cut : (text : List ℕ) (i : ℕ) → position is_line_feed text ≡ Some i
+    → lines_of text ≡ take i text ∷ lines_of (drop (i + 1) text)
 cut text i h =
-    let place = some_at (ltb (position_or_len is_line_feed text) (length text)) (position_or_len is_line_feed text) i h in
+    let place =
+        some_at (ltb (position_or_len is_line_feed text) (length text)) (position_or_len is_line_feed text) i h in
     cut_at text i place.1 (grind (arith, nat_tests))
 
 -- ---- a text is its lines, joined by line feeds
@@ -56,27 +69,34 @@ cut text i h =
 pub joined_lines : (text : List ℕ) → join_with_byte 10 (lines_of text) ≡ text
 joined_lines text = join_with_byte-slice_split 10 text
 
-join_more : (line : List ℕ) (lines : List (List ℕ)) → 0 < length lines → join_with_byte 10 (line ∷ lines) ≡ line ++ (10 ∷ join_with_byte 10 lines)
+join_more : (line : List ℕ) (lines : List (List ℕ)) → 0 < length lines
+    → join_with_byte 10 (line ∷ lines) ≡ line ++ (10 ∷ join_with_byte 10 lines)
 join_more line [] h = absurd (omega arith)
 join_more line (l ∷ ls) h = refl
 
 -- the first line with its line feed, and the rest
 pub first_line : (text line rest : List ℕ) → lines_of text ≡ line ∷ lines_of rest → text ≡ ended line ++ rest
 first_line text line rest h =
-    sym (joined_lines text) ∙ ap (join_with_byte 10) h ∙ join_more line (lines_of rest) (omega (arith, length-slice_split is_line_feed rest))
+    sym (joined_lines text) ∙ ap (join_with_byte 10) h
+        ∙ join_more line (lines_of rest) (omega (arith, length-slice_split is_line_feed rest))
     ∙ ap (λ l. line ++ (10 ∷ l)) (joined_lines rest) ∙ sym (append_assoc line (10 ∷ []) rest)
 
 -- ---- the lines that were passed, and those that are left
 
-pub passed_lines : (all rest after line : List ℕ) (front : List (List ℕ)) → lines_of all ≡ front ++ lines_of rest → lines_of rest ≡ line ∷ lines_of after
+pub passed_lines : (all rest after line : List ℕ) (front : List (List ℕ)) → lines_of all ≡ front ++ lines_of rest
+    → lines_of rest ≡ line ∷ lines_of after
     → lines_of all ≡ (front ++ (line ∷ [])) ++ lines_of after
-passed_lines all rest after line front p q = p ∙ ap (λ ls. front ++ ls) q ∙ sym (append_assoc front (line ∷ []) (lines_of after))
+passed_lines all rest after line front p q =
+    p ∙ ap (λ ls. front ++ ls) q ∙ sym (append_assoc front (line ∷ []) (lines_of after))
 
-pub passed_text : (all rest after line : List ℕ) (front : List (List ℕ)) → all ≡ flat_map ended front ++ rest → lines_of rest ≡ line ∷ lines_of after
+pub passed_text : (all rest after line : List ℕ) (front : List (List ℕ)) → all ≡ flat_map ended front ++ rest
+    → lines_of rest ≡ line ∷ lines_of after
     → all ≡ flat_map ended (front ++ (line ∷ [])) ++ after
 passed_text all rest after line front p q =
-    p ∙ ap (λ l. flat_map ended front ++ l) (first_line rest line after q) ∙ sym (append_assoc (flat_map ended front) (ended line) after)
-    ∙ ap (λ l. l ++ after) (sym (flat_map-append ended front (line ∷ []) ∙ ap (λ l. flat_map ended front ++ l) (append-nil (ended line))))
+    p ∙ ap (λ l. flat_map ended front ++ l) (first_line rest line after q)
+        ∙ sym (append_assoc (flat_map ended front) (ended line) after)
+    ∙ ap (λ l. l ++ after)
+        (sym (flat_map-append ended front (line ∷ []) ∙ ap (λ l. flat_map ended front ++ l) (append-nil (ended line))))
 
 pub text_before : (all front rest : List ℕ) → all ≡ front ++ rest → take (length all - length rest) all ≡ front
 text_before all front rest h =
@@ -85,5 +105,8 @@ text_before all front rest h =
 
 -- ---- separators
 
-pub no_separator_more : (front : List (List ℕ)) (line : List ℕ) → HasNoSeparator front → line ≢ separator → HasNoSeparator (front ++ (line ∷ []))
-no_separator_more front line h here = All-append (λ l. l ≢ separator) front (line ∷ []) h (All-cons (λ l. l ≢ separator) line [] here (All-nil (λ l. l ≢ separator)))
+pub no_separator_more : (front : List (List ℕ)) (line : List ℕ) → HasNoSeparator front → line ≢ separator
+    → HasNoSeparator (front ++ (line ∷ []))
+no_separator_more front line h here =
+    All-append (λ l. l ≢ separator) front (line ∷ []) h
+    (All-cons (λ l. l ≢ separator) line [] here (All-nil (λ l. l ≢ separator)))

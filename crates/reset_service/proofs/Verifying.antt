@@ -1,5 +1,6 @@
 -- What a verification leaves, and that it writes one thing.
-use Rattle.std.proofs.Common.{◌≡◌, ◌≢◌, ◌+◌, ℕ, suc, List, [], ◌∷◌, ◌++◌, Option, Some, None, Result, Ok, Err, IfSome, IsSome, length, refl, sym, ap, ◌∙◌, subst, inl}
+use Rattle.std.proofs.Common.{◌≡◌, ◌≢◌, ◌+◌, ℕ, suc, List, [], ◌∷◌, ◌++◌, Option, Some, None, Result, Ok, Err, IfSome}
+use Rattle.std.proofs.Common.{IsSome, length, refl, sym, ap, ◌∙◌, subst, inl}
 use Rattle.std.specs.Option.{option_and_then}
 use Rattle.std.proofs.KnownBytes.{Keeps-refl}
 use Rattle.topology.specs.Graph.{Graph}
@@ -14,7 +15,8 @@ use Rattle.history.specs.declared.entry.Entry.{Entry}
 use Rattle.history.specs.declared.text.BookFault.{BookFault}
 use Rattle.reset_service.specs.Meaning.{Meaning, idle_meaning, token_meaning, mutex_meaning, routes_meaning}
 use Rattle.reset_service.specs.Output.{Leaves}
-use Rattle.reset_service.specs.Verified.{IsAnswered, IsVerification, IsVerified, IsVerifiedFrom, IsVerifiedOf, bad_history_text, not_enabled_text}
+use Rattle.reset_service.specs.Verified.{IsAnswered, IsVerification, IsVerified, IsVerifiedFrom, IsVerifiedOf}
+use Rattle.reset_service.specs.Verified.{bad_history_text, not_enabled_text}
 use Rattle.reset_service.specs.Verified.IsAnswered.{not_enabled, allowed}
 use Rattle.reset_service.specs.Verified.IsVerified.{bad_history, is_history}
 use Rattle.reset_service.specs.declared.status.Status.{Status}
@@ -30,7 +32,8 @@ Output = List ℕ × Status
 -- ---- what is left, of the text of a reader that tells its bytes
 
 -- said of another output
-pub known_weaker : (known : Option (List ℕ)) (O P : List ℕ → Output → Type 0) (old new : Option (List ℕ)) (r : Result Status RunStop)
+pub known_weaker : (known : Option (List ℕ)) (O P : List ℕ → Output → Type 0) (old new : Option (List ℕ))
+    (r : Result Status RunStop)
     → ((text : List ℕ) (o : Output) → O text o → P text o) → IfSome known (λ text. Leaves (O text) old new r)
     → IfSome known (λ text. Leaves (P text) old new r)
 known_weaker None O P old new r f left = tt
@@ -44,13 +47,16 @@ known_leaves None Is O P old new r f is left = tt
 known_leaves (Some text) Is O P old new r f is left = leaves_weaker O (P text) old new r (λ o. f text o is) left
 
 -- whatever the text
-pub known_anyway : (known : Option (List ℕ)) (O : Output → Type 0) (P : List ℕ → Output → Type 0) (old new : Option (List ℕ)) (r : Result Status RunStop)
-    → ((text : List ℕ) (o : Output) → O o → P text o) → Leaves O old new r → IfSome known (λ text. Leaves (P text) old new r)
+pub known_anyway : (known : Option (List ℕ)) (O : Output → Type 0) (P : List ℕ → Output → Type 0)
+    (old new : Option (List ℕ)) (r : Result Status RunStop)
+    → ((text : List ℕ) (o : Output) → O o → P text o) → Leaves O old new r
+        → IfSome known (λ text. Leaves (P text) old new r)
 known_anyway None O P old new r f left = tt
 known_anyway (Some text) O P old new r f left = leaves_weaker O (P text) old new r (f text) left
 
 -- before anything was written
-pub known_unread : (known : Option (List ℕ)) (P : List ℕ → Output → Type 0) (a : Option (List ℕ)) (s : RunStop) → s ≢ WriteFailed
+pub known_unread : (known : Option (List ℕ)) (P : List ℕ → Output → Type 0) (a : Option (List ℕ)) (s : RunStop)
+    → s ≢ WriteFailed
     → IfSome known (λ text. Leaves (P text) a a (Err s))
 known_unread None P a s other = tt
 known_unread (Some text) P a ReadFailed other = Keeps-refl a
@@ -70,21 +76,25 @@ is_some_of (Some b) a is = refl
 
 module _ {L : Type 0} (app : App L) (from_text : List ℕ → Option L) where
   -- no first entry is both refused and allowed
-  first_allowed : (c : Configuration L) (e : Entry) (es : List Entry) → entered app from_text c e ≡ None → IsSome (replayed app from_text c (e ∷ es)) → ⊥
+  first_allowed : (c : Configuration L) (e : Entry) (es : List Entry) → entered app from_text c e ≡ None
+      → IsSome (replayed app from_text c (e ∷ es)) → ⊥
   unfolding replayed
   first_allowed c e es = chain_fails (λ after. replayed app from_text after es) (entered app from_text c e)
 
-  here : (c left : Configuration L) (e : Entry) → replayed app from_text c [] ≡ Some left → entered app from_text left e ≡ None → entered app from_text c e ≡ None
+  here : (c left : Configuration L) (e : Entry) → replayed app from_text c [] ≡ Some left
+      → entered app from_text left e ≡ None → entered app from_text c e ≡ None
   unfolding replayed
   here c left e h none = let same : c ≡ left = cc in rw same none
 
   -- what is replayed after the first entry
-  after_first : (c left : Configuration L) (x : Entry) (es : List Entry) (Q : Type 0) → replayed app from_text c (x ∷ es) ≡ Some left
+  after_first : (c left : Configuration L) (x : Entry) (es : List Entry) (Q : Type 0)
+      → replayed app from_text c (x ∷ es) ≡ Some left
       → ((a : Configuration L) → entered app from_text c x ≡ Some a → replayed app from_text a es ≡ Some left → Q) → Q
   unfolding replayed
   after_first c left x es Q h go = at_first (entered app from_text c x) refl h
     where
-      at_first : (o : Option (Configuration L)) → entered app from_text c x ≡ o → option_and_then (λ after. replayed app from_text after es) o ≡ Some left → Q
+      at_first : (o : Option (Configuration L)) → entered app from_text c x ≡ o
+          → option_and_then (λ after. replayed app from_text after es) o ≡ Some left → Q
       at_first None is h = absurd (cc)
       at_first (Some a) is h = go a is h
 
@@ -94,7 +104,8 @@ module _ {L : Type 0} (app : App L) (from_text : List ℕ → Option L) where
   replayed_first c a x es is = rw is refl
 
   -- entries before one that isn't allowed, and that one, aren't allowed
-  refused_or_allowed : (c left : Configuration L) (before rest : List Entry) (e : Entry) → replayed app from_text c before ≡ Some left
+  refused_or_allowed : (c left : Configuration L) (before rest : List Entry) (e : Entry)
+      → replayed app from_text c before ≡ Some left
       → entered app from_text left e ≡ None → IsSome (replayed app from_text c (before ++ e ∷ rest)) → ⊥
   refused_or_allowed c left [] rest e h none some = first_allowed c e rest (here c left e h none) some
   refused_or_allowed c left (x ∷ before) rest e h none some =
@@ -102,71 +113,91 @@ module _ {L : Type 0} (app : App L) (from_text : List ℕ → Option L) where
       (subst IsSome (replayed_first c a x (before ++ e ∷ rest) is) some))
 
   -- the first entry that isn't allowed has one place
-  refused_once : (c left left' : Configuration L) (before before' rest rest' : List Entry) (e e' : Entry) → before ++ e ∷ rest ≡ before' ++ e' ∷ rest'
+  refused_once : (c left left' : Configuration L) (before before' rest rest' : List Entry) (e e' : Entry)
+      → before ++ e ∷ rest ≡ before' ++ e' ∷ rest'
       → replayed app from_text c before ≡ Some left → entered app from_text left e ≡ None
-      → replayed app from_text c before' ≡ Some left' → entered app from_text left' e' ≡ None → length before ≡ length before'
+      → replayed app from_text c before' ≡ Some left' → entered app from_text left' e' ≡ None
+          → length before ≡ length before'
   refused_once c left left' [] [] rest rest' e e' is h none h' none' = refl
   refused_once c left left' [] (x ∷ before') rest rest' e e' is h none h' none' =
       let same : e ∷ rest ≡ x ∷ before' ++ e' ∷ rest' = is in
       let first : e ≡ x = cc in
-      absurd (first_allowed c x before' (subst (λ y. entered app from_text c y ≡ None) first (here c left e h none)) (is_some_of _ left' h'))
+      absurd (first_allowed c x before' (subst (λ y. entered app from_text c y ≡ None) first (here c left e h none))
+          (is_some_of _ left' h'))
   refused_once c left left' (x ∷ before) [] rest rest' e e' is h none h' none' =
       let same : x ∷ before ++ e ∷ rest ≡ e' ∷ rest' = is in
       let first : e' ≡ x = cc in
-      absurd (first_allowed c x before (subst (λ y. entered app from_text c y ≡ None) first (here c left' e' h' none')) (is_some_of _ left h))
+      absurd (first_allowed c x before (subst (λ y. entered app from_text c y ≡ None) first (here c left' e' h' none'))
+          (is_some_of _ left h))
   refused_once c left left' (x ∷ before) (y ∷ before') rest rest' e e' is h none h' none' =
       let same : x ∷ before ++ e ∷ rest ≡ y ∷ before' ++ e' ∷ rest' = is in
       let first : y ≡ x = cc in
       let more : before ++ e ∷ rest ≡ before' ++ e' ∷ rest' = cc in
-      let there : replayed app from_text c (x ∷ before') ≡ Some left' = subst (λ z. replayed app from_text c (z ∷ before') ≡ Some left') first h' in
+      let there : replayed app from_text c (x ∷ before') ≡ Some left' =
+          subst (λ z. replayed app from_text c (z ∷ before') ≡ Some left') first h' in
       after_first c left x before (suc (length before) ≡ suc (length before')) h (λ a at further.
-      ap suc (refused_once a left left' before before' rest rest' e e' more further none (sym (replayed_first c a x before' at) ∙ there) none'))
+      ap suc (refused_once a left left' before before' rest rest' e e' more further none
+          (sym (replayed_first c a x before' at) ∙ there) none'))
 
-  one_refused : (c : Configuration L) (es : List Entry) (p q : ℕ) → IsFirstRefused app from_text c es p → IsFirstRefused app from_text c es q → p ≡ q
+  one_refused : (c : Configuration L) (es : List Entry) (p q : ℕ) → IsFirstRefused app from_text c es p
+      → IsFirstRefused app from_text c es q → p ≡ q
   one_refused c es p q a b =
-      a.place ∙ ap (λ n. n + 1) (refused_once c a.left b.left a.before b.before a.rest b.rest a.entry b.entry (sym a.split ∙ b.split)
+      a.place ∙ ap (λ n. n + 1)
+          (refused_once c a.left b.left a.before b.before a.rest b.rest a.entry b.entry (sym a.split ∙ b.split)
       a.allowed a.refused b.allowed b.refused) ∙ sym b.place
 
-  not_both : (c : Configuration L) (es : List Entry) (p : ℕ) → IsFirstRefused app from_text c es p → IsSome (replayed app from_text c es) → ⊥
+  not_both : (c : Configuration L) (es : List Entry) (p : ℕ) → IsFirstRefused app from_text c es p
+      → IsSome (replayed app from_text c es) → ⊥
   not_both c es p a some =
-      refused_or_allowed c a.left a.before a.rest a.entry a.allowed a.refused (subst (λ xs. IsSome (replayed app from_text c xs)) a.split some)
+      refused_or_allowed c a.left a.before a.rest a.entry a.allowed a.refused
+          (subst (λ xs. IsSome (replayed app from_text c xs)) a.split some)
 
 -- no text has two readings
 abbrev pub OneReading : Type 0
 OneReading = (text : List ℕ) (r s : Result (List Entry) BookFault) → IsReadAs text r → IsReadAs text s → r ≡ s
 
 module _ (one_reading : OneReading) {L : Type 0} (m : Meaning L) where
-  one_answer : (c : Configuration L) (es : List Entry) (o p : Output) → IsAnswered m c es o → IsAnswered m c es p → o ≡ p
+  one_answer : (c : Configuration L) (es : List Entry) (o p : Output) → IsAnswered m c es o → IsAnswered m c es p
+      → o ≡ p
   one_answer c es o p (not_enabled n first is) (not_enabled k other is') =
       is ∙ ap (λ x. (not_enabled_text x, NotEnabled)) (one_refused m.app m.from_text c es n k first other) ∙ sym is'
-  one_answer c es o p (not_enabled n first is) (allowed some is') = absurd (not_both m.app m.from_text c es n first some)
-  one_answer c es o p (allowed some is) (not_enabled n first is') = absurd (not_both m.app m.from_text c es n first some)
+  one_answer c es o p (not_enabled n first is) (allowed some is') =
+      absurd (not_both m.app m.from_text c es n first some)
+  one_answer c es o p (allowed some is) (not_enabled n first is') =
+      absurd (not_both m.app m.from_text c es n first some)
   one_answer c es o p (allowed some is) (allowed other is') = is ∙ sym is'
 
   bad_or_read : (text : List ℕ) (f : BookFault) (es : List Entry) → IsReadAs text (Err f) → IsReadAs text (Ok es) → ⊥
   bad_or_read text f es bad read = let same : Err f ≡ Ok es = one_reading text (Err f) (Ok es) bad read in absurd (cc)
 
-  one_verified : (c : Configuration L) (history : List ℕ) (o p : Output) → IsVerified m c history o → IsVerified m c history p → o ≡ p
+  one_verified : (c : Configuration L) (history : List ℕ) (o p : Output) → IsVerified m c history o
+      → IsVerified m c history p → o ≡ p
   one_verified c history o p (bad_history f bad is) (bad_history e other is') =
       let same : Err f ≡ Err e = one_reading history (Err f) (Err e) bad other in
       let fault : f ≡ e = cc in is ∙ ap (λ x. (bad_history_text x, BadInput)) fault ∙ sym is'
-  one_verified c history o p (bad_history f bad is) (is_history es read answered) = absurd (bad_or_read history f es bad read)
-  one_verified c history o p (is_history es read answered) (bad_history f bad is) = absurd (bad_or_read history f es bad read)
+  one_verified c history o p (bad_history f bad is) (is_history es read answered) =
+      absurd (bad_or_read history f es bad read)
+  one_verified c history o p (is_history es read answered) (bad_history f bad is) =
+      absurd (bad_or_read history f es bad read)
   one_verified c history o p (is_history es read answered) (is_history ds other answered') =
       let same : Ok es ≡ Ok ds = one_reading history (Ok es) (Ok ds) read other in
       let entries : es ≡ ds = cc in
       one_answer c ds o p (subst (λ xs. IsAnswered m c xs o) entries answered) answered'
 
-  one_from : (g : Graph) (history : List ℕ) (o p : Output) → IsVerifiedFrom m g history o → IsVerifiedFrom m g history p → o ≡ p
+  one_from : (g : Graph) (history : List ℕ) (o p : Output) → IsVerifiedFrom m g history o → IsVerifiedFrom m g history p
+      → o ≡ p
   one_from g history o p (c, boot, verified) (d, other, verified') =
-      one_verified d history o p (subst (λ x. IsVerified m x history o) (one_boot m.app g c d boot other) verified) verified'
+      one_verified d history o p (subst (λ x. IsVerified m x history o) (one_boot m.app g c d boot other) verified)
+          verified'
 
-one_of : OneReading → (app : AppName) (g : Graph) (history : List ℕ) (o p : Output) → IsVerifiedOf app g history o → IsVerifiedOf app g history p → o ≡ p
+one_of : OneReading → (app : AppName) (g : Graph) (history : List ℕ) (o p : Output) → IsVerifiedOf app g history o
+    → IsVerifiedOf app g history p → o ≡ p
 one_of reading Idle = one_from reading idle_meaning
 one_of reading Token = one_from reading token_meaning
 one_of reading Mutex = one_from reading mutex_meaning
 one_of reading Routes = one_from reading routes_meaning
 
-pub one_verification : OneReading → (topology history : List ℕ) (o p : Output) → IsVerification topology history o → IsVerification topology history p → o ≡ p
+pub one_verification : OneReading → (topology history : List ℕ) (o p : Output) → IsVerification topology history o
+    → IsVerification topology history p → o ≡ p
 one_verification reading topology history =
     one_judged (λ app g. IsVerifiedOf app g history) (λ app g o p. one_of reading app g history o p) topology

@@ -1,5 +1,6 @@
 -- What a node that watches does, as its alarm is.
-use Rattle.std.proofs.Common.{◌≡◌, ◌++◌, ℕ, List, ap, sym, subst, ◌∙◌, append-nil, Option, Some, None, Result, Ok, Err, OnOk, OnErr}
+use Rattle.std.proofs.Common.{◌≡◌, ◌++◌, ℕ, List, ap, sym, subst, ◌∙◌, append-nil, Option, Some, None, Result, Ok, Err}
+use Rattle.std.proofs.Common.{OnOk, OnErr}
 use Rattle.std.specs.Io.KnownBytes.{Appends}
 use Rattle.std.proofs.KnownBytes.{Appends-trans}
 use Rattle.action_tables.specs.Written.{AppendsFront}
@@ -13,7 +14,8 @@ use Rattle.reset_service.specs.Meaning.{Meaning}
 use Rattle.reset_service.specs.Output.{after_alarm, alarm_text, stepped, watched}
 use Rattle.reset_service.proofs.Nodes.{watched-is}
 
-module _ {L : Type 0} (m : Meaning L) (c : Configuration L) (i : ℕ) (told : Option LinkFault) (is : told ≡ alarm_of m.app c i) where
+module _ {L : Type 0} (m : Meaning L) (c : Configuration L) (i : ℕ) (told : Option LinkFault)
+    (is : told ≡ alarm_of m.app c i) where
   text_is : (watched m c i).1 ≡ alarm_text told ++ (after_alarm m c i told).1
   text_is = ap (λ (w : Configuration L × List ℕ). w.1) (watched-is m c i told is)
 
@@ -27,20 +29,25 @@ module _ {L : Type 0} (m : Meaning L) (c : Configuration L) (i : ℕ) (told : Op
       subst P (sym text_is) (AppendsFront-first a b (alarm_text told) (after_alarm m c i told).1 front)
 
   -- nothing follows where it has none
-  pub quiet_watched : (a b : Option (List ℕ)) → told ≡ None → Appends a b (alarm_text told) → (c ≡ (watched m c i).0) × Appends a b (watched m c i).1
+  pub quiet_watched : (a b : Option (List ℕ)) → told ≡ None → Appends a b (alarm_text told)
+      → (c ≡ (watched m c i).0) × Appends a b (watched m c i).1
   quiet_watched a b none wrote =
       let P : List ℕ → Type 0 = λ t. Appends a b t in (
         sym (config_is ∙ ap (λ o. (after_alarm m c i o).0) none),
-        subst P (sym (text_is ∙ ap (λ o. alarm_text told ++ (after_alarm m c i o).1) none ∙ append-nil (alarm_text told))) wrote,
+        subst P (sym
+            (text_is ∙ ap (λ o. alarm_text told ++ (after_alarm m c i o).1) none ∙ append-nil (alarm_text told))) wrote,
       )
 
-  module _ (fault : LinkFault) (some : told ≡ Some fault) (a b d : Option (List ℕ)) (wrote : Appends a b (alarm_text told)) where
+  module _ (fault : LinkFault) (some : told ≡ Some fault) (a b d : Option (List ℕ))
+      (wrote : Appends a b (alarm_text told)) where
     asked_text : (watched m c i).1 ≡ alarm_text told ++ (stepped c (outcome_of m.app c (Request i))).1
     asked_text = text_is ∙ ap (λ o. alarm_text told ++ (after_alarm m c i o).1) some
 
     -- and a request where it has one
     pub asked_ok : {E : Type 0} (after : Configuration L) (r : Result (Unit {0}) E)
-        → OnOk r ((after ≡ (stepped c (outcome_of m.app c (Request i))).0) × Appends b d (stepped c (outcome_of m.app c (Request i))).1)
+        → OnOk r
+            ((after ≡ (stepped c (outcome_of m.app c (Request i))).0)
+            × Appends b d (stepped c (outcome_of m.app c (Request i))).1)
         → OnOk r ((after ≡ (watched m c i).0) × Appends a d (watched m c i).1)
     asked_ok after (Ok x) ok =
         let P : List ℕ → Type 0 = λ t. Appends a d t in (
@@ -49,8 +56,10 @@ module _ {L : Type 0} (m : Meaning L) (c : Configuration L) (i : ℕ) (told : Op
         )
     asked_ok after (Err e) ok = tt
 
-    pub asked_err : {E : Type 0} (r : Result (Unit {0}) E) → OnErr r (AppendsFront b d (stepped c (outcome_of m.app c (Request i))).1)
+    pub asked_err : {E : Type 0} (r : Result (Unit {0}) E)
+        → OnErr r (AppendsFront b d (stepped c (outcome_of m.app c (Request i))).1)
         → OnErr r (AppendsFront a d (watched m c i).1)
     asked_err (Ok x) err = tt
     asked_err (Err e) err =
-        let P : List ℕ → Type 0 = λ t. AppendsFront a d t in subst P (sym asked_text) (AppendsFront-then a b d (alarm_text told) _ wrote err)
+        let P : List ℕ → Type 0 =
+            λ t. AppendsFront a d t in subst P (sym asked_text) (AppendsFront-then a b d (alarm_text told) _ wrote err)

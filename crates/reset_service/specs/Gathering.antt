@@ -5,5 +5,6 @@ use Rattle.std.specs.declared.io.traits.Write.{Ghosts}
 use Rattle.reset_service.specs.declared.gather.Gathered.{Gathered}
 
 -- the bytes that it handed on, and then those that it holds
-abbrev pub gathered_contents : {W : Type 0} {ghosts : Ghosts W} → (W → Option (List ℕ)) → Gathered W ghosts → Option (List ℕ)
+abbrev pub gathered_contents : {W : Type 0} {ghosts : Ghosts W} → (W → Option (List ℕ)) → Gathered W ghosts
+    → Option (List ℕ)
 gathered_contents contents gathered = append_known (contents gathered.out) gathered.held.items

@@ -1,5 +1,6 @@
 -- What a run writes.
-use Rattle.std.specs.Prelude.{◌≡◌, ℕ, ◌+◌, ◌<◌, ◌≤◌, nat_lt, if◌then◌else◌, ◌⊎◌, List, [], ◌∷◌, ◌++◌, length, codes, Option, Some, None, Result, Ok, Err}
+use Rattle.std.specs.Prelude.{◌≡◌, ℕ, ◌+◌, ◌<◌, ◌≤◌, nat_lt, if◌then◌else◌, ◌⊎◌, List, [], ◌∷◌, ◌++◌, length, codes}
+use Rattle.std.specs.Prelude.{Option, Some, None, Result, Ok, Err}
 use Rattle.std.specs.Fmt.{decimal}
 use Rattle.std.specs.Io.KnownBytes.{Appends, Keeps}
 use Rattle.std.specs.List.{concat, flat_map}
@@ -7,10 +8,13 @@ use Rattle.topology.specs.Graph.{Graph}
 use Rattle.topology.specs.Faults.{IsTopologyOf}
 use Rattle.topology.specs.TopologyText.{Description, IsReadFault, description_of}
 use Rattle.topology.specs.declared.fault.TopoFault.{TopoFault}
-use Rattle.topology.specs.declared.fault.TopoFault.TheVariants.{NoNodes, TooManyNodes, BadId, TwiceNode, TooManyLinks, SelfLink, TwiceLink, Disconnected, NoSuchLink, LinkIsThere}
+use Rattle.topology.specs.declared.fault.TopoFault.TheVariants.{NoNodes, TooManyNodes, BadId, TwiceNode, TooManyLinks}
+use Rattle.topology.specs.declared.fault.TopoFault.TheVariants.{SelfLink, TwiceLink, Disconnected, NoSuchLink}
+use Rattle.topology.specs.declared.fault.TopoFault.TheVariants.{LinkIsThere}
 use Rattle.topology.specs.declared.fault.TopoFault.TheVariants as topo
 use Rattle.topology.specs.declared.text.ReadFault.{ReadFault}
-use Rattle.topology.specs.declared.text.ReadFault.TheVariants.{TextTooLong, NotToml, MissingKey, UnknownKey, WrongKind, UnknownApp, Topology}
+use Rattle.topology.specs.declared.text.ReadFault.TheVariants.{TextTooLong, NotToml, MissingKey, UnknownKey, WrongKind}
+use Rattle.topology.specs.declared.text.ReadFault.TheVariants.{UnknownApp, Topology}
 use Rattle.topology.specs.declared.text.ReadFault.TheVariants as read
 use Rattle.topology.specs.declared.text.AppName.{AppName}
 use Rattle.topology.specs.declared.text.AppName.TheVariants.{Idle, Token, Mutex, Routes}
@@ -21,7 +25,9 @@ use Rattle.reset_model.specs.declared.event.Event.TheVariants.{Request}
 use Rattle.reset_model.specs.declared.step.Reply.{Reply}
 use Rattle.reset_model.specs.declared.step.Reply.TheVariants.{Applied, Complete}
 use Rattle.reset_model.specs.declared.step.StepRefusal.{StepRefusal}
-use Rattle.reset_model.specs.declared.step.StepRefusal.TheVariants.{StrangeNode, StrangeNeighbour, NoSuchCase, WantsNeighbour, TakesNoNeighbour, Disagrees, NotEnabled, SessionsSpent, NoMemory}
+use Rattle.reset_model.specs.declared.step.StepRefusal.TheVariants.{StrangeNode, StrangeNeighbour, NoSuchCase}
+use Rattle.reset_model.specs.declared.step.StepRefusal.TheVariants.{WantsNeighbour, TakesNoNeighbour, Disagrees}
+use Rattle.reset_model.specs.declared.step.StepRefusal.TheVariants.{NotEnabled, SessionsSpent, NoMemory}
 use Rattle.reset_model.specs.Configuration.{Configuration, tree_of, wave_of, local_of}
 use Rattle.reset_model.specs.Outcome.{IsBoot}
 use Rattle.reset_model.specs.Planned.{outcome_of}
@@ -44,7 +50,8 @@ use Rattle.reset_service.specs.Lines.{ended, lines_of, IsCut}
 use Rattle.reset_service.specs.Meaning.{Meaning, idle_meaning, token_meaning, mutex_meaning, routes_meaning}
 use Rattle.reset_service.specs.Script.{line_of}
 use Rattle.reset_service.specs.declared.script.Command.{Command}
-use Rattle.reset_service.specs.declared.script.Command.TheVariants.{Step, Inject, Draw, Show, ShowNode, Newest, Ready, Check, CheckNode, Alarm, Watch}
+use Rattle.reset_service.specs.declared.script.Command.TheVariants.{Step, Inject, Draw, Show, ShowNode, Newest, Ready}
+use Rattle.reset_service.specs.declared.script.Command.TheVariants.{Check, CheckNode, Alarm, Watch}
 use Rattle.reset_service.specs.declared.script.Command.TheVariants as command
 use Rattle.reset_service.specs.declared.script.Line.{Line}
 use Rattle.reset_service.specs.declared.script.Line.TheVariants.{Silent, Asks, Bad}
@@ -97,7 +104,8 @@ drawn_text f = codes "drawn " ++ ended (fault.fault_line f)
 -- what stands before the local state in the line that shows a node
 abbrev pub node_head : ℕ → TreeRegs → WaveRegs → List ℕ
 node_head id tree wave =
-    concat (codes "node " ∷ decimal id ∷ codes " tree " ∷ decimal tree.root ∷ codes " " ∷ decimal tree.father ∷ codes " " ∷ decimal tree.dist
+    concat (codes "node " ∷ decimal id ∷ codes " tree " ∷ decimal tree.root ∷ codes " " ∷ decimal tree.father
+        ∷ codes " " ∷ decimal tree.dist
     ∷ codes " wave " ∷ phase_name wave.phase ∷ codes " " ∷ decimal wave.session ∷ codes " local " ∷ [])
 
 -- what stands before it in the line of the newest session
@@ -107,7 +115,8 @@ newest_head id = concat (codes "newest " ∷ decimal id ∷ codes " " ∷ [])
 -- the line that names the enabled rows of a node, by table
 abbrev pub enabled_text : ℕ → Enabled → List ℕ
 enabled_text id rows =
-    concat (codes "enabled " ∷ decimal id ∷ codes " tree " ∷ set_text rows.tree ∷ codes " wave " ∷ set_text rows.wave ∷ codes " act " ∷ set_text rows.act ∷ ended [] ∷ [])
+    concat (codes "enabled " ∷ decimal id ∷ codes " tree " ∷ set_text rows.tree ∷ codes " wave " ∷ set_text rows.wave
+        ∷ codes " act " ∷ set_text rows.act ∷ ended [] ∷ [])
 
 -- a number after a space
 abbrev pub spaced : ℕ → List ℕ
@@ -132,7 +141,8 @@ faults_text told = flat_map fault_line told ++ numbered (codes "faults ") (lengt
 abbrev pub alarm_text : Option LinkFault → List ℕ
 alarm_text None = ended (codes "quiet")
 alarm_text (Some fault) =
-    concat (codes "alarm " ∷ decimal fault.at ∷ codes " " ∷ decimal fault.other ∷ codes " " ∷ decimal fault.row ∷ ended [] ∷ [])
+    concat (codes "alarm " ∷ decimal fault.at ∷ codes " " ∷ decimal fault.other ∷ codes " " ∷ decimal fault.row
+        ∷ ended [] ∷ [])
 
 abbrev pub graph_fault_text : TopoFault → List ℕ
 graph_fault_text NoNodes = ended (codes "bad topology NoNodes")
@@ -168,7 +178,8 @@ bad_line_text n = numbered (codes "bad line ") n
 -- ---- answers
 
 -- what a configuration becomes, and what is written
-abbrev pub stepped : {L : Type 0} → Configuration L → Result (Configuration L × Reply) StepRefusal → Configuration L × List ℕ
+abbrev pub stepped : {L : Type 0} → Configuration L → Result (Configuration L × Reply) StepRefusal
+    → Configuration L × List ℕ
 stepped c (Ok r) = (r.0, reply_text r.1)
 stepped c (Err refusal) = (c, refusal_text refusal)
 
@@ -191,7 +202,8 @@ shown m c i = node_head i (tree_of c i) (wave_of c i) ++ ended (m.text (local_of
 
 -- the line of a node's local state in the newest session
 abbrev pub newest_line : {L : Type 0} → Meaning L → Configuration L → ℕ → List ℕ
-newest_line m c i = newest_head i ++ ended (if has_joined c.graph (wave_of c) i then m.text (local_of m.app c i) else codes "unjoined")
+newest_line m c i =
+    newest_head i ++ ended (if has_joined c.graph (wave_of c) i then m.text (local_of m.app c i) else codes "unjoined")
 
 -- the line that names the enabled rows of a node. It stays folded: unfolded, it has all the tables
 unfoldable pub enabled_line : {L : Type 0} → Meaning L → Configuration L → ℕ → List ℕ
@@ -258,7 +270,8 @@ pub record Answer (L : Type 0) : Type 0 where
 -- the answer to the n-th line
 abbrev pub answer_to : {L : Type 0} → Meaning L → Configuration L → ℕ → Line → Answer L
 answer_to m c n Silent = record { config = c; text = []; status = Good }
-answer_to m c n (Asks command) = record { config = (answered m c command).0; text = (answered m c command).1; status = Good }
+answer_to m c n (Asks command) =
+    record { config = (answered m c command).0; text = (answered m c command).1; status = Good }
 answer_to m c n Bad = record { config = c; text = bad_line_text n; status = BadInput }
 
 -- what follows where all was good, and what was where it wasn't
@@ -274,7 +287,8 @@ told_after text a = record { config = a.config; text = text ++ a.text; status = 
 unfoldable pub answers : {L : Type 0} → Meaning L → Configuration L → ℕ → List (List ℕ) → Answer L
 answers m c n [] = record { config = c; text = []; status = Good }
 answers m c n (line ∷ lines) =
-    let a = answer_to m c n (line_of m.names line) in if_good a.status (told_after a.text (answers m a.config (n + 1) lines)) a
+    let a = answer_to m c n (line_of m.names line) in if_good a.status
+        (told_after a.text (answers m a.config (n + 1) lines)) a
 
 -- what follows lines that ended so, and the status of the run: a check of what good lines left, or nothing
 abbrev pub ending : {L : Type 0} → Meaning L → Purpose → Configuration L → Status → List ℕ × Status
@@ -288,13 +302,16 @@ output_for m purpose a = let last = ending m purpose a.config a.status in (a.tex
 -- the answers to a script
 abbrev pub script_output : {L : Type 0} → Meaning L → Purpose → Configuration L → List ℕ → List ℕ × Status
 script_output m purpose c script =
-    if nat_lt 1048576 (length script) then (too_long_text, BadInput) else output_for m purpose (answers m c 1 (lines_of script))
+    if nat_lt 1048576 (length script) then (too_long_text, BadInput) else output_for m purpose
+        (answers m c 1 (lines_of script))
 
 -- ---- the output of texts
 
 -- the answers to a script from the booted configuration of a graph
-pub data IsReplay {L : Type 0} (m : Meaning L) (purpose : Purpose) (g : Graph) (script : List ℕ) (output : List ℕ × Status) : Type 0 where
-  replayed : (c : Configuration L) → IsBoot m.app g c → output ≡ script_output m purpose c script → IsReplay m purpose g script output
+pub data IsReplay {L : Type 0} (m : Meaning L) (purpose : Purpose) (g : Graph) (script : List ℕ)
+    (output : List ℕ × Status) : Type 0 where
+  replayed : (c : Configuration L) → IsBoot m.app g c → output ≡ script_output m purpose c script
+      → IsReplay m purpose g script output
 
 -- the same for the application of a name
 abbrev pub IsReplayOf : AppName → Purpose → Graph → List ℕ → List ℕ × Status → Type 0
@@ -305,12 +322,16 @@ IsReplayOf Routes = IsReplay routes_meaning
 
 -- a topology text describes a graph and names an application
 abbrev pub Describes : List ℕ → Graph → AppName → Type 0
-Describes topology g app = (d : Description) × (description_of topology ≡ Ok d) × IsTopologyOf d.nodes d.links g × (app ≡ d.app)
+Describes topology g app =
+    (d : Description) × (description_of topology ≡ Ok d) × IsTopologyOf d.nodes d.links g × (app ≡ d.app)
 
 -- what is written, and the status, where a topology is judged first: the line of its fault, or what follows a good one
-pub data IsJudged (Follows : AppName → Graph → List ℕ × Status → Type 0) (topology : List ℕ) (output : List ℕ × Status) : Type 0 where
-  bad_topology : (f : ReadFault) → IsReadFault topology f → output ≡ (bad_topology_text f, BadInput) → IsJudged Follows topology output
-  good_topology : (g : Graph) (app : AppName) → Describes topology g app → Follows app g output → IsJudged Follows topology output
+pub data IsJudged (Follows : AppName → Graph → List ℕ × Status → Type 0) (topology : List ℕ)
+    (output : List ℕ × Status) : Type 0 where
+  bad_topology : (f : ReadFault) → IsReadFault topology f → output ≡ (bad_topology_text f, BadInput)
+      → IsJudged Follows topology output
+  good_topology : (g : Graph) (app : AppName) → Describes topology g app → Follows app g output
+      → IsJudged Follows topology output
 
 -- what a run writes, and its status: the topology is judged before the script
 abbrev pub IsOutput : Purpose → List ℕ → List ℕ → List ℕ × Status → Type 0
@@ -319,7 +340,8 @@ IsOutput purpose topology script = IsJudged (λ app g. IsReplayOf app purpose g 
 -- the same of a joined text that is replayed, which is judged by its length before it is cut
 pub data IsJoinedOutput (joined : List ℕ) (output : List ℕ × Status) : Type 0 where
   too_long : 1048576 < length joined → output ≡ (too_long_text, BadInput) → IsJoinedOutput joined output
-  cut : (topology script : List ℕ) → length joined ≤ 1048576 → IsCut joined topology script → IsOutput purposes.Replay topology script output
+  cut : (topology script : List ℕ) → length joined ≤ 1048576 → IsCut joined topology script
+      → IsOutput purposes.Replay topology script output
       → IsJoinedOutput joined output
 
 -- ---- what a run leaves

@@ -1,5 +1,7 @@
 -- The lines of a script, and the commands that they spell.
-use Rattle.std.specs.Prelude.{◌≡◌, ℕ, ◌<◌, ◌^◌, ◌%◌, nat_lt, ◌==◌, Bool, true, false, ◌&&◌, ◌⊎◌, if◌then◌else◌, List, [], ◌∷◌, ◌++◌, map, length, codes, slice_index_or, unwrap_or, option_map, IsTrue, Option, Some, None}
+use Rattle.std.specs.Prelude.{◌≡◌, ℕ, ◌<◌, ◌^◌, ◌%◌, nat_lt, ◌==◌, Bool, true, false, ◌&&◌, ◌⊎◌, if◌then◌else◌, List}
+use Rattle.std.specs.Prelude.{[], ◌∷◌, ◌++◌, map, length, codes, slice_index_or, unwrap_or, option_map, IsTrue, Option}
+use Rattle.std.specs.Prelude.{Some, None}
 use Rattle.std.specs.Char.{is_ascii_alphabetic, is_ascii_graphic}
 use Rattle.std.specs.Fmt.{decimal}
 use Rattle.std.specs.List.{find, join_with_byte, list_all}
@@ -12,9 +14,11 @@ use Rattle.fault_inject.specs.FaultText as fault
 use Rattle.fault_inject.specs.declared.fault.Fault.{Fault}
 use Rattle.fault_inject.specs.declared.fault.Fault.TheVariants.{SetTree, SetWave, SetLocal, LinkDown, LinkUp}
 use Rattle.wave_layer.specs.declared.regs.Phase.TheVariants.{Normal, Initiate, Reset}
-use Rattle.reset_model.specs.declared.event.Event.TheVariants.{Claim, Follow, Adopt, Request, Relay, Open, Join, Finish, Mend, Act}
+use Rattle.reset_model.specs.declared.event.Event.TheVariants.{Claim, Follow, Adopt, Request, Relay, Open, Join, Finish}
+use Rattle.reset_model.specs.declared.event.Event.TheVariants.{Mend, Act}
 use Rattle.reset_service.specs.declared.script.Command.{Command}
-use Rattle.reset_service.specs.declared.script.Command.TheVariants.{Step, Inject, Draw, Show, ShowNode, Newest, Enabled, Ready, Check, CheckNode, Alarm, Watch}
+use Rattle.reset_service.specs.declared.script.Command.TheVariants.{Step, Inject, Draw, Show, ShowNode, Newest, Enabled}
+use Rattle.reset_service.specs.declared.script.Command.TheVariants.{Ready, Check, CheckNode, Alarm, Watch}
 use Rattle.reset_service.specs.declared.script.Line.{Line}
 use Rattle.reset_service.specs.declared.script.Line.TheVariants.{Silent, Asks, Bad}
 
@@ -36,7 +40,8 @@ command_words (Watch at) = codes "watch" ∷ decimal at ∷ []
 -- the words ask something of the node with this identifier, or draw a fault from this number
 abbrev pub AsksAbout : ℕ → List (List ℕ) → Type 0
 AsksAbout at words =
-    (words ≡ command_words (ShowNode at)) ⊎ ((words ≡ command_words (Enabled at)) ⊎ ((words ≡ command_words (CheckNode at))
+    (words ≡ command_words (ShowNode at))
+        ⊎ ((words ≡ command_words (Enabled at)) ⊎ ((words ≡ command_words (CheckNode at))
     ⊎ ((words ≡ command_words (Alarm at)) ⊎ ((words ≡ command_words (Watch at)) ⊎ (words ≡ command_words (Draw at))))))
 
 -- the one line of a command with its case, if it has one, by number: its words, with a space between each two
@@ -94,7 +99,8 @@ named_words at word with = codes "act" ∷ decimal at ∷ word ∷ neighbour_wor
 -- the line spells the command: in its own words, or, an action, with a name for its case
 pub data Spells (names : ℕ → Option (List ℕ)) (line : List ℕ) (command : Command) : Type 0 where
   by_words : CommandFits command → line ≡ command_line command → Spells names line command
-  by_name : (at : ℕ) (word : List ℕ) (with : Option ℕ) → Fits (Act at 0 with) → IsTrue (is_name word) → line ≡ join_with_byte 32 (named_words at word with)
+  by_name : (at : ℕ) (word : List ℕ) (with : Option ℕ) → Fits (Act at 0 with) → IsTrue (is_name word)
+      → line ≡ join_with_byte 32 (named_words at word with)
       → command ≡ Step (Act at (case_named names word) with) → Spells names line command
 
 -- ---- the command of a line
@@ -110,7 +116,8 @@ in_words command = record { words = command_words command; command = command }
 
 -- an action with a name for its case
 abbrev pub with_name : (ℕ → Option (List ℕ)) → ℕ → List ℕ → Option ℕ → Spelling
-with_name names at word with = record { words = named_words at word with; command = Step (Act at (case_named names word) with) }
+with_name names at word with =
+    record { words = named_words at word with; command = Step (Act at (case_named names word) with) }
 
 -- the word at a place, which counts from 0, or no bytes where there is none
 abbrev pub word_at : List (List ℕ) → ℕ → List ℕ
@@ -125,7 +132,8 @@ abbrev pub commands_with : ℕ → ℕ → ℕ → List Command
 commands_with m n k =
     Show ∷ ShowNode m ∷ Newest ∷ Enabled m ∷ Ready ∷ Step (Claim m) ∷ Step (Follow m) ∷ Step (Adopt m n)
     ∷ Step (Request m) ∷ Step (Relay m n) ∷ Step (Open m) ∷ Step (Join m) ∷ Step (Finish m) ∷ Step (Mend m)
-    ∷ Step (Act m (n % 2 ^ 8) None) ∷ Step (Act m (n % 2 ^ 8) (Some k)) ∷ Check ∷ CheckNode m ∷ Alarm m ∷ Watch m ∷ Draw m ∷ []
+    ∷ Step (Act m (n % 2 ^ 8) None) ∷ Step (Act m (n % 2 ^ 8) (Some k)) ∷ Check ∷ CheckNode m ∷ Alarm m ∷ Watch m
+        ∷ Draw m ∷ []
 
 -- whether a text may be a word of a line: it isn't empty, and has only the bytes 33 to 126
 abbrev pub is_text : List ℕ → Bool
@@ -135,8 +143,10 @@ is_text (byte ∷ bytes) = list_all is_ascii_graphic (byte ∷ bytes)
 -- the faults with these numbers
 abbrev pub faults_with : ℕ → ℕ → ℕ → ℕ → List Command
 faults_with m n k l =
-    Inject (SetTree m (record { root = n; father = k; dist = l })) ∷ Inject (SetWave m (record { phase = Normal; session = k }))
-    ∷ Inject (SetWave m (record { phase = Initiate; session = k })) ∷ Inject (SetWave m (record { phase = Reset; session = k }))
+    Inject (SetTree m (record { root = n; father = k; dist = l }))
+        ∷ Inject (SetWave m (record { phase = Normal; session = k }))
+    ∷ Inject (SetWave m (record { phase = Initiate; session = k }))
+        ∷ Inject (SetWave m (record { phase = Reset; session = k }))
     ∷ Inject (LinkDown m n) ∷ Inject (LinkUp m n) ∷ []
 
 -- the fault that puts the local state with this text, if it is one
@@ -145,7 +155,8 @@ local_faults_with m text = if is_text text then Inject (SetLocal m text) ∷ [] 
 
 -- the actions with these numbers and with this name, if it is one
 abbrev pub actions_with : (ℕ → Option (List ℕ)) → ℕ → List ℕ → ℕ → List Spelling
-actions_with names m word k = if is_name word then with_name names m word None ∷ with_name names m word (Some k) ∷ [] else []
+actions_with names m word k =
+    if is_name word then with_name names m word None ∷ with_name names m word (Some k) ∷ [] else []
 
 -- the commands that may have these words as their own
 abbrev pub own_commands : List (List ℕ) → List Command
@@ -160,9 +171,12 @@ spellings names words =
     actions_with names (number_at words 1) (word_at words 2) (number_at words 3)
     ++ map in_words (own_commands words)
 
--- the command that a line spells: that of the first of the spellings whose words, with a space between each two, are the line
+-- the command that a line spells: that of the first of the spellings whose words, with a space between each two, are
+-- the line
 unfoldable pub command_of : (ℕ → Option (List ℕ)) → List ℕ → Option Command
-command_of names line = option_map (λ s. s.command) (find (λ s. bytes_eq line (join_with_byte 32 s.words)) (spellings names (words_of line)))
+command_of names line =
+    option_map (λ s. s.command)
+    (find (λ s. bytes_eq line (join_with_byte 32 s.words)) (spellings names (words_of line)))
 
 -- nothing, or a comment
 abbrev pub is_silent : List ℕ → Bool
@@ -175,4 +189,5 @@ asked None = Bad
 
 -- what a line asks for
 abbrev pub line_of : (ℕ → Option (List ℕ)) → List ℕ → Line
-line_of names line = if nat_lt 256 (length line) then Bad else (if is_silent line then Silent else asked (command_of names line))
+line_of names line =
+    if nat_lt 256 (length line) then Bad else (if is_silent line then Silent else asked (command_of names line))

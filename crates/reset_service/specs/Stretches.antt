@@ -66,7 +66,8 @@ event_answer (Err refusal) = Refused refusal
 -- the answers to events that are tried in turn
 abbrev pub event_answers : {L : Type 0} → App L → Configuration L → List Event → List Done
 event_answers app c [] = []
-event_answers app c (e ∷ es) = event_answer (outcome_of app c e) ∷ event_answers app (stepped c (outcome_of app c e)).0 es
+event_answers app c (e ∷ es) =
+    event_answer (outcome_of app c e) ∷ event_answers app (stepped c (outcome_of app c e)).0 es
 
 -- from c to what the lines leave, their events are a run, each answered by its outcome
 abbrev pub MakeRun : {L : Type 0} → Meaning L → Configuration L → ℕ → List (List ℕ) → Type 0
@@ -77,4 +78,5 @@ MakeRun m c n lines =
 abbrev pub MakeSoundRun : {L : Type 0} → Meaning L → (Graph → (ℕ → L) → Type 0) → Configuration L → ℕ → List (List ℕ)
     → Type 0
 MakeSoundRun m Inv c n lines =
-    let es = events_of_lines m c n lines in IsSoundRun m.app Inv c es (event_answers m.app c es) (answers m c n lines).config
+    let es =
+        events_of_lines m c n lines in IsSoundRun m.app Inv c es (event_answers m.app c es) (answers m c n lines).config

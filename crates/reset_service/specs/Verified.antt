@@ -57,15 +57,19 @@ bad_history_text ReadFailed = ended (codes "bad history ReadFailed")
 -- ---- the output of texts
 
 -- what entries are answered with from a configuration on, and the status
-pub data IsAnswered {L : Type 0} (m : Meaning L) (c : Configuration L) (es : List Entry) (output : List ℕ × Status) : Type 0 where
-  not_enabled : (position : ℕ) → IsFirstRefused m.app m.from_text c es position → output ≡ (not_enabled_text position, NotEnabled)
+pub data IsAnswered {L : Type 0} (m : Meaning L) (c : Configuration L) (es : List Entry) (output : List ℕ × Status) :
+    Type 0 where
+  not_enabled : (position : ℕ) → IsFirstRefused m.app m.from_text c es position
+      → output ≡ (not_enabled_text position, NotEnabled)
       → IsAnswered m c es output
   allowed : IsSome (replayed m.app m.from_text c es)
       → output ≡ (verified_text (length es) (reports_of m.app m.from_text c es), Good) → IsAnswered m c es output
 
 -- what a text is answered with: it is read to its end, or to its first bad line, before an entry is judged
-pub data IsVerified {L : Type 0} (m : Meaning L) (c : Configuration L) (history : List ℕ) (output : List ℕ × Status) : Type 0 where
-  bad_history : (f : BookFault) → IsReadAs history (Err f) → output ≡ (bad_history_text f, BadInput) → IsVerified m c history output
+pub data IsVerified {L : Type 0} (m : Meaning L) (c : Configuration L) (history : List ℕ) (output : List ℕ × Status) :
+    Type 0 where
+  bad_history : (f : BookFault) → IsReadAs history (Err f) → output ≡ (bad_history_text f, BadInput)
+      → IsVerified m c history output
   is_history : (es : List Entry) → IsReadAs history (Ok es) → IsAnswered m c es output → IsVerified m c history output
 
 -- the same from the booted configuration of a graph

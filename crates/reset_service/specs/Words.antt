@@ -1,6 +1,8 @@
 -- What the words of the command line ask for, by clap's own definition of what a command makes of words.
-use Rattle.std.specs.Prelude.{◌≡◌, ◌≢◌, ◌⊎◌, ⊤, true, List, codes, Option, Some, None, IsSome, option_map, option_and_then}
-use Rattle.clap.specs.Words.{App, Kinds, Row, Rule, Text, IsAmong, fault_of, first_of, kind_of, new_app, new_rule, subcommand_of, with_rule, with_subcommand}
+use Rattle.std.specs.Prelude.{◌≡◌, ◌≢◌, ◌⊎◌, ⊤, true, List, codes, Option, Some, None, IsSome, option_map}
+use Rattle.std.specs.Prelude.{option_and_then}
+use Rattle.clap.specs.Words.{App, Kinds, Row, Rule, Text, IsAmong, fault_of, first_of, kind_of, new_app, new_rule}
+use Rattle.clap.specs.Words.{subcommand_of, with_rule, with_subcommand}
 use Rattle.clap.specs.declared.error.Error.{Error}
 use Rattle.clap.specs.declared.error.ErrorKind.TheVariants.{InvalidValue, OutOfMemory}
 use Rattle.reset_service.specs.declared.words.Job.{Job}

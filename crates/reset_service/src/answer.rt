@@ -5,7 +5,8 @@ ghost use Rattle.std.specs.Io.KnownBytes.{Appends, Keeps};
 ghost use Rattle.action_tables.specs.Written.{AppendsFront};
 ghost use Rattle.reset_model.specs.Planned.{outcome_of};
 ghost use Rattle.reset_service.specs.Meaning.{meaning_of};
-ghost use Rattle.reset_service.specs.Output.{answered, stepped, bad_line_text, bad_topology_text, graph_fault_text, numbered, refusal_text, reply_text, too_long_text, numbered_twice};
+ghost use Rattle.reset_service.specs.Output.{answered, stepped, bad_line_text, bad_topology_text, graph_fault_text};
+ghost use Rattle.reset_service.specs.Output.{numbered, refusal_text, reply_text, too_long_text, numbered_twice};
 
 use crate::faults::{answer_alarm, answer_check, answer_check_node, answer_watch};
 use crate::injected::{answer_draw, answer_fault};
@@ -118,9 +119,13 @@ pub fn answer<P: Application, W: Write>(
     command: Command,
     out: &mut W,
 ) -> Result<(), RunStop>
-    ensures ok { OnOk result ((config.new ≡ (answered (meaning_of P.app P.text P.from_text P.names) config.old command).0)
-        × Appends (W.contents out.old) (W.contents out.new) (answered (meaning_of P.app P.text P.from_text P.names) config.old command).1) }
-    ensures err { OnErr result (AppendsFront (W.contents out.old) (W.contents out.new) (answered (meaning_of P.app P.text P.from_text P.names) config.old command).1) }
+    ensures ok { OnOk result
+        ((config.new ≡ (answered (meaning_of P.app P.text P.from_text P.names) config.old command).0)
+        × Appends (W.contents out.old) (W.contents out.new)
+            (answered (meaning_of P.app P.text P.from_text P.names) config.old command).1) }
+    ensures err { OnErr result
+        (AppendsFront (W.contents out.old) (W.contents out.new)
+        (answered (meaning_of P.app P.text P.from_text P.names) config.old command).1) }
     ensures stop { IfErr result (λ stop. stop ≢ RunStop.ReadFailed) }
     ensures memory { result ≡ Err RunStop.NoMemory → config.new ≡ config.old }
 {
@@ -152,11 +157,16 @@ pub fn answer_step<P: Application, W: Write>(
     out: &mut W,
 ) -> Result<(), RunStop>
     ensures ok { OnOk result ((config.new ≡ (stepped config.old (outcome_of P.app config.old event)).0)
-        × Appends (W.contents out.old) (W.contents out.new) (stepped config.old (outcome_of P.app config.old event)).1) }
-    ensures err { OnErr result (AppendsFront (W.contents out.old) (W.contents out.new) (stepped config.old (outcome_of P.app config.old event)).1) }
+        × Appends (W.contents out.old) (W.contents out.new)
+            (stepped config.old (outcome_of P.app config.old event)).1) }
+    ensures err { OnErr result
+        (AppendsFront (W.contents out.old) (W.contents out.new)
+        (stepped config.old (outcome_of P.app config.old event)).1) }
     ensures stop { IfErr result (λ stop. stop ≢ RunStop.ReadFailed) }
-    ensures memory { result ≡ Err RunStop.NoMemory → (config.new ≡ config.old) × Keeps (W.contents out.old) (W.contents out.new) }
-    ensures fault { result ≡ Err RunStop.WriteFailed → config.new ≡ (stepped config.old (outcome_of P.app config.old event)).0 }
+    ensures memory { result ≡ Err RunStop.NoMemory
+        → (config.new ≡ config.old) × Keeps (W.contents out.old) (W.contents out.new) }
+    ensures fault { result ≡ Err RunStop.WriteFailed
+        → config.new ≡ (stepped config.old (outcome_of P.app config.old event)).0 }
 {
     match config.step(alloc, event) {
         Ok(reply) => Ok(put_reply(out, reply)?),

@@ -6,7 +6,8 @@ ghost use Rattle.std.specs.Io.KnownBytes.{Appends};
 ghost use Rattle.topology.specs.Graph.{IsNode};
 ghost use Rattle.action_tables.specs.Written.{AppendsFront};
 ghost use Rattle.reset_service.specs.Meaning.{meaning_of};
-ghost use Rattle.reset_service.specs.Output.{alarm_line, alarm_text, answered, at_node, fault_line, faults_lines, faults_status, faults_text, found_status, node_faults_lines, watched};
+ghost use Rattle.reset_service.specs.Output.{alarm_line, alarm_text, answered, at_node, fault_line, faults_lines};
+ghost use Rattle.reset_service.specs.Output.{faults_status, faults_text, found_status, node_faults_lines, watched};
 ghost use Rattle.reset_service.specs.declared.script.Command.TheVariants.{Watch};
 
 use crate::answer::{answer_step, put_numbered, put_refusal};
@@ -28,7 +29,8 @@ pub fn answer_check<P: Application, W: Write>(
 ) -> Result<Status, RunStop>
     ensures ok { OnOk result (Appends (W.contents out.old) (W.contents out.new)
         (faults_lines (meaning_of P.app P.text P.from_text P.names) config.now)) }
-    ensures status { IfOk result (λ status. status ≡ faults_status (meaning_of P.app P.text P.from_text P.names) config.now) }
+    ensures status { IfOk result
+        (λ status. status ≡ faults_status (meaning_of P.app P.text P.from_text P.names) config.now) }
     ensures err { OnErr result (AppendsFront (W.contents out.old) (W.contents out.new)
         (faults_lines (meaning_of P.app P.text P.from_text P.names) config.now)) }
     ensures stop { IfErr result (λ stop. stop ≢ RunStop.ReadFailed) }
@@ -98,8 +100,10 @@ pub fn answer_watch<P: Application, W: Write>(
     at: u32,
     out: &mut W,
 ) -> Result<(), RunStop>
-    ensures ok { OnOk result ((config.new ≡ (answered (meaning_of P.app P.text P.from_text P.names) config.old (Watch at)).0)
-        × Appends (W.contents out.old) (W.contents out.new) (answered (meaning_of P.app P.text P.from_text P.names) config.old (Watch at)).1) }
+    ensures ok { OnOk result
+        ((config.new ≡ (answered (meaning_of P.app P.text P.from_text P.names) config.old (Watch at)).0)
+        × Appends (W.contents out.old) (W.contents out.new)
+            (answered (meaning_of P.app P.text P.from_text P.names) config.old (Watch at)).1) }
     ensures err { OnErr result (AppendsFront (W.contents out.old) (W.contents out.new)
         (answered (meaning_of P.app P.text P.from_text P.names) config.old (Watch at)).1) }
     ensures stop { IfErr result (λ stop. stop ≢ RunStop.ReadFailed) }
@@ -121,7 +125,8 @@ fn watch_node<P: Application, W: Write>(
 ) -> Result<(), RunStop>
     requires { IsNode config.now.graph at }
     ensures ok { OnOk result ((config.new ≡ (watched (meaning_of P.app P.text P.from_text P.names) config.old at).0)
-        × Appends (W.contents out.old) (W.contents out.new) (watched (meaning_of P.app P.text P.from_text P.names) config.old at).1) }
+        × Appends (W.contents out.old) (W.contents out.new)
+            (watched (meaning_of P.app P.text P.from_text P.names) config.old at).1) }
     ensures err { OnErr result (AppendsFront (W.contents out.old) (W.contents out.new)
         (watched (meaning_of P.app P.text P.from_text P.names) config.old at).1) }
     ensures stop { IfErr result (λ stop. stop ≢ RunStop.ReadFailed) }
@@ -168,7 +173,8 @@ fn put_faults<W: Write>(out: &mut W, faults: &[LinkFault]) -> Result<(), WriteFa
 
 fn put_fault_lines<W: Write>(out: &mut W, faults: &[LinkFault]) -> Result<(), WriteFault>
     ensures ok { OnOk result (Appends (W.contents out.old) (W.contents out.new) (flat_map fault_line faults.now)) }
-    ensures err { OnErr result (AppendsFront (W.contents out.old) (W.contents out.new) (flat_map fault_line faults.now)) }
+    ensures err { OnErr result
+        (AppendsFront (W.contents out.old) (W.contents out.new) (flat_map fault_line faults.now)) }
 {
     for fault in faults {
         put_fault(out, *fault)?;

@@ -27,7 +27,8 @@ pub fn answer_fault<P: Application, W: Write>(
     out: &mut W,
 ) -> Result<(), RunStop>
     ensures ok { OnOk result ((config.new ≡ (disturbed config.old (injected P.from_text config.old fault.now)).0)
-        × Appends (W.contents out.old) (W.contents out.new) (disturbed config.old (injected P.from_text config.old fault.now)).1) }
+        × Appends (W.contents out.old) (W.contents out.new)
+            (disturbed config.old (injected P.from_text config.old fault.now)).1) }
     ensures err { OnErr result (AppendsFront (W.contents out.old) (W.contents out.new)
         (disturbed config.old (injected P.from_text config.old fault.now)).1) }
     ensures stop { IfErr result (λ stop. stop ≢ RunStop.ReadFailed) }
@@ -47,8 +48,10 @@ pub fn answer_draw<P: Application, W: Write>(
     seed: u32,
     out: &mut W,
 ) -> Result<(), RunStop>
-    ensures ok { OnOk result ((config.new ≡ (answered (meaning_of P.app P.text P.from_text P.names) config.old (Draw seed)).0)
-        × Appends (W.contents out.old) (W.contents out.new) (answered (meaning_of P.app P.text P.from_text P.names) config.old (Draw seed)).1) }
+    ensures ok { OnOk result
+        ((config.new ≡ (answered (meaning_of P.app P.text P.from_text P.names) config.old (Draw seed)).0)
+        × Appends (W.contents out.old) (W.contents out.new)
+            (answered (meaning_of P.app P.text P.from_text P.names) config.old (Draw seed)).1) }
     ensures err { OnErr result (AppendsFront (W.contents out.old) (W.contents out.new)
         (answered (meaning_of P.app P.text P.from_text P.names) config.old (Draw seed)).1) }
     ensures stop { IfErr result (λ stop. stop ≢ RunStop.ReadFailed) }

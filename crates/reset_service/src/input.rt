@@ -1,6 +1,7 @@
 // Reading texts up to their limit, and cutting them.
 
-ghost use Rattle.std.specs.Prelude.{◌≡◌, ◌≢◌, ℕ, ◌+◌, ◌<◌, ◌≤◌, [], ◌∷◌, length, IfOk, IfErr, IfSome, IfNone, IsTrue, ◌↔◌, vec_len};
+ghost use Rattle.std.specs.Prelude.{◌≡◌, ◌≢◌, ℕ, ◌+◌, ◌<◌, ◌≤◌, [], ◌∷◌, length, IfOk, IfErr, IfSome, IfNone, IsTrue};
+ghost use Rattle.std.specs.Prelude.{◌↔◌, vec_len};
 ghost use Rattle.std.specs.List.{position};
 ghost use Rattle.std.specs.Io.KnownBytes.{Consumes, IsAtEnd};
 ghost use Rattle.reset_service.specs.Lines.{is_line_feed, lines_of, separator, IsCut, IsReadFrom};
@@ -42,7 +43,8 @@ fn read_once<R: Read>(
     chunk: &mut [u8],
     text: &mut Vec<u8>,
 ) -> Result<usize, RunStop>
-    ensures ok { IfOk result (λ n. ReadMore (R.remaining reader.old) (R.remaining reader.new) text.old.items text.new.items n) }
+    ensures ok { IfOk result
+        (λ n. ReadMore (R.remaining reader.old) (R.remaining reader.new) text.old.items text.new.items n) }
     ensures most { IfOk result (λ n. n ≤ length chunk.old) }
     ensures end { IfOk result (λ n. n ≡ 0 → 0 < length chunk.old → IsAtEnd (R.remaining reader.new)) }
     ensures err { IfErr result (λ stop. stop ≢ RunStop.WriteFailed) }

@@ -7,7 +7,8 @@ ghost use Rattle.action_tables.specs.Written.{AppendsFront};
 ghost use Rattle.reset_service.specs.Lines.{lines_of, IsReadFrom};
 ghost use Rattle.reset_service.specs.Meaning.{meaning_of};
 ghost use Rattle.reset_service.specs.Script.{line_of};
-ghost use Rattle.reset_service.specs.Output.{answer_to, answers, bad_topology_text, ending, script_output, too_long_text, IsJoinedOutput, IsOutput, IsReplay, IsReplayOf, Leaves};
+ghost use Rattle.reset_service.specs.Output.{answer_to, answers, bad_topology_text, ending, script_output};
+ghost use Rattle.reset_service.specs.Output.{too_long_text, IsJoinedOutput, IsOutput, IsReplay, IsReplayOf, Leaves};
 
 use crate::answer::{answer, answer_step, put_bad_line, put_too_long, put_topology_fault};
 use crate::faults::answer_check;
@@ -34,7 +35,8 @@ pub fn replay_text<W: Write>(
     script: &[u8],
     out: &mut W,
 ) -> Result<Status, RunStop>
-    ensures leaves { Leaves (IsOutput Purpose.Replay topology.now script.now) (W.contents out.old) (W.contents out.new) result }
+    ensures leaves { Leaves (IsOutput Purpose.Replay topology.now script.now) (W.contents out.old) (W.contents out.new)
+        result }
     ensures stop { IfErr result (λ stop. stop ≢ RunStop.ReadFailed) }
 {
     match read_topology(alloc, topology) {
@@ -102,7 +104,8 @@ pub fn replay_joined<R: Read, W: Write>(
     joined: &mut R,
     out: &mut W,
 ) -> Result<Status, RunStop>
-    ensures { (text : List ℕ) × IsReadFrom (R.remaining joined.old) text × Leaves (IsJoinedOutput text) (W.contents out.old) (W.contents out.new) result }
+    ensures { (text : List ℕ) × IsReadFrom (R.remaining joined.old) text
+        × Leaves (IsJoinedOutput text) (W.contents out.old) (W.contents out.new) result }
 {
     match read_text(alloc, joined) {
         Ok(text) => replay_whole(alloc, &text, out),
@@ -131,7 +134,8 @@ fn run_app<W: Write>(
     script: &[u8],
     out: &mut W,
 ) -> Result<Status, RunStop>
-    ensures leaves { Leaves (IsReplayOf app purpose topology script.now) (W.contents out.old) (W.contents out.new) result }
+    ensures leaves { Leaves (IsReplayOf app purpose topology script.now) (W.contents out.old) (W.contents out.new)
+        result }
     ensures stop { IfErr result (λ stop. stop ≢ RunStop.ReadFailed) }
 {
     match app {
@@ -149,7 +153,8 @@ fn run_booted<P: Application, W: Write>(
     script: &[u8],
     out: &mut W,
 ) -> Result<Status, RunStop>
-    ensures leaves { Leaves (IsReplay (meaning_of P.app P.text P.from_text P.names) purpose topology script.now) (W.contents out.old) (W.contents out.new) result }
+    ensures leaves { Leaves (IsReplay (meaning_of P.app P.text P.from_text P.names) purpose topology script.now)
+        (W.contents out.old) (W.contents out.new) result }
     ensures stop { IfErr result (λ stop. stop ≢ RunStop.ReadFailed) }
 {
     match Config::<P>::boot(alloc, topology) {
@@ -160,7 +165,9 @@ fn run_booted<P: Application, W: Write>(
 
 /// Answers a text that is no topology.
 pub fn refuse_topology<W: Write>(fault: ReadFault, out: &mut W) -> Result<Status, RunStop>
-    ensures leaves { Leaves (λ output. (fault ≢ ReadFault.NoMemory) × (output ≡ (bad_topology_text fault, Status.BadInput))) (W.contents out.old) (W.contents out.new) result }
+    ensures leaves { Leaves
+        (λ output. (fault ≢ ReadFault.NoMemory) × (output ≡ (bad_topology_text fault, Status.BadInput)))
+        (W.contents out.old) (W.contents out.new) result }
     ensures stop { IfErr result (λ stop. stop ≢ RunStop.ReadFailed) }
 {
     if fault == ReadFault::NoMemory {
@@ -172,7 +179,8 @@ pub fn refuse_topology<W: Write>(fault: ReadFault, out: &mut W) -> Result<Status
 
 // Answers a script that is too long.
 fn refuse_script<W: Write>(out: &mut W) -> Result<Status, RunStop>
-    ensures leaves { Leaves (λ output. output ≡ (too_long_text, Status.BadInput)) (W.contents out.old) (W.contents out.new) result }
+    ensures leaves { Leaves (λ output. output ≡ (too_long_text, Status.BadInput)) (W.contents out.old)
+        (W.contents out.new) result }
     ensures stop { IfErr result (λ stop. stop ≢ RunStop.ReadFailed) }
 {
     put_too_long(out)?;
@@ -186,7 +194,9 @@ fn run_script<P: Application, W: Write>(
     script: &[u8],
     out: &mut W,
 ) -> Result<Status, RunStop>
-    ensures leaves { Leaves (λ output. output ≡ script_output (meaning_of P.app P.text P.from_text P.names) purpose config script.now) (W.contents out.old) (W.contents out.new) result }
+    ensures leaves { Leaves
+        (λ output. output ≡ script_output (meaning_of P.app P.text P.from_text P.names) purpose config script.now)
+        (W.contents out.old) (W.contents out.new) result }
     ensures stop { IfErr result (λ stop. stop ≢ RunStop.ReadFailed) }
 {
     if script.len() > MAX_TEXT {
@@ -206,7 +216,8 @@ fn end_run<P: Application, W: Write>(
     answered: Status,
     out: &mut W,
 ) -> Result<Status, RunStop>
-    ensures ok { IfOk result (λ status. let last = ending (meaning_of P.app P.text P.from_text P.names) purpose config.now answered in
+    ensures ok { IfOk result
+        (λ status. let last = ending (meaning_of P.app P.text P.from_text P.names) purpose config.now answered in
         (status ≡ last.1) × Appends (W.contents out.old) (W.contents out.new) last.0) }
     ensures err { OnErr result (AppendsFront (W.contents out.old) (W.contents out.new)
         (ending (meaning_of P.app P.text P.from_text P.names) purpose config.now answered).0) }
@@ -228,7 +239,9 @@ fn answer_lines<P: Application, W: Write>(
     requires { length script.now ≤ MAX_TEXT }
     ensures leaves { let a = answers (meaning_of P.app P.text P.from_text P.names) config.old 1 (lines_of script.now) in
         Leaves (λ output. output ≡ (a.text, a.status)) (W.contents out.old) (W.contents out.new) result }
-    ensures config { OnOk result (config.new ≡ (answers (meaning_of P.app P.text P.from_text P.names) config.old 1 (lines_of script.now)).config) }
+    ensures config { OnOk result
+        (config.new
+        ≡ (answers (meaning_of P.app P.text P.from_text P.names) config.old 1 (lines_of script.now)).config) }
     ensures stop { IfErr result (λ stop. stop ≢ RunStop.ReadFailed) }
 {
     let mut rest = script;
@@ -254,9 +267,13 @@ fn answer_line<P: Application, W: Write>(
     line: &[u8],
     out: &mut W,
 ) -> Result<Status, RunStop>
-    ensures ok { IfOk result (λ status. let a = answer_to (meaning_of P.app P.text P.from_text P.names) config.old number (line_of P.names line.now) in
+    ensures ok { IfOk result
+        (λ status. let a = answer_to (meaning_of P.app P.text P.from_text P.names) config.old number
+        (line_of P.names line.now) in
         (status ≡ a.status) × (config.new ≡ a.config) × Appends (W.contents out.old) (W.contents out.new) a.text) }
-    ensures err { OnErr result (AppendsFront (W.contents out.old) (W.contents out.new) (answer_to (meaning_of P.app P.text P.from_text P.names) config.old number (line_of P.names line.now)).text) }
+    ensures err { OnErr result
+        (AppendsFront (W.contents out.old) (W.contents out.new)
+        (answer_to (meaning_of P.app P.text P.from_text P.names) config.old number (line_of P.names line.now)).text) }
     ensures stop { IfErr result (λ stop. stop ≢ RunStop.ReadFailed) }
 {
     match read_event(line) {
@@ -276,9 +293,13 @@ fn answer_any_line<P: Application, W: Write>(
     line: &[u8],
     out: &mut W,
 ) -> Result<Status, RunStop>
-    ensures ok { IfOk result (λ status. let a = answer_to (meaning_of P.app P.text P.from_text P.names) config.old number (line_of P.names line.now) in
+    ensures ok { IfOk result
+        (λ status. let a = answer_to (meaning_of P.app P.text P.from_text P.names) config.old number
+        (line_of P.names line.now) in
         (status ≡ a.status) × (config.new ≡ a.config) × Appends (W.contents out.old) (W.contents out.new) a.text) }
-    ensures err { OnErr result (AppendsFront (W.contents out.old) (W.contents out.new) (answer_to (meaning_of P.app P.text P.from_text P.names) config.old number (line_of P.names line.now)).text) }
+    ensures err { OnErr result
+        (AppendsFront (W.contents out.old) (W.contents out.new)
+        (answer_to (meaning_of P.app P.text P.from_text P.names) config.old number (line_of P.names line.now)).text) }
     ensures stop { IfErr result (λ stop. stop ≢ RunStop.ReadFailed) }
 {
     match read_line::<P>(alloc, line)? {

@@ -22,8 +22,12 @@ pub fn answer_enabled<P: Application, W: Write>(
     at: u32,
     out: &mut W,
 ) -> Result<(), RunStop>
-    ensures ok { OnOk result (Appends (W.contents out.old) (W.contents out.new) (at_node config.now at (enabled_line (meaning_of P.app P.text P.from_text P.names) config.now at))) }
-    ensures err { OnErr result (AppendsFront (W.contents out.old) (W.contents out.new) (at_node config.now at (enabled_line (meaning_of P.app P.text P.from_text P.names) config.now at))) }
+    ensures ok { OnOk result
+        (Appends (W.contents out.old) (W.contents out.new)
+        (at_node config.now at (enabled_line (meaning_of P.app P.text P.from_text P.names) config.now at))) }
+    ensures err { OnErr result
+        (AppendsFront (W.contents out.old) (W.contents out.new)
+        (at_node config.now at (enabled_line (meaning_of P.app P.text P.from_text P.names) config.now at))) }
     ensures stop { IfErr result (λ stop. stop ≢ RunStop.ReadFailed) }
 {
     match config.enabled(alloc, at) {
@@ -59,8 +63,12 @@ pub fn answer_ready<P: Application, W: Write>(
     config: &Config<P>,
     out: &mut W,
 ) -> Result<(), RunStop>
-    ensures ok { OnOk result (Appends (W.contents out.old) (W.contents out.new) (ready_line (meaning_of P.app P.text P.from_text P.names) config.now)) }
-    ensures err { OnErr result (AppendsFront (W.contents out.old) (W.contents out.new) (ready_line (meaning_of P.app P.text P.from_text P.names) config.now)) }
+    ensures ok { OnOk result
+        (Appends (W.contents out.old) (W.contents out.new)
+        (ready_line (meaning_of P.app P.text P.from_text P.names) config.now)) }
+    ensures err { OnErr result
+        (AppendsFront (W.contents out.old) (W.contents out.new)
+        (ready_line (meaning_of P.app P.text P.from_text P.names) config.now)) }
     ensures stop { IfErr result (λ stop. stop ≢ RunStop.ReadFailed) }
 {
     match config.ready(alloc) {

@@ -1,6 +1,7 @@
 // The lines of a script.
 
-ghost use Rattle.std.specs.Prelude.{◌≡◌, ℕ, ◌<◌, ◌^◌, ◌⊎◌, [], ◌∷◌, List, Option, option_map, IsTrue, IfOk, IfSome, IfNone, OnErr, ◌↔◌};
+ghost use Rattle.std.specs.Prelude.{◌≡◌, ℕ, ◌<◌, ◌^◌, ◌⊎◌, [], ◌∷◌, List, Option, option_map, IsTrue, IfOk, IfSome};
+ghost use Rattle.std.specs.Prelude.{IfNone, OnErr, ◌↔◌};
 ghost use Rattle.std.specs.Fmt.{decimal};
 ghost use Rattle.std.specs.Char.{is_ascii_graphic};
 ghost use Rattle.std.specs.List.{join_with_byte, list_all};
@@ -11,7 +12,9 @@ ghost use Rattle.fault_inject.specs.FaultText.{IsLocalFault, fault_line};
 ghost use Rattle.fault_inject.specs.declared.fault.Fault.{Fault};
 ghost use Rattle.reset_service.specs.declared.script.Command.{Command};
 ghost use Rattle.reset_service.specs.declared.script.Command.TheVariants.{Inject, Step};
-ghost use Rattle.reset_service.specs.Script.{AsksAbout, CommandFits, IsPlain, IsPrintable, Spells, case_named, command_line, command_words, command_of, is_called, is_name, is_silent, line_of, named_words};
+ghost use Rattle.reset_service.specs.Script.{AsksAbout, CommandFits, IsPlain, IsPrintable, Spells, case_named};
+ghost use Rattle.reset_service.specs.Script.{command_line, command_words, command_of, is_called, is_name, is_silent};
+ghost use Rattle.reset_service.specs.Script.{line_of, named_words};
 
 use action_tables::read_number;
 use app_interface::Application;
@@ -116,7 +119,8 @@ pub fn read_command<P: Application>(
 fn read_injected(alloc: Global, line: &[u8]) -> Result<Option<Command>, AllocError>
     ensures found { IfOk result (λ read. IfSome read (λ command. line.now ≡ command_line command)) }
     ensures fits { IfOk result (λ read. IfSome read CommandFits) }
-    ensures only { IfOk result (λ read. IfNone read ((f : Fault) → CommandFits (Inject f) → line.now ≡ fault_line f → ⊥)) }
+    ensures only { IfOk result
+        (λ read. IfNone read ((f : Fault) → CommandFits (Inject f) → line.now ≡ fault_line f → ⊥)) }
     ensures memory { OnErr result (IsLocalFault (words_of line.now)) }
 {
     let read = read_fault(alloc, line)?;
@@ -142,7 +146,9 @@ fn is_printable(fault: &Fault) -> bool
 // The action that a line stands for which has a name for its case.
 fn read_named<P: Application>(line: &[u8]) -> Option<Event>
     ensures found { IfSome result (λ e. Spells P.names line.now (Step e)) }
-    ensures only { IfNone result ((at : ℕ) (w : List ℕ) (with : Option ℕ) → Fits (Act at 0 with) → IsTrue (is_name w) → line.now ≡ join_with_byte 32 (named_words at w with) → ⊥) }
+    ensures only { IfNone result
+        ((at : ℕ) (w : List ℕ) (with : Option ℕ) → Fits (Act at 0 with) → IsTrue (is_name w)
+        → line.now ≡ join_with_byte 32 (named_words at w with) → ⊥) }
 {
     let (command, rest) = split_word(line)?;
     let (at, rest) = split_word(rest)?;
@@ -224,7 +230,8 @@ fn by_one_word(word: &[u8]) -> Option<Command>
 fn by_more_words(word: &[u8], rest: &[u8]) -> Option<Command>
     ensures found { IfSome result (λ command. word.now ∷ words_of rest.now ≡ command_words command) }
     ensures fits { IfSome result IsPlain }
-    ensures only { IfNone result ((command : Command) → IsPlain command → word.now ∷ words_of rest.now ≡ command_words command → ⊥) }
+    ensures only { IfNone result
+        ((command : Command) → IsPlain command → word.now ∷ words_of rest.now ≡ command_words command → ⊥) }
 {
     match event_of(word, rest) {
         Some(event) => Some(Command::Step(event)),

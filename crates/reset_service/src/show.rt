@@ -20,8 +20,12 @@ use wave_layer::WaveRegs;
 
 /// Writes the line of each node, ascending.
 pub fn show_all<P: Application, W: Write>(config: &Config<P>, out: &mut W) -> Result<(), WriteFault>
-    ensures ok { OnOk result (Appends (W.contents out.old) (W.contents out.new) (flat_map (shown (meaning_of P.app P.text P.from_text P.names) config.now) config.now.graph.ids)) }
-    ensures err { OnErr result (AppendsFront (W.contents out.old) (W.contents out.new) (flat_map (shown (meaning_of P.app P.text P.from_text P.names) config.now) config.now.graph.ids)) }
+    ensures ok { OnOk result
+        (Appends (W.contents out.old) (W.contents out.new)
+        (flat_map (shown (meaning_of P.app P.text P.from_text P.names) config.now) config.now.graph.ids)) }
+    ensures err { OnErr result
+        (AppendsFront (W.contents out.old) (W.contents out.new)
+        (flat_map (shown (meaning_of P.app P.text P.from_text P.names) config.now) config.now.graph.ids)) }
 {
     for id in config.topology().ids() {
         show_node(config, *id, out)?;
@@ -35,8 +39,12 @@ pub fn show_node<P: Application, W: Write>(
     id: u32,
     out: &mut W,
 ) -> Result<(), WriteFault>
-    ensures ok { OnOk result (Appends (W.contents out.old) (W.contents out.new) (at_node config.now id (shown (meaning_of P.app P.text P.from_text P.names) config.now id))) }
-    ensures err { OnErr result (AppendsFront (W.contents out.old) (W.contents out.new) (at_node config.now id (shown (meaning_of P.app P.text P.from_text P.names) config.now id))) }
+    ensures ok { OnOk result
+        (Appends (W.contents out.old) (W.contents out.new)
+        (at_node config.now id (shown (meaning_of P.app P.text P.from_text P.names) config.now id))) }
+    ensures err { OnErr result
+        (AppendsFront (W.contents out.old) (W.contents out.new)
+        (at_node config.now id (shown (meaning_of P.app P.text P.from_text P.names) config.now id))) }
 {
     match node_at(config, id) {
         Some((tree, wave, local)) => {
@@ -49,7 +57,9 @@ pub fn show_node<P: Application, W: Write>(
 
 // What stands at a node.
 fn node_at<P: Application>(config: &Config<P>, id: u32) -> Option<(TreeRegs, WaveRegs, &P::Local)>
-    ensures found { IfSome result (λ at. IsNode config.now.graph id × (at.0 ≡ tree_of config.now id) × (at.1 ≡ wave_of config.now id) × (at.2.now ≡ local_of P.app config.now id)) }
+    ensures found { IfSome result
+        (λ at. IsNode config.now.graph id × (at.0 ≡ tree_of config.now id) × (at.1 ≡ wave_of config.now id)
+        × (at.2.now ≡ local_of P.app config.now id)) }
     ensures none { IfNone result (IsNode config.now.graph id → ⊥) }
 {
     let tree = config.tree_at(id)?;
@@ -102,8 +112,12 @@ pub fn show_newest<P: Application, W: Write>(
     config: &Config<P>,
     out: &mut W,
 ) -> Result<(), WriteFault>
-    ensures ok { OnOk result (Appends (W.contents out.old) (W.contents out.new) (flat_map (newest_line (meaning_of P.app P.text P.from_text P.names) config.now) config.now.graph.ids)) }
-    ensures err { OnErr result (AppendsFront (W.contents out.old) (W.contents out.new) (flat_map (newest_line (meaning_of P.app P.text P.from_text P.names) config.now) config.now.graph.ids)) }
+    ensures ok { OnOk result
+        (Appends (W.contents out.old) (W.contents out.new)
+        (flat_map (newest_line (meaning_of P.app P.text P.from_text P.names) config.now) config.now.graph.ids)) }
+    ensures err { OnErr result
+        (AppendsFront (W.contents out.old) (W.contents out.new)
+        (flat_map (newest_line (meaning_of P.app P.text P.from_text P.names) config.now) config.now.graph.ids)) }
 {
     for id in config.topology().ids() {
         newest_of(config, *id, out)?;
@@ -118,8 +132,12 @@ fn newest_of<P: Application, W: Write>(
     out: &mut W,
 ) -> Result<(), WriteFault>
     requires { IsNode config.now.graph id }
-    ensures ok { OnOk result (Appends (W.contents out.old) (W.contents out.new) (newest_line (meaning_of P.app P.text P.from_text P.names) config.now id)) }
-    ensures err { OnErr result (AppendsFront (W.contents out.old) (W.contents out.new) (newest_line (meaning_of P.app P.text P.from_text P.names) config.now id)) }
+    ensures ok { OnOk result
+        (Appends (W.contents out.old) (W.contents out.new)
+        (newest_line (meaning_of P.app P.text P.from_text P.names) config.now id)) }
+    ensures err { OnErr result
+        (AppendsFront (W.contents out.old) (W.contents out.new)
+        (newest_line (meaning_of P.app P.text P.from_text P.names) config.now id)) }
 {
     put_newest_head(out, id)?;
     match config.newest_local(id) {

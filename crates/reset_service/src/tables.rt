@@ -22,7 +22,8 @@ struct TitledRows<'a>(&'a str, &'a [CaseRow<'a>]);
 /// neighbour exclusion and the routes, and then the tables of the applications' links in that order. Only a
 /// failed write cuts it short.
 pub fn print_tables<W: Write>(out: &mut W) -> Result<Status, RunStop>
-    ensures leaves { (here : Standpoint) → Leaves (λ output. output ≡ (tables_text here, Good)) (W.contents out.old) (W.contents out.new) result }
+    ensures leaves { (here : Standpoint)
+        → Leaves (λ output. output ≡ (tables_text here, Good)) (W.contents out.old) (W.contents out.new) result }
     ensures stop { IfErr result (λ stop. stop ≡ RunStop.WriteFailed) }
 {
     let tree = tree_rows();
@@ -49,8 +50,10 @@ pub fn print_tables<W: Write>(out: &mut W) -> Result<Status, RunStop>
 
 // Prints the tables one after the other.
 fn print_all<W: Write>(tables: &[TitledRows<'_>], out: &mut W) -> Result<(), WriteFault>
-    ensures ok { OnOk result (Appends (W.contents out.old) (W.contents out.new) (flat_map titled_rows_text tables.now)) }
-    ensures err { OnErr result (AppendsFront (W.contents out.old) (W.contents out.new) (flat_map titled_rows_text tables.now)) }
+    ensures ok { OnOk result
+        (Appends (W.contents out.old) (W.contents out.new) (flat_map titled_rows_text tables.now)) }
+    ensures err { OnErr result
+        (AppendsFront (W.contents out.old) (W.contents out.new) (flat_map titled_rows_text tables.now)) }
 {
     for TitledRows(title, rows) in tables {
         print_rows(title, rows, out)?;

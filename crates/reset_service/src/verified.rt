@@ -8,7 +8,9 @@ ghost use Rattle.action_tables.specs.RowText.{part_text};
 ghost use Rattle.action_tables.specs.Written.{AppendsFront};
 ghost use Rattle.reset_service.specs.Meaning.{meaning_of};
 ghost use Rattle.reset_service.specs.Output.{Leaves};
-ghost use Rattle.reset_service.specs.Verified.{bad_history_text, counts_line, not_enabled_text, position_text, report_line, verified_text, IsAnswered, IsVerification, IsVerified, IsVerifiedFrom, IsVerifiedOf};
+ghost use Rattle.reset_service.specs.Verified.{bad_history_text, counts_line, not_enabled_text, position_text};
+ghost use Rattle.reset_service.specs.Verified.{report_line, verified_text, IsAnswered, IsVerification, IsVerified};
+ghost use Rattle.reset_service.specs.Verified.{IsVerifiedFrom, IsVerifiedOf};
 
 use crate::answer::put_numbered;
 use crate::replays::refuse_topology;
@@ -36,7 +38,8 @@ pub fn verify_text<R: Read, W: Write>(
     history: &mut R,
     out: &mut W,
 ) -> Result<Status, RunStop>
-    ensures leaves { IfSome (R.remaining history.old) (λ text. Leaves (IsVerification topology.now text) (W.contents out.old) (W.contents out.new) result) }
+    ensures leaves { IfSome (R.remaining history.old)
+        (λ text. Leaves (IsVerification topology.now text) (W.contents out.old) (W.contents out.new) result) }
     ensures unread { result ≡ Err RunStop.ReadFailed → Keeps (W.contents out.old) (W.contents out.new) }
     ensures untouched { (f : ReadFault) → IsReadFault topology.now f → history.new ≡ history.old }
 {
@@ -54,7 +57,8 @@ fn verify_app<R: Read, W: Write>(
     history: &mut R,
     out: &mut W,
 ) -> Result<Status, RunStop>
-    ensures leaves { IfSome (R.remaining history.old) (λ text. Leaves (IsVerifiedOf app topology text) (W.contents out.old) (W.contents out.new) result) }
+    ensures leaves { IfSome (R.remaining history.old)
+        (λ text. Leaves (IsVerifiedOf app topology text) (W.contents out.old) (W.contents out.new) result) }
     ensures unread { result ≡ Err RunStop.ReadFailed → Keeps (W.contents out.old) (W.contents out.new) }
 {
     match app {
@@ -71,7 +75,9 @@ fn verify_booted<P: Application, R: Read, W: Write>(
     history: &mut R,
     out: &mut W,
 ) -> Result<Status, RunStop>
-    ensures leaves { IfSome (R.remaining history.old) (λ text. Leaves (IsVerifiedFrom (meaning_of P.app P.text P.from_text P.names) topology text) (W.contents out.old) (W.contents out.new) result) }
+    ensures leaves { IfSome (R.remaining history.old)
+        (λ text. Leaves (IsVerifiedFrom (meaning_of P.app P.text P.from_text P.names) topology text)
+        (W.contents out.old) (W.contents out.new) result) }
     ensures unread { result ≡ Err RunStop.ReadFailed → Keeps (W.contents out.old) (W.contents out.new) }
 {
     match Config::<P>::boot(alloc, topology) {
@@ -87,7 +93,9 @@ fn verify_from<P: Application, R: Read, W: Write>(
     history: &mut R,
     out: &mut W,
 ) -> Result<Status, RunStop>
-    ensures leaves { IfSome (R.remaining history.old) (λ text. Leaves (IsVerified (meaning_of P.app P.text P.from_text P.names) opening text) (W.contents out.old) (W.contents out.new) result) }
+    ensures leaves { IfSome (R.remaining history.old)
+        (λ text. Leaves (IsVerified (meaning_of P.app P.text P.from_text P.names) opening text) (W.contents out.old)
+        (W.contents out.new) result) }
     ensures unread { result ≡ Err RunStop.ReadFailed → Keeps (W.contents out.old) (W.contents out.new) }
 {
     match read_book(alloc, history) {
@@ -100,7 +108,8 @@ fn verify_from<P: Application, R: Read, W: Write>(
 
 // Answers a text that is no history.
 fn refuse_history<W: Write>(fault: BookFault, out: &mut W) -> Result<Status, RunStop>
-    ensures leaves { Leaves (λ output. output ≡ (bad_history_text fault, Status.BadInput)) (W.contents out.old) (W.contents out.new) result }
+    ensures leaves { Leaves (λ output. output ≡ (bad_history_text fault, Status.BadInput)) (W.contents out.old)
+        (W.contents out.new) result }
     ensures stop { IfErr result (λ stop. stop ≢ RunStop.ReadFailed) }
 {
     put_history_fault(out, fault)?;
@@ -114,7 +123,8 @@ fn answer_entries<P: Application, W: Write>(
     entries: &[Entry],
     out: &mut W,
 ) -> Result<Status, RunStop>
-    ensures leaves { Leaves (IsAnswered (meaning_of P.app P.text P.from_text P.names) opening entries.now) (W.contents out.old) (W.contents out.new) result }
+    ensures leaves { Leaves (IsAnswered (meaning_of P.app P.text P.from_text P.names) opening entries.now)
+        (W.contents out.old) (W.contents out.new) result }
     ensures stop { IfErr result (λ stop. stop ≢ RunStop.ReadFailed) }
 {
     match verify(alloc, opening, entries) {
@@ -155,7 +165,8 @@ fn put_not_enabled<W: Write>(out: &mut W, position: usize) -> Result<(), WriteFa
 // Writes what a history of so many entries comes to.
 fn put_summary<W: Write>(out: &mut W, entries: usize, reports: &[Report]) -> Result<(), WriteFault>
     ensures ok { OnOk result (Appends (W.contents out.old) (W.contents out.new) (verified_text entries reports.now)) }
-    ensures err { OnErr result (AppendsFront (W.contents out.old) (W.contents out.new) (verified_text entries reports.now)) }
+    ensures err { OnErr result
+        (AppendsFront (W.contents out.old) (W.contents out.new) (verified_text entries reports.now)) }
 {
     put_reports(out, reports)?;
     put_counts(out, entries, reports.len())
@@ -179,7 +190,8 @@ fn put_counts<W: Write>(out: &mut W, entries: usize, reports: usize) -> Result<(
 
 fn put_reports<W: Write>(out: &mut W, reports: &[Report]) -> Result<(), WriteFault>
     ensures ok { OnOk result (Appends (W.contents out.old) (W.contents out.new) (flat_map report_line reports.now)) }
-    ensures err { OnErr result (AppendsFront (W.contents out.old) (W.contents out.new) (flat_map report_line reports.now)) }
+    ensures err { OnErr result
+        (AppendsFront (W.contents out.old) (W.contents out.new) (flat_map report_line reports.now)) }
 {
     for report in reports {
         put_report(out, *report)?;

@@ -3,7 +3,8 @@
 ghost use Rattle.std.specs.Prelude.{◌≡◌, [], codes, map, Some, IfOk, IfErr};
 ghost use Rattle.clap.specs.Words.{first_of, found_of, kind_of, rows_of, subcommand_rows_of};
 ghost use Rattle.reset_service.specs.declared.words.LineFault.TheVariants.{NoMemory};
-ghost use Rattle.reset_service.specs.Words.{faults_of, AskFor, AskedBy, HasJob, HasTexts, IsFaultOf, IsInvalidValue, StandsFor};
+ghost use Rattle.reset_service.specs.Words.{faults_of, AskFor, AskedBy, HasJob, HasTexts, IsFaultOf, IsInvalidValue};
+ghost use Rattle.reset_service.specs.Words.{StandsFor};
 
 use crate::commands::command_line;
 use clap::error::ErrorKind;

@@ -1,5 +1,6 @@
 -- Which numbers a list has, as a test.
-use Rattle.std.proofs.Common.{◌≡◌, ◌≢◌, ℕ, suc, ◌==◌, Bool, true, false, ◌&&◌, nat_eq, List, [], ◌∷◌, filter, Contains, refl, sym, ap, ◌∙◌, ◌⊎◌, inl, inr, arith, true≢false}
+use Rattle.std.proofs.Common.{◌≡◌, ◌≢◌, ℕ, suc, ◌==◌, Bool, true, false, ◌&&◌, nat_eq, List, [], ◌∷◌, filter, Contains}
+use Rattle.std.proofs.Common.{refl, sym, ap, ◌∙◌, ◌⊎◌, inl, inr, arith, true≢false}
 use Rattle.std.specs.List.{list_any}
 use Rattle.topology.specs.Building.{has}
 use Rattle.std.proofs.lemmas.Bool.{eq-eqb}
@@ -7,13 +8,15 @@ use Rattle.std.proofs.lemmas.Bool.Decides.{eqb_tells}
 use Rattle.std.proofs.lemmas.List.Recursion.{or_at}
 
 pub has-Contains : (xs : List ℕ) (x : ℕ) → Contains xs x → has xs x ≡ true
-has-Contains xs x there = or_at (list_any (λ y. y == x)) (λ y. y == x) refl (λ _ _. refl) xs there.0 x there.1 (eq-eqb _ _ there.2)
+has-Contains xs x there =
+    or_at (list_any (λ y. y == x)) (λ y. y == x) refl (λ _ _. refl) xs there.0 x there.1 (eq-eqb _ _ there.2)
 
 pub Contains-has : (xs : List ℕ) (x : ℕ) → has xs x ≡ true → Contains xs x
 Contains-has [] x there = absurd (true≢false (sym there))
 Contains-has (y ∷ ys) x there = first (eqb_tells y x) (Contains-has ys x)
   where
-    first : ((nat_eq y x ≡ true) × (y ≡ x)) ⊎ ((nat_eq y x ≡ false) × (y ≢ x)) → (has ys x ≡ true → Contains ys x) → Contains (y ∷ ys) x
+    first : ((nat_eq y x ≡ true) × (y ≡ x)) ⊎ ((nat_eq y x ≡ false) × (y ≢ x)) → (has ys x ≡ true → Contains ys x)
+        → Contains (y ∷ ys) x
     first (inl e) more = (0, omega arith, e.1)
     first (inr e) more =
         let rest = more (rw e.0 at there) in
@@ -28,8 +31,11 @@ pub has-filter : (p : ℕ → Bool) (xs : List ℕ) (x : ℕ) → has (filter p 
 has-filter p [] x = sym (and-false (p x))
 has-filter p (y ∷ ys) x = at (p y) refl (eqb_tells y x) (has-filter p ys x)
   where
-    at : (b : Bool) → p y ≡ b → ((nat_eq y x ≡ true) × (y ≡ x)) ⊎ ((nat_eq y x ≡ false) × (y ≢ x)) → has (filter p ys) x ≡ (p x && has ys x) → has (filter p (y ∷ ys)) x ≡ (p x && has (y ∷ ys) x)
+    at : (b : Bool) → p y ≡ b → ((nat_eq y x ≡ true) × (y ≡ x)) ⊎ ((nat_eq y x ≡ false) × (y ≢ x))
+        → has (filter p ys) x ≡ (p x && has ys x) → has (filter p (y ∷ ys)) x ≡ (p x && has (y ∷ ys) x)
     at true is (inl e) rest = rw (is, e.0) (sym (ap (λ k. p k && true) (sym e.1) ∙ ap (λ b. b && true) is))
-    at false is (inl e) rest = rw (is, e.0) (rest ∙ ap (λ b. b && has ys x) (ap p (sym e.1) ∙ is) ∙ sym (ap (λ b. b && true) (ap p (sym e.1) ∙ is)))
+    at false is (inl e) rest =
+        rw (is, e.0)
+        (rest ∙ ap (λ b. b && has ys x) (ap p (sym e.1) ∙ is) ∙ sym (ap (λ b. b && true) (ap p (sym e.1) ∙ is)))
     at true is (inr e) rest = rw (is, e.0) rest
     at false is (inr e) rest = rw (is, e.0) rest

@@ -1,15 +1,19 @@
 -- What two lists describe is one: one graph, or one first fault.
-use Rattle.std.proofs.Common.{◌≡◌, ℕ, zero, suc, ◌+◌, ◌<◌, ◌⊎◌, List, [], ◌∷◌, ◌++◌, length, get_or, take, drop, Contains, refl, sym, ap, ap₂, subst, ◌∙◌, arith, inl, inr, ⊎_elim, length-append}
+use Rattle.std.proofs.Common.{◌≡◌, ℕ, zero, suc, ◌+◌, ◌<◌, ◌⊎◌, List, [], ◌∷◌, ◌++◌, length, get_or, take, drop}
+use Rattle.std.proofs.Common.{Contains, refl, sym, ap, ap₂, subst, ◌∙◌, arith, inl, inr, ⊎_elim, length-append}
 use Rattle.std.specs.List.Sorted.{IsStrictlyIncreasing}
 use Rattle.std.specs.FinSet as set
 use Rattle.std.specs.Cmp.{both_ways as same_tests}
 use Rattle.std.proofs.lemmas.Bool.{cases_order}
 use Rattle.std.proofs.lemmas.List.{get_or_append_left, get_or_at, get_or_default, take-append-le}
 use Rattle.std.proofs.Math.Seq.{take-append_seam}
-use Rattle.topology.specs.Faults.{HasFault, IsCutOff, IsFirst, IsFirstFault, IsFirstRepeat, IsGraphOf, IsRepeated, rank_of}
+use Rattle.topology.specs.Faults.{HasFault, IsCutOff, IsFirst, IsFirstFault, IsFirstRepeat, IsGraphOf, IsRepeated}
+use Rattle.topology.specs.Faults.{rank_of}
 use Rattle.topology.specs.Graph.{Graph, pair_cmp}
 use Rattle.topology.specs.declared.fault.TopoFault.{TopoFault}
-use Rattle.topology.specs.declared.fault.TopoFault.TheVariants.{NoNodes, TooManyNodes, BadId, TwiceNode, TooManyLinks, StrangeNode, SelfLink, TwiceLink, Disconnected, NoSuchLink, LinkIsThere, NoMemory}
+use Rattle.topology.specs.declared.fault.TopoFault.TheVariants.{NoNodes, TooManyNodes, BadId, TwiceNode, TooManyLinks}
+use Rattle.topology.specs.declared.fault.TopoFault.TheVariants.{StrangeNode, SelfLink, TwiceLink, Disconnected}
+use Rattle.topology.specs.declared.fault.TopoFault.TheVariants.{NoSuchLink, LinkIsThere, NoMemory}
 use Rattle.topology.proofs.Ascending.{rises}
 use Rattle.topology.proofs.FirstItems.{split_at}
 use Rattle.topology.proofs.RowLemmas.{pair_total, pair_antisymmetric}
@@ -18,7 +22,8 @@ use Rattle.topology.proofs.RowLemmas.{pair_total, pair_antisymmetric}
 
 below_all : (x : ℕ) (xs : List ℕ) → IsStrictlyIncreasing (x ∷ xs) → (z : ℕ) → Contains xs z → x < z
 below_all x xs up z (k, low, at) =
-    subst (λ n. x < n) (sym (get_or_default xs k z 0 low) ∙ at) (rises (x ∷ xs) up 0 (suc k) (omega arith) (omega (arith, low)))
+    subst (λ n. x < n) (sym (get_or_default xs k z 0 low) ∙ at)
+        (rises (x ∷ xs) up 0 (suc k) (omega arith) (omega (arith, low)))
 
 rest_up : (x : ℕ) (xs : List ℕ) → IsStrictlyIncreasing (x ∷ xs) → IsStrictlyIncreasing xs
 rest_up x xs up k low =
@@ -35,12 +40,14 @@ pub same_ascending : (xs ys : List ℕ) → IsStrictlyIncreasing xs → IsStrict
 same_ascending [] [] xs_up ys_up to from = refl
 same_ascending [] (y ∷ ys) xs_up ys_up to from = let k = from y (0, omega arith, refl) in absurd (omega (arith, k.1))
 same_ascending (x ∷ xs) [] xs_up ys_up to from = let k = to x (0, omega arith, refl) in absurd (omega (arith, k.1))
-same_ascending (x ∷ xs) (y ∷ ys) xs_up ys_up to from = ap₂ (λ n ns. n ∷ ns) head (same_ascending xs ys (rest_up x xs xs_up) (rest_up y ys ys_up) rest_to rest_from)
+same_ascending (x ∷ xs) (y ∷ ys) xs_up ys_up to from =
+    ap₂ (λ n ns. n ∷ ns) head (same_ascending xs ys (rest_up x xs xs_up) (rest_up y ys ys_up) rest_to rest_from)
   where
     head : x ≡ y
     head =
         ⊎_elim (λ e. sym e)
-        (λ x_in. ⊎_elim (λ e. e) (λ y_in. absurd (omega (arith, below_all x xs xs_up y y_in, below_all y ys ys_up x x_in)))
+        (λ x_in. ⊎_elim (λ e. e)
+            (λ y_in. absurd (omega (arith, below_all x xs xs_up y y_in, below_all y ys ys_up x x_in)))
         (in_rest x y xs (from y (0, omega arith, refl))))
         (in_rest y x ys (to x (0, omega arith, refl)))
 
@@ -56,11 +63,13 @@ same_ascending (x ∷ xs) (y ∷ ys) xs_up ys_up to from = ap₂ (λ n ns. n ∷
 
 -- ---- one graph
 
-pub one_graph : (nodes : List ℕ) (links : List (ℕ × ℕ)) (g h : Graph) → IsGraphOf nodes links g → IsGraphOf nodes links h → g ≡ h
+pub one_graph : (nodes : List ℕ) (links : List (ℕ × ℕ)) (g h : Graph) → IsGraphOf nodes links g
+    → IsGraphOf nodes links h → g ≡ h
 one_graph nodes links g h of_g of_h =
     let Parts : Type 0 = List ℕ × (ℕ × set.FinSet pair_cmp) in
     let whole : Parts → Graph = λ p. record { ids = p.0; bound = p.1.0; links = p.1.1 } in
-    let parts : (g.ids, (g.bound, g.links)) ≡ (h.ids, (h.bound, h.links)) = ap₂ (λ a b. (a, b)) ids (ap₂ (λ a b. (a, b)) bounds pairs) in
+    let parts : (g.ids, (g.bound, g.links)) ≡ (h.ids, (h.bound, h.links)) =
+        ap₂ (λ a b. (a, b)) ids (ap₂ (λ a b. (a, b)) bounds pairs) in
     ap whole parts
   where
     ids : g.ids ≡ h.ids
@@ -93,22 +102,26 @@ module _ {X : Type 0} (xs : List X) where
     within : length front < length xs
     within = omega (arith, ap length whole, length-append front (x ∷ rest))
 
-  module _ (front rest : List X) (x : X) (whole : xs ≡ front ++ x ∷ rest) (behind more : List X) (y : X) (other : xs ≡ behind ++ y ∷ more) where
+  module _ (front rest : List X) (x : X) (whole : xs ≡ front ++ x ∷ rest) (behind more : List X) (y : X)
+      (other : xs ≡ behind ++ y ∷ more) where
     -- the item of a shorter part stands in the longer one
     item_in : length front < length behind → get_or behind (length front) x ≡ x
     item_in less =
-        sym (get_or_append_left behind (y ∷ more) x (length front) less) ∙ ap (λ ys. get_or ys (length front) x) (sym other) ∙ item_at front rest x whole
+        sym (get_or_append_left behind (y ∷ more) x (length front) less)
+            ∙ ap (λ ys. get_or ys (length front) x) (sym other) ∙ item_at front rest x whole
 
     part_in : length front < length behind → front ≡ take (length front) behind
     part_in less =
-        sym (part_is front rest x whole) ∙ ap (take (length front)) other ∙ take-append-le (length front) behind (y ∷ more) (omega (arith, less))
+        sym (part_is front rest x whole) ∙ ap (take (length front)) other
+            ∙ take-append-le (length front) behind (y ∷ more) (omega (arith, less))
 
     -- two parts of which neither is the longer one end at one item
     one_item : (length front < length behind → ⊥) → (length behind < length front → ⊥) → x ≡ y
     one_item not_less not_more =
         ⊎_elim
         (λ same.
-        sym (item_at front rest x whole) ∙ get_or_default xs (length front) x y (within front rest x whole) ∙ ap (λ k. get_or xs k y) same
+        sym (item_at front rest x whole) ∙ get_or_default xs (length front) x y (within front rest x whole)
+            ∙ ap (λ k. get_or xs k y) same
         ∙ item_at behind more y other)
         (λ apart. ⊎_elim (λ less. absurd (not_less less)) (λ longer. absurd (not_more longer)) apart)
         (cases_order (length front) (length behind))
@@ -119,14 +132,18 @@ module _ {X : Type 0} (xs : List X) where
       (λ less. b.before x (length a.front, less, item_in a.front a.rest x a.whole b.front b.rest y b.whole less) a.here)
       (λ less. a.before y (length b.front, less, item_in b.front b.rest y b.whole a.front a.rest x a.whole less) b.here)
 
-  repeats_in : (x y : X) (a : IsFirstRepeat xs x) (b : IsFirstRepeat xs y) → length a.front < length b.front → IsRepeated b.front x
+  repeats_in : (x y : X) (a : IsFirstRepeat xs x) (b : IsFirstRepeat xs y) → length a.front < length b.front
+      → IsRepeated b.front x
   repeats_in x y a b less =
       let k = length a.front in
       record {
         front = take k b.front;
         rest = drop (k + 1) b.front;
-        whole = split_at b.front k x less ∙ ap (λ z. take k b.front ++ z ∷ drop (k + 1) b.front) (item_in a.front a.rest x a.whole b.front b.rest y b.whole less);
-        earlier = subst (λ ys. Contains ys x) (part_in a.front a.rest x a.whole b.front b.rest y b.whole less) a.earlier;
+        whole = split_at b.front k x less
+            ∙ ap (λ z. take k b.front ++ z ∷ drop (k + 1) b.front)
+            (item_in a.front a.rest x a.whole b.front b.rest y b.whole less);
+        earlier =
+            subst (λ ys. Contains ys x) (part_in a.front a.rest x a.whole b.front b.rest y b.whole less) a.earlier;
       }
 
   pub one_first_repeat : (x y : X) → IsFirstRepeat xs x → IsFirstRepeat xs y → x ≡ y
@@ -139,7 +156,9 @@ module _ {X : Type 0} (xs : List X) where
 -- of one graph one node is the least that is cut off
 one_cut_off : (g : Graph) (m n : ℕ) → IsCutOff g m → IsCutOff g n → m ≡ n
 one_cut_off g m n a b =
-    ⊎_elim (λ same. same) (λ apart. ⊎_elim (λ less. absurd (a.cut_off (b.least m a.node less))) (λ less. absurd (b.cut_off (a.least n b.node less))) apart)
+    ⊎_elim (λ same. same)
+        (λ apart. ⊎_elim (λ less. absurd (a.cut_off (b.least m a.node less)))
+        (λ less. absurd (b.cut_off (a.least n b.node less))) apart)
     (cases_order m n)
 
 module _ (nodes : List ℕ) (links : List (ℕ × ℕ)) where
@@ -151,7 +170,8 @@ module _ (nodes : List ℕ) (links : List (ℕ × ℕ)) where
   same_rank TooManyLinks TooManyLinks same a b = refl
   same_rank (StrangeNode m) (StrangeNode n) same a b = ap StrangeNode (one_first _ _ m n a b)
   same_rank (SelfLink m) (SelfLink n) same a b = ap (λ (l : ℕ × ℕ). SelfLink l.0) (one_first links _ (m, m) (n, n) a b)
-  same_rank (TwiceLink i j) (TwiceLink m n) same a b = ap (λ (l : ℕ × ℕ). TwiceLink l.0 l.1) (one_first_repeat _ (i, j) (m, n) a b)
+  same_rank (TwiceLink i j) (TwiceLink m n) same a b =
+      ap (λ (l : ℕ × ℕ). TwiceLink l.0 l.1) (one_first_repeat _ (i, j) (m, n) a b)
   same_rank (Disconnected m) (Disconnected n) same (g, of_g, a) (h, of_h, b) =
       ap Disconnected (one_cut_off g m n a (subst (λ x. IsCutOff x n) (one_graph nodes links h g of_h of_g) b))
   same_rank NoMemory e same a b = absurd a

@@ -1,5 +1,7 @@
 -- The graph of rows: which ids its rows link.
-use Rattle.std.proofs.Common.{◌≡◌, ℕ, zero, suc, ◌+◌, ◌<◌, Bool, true, false, ◌||◌, eqb, List, [], ◌∷◌, Equal, map, length, get_or, Some, None, position, Vec, Global, Result, is_ok, sym, refl, ap, ap₂, subst, ◌∙◌, arith, nat_cmp, eqb-true, eq-eqb}
+use Rattle.std.proofs.Common.{◌≡◌, ℕ, zero, suc, ◌+◌, ◌<◌, Bool, true, false, ◌||◌, eqb, List, [], ◌∷◌, Equal, map}
+use Rattle.std.proofs.Common.{length, get_or, Some, None, position, Vec, Global, Result, is_ok, sym, refl, ap, ap₂}
+use Rattle.std.proofs.Common.{subst, ◌∙◌, arith, nat_cmp, eqb-true, eq-eqb}
 use Rattle.std.specs.List.{list_any, range_with_len, flat_map}
 use Rattle.std.specs.List.Sorted.{IsStrictlyIncreasing, IsBinarySearchResult}
 use Rattle.std.specs.FinSet as set
@@ -25,7 +27,8 @@ pair_total = on_texts (λ (p : ℕ × ℕ). p.0 ∷ p.1 ∷ [])
 
 pub same_pair : (p q : ℕ × ℕ) → eq_by_cmp pair_cmp p q ≡ true → p ≡ q
 same_pair p q e =
-    let lists : (p.0 ∷ p.1 ∷ []) ≡ (q.0 ∷ q.1 ∷ []) = slice_cmp-IsAntisymmetric nat_cmp-IsAntisymmetric _ _ ((Equal-is (pair_cmp p q)).0 e) in
+    let lists : (p.0 ∷ p.1 ∷ []) ≡ (q.0 ∷ q.1 ∷ []) =
+        slice_cmp-IsAntisymmetric nat_cmp-IsAntisymmetric _ _ ((Equal-is (pair_cmp p q)).0 e) in
     let first : p.0 ≡ q.0 = cc in
     let second : p.1 ≡ q.1 = cc in
     ap₂ (λ x y. (x, y)) first second
@@ -60,16 +63,20 @@ module _ (ids : List ℕ) (rows : List (List ℕ)) where
   abbrev row_links : ℕ → ℕ → ℕ → Bool
   row_links a b i = list_any (λ j. eq_by_cmp pair_cmp (a, b) (get_or ids i 0, get_or ids j 0)) (row_at rows i)
 
-  any_row : (a b : ℕ) (is : List ℕ) → list_any (eq_by_cmp pair_cmp (a, b)) (flat_map (pairs_at ids rows) is) ≡ list_any (row_links a b) is
+  any_row : (a b : ℕ) (is : List ℕ)
+      → list_any (eq_by_cmp pair_cmp (a, b)) (flat_map (pairs_at ids rows) is) ≡ list_any (row_links a b) is
   any_row a b [] = refl
   any_row a b (i ∷ is) =
       list_any-append (eq_by_cmp pair_cmp (a, b)) (pairs_at ids rows i) (flat_map (pairs_at ids rows) is)
-      ∙ ap₂ (λ x y. x || y) (any_map (eq_by_cmp pair_cmp (a, b)) (λ j. (get_or ids i 0, get_or ids j 0)) (row_at rows i)) (any_row a b is)
+      ∙ ap₂ (λ x y. x || y)
+          (any_map (eq_by_cmp pair_cmp (a, b)) (λ j. (get_or ids i 0, get_or ids j 0)) (row_at rows i)) (any_row a b is)
 
-  linked_by_rows : (a b : ℕ) → are_linked (graph_of ids rows) a b ≡ list_any (row_links a b) (range_with_len 0 (length ids))
+  linked_by_rows : (a b : ℕ)
+      → are_linked (graph_of ids rows) a b ≡ list_any (row_links a b) (range_with_len 0 (length ids))
   unfolding links_of
   linked_by_rows a b =
-      set.contains-from_list pair_total (flat_map (pairs_at ids rows) (range_with_len 0 (length ids))) (a, b) ∙ any_row a b (range_with_len 0 (length ids))
+      set.contains-from_list pair_total (flat_map (pairs_at ids rows) (range_with_len 0 (length ids))) (a, b)
+          ∙ any_row a b (range_with_len 0 (length ids))
 
   pub linked_from : (a b : ℕ) → AreLinked (graph_of ids rows) a b → Linked ids rows a b
   linked_from a b e =
@@ -77,9 +84,11 @@ module _ (ids : List ℕ) (rows : List (List ℕ)) where
       let i = row.1 in
       let low : row.0 < length ids = subst (λ n. row.0 < n) (length_range 0 (length ids)) row.2 in
       let at : row.0 ≡ i = sym (get_or-range_with_len 0 (length ids) row.0 i low ∙ omega arith) ∙ row.3 in
-      let entry = Any-from_list_any (λ j. eq_by_cmp pair_cmp (a, b) (get_or ids i 0, get_or ids j 0)) (row_at rows i) row.4 in
+      let entry =
+          Any-from_list_any (λ j. eq_by_cmp pair_cmp (a, b) (get_or ids i 0, get_or ids j 0)) (row_at rows i) row.4 in
       let j = entry.1 in
-      let same : ◌≡◌ {A = ℕ × ℕ} (a, b) (get_or ids i 0, get_or ids j 0) = same_pair (a, b) (get_or ids i 0, get_or ids j 0) entry.4 in
+      let same : ◌≡◌ {A = ℕ × ℕ} (a, b) (get_or ids i 0, get_or ids j 0) =
+          same_pair (a, b) (get_or ids i 0, get_or ids j 0) entry.4 in
       record {
         i = i;
         j = j;
@@ -89,7 +98,8 @@ module _ (ids : List ℕ) (rows : List (List ℕ)) where
         second = ap (λ (p : ℕ × ℕ). p.1) (sym same);
       }
 
-  pub linked_to : (i j : ℕ) → i < length ids → near_has rows i j ≡ true → AreLinked (graph_of ids rows) (get_or ids i 0) (get_or ids j 0)
+  pub linked_to : (i j : ℕ) → i < length ids → near_has rows i j ≡ true
+      → AreLinked (graph_of ids rows) (get_or ids i 0) (get_or ids j 0)
   linked_to i j within e =
       let a = get_or ids i 0 in
       let b = get_or ids j 0 in
@@ -97,13 +107,16 @@ module _ (ids : List ℕ) (rows : List (List ℕ)) where
       let same : entry.1 ≡ j = eqb-true entry.1 j entry.4 in
       let here : row_links a b i ≡ true =
       list_any-from_Any (λ j. eq_by_cmp pair_cmp (a, b) (get_or ids i 0, get_or ids j 0)) (row_at rows i)
-      (entry.0, entry.1, entry.2, entry.3, subst (λ k. eq_by_cmp pair_cmp (a, b) (a, get_or ids k 0) ≡ true) (sym same) (pair_itself (a, b))) in
+      (entry.0, entry.1, entry.2, entry.3, subst (λ k. eq_by_cmp pair_cmp (a, b) (a, get_or ids k 0) ≡ true) (sym same)
+          (pair_itself (a, b))) in
       linked_by_rows a b ∙ list_any-from_Any (row_links a b) (range_with_len 0 (length ids))
-      (i, i, subst (λ n. i < n) (sym (length_range 0 (length ids))) within, get_or-range_with_len 0 (length ids) i i within ∙ omega arith, here)
+      (i, i, subst (λ n. i < n) (sym (length_range 0 (length ids))) within, get_or-range_with_len 0 (length ids) i i
+          within ∙ omega arith, here)
 
   module _ (up : IsStrictlyIncreasing ids) (as_rows : AreRows (length ids) rows) where
     -- the ids at two indexes are linked where the row of one has the other
-    pub linked_at : (i j : ℕ) → i < length ids → j < length ids → are_linked (graph_of ids rows) (get_or ids i 0) (get_or ids j 0) ≡ near_has rows i j
+    pub linked_at : (i j : ℕ) → i < length ids → j < length ids
+        → are_linked (graph_of ids rows) (get_or ids i 0) (get_or ids j 0) ≡ near_has rows i j
     linked_at i j i_in j_in =
         same_tests _ _
         (λ e.
@@ -118,7 +131,8 @@ module _ (ids : List ℕ) (rows : List (List ℕ)) where
     linked_symmetric a b e =
         let l = linked_from a b e in
         let back = linked_to l.j l.i (as_rows.within l.i l.j l.near) (as_rows.symmetric l.j l.i ∙ l.near) in
-        subst (λ y. AreLinked (graph_of ids rows) b y) l.first (subst (λ x. AreLinked (graph_of ids rows) x (get_or ids l.i 0)) l.second back)
+        subst (λ y. AreLinked (graph_of ids rows) b y) l.first
+            (subst (λ x. AreLinked (graph_of ids rows) x (get_or ids l.i 0)) l.second back)
 
     -- what rows make is a graph
     pub graph_of_rows : 0 < length ids → IsGraph (graph_of ids rows)
@@ -129,22 +143,28 @@ module _ (ids : List ℕ) (rows : List (List ℕ)) where
       symmetric = λ a b. same_tests _ _ (linked_symmetric a b) (linked_symmetric b a);
       irreflexive = λ a e.
           let l = linked_from a a e in
-          let same : l.i ≡ l.j = index_once ids up l.i l.j l.within (as_rows.within l.i l.j l.near) (l.first ∙ sym l.second) in
-          both_ways (near_has rows l.j l.j) (as_rows.irreflexive l.j) (subst (λ k. near_has rows k l.j ≡ true) same l.near);
+          let same : l.i ≡ l.j =
+              index_once ids up l.i l.j l.within (as_rows.within l.i l.j l.near) (l.first ∙ sym l.second) in
+          both_ways (near_has rows l.j l.j) (as_rows.irreflexive l.j)
+              (subst (λ k. near_has rows k l.j ≡ true) same l.near);
       ends = λ a b e. let l = linked_from a b e in (l.i, l.within, get_or_default ids l.i a 0 l.within ∙ l.first);
     }
 
     -- the ids at the row of an index are the neighbours of its id
-    pub neighbours_at : (i : ℕ) → i < length ids → map (λ n. get_or ids n 0) (row_at rows i) ≡ neighbours_of (graph_of ids rows) (get_or ids i 0)
+    pub neighbours_at : (i : ℕ) → i < length ids
+        → map (λ n. get_or ids n 0) (row_at rows i) ≡ neighbours_of (graph_of ids rows) (get_or ids i 0)
     neighbours_at i i_in =
-        filter_by_row (are_linked (graph_of ids rows) (get_or ids i 0)) ids (row_at rows i) (as_rows.ascending i) (λ j e. as_rows.within i j e)
+        filter_by_row (are_linked (graph_of ids rows) (get_or ids i 0)) ids (row_at rows i) (as_rows.ascending i)
+            (λ j e. as_rows.within i j e)
         (λ k k_in. linked_at i k i_in k_in)
 
     -- what the index of a number tells of its link with the id at another
-    pub linked_at_index : (i b j : ℕ) → i < length ids → Some j ≡ position (λ k. eqb k b) ids → near_has rows i j ≡ are_linked (graph_of ids rows) (get_or ids i 0) b
+    pub linked_at_index : (i b j : ℕ) → i < length ids → Some j ≡ position (λ k. eqb k b) ids
+        → near_has rows i j ≡ are_linked (graph_of ids rows) (get_or ids i 0) b
     linked_at_index i b j i_in at_b =
         let index = position-Some (λ k. eqb k b) ids j 0 (sym at_b) in
-        sym (linked_at i j i_in index.0) ∙ ap (are_linked (graph_of ids rows) (get_or ids i 0)) (eqb-true (get_or ids j 0) b index.1)
+        sym (linked_at i j i_in index.0)
+            ∙ ap (are_linked (graph_of ids rows) (get_or ids i 0)) (eqb-true (get_or ids j 0) b index.1)
 
     pub unlinked_first : (a b : ℕ) → None ≡ position (λ k. eqb k a) ids → false ≡ are_linked (graph_of ids rows) a b
     unlinked_first a b none =
@@ -157,11 +177,14 @@ module _ (ids : List ℕ) (rows : List (List ℕ)) where
     unlinked_second a b none =
         unlinked_first b a none ∙ same_tests _ _ (linked_symmetric b a) (linked_symmetric a b)
 
-module _ (n : ℕ) (near : List (Vec ℕ Global)) (as_rows : AreRows n (map (λ r. r.items) near)) (i : ℕ) (row : Vec ℕ Global) (within : i < n) (read : row ≡ get_or near i row) where
+module _ (n : ℕ) (near : List (Vec ℕ Global)) (as_rows : AreRows n (map (λ r. r.items) near)) (i : ℕ)
+    (row : Vec ℕ Global) (within : i < n) (read : row ≡ get_or near i row) where
   -- the row of an index, as the items of a vector of vectors
   pub row_here : row_at (map (λ r. r.items) near) i ≡ row.items
   row_here =
-      get_or-map (λ r. r.items) near i row [] (subst (λ k. i < k) (sym as_rows.count ∙ length-map near (λ r. r.items)) within) ∙ ap (λ r. r.items) (sym read)
+      get_or-map (λ r. r.items) near i row []
+          (subst (λ k. i < k) (sym as_rows.count ∙ length-map near (λ r. r.items)) within)
+          ∙ ap (λ r. r.items) (sym read)
 
   pub row_ascends : IsStrictlyIncreasing row.items
   row_ascends = subst IsStrictlyIncreasing row_here (as_rows.ascending i)
@@ -173,17 +196,25 @@ module _ (n : ℕ) (near : List (Vec ℕ Global)) (as_rows : AreRows n (map (λ 
       subst (λ x. x < n) (get_or_default row.items k 0 d k_in) (as_rows.within i (get_or row.items k 0) e)
 
   -- a search in the row finds what the row has
-  pub found_in_row : (j : ℕ) (r : Result ℕ ℕ) → IsBinarySearchResult (λ y. nat_cmp y j) row.items r → is_ok r ≡ near_has (map (λ r. r.items) near) i j
+  pub found_in_row : (j : ℕ) (r : Result ℕ ℕ) → IsBinarySearchResult (λ y. nat_cmp y j) row.items r
+      → is_ok r ≡ near_has (map (λ r. r.items) near) i j
   found_in_row j r h =
       member_by_search row.items j row_ascends r h ∙ ap (λ xs. list_any (λ y. eqb y j) xs) (sym row_here)
 
-pub row_neighbours : (ids : List ℕ) (near : List (Vec ℕ Global)) → AreRows (length ids) (map (λ r. r.items) near) → (i : ℕ) (row : Vec ℕ Global) → i < length ids → row ≡ get_or near i row →
-    IsStrictlyIncreasing ids → map (λ n. get_or ids n 0) row.items ≡ neighbours_of (graph_of ids (map (λ r. r.items) near)) (get_or ids i 0)
+pub row_neighbours : (ids : List ℕ) (near : List (Vec ℕ Global)) → AreRows (length ids) (map (λ r. r.items) near)
+    → (i : ℕ) (row : Vec ℕ Global) → i < length ids → row ≡ get_or near i row →
+    IsStrictlyIncreasing ids
+        → map (λ n. get_or ids n 0) row.items ≡ neighbours_of (graph_of ids (map (λ r. r.items) near)) (get_or ids i 0)
 row_neighbours ids near as_rows i row within read up =
-    ap (map (λ n. get_or ids n 0)) (sym (row_here (length ids) near as_rows i row within read)) ∙ neighbours_at ids (map (λ r. r.items) near) up as_rows i within
+    ap (map (λ n. get_or ids n 0)) (sym (row_here (length ids) near as_rows i row within read))
+        ∙ neighbours_at ids (map (λ r. r.items) near) up as_rows i within
 
 -- a search for the index of a number, in the row of another, tells whether the two are linked
-pub linked_by_search : (ids : List ℕ) (near : List (Vec ℕ Global)) → AreRows (length ids) (map (λ r. r.items) near) → IsStrictlyIncreasing ids → (i : ℕ) (row : Vec ℕ Global) → i < length ids → row ≡ get_or near i row →
-    (b j : ℕ) → Some j ≡ position (λ k. eqb k b) ids → (r : Result ℕ ℕ) → IsBinarySearchResult (λ y. nat_cmp y j) row.items r → is_ok r ≡ are_linked (graph_of ids (map (λ r. r.items) near)) (get_or ids i 0) b
+pub linked_by_search : (ids : List ℕ) (near : List (Vec ℕ Global)) → AreRows (length ids) (map (λ r. r.items) near)
+    → IsStrictlyIncreasing ids → (i : ℕ) (row : Vec ℕ Global) → i < length ids → row ≡ get_or near i row →
+    (b j : ℕ) → Some j ≡ position (λ k. eqb k b) ids → (r : Result ℕ ℕ)
+        → IsBinarySearchResult (λ y. nat_cmp y j) row.items r
+        → is_ok r ≡ are_linked (graph_of ids (map (λ r. r.items) near)) (get_or ids i 0) b
 linked_by_search ids near as_rows up i row within read b j at_b r h =
-    found_in_row (length ids) near as_rows i row within read j r h ∙ linked_at_index ids (map (λ r. r.items) near) up as_rows i b j within at_b
+    found_in_row (length ids) near as_rows i row within read j r h
+        ∙ linked_at_index ids (map (λ r. r.items) near) up as_rows i b j within at_b

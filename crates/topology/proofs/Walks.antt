@@ -1,5 +1,6 @@
 -- Walks of a graph, and the distances that a search finds.
-use Rattle.std.proofs.Common.{◌≡◌, ◌≢◌, ℕ, zero, suc, ◌<◌, ◌≤◌, true, List, [], ◌∷◌, ◌++◌, length, get_or, Contains, sym, refl, ap, subst, ◌∙◌, arith, ⊎_elim}
+use Rattle.std.proofs.Common.{◌≡◌, ◌≢◌, ℕ, zero, suc, ◌<◌, ◌≤◌, true, List, [], ◌∷◌, ◌++◌, length, get_or, Contains}
+use Rattle.std.proofs.Common.{sym, refl, ap, subst, ◌∙◌, arith, ⊎_elim}
 use Rattle.std.proofs.lemmas.List.{length_push, get_or_default}
 use Rattle.std.proofs.lemmas.Bool.{cases_lt, cases_eq}
 use Rattle.topology.specs.Graph.{Graph, AreLinked, IsNode, IsWalk, IsReached, IsDistance, IsGraph, IsConnected}
@@ -16,7 +17,8 @@ module _ (g : Graph) where
   walk_on a b c (x ∷ xs) ds w v = (w.0, walk_on x b c xs ds w.1 v)
 
   -- a walk the other way round
-  pub walk_back : ((a b : ℕ) → AreLinked g a b → AreLinked g b a) → (a b : ℕ) (cs : List ℕ) → IsWalk g a cs b → (ds : List ℕ) × IsWalk g b ds a × (length ds ≡ length cs)
+  pub walk_back : ((a b : ℕ) → AreLinked g a b → AreLinked g b a) → (a b : ℕ) (cs : List ℕ) → IsWalk g a cs b
+      → (ds : List ℕ) × IsWalk g b ds a × (length ds ≡ length cs)
   walk_back turn a b [] w = ([], sym w, refl)
   walk_back turn a b (c ∷ cs) w =
       let r = walk_back turn c b cs w.1 in
@@ -37,12 +39,14 @@ distance_turned g a b d are p =
     let back = walk_back g (linked_back g are) a b p.walk.0 p.walk.1 in
     record {
       walk = (back.0, back.1, back.2 ∙ p.walk.2);
-      least = λ cs w. let there = walk_back g (linked_back g are) b a cs w in omega (arith, p.least there.0 there.1, there.2);
+      least = λ cs w. let there =
+          walk_back g (linked_back g are) b a cs w in omega (arith, p.least there.0 there.1, there.2);
     }
 
 -- ---- what a search finds
 
-module _ (ids : List ℕ) (rows : List (List ℕ)) (as_ids : AreIds ids) (as_rows : AreRows (length ids) rows) (start : ℕ) (marks : List ℕ) (found : AreDistances (length ids) rows start marks) where
+module _ (ids : List ℕ) (rows : List (List ℕ)) (as_ids : AreIds ids) (as_rows : AreRows (length ids) rows) (start : ℕ)
+    (marks : List ℕ) (found : AreDistances (length ids) rows start marks) where
   -- a mark below the number of rows is the length of a walk
   pub walk_of_mark : (d i : ℕ) → i < length ids → get_or marks i 0 ≡ d → d < length ids →
       (cs : List ℕ) × IsWalk (graph_of ids rows) (get_or ids i 0) cs (get_or ids start 0) × (length cs ≡ d)
@@ -60,7 +64,8 @@ module _ (ids : List ℕ) (rows : List (List ℕ)) (as_ids : AreIds ids) (as_row
       (found.are_reached.reached i i_in (omega arith))
 
   -- and no walk is shorter than the mark
-  pub mark_of_walk : (cs : List ℕ) (i : ℕ) → i < length ids → IsWalk (graph_of ids rows) (get_or ids i 0) cs (get_or ids start 0) →
+  pub mark_of_walk : (cs : List ℕ) (i : ℕ) → i < length ids
+      → IsWalk (graph_of ids rows) (get_or ids i 0) cs (get_or ids start 0) →
       (get_or marks i 0 < length ids) × (get_or marks i 0 ≤ length cs)
   mark_of_walk [] i i_in w =
       let same : i ≡ start = index_once ids as_ids.ascending i start i_in found.are_reached.within w in
@@ -70,38 +75,51 @@ module _ (ids : List ℕ) (rows : List (List ℕ)) (as_ids : AreIds ids) (as_row
       let l = linked_from ids rows (get_or ids i 0) c w.0 in
       let j_in : l.j < length ids = as_rows.within l.i l.j l.near in
       let same : l.i ≡ i = index_once ids as_ids.ascending l.i i l.within i_in l.first in
-      let near : near_has rows l.j i ≡ true = subst (λ k. near_has rows l.j k ≡ true) same (as_rows.symmetric l.j l.i ∙ l.near) in
-      let rest = mark_of_walk cs l.j j_in (subst (λ x. IsWalk (graph_of ids rows) x cs (get_or ids start 0)) (sym l.second) w.1) in
+      let near : near_has rows l.j i ≡ true =
+          subst (λ k. near_has rows l.j k ≡ true) same (as_rows.symmetric l.j l.i ∙ l.near) in
+      let rest =
+          mark_of_walk cs l.j j_in
+          (subst (λ x. IsWalk (graph_of ids rows) x cs (get_or ids start 0)) (sym l.second) w.1) in
       let step = found.closed l.j i j_in near rest.0 in
       (step.0, omega (arith, step.1, rest.1))
 
-  pub reached_of_mark : (i : ℕ) → i < length ids → get_or marks i 0 < length ids → IsReached (graph_of ids rows) (get_or ids i 0) (get_or ids start 0)
+  pub reached_of_mark : (i : ℕ) → i < length ids → get_or marks i 0 < length ids
+      → IsReached (graph_of ids rows) (get_or ids i 0) (get_or ids start 0)
   reached_of_mark i i_in low = let w = walk_of_mark (get_or marks i 0) i i_in refl low in (w.0, w.1)
 
-  pub distance_of_mark : (i : ℕ) → i < length ids → IsReached (graph_of ids rows) (get_or ids i 0) (get_or ids start 0) →
-      (get_or marks i 0 < length ids) × IsDistance (graph_of ids rows) (get_or ids i 0) (get_or ids start 0) (get_or marks i 0)
+  pub distance_of_mark : (i : ℕ) → i < length ids → IsReached (graph_of ids rows) (get_or ids i 0) (get_or ids start 0)
+      →
+      (get_or marks i 0 < length ids)
+          × IsDistance (graph_of ids rows) (get_or ids i 0) (get_or ids start 0) (get_or marks i 0)
   distance_of_mark i i_in r =
       let low = (mark_of_walk r.0 i i_in r.1).0 in
-      (low, record { walk = walk_of_mark (get_or marks i 0) i i_in refl low; least = λ cs w. (mark_of_walk cs i i_in w).1 })
+      (low, record { walk = walk_of_mark (get_or marks i 0) i i_in refl low;
+          least = λ cs w. (mark_of_walk cs i i_in w).1 })
 
 -- an id stands at an index
 pub index_of_node : (ids : List ℕ) (x : ℕ) → Contains ids x → (i : ℕ) × (i < length ids) × (get_or ids i 0 ≡ x)
 index_of_node ids x at = (at.0, at.1, get_or_default ids at.0 0 x at.1 ∙ at.2)
 
-module _ (ids : List ℕ) (rows : List (List ℕ)) (as_ids : AreIds ids) (as_rows : AreRows (length ids) rows) (are : IsGraph (graph_of ids rows)) (marks : List ℕ) (found : AreDistances (length ids) rows 0 marks) where
+module _ (ids : List ℕ) (rows : List (List ℕ)) (as_ids : AreIds ids) (as_rows : AreRows (length ids) rows)
+    (are : IsGraph (graph_of ids rows)) (marks : List ℕ) (found : AreDistances (length ids) rows 0 marks) where
   -- where each index has a distance to the first, the graph is connected
-  pub connected_from_marks : ((i : ℕ) → i < length ids → get_or marks i 0 < length ids) → IsConnected (graph_of ids rows)
+  pub connected_from_marks : ((i : ℕ) → i < length ids → get_or marks i 0 < length ids)
+      → IsConnected (graph_of ids rows)
   connected_from_marks low a b a_in b_in =
       let i = index_of_node ids a a_in in
       let j = index_of_node ids b b_in in
       let g = graph_of ids rows in
       let there = reached_of_mark ids rows as_ids as_rows 0 marks found i.0 i.1 (low i.0 i.1) in
-      let back = reached_back g are (get_or ids j.0 0) (get_or ids 0 0) (reached_of_mark ids rows as_ids as_rows 0 marks found j.0 j.1 (low j.0 j.1)) in
+      let back =
+          reached_back g are (get_or ids j.0 0) (get_or ids 0 0)
+          (reached_of_mark ids rows as_ids as_rows 0 marks found j.0 j.1 (low j.0 j.1)) in
       subst (λ x. IsReached g x b) i.2 (subst (λ y. IsReached g (get_or ids i.0 0) y) j.2
-      (there.0 ++ back.0, walk_on g (get_or ids i.0 0) (get_or ids 0 0) (get_or ids j.0 0) there.0 back.0 there.1 back.1))
+      (there.0
+          ++ back.0, walk_on g (get_or ids i.0 0) (get_or ids 0 0) (get_or ids j.0 0) there.0 back.0 there.1 back.1))
 
   -- the first index with none is the least id that is cut off
-  pub cut_off_from_marks : (i : ℕ) → i < length ids → get_or marks i 0 ≡ length ids → ((k : ℕ) → k < i → get_or marks k 0 ≢ length ids) → IsCutOff (graph_of ids rows) (get_or ids i 0)
+  pub cut_off_from_marks : (i : ℕ) → i < length ids → get_or marks i 0 ≡ length ids
+      → ((k : ℕ) → k < i → get_or marks k 0 ≢ length ids) → IsCutOff (graph_of ids rows) (get_or ids i 0)
   cut_off_from_marks i i_in free before =
       let g = graph_of ids rows in
       record {
@@ -118,18 +136,22 @@ module _ (ids : List ℕ) (rows : List (List ℕ)) (as_ids : AreIds ids) (as_row
             (λ ne. absurd (omega (arith, k.2, rises ids as_ids.ascending i k.0 (omega arith) k.1)))
             (cases_eq k.0 i))
             (cases_lt k.0 i) in
-            let low : get_or marks k.0 0 < length ids = omega (arith, found.are_reached.small k.0 k.1, before k.0 k_low) in
+            let low : get_or marks k.0 0 < length ids =
+                omega (arith, found.are_reached.small k.0 k.1, before k.0 k_low) in
             subst (λ x. IsReached g (get_or ids 0 0) x) k.2
-            (reached_back g are (get_or ids k.0 0) (get_or ids 0 0) (reached_of_mark ids rows as_ids as_rows 0 marks found k.0 k.1 low));
+            (reached_back g are (get_or ids k.0 0) (get_or ids 0 0)
+                (reached_of_mark ids rows as_ids as_rows 0 marks found k.0 k.1 low));
       }
 
 -- a walk of a graph is one of each graph with its links
-pub walk_of_other : (g h : Graph) → ((a b : ℕ) → AreLinked g a b → AreLinked h a b) → (a b : ℕ) (cs : List ℕ) → IsWalk g a cs b → IsWalk h a cs b
+pub walk_of_other : (g h : Graph) → ((a b : ℕ) → AreLinked g a b → AreLinked h a b) → (a b : ℕ) (cs : List ℕ)
+    → IsWalk g a cs b → IsWalk h a cs b
 walk_of_other g h to a b [] w = w
 walk_of_other g h to a b (c ∷ cs) w = (to a c w.0, walk_of_other g h to c b cs w.1)
 
 -- where one graph of two lists is connected, no graph of them has a node that is cut off
-pub no_cut_off : (nodes : List ℕ) (links : List (ℕ × ℕ)) (g h : Graph) → IsGraphOf nodes links g → IsConnected g → IsGraphOf nodes links h → (n : ℕ) → IsCutOff h n → ⊥
+pub no_cut_off : (nodes : List ℕ) (links : List (ℕ × ℕ)) (g h : Graph) → IsGraphOf nodes links g → IsConnected g
+    → IsGraphOf nodes links h → (n : ℕ) → IsCutOff h n → ⊥
 no_cut_off nodes links g h of_g whole of_h n cut =
     let first : ℕ = get_or h.ids 0 0 in
     let first_in : IsNode h first = (0, of_h.as_graph.some, get_or_default h.ids 0 first 0 of_h.as_graph.some) in

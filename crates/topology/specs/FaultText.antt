@@ -1,7 +1,9 @@
 -- How a fault is written: its name, and each of its numbers after a space.
 use Rattle.std.specs.Prelude.{ℕ, List, ◌++◌, codes, decimal}
 use Rattle.topology.specs.declared.fault.TopoFault.{TopoFault}
-use Rattle.topology.specs.declared.fault.TopoFault.TheVariants.{NoNodes, TooManyNodes, BadId, TwiceNode, TooManyLinks, StrangeNode, SelfLink, TwiceLink, Disconnected, NoMemory, NoSuchLink, LinkIsThere}
+use Rattle.topology.specs.declared.fault.TopoFault.TheVariants.{NoNodes, TooManyNodes, BadId, TwiceNode, TooManyLinks}
+use Rattle.topology.specs.declared.fault.TopoFault.TheVariants.{StrangeNode, SelfLink, TwiceLink, Disconnected}
+use Rattle.topology.specs.declared.fault.TopoFault.TheVariants.{NoMemory, NoSuchLink, LinkIsThere}
 
 -- the text of a fault
 abbrev pub fault_text : TopoFault → List ℕ

@@ -1,9 +1,12 @@
 -- Which faults a list of nodes and a list of links have.
-use Rattle.std.specs.Prelude.{◌≡◌, ℕ, ◌<◌, min, max, List, [], ◌∷◌, ◌++◌, length, slice_index, Contains, map, flat_map, ◌⊎◌, ◌↔◌}
+use Rattle.std.specs.Prelude.{◌≡◌, ℕ, ◌<◌, min, max, List, [], ◌∷◌, ◌++◌, length, slice_index, Contains, map, flat_map}
+use Rattle.std.specs.Prelude.{◌⊎◌, ◌↔◌}
 use Rattle.topology.specs.Graph.{Graph, IsNode, AreLinked, IsReached, IsGraph}
 use Rattle.topology.specs.Id.{IsId}
 use Rattle.topology.specs.declared.fault.TopoFault.{TopoFault}
-use Rattle.topology.specs.declared.fault.TopoFault.TheVariants.{NoNodes, TooManyNodes, BadId, TwiceNode, TooManyLinks, StrangeNode, SelfLink, TwiceLink, Disconnected, NoMemory, NoSuchLink, LinkIsThere}
+use Rattle.topology.specs.declared.fault.TopoFault.TheVariants.{NoNodes, TooManyNodes, BadId, TwiceNode, TooManyLinks}
+use Rattle.topology.specs.declared.fault.TopoFault.TheVariants.{StrangeNode, SelfLink, TwiceLink, Disconnected}
+use Rattle.topology.specs.declared.fault.TopoFault.TheVariants.{NoMemory, NoSuchLink, LinkIsThere}
 
 -- x is the first of the list that meets P
 pub record IsFirst {X : Type 0} (P : X → Type 0) (xs : List X) (x : X) : Type 0 where

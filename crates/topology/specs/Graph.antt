@@ -1,5 +1,6 @@
 -- Graphs, their walks, their distances and their leaders.
-use Rattle.std.specs.Prelude.{◌≡◌, ◌≢◌, ℕ, ◌-◌, ◌<◌, ◌≤◌, Bool, true, List, [], ◌∷◌, length, slice_index, Contains, filter, refl}
+use Rattle.std.specs.Prelude.{◌≡◌, ◌≢◌, ℕ, ◌-◌, ◌<◌, ◌≤◌, Bool, true, List, [], ◌∷◌, length, slice_index, Contains}
+use Rattle.std.specs.Prelude.{filter, refl}
 use Rattle.std.specs.List.Sorted.{IsStrictlyIncreasing}
 use Rattle.std.specs.Ordering.{nat_cmp}
 use Rattle.std.specs.declared.cmp.Ordering.{Ordering}
@@ -21,7 +22,8 @@ pub record Graph : Type 0 where
 -- a graph is stored as the tuple of its parts
 abbrev pub graph_code : Coded Graph
 graph_code =
-    code_by (List ℕ × (ℕ × set.FinSet pair_cmp)) (coded× (coded_list coded_ℕ) (coded× coded_ℕ (set.code (coded× coded_ℕ coded_ℕ))))
+    code_by (List ℕ × (ℕ × set.FinSet pair_cmp))
+        (coded× (coded_list coded_ℕ) (coded× coded_ℕ (set.code (coded× coded_ℕ coded_ℕ))))
     (λ g. (g.ids, (g.bound, g.links))) (λ p. record { ids = p.0; bound = p.1.0; links = p.1.1 }) (λ _. refl)
 
 abbrev pub IsNode : Graph → ℕ → Type 0

@@ -2,7 +2,8 @@
 use Rattle.std.specs.Prelude.{ℕ, List, codes}
 use Rattle.topology.specs.FaultText.{fault_text}
 use Rattle.topology.specs.declared.text.ReadFault.{ReadFault}
-use Rattle.topology.specs.declared.text.ReadFault.TheVariants.{TextTooLong, NotToml, MissingKey, UnknownKey, WrongKind, UnknownApp, Topology, NoMemory}
+use Rattle.topology.specs.declared.text.ReadFault.TheVariants.{TextTooLong, NotToml, MissingKey, UnknownKey, WrongKind}
+use Rattle.topology.specs.declared.text.ReadFault.TheVariants.{UnknownApp, Topology, NoMemory}
 
 -- the text of a fault
 abbrev pub read_fault_text : ReadFault → List ℕ

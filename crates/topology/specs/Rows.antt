@@ -1,5 +1,6 @@
 -- A graph kept as rows: for each index of an id, the indexes of its neighbours.
-use Rattle.std.specs.Prelude.{◌≡◌, ℕ, ◌<◌, ◌≤◌, Bool, true, false, List, [], All, Option, None, map, length, position, slice_index, slice_index_or, ◌==◌, ◌*◌}
+use Rattle.std.specs.Prelude.{◌≡◌, ℕ, ◌<◌, ◌≤◌, Bool, true, false, List, [], All, Option, None, map, length, position}
+use Rattle.std.specs.Prelude.{slice_index, slice_index_or, ◌==◌, ◌*◌}
 use Rattle.std.specs.List.{list_any, flat_map, range_with_len}
 use Rattle.std.specs.List.Sorted.{IsStrictlyIncreasing}
 use Rattle.std.specs.FinSet as set

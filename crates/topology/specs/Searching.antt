@@ -20,7 +20,8 @@ pub record QueuesMarked (n mark : ℕ) (old new before after : List ℕ) : Type 
   pub front : (p : ℕ) → p < length before → slice_index after p ≡ slice_index before p
   pub behind : (p : ℕ) → length before ≤ p → p < length after →
       (slice_index old (slice_index after p) ≡ n) × (slice_index new (slice_index after p) ≡ mark)
-  pub found : (k : ℕ) → slice_index old k ≡ n → slice_index new k ≢ n → (p : ℕ) × (p < length after) × (slice_index after p ≡ k)
+  pub found : (k : ℕ) → slice_index old k ≡ n → slice_index new k ≢ n
+      → (p : ℕ) × (p < length after) × (slice_index after p ≡ k)
   pub room : length after + unmarked n new ≤ length before + unmarked n old
 
 -- each mark below n is 0 at the start, or one more than that of a neighbour
@@ -37,9 +38,11 @@ pub record AreReached (n : ℕ) (rows : List (List ℕ)) (start : ℕ) (marks : 
 pub record AreQueued (n : ℕ) (rows : List (List ℕ)) (start place : ℕ) (marks reached : List ℕ) : Type 0 where
   pub are_reached : AreReached n rows start marks
   pub room : length reached + unmarked n marks ≤ n
-  pub below : (p : ℕ) → p < length reached → (slice_index reached p < n) × (slice_index marks (slice_index reached p) ≤ p)
+  pub below : (p : ℕ) → p < length reached
+      → (slice_index reached p < n) × (slice_index marks (slice_index reached p) ≤ p)
   pub found : (i : ℕ) → i < n → slice_index marks i < n → (p : ℕ) × (p < length reached) × (slice_index reached p ≡ i)
-  pub rising : (p q : ℕ) → p ≤ q → q < length reached → slice_index marks (slice_index reached p) ≤ slice_index marks (slice_index reached q)
+  pub rising : (p q : ℕ) → p ≤ q → q < length reached
+      → slice_index marks (slice_index reached p) ≤ slice_index marks (slice_index reached q)
   pub near : (p : ℕ) → p < length reached → place < length reached →
       slice_index marks (slice_index reached p) ≤ slice_index marks (slice_index reached place) + 1
   pub closed : (p j : ℕ) → p < place → p < length reached → near_has rows (slice_index reached p) j ≡ true →

@@ -1,15 +1,18 @@
 -- What a topology text says.
-use Rattle.std.specs.Prelude.{◌≡◌, ℕ, ◌^◌, nat_lt, Bool, ◌||◌, if◌then◌else◌, ℤ, pos, negsuc, List, [], ◌∷◌, length, map, codes, Option, Some, None, option_map, Result, Ok, Err, ok_or}
+use Rattle.std.specs.Prelude.{◌≡◌, ℕ, ◌^◌, nat_lt, Bool, ◌||◌, if◌then◌else◌, ℤ, pos, negsuc, List, [], ◌∷◌, length}
+use Rattle.std.specs.Prelude.{map, codes, Option, Some, None, option_map, Result, Ok, Err, ok_or}
 use Rattle.std.specs.List.{list_all}
 use Rattle.std.specs.Option.{option_and_then}
 use Rattle.std.specs.Str.{is_utf8, bytes_eq}
-use Rattle.toml.specs.Data.{Data, Items, no_items, item, Members, no_members, member, get_member, as_array, as_integer, as_str}
+use Rattle.toml.specs.Data.{Data, Items, no_items, item, Members, no_members, member, get_member, as_array, as_integer}
+use Rattle.toml.specs.Data.{as_str}
 use Rattle.toml.specs.Parse.{parse_document}
 use Rattle.topology.specs.Faults.{IsFirstFault}
 use Rattle.topology.specs.declared.text.AppName.{AppName}
 use Rattle.topology.specs.declared.text.AppName.TheVariants.{Idle, Token, Mutex, Routes}
 use Rattle.topology.specs.declared.text.ReadFault.{ReadFault}
-use Rattle.topology.specs.declared.text.ReadFault.TheVariants.{TextTooLong, NotToml, MissingKey, UnknownKey, WrongKind, UnknownApp, Topology}
+use Rattle.topology.specs.declared.text.ReadFault.TheVariants.{TextTooLong, NotToml, MissingKey, UnknownKey, WrongKind}
+use Rattle.topology.specs.declared.text.ReadFault.TheVariants.{UnknownApp, Topology}
 
 -- what a text of the right shape gives
 pub record Description : Type 0 where

@@ -5,7 +5,9 @@ ghost use Rattle.toml.specs.View.{view, table_view};
 ghost use Rattle.topology.specs.Faults.{IsTopologyOf};
 ghost use Rattle.topology.specs.ReadFaultText.{read_fault_text};
 ghost use Rattle.topology.specs.Reading.{Gives, reading_view};
-ghost use Rattle.topology.specs.TopologyText.{Description, IsReadFault, app_named, described, description_of, is_known, no_other_key, number_of, numbers_of, pair_of, pairs_of, string_of, table_of, value_at};
+ghost use Rattle.topology.specs.TopologyText.{Description, IsReadFault, app_named, described, description_of, is_known};
+ghost use Rattle.topology.specs.TopologyText.{no_other_key, number_of, numbers_of, pair_of, pairs_of, string_of};
+ghost use Rattle.topology.specs.TopologyText.{table_of, value_at};
 ghost use Rattle.topology.specs.declared.text.ReadFault.TheVariants.{NoMemory, Topology as TopologyFault};
 ghost use Rattle.topology.specs.declared.fault.TopoFault.TheVariants as topo;
 
@@ -103,7 +105,8 @@ struct Reading {
 /// the first in the order of `TopoFault`.
 #[tactic(auto, using(crate::proofs::TopologyTexts::own_fault, crate::proofs::TopologyTexts::never_memory))]
 pub fn read_topology(alloc: Global, text: &[u8]) -> Result<(Topology, AppName), ReadFault>
-    ensures ok { IfOk result (λ r. (d : Description) × (description_of text.now ≡ Ok d) × IsTopologyOf d.nodes d.links r.0 × (r.1 ≡ d.app)) }
+    ensures ok { IfOk result
+        (λ r. (d : Description) × (description_of text.now ≡ Ok d) × IsTopologyOf d.nodes d.links r.0 × (r.1 ≡ d.app)) }
     ensures err { IfErr result (λ f. f ≢ NoMemory → IsReadFault text.now f) }
     ensures memory { IfErr result (λ f. f ≢ TopologyFault topo.NoMemory) }
 {

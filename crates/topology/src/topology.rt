@@ -1,4 +1,5 @@
-ghost use Rattle.std.specs.Prelude.{◌≡◌, ◌≢◌, ℕ, ◌<◌, ◌≤◌, ◌*◌, ◌==◌, true, false, Some, All, IfNone, IfOk, IfErr, IfSome, None, OnOk, length, map, position, slice_get, slice_index};
+ghost use Rattle.std.specs.Prelude.{◌≡◌, ◌≢◌, ℕ, ◌<◌, ◌≤◌, ◌*◌, ◌==◌, true, false, Some, All, IfNone, IfOk, IfErr};
+ghost use Rattle.std.specs.Prelude.{IfSome, None, OnOk, length, map, position, slice_get, slice_index};
 ghost use Rattle.std.specs.FinSet as set;
 ghost use Rattle.std.specs.List.Sorted.{IsStrictlyIncreasing};
 ghost use Rattle.topology.specs.Changing.{IsUnlinkFault, link_fault, unlink_fault, with_link, without_link};
@@ -108,7 +109,9 @@ impl Topology {
     /// a neighbour's.
     pub fn neighbour_at(&self, index: usize, id: u32) -> Option<usize>
         requires { index < length self.now.ids }
-        ensures found { IfSome result (λ n. (position (λ i. i == id) self.now.ids ≡ Some n) × (are_linked self.now (slice_index self.now.ids index) id ≡ true)) }
+        ensures found { IfSome result
+            (λ n. (position (λ i. i == id) self.now.ids ≡ Some n)
+            × (are_linked self.now (slice_index self.now.ids index) id ≡ true)) }
         ensures none { IfNone result (are_linked self.now (slice_index self.now.ids index) id ≡ false) }
     {
         let near = &self.near;

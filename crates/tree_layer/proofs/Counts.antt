@@ -16,10 +16,12 @@ module _ (f : ℕ → ℕ) where
   count_below-le_suc n (x ∷ xs) = omega (arith, count_below-le_suc n xs)
 
   -- where an item has the number n it counts too
-  count_below-lt_suc : (n : ℕ) (xs : List ℕ) (x : ℕ) → Contains xs x → f x ≡ n → count_below n xs < count_below (suc n) xs
+  count_below-lt_suc : (n : ℕ) (xs : List ℕ) (x : ℕ) → Contains xs x → f x ≡ n
+      → count_below n xs < count_below (suc n) xs
   count_below-lt_suc n [] x there here = absurd (omega (arith, there.1))
   count_below-lt_suc n (y ∷ ys) x (zero, short, same) here = omega (arith, here, ap f same, count_below-le_suc n ys)
-  count_below-lt_suc n (y ∷ ys) x (suc k, short, same) here = omega (arith, count_below-lt_suc n ys x (k, omega arith, same) here)
+  count_below-lt_suc n (y ∷ ys) x (suc k, short, same) here =
+      omega (arith, count_below-lt_suc n ys x (k, omega arith, same) here)
 
   all_below : (n : ℕ) (xs : List ℕ) → ((m : ℕ) → m < n → (x : ℕ) × Contains xs x × (f x ≡ m)) → n ≤ count_below n xs
   all_below zero xs each = omega arith

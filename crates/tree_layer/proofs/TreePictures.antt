@@ -1,11 +1,13 @@
 -- Where no tree row is enabled the tree picture holds, and where it holds none is enabled.
-use Rattle.std.proofs.Common.{◌≡◌, ◌≢◌, ℕ, zero, suc, ◌+◌, ◌-◌, ◌<◌, ◌≤◌, ◌⊎◌, ◌↔◌, inl, inr, List, [], ◌∷◌, length, refl, sym, ap, subst, ◌∙◌, ⊎_elim, arith, true≢false}
+use Rattle.std.proofs.Common.{◌≡◌, ◌≢◌, ℕ, zero, suc, ◌+◌, ◌-◌, ◌<◌, ◌≤◌, ◌⊎◌, ◌↔◌, inl, inr, List, [], ◌∷◌, length}
+use Rattle.std.proofs.Common.{refl, sym, ap, subst, ◌∙◌, ⊎_elim, arith, true≢false}
 use Rattle.std.proofs.lemmas.Bool.{cases_lt, cases_eq, cases_Bool}
 use Rattle.topology.specs.Graph.{Graph, IsGraph, IsNode, AreLinked, are_linked, IsWalk, IsDistance}
 use Rattle.topology.proofs.Walks.{linked_back, same_distance}
 use Rattle.tree_layer.specs.declared.regs.TreeRegs.{TreeRegs}
 use Rattle.tree_layer.specs.BootTree.{IsBooted}
-use Rattle.tree_layer.specs.TreeRows.{Claims, Follows, Adopts, claim_low, claim_self, claim_stray, claim_far, follow_root, follow_dist, adopt_root, adopt_short}
+use Rattle.tree_layer.specs.TreeRows.{Claims, Follows, Adopts, claim_low, claim_self, claim_stray, claim_far}
+use Rattle.tree_layer.specs.TreeRows.{follow_root, follow_dist, adopt_root, adopt_short}
 use Rattle.tree_layer.specs.TreePicture.{TreePicture, TreeRests}
 use Rattle.tree_layer.proofs.Counts.{length_above}
 use Rattle.tree_layer.proofs.Leaders.{linked_node, walked_node, linked_leaders}
@@ -30,29 +32,36 @@ record LeadsUp (g : Graph) (t : ℕ → TreeRegs) (i d : ℕ) : Type 0 where
   count : length links ≡ d
   top : (t (t i).root).dist ≡ 0
 
-module _ (g : Graph) (graph : IsGraph g) (K : ℕ) (t : ℕ → TreeRegs) (rests : (i : ℕ) → IsNode g i → TreeRests g K t i) where
+module _ (g : Graph) (graph : IsGraph g) (K : ℕ) (t : ℕ → TreeRegs) (rests : (i : ℕ) → IsNode g i → TreeRests g K t i)
+    where
   dist_low : (i : ℕ) → IsNode g i → (t i).dist < K
   dist_low i node = ⊎_elim (λ low. low) (λ far. absurd ((rests i node).claims (claim_far far))) (cases_lt (t i).dist K)
 
   root_high : (i : ℕ) → IsNode g i → i ≤ (t i).root
-  root_high i node = ⊎_elim (λ low. absurd ((rests i node).claims (claim_low low))) (λ high. high) (cases_lt (t i).root i)
+  root_high i node =
+      ⊎_elim (λ low. absurd ((rests i node).claims (claim_low low))) (λ high. high) (cases_lt (t i).root i)
 
   -- row 7 in both directions of a link: its ends have one root
   linked_root-le : (i j : ℕ) → AreLinked g i j → (t j).root ≤ (t i).root
   linked_root-le i j linked =
       ⊎_elim
-      (λ less. absurd ((rests i (graph.ends i j linked)).adopts j (adopt_root linked (dist_low j (linked_node g graph i j linked)) less)))
+      (λ less. absurd
+          ((rests i (graph.ends i j linked)).adopts j
+          (adopt_root linked (dist_low j (linked_node g graph i j linked)) less)))
       (λ most. most)
       (cases_lt (t i).root (t j).root)
 
   linked_roots : (i j : ℕ) → AreLinked g i j → (t i).root ≡ (t j).root
-  linked_roots i j linked = omega (arith, linked_root-le i j linked, linked_root-le j i (linked_back g graph i j linked))
+  linked_roots i j linked =
+      omega (arith, linked_root-le i j linked, linked_root-le j i (linked_back g graph i j linked))
 
   -- row 8
   linked_dist : (i j : ℕ) → AreLinked g i j → (t i).dist ≤ (t j).dist + 1
   linked_dist i j linked =
       ⊎_elim
-      (λ less. absurd ((rests i (graph.ends i j linked)).adopts j (adopt_short linked (dist_low j (linked_node g graph i j linked)) (linked_roots i j linked) less)))
+      (λ less. absurd
+          ((rests i (graph.ends i j linked)).adopts j
+          (adopt_short linked (dist_low j (linked_node g graph i j linked)) (linked_roots i j linked) less)))
       (λ most. most)
       (cases_lt ((t j).dist + 1) (t i).dist)
 
@@ -67,8 +76,10 @@ module _ (g : Graph) (graph : IsGraph g) (K : ℕ) (t : ℕ → TreeRegs) (rests
   own_father : (i : ℕ) → IsNode g i → (t i).father ≡ i → IsTop t i
   own_father i node own = record {
     father = own;
-    root = ⊎_elim (λ same. same) (λ other. absurd ((rests i node).claims (claim_self own (inl other)))) (cases_eq (t i).root i);
-    dist = ⊎_elim (λ none. none) (λ some. absurd ((rests i node).claims (claim_self own (inr some)))) (cases_eq (t i).dist 0);
+    root = ⊎_elim (λ same. same) (λ other. absurd ((rests i node).claims (claim_self own (inl other))))
+        (cases_eq (t i).root i);
+    dist = ⊎_elim (λ none. none) (λ some. absurd ((rests i node).claims (claim_self own (inr some))))
+        (cases_eq (t i).dist 0);
   }
 
   other_linked : (i : ℕ) → IsNode g i → (t i).father ≢ i → AreLinked g i (t i).father
@@ -86,18 +97,23 @@ module _ (g : Graph) (graph : IsGraph g) (K : ℕ) (t : ℕ → TreeRegs) (rests
         dist =
             ⊎_elim
             (λ one. one)
-            (λ more. absurd ((rests i node).follows (follow_dist (t i).father (record { named = refl; linked = linked }) (dist_low i node) (linked_roots i (t i).father linked) more)))
+            (λ more. absurd
+                ((rests i node).follows
+                (follow_dist (t i).father (record { named = refl; linked = linked }) (dist_low i node)
+                (linked_roots i (t i).father linked) more)))
             (cases_eq (t i).dist ((t (t i).father).dist + 1));
       }
 
   top_or_under : (i : ℕ) → IsNode g i → IsTop t i ⊎ IsUnder g t i
-  top_or_under i node = ⊎_elim (λ own. inl (own_father i node own)) (λ other. inr (other_father i node other)) (cases_eq (t i).father i)
+  top_or_under i node =
+      ⊎_elim (λ own. inl (own_father i node own)) (λ other. inr (other_father i node other)) (cases_eq (t i).father i)
 
   -- by recursion on the distance
   leads_up : (d i : ℕ) → IsNode g i → (t i).dist ≡ d → LeadsUp g t i d
   leads_up zero i node dist =
       ⊎_elim
-      (λ (top : IsTop t i). record { links = []; walk = sym top.root; count = refl; top = ap (λ k. (t k).dist) top.root ∙ top.dist })
+      (λ (top : IsTop t i). record { links = []; walk = sym top.root; count = refl;
+          top = ap (λ k. (t k).dist) top.root ∙ top.dist })
       (λ (under : IsUnder g t i). absurd (omega (arith, under.dist)))
       (top_or_under i node)
   leads_up (suc d) i node dist =
@@ -139,7 +155,10 @@ module _ (g : Graph) (graph : IsGraph g) (K : ℕ) (t : ℕ → TreeRegs) (rests
         let on = leads_up (t i).dist i node refl in
         record {
           reached = (on.links, on.walk);
-          greatest = λ j reached. omega (arith, root_high j (walked_node g graph reached.0 i j node reached.1), walked_roots reached.0 i j reached.1);
+          greatest =
+              λ j reached. omega
+              (arith, root_high j (walked_node g graph reached.0 i j node reached.1), walked_roots reached.0 i j
+              reached.1);
         };
     dist = λ i node.
         let on = leads_up (t i).dist i node refl in
@@ -171,7 +190,9 @@ module _ (g : Graph) (graph : IsGraph g) (t : ℕ → TreeRegs) (picture : TreeP
   other_root i node other same = other (picture.top i node same)
 
   same_roots : (i j : ℕ) → AreLinked g i j → (t i).root ≡ (t j).root
-  same_roots i j linked = linked_leaders g graph linked (picture.root i (graph.ends i j linked)) (picture.root j (linked_node g graph i j linked))
+  same_roots i j linked =
+      linked_leaders g graph linked (picture.root i (graph.ends i j linked))
+      (picture.root j (linked_node g graph i j linked))
 
   -- a node stands at each smaller distance
   at_distance : (d m i : ℕ) → IsNode g i → (t i).dist ≡ m + d → (k : ℕ) × IsNode g k × ((t k).dist ≡ m)
@@ -179,7 +200,8 @@ module _ (g : Graph) (graph : IsGraph g) (t : ℕ → TreeRegs) (picture : TreeP
   at_distance (suc d) m i node dist =
       let father = (t i).father in
       let below : i ≢ (t i).root = λ same. absurd (omega (arith, root_dist i node same)) in
-      at_distance d m father (linked_node g graph i father (picture.linked i node below)) (omega (arith, picture.nearer i node below))
+      at_distance d m father (linked_node g graph i father (picture.linked i node below))
+          (omega (arith, picture.nearer i node below))
 
   dist_below : (i : ℕ) → IsNode g i → (t i).dist < length g.ids
   dist_below i node =
@@ -196,7 +218,8 @@ module _ (g : Graph) (graph : IsGraph g) (t : ℕ → TreeRegs) (picture : TreeP
 
     no_follow : Follows g K t i → ⊥
     no_follow (follow_root j father low differ) = differ (same_roots i j father.linked)
-    no_follow (follow_dist j father low same differ) = differ (subst (λ k. (t i).dist ≡ (t k).dist + 1) father.named (picture.nearer i node (other_root i node other)))
+    no_follow (follow_dist j father low same differ) =
+        differ (subst (λ k. (t i).dist ≡ (t k).dist + 1) father.named (picture.nearer i node (other_root i node other)))
       where
         other : (t i).father ≢ i
         other own = graph.irreflexive i (subst (λ k. AreLinked g i k) (sym father.named ∙ own) father.linked)
@@ -211,12 +234,15 @@ module _ (g : Graph) (graph : IsGraph g) (t : ℕ → TreeRegs) (picture : TreeP
     pub picture_rests : TreeRests g K t i
     picture_rests = record { claims = no_claim; follows = no_follow; adopts = no_adopt }
 
-pub rests_where_picture : (g : Graph) (K : ℕ) (t : ℕ → TreeRegs) → IsGraph g → length g.ids ≤ K → (((i : ℕ) → IsNode g i → TreeRests g K t i) ↔ TreePicture g t)
-rests_where_picture g K t graph room = (rests_picture g graph K t, λ picture i node. picture_rests g graph t picture K room i node)
+pub rests_where_picture : (g : Graph) (K : ℕ) (t : ℕ → TreeRegs) → IsGraph g → length g.ids ≤ K
+    → (((i : ℕ) → IsNode g i → TreeRests g K t i) ↔ TreePicture g t)
+rests_where_picture g K t graph room =
+    (rests_picture g graph K t, λ picture i node. picture_rests g graph t picture K room i node)
 
 -- ---- the booted registers
 
-pub booted_picture : (g : Graph) (t : ℕ → TreeRegs) → IsGraph g → ((i : ℕ) → IsNode g i → IsBooted g i (t i)) → TreePicture g t
+pub booted_picture : (g : Graph) (t : ℕ → TreeRegs) → IsGraph g → ((i : ℕ) → IsNode g i → IsBooted g i (t i))
+    → TreePicture g t
 booted_picture g t graph booted = record {
   root = λ i node. (booted i node).root;
   dist = λ i node. (booted i node).dist;
@@ -227,6 +253,8 @@ booted_picture g t graph booted = record {
       let near = (booted i node).father below in
       let up = booted father (linked_node g graph i father near.linked) in
       let same = linked_leaders g graph near.linked (booted i node).root up.root in
-      let steps = same_distance g father (t i).root near.steps (t father).dist near.distance (subst (λ k. IsDistance g father k (t father).dist) (sym same) up.dist) in
+      let steps =
+          same_distance g father (t i).root near.steps (t father).dist near.distance
+          (subst (λ k. IsDistance g father k (t father).dist) (sym same) up.dist) in
       omega (arith, near.nearer, steps);
 }

@@ -22,7 +22,8 @@ pub record IsBooted (g : Graph) (i : ℕ) (regs : TreeRegs) : Type 0 where
 -- the registers of all nodes, in the order of the ids
 pub record AreBooted (g : Graph) (trees : List TreeRegs) : Type 0 where
   pub count : length trees ≡ length g.ids
-  pub each : (ix : ℕ) (regs : TreeRegs) → ix < length trees → IsBooted g (slice_index g.ids ix) (slice_index_or trees ix regs)
+  pub each : (ix : ℕ) (regs : TreeRegs) → ix < length trees
+      → IsBooted g (slice_index g.ids ix) (slice_index_or trees ix regs)
 
 -- the distances of all nodes to the root, in the order of the ids
 pub record AreDistances (g : Graph) (root : ℕ) (distances : List ℕ) : Type 0 where

@@ -18,12 +18,14 @@ pub data Claims (g : Graph) (K : ℕ) (t : ℕ → TreeRegs) (i : ℕ) : Type 0 
 -- rows 5 and 6: the node's father, a neighbour, has another root or distance than the node takes it to have
 pub data Follows (g : Graph) (K : ℕ) (t : ℕ → TreeRegs) (i : ℕ) : Type 0 where
   follow_root : (j : ℕ) → IsFather g t i j → (t i).dist < K → (t i).root ≢ (t j).root → Follows g K t i
-  follow_dist : (j : ℕ) → IsFather g t i j → (t i).dist < K → (t i).root ≡ (t j).root → (t i).dist ≢ (t j).dist + 1 → Follows g K t i
+  follow_dist : (j : ℕ) → IsFather g t i j → (t i).dist < K → (t i).root ≡ (t j).root → (t i).dist ≢ (t j).dist + 1
+      → Follows g K t i
 
 -- rows 7 and 8: the neighbour j knows a greater root, or a shorter way to the same one
 pub data Adopts (g : Graph) (K : ℕ) (t : ℕ → TreeRegs) (i j : ℕ) : Type 0 where
   adopt_root : AreLinked g i j → (t j).dist < K → (t i).root < (t j).root → Adopts g K t i j
-  adopt_short : AreLinked g i j → (t j).dist < K → (t i).root ≡ (t j).root → (t j).dist + 1 < (t i).dist → Adopts g K t i j
+  adopt_short : AreLinked g i j → (t j).dist < K → (t i).root ≡ (t j).root → (t j).dist + 1 < (t i).dist
+      → Adopts g K t i j
 
 -- what rows 1 to 4 leave at i
 abbrev pub claimed : ℕ → TreeRegs

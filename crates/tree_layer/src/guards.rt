@@ -17,7 +17,9 @@ pub(crate) fn is_low(view: &TreeView) -> bool
 
 // Row 2: the node is its own father, and not as a root is.
 pub(crate) fn is_odd_root(view: &TreeView) -> bool
-    ensures { result ≡ (view.now.own.father == view.now.id && (not (view.now.own.root == view.now.id) || not (view.now.own.dist == 0))) }
+    ensures { result
+        ≡ (view.now.own.father == view.now.id
+        && (not (view.now.own.root == view.now.id) || not (view.now.own.dist == 0))) }
 {
     let own = view.own();
     (own.father == view.id()) & ((own.root != view.id()) | (own.dist != 0))
@@ -39,7 +41,8 @@ pub(crate) fn is_far(view: &TreeView) -> bool
 
 // Row 5: the father, a neighbour, has another root.
 pub(crate) fn has_other_root(view: &TreeView) -> bool
-    ensures { result ≡ father_passes (λ up. nat_lt view.now.own.dist view.now.bound && not (view.now.own.root == up.root)) view.now }
+    ensures { result
+        ≡ father_passes (λ up. nat_lt view.now.own.dist view.now.bound && not (view.now.own.root == up.root)) view.now }
 {
     let own = view.own();
     match father(view) {
@@ -50,7 +53,10 @@ pub(crate) fn has_other_root(view: &TreeView) -> bool
 
 // Row 6: the father, a neighbour, has the root, and isn't one nearer to it.
 pub(crate) fn has_other_dist(view: &TreeView) -> bool
-    ensures { result ≡ father_passes (λ up. nat_lt view.now.own.dist view.now.bound && view.now.own.root == up.root && not (view.now.own.dist == up.dist + 1)) view.now }
+    ensures { result
+        ≡ father_passes
+        (λ up. nat_lt view.now.own.dist view.now.bound && view.now.own.root == up.root
+        && not (view.now.own.dist == up.dist + 1)) view.now }
 {
     let own = view.own();
     match father(view) {
@@ -76,7 +82,10 @@ pub(crate) fn some_greater_root(view: &TreeView, asked: &[(u32, TreeRegs)]) -> b
 
 // Row 8: a neighbour that is asked has a shorter way to the root, and a distance below the bound.
 pub(crate) fn some_shorter_way(view: &TreeView, asked: &[(u32, TreeRegs)]) -> bool
-    ensures { result ≡ asked_passes (λ j. nat_lt j.dist view.now.bound && view.now.own.root == j.root && nat_lt (j.dist + 1) view.now.own.dist) asked.now }
+    ensures { result
+        ≡ asked_passes
+        (λ j. nat_lt j.dist view.now.bound && view.now.own.root == j.root && nat_lt (j.dist + 1) view.now.own.dist)
+        asked.now }
 {
     let own = view.own();
     let k = view.k();

@@ -15,7 +15,8 @@ pub fn tree_pictures()
 
 /// Of the booted registers the tree picture holds.
 pub fn boot_is_picture()
-    ensures { (g : Graph) (t : ℕ → TreeRegs) → IsGraph g → ((i : ℕ) → IsNode g i → IsBooted g i (t i)) → TreePicture g t }
+    ensures { (g : Graph) (t : ℕ → TreeRegs) → IsGraph g → ((i : ℕ) → IsNode g i → IsBooted g i (t i))
+        → TreePicture g t }
 {}
 
 /// The nodes of a graph are booted with one list of registers.

@@ -29,13 +29,16 @@ macro_rules! tree_table {
                 is_stray($view) => Ok(claimed($view));
             4 "claim-far" | "dist >= K" | "root, father, dist := id, id, 0":
                 is_far($view) => Ok(claimed($view));
-            5 "follow-root" | "father = j a neighbour, dist < K, root != root.j" | "root, dist := root.j, min(dist.j + 1, K)":
+            5 "follow-root" | "father = j a neighbour, dist < K, root != root.j"
+                | "root, dist := root.j, min(dist.j + 1, K)":
                 has_other_root($view) => Ok(followed($view));
-            6 "follow-dist" | "father = j a neighbour, dist < K, root = root.j, dist != dist.j + 1" | "root, dist := root.j, min(dist.j + 1, K)":
+            6 "follow-dist" | "father = j a neighbour, dist < K, root = root.j, dist != dist.j + 1"
+                | "root, dist := root.j, min(dist.j + 1, K)":
                 has_other_dist($view) => Ok(followed($view));
             7 "adopt-root" | "j a neighbour, dist.j < K, root < root.j" | "root, father, dist := root.j, j, dist.j + 1":
                 some_greater_root($view, $asked) => Ok(adopted($view, $asked));
-            8 "adopt-short" | "j a neighbour, dist.j < K, root = root.j, dist.j + 1 < dist" | "root, father, dist := root.j, j, dist.j + 1":
+            8 "adopt-short" | "j a neighbour, dist.j < K, root = root.j, dist.j + 1 < dist"
+                | "root, father, dist := root.j, j, dist.j + 1":
                 some_shorter_way($view, $asked) => Ok(adopted($view, $asked));
         }
     };

@@ -30,21 +30,27 @@ macro_rules! wave_table {
                 is_asked($view, $asked) => asked($view);
             3 "open" | "father = id, phase = initiate" | "phase, session := reset, session + 1; restart":
                 may_open($view) => opened($view);
-            4 "join-normal" | "father j is reset, phase = normal, session.j = session + 1" | "phase, session := reset, session.j; restart":
+            4 "join-normal" | "father j is reset, phase = normal, session.j = session + 1"
+                | "phase, session := reset, session.j; restart":
                 joins_normal($view) => joined($view);
-            5 "join-asked" | "father j is reset, phase = initiate, session.j = session + 1" | "phase, session := reset, session.j; restart":
+            5 "join-asked" | "father j is reset, phase = initiate, session.j = session + 1"
+                | "phase, session := reset, session.j; restart":
                 joins_asked($view) => joined($view);
             6 "finish" | "father != id, phase = reset, every child is not reset and has session" | "phase := normal":
                 may_finish($view) => finished($view);
-            7 "finish-root" | "father = id, phase = reset, every child is not reset and has session" | "phase := normal; complete":
+            7 "finish-root" | "father = id, phase = reset, every child is not reset and has session"
+                | "phase := normal; complete":
                 may_complete($view) => completed($view);
             8 "mend-reset" | "father j is not reset, phase = reset" | "phase, session := phase.j, session.j":
                 resets_alone($view) => mended($view);
-            9 "mend-number" | "father j is not reset, phase != reset, session != session.j" | "phase, session := phase.j, session.j":
+            9 "mend-number" | "father j is not reset, phase != reset, session != session.j"
+                | "phase, session := phase.j, session.j":
                 differs_awake($view) => mended($view);
-            10 "mend-both" | "father j is reset, phase = reset, session != session.j" | "phase, session := phase.j, session.j":
+            10 "mend-both" | "father j is reset, phase = reset, session != session.j"
+                | "phase, session := phase.j, session.j":
                 differs_reset($view) => mended($view);
-            11 "mend-late" | "father j is reset, phase != reset, session.j is neither session nor session + 1" | "phase, session := phase.j, session.j":
+            11 "mend-late" | "father j is reset, phase != reset, session.j is neither session nor session + 1"
+                | "phase, session := phase.j, session.j":
                 is_late($view) => mended($view);
         }
     };

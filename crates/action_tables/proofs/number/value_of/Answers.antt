@@ -9,5 +9,6 @@ returns-in_err-value-clause-only c =
     (λ digits. omega (
       arith,
       same,
-      too_large c.loop-rest.value c.loop-rest.rest.now c.in-len1-up.len_at_least c.in_err-value.ensures.only (to digits),
+      too_large c.loop-rest.value c.loop-rest.rest.now c.in-len1-up.len_at_least c.in_err-value.ensures.only
+          (to digits),
     ))

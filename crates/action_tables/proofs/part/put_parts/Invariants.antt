@@ -6,4 +6,6 @@ use Rattle.action_tables.specs.RowText.{part_text}
 use Rattle.action_tables.proofs.part.put_parts.Given as goal
 
 abbrev pub invariant-loop-part : goal.invariant-loop-part
-invariant-loop-part g l = Appends (g.W.Write.contents l.initial.out) (g.W.Write.contents l.out) (flat_map part_text (take l.part-index l.parts))
+invariant-loop-part g l =
+    Appends (g.W.Write.contents l.initial.out) (g.W.Write.contents l.out)
+    (flat_map part_text (take l.part-index l.parts))

@@ -3,11 +3,14 @@ use Rattle.std.proofs.lemmas.List.{take_rest}
 use Rattle.std.proofs.KnownBytes.{Appends-trans}
 use Rattle.action_tables.proofs.put.put_bytes.Goals as goal
 
-moved : (all front rest : List ℕ) (n : ℕ) → all ≡ front ++ rest → all ≡ (front ++ take n rest) ++ take (length rest - n) (drop n rest)
+moved : (all front rest : List ℕ) (n : ℕ) → all ≡ front ++ rest
+    → all ≡ (front ++ take n rest) ++ take (length rest - n) (drop n rest)
 moved all front rest n e =
-    e ∙ ap (λ l. front ++ l) (sym (take-append-drop n rest)) ∙ sym (append_assoc front (take n rest) (drop n rest)) ∙ ap (λ l. (front ++ take n rest) ++ l) (sym (take_rest rest n))
+    e ∙ ap (λ l. front ++ l) (sym (take-append-drop n rest)) ∙ sym (append_assoc front (take n rest) (drop n rest))
+        ∙ ap (λ l. (front ++ take n rest) ++ l) (sym (take_rest rest n))
 
 pub loop-rest-preserved : goal.loop-rest-preserved
 loop-rest-preserved g c =
     let (front, cut, appended) = c.loop-rest.invariant in
-    (front ++ take c.in-Ok.count c.loop-rest.rest.now, moved _ front _ _ cut, Appends-trans _ _ _ front _ appended c.in-Ok.ensures.bytes)
+    (front ++ take c.in-Ok.count c.loop-rest.rest.now, moved _ front _ _ cut, Appends-trans _ _ _ front _ appended
+        c.in-Ok.ensures.bytes)

@@ -4,7 +4,9 @@ use Rattle.std.specs.Io.KnownBytes.{Appends}
 use Rattle.action_tables.proofs.put.put_bytes.Given as goal
 
 abbrev pub invariant-loop-rest : goal.invariant-loop-rest
-invariant-loop-rest g l = (front : List ℕ) × (l.initial.rest ≡ front ++ l.rest) × Appends (g.W.Write.contents l.initial.out) (g.W.Write.contents l.out) front
+invariant-loop-rest g l =
+    (front : List ℕ) × (l.initial.rest ≡ front ++ l.rest)
+    × Appends (g.W.Write.contents l.initial.out) (g.W.Write.contents l.out) front
 
 abbrev pub decreases-loop-rest : goal.decreases-loop-rest
 decreases-loop-rest g l = length l.rest

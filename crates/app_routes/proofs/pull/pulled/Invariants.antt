@@ -4,4 +4,5 @@ use Rattle.app_routes.proofs.pull.pulled.Given as goal
 
 -- the better ones of the entries before the index are taken
 abbrev pub invariant-loop-entry : goal.invariant-loop-entry
-invariant-loop-entry l = AreRoutes l.entries.items × (l.entries.items ≡ pulled l.bound l.neighbour l.own (take l.entry-index l.theirs))
+invariant-loop-entry l =
+    AreRoutes l.entries.items × (l.entries.items ≡ pulled l.bound l.neighbour l.own (take l.entry-index l.theirs))

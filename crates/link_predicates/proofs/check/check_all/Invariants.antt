@@ -4,4 +4,5 @@ use Rattle.link_predicates.proofs.check.check_all.Given as goal
 
 -- the faults of the nodes before the index were added
 abbrev pub invariant-loop-index : goal.invariant-loop-index
-invariant-loop-index g l = l.found.items ≡ flat_map (node_faults g.P.Application.app l.config) (take l.index l.config.graph.ids)
+invariant-loop-index g l =
+    l.found.items ≡ flat_map (node_faults g.P.Application.app l.config) (take l.index l.config.graph.ids)

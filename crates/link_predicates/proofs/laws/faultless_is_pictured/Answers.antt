@@ -7,6 +7,9 @@ returns g c = λ config graph connected.
     let w = wave_of config in
     let tree = c.tree_pictures.ensures config.graph config.graph.bound t graph graph.bounded in
     let wave = c.wave_pictures.ensures config.graph t w graph connected in (
-      λ all. let sound = (c.faultless_is_sound.ensures config graph).0 all in (let picture = tree.0 sound.tree in (picture, (wave picture).0 sound.wave)),
-      λ pictures. (c.faultless_is_sound.ensures config graph).1 (record { tree = tree.1 pictures.0; wave = (wave pictures.0).1 pictures.1 }),
+      λ all. let sound =
+          (c.faultless_is_sound.ensures config graph).0 all
+          in (let picture = tree.0 sound.tree in (picture, (wave picture).0 sound.wave)),
+      λ pictures. (c.faultless_is_sound.ensures config graph).1
+          (record { tree = tree.1 pictures.0; wave = (wave pictures.0).1 pictures.1 }),
     )

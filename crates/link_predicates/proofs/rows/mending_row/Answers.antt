@@ -10,4 +10,6 @@ returns c =
     let view : LocalView = record { own = c.args.own; father = Is c.args.up; children = [] } in
     let P : Option LocalView → Type 0 = λ o. IfSome o (λ v. v ≡ view) in
     let is : c.unwrap-view.result ≡ view = subst P c.unwrap-view.ensures c.new.ensures.value in
-    c.first_enabled.ensures ∙ ap (first_enabled (8 ∷ 9 ∷ 10 ∷ 11 ∷ [])) (c.wave_enabled.ensures ∙ ap (λ (v : LocalView). enabled_of (wave_table v v.children)) is)
+    c.first_enabled.ensures
+        ∙ ap (first_enabled (8 ∷ 9 ∷ 10 ∷ 11 ∷ []))
+        (c.wave_enabled.ensures ∙ ap (λ (v : LocalView). enabled_of (wave_table v v.children)) is)

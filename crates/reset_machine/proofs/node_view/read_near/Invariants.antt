@@ -6,4 +6,6 @@ use Rattle.reset_machine.proofs.node_view.read_near.Given as goal
 abbrev pub invariant-loop-index : goal.invariant-loop-index
 invariant-loop-index g l =
     let config = l.place.config in
-    l.near.items ≡ map (near_of g.P.Application.app config) (map (λ n. slice_index config.graph.ids n) (take l.index-index l.index-items))
+    l.near.items
+        ≡ map (near_of g.P.Application.app config)
+        (map (λ n. slice_index config.graph.ids n) (take l.index-index l.index-items))

@@ -6,4 +6,5 @@ use Rattle.reset_machine.proofs.view.read_near_trees.Given as goal
 abbrev pub invariant-loop-near : goal.invariant-loop-near
 invariant-loop-near g l =
     let config = l.place.config in
-    l.near_trees.items ≡ map (λ j. (j, tree_of config j)) (map (λ n. slice_index config.graph.ids n) (take l.near-index l.near-items))
+    l.near_trees.items
+        ≡ map (λ j. (j, tree_of config j)) (map (λ n. slice_index config.graph.ids n) (take l.near-index l.near-items))

@@ -4,4 +4,5 @@ use Rattle.reset_model.proofs.decide.child_waves.Given as goal
 
 -- the children before the index are read
 abbrev pub invariant-loop-other : goal.invariant-loop-other
-invariant-loop-other g l = l.children.items ≡ near_waves (filter (λ n. n.tree.father == l.id) (take l.other-index l.near))
+invariant-loop-other g l =
+    l.children.items ≡ near_waves (filter (λ n. n.tree.father == l.id) (take l.other-index l.near))

@@ -2,4 +2,5 @@ use Rattle.reset_model.proofs.RunShadows.{run_shadow}
 use Rattle.reset_model.proofs.run_laws.refinement.Goals as goal
 
 pub returns : goal.returns
-returns g c = λ d d' es ds graph whole shaped sound run. run_shadow g.P.Application.app es ds d d' graph whole shaped sound run
+returns g c =
+    λ d d' es ds graph whole shaped sound run. run_shadow g.P.Application.app es ds d d' graph whole shaped sound run

@@ -4,7 +4,10 @@ use Rattle.reset_model.proofs.WordLines.{line_found, no_line_found}
 use Rattle.reset_model.proofs.text.read_event.Goals as goal
 
 pub returns-clause-found : goal.returns-clause-found
-returns-clause-found c = line_found event_words c.args.line.now _ _ c.in_ok-command.ensures.found c.event_of.ensures.found
+returns-clause-found c =
+    line_found event_words c.args.line.now _ _ c.in_ok-command.ensures.found c.event_of.ensures.found
 
 pub returns-clause-only : goal.returns-clause-only
-returns-clause-only c = no_line_found event_words words_of-event_line c.args.line.now _ _ c.in_ok-command.ensures.found c.event_of.ensures.only
+returns-clause-only c =
+    no_line_found event_words words_of-event_line c.args.line.now _ _ c.in_ok-command.ensures.found
+    c.event_of.ensures.only

@@ -6,4 +6,6 @@ use Rattle.reset_service.specs.Output.{fault_line}
 use Rattle.reset_service.proofs.faults.put_fault_lines.Given as goal
 
 abbrev pub invariant-loop-fault : goal.invariant-loop-fault
-invariant-loop-fault g l = Appends (g.W.Write.contents l.initial.out) (g.W.Write.contents l.out) (flat_map fault_line (take l.fault-index l.faults))
+invariant-loop-fault g l =
+    Appends (g.W.Write.contents l.initial.out) (g.W.Write.contents l.out)
+    (flat_map fault_line (take l.fault-index l.faults))

@@ -11,15 +11,18 @@ returns-then-is_separator c =
     let here : c.in-Some.line.now ≡ separator = search rules in
     at_separator front (lines_of c.in-Some.after.now)
     (lines ∙ ap (λ ls. front ++ ls) (c.in-Some.ensures.found ∙ ap (λ l. l ∷ lines_of c.in-Some.after.now) here))
-    none (text_before c.args.joined.now (flat_map ended front) c.loop-line.rest.now text) (sym (joined_lines c.in-Some.after.now))
+    none (text_before c.args.joined.now (flat_map ended front) c.loop-line.rest.now text)
+        (sym (joined_lines c.in-Some.after.now))
 
 pub loop-line-preserved : goal.loop-line-preserved
 loop-line-preserved c =
     let (front, lines, text, none) = c.loop-line.invariant in
     let other : c.in-Some.line.now ≢ separator = search rules in (
       front ++ (c.in-Some.line.now ∷ []),
-      passed_lines c.args.joined.now c.loop-line.rest.now c.in-Some.after.now c.in-Some.line.now front lines c.in-Some.ensures.found,
-      passed_text c.args.joined.now c.loop-line.rest.now c.in-Some.after.now c.in-Some.line.now front text c.in-Some.ensures.found,
+      passed_lines c.args.joined.now c.loop-line.rest.now c.in-Some.after.now c.in-Some.line.now front lines
+          c.in-Some.ensures.found,
+      passed_text c.args.joined.now c.loop-line.rest.now c.in-Some.after.now c.in-Some.line.now front text
+          c.in-Some.ensures.found,
       no_separator_more front c.in-Some.line.now none other,
     )
 
@@ -35,4 +38,6 @@ returns-else-is_separator-2 c =
     let (front, lines, text, none) = c.loop-line.invariant in
     let other : c.loop-line.rest.now ≢ separator = search rules in
     let P : List (List ℕ) → Type 0 = λ ls. HasNoSeparator ls in
-    topology_alone (subst P (sym (lines ∙ ap (λ ls. front ++ ls) c.in_default.ensures.only)) (no_separator_more front c.loop-line.rest.now none other)) refl refl
+    topology_alone
+        (subst P (sym (lines ∙ ap (λ ls. front ++ ls) c.in_default.ensures.only))
+        (no_separator_more front c.loop-line.rest.now none other)) refl refl

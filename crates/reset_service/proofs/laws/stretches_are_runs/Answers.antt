@@ -5,7 +5,8 @@ use Rattle.reset_service.proofs.Stretches.{lines_make_run}
 use Rattle.reset_service.proofs.laws.stretches_are_runs.Goals as goal
 
 pub returns-clause-run : goal.returns-clause-run
-returns-clause-run g c = lines_make_run (meaning_of g.P.Application.app g.P.Application.text g.P.Application.from_text g.P.Application.names)
+returns-clause-run g c =
+    lines_make_run (meaning_of g.P.Application.app g.P.Application.text g.P.Application.from_text g.P.Application.names)
 
 pub returns-clause-lawful : goal.returns-clause-lawful
 returns-clause-lawful g c = λ d n lines calm graph connected shaped sound.

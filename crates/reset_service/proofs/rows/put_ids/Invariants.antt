@@ -6,4 +6,5 @@ use Rattle.reset_service.specs.Output.{spaced}
 use Rattle.reset_service.proofs.rows.put_ids.Given as goal
 
 abbrev pub invariant-loop-id : goal.invariant-loop-id
-invariant-loop-id g l = Appends (g.W.Write.contents l.initial.out) (g.W.Write.contents l.out) (flat_map spaced (take l.id-index l.ids))
+invariant-loop-id g l =
+    Appends (g.W.Write.contents l.initial.out) (g.W.Write.contents l.out) (flat_map spaced (take l.id-index l.ids))

@@ -7,4 +7,8 @@ use Rattle.reset_service.specs.Output.{shown}
 use Rattle.reset_service.proofs.show.show_all.Given as goal
 
 abbrev pub invariant-loop-id : goal.invariant-loop-id
-invariant-loop-id g l = Appends (g.W.Write.contents l.initial.out) (g.W.Write.contents l.out) (flat_map (shown (meaning_of g.P.Application.app g.P.Application.text g.P.Application.from_text g.P.Application.names) l.config) (take l.id-index l.config.graph.ids))
+invariant-loop-id g l =
+    Appends (g.W.Write.contents l.initial.out) (g.W.Write.contents l.out)
+    (flat_map
+    (shown (meaning_of g.P.Application.app g.P.Application.text g.P.Application.from_text g.P.Application.names)
+    l.config) (take l.id-index l.config.graph.ids))

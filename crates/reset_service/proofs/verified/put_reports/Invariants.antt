@@ -6,4 +6,6 @@ use Rattle.reset_service.specs.Verified.{report_line}
 use Rattle.reset_service.proofs.verified.put_reports.Given as goal
 
 abbrev pub invariant-loop-report : goal.invariant-loop-report
-invariant-loop-report g l = Appends (g.W.Write.contents l.initial.out) (g.W.Write.contents l.out) (flat_map report_line (take l.report-index l.reports))
+invariant-loop-report g l =
+    Appends (g.W.Write.contents l.initial.out) (g.W.Write.contents l.out)
+    (flat_map report_line (take l.report-index l.reports))

@@ -5,4 +5,5 @@ use Rattle.topology.proofs.TopologyTexts.{after, given_from}
 use Rattle.topology.proofs.text.pairs.Given as goal
 
 abbrev pub invariant-loop-item : goal.invariant-loop-item
-invariant-loop-item l = array_of pair_of (view l.value) ≡ after l.pairs.items (given_from pair_of l.item-items l.item-index)
+invariant-loop-item l =
+    array_of pair_of (view l.value) ≡ after l.pairs.items (given_from pair_of l.item-items l.item-index)

@@ -7,7 +7,8 @@ use Rattle.topology.specs.TopologyText.{value_at}
 use Rattle.topology.specs.declared.text.ReadFault.{ReadFault}
 use Rattle.topology.proofs.text.value_at.Goals as goal
 
-seen-ok_or : (r : Option (Bor Value)) (f : ReadFault) → result_map_both (λ v. view v.now) (λ e. e) (ok_or r f) ≡ ok_or (option_map (λ v. view v.now) r) f
+seen-ok_or : (r : Option (Bor Value)) (f : ReadFault)
+    → result_map_both (λ v. view v.now) (λ e. e) (ok_or r f) ≡ ok_or (option_map (λ v. view v.now) r) f
 seen-ok_or None f = refl
 seen-ok_or (Some v) f = refl
 

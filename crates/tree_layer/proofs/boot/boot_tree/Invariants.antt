@@ -6,5 +6,6 @@ use Rattle.tree_layer.proofs.boot.boot_tree.Given as goal
 abbrev pub invariant-loop-ix : goal.invariant-loop-ix
 invariant-loop-ix l = record {
   count : length l.trees.items ≡ l.ix;
-  each : (k : ℕ) (regs : TreeRegs) → k < l.ix → IsBooted l.topology (slice_index l.topology.ids k) (slice_index_or l.trees.items k regs);
+  each : (k : ℕ) (regs : TreeRegs) → k < l.ix
+      → IsBooted l.topology (slice_index l.topology.ids k) (slice_index_or l.trees.items k regs);
 }

@@ -2,7 +2,8 @@ use Rattle.std.proofs.Common.{◌∙◌, ◌==◌, arith, sym, ap}
 use Rattle.std.proofs.lemmas.Nat.Bits.{shr_and_one}
 use Rattle.action_tables.proofs.NumberSets.{is_among-case, is_among-other}
 use Rattle.action_tables.proofs.case_set.CaseSet.has.Goals as goal
-use Rattle.action_tables.proofs.case_set.CaseSet.has.Goals.{then-case-lt1-via-then-case-lt1, then-case-lt1-via-else-case-lt1+then-case-gt16}
+use Rattle.action_tables.proofs.case_set.CaseSet.has.Goals.{then-case-lt1-via-then-case-lt1}
+use Rattle.action_tables.proofs.case_set.CaseSet.has.Goals.{then-case-lt1-via-else-case-lt1+then-case-gt16}
 
 pub returns-then-case-lt1 : goal.returns-then-case-lt1
 returns-then-case-lt1 c =

@@ -9,4 +9,5 @@ returns c =
     let answer = c.binary_search.result in
     c.is_ok.ensures.value
     ∙ member_by_search c.args.self.now id c.ids.ensures.bits.ascending answer
-    (subst (λ xs. IsBinarySearchResult (λ y. nat_cmp y id) xs answer) c.ids.ensures.value c.binary_search.ensures.position)
+    (subst (λ xs. IsBinarySearchResult (λ y. nat_cmp y id) xs answer) c.ids.ensures.value
+        c.binary_search.ensures.position)

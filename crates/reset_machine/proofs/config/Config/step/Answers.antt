@@ -1,6 +1,7 @@
 use Rattle.std.proofs.Common.{[], ◌∷◌}
 use Rattle.reset_model.specs.declared.step.Done.TheVariants.{Did}
-use Rattle.reset_machine.proofs.StepClauses.{act_is_outcome, answer_refused, answer_reply, answer_step, no_act, row_is_outcome}
+use Rattle.reset_machine.proofs.StepClauses.{act_is_outcome, answer_refused, answer_reply, answer_step, no_act}
+use Rattle.reset_machine.proofs.StepClauses.{row_is_outcome}
 use Rattle.reset_machine.proofs.StepShadows.{sound_step}
 use Rattle.reset_machine.proofs.config.Config.step.Goals as goal
 
@@ -15,15 +16,19 @@ returns-in-Act g c =
     let graph = c.is_graph.ensures.graph in
     let whole = c.is_graph.ensures.connected in
     let shaped = c.is_graph.ensures.shaped in
-    let is = act_is_outcome app now new e graph c.in-Act.at c.in-Act.case c.in-Act.with c.in-Act.is r c.act.ensures.outcome in
+    let is =
+        act_is_outcome app now new e graph c.in-Act.at c.in-Act.case c.in-Act.with c.in-Act.is r c.act.ensures.outcome
+        in
     record {
       ok = answer_step app now new e graph shaped r is;
       reply = answer_reply app now new e graph shaped r is;
       err = answer_refused app now new e graph shaped r is;
       kept = c.act.ensures.kept;
       lawful = sound_step app Inv now new e graph whole shaped
-          (λ reply run sound inv. c.invariants.ensures.kept now new (e ∷ []) (Did reply ∷ []) graph whole shaped sound run inv)
-          (λ reply run sound opens. c.invariants.ensures.opened now new (e ∷ []) (Did reply ∷ []) graph whole shaped sound run opens) r is;
+          (λ reply run sound inv. c.invariants.ensures.kept now new (e ∷ []) (Did reply ∷ []) graph whole shaped sound
+              run inv)
+          (λ reply run sound opens. c.invariants.ensures.opened now new (e ∷ []) (Did reply ∷ []) graph whole shaped
+              sound run opens) r is;
       outcome = is;
     }
 
@@ -45,7 +50,9 @@ returns-in_default g c =
       err = answer_refused app now new e graph shaped r is;
       kept = c.fire.ensures.kept;
       lawful = sound_step app Inv now new e graph whole shaped
-          (λ reply run sound inv. c.invariants.ensures.kept now new (e ∷ []) (Did reply ∷ []) graph whole shaped sound run inv)
-          (λ reply run sound opens. c.invariants.ensures.opened now new (e ∷ []) (Did reply ∷ []) graph whole shaped sound run opens) r is;
+          (λ reply run sound inv. c.invariants.ensures.kept now new (e ∷ []) (Did reply ∷ []) graph whole shaped sound
+              run inv)
+          (λ reply run sound opens. c.invariants.ensures.opened now new (e ∷ []) (Did reply ∷ []) graph whole shaped
+              sound run opens) r is;
       outcome = is;
     }

@@ -6,4 +6,6 @@ returns g c =
     let place = c.self.inside in
     let now = place.config.now in
     let read = rw c.locals.ensures.value at c.index-locals-self.is in
-    rw (← c.self.view_is) (read_at-position (g.P.Application.app.start now.graph place.id) now.graph.ids now.locals place.index place.id _ c.locals.ensures.shaped.locals c.self.invariant read)
+    rw (← c.self.view_is)
+        (read_at-position (g.P.Application.app.start now.graph place.id) now.graph.ids now.locals place.index place.id _
+        c.locals.ensures.shaped.locals c.self.invariant read)

@@ -5,7 +5,8 @@ use Rattle.reset_service.specs.Gathering.{gathered_contents}
 use Rattle.reset_service.proofs.gather.Gathered.finish.Given as goal
 
 abbrev pub invariant-loop-self : goal.invariant-loop-self
-invariant-loop-self g l = Keeps (gathered_contents (g.W.Write.contents) l.fn.self) (gathered_contents (g.W.Write.contents) l.self)
+invariant-loop-self g l =
+    Keeps (gathered_contents (g.W.Write.contents) l.fn.self) (gathered_contents (g.W.Write.contents) l.self)
 
 abbrev pub decreases-loop-self : goal.decreases-loop-self
 decreases-loop-self g l = length l.self.held.items

@@ -1,4 +1,5 @@
-use Rattle.std.proofs.Common.{◌≡◌, ◌==◌, ℕ, Bool, true, false, Option, Some, None, IfSome, IfNone, is_some, position, get_or, ap, sym, ◌∙◌}
+use Rattle.std.proofs.Common.{◌≡◌, ◌==◌, ℕ, Bool, true, false, Option, Some, None, IfSome, IfNone, is_some, position}
+use Rattle.std.proofs.Common.{get_or, ap, sym, ◌∙◌}
 use Rattle.std.proofs.lemmas.Bool.{eqb-true}
 use Rattle.std.proofs.lemmas.List.Quantifiers.{position-Some}
 use Rattle.topology.specs.Graph.{are_linked}
@@ -6,7 +7,8 @@ use Rattle.topology.proofs.RowLemmas.{unlinked_first}
 use Rattle.topology.proofs.topology.Topology.linked.Goals as goal
 
 -- what is said of a value and of none, as one test
-found_if : (P : ℕ → Type 0) (t : Bool) (o : Option ℕ) → IfSome o (λ n. P n × (t ≡ true)) → IfNone o (t ≡ false) → is_some o ≡ t
+found_if : (P : ℕ → Type 0) (t : Bool) (o : Option ℕ) → IfSome o (λ n. P n × (t ≡ true)) → IfNone o (t ≡ false)
+    → is_some o ≡ t
 found_if P t (Some n) found none = sym found.1
 found_if P t None found none = sym none
 
@@ -14,11 +16,14 @@ pub returns-in-Some : goal.returns-in-Some
 returns-in-Some c =
     let g = c.args.self.now in
     let i = c.in-Some.index in
-    let same : get_or g.ids i 0 ≡ c.args.a = eqb-true _ _ (position-Some (λ k. k == c.args.a) g.ids i 0 (sym c.in-Some.ensures)).1 in
-    c.is_some.ensures ∙ found_if _ _ c.neighbour_at.result c.neighbour_at.ensures.found c.neighbour_at.ensures.none ∙ ap (λ x. are_linked g x c.args.b) same
+    let same : get_or g.ids i 0 ≡ c.args.a =
+        eqb-true _ _ (position-Some (λ k. k == c.args.a) g.ids i 0 (sym c.in-Some.ensures)).1 in
+    c.is_some.ensures ∙ found_if _ _ c.neighbour_at.result c.neighbour_at.ensures.found c.neighbour_at.ensures.none
+        ∙ ap (λ x. are_linked g x c.args.b) same
 
 pub returns-in-None : goal.returns-in-None
 returns-in-None c =
     let are = c.self.invariant in
     rw (← c.self.view_is)
-    (unlinked_first _ _ are.as_ids.ascending are.as_rows c.args.a c.args.b (c.in-None.ensures ∙ ap (λ g. position (λ k. k == c.args.a) g.ids) (sym c.self.view_is)))
+    (unlinked_first _ _ are.as_ids.ascending are.as_rows c.args.a c.args.b
+        (c.in-None.ensures ∙ ap (λ g. position (λ k. k == c.args.a) g.ids) (sym c.self.view_is)))
