@@ -29,7 +29,7 @@ module _ {X : Type 0} (some : X) where
   ascends_at items below k h =
       let inside : k + 1 < length items = simp length-map at h in
       rw (get_or-map (λ (c : ℕ × X). c.0) items k stranger, get_or-map (λ (c : ℕ × X). c.0) items (k + 1) stranger)
-          (ltb-true _ _ (sym (below k stranger inside)))
+      (ltb-true _ _ (sym (below k stranger inside)))
 
   -- the answer of a test of each number against the next
   pub ascends_from_answer : (items : List (ℕ × X)) (answer : Bool)
@@ -40,7 +40,7 @@ module _ {X : Type 0} (some : X) where
     λ wrong. cc,
     λ ascending.
         let high : (get_or items (k + 1) stranger).0 ≤ (get_or items k stranger).0 =
-            ltb-false _ _ (sym (above stranger)) in
+        ltb-false _ _ (sym (above stranger)) in
         let low = rise_at items k (ascending k (rw length-map inside)) in
         absurd (omega arith),
   )

@@ -13,9 +13,11 @@ use Rattle.action_tables.specs.Cuts.{HasNo}
 -- a text has no byte that it has at no place
 has_no : (byte : ℕ) (xs : List ℕ) → ((k : ℕ) → k < length xs → (get_or xs k 0 == byte) ≡ false) → HasNo byte xs
 has_no byte [] h = tt
-has_no byte (x ∷ xs) h =
-    (λ e. absurd (true≢false (sym (eq-eqb x byte e) ∙ h 0 (omega arith))), has_no byte xs
-    (λ k lt. h (suc k) (omega arith)))
+has_no byte (x ∷ xs) h = (
+  λ e. absurd (true≢false (sym (eq-eqb x byte e) ∙ h 0 (omega arith))),
+  has_no byte xs
+      (λ k lt. h (suc k) (omega arith)),
+)
 
 none_where : (b : Bool) (n : ℕ) → None ≡ cond b (Some n) None → b ≡ false
 none_where true n e = absurd (none-some n e)
@@ -31,9 +33,11 @@ has_no_before : (byte : ℕ) (xs : List ℕ) (i : ℕ) → ((k : ℕ) → k < i 
     → HasNo byte (take i xs)
 has_no_before byte xs zero h = tt
 has_no_before byte [] (suc i) h = tt
-has_no_before byte (x ∷ xs) (suc i) h =
-    (λ e. absurd (true≢false (sym (eq-eqb x byte e) ∙ h 0 (omega arith))), has_no_before byte xs i
-        (λ k lt. h (suc k) (omega arith)))
+has_no_before byte (x ∷ xs) (suc i) h = (
+  λ e. absurd (true≢false (sym (eq-eqb x byte e) ∙ h 0 (omega arith))),
+  has_no_before byte xs i
+      (λ k lt. h (suc k) (omega arith)),
+)
 
 pub placed_front : (byte : ℕ) (xs : List ℕ) (i : ℕ) → Some i ≡ position (λ b. b == byte) xs → HasNo byte (take i xs)
 placed_front byte xs i at = has_no_before byte xs i (position-Some (λ b. b == byte) xs i 0 (sym at)).2

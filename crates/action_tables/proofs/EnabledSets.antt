@@ -46,11 +46,11 @@ with_rows-append ns n (row ∷ rows) all rise =
     let more : n < k = ltb-true n k parts.0 in
     let kept = filter (λ r. r.holds) rows in
     elim row.holds
-        as (λ b. with_rows (with_number_if k b ns) rows ≡ ns ++ map (λ r. r.number) (cond b (row ∷ kept) kept)) [
+    as (λ b. with_rows (with_number_if k b ns) rows ≡ ns ++ map (λ r. r.number) (cond b (row ∷ kept) kept)) [
       | true ↦
           ap (λ ms. with_rows ms rows) (insert_last ns k (each_below n k ns more all))
           ∙ with_rows-append (ns ++ k ∷ []) k rows (each_append (λ m. m ≤ k) ns k (each_up_to n k ns more all) same)
-              parts.1
+          parts.1
           ∙ append_assoc ns (k ∷ []) (enabled_of rows)
       | false ↦ with_rows-append ns k rows (each_up_to n k ns more all) parts.1
     ]

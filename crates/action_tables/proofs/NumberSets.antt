@@ -79,15 +79,15 @@ inserted p q n a (suc k) same at pos low high =
     let is : a ≡ n = here.1 in
     let below : n < a + 1 = omega arith in
     let tail : keep ≡ rest =
-        filter_alike q p (range_with_len (a + 1) k)
-        (above (λ m. q m ≡ p m) (a + 1) k (λ m later. same m (omega arith) (λ e. absurd (omega arith)))) in
+    filter_alike q p (range_with_len (a + 1) k)
+    (above (λ m. q m ≡ p m) (a + 1) k (λ m later. same m (omega arith) (λ e. absurd (omega arith)))) in
     ap (λ b. cond b (a ∷ keep) keep) (ap q is ∙ at) ∙ ap (λ (l : List ℕ). a ∷ l) tail
     ∙ insert_here (p a) n a rest is (insert_front p n (a + 1) k below))
     (λ other.
     let ne : a ≢ n = other.1 in
     let under : a < n = omega arith in
     let tail : keep ≡ insert_key nat_cmp rest n =
-        inserted p q n (a + 1) k same at (omega arith) (omega arith) (omega arith) in
+    inserted p q n (a + 1) k same at (omega arith) (omega arith) (omega arith) in
     ap (λ b. cond b (a ∷ keep) keep) (same a pos ne) ∙ ap (λ (l : List ℕ). cond (p a) (a ∷ l) l) tail
     ∙ insert_later (p a) n a rest under)
     (eqb_tells a n)
@@ -118,7 +118,7 @@ pub is_among-other : (s n : ℕ) → (IsCase n → ⊥) → is_among n (numbers_
 unfolding numbers_of
 is_among-other s n absent =
     any-filter_same (λ m. m == n) (λ m. has_bit s m) (has_bit s n) (λ k e. ap (λ m. has_bit s m) (eqb-true k n e))
-        all_cases
+    all_cases
     ∙ ap (λ b. has_bit s n && b) (outside n all_cases every_case absent) ∙ and-false (has_bit s n)
 
 listed : (p : ℕ → Bool) (xs : List ℕ) → Each IsCase xs → Each (λ n. p n ≡ is_among n (filter p all_cases)) xs
@@ -159,7 +159,7 @@ numbers_of-first s pos fits =
     let z = trailing_zeros w16 s in
     let back : (z + 1) - 1 ≡ z = omega arith in
     first_kept (λ n. has_bit s n) (z + 1) 1 16 (omega arith) (omega (arith, within))
-        (ap (λ b. b == 1) (ap (λ i. bit_at s i) back ∙ set))
+    (ap (λ b. b == 1) (ap (λ i. bit_at s i) back ∙ set))
     (λ m low less. ap (λ b. b == 1) (before (m - 1) (omega arith)))
 
 count_step : (b r l : ℕ) → b < 2 → r ≡ l → b + r ≡ cond (b == 1) (l + 1) l
@@ -180,11 +180,11 @@ ones_kept p a zero s fits is = let none : ones s ≤ 0 = ones-le 0 s fits in ome
 ones_kept p a (suc k) s fits is =
     let rest = filter p (range_with_len (a + 1) k) in
     let same : ones (s / 2) ≡ length rest =
-        ones_kept p (a + 1) k (s / 2) (omega (arith, pow-succ' 2 k))
-        (λ i. ap p (one_later a i) ∙ is (suc i) ∙ ap (λ b. b == 1) (bit_at-suc s i)) in
+    ones_kept p (a + 1) k (s / 2) (omega (arith, pow-succ' 2 k))
+    (λ i. ap p (one_later a i) ∙ is (suc i) ∙ ap (λ b. b == 1) (bit_at-suc s i)) in
     let lowest : p a ≡ (s % 2 == 1) = ap p (sym (add-zero a)) ∙ is 0 ∙ ap (λ b. b == 1) (bit_at_lowest s) in
     ones_step s ∙ count_step (s % 2) (ones (s / 2)) (length rest) (omega arith) same
-        ∙ ap (λ b. cond b (length rest + 1) (length rest)) (sym lowest) ∙ sym (length_kept (p a) a rest)
+    ∙ ap (λ b. cond b (length rest + 1) (length rest)) (sym lowest) ∙ sym (length_kept (p a) a rest)
 
 back_one : (i : ℕ) → 1 + i - 1 ≡ i
 back_one i = omega arith

@@ -49,7 +49,7 @@ read_found : (w : List ℕ) → (IsEmptyOrPadded w → ⊥) → AllDigits 10 w �
 read_found w plain digits small =
     let some : 0 < length w = positive (length w) (λ none. plain (inl none)) in
     let short : get_or w 0 0 ≡ 48 → length w ≡ 1 =
-        λ zero. only_one (length w) some (λ long. plain (inr (zero, long))) in
+    λ zero. only_one (length w) some (λ long. plain (inr (zero, long))) in
     sym (decimal-digits_value own w digits some short (omega (arith, small)))
 
 read_only : (w : List ℕ) → (AllDigits 10 w → 2 ^ 32 ≤ digits_value 10 w) → (n : ℕ) → n < 2 ^ 32 → w ≡ decimal n → ⊥
@@ -60,7 +60,7 @@ read_only w large n small is =
 -- what is read of digits is the number that the word spells
 pub found_number : (w : List ℕ) (r : Option ℕ) → (IsEmptyOrPadded w → ⊥)
     → IfSome r (λ n. AllDigits 10 w × (n ≡ digits_value 10 w)) → IfSome r (λ n. n < 2 ^ 32)
-        → IfSome r (λ n. w ≡ decimal n)
+    → IfSome r (λ n. w ≡ decimal n)
 found_number w (Some n) plain found small =
     read_found w plain found.0 (omega (arith, found.1, small)) ∙ ap decimal (sym found.1)
 found_number w None plain found small = tt

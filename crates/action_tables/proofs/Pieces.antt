@@ -35,7 +35,7 @@ flat_map_next f (x ∷ xs) (suc i) d h =
 pub Appends-piece : {X : Type 0} (a b c : Option (List ℕ)) (f : X → List ℕ) (xs : List X) (i : ℕ) (d : X)
     → i < length xs
     → Appends a b (flat_map f (take i xs)) → Appends b c (f (get_or xs i d))
-        → Appends a c (flat_map f (take (i + 1) xs))
+    → Appends a c (flat_map f (take (i + 1) xs))
 Appends-piece a b c f xs i d h before here =
     rw (add-one, flat_map_next f xs i d h)
-        (Appends-trans a b c (flat_map f (take i xs)) (f (get_or xs i d)) before here)
+    (Appends-trans a b c (flat_map f (take i xs)) (f (get_or xs i d)) before here)

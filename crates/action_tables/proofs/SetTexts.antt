@@ -26,8 +26,8 @@ all_above p f n a (suc k) low =
     let rest = all_above p f n (a + 1) k (omega arith) in
     let test = is_above n a low in
     elim (p a)
-        as (λ b. cond (b && nat_lt n a) (f a) [] ++ flat_map (above p f n) (range_with_len (a + 1) k)
-        ≡ flat_map f (cond b (a ∷ filter p (range_with_len (a + 1) k)) (filter p (range_with_len (a + 1) k)))) [
+    as (λ b. cond (b && nat_lt n a) (f a) [] ++ flat_map (above p f n) (range_with_len (a + 1) k)
+    ≡ flat_map f (cond b (a ∷ filter p (range_with_len (a + 1) k)) (filter p (range_with_len (a + 1) k)))) [
       | true ↦ rw test (ap (λ l. f a ++ l) rest)
       | false ↦ rest
     ]
@@ -45,8 +45,8 @@ others_above p f n ns a zero h = cc
 others_above p f n ns a (suc k) h =
     let rest = others_above p f n ns (a + 1) k in
     (elim (p a)
-        as (λ b. cond b (a ∷ filter p (range_with_len (a + 1) k)) (filter p (range_with_len (a + 1) k)) ≡ n ∷ ns
-        → cond (b && nat_lt n a) (f a) [] ++ flat_map (above p f n) (range_with_len (a + 1) k) ≡ flat_map f ns) [
+    as (λ b. cond b (a ∷ filter p (range_with_len (a + 1) k)) (filter p (range_with_len (a + 1) k)) ≡ n ∷ ns
+    → cond (b && nat_lt n a) (f a) [] ++ flat_map (above p f n) (range_with_len (a + 1) k) ≡ flat_map f ns) [
       | true ↦ λ e.
           let same = first_is a n _ ns e in
           let test : nat_lt n a ≡ false = ap (nat_lt n) same ∙ is_not_above n in
@@ -79,5 +79,5 @@ text_from (m ∷ ns) cases n is listed first =
     let same : m ≡ n = cc in
     list_text-cons decimal m ns ∙ ap (λ x. decimal x ++ flat_map (λ y. 44 ∷ decimal y) ns) same
     ∙ ap (λ l. decimal n ++ l)
-        (sym (others_of (λ c. is_among c (m ∷ ns)) (λ y. 44 ∷ decimal y) n ns cases (is ∙ cases_ranged)
-        (ap (λ x. x ∷ ns) (sym same) ∙ listed ∙ ap (filter (λ c. is_among c (m ∷ ns))) (sym is))))
+    (sym (others_of (λ c. is_among c (m ∷ ns)) (λ y. 44 ∷ decimal y) n ns cases (is ∙ cases_ranged)
+    (ap (λ x. x ∷ ns) (sym same) ∙ listed ∙ ap (filter (λ c. is_among c (m ∷ ns))) (sym is))))

@@ -25,18 +25,18 @@ table_text-no_title a b title rows h =
 pub table_text-no_row : (a u b c : Option (List ℕ)) (title : List ℕ) (rows : List CaseRow) (i : ℕ) (d : CaseRow)
     → i < length rows
     → Appends a u (title_line title) → Appends u b (flat_map line_of (take i rows))
-        → AppendsFront b c (line_of (get_or rows i d))
+    → AppendsFront b c (line_of (get_or rows i d))
     → AppendsFront a c (table_text title (map as_printed rows))
 table_text-no_row a u b c title rows i d h first before here =
     rw (flat_map-map row_line as_printed rows)
-        (AppendsFront-then a u c (title_line title) (flat_map line_of rows) first
-        (AppendsFront-piece u b c line_of rows i d h before here))
+    (AppendsFront-then a u c (title_line title) (flat_map line_of rows) first
+    (AppendsFront-piece u b c line_of rows i d h before here))
 
 -- all lines were written
 pub table_text-whole : (a u b : Option (List ℕ)) (title : List ℕ) (rows : List CaseRow) (i : ℕ) → length rows ≤ i
     → Appends a u (title_line title) → Appends u b (flat_map line_of (take i rows))
-        → Appends a b (table_text title (map as_printed rows))
+    → Appends a b (table_text title (map as_printed rows))
 table_text-whole a u b title rows i h first lines =
     rw (flat_map-map row_line as_printed rows)
-        (Appends-trans a u b (title_line title) (flat_map line_of rows) first
-        (let P : List CaseRow → Type 0 = λ l. Appends u b (flat_map line_of l) in subst P (take_all i rows h) lines))
+    (Appends-trans a u b (title_line title) (flat_map line_of rows) first
+    (let P : List CaseRow → Type 0 = λ l. Appends u b (flat_map line_of l) in subst P (take_all i rows h) lines))

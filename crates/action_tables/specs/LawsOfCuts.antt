@@ -46,20 +46,20 @@ pub record SameParts (xs xs' ys ys' zs zs' : List ℕ) : Type 0 where
 -- a text in three parts that are joined by a byte, cut at the first such byte
 module _ (byte : ℕ) (xs ys zs text first rest : List ℕ) (none : HasNo byte xs)
     (joined : xs ++ byte ∷ (ys ++ byte ∷ zs) ≡ text) (cut : text ≡ first ++ byte ∷ rest) (none' : HasNo byte first)
-    where
-  at_first : SameCut xs first (ys ++ byte ∷ zs) rest
-  at_first = same_cut byte xs first (ys ++ byte ∷ zs) rest none none' (joined ∙ cut)
+  where
+    at_first : SameCut xs first (ys ++ byte ∷ zs) rest
+    at_first = same_cut byte xs first (ys ++ byte ∷ zs) rest none none' (joined ∙ cut)
 
-  -- what is left has another
-  pub has_second : HasNo byte rest → ⊥
-  has_second none'' = has_byte byte ys zs (subst (HasNo byte) (sym at_first.back) none'')
+    -- what is left has another
+    pub has_second : HasNo byte rest → ⊥
+    has_second none'' = has_byte byte ys zs (subst (HasNo byte) (sym at_first.back) none'')
 
-  -- cut at the next one, it has the three parts
-  pub same_parts : (second third : List ℕ) → HasNo byte ys → rest ≡ second ++ byte ∷ third → HasNo byte second
-      → SameParts xs first ys second zs third
-  same_parts second third none-ys cut' none-second =
-      let at_second = same_cut byte ys second zs third none-ys none-second (at_first.back ∙ cut') in
-      record { first = at_first.front; second = at_second.front; third = at_second.back }
+    -- cut at the next one, it has the three parts
+    pub same_parts : (second third : List ℕ) → HasNo byte ys → rest ≡ second ++ byte ∷ third → HasNo byte second
+        → SameParts xs first ys second zs third
+    same_parts second third none-ys cut' none-second =
+        let at_second = same_cut byte ys second zs third none-ys none-second (at_first.back ∙ cut') in
+        record { first = at_first.front; second = at_second.front; third = at_second.back }
 
 no_such_digit : (byte : ℕ) (ds : List ℕ) → (IsInRange 48 57 byte → ⊥) → AllDigits 10 ds → HasNo byte ds
 no_such_digit byte [] other h = tt

@@ -42,8 +42,8 @@ in_range : (a k n : ℕ) → a ≤ n → n < a + k → is_among n (range_with_le
 in_range a zero n low high = absurd (omega arith)
 in_range a (suc k) n low high =
     ⊎_elim (λ same. rw same.0)
-        (λ other. let ne : a ≢ n = other.1 in rw (other.0, in_range (a + 1) k n (omega arith) (omega arith)))
-        (eqb_tells a n)
+    (λ other. let ne : a ≢ n = other.1 in rw (other.0, in_range (a + 1) k n (omega arith) (omega arith)))
+    (eqb_tells a n)
 
 -- which of 1 to 16 a filter of them leaves
 pub is_among-filter : (p : ℕ → Bool) (n : ℕ) → IsCase n → is_among n (filter p all_cases) ≡ p n
@@ -71,12 +71,12 @@ bit_at-bits_of (n ∷ ns) i h =
     let at : i ≡ n - 1 = omega (arith, same.1) in
     let one : bit_at (2 ^ (n - 1)) i ≡ 1 = ap (bit_at (2 ^ (n - 1))) at ∙ bit_at-pow_same (n - 1) in
     ap (λ x. max x (bit_at (bits_of ns) i)) one ∙ max_one _ (bit_at-lt (bits_of ns) i)
-        ∙ sym (ap (λ b. cond (b || is_among (i + 1) ns) 1 0) same.0))
+    ∙ sym (ap (λ b. cond (b || is_among (i + 1) ns) 1 0) same.0))
     (λ other.
     let ne : n ≢ i + 1 = other.1 in
     let none : bit_at (2 ^ (n - 1)) i ≡ 0 = bit_at-pow_other (n - 1) i (λ e. ne (omega arith)) in
     ap (λ x. max x (bit_at (bits_of ns) i)) none ∙ max_zero _ ∙ rest
-        ∙ sym (ap (λ b. cond (b || is_among (i + 1) ns) 1 0) other.0))
+    ∙ sym (ap (λ b. cond (b || is_among (i + 1) ns) 1 0) other.0))
     (eqb_tells n (i + 1))
 
 bits_of-lt : (ns : List ℕ) → Each IsCase ns → bits_of ns < 2 ^ 16
@@ -98,7 +98,7 @@ bits_of-numbers_of s h =
     let place : (i + 1) - 1 ≡ i = omega arith in
     bit_at-bits_of (numbers_of s) i cases
     ∙ ap (λ b. cond b 1 0)
-        (is_among-filter (λ n. has_bit s n) (i + 1) (record { first = omega arith; last = omega arith }))
+    (is_among-filter (λ n. has_bit s n) (i + 1) (record { first = omega arith; last = omega arith }))
     ∙ ap (λ k. cond (bit_at s k == 1) 1 0) place
     ∙ cond_bit (bit_at s i) (bit_at-lt s i))
 

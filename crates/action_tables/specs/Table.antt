@@ -29,7 +29,7 @@ abbrev pub fired_of : {T E : Type 0} → E → E → List (Row (Result T E)) →
 fired_of no_such_case not_enabled [] n = Err no_such_case
 fired_of no_such_case not_enabled (row ∷ rows) n =
     if row.number == n then (if row.holds then row.does else Err not_enabled) else fired_of no_such_case not_enabled
-        rows n
+    rows n
 
 abbrev pub printed : {E : Type 0} → Row E → PrintedRow
 printed row = record { number = row.number; name = row.name; guard = row.guard; effect = row.effect }

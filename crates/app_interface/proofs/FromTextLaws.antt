@@ -80,9 +80,11 @@ module _ {X : Type 0} {IsItem : X → Type 0} {text : X → List ℕ} (spells : 
 
 pub is_id_tells : (n : ℕ) → Decides (is_id n) (IsId n)
 is_id_tells n =
-    let both = Decides-and (ltb 0 n) (ltb n 65536) (Decides-ltb 0 n) (Decides-ltb n 65536) in
-    (λ e. let p = both.0 e in record { positive = p.0; small = omega (arith, p.1) }, λ id. both.1
-        (id.positive, omega (arith, id.small)))
+    let both = Decides-and (ltb 0 n) (ltb n 65536) (Decides-ltb 0 n) (Decides-ltb n 65536) in (
+      λ e. let p = both.0 e in record { positive = p.0; small = omega (arith, p.1) },
+      λ id. both.1
+          (id.positive, omega (arith, id.small)),
+    )
 
 pub ids_tell : (ns : List ℕ) → Decides (list_all is_id ns) (All IsId ns)
 ids_tell = Decides-by_and is_id IsId (list_all is_id) is_id_tells refl (λ _ _. refl)
@@ -91,9 +93,11 @@ pub ascends_tells : (ns : List ℕ) → Decides (ascends ns) (IsStrictlyIncreasi
 ascends_tells [] = (λ e k lt. absurd (omega (arith, lt)), λ up. refl)
 ascends_tells (n ∷ []) = (λ e k lt. absurd (omega (arith, lt)), λ up. refl)
 ascends_tells (m ∷ n ∷ ns) =
-    let both = Decides-and (ltb m n) (ascends (n ∷ ns)) (Decides-ltb m n) (ascends_tells (n ∷ ns)) in
-    (λ e. let p = both.0 e in rising p.0 p.1, λ up. both.1
-        (up 0 (omega arith), λ k lt. tail k (up (suc k) (omega (arith, lt)))))
+    let both = Decides-and (ltb m n) (ascends (n ∷ ns)) (Decides-ltb m n) (ascends_tells (n ∷ ns)) in (
+      λ e. let p = both.0 e in rising p.0 p.1,
+      λ up. both.1
+          (up 0 (omega arith), λ k lt. tail k (up (suc k) (omega (arith, lt)))),
+    )
   where
     after : (k : ℕ) → suc (k + 1) ≡ suc k + 1
     after k = omega arith

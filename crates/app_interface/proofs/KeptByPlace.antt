@@ -22,9 +22,9 @@ keeps_front p xs zero x le front back = keeps_none p xs x (λ k lt. back k (omeg
 keeps_front p [] (suc i) x le front back = absurd (omega arith)
 keeps_front p (y ∷ xs) (suc i) x le front back =
     rw (front 0 (omega arith))
-        (ap (λ l. y ∷ l)
-        (keeps_front p xs i x (omega arith) (λ k lt. front (suc k) (omega arith))
-        (λ k ge lt. back (suc k) (omega arith) (omega arith))))
+    (ap (λ l. y ∷ l)
+    (keeps_front p xs i x (omega arith) (λ k lt. front (suc k) (omega arith))
+    (λ k ge lt. back (suc k) (omega arith) (omega arith))))
 
 -- what passes from a place on and nowhere before it
 pub keeps_back : {X : Type 0} (p : X → Bool) (xs : List X) (i : ℕ) (x : X) → i ≤ length xs
@@ -34,5 +34,5 @@ keeps_back p xs zero x le front back = keeps_all p xs x (λ k lt. back k (omega 
 keeps_back p [] (suc i) x le front back = absurd (omega arith)
 keeps_back p (y ∷ xs) (suc i) x le front back =
     rw (front 0 (omega arith))
-        (keeps_back p xs i x (omega arith) (λ k lt. front (suc k) (omega arith))
-        (λ k ge lt. back (suc k) (omega arith) (omega arith)))
+    (keeps_back p xs i x (omega arith) (λ k lt. front (suc k) (omega arith))
+    (λ k ge lt. back (suc k) (omega arith) (omega arith)))

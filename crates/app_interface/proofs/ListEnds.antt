@@ -11,17 +11,17 @@ pub rises_push : (ns : List ℕ) (n : ℕ) → IsStrictlyIncreasing ns → EndsB
 rises_push ns n up above k lt =
     let long : length (ns ++ n ∷ []) ≡ length ns + 1 = length-append ns (n ∷ []) in
     let here : get_or (ns ++ n ∷ []) k 0 ≡ get_or ns k 0 =
-        get_or_append_left ns (n ∷ []) 0 k (omega (arith, lt, long)) in
+    get_or_append_left ns (n ∷ []) 0 k (omega (arith, lt, long)) in
     ⊎_elim
     (λ inside.
     let next : get_or (ns ++ n ∷ []) (k + 1) 0 ≡ get_or ns (k + 1) 0 =
-        get_or_append_left ns (n ∷ []) 0 (k + 1) inside in
+    get_or_append_left ns (n ∷ []) 0 (k + 1) inside in
     omega (arith, here, next, up k inside))
     (λ past.
     let at : k + 1 ≡ length ns = omega (arith, lt, long, past) in
     let before : k ≡ length ns - 1 = omega (arith, at) in
     let next : get_or (ns ++ n ∷ []) (k + 1) 0 ≡ n =
-        ap (λ i. get_or (ns ++ n ∷ []) i 0) at ∙ get_or-append_seam ns n [] 0 in
+    ap (λ i. get_or (ns ++ n ∷ []) i 0) at ∙ get_or-append_seam ns n [] 0 in
     let last : get_or ns k 0 ≡ get_or ns (length ns - 1) 0 = ap (λ i. get_or ns i 0) before in
     omega (arith, here, next, last, above (omega (arith, at))))
     (cases_lt (k + 1) (length ns))
@@ -31,17 +31,22 @@ ends_below ns n up some =
     let long : length (ns ++ n ∷ []) ≡ length ns + 1 = length-append ns (n ∷ []) in
     let after : length ns - 1 + 1 ≡ length ns = omega (arith, some) in
     let last : get_or (ns ++ n ∷ []) (length ns - 1) 0 ≡ get_or ns (length ns - 1) 0 =
-        get_or_append_left ns (n ∷ []) 0 (length ns - 1) (omega (arith, some)) in
+    get_or_append_left ns (n ∷ []) 0 (length ns - 1) (omega (arith, some)) in
     let next : get_or (ns ++ n ∷ []) (length ns - 1 + 1) 0 ≡ n =
-        ap (λ k. get_or (ns ++ n ∷ []) k 0) after ∙ get_or-append_seam ns n [] 0 in
+    ap (λ k. get_or (ns ++ n ∷ []) k 0) after ∙ get_or-append_seam ns n [] 0 in
     omega (arith, last, next, up (length ns - 1) (omega (arith, after, long)))
 
 -- the front of ascending numbers ascends
 pub front_rises : (xs ys : List ℕ) → IsStrictlyIncreasing (xs ++ ys) → IsStrictlyIncreasing xs
 front_rises xs ys up k lt =
     let long : length (xs ++ ys) ≡ length xs + length ys = length-append xs ys in
-    omega (arith, up k (omega (arith, lt, long)), get_or_append_left xs ys 0 k (omega (arith, lt)), get_or_append_left
-        xs ys 0 (k + 1) lt)
+    omega (
+      arith,
+      up k (omega (arith, lt, long)),
+      get_or_append_left xs ys 0 k (omega (arith, lt)),
+      get_or_append_left
+          xs ys 0 (k + 1) lt,
+    )
 
 -- ---- what holds of each item
 

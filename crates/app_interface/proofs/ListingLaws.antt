@@ -33,14 +33,14 @@ module _ {X : Type 0} (text : X → List ℕ) where
   with_commas-push [] x = refl
   with_commas-push (y ∷ xs) x =
       ap (λ l. text y ++ 44 ∷ l) (with_commas-push xs x)
-          ∙ sym (append_assoc (text y) (44 ∷ with_commas text xs) (text x ++ 44 ∷ []))
+      ∙ sym (append_assoc (text y) (44 ∷ with_commas text xs) (text x ++ 44 ∷ []))
 
   list_text-push : (xs : List X) (x : X) → list_text text (xs ++ x ∷ []) ≡ with_commas text xs ++ text x
   list_text-push [] x = refl
   list_text-push (y ∷ []) x = sym (append_assoc (text y) (44 ∷ []) (text x))
   list_text-push (y ∷ z ∷ xs) x =
       ap (λ l. text y ++ 44 ∷ l) (list_text-push (z ∷ xs) x)
-          ∙ sym (append_assoc (text y) (44 ∷ with_commas text (z ∷ xs)) (text x))
+      ∙ sym (append_assoc (text y) (44 ∷ with_commas text (z ∷ xs)) (text x))
 
   module _ {Are : List X → Type 0} (whole : List ℕ) (xs : List X) (piece : List ℕ) (new : List X)
       (on : ReadsOn Are text xs piece new) where
@@ -58,7 +58,7 @@ module _ {X : Type 0} (text : X → List ℕ) where
     pub read_last : whole ≡ with_commas text xs ++ piece → list_text text new ≡ whole
     read_last e =
         ap (list_text text) on.pushed ∙ list_text-push xs on.item ∙ ap (λ l. with_commas text xs ++ l) (sym on.spelled)
-            ∙ sym e
+        ∙ sym e
 
 -- ---- one list a text
 
@@ -75,7 +75,7 @@ module _ {X : Type 0} {IsItem : X → Type 0} {text : X → List ℕ} (spells : 
   HasNo-joined byte (x ∷ []) low other all = spells.high byte x low all.0
   HasNo-joined byte (x ∷ y ∷ xs) low other all =
       HasNo-append byte (text x) (44 ∷ joined (y ∷ xs)) (spells.high byte x low all.0)
-          (other, HasNo-joined byte (y ∷ xs) low other all.1)
+      (other, HasNo-joined byte (y ∷ xs) low other all.1)
 
   -- a byte that is none of an item's, no comma and no dash stands in no list's text
   pub HasNo-list : (byte : ℕ) (xs : List X) → byte < 48 → 44 ≢ byte → 45 ≢ byte → All IsItem xs
@@ -97,15 +97,15 @@ module _ {X : Type 0} {IsItem : X → Type 0} {text : X → List ℕ} (spells : 
       let cut : SameCut (text a) (text b) (joined (c ∷ xs)) (joined (d ∷ ys)) =
       same_cut 44 (text a) (text b) (joined (c ∷ xs)) (joined (d ∷ ys)) (no_comma a all.0) (no_comma b all'.0) e in
       ap₂ (λ x xs. x ∷ xs) (spells.one a b all.0 all'.0 cut.front)
-          (same_joined (c ∷ xs) (d ∷ ys) all.1 all'.1 (omega arith) (omega arith) cut.back)
+      (same_joined (c ∷ xs) (d ∷ ys) all.1 all'.1 (omega arith) (omega arith) cut.back)
 
   -- a dash is the text of no list of some items
   dash_apart : (x : X) (xs : List X) → All IsItem (x ∷ xs) → ◌≡◌ {A = List ℕ} (45 ∷ []) (joined (x ∷ xs)) → ⊥
   dash_apart x xs all e =
       let none : HasNo 45 (45 ∷ []) =
       subst (HasNo 45) (sym e)
-          (HasNo-joined 45 (x ∷ xs) (omega arith) (λ e. absurd (omega (arith, e)))
-          (recursion_from_All IsItem (x ∷ xs) all)) in
+      (HasNo-joined 45 (x ∷ xs) (omega arith) (λ e. absurd (omega (arith, e)))
+      (recursion_from_All IsItem (x ∷ xs) all)) in
       none.0 refl
 
   pub same_list : (xs ys : List X) → All IsItem xs → All IsItem ys → list_text text xs ≡ list_text text ys → xs ≡ ys
@@ -114,7 +114,7 @@ module _ {X : Type 0} {IsItem : X → Type 0} {text : X → List ℕ} (spells : 
   same_list (a ∷ xs) [] all all' e = absurd (dash_apart a xs all (sym e))
   same_list (a ∷ xs) (b ∷ ys) all all' e =
       same_joined (a ∷ xs) (b ∷ ys) (recursion_from_All IsItem (a ∷ xs) all) (recursion_from_All IsItem (b ∷ ys) all')
-          (omega arith) (omega arith) e
+      (omega arith) (omega arith) e
 
   -- ---- what else a text could spell
 
@@ -131,15 +131,19 @@ module _ {X : Type 0} {IsItem : X → Type 0} {text : X → List ℕ} (spells : 
   goes_on [] (y ∷ ys) rest all all' some e = record { head = y; tail = ys; whole = refl; spelled = e }
   goes_on (x ∷ xs) (y ∷ []) rest all all' some e =
       absurd (has_byte 44 (text x) (with_commas text xs ++ rest)
-          (subst (HasNo 44) (e ∙ append_assoc (text x) (44 ∷ with_commas text xs) rest) (no_comma y all'.0)))
+      (subst (HasNo 44) (e ∙ append_assoc (text x) (44 ∷ with_commas text xs) rest) (no_comma y all'.0)))
   goes_on (x ∷ xs) (y ∷ z ∷ ys) rest all all' some e =
       let cut : SameCut (text y) (text x) (joined (z ∷ ys)) (with_commas text xs ++ rest) =
       same_cut 44 (text y) (text x) (joined (z ∷ ys)) (with_commas text xs ++ rest) (no_comma y all'.0)
-          (no_comma x all.0)
+      (no_comma x all.0)
       (e ∙ append_assoc (text x) (44 ∷ with_commas text xs) rest) in
       let on = goes_on xs (z ∷ ys) rest all.1 all'.1 (omega arith) cut.back in
-      record { head = on.head; tail = on.tail;
-          whole = ap₂ (λ h t. h ∷ t) (spells.one y x all'.0 all.0 cut.front) on.whole; spelled = on.spelled }
+      record {
+        head = on.head;
+        tail = on.tail;
+        whole = ap₂ (λ h t. h ∷ t) (spells.one y x all'.0 all.0 cut.front) on.whole;
+        spelled = on.spelled;
+      }
 
   next_head : (head : X) (tail : List X) (piece more : List ℕ) → IsItem head → HasNo 44 piece
       → joined (head ∷ tail) ≡ piece ++ 44 ∷ more → text head ≡ piece
@@ -161,13 +165,13 @@ module _ {X : Type 0} {IsItem : X → Type 0} {text : X → List ℕ} (spells : 
     going [] rest e are' is = absurd (no_dash (sym is))
     going (y ∷ ys) rest e are' is =
         goes_on xs (y ∷ ys) rest (recursion_from_All IsItem xs (fronts.each xs are))
-            (recursion_from_All IsItem (y ∷ ys) (fronts.each (y ∷ ys) are')) (omega arith) (is ∙ e)
+        (recursion_from_All IsItem (y ∷ ys) (fronts.each (y ∷ ys) are')) (omega arith) (is ∙ e)
 
     -- the items that were read and the next one are such a list
     with_next : (list : List X) (rest : List ℕ) → Are list → (on : GoesOn list xs rest) → Are (xs ++ on.head ∷ [])
     with_next list rest are' on =
         fronts.front (xs ++ on.head ∷ []) on.tail
-            (subst Are (on.whole ∙ sym (append_assoc xs (on.head ∷ []) on.tail)) are')
+        (subst Are (on.whole ∙ sym (append_assoc xs (on.head ∷ []) on.tail)) are')
 
     pub bad_next : (piece more : List ℕ) → whole ≡ with_commas text xs ++ (piece ++ 44 ∷ more) → HasNo 44 piece
         → NoNext Are text xs piece →
@@ -176,8 +180,8 @@ module _ {X : Type 0} {IsItem : X → Type 0} {text : X → List ℕ} (spells : 
         let on = going list (piece ++ 44 ∷ more) e are' is in
         let all = with_next list (piece ++ 44 ∷ more) are' on in
         refused on.head
-            (sym (next_head on.head on.tail piece more (item_at_seam IsItem xs on.head [] (fronts.each _ all)) none
-            on.spelled)) all
+        (sym (next_head on.head on.tail piece more (item_at_seam IsItem xs on.head [] (fronts.each _ all)) none
+        on.spelled)) all
 
     pub bad_last : (piece : List ℕ) → whole ≡ with_commas text xs ++ piece → HasNo 44 piece → NoNext Are text xs piece
         → (list : List X) → Are list → list_text text list ≢ whole

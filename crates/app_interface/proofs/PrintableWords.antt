@@ -51,12 +51,12 @@ IsPrintableWord-joined byte word (next ∷ words) is all =
     (ap₂ (λ a b. a && b) is (IsPrintableWord-joined byte next words is all.1).1)
 
 module _ {X : Type 0} (IsItem : X → Type 0) (text : X → List ℕ) (word : (x : X) → IsItem x → IsPrintableWord (text x))
-    where
-  texts : (xs : List X) → AllByRecursion IsItem xs → AllByRecursion IsPrintableWord (map text xs)
-  texts [] all = tt
-  texts (x ∷ xs) all = (word x all.0, texts xs all.1)
+  where
+    texts : (xs : List X) → AllByRecursion IsItem xs → AllByRecursion IsPrintableWord (map text xs)
+    texts [] all = tt
+    texts (x ∷ xs) all = (word x all.0, texts xs all.1)
 
-  pub IsPrintableWord-list : (xs : List X) → All IsItem xs → IsPrintableWord (list_text text xs)
-  IsPrintableWord-list [] all = ((λ e. absurd (omega (arith, ap length e))), refl)
-  IsPrintableWord-list (x ∷ xs) all =
-      IsPrintableWord-joined 44 (text x) (map text xs) refl (texts (x ∷ xs) (recursion_from_All IsItem (x ∷ xs) all))
+    pub IsPrintableWord-list : (xs : List X) → All IsItem xs → IsPrintableWord (list_text text xs)
+    IsPrintableWord-list [] all = ((λ e. absurd (omega (arith, ap length e))), refl)
+    IsPrintableWord-list (x ∷ xs) all =
+        IsPrintableWord-joined 44 (text x) (map text xs) refl (texts (x ∷ xs) (recursion_from_All IsItem (x ∷ xs) all))

@@ -19,7 +19,7 @@ pub enter_enabled : (g : Graph) (v : ℕ → MutexLocal) (i : ℕ) → IsGraph g
     ↔ ((v i).inside ≡ false) × ((j : ℕ) → AreLinked g i j → holds_turn i (v i).bit j (v j).bit ≡ true))
 enter_enabled g v i are =
     let row =
-        row_enabled (v i).inside (holds_turns i (v i).bit (seen (are_linked g i) v g.ids))
-        (record { inside = true; bit = (v i).bit }) in
+    row_enabled (v i).inside (holds_turns i (v i).bit (seen (are_linked g i) v g.ids))
+    (record { inside = true; bit = (v i).bit }) in
     let all = seen_pass (λ near. holds_turn i (v i).bit near.0 near.1.bit) v g are i in
     (λ h. ((row.0 h).0, all.0 (row.0 h).1), λ both. row.1 (both.0, all.1 both.1))

@@ -30,8 +30,8 @@ data Moves (case : ℕ) (own : MutexLocal) (held : Bool) (new : MutexLocal) : Ty
 
 fired : (b i c h : Bool) (p t new : MutexLocal) →
     result_ok
-        (cond b (cond (not i && h) (Ok p) (Err NotEnabled)) (cond c (cond i (Ok t) (Err NotEnabled)) (Err NotEnabled)))
-        ≡ Some new →
+    (cond b (cond (not i && h) (Ok p) (Err NotEnabled)) (cond c (cond i (Ok t) (Err NotEnabled)) (Err NotEnabled)))
+    ≡ Some new →
     ((b ≡ true) × (h ≡ true) × (new ≡ p)) ⊎ ((i ≡ true) × (new ≡ t))
 fired b i c h p t new e = grind (arith, common_steps)
 
@@ -70,7 +70,7 @@ module _ (g : Graph) (are : IsGraph g) (v v' : ℕ → MutexLocal) (i : ℕ) (ne
       ap₂ (λ x y. holds_turn a x b y) (same_bit a (are.ends a b linked)) (same_bit b (to a b linked))
       ∙ ⊎_elim
       (λ here. subst (λ k. holds_turn k (v k).bit b (v b).bit ≡ true) (sym here)
-          (turns b (subst (λ k. AreLinked g k b) here linked)))
+      (turns b (subst (λ k. AreLinked g k b) here linked)))
       (λ other. inv a b linked (ap (λ s. s.inside) (sym (changes.others a (are.ends a b linked) other)) ∙ inside))
       (cases_eq a i)
     where
@@ -95,9 +95,9 @@ module _ (g : Graph) (are : IsGraph g) (v v' : ℕ → MutexLocal) (i : ℕ) (ne
           let same : v' a ≡ v a = changes.others a (are.ends a b linked) other in
           let inside_before : (v a).inside ≡ true = ap (λ s. s.inside) (sym same) ∙ inside in
           let apart : b ≢ i =
-              λ here. neighbours_apart g v a i are inv (subst (AreLinked g a) here linked) inside_before was in
+          λ here. neighbours_apart g v a i are inv (subst (AreLinked g a) here linked) inside_before was in
           ap₂ (λ x y. holds_turn a x.bit b y.bit) same (changes.others b (to a b linked) apart)
-              ∙ inv a b linked inside_before
+          ∙ inv a b linked inside_before
 
 acts : (g : Graph) → IsGraph g → (bound i case : ℕ) (with : Option ℕ) (v v' : ℕ → MutexLocal)
     → Action mutex g bound i case with v v' → HoldsTurns g v → HoldsTurns g v'
@@ -108,10 +108,10 @@ acts g are bound i case None v v' h inv = moved (moves i case (v i) h.new _ h.ne
         → HoldsTurns g v'
     moved (enters one held is) =
         let held_all =
-            subst (λ c. holds_turns i (v i).bit (seen (is_read g i (mutex_reads c) None) v g.ids) ≡ true) (sym one) held
-            in
+        subst (λ c. holds_turns i (v i).bit (seen (is_read g i (mutex_reads c) None) v g.ids) ≡ true) (sym one) held
+        in
         enter_keeps g are v v' i h.new h.changes
-            ((seen_pass (λ near. holds_turn i (v i).bit near.0 near.1.bit) v g are i).0 held_all) is inv
+        ((seen_pass (λ near. holds_turn i (v i).bit near.0 near.1.bit) v g are i).0 held_all) is inv
     moved (leaves was is) = leave_keeps g are v v' i h.new h.changes was is inv
 
 -- ---- the start, and the same states

@@ -50,7 +50,7 @@ module _ (g : Graph) (v : ℕ → List Entry) (d : ℕ) where
   apart_from i e is nodes nearer k x lt = λ same.
       let near = nearer k x lt in
       let also : Some e ≡ Some near.entry =
-          sym is ∙ subst (λ c. route_of (v c) d ≡ Some near.entry) (sym same) near.is_own in
+      sym is ∙ subst (λ c. route_of (v c) d ≡ Some near.entry) (sym same) near.is_own in
       let one : e ≡ near.entry = cc in
       absurd (omega (arith, near.fewer, ap (λ f. f.hops) one))
 
@@ -59,8 +59,18 @@ module _ (g : Graph) (v : ℕ → List Entry) (d : ℕ) where
       → route_of (v c) d ≡ Some f → f.hops < e.hops → Way g v d c f.hops → Way g v d i e.hops
   further i c e f is_own named linked is_theirs fewer rest = record {
     nodes = c ∷ rest.nodes;
-    leads = (record { own = e; is_own = is_own; named = named; linked = linked; theirs = f; is_theirs = is_theirs;
-        fewer = fewer }, rest.leads);
+    leads = (
+      record {
+        own = e;
+        is_own = is_own;
+        named = named;
+        linked = linked;
+        theirs = f;
+        is_theirs = is_theirs;
+        fewer = fewer;
+      },
+      rest.leads,
+    );
     short = omega (arith, rest.short, fewer);
     apart = AllPairs-cons (λ a b. a ≢ b) i (c ∷ rest.nodes) (apart_from i e is_own (c ∷ rest.nodes) all) rest.apart;
     nearer = all;
@@ -80,7 +90,7 @@ module _ (g : Graph) (v : ℕ → List Entry) (d : ℕ) where
 
     on : (m i : ℕ) (e : Entry) → IsNode g i → Contains (v i) e → e.destination ≡ d → 0 < e.hops → e.hops ≤ suc m
         → ((c : ℕ) (f : Entry) → IsNode g c → Contains (v c) f → f.destination ≡ d → f.hops ≤ m → Way g v d c f.hops)
-            → Way g v d i e.hops
+        → Way g v d i e.hops
     on m i e node at same some low rest =
         let route = inv.routes i e node at in
         let linked : AreLinked g i e.next = route.linked some in
@@ -88,12 +98,12 @@ module _ (g : Graph) (v : ℕ → List Entry) (d : ℕ) where
         let near = route.onward some in
         let ends : near.entry.destination ≡ d = near.same ∙ same in
         let own : route_of (v i) d ≡ Some e =
-            subst (λ x. route_of (v i) x ≡ Some e) same (found (v i) (inv.ascending i node) e at) in
+        subst (λ x. route_of (v i) x ≡ Some e) same (found (v i) (inv.ascending i node) e at) in
         let theirs : route_of (v e.next) d ≡ Some near.entry =
         subst (λ x. route_of (v e.next) x ≡ Some near.entry) ends
-            (found (v e.next) (inv.ascending e.next to) near.entry near.listed) in
+        (found (v e.next) (inv.ascending e.next to) near.entry near.listed) in
         further i e.next e near.entry own refl linked theirs near.nearer
-            (rest e.next near.entry to near.listed ends (omega (arith, near.nearer, low)))
+        (rest e.next near.entry to near.listed ends (omega (arith, near.nearer, low)))
 
     way : (n i : ℕ) (e : Entry) → IsNode g i → Contains (v i) e → e.destination ≡ d → e.hops ≤ n → Way g v d i e.hops
     way zero i e node at same low = home i e node at same (omega (arith, low))
@@ -107,5 +117,10 @@ pub arrives : (g : Graph) (v : ℕ → List Entry) (i : ℕ) (e : Entry) → IsG
     → Contains (v i) e → ArrivesWithin g v i e.destination e.hops
 arrives g v i e are inv node at =
     let w = way g v e.destination are inv e.hops i e node at refl (omega arith) in
-    record { nodes = w.nodes; leads = w.leads; walk = walk_of g v e.destination i w.nodes w.leads; short = w.short;
-        no_loop = w.apart }
+    record {
+      nodes = w.nodes;
+      leads = w.leads;
+      walk = walk_of g v e.destination i w.nodes w.leads;
+      short = w.short;
+      no_loop = w.apart;
+    }

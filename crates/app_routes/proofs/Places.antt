@@ -70,8 +70,13 @@ module _ (es : List Entry) (up : IsAscending es) where
   pub in_order : (i j : ℕ) (x : Entry) → i < j → j < length es
       → (get_or es i x).destination < (get_or es j x).destination
   in_order i j x less lt =
-      omega (arith, rises (map (λ e. e.destination) es) up i j less (omega (arith, lt, long)), destination_at i x
-          (omega arith), destination_at j x lt)
+      omega (
+        arith,
+        rises (map (λ e. e.destination) es) up i j less (omega (arith, lt, long)),
+        destination_at i x
+            (omega arith),
+        destination_at j x lt,
+      )
 
   pub in_weak_order : (i j : ℕ) (x : Entry) → i ≤ j → j < length es
       → (get_or es i x).destination ≤ (get_or es j x).destination
@@ -86,8 +91,8 @@ module _ (es : List Entry) (up : IsAscending es) where
   placed d (Ok i) within h = (within, λ x. is_equal (get_or es i x).destination d (h x))
   placed d (Err i) within h =
       let parted =
-          h (λ a b x le lt. ranks_up (get_or es a x).destination (get_or es b x).destination d
-          (in_weak_order a b x le lt)) in (
+      h (λ a b x le lt. ranks_up (get_or es a x).destination (get_or es b x).destination d
+      (in_weak_order a b x le lt)) in (
         within,
         λ k x low lt. is_less (get_or es k x).destination d (parted.0 k x low lt),
         λ k x low lt. is_greater (get_or es k x).destination d (parted.1 k x low lt),

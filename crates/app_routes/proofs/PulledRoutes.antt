@@ -27,8 +27,8 @@ route_of-filter t (e ∷ es) d = at (t e.destination) refl (eqb_tells e.destinat
     at : (b : Bool) → t e.destination ≡ b
         → ((eqb e.destination d ≡ true) × (e.destination ≡ d)) ⊎ ((eqb e.destination d ≡ false) × (e.destination ≢ d)) →
         route_of kept d ≡ cond (t d) (route_of es d) None
-            → route_of (cond b (e ∷ kept) kept) d
-            ≡ cond (t d) (cond (eqb e.destination d) (Some e) (route_of es d)) None
+        → route_of (cond b (e ∷ kept) kept) d
+        ≡ cond (t d) (cond (eqb e.destination d) (Some e) (route_of es d)) None
     at true is (inl here) more = rw (sym (ap t here.1) ∙ is, here.0) refl
     at false is (inl here) more = let fails : t d ≡ false = sym (ap t here.1) ∙ is in more ∙ rw fails refl
     at true is (inr other) more = rw (other.0) more
@@ -43,9 +43,9 @@ route_of-set : (es : List Entry) (e : Entry) (d : ℕ)
     → route_of (set_route es e) d ≡ cond (eqb e.destination d) (Some e) (route_of es d)
 route_of-set es e d =
     find-append (λ f. eqb f.destination d) (filter (λ f. ltb f.destination e.destination) es)
-        (e ∷ filter (λ f. ltb e.destination f.destination) es)
+    (e ∷ filter (λ f. ltb e.destination f.destination) es)
     ∙ rw (route_of-filter (λ x. ltb x e.destination) es d, route_of-filter (λ x. ltb e.destination x) es d)
-        (by (cases_order e.destination d))
+    (by (cases_order e.destination d))
   where
     whole : Bool → Bool → Bool → Option Entry
     whole low same high =
@@ -86,8 +86,8 @@ module _ (K j : ℕ) (own : List Entry) (d : ℕ) where
       → route_of theirs d ≡ None
   none_of_rest e theirs up here = find_none (λ f. eqb f.destination d) theirs e (λ k lt. ne_eqb _ _ (λ same.
       let at : 0 ≡ suc k =
-          one_place (e ∷ theirs) up 0 (suc k) e (omega arith) (omega (arith, lt)) (here ∙ sym same) in absurd
-          (omega (arith, at))))
+      one_place (e ∷ theirs) up 0 (suc k) e (omega arith) (omega (arith, lt)) (here ∙ sym same) in absurd
+      (omega (arith, at))))
 
   -- entries for other destinations leave the one for d
   route_of-others : (theirs es : List Entry) → route_of theirs d ≡ None
@@ -99,8 +99,8 @@ module _ (K j : ℕ) (own : List Entry) (d : ℕ) where
       at : ((eqb e.destination d ≡ true) × (e.destination ≡ d)) ⊎ ((eqb e.destination d ≡ false) × (e.destination ≢ d))
           →
           (route_of theirs d ≡ None
-              → route_of (fold (take_better K j own) (take_better K j own es e) theirs) d
-              ≡ route_of (take_better K j own es e) d) →
+          → route_of (fold (take_better K j own) (take_better K j own es e) theirs) d
+          ≡ route_of (take_better K j own es e) d) →
           route_of (fold (take_better K j own) (take_better K j own es e) theirs) d ≡ route_of es d
       at (inl here) more = let found : Some e ≡ None = rw here.0 at none in absurd (cc)
       at (inr other) more =
@@ -126,15 +126,15 @@ module _ (K j : ℕ) (own : List Entry) (d : ℕ) where
       at : ((eqb e.destination d ≡ true) × (e.destination ≡ d)) ⊎ ((eqb e.destination d ≡ false) × (e.destination ≢ d))
           →
           route_of (fold (take_better K j own) (take_better K j own es e) theirs) d
-              ≡ after (take_better K j own es e) (route_of theirs d) →
+          ≡ after (take_better K j own es e) (route_of theirs d) →
           route_of (fold (take_better K j own) (take_better K j own es e) theirs) d
-              ≡ after es (cond (eqb e.destination d) (Some e) (route_of theirs d))
+          ≡ after es (cond (eqb e.destination d) (Some e) (route_of theirs d))
       at (inl here) more =
           route_of-others theirs (take_better K j own es e) (none_of_rest e theirs up here.1)
           ∙ route_of-take es e ∙ rw here.0 refl
       at (inr other) more =
           more ∙ same_after (route_of theirs d) (take_better K j own es e) (route_of-take es e ∙ rw other.0 refl)
-              ∙ rw other.0 refl
+          ∙ rw other.0 refl
 
 pub route_of-pulled : (K j d : ℕ) (own theirs : List Entry) → IsAscending theirs
     → route_of (pulled K j own theirs) d ≡ route_after K j own d (route_of theirs d)

@@ -11,7 +11,9 @@ pub same_entry : (a b : Entry)
 same_entry a b =
     let parts =
     Decides-and (a.destination == b.destination) ((a.hops == b.hops) && (a.next == b.next))
-        (Decides-eqb a.destination b.destination)
-    (Decides-and (a.hops == b.hops) (a.next == b.next) (Decides-eqb a.hops b.hops) (Decides-eqb a.next b.next)) in
-    (λ e. let p = parts.0 e in same_fields a b p.0 p.1.0 p.1.1, λ e. parts.1
-        (ap (λ x. x.destination) e, (ap (λ x. x.hops) e, ap (λ x. x.next) e)))
+    (Decides-eqb a.destination b.destination)
+    (Decides-and (a.hops == b.hops) (a.next == b.next) (Decides-eqb a.hops b.hops) (Decides-eqb a.next b.next)) in (
+      λ e. let p = parts.0 e in same_fields a b p.0 p.1.0 p.1.1,
+      λ e. parts.1
+          (ap (λ x. x.destination) e, (ap (λ x. x.hops) e, ap (λ x. x.next) e)),
+    )

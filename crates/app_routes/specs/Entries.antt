@@ -36,7 +36,7 @@ IsPlaceOf es d r =
     MatchResult r
     (λ i. (i < length es) × HoldsAt (λ e. e.destination ≡ d) es i)
     (λ i. (i ≤ length es) × AllWithin (λ e. e.destination < d) es 0 i
-        × AllWithin (λ e. d < e.destination) es i (length es))
+    × AllWithin (λ e. d < e.destination) es i (length es))
 
 -- the entry for destination d
 abbrev pub route_of : List Entry → ℕ → Option Entry

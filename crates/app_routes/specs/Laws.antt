@@ -30,8 +30,12 @@ module _ (g : Graph) (are : IsGraph g) (v v' : ℕ → List Entry) where
         let linked : AreLinked g i e.next = route.linked some in
         let node : IsNode g e.next = are.ends e.next i (are.symmetric e.next i ∙ linked) in
         let has = keeps e.next near.entry node near.listed in
-        record { entry = has.entry; listed = has.listed; same = has.same ∙ near.same;
-            nearer = omega (arith, has.within, near.nearer) };
+        record {
+          entry = has.entry;
+          listed = has.listed;
+          same = has.same ∙ near.same;
+          nearer = omega (arith, has.within, near.nearer);
+        };
   }
 
   same_routes : SameAtNodes g v v' → HasRoutes g v → HasRoutes g v'
@@ -42,8 +46,12 @@ module _ (g : Graph) (are : IsGraph g) (v v' : ℕ → List Entry) where
     where
       kept : (k : ℕ) (f : Entry) → IsNode g k → Contains (v k) f → HasWithin (v' k) f.destination f.hops
       kept k f node at =
-          record { entry = f; listed = subst (λ es. Contains es f) (sym (same k node)) at; same = refl;
-          within = omega arith }
+          record {
+            entry = f;
+            listed = subst (λ es. Contains es f) (sym (same k node)) at;
+            same = refl;
+            within = omega arith;
+          }
 
 start_routes : (g : Graph) → HasRoutes g (routes_start g)
 start_routes g = record {
@@ -104,13 +112,17 @@ module _ (g : Graph) (are : IsGraph g) (K i j : ℕ) (v v' : ℕ → List Entry)
         (λ same.
         let own : Contains (v i) f = subst (λ n. Contains (v n) f) same there in
         let before : HasWithin (v i) f.destination f.hops =
-            record { entry = f; listed = own; same = refl; within = omega arith } in
+        record { entry = f; listed = own; same = refl; within = omega arith } in
         let after : HasWithin (v' i) f.destination f.hops =
         subst (λ es. HasWithin es f.destination f.hops) (sym changes.here)
-            (taken_keeps K j (v i) (inv.ascending i node) f own theirs (v i) before) in
+        (taken_keeps K j (v i) (inv.ascending i node) f own theirs (v i) before) in
         subst (λ n. HasWithin (v' n) f.destination f.hops) (sym same) after)
-        (λ other. record { entry = f; listed = subst (λ es. Contains es f) (sym (changes.others k at other)) there;
-            same = refl; within = omega arith })
+        (λ other. record {
+          entry = f;
+          listed = subst (λ es. Contains es f) (sym (changes.others k at other)) there;
+          same = refl;
+          within = omega arith;
+        })
         (cases_eq k i)
 
     -- the way over j is a route of i
@@ -122,8 +134,12 @@ module _ (g : Graph) (are : IsGraph g) (K i j : ℕ) (v v' : ℕ → List Entry)
           walk = (j ∷ route.walk.0, (linked, route.walk.1), omega (arith, route.walk.2));
           linked = λ some. linked;
           onward =
-              λ some. record { entry = has.entry; listed = has.listed; same = has.same;
-              nearer = omega (arith, has.within) };
+              λ some. record {
+                entry = has.entry;
+                listed = has.listed;
+                same = has.same;
+                nearer = omega (arith, has.within);
+              };
         }
 
     here : (e : Entry) → Contains (v' i) e → IsRoute g v' i e
@@ -137,13 +153,13 @@ module _ (g : Graph) (are : IsGraph g) (K i j : ℕ) (v v' : ℕ → List Entry)
     pull_keeps = record {
       ascending = λ k at. ⊎_elim
           (λ same. subst (λ n. IsAscending (v' n)) (sym same)
-              (subst IsAscending (sym changes.here) (taken_ascends K j (v i) theirs (v i) (inv.ascending i node))))
+          (subst IsAscending (sym changes.here) (taken_ascends K j (v i) theirs (v i) (inv.ascending i node))))
           (λ other. subst IsAscending (sym (changes.others k at other)) (inv.ascending k at))
           (cases_eq k i);
       routes = λ k e at there. ⊎_elim
           (λ same. subst (λ n. IsRoute g v' n e) (sym same) (here e (subst (λ n. Contains (v' n) e) same there)))
           (λ other. stays g are v v' kept k e
-              (inv.routes k e at (subst (λ es. Contains es e) (changes.others k at other) there)))
+          (inv.routes k e at (subst (λ es. Contains es e) (changes.others k at other) there)))
           (cases_eq k i);
     }
 
@@ -156,9 +172,9 @@ acts g are K i case (Some j) v v' h inv =
     let near : List (ℕ × List Entry) = seen (λ k. k == j) v g.ids in
     let is : h.new ≡ pulled K j (v i) (entries_of j near) =
     subst (λ c. h.new ≡ pulled K j (v i) (entries_of j (seen (is_read g i (routes_reads c) (Some j)) v g.ids)))
-        (sym p.one) p.is in
+    (sym p.one) p.is in
     pull_keeps g are K i j v v' h.node fits (entries_of j near) (subst (λ x. Changes g v i x v') is h.changes)
-        (λ e at. seen_from j v g.ids e at) inv
+    (λ e at. seen_from j v g.ids e at) inv
 
 -- at the start and after each pull
 pub routes_keep : (g : Graph) (bound : ℕ) → IsGraph g → length g.ids ≤ bound → Keeps routes g bound (HasRoutes g)

@@ -122,7 +122,7 @@ rises_around (x ∷ []) d ys ux uy low high =
     rises_into x (d ∷ ys) (λ some. low 0 0 (omega arith)) (rises_into d ys (λ some. high 0 0 some) uy)
 rises_around (x ∷ y ∷ xs) d ys ux uy low high =
     rises_into x ((y ∷ xs) ++ d ∷ ys) (λ some. ux 0 (omega arith))
-        (rises_around (y ∷ xs) d ys (rises_on x (y ∷ xs) ux) uy (λ k z lt. low (suc k) z (omega arith)) high)
+    (rises_around (y ∷ xs) d ys (rises_on x (y ∷ xs) ux) uy (λ k z lt. low (suc k) z (omega arith)) high)
 
 below_all : (d : ℕ) (xs : List ℕ) → All (λ x. x < d) (filter (λ x. ltb x d) xs)
 below_all d xs k z lt = ltb-true _ _ (filter_passes (λ x. ltb x d) xs k z lt)
@@ -138,7 +138,7 @@ set_ascends es e up =
     let high : List ℕ = filter (λ x. ltb d x) ds in
     let all : IsStrictlyIncreasing (low ++ d ∷ high) =
     rises_around low d high (IsStrictlyIncreasing-filter _ ds up) (IsStrictlyIncreasing-filter _ ds up) (below_all d ds)
-        (above_all d ds) in
+    (above_all d ds) in
     let is : map (λ f. f.destination) (set_route es e) ≡ low ++ d ∷ high =
     map-append (λ f. f.destination) (filter (λ f. ltb f.destination d) es) (e ∷ filter (λ f. ltb d f.destination) es)
     ∙ ap₂ (λ a b. a ++ d ∷ b) (filter-map (λ x. ltb x d) es) (filter-map (λ x. ltb d x) es) in
@@ -179,7 +179,7 @@ module _ (es : List Entry) (up : IsAscending es) where
   pub found : (e : Entry) → Contains es e → route_of es e.destination ≡ Some e
   found e at =
       find_first (λ f. eqb f.destination e.destination) es at.0 e at.1 (λ k less. other k less)
-          (eq-eqb _ _ (ap (λ f. f.destination) at.2))
+      (eq-eqb _ _ (ap (λ f. f.destination) at.2))
       ∙ ap (λ f. Some f) at.2
     where
       other : (k : ℕ) → k < at.0 → eqb (get_or es k e).destination e.destination ≡ false
@@ -187,7 +187,7 @@ module _ (es : List Entry) (up : IsAscending es) where
           let k_in : k < length es = omega (arith, at.1) in
           ⊎_elim
           (λ same. absurd
-              (omega (arith, less, one_place k at.0 e k_in at.1 (same.1 ∙ sym (ap (λ f. f.destination) at.2)))))
+          (omega (arith, less, one_place k at.0 e k_in at.1 (same.1 ∙ sym (ap (λ f. f.destination) at.2)))))
           (λ ne. ne.0)
           (eqb_tells (get_or es k e).destination e.destination)
 
@@ -198,7 +198,7 @@ pub better_than : (K : ℕ) (own : List Entry) (e f : Entry) → IsAscending own
     → f.destination ≡ e.destination → is_better K own e ≡ true → e.hops + 1 < f.hops
 better_than K own e f up at same is =
     let shorter : option_map_or (λ o. ltb (e.hops + 1) o.hops) (route_of own e.destination) true ≡ true =
-        (and_parts (ltb (e.hops + 1) K) _ is).1 in
+    (and_parts (ltb (e.hops + 1) K) _ is).1 in
     let there : route_of own e.destination ≡ Some f = subst (λ d. route_of own d ≡ Some f) same (found own up f at) in
     ltb-true _ _ (rw there at shorter)
 
@@ -246,9 +246,16 @@ module _ (K j : ℕ) (own : List Entry) where
           → HasWithin (cond b (set_route es (over j e)) es) f.destination f.hops
       step false is which = has
       step true is (inl same) =
-          record { entry = over j e; listed = set_new es (over j e); same = sym same;
-              within = omega (arith, better_than K own e f up at same is) }
+          record {
+            entry = over j e;
+            listed = set_new es (over j e);
+            same = sym same;
+            within = omega (arith, better_than K own e f up at same is);
+          }
       step true is (inr other) =
-          record { entry = has.entry;
-              listed = set_keeps es (over j e) has.entry (λ same. other (sym has.same ∙ same)) has.listed;
-              same = has.same; within = has.within }
+          record {
+            entry = has.entry;
+            listed = set_keeps es (over j e) has.entry (λ same. other (sym has.same ∙ same)) has.listed;
+            same = has.same;
+            within = has.within;
+          }

@@ -37,9 +37,11 @@ HasNo-entry : (byte : ℕ) (e : Entry) → byte < 48 → IsEntry e → HasNo byt
 HasNo-entry byte e low is =
     let colon : 58 ≢ byte = λ same. absurd (omega (arith, same, low)) in
     HasNo-append byte (decimal e.destination) (58 ∷ (decimal e.hops ++ 58 ∷ decimal e.next))
-        (no_byte e.destination (small_id e.destination is.destination))
-    (colon, HasNo-append byte (decimal e.hops) (58 ∷ decimal e.next) (no_byte e.hops (small_hops e.hops is.hops))
-        (colon, no_byte e.next (small_id e.next is.next)))
+    (no_byte e.destination (small_id e.destination is.destination)) (
+      colon,
+      HasNo-append byte (decimal e.hops) (58 ∷ decimal e.next) (no_byte e.hops (small_hops e.hops is.hops))
+          (colon, no_byte e.next (small_id e.next is.next)),
+    )
   where
     no_byte : (n : ℕ) → n < 2 ^ 64 → HasNo byte (decimal n)
     no_byte n small = HasNo-decimal byte n (λ digit. omega (arith, digit, low)) small
@@ -59,7 +61,7 @@ module _ (e : Entry) (is : IsEntry e) (text first rest : List ℕ) (spelled : en
       → SameParts (decimal e.destination) first (decimal e.hops) second (decimal e.next) third
   parts_of second third cut' none' =
       same_parts 58 (decimal e.destination) (decimal e.hops) (decimal e.next) text first rest no_colon_before spelled
-          cut none second third (no_colon e.hops is.hops) cut' none'
+      cut none second third (no_colon e.hops is.hops) cut' none'
 
 pub same_fields : (a b : Entry) → a.destination ≡ b.destination → a.hops ≡ b.hops → a.next ≡ b.next → a ≡ b
 same_fields a b d h n =
@@ -73,11 +75,11 @@ pub same_entry_text : (a b : Entry) → IsEntry a → IsEntry b → entry_text a
 same_entry_text a b is is' text =
     let parts =
     parts_of a is (entry_text b) (decimal b.destination) (decimal b.hops ++ 58 ∷ decimal b.next) text refl
-        (no_colon b.destination (omega (arith, is'.destination.small)))
+    (no_colon b.destination (omega (arith, is'.destination.small)))
     (decimal b.hops) (decimal b.next) refl (no_colon b.hops is'.hops) in
     same_fields a b
     (decimal_injective a.destination b.destination (small_id a.destination is.destination)
-        (small_id b.destination is'.destination) parts.first)
+    (small_id b.destination is'.destination) parts.first)
     (decimal_injective a.hops b.hops (small_hops a.hops is.hops) (small_hops b.hops is'.hops) parts.second)
     (decimal_injective a.next b.next (small_id a.next is.next) (small_id b.next is'.next) parts.third)
 
@@ -94,18 +96,22 @@ entry_tells : (e : Entry) → Decides (is_entry e) (IsEntry e)
 entry_tells e =
     let both =
     Decides-and (is_id e.destination) (ltb e.hops (2 ^ 32) && is_id e.next) (is_id_tells e.destination)
-    (Decides-and (ltb e.hops (2 ^ 32)) (is_id e.next) (Decides-ltb e.hops (2 ^ 32)) (is_id_tells e.next)) in
-    (λ t. let p = both.0 t in record { destination = p.0; hops = p.1.0; next = p.1.1 }, λ is. both.1
-        (is.destination, (is.hops, is.next)))
+    (Decides-and (ltb e.hops (2 ^ 32)) (is_id e.next) (Decides-ltb e.hops (2 ^ 32)) (is_id_tells e.next)) in (
+      λ t. let p = both.0 t in record { destination = p.0; hops = p.1.0; next = p.1.1 },
+      λ is. both.1
+          (is.destination, (is.hops, is.next)),
+    )
 
 routes_tell : (es : List Entry) → Decides (are_routes es) (AreRoutes es)
 routes_tell es =
     let ns = map (λ e. e.destination) es in
     let both =
     Decides-and (ascends ns) (list_all is_entry es) (ascends_tells ns)
-    (Decides-by_and is_entry IsEntry (list_all is_entry) entry_tells refl (λ _ _. refl) es) in
-    (λ t. let p = both.0 t in record { ascending = p.0; are_entries = p.1 }, λ are. both.1
-        (are.ascending, are.are_entries))
+    (Decides-by_and is_entry IsEntry (list_all is_entry) entry_tells refl (λ _ _. refl) es) in (
+      λ t. let p = both.0 t in record { ascending = p.0; are_entries = p.1 },
+      λ are. both.1
+          (are.ascending, are.are_entries),
+    )
 
 -- the text of an entry spells it
 entry_back : (e : Entry) → IsEntry e → entry_spelled_by (entry_text e) ≡ e
@@ -129,7 +135,7 @@ pub one_routes_text : (t : List ℕ) (local : List Entry)
     → (routes_from_text t ≡ Some local ↔ AreRoutes local × (routes_text local ≡ t))
 one_routes_text t local =
     one_of_spelled routes_tell same_text t (spelled_by t) (λ es are e. ap spelled_by (sym e) ∙ spelled_back es are)
-        local
+    local
 
 -- ---- a text is one word
 
@@ -137,8 +143,10 @@ entry_word : (e : Entry) → IsEntry e → IsPrintableWord (entry_text e)
 entry_word e is =
     IsPrintableWord-joined 58 (decimal e.destination) (decimal e.hops ∷ decimal e.next ∷ []) refl (
       IsPrintableWord-decimal e.destination (small_id e.destination is.destination),
-      (IsPrintableWord-decimal e.hops (small_hops e.hops is.hops),
-          (IsPrintableWord-decimal e.next (small_id e.next is.next), tt)),
+      (
+        IsPrintableWord-decimal e.hops (small_hops e.hops is.hops),
+        (IsPrintableWord-decimal e.next (small_id e.next is.next), tt),
+      ),
     )
 
 -- the text of a local state is one word

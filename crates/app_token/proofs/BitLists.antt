@@ -21,8 +21,8 @@ keeps_others p (x ∷ xs) zero lt here others =
     rw here (keeps_all p xs 0 (λ k lt. others (suc k) (omega arith) (omega arith)))
 keeps_others p (x ∷ xs) (suc i) lt here others =
     rw (others 0 (omega arith) (omega arith))
-        (ap (λ l. x ∷ l)
-        (keeps_others p xs i (omega arith) here (λ k ne lt. others (suc k) (omega (arith, ne)) (omega arith))))
+    (ap (λ l. x ∷ l)
+    (keeps_others p xs i (omega arith) here (λ k ne lt. others (suc k) (omega (arith, ne)) (omega arith))))
 
 module _ (xs : List ℕ) (x : ℕ) (are : IsBits xs) where
   pub removed : (i : ℕ) → IsBinarySearchResult {X = ℕ} (λ y. nat_cmp y x) xs (Ok i) → remove xs i ≡ toggled xs x
@@ -39,8 +39,10 @@ module _ (xs : List ℕ) (x : ℕ) (are : IsBits xs) where
       let there : true ≡ bit_of xs x = member_by_search xs x are.ascending (Ok i) h in
       let p : ℕ → Bool = λ y. not (eqb y x) in
       let kept : IsBits (without_id xs x) =
-          record { ascending = IsStrictlyIncreasing-filter p xs are.ascending;
-          are_ids = All-filter p IsId xs are.are_ids } in
+      record {
+        ascending = IsStrictlyIncreasing-filter p xs are.ascending;
+        are_ids = All-filter p IsId xs are.are_ids;
+      } in
       subst IsBits (sym (removed i h ∙ rw (← there) refl)) kept
 
   pub put_in : (i : ℕ) → IsBinarySearchResult {X = ℕ} (λ y. nat_cmp y x) xs (Err i) → insert xs i x ≡ toggled xs x
@@ -49,10 +51,10 @@ module _ (xs : List ℕ) (x : ℕ) (are : IsBits xs) where
       let absent : false ≡ bit_of xs x = member_by_search xs x are.ascending (Err i) h in
       let lesser : filter (λ y. ltb y x) xs ≡ take i xs =
       keeps_front (λ y. ltb y x) xs i 0 place.0 (λ k lt. lt-ltb _ _ (place.1 k lt))
-          (λ k ge lt. le-ltb _ _ (omega (arith, place.2 k ge lt))) in
+      (λ k ge lt. le-ltb _ _ (omega (arith, place.2 k ge lt))) in
       let greater : filter (λ y. ltb x y) xs ≡ drop i xs =
       keeps_back (λ y. ltb x y) xs i 0 place.0 (λ k lt. le-ltb _ _ (omega (arith, place.1 k lt)))
-          (λ k ge lt. lt-ltb _ _ (place.2 k ge lt)) in
+      (λ k ge lt. lt-ltb _ _ (place.2 k ge lt)) in
       rw (← absent) (sym (ap₂ (λ a b. a ++ x ∷ b) lesser greater))
 
   pub IsBits-put_in : (i : ℕ) → IsId x → IsBinarySearchResult {X = ℕ} (λ y. nat_cmp y x) xs (Err i)
@@ -63,7 +65,7 @@ module _ (xs : List ℕ) (x : ℕ) (are : IsBits xs) where
       let greater : List ℕ = filter (λ y. ltb x y) xs in
       let all : All IsId (lesser ++ x ∷ greater) =
       All-append IsId lesser (x ∷ greater) (All-filter _ IsId xs are.are_ids)
-          (All-append IsId (x ∷ []) greater (all_one IsId x id) (All-filter _ IsId xs are.are_ids)) in
+      (All-append IsId (x ∷ []) greater (all_one IsId x id) (All-filter _ IsId xs are.are_ids)) in
       record {
         ascending = (inserted xs x are.ascending i h).ascending;
         are_ids = subst (All IsId) (sym (put_in i h ∙ rw (← absent) refl)) all;

@@ -16,6 +16,8 @@ bits_push ids i are id above = record {
 pub bits_fronts : HasFronts IsId IsBits
 bits_fronts = record {
   each = λ ids are. are.are_ids;
-  front = λ ids more are. record { ascending = front_rises ids more are.ascending;
-      are_ids = front_all IsId ids more are.are_ids };
+  front = λ ids more are. record {
+    ascending = front_rises ids more are.ascending;
+    are_ids = front_all IsId ids more are.are_ids;
+  };
 }

@@ -40,8 +40,8 @@ data Moves (i case : ℕ) (own : TokenLocal) (near : List (ℕ × TokenLocal)) (
 
 fired : (b h c a : Bool) (p t new : TokenLocal) →
     result_ok
-        (cond b (cond h (Ok p) (Err NotEnabled)) (cond c (cond (not h && a) (Ok t) (Err NotEnabled)) (Err NotEnabled)))
-        ≡ Some new →
+    (cond b (cond h (Ok p) (Err NotEnabled)) (cond c (cond (not h && a) (Ok t) (Err NotEnabled)) (Err NotEnabled)))
+    ≡ Some new →
     ((b ≡ true) × (h ≡ true) × (new ≡ p)) ⊎ ((c ≡ true) × (h ≡ false) × (a ≡ true) × (new ≡ t))
 fired true true c a p t new e = inl (refl, refl, cc)
 fired true false c a p t new e = absurd (cc)
@@ -133,7 +133,7 @@ module _ (g : Graph) (are : IsGraph g) (v v' : ℕ → TokenLocal) (i j : ℕ) (
         pairs_at g are (in_flight g v) (in_flight g v') i j node to
         (λ c at ne. ap₂ (λ x y. are_linked g i c && differ x (bit_of y i)) (given_after c ne) (taken_kept c at))
         (λ k c from at ne. ap₂ (λ x y. are_linked g k c && differ (bit_of x.given c) (bit_of y k))
-            (changes.others k from ne) (taken_kept c at))
+        (changes.others k from ne) (taken_kept c at))
 
     -- the token goes on its way
     pass_keeps : HasOneToken g v → HasOneToken g v'
@@ -141,7 +141,7 @@ module _ (g : Graph) (are : IsGraph g) (v v' : ℕ → TokenLocal) (i j : ℕ) (
         let was : number_of (v i).hold ≡ 1 = ap number_of held in
         let now : number_of (v' i).hold ≡ 0 = ap (λ s. number_of s.hold) (changes.here ∙ is) in
         let both : number_of (in_flight g v' i j) + number_of (in_flight g v i j) ≡ 1 =
-            ap (λ b. number_of b + number_of (in_flight g v i j)) sent ∙ one_of_both (in_flight g v i j) in
+        ap (λ b. number_of b + number_of (in_flight g v i j)) sent ∙ one_of_both (in_flight g v i j) in
         omega (arith, inv, was, now, holders_change, both, flights_sent)
 
   module _ (free : (v i).hold ≡ false) (flying : differ (bit_of (v j).given i) (bit_of (v i).taken j) ≡ true)
@@ -154,7 +154,7 @@ module _ (g : Graph) (are : IsGraph g) (v v' : ℕ → TokenLocal) (i j : ℕ) (
         ⊎_elim
         (λ same.
         let here : bit_of (v' i).taken k ≡ bit_of (v i).taken k =
-            ap (λ s. bit_of s.taken k) (changes.here ∙ is) ∙ toggled_other (v i).taken j k ne in
+        ap (λ s. bit_of s.taken k) (changes.here ∙ is) ∙ toggled_other (v i).taken j k ne in
         subst (λ n. bit_of (v' n).taken k ≡ bit_of (v n).taken k) (sym same) here)
         (λ other. ap (λ s. bit_of s.taken k) (changes.others c at other))
         (cases_eq c i)
@@ -174,9 +174,9 @@ module _ (g : Graph) (are : IsGraph g) (v v' : ℕ → TokenLocal) (i j : ℕ) (
     flights_landed =
         pairs_at g are (in_flight g v) (in_flight g v') j i to node
         (λ c at ne. ap₂ (λ x y. are_linked g j c && differ (bit_of x c) (bit_of y.taken j)) (given_kept j to)
-            (changes.others c at ne))
+        (changes.others c at ne))
         (λ k c from at ne. ap₂ (λ x y. are_linked g k c && differ (bit_of x c) y) (given_kept k from)
-            (taken_after k c at ne))
+        (taken_after k c at ne))
 
     -- the token comes to rest
     take_keeps : HasOneToken g v → HasOneToken g v'
@@ -202,11 +202,11 @@ acts g are bound i case (Some j) v v' h inv = moved (moves_toward i case j (v i)
     moved (takes two free comes is) =
         let fits : AreLinked g i j = subst (λ c. Fits g i (token_reads c) (Some j)) (sym two) h.fits in
         let comes_two : arrives i j (v i) (seen (λ k. k == j) v g.ids) ≡ true =
-            subst (λ c. arrives i j (v i) (seen (is_read g i (token_reads c) (Some j)) v g.ids) ≡ true) (sym two) comes
-            in
+        subst (λ c. arrives i j (v i) (seen (is_read g i (token_reads c) (Some j)) v g.ids) ≡ true) (sym two) comes
+        in
         let from =
-            arrived (λ theirs. differ (bit_of theirs.given i) (bit_of (v i).taken j))
-            (seen_at j (seen (λ k. k == j) v g.ids)) comes_two in
+        arrived (λ theirs. differ (bit_of theirs.given i) (bit_of (v i).taken j))
+        (seen_at j (seen (λ k. k == j) v g.ids)) comes_two in
         let flying : differ (bit_of (v j).given i) (bit_of (v i).taken j) ≡ true =
         subst (λ w. differ (bit_of w.given i) (bit_of (v i).taken j) ≡ true) (seen_is j v g.ids from.0 from.1) from.2 in
         take_keeps g are v v' i j h.node fits h.new h.changes free flying is inv
@@ -223,26 +223,26 @@ starts g are =
     let node : IsNode g (greatest g) = (length g.ids - 1, top, get_or_default g.ids (length g.ids - 1) _ 0 top) in
     let one : holders g (token_start g) + 0 ≡ sum_by (λ k. 0) g.ids + number_of (greatest g == greatest g) =
     sum_at g are (λ k. 0) (λ k. number_of (k == greatest g)) (greatest g) node
-        (λ k at ne. ap number_of (ne_eqb k (greatest g) ne)) in
+    (λ k at ne. ap number_of (ne_eqb k (greatest g) ne)) in
     let itself : number_of (greatest g == greatest g) ≡ 1 = ap number_of (eq-eqb (greatest g) (greatest g) refl) in
     let row : (a : ℕ) → count_by (λ b. in_flight g (token_start g) a b) g.ids ≡ 0 =
     λ a. same_sum g (λ k. 0) (λ b. number_of (in_flight g (token_start g) a b))
-        (λ b at. ap number_of (and-false (are_linked g a b))) ∙ none_counted g.ids in
+    (λ b at. ap number_of (and-false (are_linked g a b))) ∙ none_counted g.ids in
     let none : flights g (token_start g) ≡ 0 =
     same_sum g (λ k. 0) (λ a. count_by (λ b. in_flight g (token_start g) a b) g.ids) (λ a at. row a)
-        ∙ none_counted g.ids in
+    ∙ none_counted g.ids in
     omega (arith, one, itself, none, none_counted g.ids)
 
 same_token : (g : Graph) (v v' : ℕ → TokenLocal) → SameAtNodes g v v' → HasOneToken g v → HasOneToken g v'
 same_token g v v' same inv =
     let held : holders g v' ≡ holders g v =
-        same_sum g (λ a. number_of (v a).hold) (λ a. number_of (v' a).hold)
-        (λ a at. ap (λ s. number_of s.hold) (same a at)) in
+    same_sum g (λ a. number_of (v a).hold) (λ a. number_of (v' a).hold)
+    (λ a at. ap (λ s. number_of s.hold) (same a at)) in
     let flown : flights g v' ≡ flights g v =
     same_sum g (λ a. count_by (λ b. in_flight g v a b) g.ids) (λ a. count_by (λ b. in_flight g v' a b) g.ids)
     (λ a from. same_sum g (λ b. number_of (in_flight g v a b)) (λ b. number_of (in_flight g v' a b))
     (λ b to. ap₂ (λ x y. number_of (are_linked g a b && differ (bit_of x.given b) (bit_of y.taken a))) (same a from)
-        (same b to))) in
+    (same b to))) in
     omega (arith, inv, held, flown)
 
 -- one token, at the start and after each action

@@ -22,8 +22,13 @@ other_sums : (f h : ℕ → ℕ) (xs : List ℕ) (k : ℕ) → k < length xs
     sum_by h xs + f (get_or xs k 0) ≡ sum_by f xs + h (get_or xs k 0)
 other_sums f h [] k lt e = absurd (omega arith)
 other_sums f h (x ∷ xs) zero lt e =
-    omega (arith, sum_by-cons h x xs, sum_by-cons f x xs, same_sums f h xs
-        (λ m lt. e (suc m) (omega arith) (omega arith)))
+    omega (
+      arith,
+      sum_by-cons h x xs,
+      sum_by-cons f x xs,
+      same_sums f h xs
+          (λ m lt. e (suc m) (omega arith) (omega arith)),
+    )
 other_sums f h (x ∷ xs) (suc k) lt e =
     omega (
       arith,
@@ -55,7 +60,7 @@ module _ (g : Graph) where
   pub term_in_sum : (f : ℕ → ℕ) (i : ℕ) → IsNode g i → f i ≤ sum_by f g.ids
   term_in_sum f i node =
       subst (λ j. f j ≤ sum_by f g.ids) (get_or_default g.ids node.0 0 i node.1 ∙ node.2)
-          (get_or-le-sum_by f g.ids node.0 0 node.1)
+      (get_or-le-sum_by f g.ids node.0 0 node.1)
 
   -- and those of two nodes side by side
   pub two_terms_in_sum : IsGraph g → (f : ℕ → ℕ) (i j : ℕ) → IsNode g i → IsNode g j → j ≢ i
@@ -72,13 +77,13 @@ module _ (g : Graph) where
       → ((c : ℕ) → IsNode g c → c ≢ b → q a c ≡ p a c) →
       ((j c : ℕ) → IsNode g j → IsNode g c → j ≢ a → q j c ≡ p j c) →
       sum_by (λ j. count_by (q j) g.ids) g.ids + number_of (p a b)
-          ≡ sum_by (λ j. count_by (p j) g.ids) g.ids + number_of (q a b)
+      ≡ sum_by (λ j. count_by (p j) g.ids) g.ids + number_of (q a b)
   pairs_at are p q a b at to row others =
       let one : count_by (q a) g.ids + number_of (p a b) ≡ count_by (p a) g.ids + number_of (q a b) =
       sum_at are (λ c. number_of (p a c)) (λ c. number_of (q a c)) b to (λ c node ne. ap number_of (row c node ne)) in
       let all : sum_by (λ j. count_by (q j) g.ids) g.ids + count_by (p a) g.ids
-          ≡ sum_by (λ j. count_by (p j) g.ids) g.ids + count_by (q a) g.ids =
+      ≡ sum_by (λ j. count_by (p j) g.ids) g.ids + count_by (q a) g.ids =
       sum_at are (λ j. count_by (p j) g.ids) (λ j. count_by (q j) g.ids) a at
       (λ j node ne. same_sum (λ c. number_of (p j c)) (λ c. number_of (q j c))
-          (λ c to. ap number_of (others j c node to ne))) in
+      (λ c to. ap number_of (others j c node to ne))) in
       omega (arith, one, all)

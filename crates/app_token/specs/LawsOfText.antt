@@ -40,12 +40,14 @@ no_slash ids are =
     are.are_ids
 
 no_slash_flag : (hold : Bool) → HasNo 47 (hold_text hold)
-no_slash_flag true =
-    (λ e. absurd (omega (arith, e)),
-    (λ e. absurd (omega (arith, e)), (λ e. absurd (omega (arith, e)), (λ e. absurd (omega (arith, e)), tt))))
-no_slash_flag false =
-    (λ e. absurd (omega (arith, e)),
-    (λ e. absurd (omega (arith, e)), (λ e. absurd (omega (arith, e)), (λ e. absurd (omega (arith, e)), tt))))
+no_slash_flag true = (
+  λ e. absurd (omega (arith, e)),
+  (λ e. absurd (omega (arith, e)), (λ e. absurd (omega (arith, e)), (λ e. absurd (omega (arith, e)), tt))),
+)
+no_slash_flag false = (
+  λ e. absurd (omega (arith, e)),
+  (λ e. absurd (omega (arith, e)), (λ e. absurd (omega (arith, e)), (λ e. absurd (omega (arith, e)), tt))),
+)
 
 same_flag : (a b : Bool) → hold_text a ≡ hold_text b → a ≡ b
 same_flag true true e = refl
@@ -67,7 +69,7 @@ module _ (v : TokenLocal) (are : IsTokenLocal v) (text hold lists : List ℕ) (s
       → SameParts (hold_text v.hold) hold (set_text v.given) given (set_text v.taken) taken
   parts_of given taken cut' none' =
       same_parts 47 (hold_text v.hold) (set_text v.given) (set_text v.taken) text hold lists (no_slash_flag v.hold)
-          spelled cut none given taken (no_slash v.given are.given) cut' none'
+      spelled cut none given taken (no_slash v.given are.given) cut' none'
 
 same_fields : (a b : TokenLocal) → a.hold ≡ b.hold → a.given ≡ b.given → a.taken ≡ b.taken → a ≡ b
 same_fields a b h g t =
@@ -80,7 +82,7 @@ same_text : (a b : TokenLocal) → IsTokenLocal a → IsTokenLocal b → local_t
 same_text a b are are' e =
     let parts =
     parts_of a are (local_text b) (hold_text b.hold) (set_text b.given ++ 47 ∷ set_text b.taken) e refl
-        (no_slash_flag b.hold)
+    (no_slash_flag b.hold)
     (set_text b.given) (set_text b.taken) refl (no_slash b.given are'.given) in
     same_fields a b (same_flag a.hold b.hold parts.first)
     (same_list ids_spelled a.given b.given are.given.are_ids are'.given.are_ids parts.second)

@@ -37,17 +37,17 @@ pub words_of-fault_line : (f : Fault) → Fits f → words_of (fault_line f) ≡
 words_of-fault_line (SetTree at regs) h =
     ap (λ ws. codes "fault" ∷ codes "tree" ∷ ws)
     (words_of-number at _ h.0
-        ∙ ap (λ ws. decimal at ∷ ws)
-        (words_of-number regs.root _ h.1
-        ∙ ap (λ ws. decimal regs.root ∷ ws) (words_of-two regs.father regs.dist h.2 h.3)))
+    ∙ ap (λ ws. decimal at ∷ ws)
+    (words_of-number regs.root _ h.1
+    ∙ ap (λ ws. decimal regs.root ∷ ws) (words_of-two regs.father regs.dist h.2 h.3)))
 words_of-fault_line (SetWave at regs) h =
     ap (λ ws. codes "fault" ∷ codes "wave" ∷ ws)
     (words_of-number at _ h.0
-        ∙ ap (λ ws. decimal at ∷ ws)
-        (words_of-phase regs.phase _ ∙ ap (λ ws. phase_name regs.phase ∷ ws) (words_of-decimal regs.session h.1)))
+    ∙ ap (λ ws. decimal at ∷ ws)
+    (words_of-phase regs.phase _ ∙ ap (λ ws. phase_name regs.phase ∷ ws) (words_of-decimal regs.session h.1)))
 words_of-fault_line (SetLocal at text) h =
     ap (λ ws. codes "fault" ∷ codes "local" ∷ ws)
-        (words_of-number at _ h.0 ∙ ap (λ ws. decimal at ∷ ws) (words_of-word text h.1.1))
+    (words_of-number at _ h.0 ∙ ap (λ ws. decimal at ∷ ws) (words_of-word text h.1.1))
 words_of-fault_line (LinkDown a b) h = ap (λ ws. codes "fault" ∷ codes "down" ∷ ws) (words_of-two a b h.0 h.1)
 words_of-fault_line (LinkUp a b) h = ap (λ ws. codes "fault" ∷ codes "up" ∷ ws) (words_of-two a b h.0 h.1)
 
@@ -81,12 +81,12 @@ same_words : (f g : Fault) → Fits f → Fits g → fault_words f ≡ fault_wor
 same_words (SetTree a r) (SetTree b s) p q is =
     ap (λ n. SetTree n r) (same_number a b p.0 q.0 (cc))
     ∙ ap (λ regs. SetTree b regs)
-        (same_tree r s (same_number r.root s.root p.1 q.1 (cc)) (same_number r.father s.father p.2 q.2 (cc))
-        (same_number r.dist s.dist p.3 q.3 (cc)))
+    (same_tree r s (same_number r.root s.root p.1 q.1 (cc)) (same_number r.father s.father p.2 q.2 (cc))
+    (same_number r.dist s.dist p.3 q.3 (cc)))
 same_words (SetWave a r) (SetWave b s) p q is =
     ap (λ n. SetWave n r) (same_number a b p.0 q.0 (cc))
     ∙ ap (λ regs. SetWave b regs)
-        (same_wave r s (same_phase r.phase s.phase (cc)) (same_number r.session s.session p.1 q.1 (cc)))
+    (same_wave r s (same_phase r.phase s.phase (cc)) (same_number r.session s.session p.1 q.1 (cc)))
 same_words (SetLocal a v) (SetLocal b w) p q is =
     ap (λ n. SetLocal n v) (same_number a b p.0 q.0 (cc)) ∙ ap (λ t. SetLocal b t) (cc)
 same_words (LinkDown a c) (LinkDown b d) p q is =
@@ -121,7 +121,7 @@ pub no_local : (text rest : List ℕ) (at : ℕ) → words_of text ≡ decimal a
     → ((rest ≢ []) × HasNo 32 rest → ⊥) → IsReadOf (codes "fault" ∷ codes "local" ∷ words_of text) None
 no_local text rest at first only (SetLocal a v) fits is =
     let same : codes "fault" ∷ codes "local" ∷ decimal at ∷ words_of rest ≡ fault_words (SetLocal a v) =
-        ap (λ ws. codes "fault" ∷ codes "local" ∷ ws) (sym first) ∙ is in
+    ap (λ ws. codes "fault" ∷ codes "local" ∷ ws) (sym first) ∙ is in
     let text : rest ≡ v = line-words rest (v ∷ []) (cc) in
     only (rw text fits.1)
 no_local text rest at first only f fits is = absurd (omega (arith, ap kind_byte is))
@@ -131,25 +131,32 @@ no_local text rest at first only f fits is = absurd (omega (arith, ap kind_byte 
 pub wave_found : (text rest word session : List ℕ) (at n : ℕ) (phase : Phase)
     → words_of text ≡ decimal at ∷ words_of rest → words_of rest ≡ word ∷ words_of session
     → word ≡ phase_name phase → session ≡ decimal n → n < 2 ^ 32
-        → codes "fault" ∷ codes "wave" ∷ words_of text
-        ≡ codes "fault" ∷ codes "wave" ∷ decimal at ∷ phase_name phase ∷ decimal n ∷ []
+    → codes "fault" ∷ codes "wave" ∷ words_of text
+    ≡ codes "fault" ∷ codes "wave" ∷ decimal at ∷ phase_name phase ∷ decimal n ∷ []
 wave_found text rest word session at n phase first second named number small =
     ap (λ ws. codes "fault" ∷ codes "wave" ∷ ws)
-        (first ∙ ap (λ ws. decimal at ∷ ws) (second ∙ one_found word session (phase_name phase) n named number small))
+    (first ∙ ap (λ ws. decimal at ∷ ws) (second ∙ one_found word session (phase_name phase) n named number small))
 
 pub local_found : (text rest items : List ℕ) (at : ℕ) → words_of text ≡ decimal at ∷ words_of rest → IsOneWord rest
     → items ≡ rest
     → IsOneWord items
-        × (codes "fault" ∷ codes "local" ∷ words_of text ≡ codes "fault" ∷ codes "local" ∷ decimal at ∷ items ∷ [])
-local_found text rest items at first word is =
-    (rw is word, ap (λ ws. codes "fault" ∷ codes "local" ∷ ws)
-        (first ∙ ap (λ ws. decimal at ∷ ws) (words_of-word rest word.1 ∙ ap (λ w. w ∷ []) (sym is))))
+    × (codes "fault" ∷ codes "local" ∷ words_of text ≡ codes "fault" ∷ codes "local" ∷ decimal at ∷ items ∷ [])
+local_found text rest items at first word is = (
+  rw is word,
+  ap (λ ws. codes "fault" ∷ codes "local" ∷ ws)
+      (first ∙ ap (λ ws. decimal at ∷ ws) (words_of-word rest word.1 ∙ ap (λ w. w ∷ []) (sym is))),
+)
 
 pub local_asked : (text rest : List ℕ) (at : ℕ) → words_of text ≡ decimal at ∷ words_of rest → at < 2 ^ 32
     → IsOneWord rest → IsLocalFault (codes "fault" ∷ codes "local" ∷ words_of text)
 local_asked text rest at first small word =
-    record { at = at; text = rest; small = small; word = word;
-    spelt = (local_found text rest rest at first word refl).1 }
+    record {
+      at = at;
+      text = rest;
+      small = small;
+      word = word;
+      spelt = (local_found text rest rest at first word refl).1;
+    }
 
 -- ---- what is read of a line is what is read of its words
 
@@ -174,8 +181,13 @@ module _ (line command rest : List ℕ) (split : words_of line ≡ command ∷ w
       → OnErr r (IsLocalFault (words_of line))
   line_memory (Ok read) asked = tt
   line_memory (Err e) asked =
-      record { at = asked.at; text = asked.text; small = asked.small; word = asked.word;
-      spelt = words_of-line ∙ asked.spelt }
+      record {
+        at = asked.at;
+        text = asked.text;
+        small = asked.small;
+        word = asked.word;
+        spelt = words_of-line ∙ asked.spelt;
+      }
 
 -- ---- one word
 

@@ -62,7 +62,7 @@ module _ {L : Type 0} (from_text : List ℕ → Option L) (c : Configuration L) 
 
   pub tree_put : (at : ℕ) (regs : TreeRegs) (new : Configuration L) → is_among at c.graph.ids ≡ true
       → (is_id regs.root && is_id regs.father) ≡ true → new ≡ with_tree c at regs
-          → injected from_text c (SetTree at regs) ≡ Ok new
+      → injected from_text c (SetTree at regs) ≡ Ok new
   tree_put at regs new node ids made = allowed (SetTree at regs) new (rw (node, ids) refl) made
 
   pub tree_strange : (at : ℕ) (regs : TreeRegs) → is_among at c.graph.ids ≡ false
@@ -156,7 +156,7 @@ module _ {L : Type 0} (from_text : List ℕ → Option L) (c : Configuration L) 
   up_refused g f same other is =
       refused from_text c (LinkUp a b) (told f)
       (first_told (up_faults c.graph a b) []
-          ∙ ap (λ o. told_or o None) (ap (λ h. link_fault h a b) (sym same) ∙ is (other_fault f other)))
+      ∙ ap (λ o. told_or o None) (ap (λ h. link_fault h a b) (sym same) ∙ is (other_fault f other)))
 
   pub up_put : (g changed : Graph) (new : Configuration L) → g ≡ c.graph → link_fault g a b ≡ None
       → changed ≡ with_link g a b

@@ -12,6 +12,6 @@ next_words-steps g a b c d e v w x y z first second third fourth fifth =
     ∙ ap (λ (p : ℕ × Lcg). let q = pcg32 p.1 in ((v, w, x, p.0, q.0), q.1)) fourth
     ∙ ap (λ (p : ℕ × Lcg). let q = pcg32 p.1 in let r = pcg32 q.1 in ((v, w, p.0, q.0, r.0), r.1)) third
     ∙ ap (λ (p : ℕ × Lcg). let q = pcg32 p.1 in let r = pcg32 q.1 in let s = pcg32 r.1
-        in ((v, p.0, q.0, r.0, s.0), s.1)) second
+    in ((v, p.0, q.0, r.0, s.0), s.1)) second
     ∙ ap (λ (p : ℕ × Lcg). let q = pcg32 p.1 in let r = pcg32 q.1 in let s = pcg32 r.1 in let t = pcg32 s.1
-        in ((p.0, q.0, r.0, s.0, t.0), t.1)) first
+    in ((p.0, q.0, r.0, s.0, t.0), t.1)) first

@@ -31,7 +31,7 @@ among_enabled n (row ∷ rows) =
     let later = filter (λ r. r.holds) rows in
     let any = list_any (λ r. r.number == n && r.holds) rows in
     elim row.holds
-        as (λ b. is_among n (map (λ r. r.number) (cond b (row ∷ later) later)) ≡ ((row.number == n && b) || any)) [
+    as (λ b. is_among n (map (λ r. r.number) (cond b (row ∷ later) later)) ≡ ((row.number == n && b) || any)) [
       | true ↦ ap (λ b. (row.number == n) || b) rest ∙ ap (λ b. b || any) (sym (and_true (row.number == n)))
       | false ↦ rest ∙ ap (λ b. b || any) (sym (and_false (row.number == n)))
     ]
@@ -46,7 +46,7 @@ first_of a b c d p q r s = cond p (Some a) (cond q (Some b) (cond r (Some c) (co
 
 pub first_by : {E : Type 0} (rows : List (Row E)) (a b c d : ℕ)
     → first_enabled (a ∷ b ∷ c ∷ d ∷ []) (enabled_of rows)
-        ≡ first_of a b c d (row_holds a rows) (row_holds b rows) (row_holds c rows) (row_holds d rows)
+    ≡ first_of a b c d (row_holds a rows) (row_holds b rows) (row_holds c rows) (row_holds d rows)
 first_by rows a b c d =
     let among : ℕ → Bool = λ n. is_among n (enabled_of rows) in
     ap (λ p. first_of a b c d p (among b) (among c) (among d)) (among_enabled a rows)

@@ -41,7 +41,7 @@ module _ {A : Type 0} (p : A → Bool) (f : ℕ → List A) where
   all_pass (i ∷ ids) each =
       list_all-append p (f i) (flat_map f ids)
       ∙ and_from _ _ (each i (0, omega arith, refl))
-          (all_pass ids (λ j there. each j (suc there.0, omega (arith, there.1), there.2)))
+      (all_pass ids (λ j there. each j (suc there.0, omega (arith, there.1), there.2)))
 
 -- a list with a row's fault passes exactly where no row fails
 no_tree : (i j : ℕ) (row : Option ℕ) (rest : List LinkFault) → list_all is_of_app (fault_of i j Tree row ++ rest) ≡ true
@@ -111,8 +111,8 @@ module _ {L : Type 0} (app : App L) (c : Configuration L) (graph : IsGraph c.gra
     link i j linked =
         let there = linked_there i j linked in
         let all_links =
-            ap (list_all is_of_app) (sym (near_list i))
-            ∙ (no_tree i i (own_row c i) _ (node i (graph.ends i j linked))).1 in
+        ap (list_all is_of_app) (sym (near_list i))
+        ∙ (no_tree i i (own_row c i) _ (node i (graph.ends i j linked))).1 in
         passes_at is_of_app (links i) (neighbours_of g i) there.0 there.1 all_links j there.2
 
     tree : (i j : ℕ) → AreLinked g i j → tree_row g.bound (near_of app c i) (near_of app c j) ≡ None
@@ -145,8 +145,11 @@ module _ {L : Type 0} (app : App L) (c : Configuration L) (graph : IsGraph c.gra
 
     pub sound : IsSound c
     sound = record {
-      tree = λ i there. record { claims = told_right _ (own_tells g t graph i) (own i there); follows = follows i;
-          adopts = adopts i };
+      tree = λ i there. record {
+        claims = told_right _ (own_tells g t graph i) (own i there);
+        follows = follows i;
+        adopts = adopts i;
+      };
       wave = holds;
     }
 
@@ -169,7 +172,7 @@ module _ {L : Type 0} (app : App L) (c : Configuration L) (graph : IsGraph c.gra
         at (inl father) =
             ap (λ b. cond b (mending_row (w i) (w j)) None) father.0
             ∙ denied_where_right (mending_row (w i) (w j)) (mending_tells (w i) (w j))
-                (are.wave i j (record { named = father.1; linked = linked }))
+            (are.wave i j (record { named = father.1; linked = linked }))
         at (inr other) = ap (λ b. cond b (mending_row (w i) (w j)) None) other.0
 
     link_silent : (i j : ℕ) → AreLinked g i j → list_all is_of_app (links i j) ≡ true
@@ -181,9 +184,9 @@ module _ {L : Type 0} (app : App L) (c : Configuration L) (graph : IsGraph c.gra
     node_silent : (i : ℕ) → IsNode g i → list_all is_of_app (node_faults app c i) ≡ true
     node_silent i there =
         ap (λ o. list_all is_of_app
-            (fault_of i i Tree o
-            ++ flat_map (link_faults app g.bound (near_of app c i)) (map (near_of app c) (neighbours_of g i))))
-            (told_wrong _ (own_tells g t graph i) (are.tree i there).claims)
+        (fault_of i i Tree o
+        ++ flat_map (link_faults app g.bound (near_of app c i)) (map (near_of app c) (neighbours_of g i))))
+        (told_wrong _ (own_tells g t graph i) (are.tree i there).claims)
         ∙ ap (list_all is_of_app) (near_list i)
         ∙ all_pass is_of_app (links i) (neighbours_of g i) (λ j near. link_silent i j (there_linked i j near))
 

@@ -72,13 +72,17 @@ module _ (g : Graph) (K : ℕ) (t : ℕ → TreeRegs) (graph : IsGraph g) (i j :
           rests (_, follow_root k _ near _) = absurd (omega (arith, near, far.1))
           rests (_, follow_dist k _ near _ _) = absurd (omega (arith, near, far.1))
       up test named (inl near) (inr root) dist =
-          rw (test, near.0, root.0)
-          (record { named = sym named; linked = linked }, follow_root j (record { named = sym named; linked = linked })
-          near.1 root.1)
+          rw (test, near.0, root.0) (
+            record { named = sym named; linked = linked },
+            follow_root j (record { named = sym named; linked = linked })
+                near.1 root.1,
+          )
       up test named (inl near) (inl root) (inr dist) =
-          rw (test, near.0, root.0, dist.0)
-          (record { named = sym named; linked = linked }, follow_dist j (record { named = sym named; linked = linked })
-          near.1 root.1 dist.1)
+          rw (test, near.0, root.0, dist.0) (
+            record { named = sym named; linked = linked },
+            follow_dist j (record { named = sym named; linked = linked })
+                near.1 root.1 dist.1,
+          )
       up test named (inl near) (inl root) (inl dist) = rw (test, near.0, root.0, dist.0) rests
         where
           rests : IsOtherFather g K t i j → ⊥
@@ -99,7 +103,7 @@ module _ (g : Graph) (K : ℕ) (t : ℕ → TreeRegs) (graph : IsGraph g) (i j :
       let shorter = (near && (t i).root == (t j).root && nat_lt ((t j).dist + 1) (t i).dist) || false in
       either_tells (Adopts g K t i j) 7 8 (adopted j (t j)) higher shorter
       (subst (λ o. IsTreeAnswer (or_next (row o 7) (or_next (row o 8) (Err NotEnabled))) (Adopts g K t i j)
-          (adopted j (t j)))
+      (adopted j (t j)))
       (near_some g K t no_wave graph i j linked) (adopt_is g K t no_wave graph i j linked))
 
   -- rows 5 to 8 tell whether the neighbour is another father than i takes it to be, or is to be adopted
@@ -108,7 +112,7 @@ module _ (g : Graph) (K : ℕ) (t : ℕ → TreeRegs) (graph : IsGraph g) (i j :
   end_tells =
       subst (Tells (IsOtherFather g K t i j ⊎ Adopts g K t i j)) (sym (first_by (tree_table seen seen.near) 5 6 7 8))
       (both_tell (IsOtherFather g K t i j) (Adopts g K t i j) 5 6 7 8 (rows 5) (rows 6) (rows 7) (rows 8) follow_tells
-          adopt_tells)
+      adopt_tells)
 
 -- a row that is told says that this doesn't hold, and none that it does
 abbrev pub Denies : Type 0 → Option ℕ → Type 0
@@ -124,7 +128,7 @@ pub mending_tells : (own up : WaveRegs) → Denies (WaveHolds own up) (mending_r
 mending_tells own up =
     subst (Denies (WaveHolds own up)) (sym (first_by (wave_table seen_up []) 8 9 10 11))
     (at (is_reset own.phase) (is_reset up.phase) refl refl (eqb_tells own.session up.session)
-        (eqb_tells up.session own.session) (eqb_tells up.session (next_session own.session)))
+    (eqb_tells up.session own.session) (eqb_tells up.session (next_session own.session)))
   where
     seen_up : wave.LocalView
     seen_up = record { own = own; father = Is up; children = [] }

@@ -34,7 +34,7 @@ no_node ids id (Some index) found = tt
 pub more_told : {X A : Type 0} (f : X → List A) (xs : List X) (k : ℕ) (d : X) (first before after : List A)
     → k < length xs
     → after ≡ before ++ f (get_or xs k d) → before ≡ first ++ flat_map f (take k xs)
-        → after ≡ first ++ flat_map f (take (k + 1) xs)
+    → after ≡ first ++ flat_map f (take (k + 1) xs)
 more_told f xs k d first before after short told so_far =
     told ∙ ap (λ l. l ++ f (get_or xs k d)) so_far ∙ flat_map_more f first (take k xs) (get_or xs k d)
     ∙ ap (λ l. first ++ flat_map f l) (sym (take-suc xs k d short) ∙ ap (λ n. take n xs) (sym (add-one k)))
@@ -43,20 +43,20 @@ more_told f xs k d first before after short told so_far =
 pub more_told_at : {X A : Type 0} (seen : ℕ → X) (f : X → List A) (ids near : List ℕ) (k : ℕ)
     (first before after : List A) → k < length near
     → after ≡ before ++ f (seen (slice_index ids (slice_index near k)))
-        → before ≡ first ++ flat_map f (at_indexes seen ids (take k near))
+    → before ≡ first ++ flat_map f (at_indexes seen ids (take k near))
     → after ≡ first ++ flat_map f (at_indexes seen ids (take (k + 1) near))
 more_told_at seen f ids near k first before after short told so_far =
     let here = seen (slice_index ids (slice_index near k)) in
     let so_many = at_indexes seen ids (take k near) in
     told ∙ ap (λ l. l ++ f here) so_far ∙ flat_map_more f first so_many here
     ∙ ap (λ l. first ++ flat_map f l)
-        (one_more seen ids near k so_many (so_many ++ here ∷ []) here short refl refl refl)
+    (one_more seen ids near k so_many (so_many ++ here ∷ []) here short refl refl refl)
 
 -- of the faults at an end of a link the application's is the only one of the application
 pub app_alone : {L : Type 0} (app : App L) (K : ℕ) (own other : Neighbour L)
     → find is_of_app (link_faults app K own other)
-        ≡ option_map (λ row. record { at = own.id; other = other.id; family = OfApp; row = row })
-        (app_row app K own other)
+    ≡ option_map (λ row. record { at = own.id; other = other.id; family = OfApp; row = row })
+    (app_row app K own other)
 app_alone app K own other = tree (tree_row K own other)
   where
     last : (r : Option ℕ)
@@ -87,11 +87,11 @@ pub found_later : {X A : Type 0} (p : A → Bool) (seen : ℕ → X) (f : X → 
     → k < length near
     → find p (flat_map f (at_indexes seen ids (drop k near)))
     ≡ option_or (find p (f (seen (slice_index ids (slice_index near k)))))
-        (find p (flat_map f (at_indexes seen ids (drop (k + 1) near))))
+    (find p (flat_map f (at_indexes seen ids (drop (k + 1) near))))
 found_later p seen f ids near k short =
     at_drop_more (λ left. find p (flat_map f (at_indexes seen ids left))) near k 0 short
     ∙ find-append p (f (seen (slice_index ids (slice_index near k))))
-        (flat_map f (at_indexes seen ids (drop (k + 1) near)))
+    (flat_map f (at_indexes seen ids (drop (k + 1) near)))
 
 -- a node's own fault is none of the application
 pub none_of_own : (i : ℕ) (row : Option ℕ) (rest : List LinkFault)
@@ -121,10 +121,10 @@ none_told N (Some x) found same = tt
 pub alarm_is : {L : Type 0} (app : App L) (c : Configuration L) (i : ℕ) (near : List ℕ)
     → map (λ n. slice_index c.graph.ids n) near ≡ neighbours_of c.graph i
     → find is_of_app
-        (flat_map (link_faults app c.graph.bound (near_of app c i)) (at_indexes (near_of app c) c.graph.ids near))
-        ≡ alarm_of app c i
+    (flat_map (link_faults app c.graph.bound (near_of app c i)) (at_indexes (near_of app c) c.graph.ids near))
+    ≡ alarm_of app c i
 alarm_is app c i near lists =
     ap (λ js. find is_of_app (flat_map (link_faults app c.graph.bound (near_of app c i)) (map (near_of app c) js)))
-        lists
+    lists
     ∙ sym (none_of_own i (own_row c i)
-        (flat_map (link_faults app c.graph.bound (near_of app c i)) (map (near_of app c) (neighbours_of c.graph i))))
+    (flat_map (link_faults app c.graph.bound (near_of app c i)) (map (near_of app c) (neighbours_of c.graph i))))

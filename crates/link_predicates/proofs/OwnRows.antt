@@ -35,7 +35,7 @@ module _ (id bound : ℕ) (own : TreeRegs) (near near' asked asked' : List (ℕ 
       let table' = tree_table (seeing id bound own near') asked' in
       first_by table 1 2 3 4
       ∙ ap (λ b. first_of 1 2 3 4 (row_holds 1 table) (row_holds 2 table) ((not (own.father == id) && not b) || false)
-          (row_holds 4 table)) seen
+      (row_holds 4 table)) seen
       ∙ sym (first_by table' 1 2 3 4)
 
 -- the first of them, where these neighbours are seen
@@ -74,7 +74,7 @@ module _ (g : Graph) (t : ℕ → TreeRegs) (graph : IsGraph g) (i : ℕ) where
       let near = ((t i).father, up) ∷ [] in
       same_own_rows i g.bound (t i) near all_near near all_near
       (ap (λ b. option_map_or (λ (_ : TreeRegs). true) (cond b (Some up) None) false) (eq-eqb _ _ refl)
-          ∙ sym (whole true linked))
+      ∙ sym (whole true linked))
 
   no_father_seen : are_linked g i (t i).father ≡ false
       → first_own i g.bound (t i) [] ≡ first_own i g.bound (t i) all_near

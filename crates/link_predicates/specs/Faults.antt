@@ -47,7 +47,7 @@ tree_row K own other = let v =
 abbrev pub mending_row : WaveRegs → WaveRegs → Option ℕ
 mending_row own up =
     first_enabled (8 ∷ 9 ∷ 10 ∷ 11 ∷ [])
-        (enabled_of (wave_table (record { own = own; father = Is up; children = [] }) []))
+    (enabled_of (wave_table (record { own = own; father = Is up; children = [] }) []))
 
 -- the same at an end, where the neighbour is the father
 abbrev pub wave_row : {L : Type 0} → Neighbour L → Neighbour L → Option ℕ

@@ -84,7 +84,7 @@ any_near ids q near = list_any q (map (λ j. Some j) (map (λ n. slice_index ids
 
 any-drop : (ids : List ℕ) (q : Option ℕ → Bool) (near : List ℕ) (i : ℕ) → i < length near →
     any_near ids q (drop i near)
-        ≡ (q (Some (slice_index ids (slice_index near i))) || any_near ids q (drop (i + 1) near))
+    ≡ (q (Some (slice_index ids (slice_index near i))) || any_near ids q (drop (i + 1) near))
 any-drop ids q near i short = rw (drop-cons near i 0, add-one) refl
 
 pub any_here : (ids : List ℕ) (q : Option ℕ → Bool) (near : List ℕ) (i id : ℕ) (all : Bool) → i < length near
@@ -116,7 +116,7 @@ pub near_passes : (ids : List ℕ) (p : ℕ → Bool) (near xs : List ℕ) (i : 
 near_passes ids p near xs i are short =
     let c = slice_index ids (slice_index near i) in
     (and_parts (p c) (has xs c)
-        (sym (has-filter p xs c) ∙ ap (λ js. has js c) (sym are) ∙ has-map (λ n. slice_index ids n) near i short)).0
+    (sym (has-filter p xs c) ∙ ap (λ js. has js c) (sym are) ∙ has-map (λ n. slice_index ids n) near i short)).0
 
 -- whether one of three holds, by whether one of the first two does
 pub or_left : (v a b d : Bool) → v ≡ (a || b) → v ≡ true → v ≡ (a || (b || d))

@@ -16,8 +16,8 @@ among ids p f near = map f (filter p (map (λ n. slice_index ids n) near))
 -- the next id passes or it doesn't
 pub among-drop : {X : Type 0} (ids : List ℕ) (p : ℕ → Bool) (f : ℕ → X) (near : List ℕ) (i : ℕ) → i < length near →
     among ids p f (drop i near)
-        ≡ (let c = slice_index ids (slice_index near i) in if p c then f c
-        ∷ among ids p f (drop (i + 1) near) else among ids p f (drop (i + 1) near))
+    ≡ (let c = slice_index ids (slice_index near i) in if p c then f c
+    ∷ among ids p f (drop (i + 1) near) else among ids p f (drop (i + 1) near))
 among-drop {X} ids p f near i short =
     rw (drop-cons near i 0, add-one) (pushed (slice_index near i))
   where
@@ -38,28 +38,28 @@ among-drop {X} ids p f near i short =
 pub kept_more : {X : Type 0} (ids : List ℕ) (p : ℕ → Bool) (f : ℕ → X) (near : List ℕ) (i : ℕ) (done more all : List X)
     (x : X) → i < length near →
     p (slice_index ids (slice_index near i)) ≡ true → f (slice_index ids (slice_index near i)) ≡ x
-        → more ≡ done ++ x ∷ []
+    → more ≡ done ++ x ∷ []
     → done ++ among ids p f (drop i near) ≡ all → more ++ among ids p f (drop (i + 1) near) ≡ all
 kept_more ids p f near i done more all x short passes same pushed so_far =
     let e = among-drop ids p f near i short in
     rw (pushed, append_assoc)
-        (rw (← same)
-        (ap (λ r. done ++ r)
-        (sym (e ∙ ap
-        (λ b. cond b (f (slice_index ids (slice_index near i)) ∷ among ids p f (drop (i + 1) near))
-        (among ids p f (drop (i + 1) near))) passes)) ∙ so_far))
+    (rw (← same)
+    (ap (λ r. done ++ r)
+    (sym (e ∙ ap
+    (λ b. cond b (f (slice_index ids (slice_index near i)) ∷ among ids p f (drop (i + 1) near))
+    (among ids p f (drop (i + 1) near))) passes)) ∙ so_far))
 
 -- the turn of one that doesn't
 pub left_more : {X : Type 0} (ids : List ℕ) (p : ℕ → Bool) (f : ℕ → X) (near : List ℕ) (i : ℕ) (done all : List X)
     → i < length near →
     p (slice_index ids (slice_index near i)) ≡ false → done ++ among ids p f (drop i near) ≡ all
-        → done ++ among ids p f (drop (i + 1) near) ≡ all
+    → done ++ among ids p f (drop (i + 1) near) ≡ all
 left_more ids p f near i done all short fails so_far =
     let e = among-drop ids p f near i short in
     ap (λ r. done ++ r)
-        (sym (e ∙ ap
-        (λ b. cond b (f (slice_index ids (slice_index near i)) ∷ among ids p f (drop (i + 1) near))
-        (among ids p f (drop (i + 1) near))) fails)) ∙ so_far
+    (sym (e ∙ ap
+    (λ b. cond b (f (slice_index ids (slice_index near i)) ∷ among ids p f (drop (i + 1) near))
+    (among ids p f (drop (i + 1) near))) fails)) ∙ so_far
 
 -- the children's ids and registers
 abbrev pub children_among : List ℕ → (ℕ → TreeRegs) → (ℕ → WaveRegs) → ℕ → List ℕ → List (ℕ × WaveRegs)
@@ -75,7 +75,7 @@ pub children_ascend : (g : Graph) (t : ℕ → TreeRegs) (w : ℕ → WaveRegs) 
 children_ascend g t w i up =
     let P : List ℕ → Type 0 = λ is. IsStrictlyIncreasing is in
     subst P (sym (ids_of-pairs w (children_of g t i)))
-        (IsStrictlyIncreasing-filter _ _ (IsStrictlyIncreasing-filter _ _ up))
+    (IsStrictlyIncreasing-filter _ _ (IsStrictlyIncreasing-filter _ _ up))
 
 -- a node with what stands at it
 pub same_pair : {X : Type 0} {j k : ℕ} {x y : X} → j ≡ k → x ≡ y → ◌≡◌ {A = ℕ × X} (j, x) (k, y)

@@ -11,7 +11,7 @@ at_indexes f ids near = map f (map (λ n. slice_index ids n) near)
 
 next_index : {X : Type 0} (f : ℕ → X) (ids near : List ℕ) (i : ℕ) → i < length near
     → at_indexes f ids (take (suc i) near)
-        ≡ at_indexes f ids (take i near) ++ f (slice_index ids (slice_index near i)) ∷ []
+    ≡ at_indexes f ids (take i near) ++ f (slice_index ids (slice_index near i)) ∷ []
 next_index f ids [] i short = absurd (omega arith)
 next_index f ids (n ∷ ns) zero short = refl
 next_index f ids (n ∷ ns) (suc i) short = ap (λ l. f (slice_index ids n) ∷ l) (next_index f ids ns i (omega arith))
@@ -33,7 +33,7 @@ pub same_neighbour : {L : Type 0} (i j : ℕ) (t u : TreeRegs) (w v : WaveRegs) 
     → neighbour i t w l ≡ neighbour j u v k
 same_neighbour i j t u w v l k a b c d =
     ap (λ x. neighbour x t w l) a ∙ ap (λ x. neighbour j x w l) b ∙ ap (λ x. neighbour j u x l) c
-        ∙ ap (λ x. neighbour j u v x) d
+    ∙ ap (λ x. neighbour j u v x) d
 
 -- and so are two views of one node
 abbrev node_view : {L : Type 0} → ℕ → ℕ → TreeRegs → WaveRegs → L → L → List (Neighbour L) → NodeView L

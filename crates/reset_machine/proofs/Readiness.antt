@@ -24,9 +24,9 @@ others_above p a (suc k) low =
     let rest = others_above p (a + 1) k (omega arith) in
     let apart : nat_eq a 1 ≡ false = ne_eqb a 1 (λ e. omega (arith, e, low)) in
     elim (p a)
-        as (λ b. has_other (cond b (a ∷ filter p (range_with_len (a + 1) k)) (filter p (range_with_len (a + 1) k)))
-        ≡ nat_lt 0 (length (cond b (a ∷ filter p (range_with_len (a + 1) k)) (filter p (range_with_len (a + 1) k)))))
-        [ true ↦ rw apart (some_more (length (filter p (range_with_len (a + 1) k)))) | false ↦ rest ]
+    as (λ b. has_other (cond b (a ∷ filter p (range_with_len (a + 1) k)) (filter p (range_with_len (a + 1) k)))
+    ≡ nat_lt 0 (length (cond b (a ∷ filter p (range_with_len (a + 1) k)) (filter p (range_with_len (a + 1) k)))))
+    [ true ↦ rw apart (some_more (length (filter p (range_with_len (a + 1) k)))) | false ↦ rest ]
 
 one_more : (n : ℕ) → nat_lt 0 n ≡ nat_lt 1 (suc n)
 one_more n = grind (arith, nat_tests)
@@ -49,7 +49,7 @@ cases_split = refl
 others_counted : (p : ℕ → Bool) → has_other (filter p all_cases) ≡ nat_lt (cond (p 1) 1 0) (length (filter p all_cases))
 others_counted p =
     ap (λ cs. has_other (filter p cs)) cases_split
-        ∙ after_one p (range_with_len 2 15) (others_above p 2 15 (omega arith))
+    ∙ after_one p (range_with_len 2 15) (others_above p 2 15 (omega arith))
     ∙ ap (λ cs. nat_lt (cond (p 1) 1 0) (length (filter p cs))) (sym cases_split)
 
 any_true : (ns : List ℕ) → list_any (λ n. true) ns ≡ nat_lt 0 (length ns)
@@ -64,7 +64,7 @@ pub work_counted : (trees waves acts : List ℕ) (p : ℕ → Bool) → waves �
 work_counted trees waves acts p listed =
     ap (λ b. b || (has_other waves || list_any (λ n. true) acts)) (any_true trees)
     ∙ ap (λ b. nat_lt 0 (length trees) || (b || list_any (λ n. true) acts))
-        (ap has_other listed ∙ others_counted p ∙ ap (λ ns. nat_lt (cond (p 1) 1 0) (length ns)) (sym listed))
+    (ap has_other listed ∙ others_counted p ∙ ap (λ ns. nat_lt (cond (p 1) 1 0) (length ns)) (sym listed))
     ∙ ap (λ b. nat_lt 0 (length trees) || (nat_lt (cond (p 1) 1 0) (length waves) || b)) (any_true acts)
 
 pub or_true : (b d : Bool) → b ≡ true → b ≡ (b || d)
@@ -93,9 +93,9 @@ filter_next p (x ∷ xs) (suc i) short =
     let rest = filter_next p xs i (omega arith) in
     let here = cond (p (slice_index xs i)) (slice_index xs i ∷ []) [] in
     elim (p x)
-        as (λ b. cond b (x ∷ filter p (take (suc i) xs)) (filter p (take (suc i) xs))
-        ≡ cond b (x ∷ filter p (take i xs)) (filter p (take i xs)) ++ here)
-        [ true ↦ ap (λ l. x ∷ l) rest | false ↦ rest ]
+    as (λ b. cond b (x ∷ filter p (take (suc i) xs)) (filter p (take (suc i) xs))
+    ≡ cond b (x ∷ filter p (take i xs)) (filter p (take i xs)) ++ here)
+    [ true ↦ ap (λ l. x ∷ l) rest | false ↦ rest ]
 
 -- the item at the index is kept
 pub kept_next : (p : ℕ → Bool) (xs before after : List ℕ) (i x : ℕ) → i < length xs → slice_index xs i ≡ x → p x ≡ true

@@ -30,8 +30,8 @@ run_more app c m c' es ds more i e d short so_far step pushed =
     let IsRunOf : List Event → List Done → Type 0 = λ es ds. IsRun app c es ds c' in
     let taken = ap (λ k. take k es) (add-one i) ∙ take_more e es i short in
     subst (λ xs. IsRunOf xs more) (sym taken)
-        (subst (λ ys. IsRunOf (take i es ++ slice_index_or es i e ∷ []) ys) (sym pushed)
-        (IsRun-more app c m c' (take i es) ds (slice_index_or es i e) d so_far step))
+    (subst (λ ys. IsRunOf (take i es ++ slice_index_or es i e ∷ []) ys) (sym pushed)
+    (IsRun-more app c m c' (take i es) ds (slice_index_or es i e) d so_far step))
 
 pub length_more : {X : Type 0} (xs more : List X) (x : X) (i : ℕ) → more ≡ xs ++ x ∷ [] → length xs ≡ i
     → length more ≡ i + 1

@@ -53,7 +53,7 @@ module _ {L : Type 0} (app : App L) (c c' : Configuration L) (e : Event) where
   pub act_is_outcome : IsGraph c.graph → (i case : ℕ) (with : Option ℕ)
       → e ≡ Act i case with → (r : Result Reply StepRefusal)
       → MatchResult r (λ reply. act_outcome app c i case with ≡ Ok (c', reply))
-          (λ f. f ≢ NoMemory → act_outcome app c i case with ≡ Err f) → IsOutcome r
+      (λ f. f ≢ NoMemory → act_outcome app c i case with ≡ Err f) → IsOutcome r
   act_is_outcome graph i case with is (Ok reply) h =
       ap (outcome_of app c) is ∙ outcome-is app c graph (Act i case with) ∙ h
   act_is_outcome graph i case with is (Err f) h =
@@ -61,7 +61,7 @@ module _ {L : Type 0} (app : App L) (c c' : Configuration L) (e : Event) where
 
   pub row_is_outcome : IsGraph c.graph → is_act e ≡ false → (r : Result Reply StepRefusal)
       → MatchResult r (λ reply. row_outcome app c e ≡ Ok (c', reply)) (λ f. f ≢ NoMemory → row_outcome app c e ≡ Err f)
-          → IsOutcome r
+      → IsOutcome r
   row_is_outcome graph row (Ok reply) h = outcome-rows app c e graph row ∙ h
   row_is_outcome graph row (Err f) h = λ other. outcome-rows app c e graph row ∙ h other
 
@@ -100,7 +100,7 @@ module _ {L : Type 0} (app : App L) (c c' : Configuration L) (e : Event) where
       → planned_of c.graph (node_bound c.graph) (tree_of c) (wave_of c) e ≡ Ok (Wave move) → at ≡ event_node e
       → (r : Result Reply StepRefusal)
       → IfOk r (λ reply. (reply ≡ fired_reply (Wave move)) × (c' ≡ after_fired app c at (Wave move)))
-          → IfErr r (λ f. f ≡ NoMemory)
+      → IfErr r (λ f. f ≡ NoMemory)
       → MatchResult r (λ reply. row_outcome app c e ≡ Ok (c', reply)) (λ f. f ≢ NoMemory → row_outcome app c e ≡ Err f)
   wave_is_outcome move at planned here (Ok reply) h none =
       put_wave_outcome app c c' e move reply planned h.0 (h.1 ∙ ap (λ i. after_fired app c i (Wave move)) here)
@@ -115,7 +115,7 @@ pub start_at : {L : Type 0} (app : App L) (g : Graph) (starts : List L) (ix at :
 start_at app g starts ix at x d is found read =
     let short = (position-Some (λ i. i == at) g.ids ix 0 found).0 in
     read ∙ ap (λ xs. slice_index_or xs ix d) is ∙ get_or-map (app.start g) g.ids ix 0 d short
-        ∙ ap (app.start g) (id_at-position g.ids ix at found)
+    ∙ ap (app.start g) (id_at-position g.ids ix at found)
 
 -- one node more has its start state
 pub start_more : {L : Type 0} (f : ℕ → L) (ids : List ℕ) (i : ℕ) (before after : List L) (x : L) → i < length ids
@@ -124,7 +124,7 @@ pub start_more : {L : Type 0} (f : ℕ → L) (ids : List ℕ) (i : ℕ) (before
 start_more {L} f ids i before after x short is pushed so_far =
     let one : L → List L = λ y. y ∷ [] in
     pushed ∙ ap₂ (λ xs y. xs ++ one y) so_far is ∙ sym (map-append f (take i ids) (slice_index ids i ∷ []))
-        ∙ ap (map f) (sym (take_more 0 ids i short)) ∙ ap (λ k. map f (take k ids)) (sym (add-one i))
+    ∙ ap (map f) (sym (take_more 0 ids i short)) ∙ ap (λ k. map f (take k ids)) (sym (add-one i))
 
 -- what is answered of an id that is there
 pub start_is : {L : Type 0} (f : ℕ → L) (ids : List ℕ) (i : ℕ) (x : L) → i < length ids
@@ -137,19 +137,19 @@ start_is f ids i x short h = rw (slice_get-get_or ids i 0 short) at h
 pub wave_written : {L : Type 0} (app : App L) (c : Configuration L) (at ix : ℕ) (regs : WaveRegs) (b : Bool)
     (locals : List L) → length c.waves ≡ length c.graph.ids → position (λ i. i == at) c.graph.ids ≡ Some ix
     → locals ≡ restarted app c at b
-        → record { graph = c.graph; trees = c.trees; waves = slice_set c.waves ix regs; locals = locals }
-        ≡ with_wave (with_locals c (restarted app c at b)) at regs
+    → record { graph = c.graph; trees = c.trees; waves = slice_set c.waves ix regs; locals = locals }
+    ≡ with_wave (with_locals c (restarted app c at b)) at regs
 wave_written {L} app c at ix regs b locals same found is =
     let after : List WaveRegs → List L → Configuration L =
-        λ ws ls. record { graph = c.graph; trees = c.trees; waves = ws; locals = ls } in
+    λ ws ls. record { graph = c.graph; trees = c.trees; waves = ws; locals = ls } in
     ap (λ ws. after ws locals) (sym (put_at-position c.graph.ids c.waves ix at regs same found))
-        ∙ ap (after (put_at c.graph.ids c.waves at regs)) is
+    ∙ ap (after (put_at c.graph.ids c.waves at regs)) is
 
 -- a copy of the start state is put where the row restarts
 pub restarted_at : {L : Type 0} (app : App L) (c : Configuration L) (starts : List L) (at ix : ℕ) (b : Bool)
     (x start : L) → b ≡ true → length c.locals ≡ length c.graph.ids → position (λ i. i == at) c.graph.ids ≡ Some ix
     → starts ≡ start_list app c.graph → x ≡ slice_index_or starts ix x → start ≡ x
-        → slice_set c.locals ix start ≡ restarted app c at b
+    → slice_set c.locals ix start ≡ restarted app c at b
 restarted_at app c starts at ix b x start restarts same found is read copied =
     sym (put_at-position c.graph.ids c.locals ix at start same found)
     ∙ ap (put_at c.graph.ids c.locals at) (copied ∙ start_at app c.graph starts ix at x x is found read)

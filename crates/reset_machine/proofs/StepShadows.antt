@@ -23,7 +23,7 @@ module _ {L : Type 0} (app : App L) (c c' : Configuration L) (e : Event) where
       → IsAbstractRun app c.graph (node_bound c.graph) (shadow_of c e) (abstract_of app c) (abstract_of app c')
   step_refines graph whole shaped reply run sound =
       let P : List AbstractStep → Type 0 =
-          λ ss. IsAbstractRun app c.graph (node_bound c.graph) ss (abstract_of app c) (abstract_of app c') in
+      λ ss. IsAbstractRun app c.graph (node_bound c.graph) ss (abstract_of app c) (abstract_of app c') in
       subst P (append-nil (shadow_of c e)) (run_shadow app (e ∷ []) (Did reply ∷ []) c c' graph whole shaped sound run)
 
 -- an opening is one of the applied events
@@ -41,9 +41,9 @@ module _ {L : Type 0} (app : App L) (Inv : Graph → (ℕ → L) → Type 0) (c 
         ((reply : Reply) → OneRun reply → IsSound c → Inv c.graph (abstract_of app c)
         → Inv c'.graph (abstract_of app c'))
         → ((reply : Reply) → OneRun reply → IsSound c → 0 < times is_open (applied (e ∷ []) (Did reply ∷ []))
-            → Inv c'.graph (abstract_of app c'))
+        → Inv c'.graph (abstract_of app c'))
         → (r : Result Reply StepRefusal) → IsOutcome app c c' e r
-            → IfOk r (λ reply. IsSound c → IsSoundStep app Inv c e reply c')
+        → IfOk r (λ reply. IsSound c → IsSoundStep app Inv c e reply c')
     sound_step keeps opens (Err f) is = tt
     sound_step keeps opens (Ok reply) is = λ sound.
         let run : OneRun reply = (c', is, refl) in

@@ -24,7 +24,7 @@ pub fn acted<P: Application>(
     ensures place { IfOk result (λ p. position (λ i. i == at) config.now.graph.ids ≡ Some p.0) }
     ensures exact { let c = config.now in
         let act = acted_of P.app c.graph (node_bound c.graph) (wave_of c) (local_of P.app c)
-            at choice.case choice.with in
+        at choice.case choice.with in
         MatchResult result (λ p. act ≡ Ok p.1) (λ f. f ≢ StepRefusal.NoMemory → act ≡ Err f) }
 {
     let Some(place) = Place::of(config, at) else {

@@ -45,7 +45,7 @@ module _ {L : Type 0} (app : App L) (g : Graph) (K : ℕ) where
       let reads : ℕ → Bool = is_read g i (app.reads case) with in
       let own : v i ≡ u i = sym (same i act.node) in
       let near : seen reads v g.ids ≡ seen reads u g.ids =
-          seen_same reads v u g.ids (λ j node read. sym (same j node)) in (
+      seen_same reads v u g.ids (λ j node read. sym (same j node)) in (
         run.0,
         record {
           node = act.node;
@@ -53,8 +53,10 @@ module _ {L : Type 0} (app : App L) (g : Graph) (K : ℕ) where
           new = act.new;
           next = ap₂ (λ x xs. app.next i K case with x xs) own near ∙ act.next;
           changes =
-              record { here = act.changes.here;
-              others = λ k node other. act.changes.others k node other ∙ same k node };
+              record {
+                here = act.changes.here;
+                others = λ k node other. act.changes.others k node other ∙ same k node;
+              };
         },
         run.2,
       )
@@ -67,7 +69,7 @@ module _ (g : Graph) (w w' : ℕ → WaveRegs) (i : ℕ) (x : WaveRegs) (changes
   sessions_stay same k node =
       ⊎_elim
       (λ here. ap (λ n. (w' n).session) here ∙ ap (λ (r : WaveRegs). r.session) changes.here ∙ same
-          ∙ ap (λ n. (w n).session) (sym here))
+      ∙ ap (λ n. (w n).session) (sym here))
       (λ other. ap (λ (r : WaveRegs). r.session) (changes.others k node other))
       (cases_eq k i)
 
@@ -98,11 +100,11 @@ module _ (g : Graph) (graph : IsGraph g) (whole : IsConnected g) (K : ℕ) (t t'
   opened_apart step k node other =
       let top : i ≡ greatest g = opens_at_leader step in
       let old : (w k).session ≡ (w i).session =
-          (all_awake g K t w i graph whole step.node sound step.enabled.0 (ap is_reset step.enabled.1) k node).1 in
+      (all_awake g K t w i graph whole step.node sound step.enabled.0 (ap is_reset step.enabled.1) k node).1 in
       let own : (w' k).session ≡ (w i).session =
-          ap (λ (r : WaveRegs). r.session) (step.waves.others k node other) ∙ old in
+      ap (λ (r : WaveRegs). r.session) (step.waves.others k node other) ∙ old in
       let up : (w' (greatest g)).session ≡ next_session (w i).session =
-          ap (λ n. (w' n).session) (sym top) ∙ ap (λ (r : WaveRegs). r.session) step.waves.here in
+      ap (λ n. (w' n).session) (sym top) ∙ ap (λ (r : WaveRegs). r.session) step.waves.here in
       ne_eqb _ _ (λ same. next_differs (w i).session (sym up ∙ sym same ∙ own))
 
   joins_from : Joins g t w i → (j : ℕ) × IsFather g t i j × ((w j).session ≡ next_session (w i).session)
@@ -134,7 +136,7 @@ module _ (g : Graph) (graph : IsGraph g) (whole : IsConnected g) (K : ℕ) (t t'
         let from = joins_from step.enabled in
         let own : (w' i).session ≡ (w (t i).father).session = ap (λ (r : WaveRegs). r.session) step.waves.here in
         let up : (w (t i).father).session ≡ next_session (w i).session =
-            ap (λ n. (w n).session) from.1.named ∙ from.2 in
+        ap (λ n. (w n).session) from.1.named ∙ from.2 in
         let next : next_session (w i).session ≡ (w (greatest g)).session = (picture.outside i step.node was_apart).1 in
         eq-eqb _ _ (own ∙ up ∙ next ∙ ap (λ (r : WaveRegs). r.session) (sym leader_stays))
 
@@ -159,7 +161,7 @@ module _ {L : Type 0} (app : App L) (g : Graph) (graph : IsGraph g) where
       → x.session ≡ (w i).session → Changes g l i (l i) l' → SameAtNodes g (abstract_at w l) (abstract_at w' l')
   nothing w w' i x l l' waves same locals k node =
       ap₂ (λ b y. cond b y (app.start g k)) (joined_stays g w w' graph (sessions_stay g w w' i x waves same) k node)
-          (locals_stay g l l' i locals k node)
+      (locals_stay g l l' i locals k node)
 
   module _ (whole : IsConnected g) (K : ℕ) (t t' : ℕ → TreeRegs) (w w' : ℕ → WaveRegs) (sound : Sound g K t w) (i : ℕ)
       (l l' : ℕ → L) (locals : Changes g l i (app.start g i) l') where
@@ -168,9 +170,9 @@ module _ {L : Type 0} (app : App L) (g : Graph) (graph : IsGraph g) where
     opening step k node =
         ⊎_elim
         (λ here. either (has_joined g w' k) (l' k) (app.start g k)
-            (ap l' here ∙ locals.here ∙ ap (app.start g) (sym here)))
+        (ap l' here ∙ locals.here ∙ ap (app.start g) (sym here)))
         (λ other. ap (λ b. cond b (l' k) (app.start g k))
-            (opened_apart g graph whole K t t' w w' sound i step k node other))
+        (opened_apart g graph whole K t t' w w' sound i step k node other))
         (cases_eq k i)
 
     -- to join is nothing: the node's state was its start state
@@ -180,10 +182,10 @@ module _ {L : Type 0} (app : App L) (g : Graph) (graph : IsGraph g) where
         (λ here.
         let started : l' k ≡ app.start g k = ap l' here ∙ locals.here ∙ ap (app.start g) (sym here) in
         let apart : has_joined g w k ≡ false =
-            ap (has_joined g w) here ∙ joins_apart g graph whole K t t' w w' sound i step in
+        ap (has_joined g w) here ∙ joins_apart g graph whole K t t' w w' sound i step in
         either (has_joined g w' k) (l' k) (app.start g k) started ∙ ap (λ b. cond b (l k) (app.start g k)) (sym apart))
         (λ other. ap₂ (λ b y. cond b y (app.start g k))
-            (joins_others g graph whole K t t' w w' sound i step k node other) (locals.others k node other))
+        (joins_others g graph whole K t t' w w' sound i step k node other) (locals.others k node other))
         (cases_eq k i)
 
   module _ (K : ℕ) (w : ℕ → WaveRegs) (i case : ℕ) (with : Option ℕ) (l l' : ℕ → L)
@@ -193,7 +195,7 @@ module _ {L : Type 0} (app : App L) (g : Graph) (graph : IsGraph g) where
     acting_apart apart k node =
         ⊎_elim
         (λ here. let is = ap (has_joined g w) here ∙ apart in ap (λ b. cond b (l' k) (app.start g k)) is
-            ∙ ap (λ b. cond b (l k) (app.start g k)) (sym is))
+        ∙ ap (λ b. cond b (l k) (app.start g k)) (sym is))
         (λ other. ap (λ y. cond (has_joined g w k) y (app.start g k)) (act.action.changes.others k node other))
         (cases_eq k i)
 
@@ -203,8 +205,8 @@ module _ {L : Type 0} (app : App L) (g : Graph) (graph : IsGraph g) where
         let reads : ℕ → Bool = is_read g i (app.reads case) with in
         let own : abstract_at w l i ≡ l i = ap (λ b. cond b (l i) (app.start g i)) joined in
         let there : (j : ℕ) → IsNode g j → reads j ≡ true → abstract_at w l j ≡ l j =
-            λ j node read. ap (λ b. cond b (l j) (app.start g j))
-            (ap (λ s. nat_eq s (w (greatest g)).session) (act.agree j node read) ∙ joined) in
+        λ j node read. ap (λ b. cond b (l j) (app.start g j))
+        (ap (λ s. nat_eq s (w (greatest g)).session) (act.agree j node read) ∙ joined) in
         record {
           node = act.action.node;
           fits = act.action.fits;

@@ -41,9 +41,9 @@ seen-filter p l [] = refl
 seen-filter {L} p l (j ∷ js) =
     let rest = seen-filter p l js in
     elim (p j)
-        as (λ b. cond b ((j, l j) ∷ seen p l js) (seen p l js)
-        ≡ map (λ k. (k, l k)) (cond b (j ∷ filter p js) (filter p js)))
-        [ true ↦ ap (λ r. (j, l j) ∷ r) rest | false ↦ rest ]
+    as (λ b. cond b ((j, l j) ∷ seen p l js) (seen p l js)
+    ≡ map (λ k. (k, l k)) (cond b (j ∷ filter p js) (filter p js)))
+    [ true ↦ ap (λ r. (j, l j) ∷ r) rest | false ↦ rest ]
 
 filter-filter : (p q r : ℕ → Bool) → ((j : ℕ) → p j ≡ (q j && r j)) → (js : List ℕ)
     → filter p js ≡ filter r (filter q js)
@@ -140,7 +140,7 @@ module _ {L : Type 0} (app : App L) (g : Graph) (graph : IsGraph g) (K : ℕ) (w
   first_is : (j : ℕ) → first_apart w i (filter reads g.ids) ≡ Some j → IsFirstApart g w i reads j
   first_is j is =
       let found =
-          find-first apart (filter reads g.ids) j (IsStrictlyIncreasing-filter reads g.ids graph.ascending) is in
+      find-first apart (filter reads g.ids) j (IsStrictlyIncreasing-filter reads g.ids graph.ascending) is in
       let there = sym (has-filter reads g.ids j) ∙ found.0 in
       record {
         node = Contains-has g.ids j (both (reads j) (has g.ids j) there).1;
@@ -175,17 +175,17 @@ module _ {L : Type 0} (app : App L) (g : Graph) (graph : IsGraph g) (K : ℕ) (w
       at : (f : Option StepRefusal) → misfit (app.reads case) with ≡ f
           → IsFit app g K w l i case with (app.reads case) f
           → IsActed app g K w l i case
-              with (judged (misfit (app.reads case) with) (first_apart w i near)
-              (app.next i K case with (l i) (map (λ j. (j, l j)) near)))
+          with (judged (misfit (app.reads case) with) (first_apart w i near)
+          (app.next i K case with (l i) (map (λ j. (j, l j)) near)))
       at (Some f) is refused = rw is (refused refl)
       at None is fits =
           let ids : filter reads g.ids ≡ near = read_ids g i (app.reads case) with fits in
           let P : List ℕ → Type 0 =
-              λ js. IsActed app g K w l i case
-              with (judged None (first_apart w i js) (app.next i K case with (l i) (map (λ j. (j, l j)) js))) in
+          λ js. IsActed app g K w l i case
+          with (judged None (first_apart w i js) (app.next i K case with (l i) (map (λ j. (j, l j)) js))) in
           let Q : List (ℕ × L) → Type 0 =
-              λ s. IsActed app g K w l i case
-              with (judged None (first_apart w i (filter reads g.ids)) (app.next i K case with (l i) s)) in
+          λ s. IsActed app g K w l i case
+          with (judged None (first_apart w i (filter reads g.ids)) (app.next i K case with (l i) s)) in
           rw is (subst P ids (subst Q (seen-filter reads l g.ids) (judge aimed.node fits _ refl _ refl)))
 
   stranger : (o : Option ℕ) → is_neighbour g i o ≡ false → (j : ℕ) × (o ≡ Some j) × (AreLinked g i j → ⊥)

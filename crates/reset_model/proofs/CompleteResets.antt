@@ -34,6 +34,6 @@ completed g K t t' w w' i graph whole sound own step j node =
     let here = step.waves.here in
     let still_own = ap (λ (r : TreeRegs). r.father) step.trees.here ∙ own in
     let awake =
-        all_awake g K t' w' i graph whole step.node after still_own (ap (λ (r : WaveRegs). is_reset r.phase) here) j
-        node in
+    all_awake g K t' w' i graph whole step.node after still_own (ap (λ (r : WaveRegs). is_reset r.phase) here) j
+    node in
     (awake.0, awake.1 ∙ ap (λ (r : WaveRegs). r.session) here)

@@ -49,7 +49,7 @@ local_effect-restarts app g l (Act i case with) = refl
 -- a node that restarts has its start state, and any other its own
 restarts_one : {L : Type 0} (app : App L) (c : Configuration L) (i : ℕ) (b : Bool) → IsShaped c → IsNode c.graph i
     → Changes c.graph (local_of app c) i (cond b (app.start c.graph i) (local_of app c i))
-        (local_map app c.graph (restarted app c i b))
+    (local_map app c.graph (restarted app c i b))
 restarts_one app c i true shaped node = record {
   here = value_at-put_at (app.start c.graph i) c.graph.ids c.locals i (app.start c.graph i) shaped.locals node;
   others =
@@ -60,15 +60,15 @@ restarts_one app c i false shaped node = record { here = refl; others = λ k _ o
 module _ {L : Type 0} (app : App L) (c : Configuration L) (graph : IsGraph c.graph) (shaped : IsShaped c) where
   locals_step : (e : Event) (b : Bool) → IsNode c.graph (event_node e) → b ≡ restarts_of e
       → Changes c.graph (local_of app c) (event_node e) (local_effect app c.graph (local_of app c) e)
-          (local_map app c.graph (restarted app c (event_node e) b))
+      (local_map app c.graph (restarted app c (event_node e) b))
   locals_step e b node is =
       let Steps : L → Type 0 =
-          λ x. Changes c.graph (local_of app c) (event_node e) x
-          (local_map app c.graph (restarted app c (event_node e) b)) in
+      λ x. Changes c.graph (local_of app c) (event_node e) x
+      (local_map app c.graph (restarted app c (event_node e) b)) in
       subst Steps
-          (ap (λ d. cond d (app.start c.graph (event_node e)) (local_of app c (event_node e))) is
-          ∙ sym (local_effect-restarts app c.graph (local_of app c) e))
-          (restarts_one app c (event_node e) b shaped node)
+      (ap (λ d. cond d (app.start c.graph (event_node e)) (local_of app c (event_node e))) is
+      ∙ sym (local_effect-restarts app c.graph (local_of app c) e))
+      (restarts_one app c (event_node e) b shaped node)
 
   -- what is planned in a configuration is a step
   fired_is_step : (e : Event) (does : Fired)
@@ -123,7 +123,7 @@ module _ {L : Type 0} (app : App L) (c : Configuration L) (graph : IsGraph c.gra
       row_refused row (planned_steps c.graph (node_bound c.graph) (tree_of c) (wave_of c) graph e (Err f) planned)
   done_steps e (Ok does) row planned =
       let step : IsPlannedStep c.graph (node_bound c.graph) (tree_of c) (wave_of c) graph e does =
-          planned_steps c.graph (node_bound c.graph) (tree_of c) (wave_of c) graph e (Ok does) planned in
+      planned_steps c.graph (node_bound c.graph) (tree_of c) (wave_of c) graph e (Ok does) planned in
       (row_step (fired_is_step e does step), step.leaves.reply)
 
   row_steps : (e : Event) → is_act e ≡ false → IsJudged e (row_outcome app c e)
@@ -208,23 +208,23 @@ pub put_tree_outcome : {L : Type 0} (app : App L) (g : Graph) (trees : List Tree
     (locals : List L) (e : Event) (ix : ℕ) (regs : TreeRegs) → length trees ≡ length g.ids
     → position (λ k. k == event_node e) g.ids ≡ Some ix →
     planned_of g (node_bound g) (tree_map g trees) (wave_map g waves) e ≡ Ok (Tree regs)
-        → row_outcome app (record { graph = g; trees = trees; waves = waves; locals = locals }) e
-        ≡ Ok (record { graph = g; trees = slice_set trees ix regs; waves = waves; locals = locals }, Applied)
+    → row_outcome app (record { graph = g; trees = trees; waves = waves; locals = locals }) e
+    ≡ Ok (record { graph = g; trees = slice_set trees ix regs; waves = waves; locals = locals }, Applied)
 put_tree_outcome {L} app g trees waves locals e ix regs same found planned =
     let after : List TreeRegs → Result (Configuration L × Reply) StepRefusal =
-        λ ts. Ok (record { graph = g; trees = ts; waves = waves; locals = locals }, Applied) in
+    λ ts. Ok (record { graph = g; trees = ts; waves = waves; locals = locals }, Applied) in
     ap (done app (record { graph = g; trees = trees; waves = waves; locals = locals }) (event_node e)) planned
-        ∙ ap after (put_at-position g.ids trees ix (event_node e) regs same found)
+    ∙ ap after (put_at-position g.ids trees ix (event_node e) regs same found)
 
 pub put_wave_outcome : {L : Type 0} (app : App L) (c c' : Configuration L) (e : Event) (move : WaveMove) (reply : Reply)
     → planned_of c.graph (node_bound c.graph) (tree_of c) (wave_of c) e ≡ Ok (Wave move)
     → reply ≡ fired_reply (Wave move) → c' ≡ after_fired app c (event_node e) (Wave move)
-        → row_outcome app c e ≡ Ok (c', reply)
+    → row_outcome app c e ≡ Ok (c', reply)
 put_wave_outcome {L} app c c' e move reply planned replied written =
     let after : Configuration L → Reply → Result (Configuration L × Reply) StepRefusal = λ d r. Ok (d, r) in
     ap (done app c (event_node e)) planned
-        ∙ ap (λ r. after (after_fired app c (event_node e) (Wave move)) r) (sym replied)
-        ∙ ap (λ d. after d reply) (sym written)
+    ∙ ap (λ r. after (after_fired app c (event_node e) (Wave move)) r) (sym replied)
+    ∙ ap (λ d. after d reply) (sym written)
 
 pub refused_outcome : {L : Type 0} (app : App L) (c : Configuration L) (e : Event) (f : StepRefusal)
     → planned_of c.graph (node_bound c.graph) (tree_of c) (wave_of c) e ≡ Err f → row_outcome app c e ≡ Err f
@@ -234,13 +234,13 @@ pub put_local_outcome : {L : Type 0} (app : App L) (g : Graph) (trees : List Tre
     (locals : List L) (i case : ℕ) (with : Option ℕ) (ix : ℕ) (new : L) → length locals ≡ length g.ids
     → position (λ k. k == i) g.ids ≡ Some ix →
     acted_of app g (node_bound g) (wave_map g waves) (local_map app g locals) i case with ≡ Ok new
-        → act_outcome app (record { graph = g; trees = trees; waves = waves; locals = locals }) i case with ≡ Ok
-        (record { graph = g; trees = trees; waves = waves; locals = slice_set locals ix new }, Applied)
+    → act_outcome app (record { graph = g; trees = trees; waves = waves; locals = locals }) i case with ≡ Ok
+    (record { graph = g; trees = trees; waves = waves; locals = slice_set locals ix new }, Applied)
 put_local_outcome {L} app g trees waves locals i case with ix new same found done =
     let after : List L → Result (Configuration L × Reply) StepRefusal =
-        λ ls. Ok (record { graph = g; trees = trees; waves = waves; locals = ls }, Applied) in
+    λ ls. Ok (record { graph = g; trees = trees; waves = waves; locals = ls }, Applied) in
     ap (acted (record { graph = g; trees = trees; waves = waves; locals = locals }) i) done
-        ∙ ap after (put_at-position g.ids locals ix i new same found)
+    ∙ ap after (put_at-position g.ids locals ix i new same found)
 
 pub refused_act : {L : Type 0} (app : App L) (c : Configuration L) (i case : ℕ) (with : Option ℕ) (f : StepRefusal)
     → acted_of app c.graph (node_bound c.graph) (wave_of c) (local_of app c) i case with ≡ Err f

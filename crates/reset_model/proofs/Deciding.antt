@@ -38,7 +38,7 @@ pub is_some-find : {X : Type 0} (p : X → Bool) (xs : List X) → is_some (find
 is_some-find p [] = refl
 is_some-find p (x ∷ xs) =
     elim (p x) as (λ b. is_some (cond b (Some x) (find p xs)) ≡ (b || list_any p xs))
-        [ true ↦ refl | false ↦ is_some-find p xs ]
+    [ true ↦ refl | false ↦ is_some-find p xs ]
 
 pub is_some-map : {X Y : Type 0} (f : X → Y) (o : Option X) → is_some (option_map f o) ≡ is_some o
 is_some-map f None = refl
@@ -50,8 +50,8 @@ lookup-waves [] j = refl
 lookup-waves (n ∷ ns) j =
     ap (λ o. cond (n.id == j) (Some n.wave) o) (lookup-waves ns j)
     ∙ elim (n.id == j)
-        as (λ b. cond b (Some n.wave) (option_map (λ m. m.wave) (find (λ m. m.id == j) ns))
-        ≡ option_map (λ m. m.wave) (cond b (Some n) (find (λ m. m.id == j) ns))) [ true ↦ refl | false ↦ refl ]
+    as (λ b. cond b (Some n.wave) (option_map (λ m. m.wave) (find (λ m. m.id == j) ns))
+    ≡ option_map (λ m. m.wave) (cond b (Some n) (find (λ m. m.id == j) ns))) [ true ↦ refl | false ↦ refl ]
 
 -- what is found is the father
 abbrev pub father_found : {L : Type 0} → Option (Neighbour L) → FatherSeen
@@ -64,9 +64,9 @@ father-found {L = L} v t id near found tree own all other is =
     let f = v.tree.father in
     let there : found ≡ find (λ n. n.id == f) v.near = is ∙ ap₂ (λ r ns. find (λ n. n.id == r.father) ns) tree all in
     sym (ap (λ b. cond b Itself (option_map_or (λ up. Is up) (lookup (λ k. k == f) (near_waves v.near)) Lost))
-        (ne_eqb f v.id (λ same. other (ap (λ r. r.father) tree ∙ same ∙ sym own)))
+    (ne_eqb f v.id (λ same. other (ap (λ r. r.father) tree ∙ same ∙ sym own)))
     ∙ ap (λ o. option_map_or (λ up. Is up) o Lost) (lookup-waves v.near f ∙ ap (option_map (λ n. n.wave)) (sym there))
-        ∙ at found)
+    ∙ at found)
   where
     at : (o : Option (Neighbour L)) → option_map_or (λ up. Is up) (option_map (λ n. n.wave) o) Lost ≡ father_found o
     at None = refl
@@ -77,15 +77,24 @@ father-found {L = L} v t id near found tree own all other is =
 pairs-rise : {X : Type 0} (n : X → ℕ) (xs : List X) → IsStrictlyIncreasing (map n xs) → AllPairs (λ x y. n x < n y) xs
 pairs-rise n xs up i j d below short =
     let far : j < length (map n xs) = subst (λ l. j < l) (sym (length-map xs n)) short in
-    omega (arith, AllPairs-from_increasing (map n xs) up i j 0 below far, get_or-map n xs i d 0 (omega arith),
-        get_or-map n xs j d 0 short)
+    omega (
+      arith,
+      AllPairs-from_increasing (map n xs) up i j 0 below far,
+      get_or-map n xs i d 0 (omega arith),
+      get_or-map n xs j d 0 short,
+    )
 
 rise-pairs : {X : Type 0} (n : X → ℕ) (xs : List X) → AllPairs (λ x y. n x < n y) xs → IsStrictlyIncreasing (map n xs)
 rise-pairs n [] up = λ k short. absurd (omega arith)
 rise-pairs n (x ∷ xs) up = λ k short.
     let far : k + 1 < length (x ∷ xs) = subst (λ l. k + 1 < l) (length-map (x ∷ xs) n) short in
-    omega (arith, up k (k + 1) x (omega arith) far, get_or-map n (x ∷ xs) k x 0 (omega arith), get_or-map n (x ∷ xs)
-        (k + 1) x 0 far)
+    omega (
+      arith,
+      up k (k + 1) x (omega arith) far,
+      get_or-map n (x ∷ xs) k x 0 (omega arith),
+      get_or-map n (x ∷ xs)
+          (k + 1) x 0 far,
+    )
 
 pub kept_ascend : {L : Type 0} (p : Neighbour L → Bool) (near : List (Neighbour L))
     → IsStrictlyIncreasing (map (λ (j : ℕ × TreeRegs). j.0) (near_trees near))
@@ -94,10 +103,10 @@ kept_ascend {L = L} p near up =
     let id = λ (n : Neighbour L). n.id in
     let P : List ℕ → Type 0 = λ is. IsStrictlyIncreasing is in
     let pairs =
-        pairs-rise id near (subst P (map-map (λ (j : ℕ × TreeRegs). j.0) (λ (n : Neighbour L). (n.id, n.tree)) near) up)
-        in
+    pairs-rise id near (subst P (map-map (λ (j : ℕ × TreeRegs). j.0) (λ (n : Neighbour L). (n.id, n.tree)) near) up)
+    in
     subst P (sym (map-map (λ j. j.0) (λ (n : Neighbour L). (n.id, n.wave)) (filter p near)))
-        (rise-pairs id (filter p near) (AllPairs-filter (λ x y. id x < id y) p near pairs))
+    (rise-pairs id (filter p near) (AllPairs-filter (λ x y. id x < id y) p near pairs))
 
 -- a view of these parts is what is seen of the wave
 pub wave_view-parts : {L : Type 0} (v : NodeView L) (w : LocalView) (own : WaveRegs) (father : FatherSeen)
@@ -124,10 +133,10 @@ module _ {L : Type 0} (app : App L) (v : NodeView L) (case : ℕ) (with : Option
       (seen : List (ℕ × L)) → r ≡ app.reads case → near ≡ v.near → session ≡ v.wave.session → id ≡ v.id
       → bound ≡ v.bound → own ≡ v.local
       → None ≡ misfit r with → None
-          ≡ option_map (λ n. n.id)
-          (find (λ n. not (n.wave.session == session)) (filter (λ n. reads_near r with n.id) near))
+      ≡ option_map (λ n. n.id)
+      (find (λ n. not (n.wave.session == session)) (filter (λ n. reads_near r with n.id) near))
       → seen ≡ map (λ n. (n.id, n.local)) (filter (λ n. reads_near r with n.id) near)
-          → case_taken app v case with ≡ judged None None (app.next id bound case with own seen)
+      → case_taken app v case with ≡ judged None None (app.next id bound case with own seen)
   case_taken-next r near session id bound own seen reads all same_session same_id same_bound same_own fits agree
       same_seen =
       ap₂ (λ o ns. judged_by o ns v.wave.session (next_by o ns v.id v.bound v.local)) (sym reads) (sym all)
@@ -135,7 +144,7 @@ module _ {L : Type 0} (app : App L) (v : NodeView L) (case : ℕ) (with : Option
       ∙ ap₂ (λ f apart. judged f apart (next_by r near v.id v.bound v.local)) (sym fits) (sym agree)
       ∙ ap (judged None None)
       (ap₂ (λ i b. next_by r near i b v.local) (sym same_id) (sym same_bound)
-          ∙ ap₂ (λ x s. app.next id bound case with x s) (sym same_own) (sym same_seen))
+      ∙ ap₂ (λ x s. app.next id bound case with x s) (sym same_own) (sym same_seen))
 
 -- ---- a plan
 
@@ -162,10 +171,10 @@ pub put-planned : {L : Type 0} (app : App L) (c : Configuration L) (v : NodeView
 put-planned {L = L} app c v e does reply seen is =
     let node = planned-node app v e (does, reply) is in
     let there : has c.graph.ids (event_node e) ≡ true =
-        has-Contains c.graph.ids (event_node e) (subst (λ i. Contains c.graph.ids i) node seen.0) in
+    has-Contains c.graph.ids (event_node e) (subst (λ i. Contains c.graph.ids i) node seen.0) in
     let Sees : ℕ → Type 0 = λ i. planned app (view_of app c i) e ≡ Ok (does, reply) in
     let says : planned app (view_of app c v.id) e ≡ Ok (does, reply) = ap (λ w. planned app w e) (sym seen.1) ∙ is in
     ap (λ b. cond (not b) (Err StrangeNode) (written c (event_node e) (planned app (view_of app c (event_node e)) e)))
-        there
+    there
     ∙ ap (written c (event_node e)) (subst Sees node says)
     ∙ ap (λ i. Ok (after_effect c i does, reply)) (sym node)

@@ -37,8 +37,8 @@ words_of-event_line (Act at case None) h =
     ap (λ ws. codes "act" ∷ ws) (words_of-decimals at case h.0 (omega (arith, h.1)))
 words_of-event_line (Act at case (Some j)) h =
     ap (λ ws. codes "act" ∷ ws)
-        (words_of-more (decimal at) _ (IsWord-decimal at h.0)
-        ∙ ap (λ ws. decimal at ∷ ws) (words_of-decimals case j (omega (arith, h.1)) h.2))
+    (words_of-more (decimal at) _ (IsWord-decimal at h.0)
+    ∙ ap (λ ws. decimal at ∷ ws) (words_of-decimals case j (omega (arith, h.1)) h.2))
 
 pub same_number : (m n : ℕ) → m < 2 ^ 32 → n < 2 ^ 32 → decimal m ≡ decimal n → m ≡ n
 same_number m n p q h = decimal_injective m n (omega arith) (omega arith) h
@@ -84,7 +84,7 @@ same_words (Act a c None) (Act b d None) p q h =
     ∙ ap (λ n. Act b n None) (same_number c d (omega (arith, p.1)) (omega (arith, q.1)) (cc))
 same_words (Act a c (Some x)) (Act b d (Some y)) p q h =
     ap (λ n. Act n c (Some x)) (same_number a b p.0 q.0 (cc))
-        ∙ ap (λ n. Act b n (Some x)) (same_number c d (omega (arith, p.1)) (omega (arith, q.1)) (cc))
+    ∙ ap (λ n. Act b n (Some x)) (same_number c d (omega (arith, p.1)) (omega (arith, q.1)) (cc))
     ∙ ap (λ n. Act b d (Some n)) (same_number x y p.2 q.2 (cc))
 same_words (Relay a c) (Relay b d) p q h =
     ap (λ n. Relay n c) (same_number a b p.0 q.0 (cc)) ∙ ap (λ n. Relay b n) (same_number c d p.1 q.1 (cc))
@@ -154,7 +154,7 @@ one_and_none text word last first none w (Some j) near is = let same =
 -- where no case and perhaps a neighbour follows the node, there is no action
 pub end_only : (text at rest : List ℕ) → words_of text ≡ at ∷ words_of rest
     → ((word : List ℕ) (with : Option ℕ) → IfSome with (λ j. j < 2 ^ 32)
-        → words_of rest ≡ word ∷ neighbour_words with → ⊥)
+    → words_of rest ≡ word ∷ neighbour_words with → ⊥)
     → (e : Event) → Fits e → codes "act" ∷ words_of text ≡ event_words e → ⊥
 end_only text at rest split none e fits is =
     let action = action_words e (words_of text) fits is in
@@ -183,18 +183,18 @@ act_line at case b with j k same is near =
 -- what is written of a text that an action's line begins with is written of the line
 pub act_begun : (x y : Option (List ℕ)) (at case b : ℕ) (with : Option ℕ) → b ≡ case
     → AppendsFront x y ((codes "act" ++ (32 ∷ decimal at)) ++ (32 ∷ decimal b))
-        → AppendsFront x y (event_line (Act at case with))
+    → AppendsFront x y (event_line (Act at case with))
 act_begun x y at case b None same h = rw (← same) h
 act_begun x y at case b (Some j) same h =
     let P : List ℕ → Type 0 = λ l. AppendsFront x y l in
     subst P (sym (act_line at case b (Some j) j j same refl refl))
-        (AppendsFront-first x y ((codes "act" ++ (32 ∷ decimal at)) ++ (32 ∷ decimal b)) (32 ∷ decimal j) h)
+    (AppendsFront-first x y ((codes "act" ++ (32 ∷ decimal at)) ++ (32 ∷ decimal b)) (32 ∷ decimal j) h)
 
 -- so is what is written of the neighbour after that text
 pub act_ended : (x y z : Option (List ℕ)) (at case b : ℕ) (with : Option ℕ) (j k : ℕ) → b ≡ case → with ≡ Some j → k ≡ j
     → Appends x y ((codes "act" ++ (32 ∷ decimal at)) ++ (32 ∷ decimal b)) → AppendsFront y z (32 ∷ decimal k)
-        → AppendsFront x z (event_line (Act at case with))
+    → AppendsFront x z (event_line (Act at case with))
 act_ended x y z at case b with j k same is near first h =
     let P : List ℕ → Type 0 = λ l. AppendsFront x z l in
     subst P (sym (act_line at case b with j k same is near))
-        (AppendsFront-then x y z ((codes "act" ++ (32 ∷ decimal at)) ++ (32 ∷ decimal b)) (32 ∷ decimal k) first h)
+    (AppendsFront-then x y z ((codes "act" ++ (32 ∷ decimal at)) ++ (32 ∷ decimal b)) (32 ∷ decimal k) first h)

@@ -22,8 +22,12 @@ module _ (g : Graph) (graph : IsGraph g) where
   node_below : (i : ℕ) → IsNode g i → i ≤ greatest g
   node_below i node =
       let at = index_of_node g.ids i node in
-      omega (arith, at.2, rises_weakly g.ids graph.ascending at.0 (length g.ids - 1) (omega (arith, at.1))
-          (omega (arith, graph.some)))
+      omega (
+        arith,
+        at.2,
+        rises_weakly g.ids graph.ascending at.0 (length g.ids - 1) (omega (arith, at.1))
+            (omega (arith, graph.some)),
+      )
 
   pub leader_greatest : IsConnected g → (i top : ℕ) → IsNode g i → IsLeader g i top → top ≡ greatest g
   leader_greatest whole i top node leads =
@@ -49,11 +53,15 @@ module _ (g : Graph) (graph : IsGraph g) (whole : IsConnected g) (t : ℕ → Tr
   top_or_under i node =
       ⊎_elim
       (λ same. inl
-          (record { greatest = same ∙ leader_greatest g graph whole i (t i).root node (picture.root i node);
-          father = picture.top i node same }))
+      (record {
+        greatest = same ∙ leader_greatest g graph whole i (t i).root node (picture.root i node);
+        father = picture.top i node same;
+      }))
       (λ below. inr
-          (record { father = record { named = refl; linked = picture.linked i node below };
-          dist = picture.nearer i node below }))
+      (record {
+        father = record { named = refl; linked = picture.linked i node below };
+        dist = picture.nearer i node below;
+      }))
       (cases_eq i (t i).root)
 
   -- only the leader is its own father
@@ -79,7 +87,7 @@ module _ (g : Graph) (graph : IsGraph g) (whole : IsConnected g) (t : ℕ → Tr
         (λ (under : IsUnder g t i).
         let up = (t i).father in
         below i up under.father
-            (down_from d up (linked_node g graph i up under.father.linked) (omega (arith, under.dist))))
+        (down_from d up (linked_node g graph i up under.father.linked) (omega (arith, under.dist))))
         (top_or_under i node)
 
     pub down_tree : (i : ℕ) → IsNode g i → P i

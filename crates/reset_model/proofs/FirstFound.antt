@@ -25,13 +25,25 @@ found_at q (x ∷ xs) j is = at (q x) refl (found_at q xs j)
   where
     at : (b : Bool) → q x ≡ b → (find q xs ≡ Some j → (n : ℕ) × IsFirstAt q xs j n) → (n : ℕ) × IsFirstAt q (x ∷ xs) j n
     at true passes rest =
-        let same : x ≡ j = (let found : Some x ≡ Some j = rw passes at is in cc) in
-        (0, record { short = omega arith; here = same; passes = ap q (sym same) ∙ passes;
-            before = λ m low. absurd (omega (arith, low)) })
+        let same : x ≡ j = (let found : Some x ≡ Some j = rw passes at is in cc) in (
+          0,
+          record {
+            short = omega arith;
+            here = same;
+            passes = ap q (sym same) ∙ passes;
+            before = λ m low. absurd (omega (arith, low));
+          },
+        )
     at false fails rest =
-        let more = rest (rw fails at is) in
-        (suc more.0, record { short = omega (arith, more.1.short); here = more.1.here; passes = more.1.passes;
-            before = before more.0 more.1.before })
+        let more = rest (rw fails at is) in (
+          suc more.0,
+          record {
+            short = omega (arith, more.1.short);
+            here = more.1.here;
+            passes = more.1.passes;
+            before = before more.0 more.1.before;
+          },
+        )
       where
         before : (n : ℕ) → ((m : ℕ) → m < n → q (slice_index xs m) ≡ false) → (m : ℕ) → m < suc n
             → q (slice_index (x ∷ xs) m) ≡ false

@@ -54,7 +54,7 @@ module _ (g : Graph) (graph : IsGraph g) (whole : IsConnected g) (K : ℕ) (t t'
       → joined_number g w' i ≡ 0 + joined_number g w i
   stays same i node =
       let number : joined_number g w' i ≡ joined_number g w i =
-          ap (λ b. cond b 1 0) (joined_stays g w w' graph same i node) in
+      ap (λ b. cond b 1 0) (joined_stays g w w' graph same i node) in
       omega (arith, number)
 
   join_counts : (k : ℕ) → RegsStep g K t w (Join k) t' w' → (i : ℕ) → IsNode g i
@@ -63,16 +63,16 @@ module _ (g : Graph) (graph : IsGraph g) (whole : IsConnected g) (K : ℕ) (t t'
       ⊎_elim
       (λ here.
       let apart : has_joined g w i ≡ false =
-          ap (has_joined g w) here ∙ joins_apart g graph whole K t t' w w' sound k step in
+      ap (has_joined g w) here ∙ joins_apart g graph whole K t t' w w' sound k step in
       let after : has_joined g w' i ≡ true =
-          ap (has_joined g w') here ∙ joins_after g graph whole K t t' w w' sound k step in
+      ap (has_joined g w') here ∙ joins_after g graph whole K t t' w w' sound k step in
       let before : joined_number g w i ≡ 0 = ap (λ b. cond b 1 0) apart in
       let number : joined_number g w' i ≡ 1 = ap (λ b. cond b 1 0) after in
       let now : joins_now (Join k) i ≡ 1 = ap (λ b. cond b 1 0) (eq-eqb k i (sym here)) in
       omega (arith, before, number, now))
       (λ other.
       let number : joined_number g w' i ≡ joined_number g w i =
-          ap (λ b. cond b 1 0) (joins_others g graph whole K t t' w w' sound k step i node other) in
+      ap (λ b. cond b 1 0) (joins_others g graph whole K t t' w w' sound k step i node other) in
       let now : joins_now (Join k) i ≡ 0 = ap (λ b. cond b 1 0) (ne_eqb k i (λ same. other (sym same))) in
       omega (arith, number, now))
       (cases_eq i k)
@@ -107,7 +107,7 @@ module _ {L : Type 0} (app : App L) where
         closed = ap is_open is;
         number = λ k node.
             let same : joined_number c.graph (wave_of c') k ≡ joined_number c.graph (wave_of c) k =
-                ap (λ w. joined_number c.graph w k) waves in
+            ap (λ w. joined_number c.graph w k) waves in
             let now : joins_now e k ≡ 0 = ap (λ d. joins_now d k) is in
             omega (arith, same, now);
       }
@@ -146,11 +146,11 @@ module _ {L : Type 0} (app : App L) where
       let first = step_counts c m e graph whole sound step split.0 in
       let None : Graph → Type 0 = λ g. times (is_open_at (greatest g)) (applied es ds) ≡ 0 in
       let rest =
-          run_counts es ds m c' (subst IsGraph (sym kept.graph) graph) (subst IsConnected (sym kept.graph) whole)
-          kept.shaped kept.sound run.2 (subst None (sym kept.graph) split.1) in
+      run_counts es ds m c' (subst IsGraph (sym kept.graph) graph) (subst IsConnected (sym kept.graph) whole)
+      kept.shaped kept.sound run.2 (subst None (sym kept.graph) split.1) in
       let Numbers : Graph → Type 0 =
-          λ g. (i : ℕ) → IsNode g i
-          → joined_number g (wave_of c') i ≡ times (is_join_at i) (applied es ds) + joined_number g (wave_of m) i in
+      λ g. (i : ℕ) → IsNode g i
+      → joined_number g (wave_of c') i ≡ times (is_join_at i) (applied es ds) + joined_number g (wave_of m) i in
       let number = subst Numbers kept.graph rest.number in
       record {
         closed = let now : opens_now e ≡ 0 = ap (λ b. cond b 1 0) first.closed in omega (arith, now, rest.closed);
@@ -166,15 +166,18 @@ module _ {L : Type 0} (app : App L) where
   opening_counts : (c c' : Configuration L) (o : ℕ) → IsGraph c.graph → IsConnected c.graph → IsSound c
       → IsStep app c (Open o) c'
       → (o ≡ greatest c.graph)
-          × ((i : ℕ) → IsNode c.graph i → i ≢ greatest c.graph → joined_number c.graph (wave_of c') i ≡ 0)
+      × ((i : ℕ) → IsNode c.graph i → i ≢ greatest c.graph → joined_number c.graph (wave_of c') i ≡ 0)
   opening_counts c c' o graph whole sound (act_step i case with is step) = absurd (cc)
   opening_counts c c' o graph whole sound (row_step step) =
       let top =
-          opens_at_leader c.graph graph whole (node_bound c.graph) (tree_of c) (tree_of c') (wave_of c) (wave_of c')
-          sound o step.regs in
-      (top, λ i node other. ap (λ b. cond b 1 0)
-          (opened_apart c.graph graph whole (node_bound c.graph) (tree_of c) (tree_of c') (wave_of c) (wave_of c') sound
-          o step.regs i node (λ same. other (same ∙ top))))
+      opens_at_leader c.graph graph whole (node_bound c.graph) (tree_of c) (tree_of c') (wave_of c) (wave_of c')
+      sound o step.regs in (
+        top,
+        λ i node other. ap (λ b. cond b 1 0)
+            (opened_apart c.graph graph whole (node_bound c.graph) (tree_of c) (tree_of c') (wave_of c) (wave_of c')
+            sound
+            o step.regs i node (λ same. other (same ∙ top))),
+      )
 
   -- the leader has joined always
   top_counts : (g : Graph) (w : ℕ → WaveRegs) → joined_number g w (greatest g) ≡ 1
@@ -195,11 +198,11 @@ module _ {L : Type 0} (app : App L) where
       let picture = rests_picture c.graph graph (node_bound c.graph) (tree_of c) sound.tree in
       let Done : Graph → Type 0 = λ g. (i : ℕ) → IsNode g i → (wave_of c' i).session ≡ x in
       let done : Done c.graph =
-          subst Done step.graph
-          (λ i node. (step_complete app c c' (Finish p) x graph whole (row_step step) sound told i node).1) in
+      subst Done step.graph
+      (λ i node. (step_complete app c c' (Finish p) x graph whole (row_step step) sound told i node).1) in
       let before : (i : ℕ) → IsNode c.graph i → (wave_of c i).session ≡ x =
-          λ i node. sym (sessions_stay c.graph (wave_of c) (wave_of c') p _ step.regs.waves refl i node)
-          ∙ done i node in (
+      λ i node. sym (sessions_stay c.graph (wave_of c) (wave_of c') p _ step.regs.waves refl i node)
+      ∙ done i node in (
         own_father c.graph graph whole (tree_of c) picture p step.regs.node own,
         λ i node. ap (λ b. cond b 1 0)
             (eq-eqb _ _ (before i node ∙ sym (before (greatest c.graph) (greatest_node c.graph graph)))),
@@ -212,12 +215,12 @@ module _ {L : Type 0} (app : App L) where
         → (o ≡ p) × JoinsOnce c.graph p (applied es ds)
     joins_once opens run none finishes =
         let Numbers : Graph → Type 0 =
-            λ g. (i : ℕ) → IsNode g i
-            → joined_number g (wave_of c2) i ≡ times (is_join_at i) (applied es ds) + joined_number g (wave_of c1) i in
+        λ g. (i : ℕ) → IsNode g i
+        → joined_number g (wave_of c2) i ≡ times (is_join_at i) (applied es ds) + joined_number g (wave_of c1) i in
         let Joined : Graph → Type 0 =
-            λ g. (p ≡ greatest g) × ((i : ℕ) → IsNode g i → joined_number g (wave_of c2) i ≡ 1) in
+        λ g. (p ≡ greatest g) × ((i : ℕ) → IsNode g i → joined_number g (wave_of c2) i ≡ 1) in
         let Apart : Graph → Type 0 =
-            λ g. (o ≡ greatest g) × ((i : ℕ) → IsNode g i → i ≢ greatest g → joined_number g (wave_of c1) i ≡ 0) in
+        λ g. (o ≡ greatest g) × ((i : ℕ) → IsNode g i → i ≢ greatest g → joined_number g (wave_of c1) i ≡ 0) in
         let Unopened : ℕ → Type 0 = λ top. times (is_open_at top) (applied es ds) ≡ 0 in
         let opened = did_keeps app c c1 (Open o) (Did reply) graph shaped sound opens in
         let graph1 = subst IsGraph (sym opened.graph) graph in
@@ -226,15 +229,15 @@ module _ {L : Type 0} (app : App L) where
         let same : c2.graph ≡ c.graph = ran.graph ∙ opened.graph in
         let graph2 = subst IsGraph (sym same) graph in
         let first : Apart c.graph =
-            opening_counts c c1 o graph whole sound (outcome_is_step app c graph shaped (Open o) c1 reply opens).0 in
+        opening_counts c c1 o graph whole sound (outcome_is_step app c graph shaped (Open o) c1 reply opens).0 in
         let finish = outcome_is_step app c2 graph2 ran.shaped (Finish p) c3 (Complete x) finishes in
         let last : Joined c.graph =
-            subst Joined same
-            (finishing_counts c2 c3 p x graph2 (subst IsConnected (sym same) whole) ran.sound finish.0 (sym finish.1))
-            in
+        subst Joined same
+        (finishing_counts c2 c3 p x graph2 (subst IsConnected (sym same) whole) ran.sound finish.0 (sym finish.1))
+        in
         let between =
-            run_counts es ds c1 c2 graph1 whole1 opened.shaped opened.sound run
-            (subst Unopened (last.0 ∙ ap greatest (sym opened.graph)) none) in
+        run_counts es ds c1 c2 graph1 whole1 opened.shaped opened.sound run
+        (subst Unopened (last.0 ∙ ap greatest (sym opened.graph)) none) in
         let number : Numbers c.graph = subst Numbers opened.graph between.number in (
           first.0 ∙ sym last.0,
           record {
@@ -242,8 +245,13 @@ module _ {L : Type 0} (app : App L) where
             leader =
                 let top = greatest_node c.graph graph in
                 let zero : times (is_join_at (greatest c.graph)) (applied es ds) ≡ 0 =
-                omega (arith, number (greatest c.graph) top, last.1 (greatest c.graph) top, top_counts c.graph
-                    (wave_of c1)) in
+                omega (
+                  arith,
+                  number (greatest c.graph) top,
+                  last.1 (greatest c.graph) top,
+                  top_counts c.graph
+                      (wave_of c1),
+                ) in
                 subst (λ k. times (is_join_at k) (applied es ds) ≡ 0) (sym last.0) zero;
             joins = λ i node other. omega
                 (arith, number i node, last.1 i node, first.1 i node (λ same. other (same ∙ sym last.0)));

@@ -24,8 +24,8 @@ first_among ids p q near = find q (filter p (map (λ n. slice_index ids n) near)
 -- the next id is the first or it isn't
 first-drop : (ids : List ℕ) (p q : ℕ → Bool) (near : List ℕ) (i : ℕ) → i < length near →
     first_among ids p q (drop i near)
-        ≡ (let c = slice_index ids (slice_index near i) in cond (p c)
-        (cond (q c) (Some c) (first_among ids p q (drop (i + 1) near))) (first_among ids p q (drop (i + 1) near)))
+    ≡ (let c = slice_index ids (slice_index near i) in cond (p c)
+    (cond (q c) (Some c) (first_among ids p q (drop (i + 1) near))) (first_among ids p q (drop (i + 1) near)))
 first-drop ids p q near i short =
     rw (drop-cons near i 0, add-one) (next (slice_index near i))
   where
@@ -53,8 +53,8 @@ first_here ids p q near i id short at read apart so_far =
     let c = slice_index ids (slice_index near i) in
     let rest = first_among ids p q (drop (i + 1) near) in
     ap (λ k. Some k) (sym at)
-        ∙ sym (first-drop ids p q near i short ∙ ap (λ b. cond b (cond (q c) (Some c) rest) rest) read
-        ∙ ap (λ b. cond b (Some c) rest) apart) ∙ so_far
+    ∙ sym (first-drop ids p q near i short ∙ ap (λ b. cond b (cond (q c) (Some c) rest) rest) read
+    ∙ ap (λ b. cond b (Some c) rest) apart) ∙ so_far
 
 -- it fails the first test
 pub first_unread : (ids : List ℕ) (p q : ℕ → Bool) (near : List ℕ) (i : ℕ) (all : Option ℕ) → i < length near
@@ -73,7 +73,7 @@ first_alike ids p q near i all short read alike so_far =
     let c = slice_index ids (slice_index near i) in
     let rest = first_among ids p q (drop (i + 1) near) in
     sym (first-drop ids p q near i short ∙ ap (λ b. cond b (cond (q c) (Some c) rest) rest) read
-        ∙ ap (λ b. cond b (Some c) rest) alike) ∙ so_far
+    ∙ ap (λ b. cond b (Some c) rest) alike) ∙ so_far
 
 -- what is read at any place is the value of its id, where the ids ascend
 pub read_at-place : {X : Type 0} (d : X) (ids : List ℕ) (xs : List X) (ix : ℕ) (x : X) → IsStrictlyIncreasing ids
@@ -88,7 +88,7 @@ is_none (Some x) is = absurd (true≢false is)
 -- where nothing else is refused, the case is taken or not enabled
 pub judged-ends : {L : Type 0} (taken r : Result L StepRefusal) (next : Option L) → taken ≡ judged None None next
     → MatchResult r (λ local. next ≡ Some local) (λ f. f ≢ NoMemory → (f ≡ NotEnabled) × (next ≡ None))
-        → MatchResult r (λ local. taken ≡ Ok local) (λ f. f ≢ NoMemory → taken ≡ Err f)
+    → MatchResult r (λ local. taken ≡ Ok local) (λ f. f ≢ NoMemory → taken ≡ Err f)
 judged-ends taken (Ok local) next is told = is ∙ ap (judged None None) told
 judged-ends taken (Err f) next is refused =
     λ other. is ∙ ap (judged None None) (refused other).1 ∙ ap (λ e. Err e) (sym (refused other).0)
@@ -103,45 +103,46 @@ taken-next {L} fitted taken n can is = can ∙ told n ∙ ap is_ok (sym is)
     told (Some new) = refl
 
 module _ {L : Type 0} (app : App L) (g : Graph) (K : ℕ) (w : ℕ → WaveRegs) (l : ℕ → L) (i case : ℕ) (with : Option ℕ)
-    where
-  -- the choice fits and no neighbour that is read is apart: what the case does, seen from its parts
-  pub fitted-next : (r : Option Reads) (here k : ℕ) (own : L) (s : List (ℕ × L)) (n : Option L) → r ≡ app.reads case
-      → None ≡ misfit r with → None ≡ first_apart w i (filter (reads_near r with) (neighbours_of g i))
-      → here ≡ i → k ≡ K → own ≡ l i → s ≡ map (λ j. (j, l j)) (filter (reads_near r with) (neighbours_of g i))
-          → app.next here k case with own s ≡ n → fitted_of app g K w l i case with ≡ judged None None n
-  fitted-next r here k own s n reads fits agree same_id same_bound same_own same_seen next =
-      ap (λ o. fitted_with o) (sym reads)
-      ∙ ap (λ f. judged f (first_apart w i (read_by r))
-          (app.next i K case with (l i) (map (λ j. (j, l j)) (read_by r)))) (sym fits)
-      ∙ ap (λ o. judged None o (app.next i K case with (l i) (map (λ j. (j, l j)) (read_by r)))) (sym agree)
-      ∙ ap (λ m. judged None None m)
-      (ap (λ t. app.next i K case with (l i) t) (sym same_seen) ∙ ap (λ x. app.next i K case with x s) (sym same_own)
-      ∙ ap (λ b. app.next i b case with own s) (sym same_bound) ∙ ap (λ j. app.next j k case with own s) (sym same_id)
-          ∙ next)
-    where
-      read_by : Option Reads → List ℕ
-      read_by o = filter (reads_near o with) (neighbours_of g i)
+  where
+    -- the choice fits and no neighbour that is read is apart: what the case does, seen from its parts
+    pub fitted-next : (r : Option Reads) (here k : ℕ) (own : L) (s : List (ℕ × L)) (n : Option L) → r ≡ app.reads case
+        → None ≡ misfit r with → None ≡ first_apart w i (filter (reads_near r with) (neighbours_of g i))
+        → here ≡ i → k ≡ K → own ≡ l i → s ≡ map (λ j. (j, l j)) (filter (reads_near r with) (neighbours_of g i))
+        → app.next here k case with own s ≡ n → fitted_of app g K w l i case with ≡ judged None None n
+    fitted-next r here k own s n reads fits agree same_id same_bound same_own same_seen next =
+        ap (λ o. fitted_with o) (sym reads)
+        ∙ ap (λ f. judged f (first_apart w i (read_by r))
+        (app.next i K case with (l i) (map (λ j. (j, l j)) (read_by r)))) (sym fits)
+        ∙ ap (λ o. judged None o (app.next i K case with (l i) (map (λ j. (j, l j)) (read_by r)))) (sym agree)
+        ∙ ap (λ m. judged None None m)
+        (ap (λ t. app.next i K case with (l i) t) (sym same_seen) ∙ ap (λ x. app.next i K case with x s) (sym same_own)
+        ∙ ap (λ b. app.next i b case with own s) (sym same_bound) ∙ ap (λ j. app.next j k case with own s) (sym same_id)
+        ∙ next)
+      where
+        read_by : Option Reads → List ℕ
+        read_by o = filter (reads_near o with) (neighbours_of g i)
 
-      fitted_with : Option Reads → Result L StepRefusal
-      fitted_with o =
-          judged (misfit o with) (first_apart w i (read_by o))
-          (app.next i K case with (l i) (map (λ j. (j, l j)) (read_by o)))
+        fitted_with : Option Reads → Result L StepRefusal
+        fitted_with o =
+            judged (misfit o with) (first_apart w i (read_by o))
+            (app.next i K case with (l i) (map (λ j. (j, l j)) (read_by o)))
 
-  pub acted_of-strange_node : list_any (λ k. k == i) g.ids ≡ false → acted_of app g K w l i case with ≡ Err StrangeNode
-  acted_of-strange_node none =
-      ap (λ b. cond (not b) (Err StrangeNode)
-      (cond (not (is_neighbour g i with)) (Err StrangeNeighbour) (fitted_of app g K w l i case with))) none
+    pub acted_of-strange_node : list_any (λ k. k == i) g.ids ≡ false
+        → acted_of app g K w l i case with ≡ Err StrangeNode
+    acted_of-strange_node none =
+        ap (λ b. cond (not b) (Err StrangeNode)
+        (cond (not (is_neighbour g i with)) (Err StrangeNeighbour) (fitted_of app g K w l i case with))) none
 
-  pub acted_of-strange_neighbour : list_any (λ k. k == i) g.ids ≡ true → is_neighbour g i with ≡ false
-      → acted_of app g K w l i case with ≡ Err StrangeNeighbour
-  acted_of-strange_neighbour node stranger =
-      ap (λ b. cond (not b) (Err StrangeNode)
-          (cond (not (is_neighbour g i with)) (Err StrangeNeighbour) (fitted_of app g K w l i case with))) node
-      ∙ ap (λ b. cond (not b) (Err StrangeNeighbour) (fitted_of app g K w l i case with)) stranger
+    pub acted_of-strange_neighbour : list_any (λ k. k == i) g.ids ≡ true → is_neighbour g i with ≡ false
+        → acted_of app g K w l i case with ≡ Err StrangeNeighbour
+    acted_of-strange_neighbour node stranger =
+        ap (λ b. cond (not b) (Err StrangeNode)
+        (cond (not (is_neighbour g i with)) (Err StrangeNeighbour) (fitted_of app g K w l i case with))) node
+        ∙ ap (λ b. cond (not b) (Err StrangeNeighbour) (fitted_of app g K w l i case with)) stranger
 
-  pub acted_of-fitted : list_any (λ k. k == i) g.ids ≡ true → is_neighbour g i with ≡ true
-      → acted_of app g K w l i case with ≡ fitted_of app g K w l i case with
-  acted_of-fitted node neighbour =
-      ap (λ b. cond (not b) (Err StrangeNode)
-          (cond (not (is_neighbour g i with)) (Err StrangeNeighbour) (fitted_of app g K w l i case with))) node
-      ∙ ap (λ b. cond (not b) (Err StrangeNeighbour) (fitted_of app g K w l i case with)) neighbour
+    pub acted_of-fitted : list_any (λ k. k == i) g.ids ≡ true → is_neighbour g i with ≡ true
+        → acted_of app g K w l i case with ≡ fitted_of app g K w l i case with
+    acted_of-fitted node neighbour =
+        ap (λ b. cond (not b) (Err StrangeNode)
+        (cond (not (is_neighbour g i with)) (Err StrangeNeighbour) (fitted_of app g K w l i case with))) node
+        ∙ ap (λ b. cond (not b) (Err StrangeNeighbour) (fitted_of app g K w l i case with)) neighbour

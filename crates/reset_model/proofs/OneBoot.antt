@@ -12,9 +12,9 @@ pub one_boot : {L : Type 0} (app : App L) (g : Graph) (c d : Configuration L) �
 one_boot {L = L} app g c d a b =
     let Parts : Type 0 = Graph × (List TreeRegs × (List WaveRegs × List L)) in
     let whole : Parts → Configuration L =
-        λ p. record { graph = p.0; trees = p.1.0; waves = p.1.1.0; locals = p.1.1.1 } in
+    λ p. record { graph = p.0; trees = p.1.0; waves = p.1.1.0; locals = p.1.1.1 } in
     let states : (c.waves, c.locals) ≡ (d.waves, d.locals) =
-        ap₂ (λ x y. (x, y)) (a.waves ∙ sym b.waves) (a.locals ∙ sym b.locals) in
+    ap₂ (λ x y. (x, y)) (a.waves ∙ sym b.waves) (a.locals ∙ sym b.locals) in
     let trees : c.trees ≡ d.trees = one_tree g c.trees d.trees a.trees b.trees in
     let parts : (c.graph, (c.trees, (c.waves, c.locals))) ≡ (d.graph, (d.trees, (d.waves, d.locals))) =
     ap₂ (λ x y. (x, y)) (a.graph ∙ sym b.graph) (ap₂ (λ x y. (x, y)) trees states) in

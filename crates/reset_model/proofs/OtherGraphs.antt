@@ -34,7 +34,7 @@ module _ {L : Type 0} (c : Configuration L) (g : Graph) (same : g.ids ≡ c.grap
       → local_of app (with_graph c g) i ≡ local_of app c i
   local_of-with_graph app i shaped node =
       ap (λ ids. value_at (app.start g i) ids c.locals i) same
-          ∙ value_at-elsewhere (app.start g i) (app.start c.graph i) c.graph.ids c.locals i shaped.locals node
+      ∙ value_at-elsewhere (app.start g i) (app.start c.graph i) c.graph.ids c.locals i shaped.locals node
 
   -- each node has its registers and its local state
   pub shaped-with_graph : IsShaped c → IsShaped (with_graph c g)

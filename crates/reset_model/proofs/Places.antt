@@ -21,7 +21,7 @@ value_at-first d (k ∷ ks) (x ∷ xs) zero id short same here before = grind (a
 value_at-first d (k ∷ ks) (x ∷ xs) (suc ix) id short same here before =
     let other : k ≢ id = before 0 (omega arith) in
     let rest : value_at d ks xs id ≡ slice_index_or xs ix d =
-        value_at-first d ks xs ix id (omega arith) (omega arith) here (λ m l. before (suc m) (omega arith)) in
+    value_at-first d ks xs ix id (omega arith) (omega arith) here (λ m l. before (suc m) (omega arith)) in
     grind (arith, nat_tests)
 
 -- and the place at which it is put
@@ -34,7 +34,7 @@ put_at-first (k ∷ ks) (x ∷ xs) zero id y short same here before = grind (ari
 put_at-first (k ∷ ks) (x ∷ xs) (suc ix) id y short same here before =
     let other : k ≢ id = before 0 (omega arith) in
     let rest : put_at ks xs id y ≡ slice_set xs ix y =
-        put_at-first ks xs ix id y (omega arith) (omega arith) here (λ m l. before (suc m) (omega arith)) in
+    put_at-first ks xs ix id y (omega arith) (omega arith) here (λ m l. before (suc m) (omega arith)) in
     grind (arith, nat_tests)
 
 -- the same of the place that a search for the id gives
@@ -43,21 +43,21 @@ pub value_at-position : {X : Type 0} (d : X) (ids : List ℕ) (xs : List X) (ix 
 value_at-position d ids xs ix id same found =
     let place = position-Some (λ i. i == id) ids ix 0 found in
     value_at-first d ids xs ix id place.0 same (eqb-true _ _ place.1)
-        (λ k l e. absurd (false≢true (sym (place.2 k l) ∙ eq-eqb _ _ e)))
+    (λ k l e. absurd (false≢true (sym (place.2 k l) ∙ eq-eqb _ _ e)))
 
 pub put_at-position : {X : Type 0} (ids : List ℕ) (xs : List X) (ix id : ℕ) (y : X) → length xs ≡ length ids
     → position (λ i. i == id) ids ≡ Some ix → put_at ids xs id y ≡ slice_set xs ix y
 put_at-position ids xs ix id y same found =
     let place = position-Some (λ i. i == id) ids ix 0 found in
     put_at-first ids xs ix id y place.0 same (eqb-true _ _ place.1)
-        (λ k l e. absurd (false≢true (sym (place.2 k l) ∙ eq-eqb _ _ e)))
+    (λ k l e. absurd (false≢true (sym (place.2 k l) ∙ eq-eqb _ _ e)))
 
 -- the same of any place, where the ids ascend
 pub value_at-place : {X : Type 0} (d : X) (ids : List ℕ) (xs : List X) (ix : ℕ) → IsStrictlyIncreasing ids
     → length xs ≡ length ids → ix < length ids → value_at d ids xs (slice_index ids ix) ≡ slice_index_or xs ix d
 value_at-place d ids xs ix up same short =
     value_at-first d ids xs ix _ short same refl
-        (λ k l e. absurd (omega (arith, AllPairs-from_increasing ids up k ix 0 l short)))
+    (λ k l e. absurd (omega (arith, AllPairs-from_increasing ids up k ix 0 l short)))
 
 -- some number of the list is the id, so a search for it comes to an end before the list does
 position_or_len-lt : (ids : List ℕ) (id k : ℕ) → k < length ids → slice_index ids k ≡ id
@@ -148,7 +148,7 @@ value_at-put_at_other d (k ∷ ks) (x ∷ xs) id other y apart =
     at : ((nat_eq k id ≡ true) × (k ≡ id)) ⊎ ((nat_eq k id ≡ false) × (k ≢ id))
         → ((nat_eq k other ≡ true) × (k ≡ other)) ⊎ ((nat_eq k other ≡ false) × (k ≢ other))
         → value_at d ks (put_at ks xs id y) other ≡ value_at d ks xs other
-            → value_at d (k ∷ ks) (put_at (k ∷ ks) (x ∷ xs) id y) other ≡ value_at d (k ∷ ks) (x ∷ xs) other
+        → value_at d (k ∷ ks) (put_at (k ∷ ks) (x ∷ xs) id y) other ≡ value_at d (k ∷ ks) (x ∷ xs) other
     at (inl e) (inl f) rest = absurd (apart (sym f.1 ∙ e.1))
     at (inl e) (inr f) rest = rw (e.0, f.0) refl
     at (inr e) (inl f) rest = rw (e.0, f.0) refl
@@ -171,17 +171,17 @@ position_or_len-place (i ∷ ids) zero id short here before = grind (arith, nat_
 position_or_len-place (i ∷ ids) (suc ix) id short here before =
     let other : i ≢ id = before 0 (omega arith) in
     let rest : position_or_len (λ i. i == id) ids ≡ ix =
-        position_or_len-place ids ix id (omega arith) here (λ k l. before (suc k) (omega arith)) in
+    position_or_len-place ids ix id (omega arith) here (λ k l. before (suc k) (omega arith)) in
     grind (arith, nat_tests)
 
 pub position-place : (ids : List ℕ) (ix : ℕ) → IsStrictlyIncreasing ids → ix < length ids
     → position (λ i. i == slice_index ids ix) ids ≡ Some ix
 position-place ids ix up short =
     let at =
-        position_or_len-place ids ix (slice_index ids ix) short refl
-        (λ k l e. absurd (omega (arith, AllPairs-from_increasing ids up k ix 0 l short))) in
+    position_or_len-place ids ix (slice_index ids ix) short refl
+    (λ k l e. absurd (omega (arith, AllPairs-from_increasing ids up k ix 0 l short))) in
     ap (λ n. cond (nat_lt n (length ids)) (Some n) None) at
-        ∙ ap (λ b. cond b (Some ix) None) (lt-ltb ix (length ids) short)
+    ∙ ap (λ b. cond b (Some ix) None) (lt-ltb ix (length ids) short)
 
 -- the same under another name of the id
 pub position-named : (ids : List ℕ) (ix id : ℕ) → IsStrictlyIncreasing ids → ix < length ids → slice_index ids ix ≡ id

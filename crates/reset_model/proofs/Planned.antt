@@ -28,14 +28,14 @@ module _ (g : Graph) (K : ℕ) (t : ℕ → TreeRegs) (w : ℕ → WaveRegs) (e 
       → is_neighbour g (event_node e) (named_node e) ≡ false → planned_of g K t w e ≡ Err StrangeNeighbour
   planned_of-strange_neighbour node stranger =
       ap (λ b. cond (not b) (Err StrangeNode)
-          (cond (not (is_neighbour g (event_node e) (named_node e))) (Err StrangeNeighbour) (answer_of g K t w e))) node
+      (cond (not (is_neighbour g (event_node e) (named_node e))) (Err StrangeNeighbour) (answer_of g K t w e))) node
       ∙ ap (λ b. cond (not b) (Err StrangeNeighbour) (answer_of g K t w e)) stranger
 
   pub planned_of-named : list_any (λ i. i == event_node e) g.ids ≡ true
       → is_neighbour g (event_node e) (named_node e) ≡ true → planned_of g K t w e ≡ answer_of g K t w e
   planned_of-named node neighbour =
       ap (λ b. cond (not b) (Err StrangeNode)
-          (cond (not (is_neighbour g (event_node e) (named_node e))) (Err StrangeNeighbour) (answer_of g K t w e))) node
+      (cond (not (is_neighbour g (event_node e) (named_node e))) (Err StrangeNeighbour) (answer_of g K t w e))) node
       ∙ ap (λ b. cond (not b) (Err StrangeNeighbour) (answer_of g K t w e)) neighbour
 
 -- the plan of an event at its node, where the neighbour that it names is one: what its rows answer there
@@ -43,7 +43,7 @@ pub planned_at : {L : Type 0} (c at : Configuration L) (e : Event) (id : ℕ) (n
     → id ≡ event_node e → named ≡ named_node e
     → IsNode c.graph (event_node e) → is_neighbour at.graph id named ≡ true
     → planned_of c.graph (node_bound c.graph) (tree_of c) (wave_of c) e
-        ≡ answer_of at.graph (node_bound at.graph) (tree_of at) (wave_of at) e
+    ≡ answer_of at.graph (node_bound at.graph) (tree_of at) (wave_of at) e
 planned_at {L = L} c at e id named same id_is named_is node near =
     planned_of-named c.graph (node_bound c.graph) (tree_of c) (wave_of c) e (a_node c.graph.ids (event_node e) node)
     (ap (is_neighbour c.graph (event_node e)) (sym named_is) ∙ ap (λ i. is_neighbour c.graph i named) (sym id_is)
@@ -54,7 +54,7 @@ planned_at {L = L} c at e id named same id_is named_is node near =
 pub view_of-parts : (g : Graph) (t : ℕ → TreeRegs) (w : ℕ → WaveRegs) (at id : ℕ) (v : LocalView) (own : WaveRegs)
     (father : FatherSeen) (children : List (ℕ × WaveRegs)) → at ≡ id →
     v ≡ record { own = own; father = father; children = children } → w at ≡ own → father ≡ father_seen g t w at
-        → children ≡ map (λ c. (c, w c)) (children_of g t at) → view_of g t w id ≡ v
+    → children ≡ map (λ c. (c, w c)) (children_of g t at) → view_of g t w id ≡ v
 view_of-parts g t w at id v own father children same is own_is father_is children_is =
     let P : ℕ → Type 0 = λ k. view_of g t w k ≡ v in
     let parts : view_of g t w at ≡ v = cc in

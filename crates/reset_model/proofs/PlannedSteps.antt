@@ -52,8 +52,8 @@ module _ (g : Graph) (K : ℕ) (t : ℕ → TreeRegs) (w : ℕ → WaveRegs) (gr
   by_wave : (e : Event) → tree_effect K t e ≡ t (event_node e)
       → reply_of t w e ≡ cond (completes_of t e) (Complete (wave_effect t w e).session) Applied
       → (r : Result Fired StepRefusal)
-          → IsAnswer r (IsEnabled g K t w e) (IsSpent w e) (wave_effect t w e) (completes_of t e) (restarts_of e)
-          → IsAnswered e r
+      → IsAnswer r (IsEnabled g K t w e) (IsSpent w e) (wave_effect t w e) (completes_of t e) (restarts_of e)
+      → IsAnswered e r
   by_wave e stays reply (Ok (Tree regs)) h = absurd h
   by_wave e stays reply (Ok (Wave move)) h = (
     h.0,
@@ -148,9 +148,11 @@ module _ (g : Graph) (K : ℕ) (t : ℕ → TreeRegs) (w : ℕ → WaveRegs) (gr
       at true false node named =
           let other = stranger (event_node e) (named_node e) named in
           subst Steps (sym (planned_of-strange_neighbour g K t w e node named) ∙ is)
-              (strange_neighbour other.0 (Contains-has g.ids (event_node e) node) other.1 other.2)
+          (strange_neighbour other.0 (Contains-has g.ids (event_node e) node) other.1 other.2)
       at true true node named =
           subst Steps (sym (planned_of-named g K t w e node named) ∙ is)
-          (let named_nodes : IsNamed g e = record { node = Contains-has g.ids (event_node e) node;
-              neighbour = neighbour (event_node e) (named_node e) named } in
+          (let named_nodes : IsNamed g e = record {
+            node = Contains-has g.ids (event_node e) node;
+            neighbour = neighbour (event_node e) (named_node e) named;
+          } in
           step_of e named_nodes (answer_of g K t w e) (answered e named_nodes))

@@ -34,8 +34,11 @@ module _ {L : Type 0} (app : App L) where
       → Answers app c e d c' → IsKept c c'
   did_keeps c c' e (Did reply) graph shaped sound is =
       let step : IsStep app c e c' = (outcome_is_step app c graph shaped e c' reply is).0 in
-      record { graph = step_graph app c c' e step; shaped = outcome_shaped app c shaped e c' reply is;
-          sound = step_sound app c c' e graph step sound }
+      record {
+        graph = step_graph app c c' e step;
+        shaped = outcome_shaped app c shaped e c' reply is;
+        sound = step_sound app c c' e graph step sound;
+      }
   did_keeps c c' e (Refused f) graph shaped sound is =
       let Kept : Configuration L → Type 0 = λ k. IsKept c k in
       subst Kept (sym is.1) (record { graph = refl; shaped = shaped; sound = sound })
@@ -100,9 +103,9 @@ opened_resets app (Mend i ∷ es) (Did reply ∷ ds) c some =
 opened_resets app (Act i case with ∷ es) (Did reply ∷ ds) c some =
     let ss : List AbstractStep = shadow app (after app c (Act i case with) (Did reply)) es ds in
     let rest : HasReset ss =
-        opened_resets app es ds (after app c (Act i case with) (Did reply)) (omega (arith, some)) in
+    opened_resets app es ds (after app c (Act i case with) (Did reply)) (omega (arith, some)) in
     elim (has_joined c.graph (wave_of c) i) as (λ b. HasReset (cond b (Do i case with ∷ []) [] ++ ss))
-        [ true ↦ rest | false ↦ rest ]
+    [ true ↦ rest | false ↦ rest ]
 
 module _ {L : Type 0} (app : App L) (Inv : Graph → (ℕ → L) → Type 0)
     (keeps : (g : Graph) (bound : ℕ) → IsGraph g → length g.ids ≤ bound → Keeps app g bound (Inv g))

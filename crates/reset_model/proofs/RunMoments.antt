@@ -28,7 +28,7 @@ module _ {L : Type 0} (app : App L) where
 
   module _ (g : Graph) (graph : IsGraph g) (P : Moment L → Type 0)
       (steps : (c c' : Configuration L) (e : Event) (reply : Reply) → c.graph ≡ g → IsShaped c → IsSound c
-          → Answers app c e (Did reply) c' → P (moment e reply c')) where
+      → Answers app c e (Did reply) c' → P (moment e reply c')) where
     -- what holds of each step from a sound configuration holds of each moment
     each_moment : (es : List Event) (ds : List Done) (c c' : Configuration L) → c.graph ≡ g → IsShaped c → IsSound c
         → IsRun app c es ds c' → All P (moments app c es ds)
@@ -40,8 +40,8 @@ module _ {L : Type 0} (app : App L) where
         let left : after app c e (Did reply) ≡ run.0 = ap (left_of c) run.1 in
         let Each : Configuration L → Type 0 = λ k. All P (moment e reply k ∷ moments app k es ds) in
         subst Each (sym left)
-            (All-cons P (moment e reply run.0) (moments app run.0 es ds) (steps c run.0 e reply on shaped sound run.1)
-            rest)
+        (All-cons P (moment e reply run.0) (moments app run.0 es ds) (steps c run.0 e reply on shaped sound run.1)
+        rest)
     each_moment (e ∷ es) (Refused f ∷ ds) c c' on shaped sound run =
         let From : Configuration L → Type 0 = λ k. IsRun app k es ds c' in
         each_moment es ds c c' on shaped sound (subst From run.1.1 run.2)
@@ -50,17 +50,17 @@ module _ {L : Type 0} (app : App L) where
 
   -- the run from c to c' goes by these moments to one, and on by the rest
   record IsSplit (c c' : Configuration L) (before : List (Moment L)) (m : Moment L) (rest : List (Moment L)) : Type 0
-      where
-    done : List Event
-    told : List Done
-    here : Configuration L
-    run : IsRun app c done told here
-    moments_before : moments app c done told ≡ before
-    step : Answers app here m.event (Did m.reply) m.left
-    todo : List Event
-    to_tell : List Done
-    goes_on : IsRun app m.left todo to_tell c'
-    moments_after : moments app m.left todo to_tell ≡ rest
+    where
+      done : List Event
+      told : List Done
+      here : Configuration L
+      run : IsRun app c done told here
+      moments_before : moments app c done told ≡ before
+      step : Answers app here m.event (Did m.reply) m.left
+      todo : List Event
+      to_tell : List Done
+      goes_on : IsRun app m.left todo to_tell c'
+      moments_after : moments app m.left todo to_tell ≡ rest
 
   none_split : (before rest : List (Moment L)) (m : Moment L) → [] ≡ before ++ m ∷ rest → ⊥
   none_split [] rest m is = absurd (cc)
@@ -151,15 +151,15 @@ module _ {L : Type 0} (app : App L) where
         let Joins : Event → Type 0 = λ d. Answers app c d (Did reply) c' in
         let Starts : Graph → Type 0 = λ h. local_of app c' i ≡ app.start h i in
         subst Starts on
-            (joined_restarted app c c' i
-            (outcome_is_step app c (subst IsGraph (sym on) graph) shaped (Join i) c' reply (subst Joins joins is)).0)
+        (joined_restarted app c c' i
+        (outcome_is_step app c (subst IsGraph (sym on) graph) shaped (Join i) c' reply (subst Joins joins is)).0)
 
   module _ (es : List Event) (ds : List Done) (c c' : Configuration L) (graph : IsGraph c.graph)
       (whole : IsConnected c.graph) (shaped : IsShaped c) (sound : IsSound c) (run : IsRun app c es ds c') where
     opened_once : (before between rest : List (Moment L)) (o m : Moment L) (p x : ℕ)
         → moments app c es ds ≡ before ++ o ∷ (between ++ m ∷ rest)
         → o.event ≡ Open p → times (is_open_at p) (events_of between) ≡ 0 → m.event ≡ Finish p → m.reply ≡ Complete x
-            → JoinsOnce c.graph p (events_of between)
+        → JoinsOnce c.graph p (events_of between)
     opened_once before between rest o m p x is opens none finishes told =
         let first = split es ds c c' before o (between ++ m ∷ rest) run is in
         let second = split first.todo first.to_tell o.left c' between m rest first.goes_on first.moments_after in
@@ -167,25 +167,25 @@ module _ {L : Type 0} (app : App L) where
         let there = subst IsGraph (sym kept.graph) graph in
         let whole_there = subst IsConnected (sym kept.graph) whole in
         let same : events_of between ≡ applied second.done second.told =
-            ap events_of (sym second.moments_before) ∙ events-applied second.done second.told o.left in
+        ap events_of (sym second.moments_before) ∙ events-applied second.done second.told o.left in
         let None : List Event → Type 0 = λ xs. times (is_open_at p) xs ≡ 0 in
         let Opens : Event → Type 0 = λ e. Answers app first.here e (Did o.reply) o.left in
         let Finishes : Event → Reply → Type 0 = λ e reply. Answers app second.here e (Did reply) m.left in
         let Once : Graph → List Event → Type 0 = λ g xs. JoinsOnce g p xs in
         let last : Finishes (Finish p) (Complete x) =
-            subst (Finishes (Finish p)) told (subst (λ e. Finishes e m.reply) finishes second.step) in
+        subst (Finishes (Finish p)) told (subst (λ e. Finishes e m.reply) finishes second.step) in
         let counts =
-            joins_once app first.here o.left second.here m.left p p x o.reply second.done second.told there whole_there
-            kept.shaped kept.sound in
+        joins_once app first.here o.left second.here m.left p p x o.reply second.done second.told there whole_there
+        kept.shaped kept.sound in
         let once : Once first.here.graph (applied second.done second.told) =
-            (counts (subst Opens opens first.step) second.run (subst None same none) last).1 in
+        (counts (subst Opens opens first.step) second.run (subst None same none) last).1 in
         subst (Once c.graph) (sym same) (subst (λ g. Once g (applied second.done second.told)) kept.graph once)
 
     pub completions_hold : CompletionsHold app c.graph (moments app c es ds)
     completions_hold =
         let Completes : Moment L → Type 0 = λ m. (x : ℕ) → m.reply ≡ Complete x → IsComplete m.left x in
         let Restarts : Moment L → Type 0 =
-            λ m. (i : ℕ) → m.event ≡ Join i → local_of app m.left i ≡ app.start c.graph i in
+        λ m. (i : ℕ) → m.event ≡ Join i → local_of app m.left i ≡ app.start c.graph i in
         record {
           complete =
               each_moment c.graph graph Completes (completes c.graph graph whole) es ds c c' refl shaped sound run;

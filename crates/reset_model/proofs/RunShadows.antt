@@ -44,7 +44,7 @@ module _ {L : Type 0} (app : App L) (c : Configuration L) (graph : IsGraph c.gra
   row_shadow : (e : Event) (t' : ℕ → TreeRegs) (w' : ℕ → WaveRegs) (l' : ℕ → L)
       → RegsStep c.graph (node_bound c.graph) (tree_of c) (wave_of c) e t' w'
       → Changes c.graph (local_of app c) (event_node e) (local_effect app c.graph (local_of app c) e) l' → GoesOn w' l'
-          → GoesFirst e
+      → GoesFirst e
   row_shadow (Claim i) t' w' l' step locals on =
       absurd (sound_rests c.graph (node_bound c.graph) (tree_of c) (wave_of c) (Claim i) step.node sound (claims i)
       step.enabled)
@@ -60,9 +60,12 @@ module _ {L : Type 0} (app : App L) (c : Configuration L) (graph : IsGraph c.gra
   row_shadow (Relay i k) t' w' l' step locals on =
       run_from app c.graph (node_bound c.graph) ss _ _ v'
       (nothing app c.graph graph (wave_of c) w' i _ (local_of app c) l' step.waves refl locals) on
-  row_shadow (Open i) t' w' l' step locals on =
-      (abstract_at app c.graph graph w' l', opening app c.graph graph whole (node_bound c.graph) (tree_of c) t'
-      (wave_of c) w' sound i (local_of app c) l' locals step, on)
+  row_shadow (Open i) t' w' l' step locals on = (
+    abstract_at app c.graph graph w' l',
+    opening app c.graph graph whole (node_bound c.graph) (tree_of c) t'
+        (wave_of c) w' sound i (local_of app c) l' locals step,
+    on,
+  )
   row_shadow (Join i) t' w' l' step locals on =
       run_from app c.graph (node_bound c.graph) ss _ _ v'
       (joining app c.graph graph whole (node_bound c.graph) (tree_of c) t' (wave_of c) w' sound i (local_of app c) l'
@@ -82,19 +85,22 @@ module _ {L : Type 0} (app : App L) (c : Configuration L) (graph : IsGraph c.gra
       at : (b : Bool) → has_joined c.graph (wave_of c) i ≡ b → GoesFirst (Act i case with)
       at true joined =
           let Goes : Bool → Type 0 =
-              λ b. IsAbstractRun app c.graph (node_bound c.graph) (cond b (Do i case with ∷ []) [] ++ ss)
-              (abstract_of app c) v' in
-          subst Goes (sym joined)
-              (abstract_at app c.graph graph (wave_of c) (local_of app c'), acting app c.graph graph
-              (node_bound c.graph) (wave_of c) i case with (local_of app c) (local_of app c') step.locals joined, on)
+          λ b. IsAbstractRun app c.graph (node_bound c.graph) (cond b (Do i case with ∷ []) [] ++ ss)
+          (abstract_of app c) v' in
+          subst Goes (sym joined) (
+            abstract_at app c.graph graph (wave_of c) (local_of app c'),
+            acting app c.graph graph
+                (node_bound c.graph) (wave_of c) i case with (local_of app c) (local_of app c') step.locals joined,
+            on,
+          )
       at false apart =
           let Goes : Bool → Type 0 =
-              λ b. IsAbstractRun app c.graph (node_bound c.graph) (cond b (Do i case with ∷ []) [] ++ ss)
-              (abstract_of app c) v' in
+          λ b. IsAbstractRun app c.graph (node_bound c.graph) (cond b (Do i case with ∷ []) [] ++ ss)
+          (abstract_of app c) v' in
           subst Goes (sym apart)
-              (run_from app c.graph (node_bound c.graph) ss _ _ v'
-              (acting_apart app c.graph graph (node_bound c.graph) (wave_of c) i case with (local_of app c)
-              (local_of app c') step.locals apart) on)
+          (run_from app c.graph (node_bound c.graph) ss _ _ v'
+          (acting_apart app c.graph graph (node_bound c.graph) (wave_of c) i case with (local_of app c)
+          (local_of app c') step.locals apart) on)
 
   -- from the configuration after the step on, the abstract machine goes to v'
   abbrev pub GoesAfter : Configuration L → Type 0
@@ -103,16 +109,16 @@ module _ {L : Type 0} (app : App L) (c : Configuration L) (graph : IsGraph c.gra
   pub step_shadow : (e : Event) (c' : Configuration L) → IsStep app c e c' → GoesAfter c' → GoesFirst e
   step_shadow e c' (row_step step) on =
       let Goes : Graph → Type 0 =
-          λ g. IsAbstractRun app g (node_bound g) ss
-          (λ i. cond (has_joined g (wave_of c') i) (local_of app c' i) (app.start g i)) v' in
+      λ g. IsAbstractRun app g (node_bound g) ss
+      (λ i. cond (has_joined g (wave_of c') i) (local_of app c' i) (app.start g i)) v' in
       row_shadow e (tree_of c') (wave_of c') (local_of app c') step.regs step.locals (subst Goes step.graph on)
   step_shadow e c' (act_step i case with is step) on =
       let Goes : Graph → Type 0 =
-          λ g. IsAbstractRun app g (node_bound g) ss
-          (λ i. cond (has_joined g (wave_of c') i) (local_of app c' i) (app.start g i)) v' in
+      λ g. IsAbstractRun app g (node_bound g) ss
+      (λ i. cond (has_joined g (wave_of c') i) (local_of app c' i) (app.start g i)) v' in
       let waves : wave_of c' ≡ wave_of c = rw (step.graph, step.waves) refl in
       let same : GoesOn (wave_of c) (local_of app c') =
-          subst (λ w. GoesOn w (local_of app c')) waves (subst Goes step.graph on) in
+      subst (λ w. GoesOn w (local_of app c')) waves (subst Goes step.graph on) in
       let First : Event → Type 0 = λ d. GoesFirst d in
       subst First (sym is) (act_shadow i case with c' step same)
 
@@ -130,14 +136,14 @@ module _ {L : Type 0} (app : App L) where
       let step : IsStep app c e m = (outcome_is_step app c graph shaped e m reply run.1).0 in
       let same = step_graph app c m e step in
       let rest =
-          run_shadow es ds m c' (subst IsGraph (sym same) graph) (subst IsConnected (sym same) whole)
-          (outcome_shaped app c shaped e m reply run.1) (step_sound app c m e graph step sound) run.2 in
+      run_shadow es ds m c' (subst IsGraph (sym same) graph) (subst IsConnected (sym same) whole)
+      (outcome_shaped app c shaped e m reply run.1) (step_sound app c m e graph step sound) run.2 in
       let left : left_of c (outcome_of app c e) ≡ m = ap (left_of c) run.1 in
       let Goes : Configuration L → Type 0 =
-          λ k. IsAbstractRun app c.graph (node_bound c.graph) (shadow_of c e ++ shadow app k es ds) (abstract_of app c)
-          (abstract_of app c') in
+      λ k. IsAbstractRun app c.graph (node_bound c.graph) (shadow_of c e ++ shadow app k es ds) (abstract_of app c)
+      (abstract_of app c') in
       subst Goes (sym left)
-          (step_shadow app c graph whole sound (shadow app m es ds) (abstract_of app c') e m step rest)
+      (step_shadow app c graph whole sound (shadow app m es ds) (abstract_of app c') e m step rest)
   run_shadow (e ∷ es) (Refused f ∷ ds) c c' graph whole shaped sound run =
       let From : Configuration L → Type 0 = λ k. IsRun app k es ds c' in
       run_shadow es ds c c' graph whole shaped sound (subst From run.1.1 run.2)

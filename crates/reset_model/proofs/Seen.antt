@@ -39,9 +39,11 @@ module _ (g : Graph) (t : ℕ → TreeRegs) (w : ℕ → WaveRegs) (i : ℕ) whe
           ⊎ ((nat_eq (t i).father i ≡ false) × ((t i).father ≢ i)) → (b : Bool) → are_linked g i (t i).father ≡ b
           → IsFather g t i (t i).father × (up ≡ w (t i).father)
       own (inl e) b linked = let h = father_seen-itself e.1 in cc
-      own (inr e) true linked =
-          (record { named = refl; linked = linked }, let h = other_father e.1
-          ∙ ap (λ b. cond b (Is (w (t i).father)) Lost) linked in cc)
+      own (inr e) true linked = (
+        record { named = refl; linked = linked },
+        let h = other_father e.1
+            ∙ ap (λ b. cond b (Is (w (t i).father)) Lost) linked in cc,
+      )
       own (inr e) false linked = let h = other_father e.1 ∙ ap (λ b. cond b (Is (w (t i).father)) Lost) linked in cc
 
   -- a node is a root where it is its own father

@@ -21,22 +21,34 @@ length-put_at (k ∷ ks) [] i y same = same
 length-put_at (k ∷ ks) (x ∷ xs) i y same =
     let rest : length (put_at ks xs i y) ≡ length ks = length-put_at ks xs i y (omega (arith, same)) in
     elim (nat_eq k i) as (λ b. length (cond b (y ∷ xs) (x ∷ put_at ks xs i y)) ≡ length (k ∷ ks))
-        [ true ↦ same | false ↦ omega (arith, rest) ]
+    [ true ↦ same | false ↦ omega (arith, rest) ]
 
 module _ {L : Type 0} (app : App L) (c : Configuration L) (shaped : IsShaped c) where
   effect_shaped : (i : ℕ) (does : Effect L) → IsShaped (after_effect c i does)
   effect_shaped i (Tree regs) =
-      record { trees = length-put_at c.graph.ids c.trees i regs shaped.trees; waves = shaped.waves;
-      locals = shaped.locals }
+      record {
+        trees = length-put_at c.graph.ids c.trees i regs shaped.trees;
+        waves = shaped.waves;
+        locals = shaped.locals;
+      }
   effect_shaped i (Wave regs None) =
-      record { trees = shaped.trees; waves = length-put_at c.graph.ids c.waves i regs shaped.waves;
-      locals = shaped.locals }
+      record {
+        trees = shaped.trees;
+        waves = length-put_at c.graph.ids c.waves i regs shaped.waves;
+        locals = shaped.locals;
+      }
   effect_shaped i (Wave regs (Some local)) =
-      record { trees = shaped.trees; waves = length-put_at c.graph.ids c.waves i regs shaped.waves;
-      locals = length-put_at c.graph.ids c.locals i local shaped.locals }
+      record {
+        trees = shaped.trees;
+        waves = length-put_at c.graph.ids c.waves i regs shaped.waves;
+        locals = length-put_at c.graph.ids c.locals i local shaped.locals;
+      }
   effect_shaped i (Local local) =
-      record { trees = shaped.trees; waves = shaped.waves;
-      locals = length-put_at c.graph.ids c.locals i local shaped.locals }
+      record {
+        trees = shaped.trees;
+        waves = shaped.waves;
+        locals = length-put_at c.graph.ids c.locals i local shaped.locals;
+      }
 
   abbrev LeavesShaped : Result (Configuration L × Reply) StepRefusal → Type 0
   LeavesShaped r = MatchResult r (λ after. IsShaped after.0) (λ f. Unit {0})

@@ -51,7 +51,7 @@ booted_trees app g c graph boot i (k, short, here) =
     let at : slice_index g.ids k ≡ i = get_or_default g.ids k 0 i short ∙ here in
     let booted = boot.trees.each k d (omega (arith, short, boot.trees.count)) in
     let regs : tree_map g c.trees (slice_index g.ids k) ≡ slice_index_or c.trees k d =
-        value_at-place d g.ids c.trees k graph.ascending boot.trees.count short in
+    value_at-place d g.ids c.trees k graph.ascending boot.trees.count short in
     let P : ℕ → Type 0 = λ j. IsBooted g j (tree_map g c.trees j) in
     subst P at (subst (IsBooted g (slice_index g.ids k)) (sym regs) booted)
 
@@ -66,7 +66,7 @@ pub boot_wave_picture : {L : Type 0} (app : App L) (g : Graph) (c : Configuratio
 boot_wave_picture app g c boot =
     let waves = booted_waves app g c boot in
     let same : (i j : ℕ) → (wave_of c i).session ≡ (wave_of c j).session =
-        λ i j. ap (λ (r : WaveRegs). r.session) (waves i ∙ sym (waves j)) in
+    λ i j. ap (λ (r : WaveRegs). r.session) (waves i ∙ sym (waves j)) in
     let awake : (i : ℕ) → reset_at (wave_of c) i ≡ false = λ i. ap (λ (r : WaveRegs). is_reset r.phase) (waves i) in
     record {
       upward = λ i node joined. same _ _;
@@ -94,8 +94,8 @@ pub step_sound : {L : Type 0} (app : App L) (c c' : Configuration L) (e : Event)
 step_sound app c c' e graph (row_step step) sound =
     let P : Graph → Type 0 = λ g. Sound g (node_bound g) (tree_of c') (wave_of c') in
     subst P (sym step.graph)
-        (sound_stays c.graph (node_bound c.graph) (tree_of c) (tree_of c') (wave_of c) (wave_of c') e graph sound
-        step.regs)
+    (sound_stays c.graph (node_bound c.graph) (tree_of c) (tree_of c') (wave_of c) (wave_of c') e graph sound
+    step.regs)
 step_sound app c c' e graph (act_step i case with is step) sound =
     same_regs_sound c c' step.graph step.trees step.waves sound
 
@@ -118,13 +118,13 @@ finished app c c' i x graph whole (act_step k case with is step) sound b own tol
 finished app c c' i x graph whole (row_step step) sound false other told = absurd (cc)
 finished app c c' i x graph whole (row_step step) sound true own told =
     let P : Graph → Type 0 =
-        λ g. (j : ℕ) → IsNode g j
-        → (reset_at (wave_of c') j ≡ false) × ((wave_of c' j).session ≡ (wave_of c i).session) in
+    λ g. (j : ℕ) → IsNode g j
+    → (reset_at (wave_of c') j ≡ false) × ((wave_of c' j).session ≡ (wave_of c i).session) in
     let session : (wave_of c i).session ≡ x = cc in
     let all =
-        subst P (sym step.graph)
-        (completed c.graph (node_bound c.graph) (tree_of c) (tree_of c') (wave_of c) (wave_of c') i graph whole sound
-        (eqb-true _ _ own) step.regs) in
+    subst P (sym step.graph)
+    (completed c.graph (node_bound c.graph) (tree_of c) (tree_of c') (wave_of c) (wave_of c') i graph whole sound
+    (eqb-true _ _ own) step.regs) in
     λ j node. ((all j node).0, (all j node).1 ∙ session)
 
 pub step_complete : {L : Type 0} (app : App L) (c c' : Configuration L) (e : Event) (x : ℕ) → IsGraph c.graph

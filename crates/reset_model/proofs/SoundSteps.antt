@@ -134,12 +134,12 @@ module _ (g : Graph) (graph : IsGraph g) (K : ℕ) (t t' : ℕ → TreeRegs) (w 
         let apart = not_own_father g t c j graph father in
         ⊎_elim
         (λ (child : c ≡ i). holds_alike (here_alike c child) (other_alike j up_node (λ same. apart (child ∙ sym same)))
-            (upward j (subst (λ k. IsFather g t k j) child father)))
+        (upward j (subst (λ k. IsFather g t k j) child father)))
         (λ (other : c ≢ i). ⊎_elim
         (λ (up : j ≡ i). holds_alike (other_alike c node other) (here_alike j up)
-            (below c (subst (λ k. IsFather g t c k) up father)))
+        (below c (subst (λ k. IsFather g t c k) up father)))
         (λ (neither : j ≢ i). holds_alike (other_alike c node other) (other_alike j up_node neither)
-            (sound.wave c j father))
+        (sound.wave c j father))
         (cases_eq j i))
         (cases_eq c i)
 
@@ -192,7 +192,7 @@ module _ (g : Graph) (graph : IsGraph g) (K : ℕ) (t t' : ℕ → TreeRegs) (w 
         resetting = λ some. inl (ap (λ n. (w n).session) other.named);
       })
       (λ c child. below_opened (w c) (w i) x awake refl (ap (λ n. (w n).session) father.named ∙ next)
-          (sound.wave c i child))
+      (sound.wave c i child))
 
   finished_sound : Finishes g t w i → Changes g w i (record { phase = Normal; session = (w i).session }) w'
       → Sound g K t' w'

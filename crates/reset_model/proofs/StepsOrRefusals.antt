@@ -102,4 +102,4 @@ step_or_refusal app c c' e f graph (act_step i case with is step) (row_refused i
 step_or_refusal app c c' e f graph (act_step i case with is step) (act_refused i' case' with' is' refused) =
     acts_apart app c.graph (node_bound c.graph) (wave_of c) (local_of app c) (local_of app c') i' case' with' f
     (subst (Acts app c.graph (node_bound c.graph) (wave_of c) (local_of app c) (local_of app c')) (sym is ∙ is')
-        step.locals) refused
+    step.locals) refused

@@ -41,8 +41,8 @@ filter-map p f [] = refl
 filter-map p f (x ∷ xs) =
     ap (λ l. cond (p (f x)) (f x ∷ l) l) (filter-map p f xs)
     ∙ elim (p (f x))
-        as (λ b. cond b (f x ∷ map f (filter (λ y. p (f y)) xs)) (map f (filter (λ y. p (f y)) xs))
-        ≡ map f (cond b (x ∷ filter (λ y. p (f y)) xs) (filter (λ y. p (f y)) xs))) [ true ↦ refl | false ↦ refl ]
+    as (λ b. cond b (f x ∷ map f (filter (λ y. p (f y)) xs)) (map f (filter (λ y. p (f y)) xs))
+    ≡ map f (cond b (x ∷ filter (λ y. p (f y)) xs) (filter (λ y. p (f y)) xs))) [ true ↦ refl | false ↦ refl ]
 
 find-map : {X Y : Type 0} (q : Y → Bool) (f : X → Y) (xs : List X)
     → find q (map f xs) ≡ option_map f (find (λ x. q (f x)) xs)
@@ -50,8 +50,8 @@ find-map q f [] = refl
 find-map q f (x ∷ xs) =
     ap (λ o. cond (q (f x)) (Some (f x)) o) (find-map q f xs)
     ∙ elim (q (f x))
-        as (λ b. cond b (Some (f x)) (option_map f (find (λ y. q (f y)) xs))
-        ≡ option_map f (cond b (Some x) (find (λ y. q (f y)) xs))) [ true ↦ refl | false ↦ refl ]
+    as (λ b. cond b (Some (f x)) (option_map f (find (λ y. q (f y)) xs))
+    ≡ option_map f (cond b (Some x) (find (λ y. q (f y)) xs))) [ true ↦ refl | false ↦ refl ]
 
 module _ {L : Type 0} (app : App L) (c : Configuration L) where
   -- what is found among neighbours is named by its identifier
@@ -87,11 +87,11 @@ module _ {L : Type 0} (app : App L) (c : Configuration L) where
         let f = (tree_of c i).father in
         let own : Option WaveRegs → FatherSeen = λ o. cond (f == i) Itself (option_map_or (λ up. Is up) o Lost) in
         ap own (ap (lookup (λ k. k == f)) (waves-is (neighbours_of c.graph i))
-            ∙ lookup-among (wave_of c) (neighbours_of c.graph i) f
-            ∙ ap (λ b. cond b (Some (wave_of c f)) None) (among-linked i f))
+        ∙ lookup-among (wave_of c) (neighbours_of c.graph i) f
+        ∙ ap (λ b. cond b (Some (wave_of c f)) None) (among-linked i f))
         ∙ elim (are_linked c.graph i f)
-            as (λ b. own (cond b (Some (wave_of c f)) None) ≡ cond (f == i) Itself (cond b (Is (wave_of c f)) Lost))
-            [ true ↦ refl | false ↦ refl ]
+        as (λ b. own (cond b (Some (wave_of c f)) None) ≡ cond (f == i) Itself (cond b (Is (wave_of c f)) Lost))
+        [ true ↦ refl | false ↦ refl ]
 
     children-is : (i : ℕ)
         → near_waves (filter (λ n. n.tree.father == i) (view_of app c i).near)
@@ -107,7 +107,7 @@ module _ {L : Type 0} (app : App L) (c : Configuration L) where
         → row_fired (view_of app c (event_node e)) e ≡ answer_of c.graph (node_bound c.graph) (tree_of c) (wave_of c) e
     rows-is e =
         ap₂ (λ v w. first_answer (cond (is_of_tree e) (layer.Tree v) (layer.Wave w)) (named_node e) (cases_of e))
-            (tree_view-is (event_node e)) (wave_view-is (event_node e))
+        (tree_view-is (event_node e)) (wave_view-is (event_node e))
 
     -- ---- what an action reads
 
@@ -119,13 +119,13 @@ module _ {L : Type 0} (app : App L) (c : Configuration L) where
         let js = neighbours_of c.graph i in
         let read : List (Neighbour L) → Result L StepRefusal = λ ns.
         judged (misfit (app.reads case) with) (near_apart (view_of app c i) ns)
-            (app.next i c.graph.bound case with (local_of app c i) (map (λ n. (n.id, n.local)) ns)) in
+        (app.next i c.graph.bound case with (local_of app c i) (map (λ n. (n.id, n.local)) ns)) in
         ap read (filter-map (λ (n : Neighbour L). p n.id) (near_of app c) js)
         ∙ ap₂ (λ apart locals. judged (misfit (app.reads case) with) apart
-            (app.next i c.graph.bound case with (local_of app c i) locals))
+        (app.next i c.graph.bound case with (local_of app c i) locals))
         (ap (option_map (λ (n : Neighbour L). n.id))
-            (find-map (λ (n : Neighbour L). not (n.wave.session == (wave_of c i).session)) (near_of app c)
-            (filter p js))
+        (find-map (λ (n : Neighbour L). not (n.wave.session == (wave_of c i).session)) (near_of app c)
+        (filter p js))
         ∙ id_of-found (first_apart (wave_of c) i (filter p js)))
         (map-map (λ (n : Neighbour L). (n.id, n.local)) (near_of app c) (filter p js))
 
@@ -139,20 +139,20 @@ module _ {L : Type 0} (app : App L) (c : Configuration L) where
     at_node : (e : Event)
         → outcome_of app c e ≡ cond (not (list_any (λ k. k == event_node e) c.graph.ids)) (Err StrangeNode)
         (cond (not (is_neighbour c.graph (event_node e) (named_node e))) (Err StrangeNeighbour)
-            (written c (event_node e) (named_planned app (view_of app c (event_node e)) e)))
+        (written c (event_node e) (named_planned app (view_of app c (event_node e)) e)))
     at_node e =
         let i = event_node e in
         let there = list_any (λ k. k == i) c.graph.ids in
         ap₂ (λ own near. cond (not there) (Err StrangeNode)
-            (written c i
-            (cond (not own) (Err StrangeNode)
-            (cond (not near) (Err StrangeNeighbour) (named_planned app (view_of app c i) e)))))
+        (written c i
+        (cond (not own) (Err StrangeNode)
+        (cond (not near) (Err StrangeNeighbour) (named_planned app (view_of app c i) e)))))
         (eq-eqb i i refl) (sees-is i (named_node e))
         ∙ ap (λ r. cond (not there) (Err StrangeNode) r)
         (elim (is_neighbour c.graph i (named_node e))
-            as (λ b. written c i (cond (not b) (Err StrangeNeighbour) (named_planned app (view_of app c i) e))
-            ≡ cond (not b) (Err StrangeNeighbour) (written c i (named_planned app (view_of app c i) e)))
-            [ true ↦ refl | false ↦ refl ])
+        as (λ b. written c i (cond (not b) (Err StrangeNeighbour) (named_planned app (view_of app c i) e))
+        ≡ cond (not b) (Err StrangeNeighbour) (written c i (named_planned app (view_of app c i) e)))
+        [ true ↦ refl | false ↦ refl ])
 
     -- what a row leaves is written alike
     row_written : (i : ℕ) (r : Result Fired StepRefusal)
@@ -192,7 +192,7 @@ module _ {L : Type 0} (app : App L) (c : Configuration L) where
         at_node e
         ∙ ap (λ r. cond (not there) (Err StrangeNode) (cond (not near) (Err StrangeNeighbour) r))
         (ap (written c i) (row ∙ ap (row_planned (view_of app c i)) (rows-is e))
-            ∙ row_written i (answer_of c.graph (node_bound c.graph) (tree_of c) (wave_of c) e))
+        ∙ row_written i (answer_of c.graph (node_bound c.graph) (tree_of c) (wave_of c) e))
         ∙ done-ends i there near (answer_of c.graph (node_bound c.graph) (tree_of c) (wave_of c) e)
 
     pub outcome-is : (e : Event) → outcome_of app c e ≡ map_outcome app c e
@@ -210,5 +210,5 @@ module _ {L : Type 0} (app : App L) (c : Configuration L) where
         let near = is_neighbour c.graph i with in
         at_node (Act i case with)
         ∙ ap (λ r. cond (not there) (Err StrangeNode)
-            (cond (not near) (Err StrangeNeighbour) (written c i (case_planned r)))) (case-is i case with)
+        (cond (not near) (Err StrangeNeighbour) (written c i (case_planned r)))) (case-is i case with)
         ∙ acted-ends i there near (fitted_of app c.graph (node_bound c.graph) (wave_of c) (local_of app c) i case with)

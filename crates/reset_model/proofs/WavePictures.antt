@@ -41,7 +41,7 @@ module _ (g : Graph) (graph : IsGraph g) (whole : IsConnected g) (t : ℕ → Tr
   joined_or_behind =
       down_tree g graph whole t picture (λ i. HasJoined g w i ⊎ IsBehind g w i) (inl refl)
       (λ i j father up. ⊎_elim (λ joined. below_joined i j father joined)
-          (λ behind. inr (below_behind i j father behind)) up)
+      (λ behind. inr (below_behind i j father behind)) up)
 
   fathers_joined : (i : ℕ) → IsNode g i → HasJoined g w i → HasJoined g w (t i).father
   fathers_joined i node joined =
@@ -106,7 +106,7 @@ module _ (g : Graph) (graph : IsGraph g) (t : ℕ → TreeRegs) (w : ℕ → Wav
       (λ (apart : HasJoined g w i → ⊥).
       let above : HasJoined g w (t i).father → ⊥ = λ joined. true≢false (sym (wave.edge i node apart joined) ∙ up) in
       next_injective (w i).session (w (t i).father).session
-          ((wave.outside i node apart).1 ∙ sym (wave.outside (t i).father up_node above).1))
+      ((wave.outside i node apart).1 ∙ sym (wave.outside (t i).father up_node above).1))
       (cases_eq (w i).session (w (leader g i)).session)
 
   late_under : reset_at w (t i).father ≡ true
@@ -117,7 +117,7 @@ module _ (g : Graph) (graph : IsGraph g) (t : ℕ → TreeRegs) (w : ℕ → Wav
       ⊎_elim
       (λ joined. joined)
       (λ (apart : HasJoined g w (t i).father → ⊥). absurd
-          (true≢false (sym up ∙ (wave.outside (t i).father up_node apart).0)))
+      (true≢false (sym up ∙ (wave.outside (t i).father up_node apart).0)))
       (cases_eq (w (t i).father).session (w (leader g i)).session) in
       ⊎_elim
       (λ (joined : HasJoined g w i). inl (joined ∙ sym above))
@@ -130,8 +130,8 @@ module _ (g : Graph) (graph : IsGraph g) (t : ℕ → TreeRegs) (w : ℕ → Wav
 picture_sound : (g : Graph) → IsGraph g → (t : ℕ → TreeRegs) (w : ℕ → WaveRegs) → WavePicture g t w → WaveSound g t w
 picture_sound g graph t w wave i j father =
     let held =
-        holds_under g graph t w wave i (graph.ends i j father.linked)
-        (rw father.named (linked_node g graph i j father.linked)) in
+    holds_under g graph t w wave i (graph.ends i j father.linked)
+    (rw father.named (linked_node g graph i j father.linked)) in
     rw father.named at held
 
 pub sound_where_picture : (g : Graph) (t : ℕ → TreeRegs) (w : ℕ → WaveRegs) → IsGraph g → IsConnected g

@@ -100,13 +100,13 @@ module _ (g : Graph) (K : ℕ) (t : ℕ → TreeRegs) (w : ℕ → WaveRegs) (gr
   pub relay_is : (i c : ℕ) → (b : Bool) → has (children_of g t i) c ≡ b → WaveAnswers (Relay i c)
   relay_is i c true among =
       let regs : child_regs c (children i) ≡ Some (record { phase = (w c).phase; session = (w c).session }) =
-          lookup-among w (children_of g t i) c ∙ ap (λ b. cond b (Some (w c)) None) among in
+      lookup-among w (children_of g t i) c ∙ ap (λ b. cond b (Some (w c)) None) among in
       answer_as (answer (Relay i c)) ⊥ false
-          (relay_answers (w i).phase (w i).session (father_seen g t w i) (children i) c (w c).phase (w c).session regs)
+      (relay_answers (w i).phase (w i).session (father_seen g t w i) (children i) c (w c).phase (w c).session regs)
       (λ h. (h.0, is_child-IsFather g t i c graph among, h.1)) (λ h. (h.0, h.2)) (λ _. refl) refl
   relay_is i c false among =
       relay_answers-stranger (w i).phase (w i).session (father_seen g t w i) (children i) c _ _
-          (lookup-among w (children_of g t i) c ∙ ap (λ b. cond b (Some (w c)) None) among)
+      (lookup-among w (children_of g t i) c ∙ ap (λ b. cond b (Some (w c)) None) among)
       (λ h. absurd (true≢false (sym (IsFather-is_child g t i c graph h.1) ∙ among)))
 
   pub join_is : (i : ℕ) → WaveAnswers (Join i)
@@ -119,17 +119,27 @@ module _ (g : Graph) (K : ℕ) (t : ℕ → TreeRegs) (w : ℕ → WaveRegs) (gr
           let seen = IsFather-father_seen g t w i h.up h.father in
           let reset : is_reset (w (t i).father).phase ≡ true = ap (λ r. is_reset r.phase) (sym seen.1) ∙ h.reset in
           let next : (w (t i).father).session ≡ next_session (w i).session =
-              ap (λ r. r.session) (sym seen.1) ∙ h.next in
+          ap (λ r. r.session) (sym seen.1) ∙ h.next in
           ⊎_elim (λ p. join_normal _ seen.0 reset p next) (λ p. join_asked _ seen.0 reset p next)
-              (awake_phase _ h.awake)
+          (awake_phase _ h.awake)
 
       back : Joins g t w i → IsInvited (w i).phase (w i).session (father_seen g t w i)
       back (join_normal j father reset p next) =
-          record { up = w j; father = father_seen-IsFather g t w i graph j father; reset = reset; awake = ap is_reset p;
-          next = next }
+          record {
+            up = w j;
+            father = father_seen-IsFather g t w i graph j father;
+            reset = reset;
+            awake = ap is_reset p;
+            next = next;
+          }
       back (join_asked j father reset p next) =
-          record { up = w j; father = father_seen-IsFather g t w i graph j father; reset = reset; awake = ap is_reset p;
-          next = next }
+          record {
+            up = w j;
+            father = father_seen-IsFather g t w i graph j father;
+            reset = reset;
+            awake = ap is_reset p;
+            next = next;
+          }
 
       same : IsInvited (w i).phase (w i).session (father_seen g t w i)
           → record { phase = Reset; session = (father_regs (w i) (father_seen g t w i)).session }
@@ -146,10 +156,12 @@ module _ (g : Graph) (K : ℕ) (t : ℕ → TreeRegs) (w : ℕ → WaveRegs) (gr
     where
       there : ((w i).phase ≡ Reset) × (children_done (w i).session (children i) ≡ true) → Finishes g t w i
       there h =
-          record { reset = h.0;
-          children =
-          λ c father. parts (is_reset (w c).phase) refl
-          (each-children_done w (w i).session (children_of g t i) h.1 c (IsFather-is_child g t i c graph father)) }
+          record {
+            reset = h.0;
+            children =
+                λ c father. parts (is_reset (w c).phase) refl
+                (each-children_done w (w i).session (children_of g t i) h.1 c (IsFather-is_child g t i c graph father));
+          }
 
       back : Finishes g t w i → ((w i).phase ≡ Reset) × (children_done (w i).session (children i) ≡ true)
       back h = (
@@ -175,14 +187,23 @@ module _ (g : Graph) (K : ℕ) (t : ℕ → TreeRegs) (w : ℕ → WaveRegs) (gr
       back (mend_reset j father above own) =
           record { up = w j; father = father_seen-IsFather g t w i graph j father; contradict = one_reset above own }
       back (mend_number j father above own number) =
-          record { up = w j; father = father_seen-IsFather g t w i graph j father;
-          contradict = other_number above own number }
+          record {
+            up = w j;
+            father = father_seen-IsFather g t w i graph j father;
+            contradict = other_number above own number;
+          }
       back (mend_both j father above own number) =
-          record { up = w j; father = father_seen-IsFather g t w i graph j father;
-          contradict = both_reset above own number }
+          record {
+            up = w j;
+            father = father_seen-IsFather g t w i graph j father;
+            contradict = both_reset above own number;
+          }
       back (mend_late j father above own number next) =
-          record { up = w j; father = father_seen-IsFather g t w i graph j father;
-          contradict = too_late above own number next }
+          record {
+            up = w j;
+            father = father_seen-IsFather g t w i graph j father;
+            contradict = too_late above own number next;
+          }
 
       same : IsTorn (w i).phase (w i).session (father_seen g t w i)
           → father_regs (w i) (father_seen g t w i) ≡ w (t i).father
@@ -194,5 +215,5 @@ module _ (g : Graph) (K : ℕ) (t : ℕ → TreeRegs) (w : ℕ → WaveRegs) (gr
   pub open_is : (i : ℕ) → WaveAnswers (Open i)
   open_is i =
       answer_as (answer (Open i)) (4294967295 ≤ (w i).session) true
-          (open_answers (w i).phase (w i).session (father_seen g t w i) (children i))
+      (open_answers (w i).phase (w i).session (father_seen g t w i) (children i))
       (λ h. (itself-father_seen g t w i h.0, h.1)) (λ h. (father_seen-itself g t w i h.0, h.1)) (λ _. refl) refl

@@ -41,7 +41,7 @@ parts p s f cs = record { own = record { phase = p; session = s }; father = f; c
 
 pub request_answers : (p : Phase) (s : ℕ) (f : FatherSeen) (cs : List (ℕ × WaveRegs)) →
     IsAnswer (first_answer (Wave (parts p s f cs)) None (1 ∷ [])) (p ≡ Normal) ⊥
-        (record { phase = Initiate; session = s }) false false
+    (record { phase = Initiate; session = s }) false false
 request_answers Normal s f cs = (refl, λ h. h, refl, refl, refl)
 request_answers Initiate s f cs = λ e. cc
 request_answers Reset s f cs = λ e. cc
@@ -56,7 +56,7 @@ relay_answers-stranger p s f cs c E regs is none = rw is none
 pub relay_answers : (p : Phase) (s : ℕ) (f : FatherSeen) (cs : List (ℕ × WaveRegs)) (c : ℕ) (q : Phase) (u : ℕ)
     → child_regs c cs ≡ Some (record { phase = q; session = u }) →
     IsAnswer (first_answer (Wave (parts p s f cs)) (Some c) (2 ∷ [])) ((p ≡ Normal) × (q ≡ Initiate)) ⊥
-        (record { phase = Initiate; session = s }) false false
+    (record { phase = Initiate; session = s }) false false
 relay_answers Normal s f cs c Initiate u is = rw is ((refl, refl), λ h. h, refl, refl, refl)
 relay_answers Normal s f cs c Normal u is = rw is (λ e. let h = e.1 in cc)
 relay_answers Normal s f cs c Reset u is = rw is (λ e. let h = e.1 in cc)
@@ -65,7 +65,7 @@ relay_answers Reset s f cs c q u is = rw is (λ e. let h = e.0 in cc)
 
 pub open_answers : (p : Phase) (s : ℕ) (f : FatherSeen) (cs : List (ℕ × WaveRegs)) →
     IsAnswer (first_answer (Wave (parts p s f cs)) None (3 ∷ [])) ((f ≡ Itself) × (p ≡ Initiate)) (4294967295 ≤ s)
-        (record { phase = Reset; session = next_session s }) false true
+    (record { phase = Reset; session = next_session s }) false true
 open_answers Initiate s Itself cs = first (nat_lt s 4294967295) refl
   where
     first : (b : Bool) → nat_lt s 4294967295 ≡ b
@@ -94,7 +94,7 @@ pub record IsInvited (p : Phase) (s : ℕ) (f : FatherSeen) : Type 0 where
 
 pub join_answers : (p : Phase) (s : ℕ) (f : FatherSeen) (cs : List (ℕ × WaveRegs)) →
     IsAnswer (first_answer (Wave (parts p s f cs)) None (4 ∷ 5 ∷ [])) (IsInvited p s f) ⊥
-        (record { phase = Reset; session = (father_regs (record { phase = p; session = s }) f).session }) false true
+    (record { phase = Reset; session = (father_regs (record { phase = p; session = s }) f).session }) false true
 join_answers p s Itself cs = λ e. let h = e.father in cc
 join_answers p s Lost cs = λ e. let h = e.father in cc
 join_answers p s (Is up) cs = at p up.phase up.session (eqb_tells up.session (next_session s))
@@ -111,24 +111,46 @@ join_answers p s (Is up) cs = at p up.phase up.session (eqb_tells up.session (ne
         → ((nat_eq u (next_session s) ≡ true) × (u ≡ next_session s))
         ⊎ ((nat_eq u (next_session s) ≡ false) × (u ≢ next_session s)) →
         IsAnswer (first_answer (Wave (parts p s (Is (record { phase = q; session = u })) cs)) None (4 ∷ 5 ∷ []))
-            (IsInvited p s (Is (record { phase = q; session = u }))) ⊥ (record { phase = Reset; session = u }) false
-            true
+        (IsInvited p s (Is (record { phase = q; session = u }))) ⊥ (record { phase = Reset; session = u }) false
+        true
     at p Normal u t = λ e. asleep e refl
     at p Initiate u t = λ e. asleep e refl
     at Normal Reset u (inl t) =
-        rw t.0 (record { up = record { phase = Reset; session = u }; father = refl; reset = refl; awake = refl;
-        next = t.1 }, λ h. h, refl, refl, refl)
+        rw t.0 (
+          record {
+            up = record { phase = Reset; session = u };
+            father = refl;
+            reset = refl;
+            awake = refl;
+            next = t.1;
+          },
+          λ h. h,
+          refl,
+          refl,
+          refl,
+        )
     at Normal Reset u (inr t) = rw t.0 (λ e. t.1 (ap (λ r. r.session) (up_of e) ∙ e.next))
     at Initiate Reset u (inl t) =
-        rw t.0 (record { up = record { phase = Reset; session = u }; father = refl; reset = refl; awake = refl;
-        next = t.1 }, λ h. h, refl, refl, refl)
+        rw t.0 (
+          record {
+            up = record { phase = Reset; session = u };
+            father = refl;
+            reset = refl;
+            awake = refl;
+            next = t.1;
+          },
+          λ h. h,
+          refl,
+          refl,
+          refl,
+        )
     at Initiate Reset u (inr t) = rw t.0 (λ e. t.1 (ap (λ r. r.session) (up_of e) ∙ e.next))
     at Reset Reset u t = λ e. absurd (true≢false e.awake)
 
 pub finish_answers : (p : Phase) (s : ℕ) (f : FatherSeen) (cs : List (ℕ × WaveRegs)) (done : Bool)
     → children_done s cs ≡ done →
     IsAnswer (first_answer (Wave (parts p s f cs)) None (6 ∷ 7 ∷ [])) ((p ≡ Reset) × (done ≡ true)) ⊥
-        (record { phase = Normal; session = s }) (is_root f) false
+    (record { phase = Normal; session = s }) (is_root f) false
 finish_answers Normal s f cs done is = idle f
   where
     idle : (f : FatherSeen)
@@ -194,7 +216,7 @@ agree_late own above (inr same) (too_late f g h k) = k same
 
 pub mend_answers : (p : Phase) (s : ℕ) (f : FatherSeen) (cs : List (ℕ × WaveRegs)) →
     IsAnswer (first_answer (Wave (parts p s f cs)) None (8 ∷ 9 ∷ 10 ∷ 11 ∷ [])) (IsTorn p s f) ⊥
-        (father_regs (record { phase = p; session = s }) f) false false
+    (father_regs (record { phase = p; session = s }) f) false false
 mend_answers p s Itself cs = λ e. let h = e.father in cc
 mend_answers p s Lost cs = λ e. let h = e.father in cc
 mend_answers p s (Is up) cs =
@@ -211,9 +233,9 @@ mend_answers p s (Is up) cs =
         → ((nat_eq s up.session ≡ true) × (s ≡ up.session)) ⊎ ((nat_eq s up.session ≡ false) × (s ≢ up.session))
         → ((nat_eq up.session s ≡ true) × (up.session ≡ s)) ⊎ ((nat_eq up.session s ≡ false) × (up.session ≢ s))
         → ((nat_eq up.session (next_session s) ≡ true) × (up.session ≡ next_session s))
-            ⊎ ((nat_eq up.session (next_session s) ≡ false) × (up.session ≢ next_session s))
+        ⊎ ((nat_eq up.session (next_session s) ≡ false) × (up.session ≢ next_session s))
         → IsAnswer (first_answer (Wave (parts p s (Is up) cs)) None (8 ∷ 9 ∷ 10 ∷ 11 ∷ [])) (IsTorn p s (Is up)) ⊥ up
-            false false
+        false false
     at true false own above t u v = rw (own, above) (tear (one_reset above own), λ h. h, refl, refl, refl)
     at false false own above (inl t) u v = rw (own, above, t.0) (torn (agree_awake own above t.1))
     at false false own above (inr t) u v =

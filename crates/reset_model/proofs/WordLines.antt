@@ -61,6 +61,6 @@ module _ {X : Type 0} (words : X → List (List ℕ)) where
   pub no_line_found : {Fits : X → Type 0} → ((x : X) → Fits x → words_of (join_with_byte 32 (words x)) ≡ words x)
       → (line : List ℕ) (ws : List (List ℕ)) (o : Option X)
       → words_of line ≡ ws → IfNone o ((x : X) → Fits x → ws ≡ words x → ⊥)
-          → IfNone o ((x : X) → Fits x → line ≡ join_with_byte 32 (words x) → ⊥)
+      → IfNone o ((x : X) → Fits x → line ≡ join_with_byte 32 (words x) → ⊥)
   no_line_found words_of-its line ws o split none =
       none_then o none (λ apart x fits is. apart x fits (sym split ∙ ap words_of is ∙ words_of-its x fits))

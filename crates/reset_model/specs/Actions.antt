@@ -56,7 +56,7 @@ pub data ActRefused {L : Type 0} (app : App L) (g : Graph) (K : ℕ) (w : ℕ �
       → ActRefused app g K w l i case with (Disagrees j)
   not_enabled : IsNode g i → Fits g i (app.reads case) with → AllAgree g w i (is_read g i (app.reads case) with)
       → app.next i K case with (l i) (seen (is_read g i (app.reads case) with) l g.ids) ≡ None
-          → ActRefused app g K w l i case with NotEnabled
+      → ActRefused app g K w l i case with NotEnabled
 
 -- ---- the same as the node judges it
 
@@ -95,7 +95,7 @@ abbrev pub fitted_of : {L : Type 0} → App L → Graph → ℕ → (ℕ → Wav
 fitted_of app g K w l i case with =
     let read : List ℕ = filter (reads_near (app.reads case) with) (neighbours_of g i) in
     judged (misfit (app.reads case) with) (first_apart w i read)
-        (app.next i K case with (l i) (map (λ j. (j, l j)) read))
+    (app.next i K case with (l i) (map (λ j. (j, l j)) read))
 
 -- the local state that the action leaves, or the first refusal
 abbrev pub acted_of : {L : Type 0} → App L → Graph → ℕ → (ℕ → WaveRegs) → (ℕ → L) → ℕ → ℕ → Option ℕ

@@ -67,6 +67,6 @@ pub record CompletionsHold {L : Type 0} (app : App L) (g : Graph) (ms : List (Mo
   pub complete : All (λ (m : Moment L). (session : ℕ) → m.reply ≡ Complete session → IsComplete m.left session) ms
   pub once : (before between rest : List (Moment L)) (opening completion : Moment L) (top session : ℕ)
       → ms ≡ before ++ opening ∷ (between ++ completion ∷ rest) → opening.event ≡ Open top
-          → times (is_open_at top) (events_of between) ≡ 0
+      → times (is_open_at top) (events_of between) ≡ 0
       → completion.event ≡ Finish top → completion.reply ≡ Complete session → JoinsOnce g top (events_of between)
   pub restarts : All (λ (m : Moment L). (i : ℕ) → m.event ≡ Join i → local_of app m.left i ≡ app.start g i) ms

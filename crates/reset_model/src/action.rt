@@ -26,7 +26,7 @@ pub fn on_clock<P: Application>(
     ensures exact { MatchResult result
         (λ local. P.app.next here.id here.k choice.case choice.with own.now (seen_values seen.now) ≡ Some local)
         (λ f. f ≢ StepRefusal.NoMemory → (f ≡ StepRefusal.NotEnabled)
-            × (P.app.next here.id here.k choice.case choice.with own.now (seen_values seen.now) ≡ None)) }
+        × (P.app.next here.id here.k choice.case choice.with own.now (seen_values seen.now) ≡ None)) }
 {
     match P::on_clock(alloc, here, choice.case, choice.with, own, seen) {
         Ok(local) => Ok(local),

@@ -25,7 +25,7 @@ pub fn refinement<P: Application>()
     ensures { (c c' : Configuration P.Local) (es : List Event) (ds : List Done) → IsGraph c.graph → IsConnected c.graph
         → IsShaped c → IsSound c → IsRun P.app c es ds c'
         → IsAbstractRun P.app c.graph (node_bound c.graph) (shadow P.app c es ds) (abstract_of P.app c)
-            (abstract_of P.app c') }
+        (abstract_of P.app c') }
 {}
 
 /// Whatever events are tried and however they are answered, the graph stays, no node loses its

@@ -36,9 +36,11 @@ second_of false b h = absurd (true≢false (sym h))
 
 IsWord-graphic : (w : List ℕ) → list_all is_ascii_graphic w ≡ true → IsWord w
 IsWord-graphic [] h = tt
-IsWord-graphic (b ∷ bs) h =
-    (graphic_not_space b (first_of (is_ascii_graphic b) (list_all is_ascii_graphic bs) h), IsWord-graphic bs
-        (second_of (is_ascii_graphic b) (list_all is_ascii_graphic bs) h))
+IsWord-graphic (b ∷ bs) h = (
+  graphic_not_space b (first_of (is_ascii_graphic b) (list_all is_ascii_graphic bs) h),
+  IsWord-graphic bs
+      (second_of (is_ascii_graphic b) (list_all is_ascii_graphic bs) h),
+)
 
 IsWord-name : (w : List ℕ) → IsTrue (is_name w) → IsWord w
 IsWord-name [] h = tt
@@ -65,14 +67,14 @@ pub words_of-named : (line : List ℕ) (at : ℕ) (w : List ℕ) (with : Option 
     → words_of line ≡ named_words at w with
 words_of-named line at w None fits name is =
     ap words_of is
-        ∙ ap (λ ws. codes "act" ∷ ws)
-        (words_of-more (decimal at) w (IsWord-decimal at fits.0)
-        ∙ ap (λ ws. decimal at ∷ ws) (words_of-word w (IsWord-name w name)))
+    ∙ ap (λ ws. codes "act" ∷ ws)
+    (words_of-more (decimal at) w (IsWord-decimal at fits.0)
+    ∙ ap (λ ws. decimal at ∷ ws) (words_of-word w (IsWord-name w name)))
 words_of-named line at w (Some j) fits name is =
     let last = words_of-more w (decimal j) (IsWord-name w name) ∙ ap (λ ws. w ∷ ws) (words_of-decimal j fits.2) in
     ap words_of is
-        ∙ ap (λ ws. codes "act" ∷ ws)
-        (words_of-more (decimal at) _ (IsWord-decimal at fits.0) ∙ ap (λ ws. decimal at ∷ ws) last)
+    ∙ ap (λ ws. codes "act" ∷ ws)
+    (words_of-more (decimal at) _ (IsWord-decimal at fits.0) ∙ ap (λ ws. decimal at ∷ ws) last)
 
 -- no command has them in its own words
 pub named_apart : (c : Command) → CommandFits c → (at : ℕ) (w : List ℕ) (with : Option ℕ) → Fits (Act at 0 with)
@@ -98,8 +100,8 @@ one_named names m n w x (Some j) (Some k) p q h =
     let word : w ≡ x = cc in
     let near : j ≡ k = same_number j k p.2 q.2 (cc) in
     ap (λ i. Step (Act i (case_named names w) (Some j))) same
-        ∙ ap (λ y. Step (Act n (case_named names y) (Some j))) word
-        ∙ ap (λ i. Step (Act n (case_named names x) (Some i))) near
+    ∙ ap (λ y. Step (Act n (case_named names y) (Some j))) word
+    ∙ ap (λ i. Step (Act n (case_named names x) (Some i))) near
 one_named names m n w x v u p q h = absurd (omega (arith, ap length h))
 
 -- ---- the case that is named, tried one after another
@@ -116,8 +118,8 @@ cases_next n low =
 
 named_next : (names : ℕ → Option (List ℕ)) (word : List ℕ) (n : ℕ) → n ≤ 16
     → named_from names word n
-        ≡ unwrap_or
-        (cond (is_called (names n) word) (Some n) (find (λ n. is_called (names n) word) (cases_from (n + 1)))) 0
+    ≡ unwrap_or
+    (cond (is_called (names n) word) (Some n) (find (λ n. is_called (names n) word) (cases_from (n + 1)))) 0
 named_next names word n low = ap (λ ns. unwrap_or (find (λ n. is_called (names n) word) ns) 0) (cases_next n low)
 
 pub named_first : (names : ℕ → Option (List ℕ)) (word : List ℕ) → named_from names word 1 ≡ case_named names word
@@ -151,24 +153,27 @@ all_small at (Some j) small near = (small, omega arith, near)
 pub two_not_named : (line command rest : List ℕ) → words_of line ≡ command ∷ words_of rest → words_of rest ≡ rest ∷ []
     → IsNotNamed line
 two_not_named line command rest split one at word with fits name is =
-    omega (arith, ap length
-        (sym (words_of-named line at word with fits name is) ∙ cut_twice line command rest (rest ∷ []) split one))
+    omega (
+      arith,
+      ap length
+          (sym (words_of-named line at word with fits name is) ∙ cut_twice line command rest (rest ∷ []) split one),
+    )
 
 -- nor is one where something else than a word and a number follows the second
 pub end_not_named : (line command rest at last : List ℕ) → words_of line ≡ command ∷ words_of rest
     → words_of rest ≡ at ∷ words_of last
     → ((word : List ℕ) (with : Option ℕ) → IfSome with (λ j. j < 2 ^ 32)
-        → words_of last ≡ word ∷ neighbour_words with → ⊥) → IsNotNamed line
+    → words_of last ≡ word ∷ neighbour_words with → ⊥) → IsNotNamed line
 end_not_named line command rest at last first second none m word with fits name is =
     let same =
-        sym (cut_twice line command rest (at ∷ words_of last) first second)
-        ∙ words_of-named line m word with fits name is in
+    sym (cut_twice line command rest (at ∷ words_of last) first second)
+    ∙ words_of-named line m word with fits name is in
     none word with (action_small m 0 with fits).2 (cc)
 
 -- the words of a line of three and perhaps a number
 three_words : (line command rest at last word : List ℕ) (with : Option ℕ)
     → words_of line ≡ command ∷ words_of rest → words_of rest ≡ at ∷ words_of last
-        → words_of last ≡ word ∷ neighbour_words with
+    → words_of last ≡ word ∷ neighbour_words with
     → words_of line ≡ command ∷ at ∷ word ∷ neighbour_words with
 three_words line command rest at last word with first second third =
     cut_twice line command rest _ first (cut_twice rest at last _ second third)
@@ -177,25 +182,25 @@ three_words line command rest at last word with first second third =
 -- name
 pub three_found : (names : ℕ → Option (List ℕ)) (line command rest at last word : List ℕ) (with : Option ℕ) (m case : ℕ)
     → words_of line ≡ command ∷ words_of rest → words_of rest ≡ at ∷ words_of last
-        → words_of last ≡ word ∷ neighbour_words with → IfSome with (λ j. j < 2 ^ 32)
+    → words_of last ≡ word ∷ neighbour_words with → IfSome with (λ j. j < 2 ^ 32)
     → command ≡ codes "act" → at ≡ decimal m → m < 2 ^ 32 → IsTrue (is_name word) → case ≡ case_named names word
-        → Spells names line (Step (Act m case with))
+    → Spells names line (Step (Act m case with))
 three_found names line command rest at last word with m case first second third near act number small name named =
     let split = three_words line command rest at last word with first second third in
     let ends = word ∷ neighbour_words with in
     let is =
-        line-words line (named_words m word with)
-        (split ∙ ap (λ w. w ∷ at ∷ ends) act ∙ ap (λ w. codes "act" ∷ w ∷ ends) number) in
+    line-words line (named_words m word with)
+    (split ∙ ap (λ w. w ∷ at ∷ ends) act ∙ ap (λ w. codes "act" ∷ w ∷ ends) number) in
     by_name m word with (all_small m with small near) name is (ap (λ n. Step (Act m n with)) named)
 
 -- and nowhere else
 pub three_only : (line command rest at last word : List ℕ) (with : Option ℕ)
     → words_of line ≡ command ∷ words_of rest → words_of rest ≡ at ∷ words_of last
-        → words_of last ≡ word ∷ neighbour_words with
+    → words_of last ≡ word ∷ neighbour_words with
     → ((m : ℕ) → m < 2 ^ 32 → command ≡ codes "act" → at ≡ decimal m → IsTrue (is_name word) → ⊥) → IsNotNamed line
 three_only line command rest at last word with first second third apart m w v fits name is =
     let same =
-        sym (three_words line command rest at last word with first second third)
-        ∙ words_of-named line m w v fits name is in
+    sym (three_words line command rest at last word with first second third)
+    ∙ words_of-named line m w v fits name is in
     let third : w ≡ word = cc in
     apart m (action_small m 0 v fits).0 (cc) (cc) (rw (← third) name)

@@ -54,7 +54,7 @@ words_of-plain_line c h = words_of-command_line c (plain_fits c h)
 -- where a line is that of no fault and of no other command, it is that of none
 pub none_of_both : (line : List ℕ) → ((f : Fault) → CommandFits (Inject f) → line ≡ command_line (Inject f) → ⊥)
     → ((c : Command) → IsPlain c → line ≡ command_line c → ⊥) → (c : Command) → CommandFits c → line ≡ command_line c
-        → ⊥
+    → ⊥
 none_of_both line fault plain (Step e) h = plain (Step e) h
 none_of_both line fault plain (Inject f) h = fault f h
 none_of_both line fault plain (Draw seed) h = plain (Draw seed) h

@@ -74,8 +74,8 @@ spelled_once names line c d (by_name m w v fits name is made) (by_words q is_too
     absurd (named_apart d q m w v fits name (words_of_line line d q is_too ∙ words_of-named line m w v fits name is))
 spelled_once names line c d (by_name m w v fits name is made) (by_name n x u fits_too name_too is_too made_too) =
     made ∙ one_named names m n w x v u fits fits_too
-        (sym (words_of-named line m w v fits name is) ∙ words_of-named line n x u fits_too name_too is_too)
-        ∙ sym made_too
+    (sym (words_of-named line m w v fits name is) ∙ words_of-named line n x u fits_too name_too is_too)
+    ∙ sym made_too
 
 -- ---- what the search for a line finds
 
@@ -109,11 +109,11 @@ search-some : (names : ℕ → Option (List ℕ)) (line : List ℕ) (ss : List S
 search-some names line [] c spell has spelled = absurd has
 search-some names line (s ∷ ss) c spell (inl here) spelled =
     here_or (bytes_eq line (join_with_byte 32 s.words)) s _ c (λ _. here.1)
-        (λ off. absurd (cc ((bytes_eq-Decides line (join_with_byte 32 s.words)).1 here.0, off)))
+    (λ off. absurd (cc ((bytes_eq-Decides line (join_with_byte 32 s.words)).1 here.0, off)))
 search-some names line (s ∷ ss) c spell (inr later) spelled =
     here_or (bytes_eq line (join_with_byte 32 s.words)) s _ c
     (λ here. spelled_once names line s.command c (spell.0 ((bytes_eq-Decides line (join_with_byte 32 s.words)).0 here))
-        spelled)
+    spelled)
     (λ _. search-some names line ss c spell.1 later spelled)
 
 search-none : (names : ℕ → Option (List ℕ)) (line : List ℕ) (ss : List Spelling) → AllSpell names line ss
@@ -121,7 +121,7 @@ search-none : (names : ℕ → Option (List ℕ)) (line : List ℕ) (ss : List S
 search-none names line [] spell none = refl
 search-none names line (s ∷ ss) spell none =
     none_or (bytes_eq line (join_with_byte 32 s.words)) s _
-        (λ here. none s.command (spell.0 ((bytes_eq-Decides line (join_with_byte 32 s.words)).0 here)))
+    (λ here. none s.command (spell.0 ((bytes_eq-Decides line (join_with_byte 32 s.words)).0 here)))
     (search-none names line ss spell.1 none)
 
 -- ---- the spellings with the numbers and the name of a line's words spell it
@@ -154,13 +154,25 @@ words_spell names line m n k p q r =
                       by_words p,
                       (
                         by_words (p, q),
-                        (by_words p,
-                            (by_words p,
-                            (by_words p,
-                            (by_words p,
-                            (by_words (p, case),
-                            (by_words (p, case, r),
-                            (by_words tt, (by_words p, (by_words p, (by_words p, (by_words p, tt))))))))))),
+                        (
+                          by_words p,
+                          (
+                            by_words p,
+                            (
+                              by_words p,
+                              (
+                                by_words p,
+                                (
+                                  by_words (p, case),
+                                  (
+                                    by_words (p, case, r),
+                                    (by_words tt, (by_words p, (by_words p, (by_words p, (by_words p, tt))))),
+                                  ),
+                                ),
+                              ),
+                            ),
+                          ),
+                        ),
                       ),
                     ),
                   ),
@@ -179,9 +191,11 @@ one_text (byte ∷ bytes) h = (((λ is. absurd (cc)), no_space (byte ∷ bytes) 
   where
     no_space : (xs : List ℕ) → list_all is_ascii_graphic xs ≡ true → HasNo 32 xs
     no_space [] all = tt
-    no_space (x ∷ xs) all =
-        ((λ is. absurd (true≢false (sym (and_parts _ _ all).0 ∙ ap is_ascii_graphic is))), no_space xs
-        (and_parts _ _ all).1)
+    no_space (x ∷ xs) all = (
+      (λ is. absurd (true≢false (sym (and_parts _ _ all).0 ∙ ap is_ascii_graphic is))),
+      no_space xs
+          (and_parts _ _ all).1,
+    )
 
 is_text-from : (text : List ℕ) → text ≢ [] → IsTrue (list_all is_ascii_graphic text) → is_text text ≡ true
 is_text-from [] some all = absurd (some refl)
@@ -192,8 +206,10 @@ faults_spell : (names : ℕ → Option (List ℕ)) (line : List ℕ) (m n k l : 
     → AllSpell names line (map in_words (faults_with m n k l))
 faults_spell names line m n k l p q r s = (
   by_words ((p, q, r, s), tt),
-  (by_words ((p, r), tt),
-      (by_words ((p, r), tt), (by_words ((p, r), tt), (by_words ((p, q), tt), (by_words ((p, q), tt), tt))))),
+  (
+    by_words ((p, r), tt),
+    (by_words ((p, r), tt), (by_words ((p, r), tt), (by_words ((p, q), tt), (by_words ((p, q), tt), tt)))),
+  ),
 )
 
 local_spells : (names : ℕ → Option (List ℕ)) (line : List ℕ) (m : ℕ) (text : List ℕ) → m < 2 ^ 32 → (b : Bool)
@@ -205,9 +221,10 @@ local_spells names line m text p false is = tt
 name_spells : (names : ℕ → Option (List ℕ)) (line : List ℕ) (m : ℕ) (w : List ℕ) (k : ℕ) → m < 2 ^ 32 → k < 2 ^ 32
     → (b : Bool) → is_name w ≡ b
     → AllSpell names line (if b then with_name names m w None ∷ with_name names m w (Some k) ∷ [] else [])
-name_spells names line m w k p r true name =
-    ((λ is. by_name m w None (p, omega arith) name is refl),
-    ((λ is. by_name m w (Some k) (p, omega arith, r) name is refl), tt))
+name_spells names line m w k p r true name = (
+  (λ is. by_name m w None (p, omega arith) name is refl),
+  ((λ is. by_name m w (Some k) (p, omega arith, r) name is refl), tt),
+)
 name_spells names line m w k p r false name = tt
 
 small : (ws : List (List ℕ)) (i : ℕ) → number_at ws i < 2 ^ 32
@@ -223,7 +240,7 @@ all_spell names line ws =
     both_spell names line (actions_with names (number_at ws 1) (word_at ws 2) n) (map in_words (own_commands ws))
     (name_spells names line (number_at ws 1) (word_at ws 2) n (small ws 1) (small ws 3) (is_name (word_at ws 2)) refl)
     (both_spell names line (map in_words (commands_with (number_at ws 1) m n))
-        (map in_words (faults_with m n k l ++ local_faults_with m (word_at ws 3)))
+    (map in_words (faults_with m n k l ++ local_faults_with m (word_at ws 3)))
     (words_spell names line (number_at ws 1) m n (small ws 1) (small ws 2) (small ws 3))
     (both_spell names line (map in_words (faults_with m n k l)) (map in_words (local_faults_with m (word_at ws 3)))
     (faults_spell names line m n k l (small ws 2) (small ws 3) (small ws 4) (small ws 5))
@@ -293,7 +310,7 @@ among (Watch a) h = (19, ap (λ n. Some (Watch n)) (value a h))
 names_among : (names : ℕ → Option (List ℕ)) (line : List ℕ) (at : ℕ) (w : List ℕ) (with : Option ℕ) (c : Command)
     → Fits (Act at 0 with) → (b : Bool) → b ≡ true
     → line ≡ join_with_byte 32 (named_words at w with) → c ≡ Step (Act at (case_named names w) with) → (m k : ℕ)
-        → m ≡ at → IfSome with (λ j. k ≡ j)
+    → m ≡ at → IfSome with (λ j. k ≡ j)
     → Has line c (if b then with_name names m w None ∷ with_name names m w (Some k) ∷ [] else [])
 names_among names line at w with c fits false name is made m k same near = absurd (true≢false (sym name))
 names_among names line at w None c fits true name is made m k same near = inl (rw same is, rw same (sym made))
@@ -316,9 +333,9 @@ spelled_among names line c (by_name at w with fits name is made) =
     let ws = named_words at w with in
     rw (words_of-named line at w with fits name is)
     (has_first line c (actions_with names (number_at ws 1) (word_at ws 2) (number_at ws 3))
-        (map in_words (own_commands ws))
+    (map in_words (own_commands ws))
     (names_among names line at w with c fits (is_name w) name is made (number_at ws 1) (number_at ws 3)
-        (value at (action_small at 0 with fits).0) (near_value at w with fits)))
+    (value at (action_small at 0 with fits).0) (near_value at w with fits)))
 
 -- ---- so the command that a line spells is the one that is found
 
@@ -328,7 +345,7 @@ pub command_of-is : (names : ℕ → Option (List ℕ)) (line : List ℕ) (o : O
 unfolding command_of
 command_of-is names line (Some c) found none =
     sym (search-some names line (spellings names (words_of line)) c (all_spell names line (words_of line))
-        (spelled_among names line c found) found)
+    (spelled_among names line c found) found)
 command_of-is names line None found none =
     sym (search-none names line (spellings names (words_of line)) (all_spell names line (words_of line)) none)
 
@@ -361,9 +378,9 @@ own_words_only names line None apart only = none
 pub fault_read : {E : Type 0} (names : ℕ → Option (List ℕ)) (line : List ℕ) (r : Result (Option Command) E)
     → IsNotNamed line
     → ((c : Command) → IsPlain c → line ≡ command_line c → ⊥)
-        → IfOk r (λ read. IfSome read (λ c. line ≡ command_line c)) → IfOk r (λ read. IfSome read CommandFits)
+    → IfOk r (λ read. IfSome read (λ c. line ≡ command_line c)) → IfOk r (λ read. IfSome read CommandFits)
     → IfOk r (λ read. IfNone read ((f : Fault) → CommandFits (Inject f) → line ≡ command_line (Inject f) → ⊥))
-        → IfOk r (λ read. read ≡ command_of names line)
+    → IfOk r (λ read. read ≡ command_of names line)
 fault_read names line (Ok (Some c)) apart plain found fits none =
     command_of-is names line (Some c) (by_words fits found) tt
 fault_read names line (Ok None) apart plain found fits none =
@@ -380,8 +397,13 @@ join_short : (words : List (List ℕ)) → AreShort words → length (join_with_
 join_short [] short = omega arith
 join_short (word ∷ []) short = omega (arith, short.0)
 join_short (word ∷ next ∷ words) short =
-    omega (arith, short.0, join_short (next ∷ words) short.1, length-append word
-        (32 ∷ join_with_byte 32 (next ∷ words)))
+    omega (
+      arith,
+      short.0,
+      join_short (next ∷ words) short.1,
+      length-append word
+          (32 ∷ join_with_byte 32 (next ∷ words)),
+    )
 
 number_short : (n : ℕ) → n < 2 ^ 32 → length (decimal n) ≤ 10
 number_short n small = length-decimal-le 10 n (omega arith) (omega (arith, small)) (omega (arith, small))

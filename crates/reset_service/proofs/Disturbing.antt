@@ -25,7 +25,7 @@ module _ {L : Type 0} (m : Meaning L) (c : Configuration L) (told by_seed : Faul
   -- and then the answer to the fault
   pub drawn_err : Appends a b (drawn_text told) → (d : Option (List ℕ)) {E : Type 0} (r : Result (Unit {0}) E)
       → OnErr r (AppendsFront b d (disturbed c (injected m.from_text c told)).1)
-          → OnErr r (AppendsFront a d (disturbed_by_drawn m c by_seed).1)
+      → OnErr r (AppendsFront a d (disturbed_by_drawn m c by_seed).1)
   drawn_err wrote d (Ok x) err = tt
   drawn_err wrote d (Err e) err =
       let P : Fault → Type 0 = λ f. AppendsFront a d (disturbed_by_drawn m c f).1 in

@@ -51,7 +51,7 @@ absent [] i h = refl
 absent (x ∷ xs) i h =
     let apart : x ≢ i = λ e. h (0, omega arith, e) in
     or_neither (nat_eq x i) (list_any (λ n. nat_eq n i) xs) (grind (arith, nat_tests))
-        (absent xs i (λ m. h (suc m.0, omega (arith, m.1), m.2)))
+    (absent xs i (λ m. h (suc m.0, omega (arith, m.1), m.2)))
 
 pub node_there : {L : Type 0} (c : Configuration L) (i : ℕ) → IsNode c.graph i → is_among i c.graph.ids ≡ true
 node_there c i node = present c.graph.ids i node.0 node.1 node.2
@@ -77,7 +77,7 @@ told_none c i text none = ap (λ (b : Bool). if b then text else refusal_text St
 -- the refusal of a call that refuses what is no node
 pub told_refused : {L : Type 0} (c : Configuration L) (i : ℕ) (text : List ℕ) (refusal : StepRefusal)
     → (refusal ≢ NoMemory → (refusal ≡ StrangeNode) × (IsNode c.graph i → ⊥)) → refusal ≢ NoMemory
-        → at_node c i text ≡ refusal_text refusal
+    → at_node c i text ≡ refusal_text refusal
 told_refused c i text refusal known memory =
     told_none c i text (known memory).1 ∙ ap refusal_text (sym (known memory).0)
 
@@ -94,12 +94,12 @@ told_at c line i inside =
 pub shown_node : {L : Type 0} (m : Meaning L) (c : Configuration L) (i : ℕ) (tree : TreeRegs) (wave : WaveRegs)
     (local : L) → IsNode c.graph i
     → tree ≡ tree_of c i → wave ≡ wave_of c i → local ≡ local_of m.app c i
-        → at_node c i (shown m c i) ≡ node_head i tree wave ++ ended (m.text local)
+    → at_node c i (shown m c i) ≡ node_head i tree wave ++ ended (m.text local)
 shown_node m c i tree wave local node t w l =
     told_node c i (shown m c i) node
-        ∙ ap (λ t. node_head i t (wave_of c i) ++ ended (m.text (local_of m.app c i))) (sym t)
+    ∙ ap (λ t. node_head i t (wave_of c i) ++ ended (m.text (local_of m.app c i))) (sym t)
     ∙ ap (λ w. node_head i tree w ++ ended (m.text (local_of m.app c i))) (sym w)
-        ∙ ap (λ l. node_head i tree wave ++ ended (m.text l)) (sym l)
+    ∙ ap (λ l. node_head i tree wave ++ ended (m.text l)) (sym l)
 
 -- ---- enabled rows
 
@@ -145,7 +145,7 @@ faults_status-is m c told is = ap found_status is
 -- what is told of a node is its alarm
 pub told_alarm : {L : Type 0} (app : App L) (c : Configuration L) (i : ℕ) (told : Option LinkFault) → IsNode c.graph i
     → IfSome told (λ fault. IsNode c.graph i × (alarm_of app c i ≡ Some fault))
-        → IfNone told (IsNode c.graph i → alarm_of app c i ≡ None)
+    → IfNone told (IsNode c.graph i → alarm_of app c i ≡ None)
     → told ≡ alarm_of app c i
 told_alarm app c i (Some fault) node found none = sym found.1
 told_alarm app c i None node found none = sym (none node)
@@ -159,7 +159,7 @@ alarm_line-is m c i told is = ap alarm_text (sym is)
 pub alarm_node : {L : Type 0} (m : Meaning L) (c : Configuration L) (i : ℕ) (told : Option LinkFault)
     → is_among i c.graph.ids ≡ true
     → IfSome told (λ fault. IsNode c.graph i × (alarm_of m.app c i ≡ Some fault))
-        → IfNone told (IsNode c.graph i → alarm_of m.app c i ≡ None)
+    → IfNone told (IsNode c.graph i → alarm_of m.app c i ≡ None)
     → at_node c i (alarm_line m c i) ≡ alarm_text told
 alarm_node m c i told there found none =
     let node = node_of c i there in
@@ -172,7 +172,7 @@ pub watched-is : {L : Type 0} (m : Meaning L) (c : Configuration L) (i : ℕ) (t
 unfolding watched alarm_line
 watched-is {L = L} m c i told is =
     let answer : Option LinkFault → Configuration L × List ℕ =
-        λ o. ((after_alarm m c i o).0, alarm_text o ++ (after_alarm m c i o).1) in
+    λ o. ((after_alarm m c i o).0, alarm_text o ++ (after_alarm m c i o).1) in
     ap answer (sym is)
 
 -- ---- the newest session

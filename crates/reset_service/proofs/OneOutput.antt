@@ -59,17 +59,17 @@ one_front : (xs ys after behind : List (List ℕ)) → HasNoSeparator xs → Has
 one_front [] [] after behind none nor is = let same : separator ∷ after ≡ separator ∷ behind = is in (refl, cc)
 one_front [] (y ∷ ys) after behind none nor is =
     let same : separator ∷ after ≡ y ∷ ys ++ separator ∷ behind = is in let first : y ≡ separator =
-        cc in absurd (nor 0 [] (omega arith) first)
+    cc in absurd (nor 0 [] (omega arith) first)
 one_front (x ∷ xs) [] after behind none nor is =
     let same : x ∷ xs ++ separator ∷ after ≡ separator ∷ behind = is in let first : x ≡ separator =
-        cc in absurd (none 0 [] (omega arith) first)
+    cc in absurd (none 0 [] (omega arith) first)
 one_front (x ∷ xs) (y ∷ ys) after behind none nor is =
     let same : x ∷ xs ++ separator ∷ after ≡ y ∷ ys ++ separator ∷ behind = is in
     let first : x ≡ y = cc in
     let rest : xs ++ separator ∷ after ≡ ys ++ separator ∷ behind = cc in
     let both =
-        one_front xs ys after behind (λ k d low. none (suc k) d (omega (arith, low)))
-        (λ k d low. nor (suc k) d (omega (arith, low))) rest in
+    one_front xs ys after behind (λ k d low. none (suc k) d (omega (arith, low)))
+    (λ k d low. nor (suc k) d (omega (arith, low))) rest in
     (ap₂ (λ l ls. l ∷ ls) first both.0, both.1)
 
 -- a list with a separator has one
@@ -77,7 +77,7 @@ has_separator : (lines front rest : List (List ℕ)) → lines ≡ front ++ sepa
 has_separator lines front rest is none =
     All-contains (λ line. line ≢ separator) lines separator none
     (subst (λ ls. Contains ls separator) (sym is)
-        (Contains-append_right front (separator ∷ rest) separator (0, omega arith, refl))) refl
+    (Contains-append_right front (separator ∷ rest) separator (0, omega arith, refl))) refl
 
 one_cut : (joined t t' s s' : List ℕ) → IsCut joined t s → IsCut joined t' s' → (t ≡ t') × (s ≡ s')
 one_cut joined t t' s s' (at_separator front rest is none t_is s_is) (at_separator fore after is' none' t'_is s'_is) =
@@ -100,7 +100,7 @@ one_read_fault text f e a b = go (own_or_lists text f a) (own_or_lists text e b)
     go (inr (d, x, is, first, f_is)) (inr (d', y, is', first', e_is)) =
         let same : d ≡ d' = ok_once (description_of text) d d' is is' in
         let lists : IsFirstFault d'.nodes d'.links x =
-            subst (λ (l : Description). IsFirstFault l.nodes l.links x) same first in
+        subst (λ (l : Description). IsFirstFault l.nodes l.links x) same first in
         f_is ∙ ap Topology (one_first_fault d'.nodes d'.links x y lists first') ∙ sym e_is
 
 -- no text is both bad and good
@@ -140,7 +140,7 @@ one_replay_of Routes = one_replay routes_meaning
 -- one thing is written where a topology is judged first, if one thing follows a good one
 pub one_judged : (Follows : AppName → Graph → Output → Type 0)
     → ((app : AppName) (g : Graph) (o p : Output) → Follows app g o → Follows app g p → o ≡ p)
-        → (topology : List ℕ) (o p : Output)
+    → (topology : List ℕ) (o p : Output)
     → IsJudged Follows topology o → IsJudged Follows topology p → o ≡ p
 one_judged Follows one topology o p (bad_topology f bad is) (bad_topology e other is') =
     is ∙ ap (λ x. (bad_topology_text x, BadInput)) (one_read_fault topology f e bad other) ∙ sym is'

@@ -51,7 +51,7 @@ Filled-with_values : (id : Text) (how : Reading) (s : ValueSource) (values : Lis
     → Filled (with_values id how s values rows)
 Filled-with_values id how s values rows some f =
     Filled-at_row id (more_values s values) _ rows (λ r h. (omega (arith, length-append r.values values), tt))
-        (some, tt) f
+    (some, tt) f
 
 Filled-without : (id : Text) (rows : List Row) → Filled rows → Filled (without id rows)
 Filled-without id rows f = Filled-at_row id (λ _. []) [] rows (λ r h. tt) tt f
@@ -179,14 +179,14 @@ module _ (c : List Rule) (flags_quiet : HasQuietFlags c) where
   IsFilled-short_or_plain waiting word None h f = IsFilled-plain_word waiting word h f
   IsFilled-short_or_plain waiting word (Some flags) h f =
       IsFilled-after_flag waiting word _ (bundle c flags h).1
-          (IsFilled-bundle_met (length flags) flags h.skip plain (record h { skip = 0 }) f)
+      (IsFilled-bundle_met (length flags) flags h.skip plain (record h { skip = 0 }) f)
 
   IsFilled-long_or_other : (waiting : Waiting) (word : Text) (o : Option (Text × Option Text)) (h : Held) → IsFilled h
       → IsFilled (long_or_other c waiting word o h).0
   IsFilled-long_or_other waiting word None h f = IsFilled-short_or_plain waiting word (short_of word) h f
   IsFilled-long_or_other waiting word (Some p) h f =
       IsFilled-after_flag waiting word _ (long_met c (arg_by_long c p.0) p.1 h).1
-          (IsFilled-long_met c (arg_by_long c p.0) p.1 h (flags_quiet.long p.0) f)
+      (IsFilled-long_met c (arg_by_long c p.0) p.1 h (flags_quiet.long p.0) f)
 
   IsFilled-subcommand_or_other : (o : Option Text) (waiting : Waiting) (position : ℕ) (word : Text) (h : Held)
       → IsFilled h

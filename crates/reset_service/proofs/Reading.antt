@@ -43,4 +43,4 @@ pub read_last : (a b d : Option (List ℕ)) (old new : List ℕ) (n : ℕ) → C
     → IsAtEnd d → n ≡ 0 → length old ≤ READ_LIMIT → IsReadFrom a new
 read_last a b d old new n p more end zero short =
     read_to_end a d new (read_on a b d old new n p more) end
-        (omega (arith, ap length more.appended, length-append old more.bytes, more.count))
+    (omega (arith, ap length more.appended, length-append old more.bytes, more.count))

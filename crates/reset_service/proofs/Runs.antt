@@ -32,7 +32,7 @@ output_of a = (a.text, a.status)
 abbrev more : {L : Type 0} → Meaning L → Configuration L → ℕ → List ℕ → List (List ℕ) → Answer L
 more m c n line lines =
     let a = answer_to m c n (line_of m.names line) in if_good a.status
-        (told_after a.text (answers m a.config (n + 1) lines)) a
+    (told_after a.text (answers m a.config (n + 1) lines)) a
 
 answers-more : {L : Type 0} (m : Meaning L) (c : Configuration L) (n : ℕ) (line : List ℕ) (lines : List (List ℕ))
     → answers m c n (line ∷ lines) ≡ more m c n line lines
@@ -100,20 +100,20 @@ pub left_bad : {L : Type 0} (m : Meaning L) (all : Answer L) (done : List ℕ) (
     (lines later : List (List ℕ)) (line : List ℕ)
     → all ≡ told_after done (answers m c n lines) → lines ≡ line ∷ later
     → (answer_to m c n (line_of m.names line)).status ≢ Good
-        → all ≡ told_after done (answer_to m c n (line_of m.names line))
+    → all ≡ told_after done (answer_to m c n (line_of m.names line))
 left_bad {L = L} m all done c n lines later line p q bad =
     let a = answer_to m c n (line_of m.names line) in
     one_more m all done c n lines later line p q
-        ∙ ap (told_after done) (if_bad a.status (told_after a.text (answers m a.config (n + 1) later)) a bad)
+    ∙ ap (told_after done) (if_bad a.status (told_after a.text (answers m a.config (n + 1) later)) a bad)
 
 left_last : {L : Type 0} (m : Meaning L) (all : Answer L) (done : List ℕ) (c : Configuration L) (n : ℕ)
     (lines : List (List ℕ)) (line : List ℕ)
     → all ≡ told_after done (answers m c n lines) → lines ≡ line ∷ []
-        → all ≡ told_after done (answer_to m c n (line_of m.names line))
+    → all ≡ told_after done (answer_to m c n (line_of m.names line))
 left_last {L = L} m all done c n lines line p q =
     let a = answer_to m c n (line_of m.names line) in
     one_more m all done c n lines [] line p q
-        ∙ ap (λ o. told_after done (if_good a.status (told_after a.text o) a)) (answers-none m a.config (n + 1))
+    ∙ ap (λ o. told_after done (if_good a.status (told_after a.text o) a)) (answers-none m a.config (n + 1))
     ∙ ap (told_after done) (last_answer a.config a.text a.status a refl)
 
 -- ---- what is left by a stop
@@ -135,34 +135,40 @@ pub left_stop : {L : Type 0} (m : Meaning L) (all : Answer L) (a b d : Option (L
     (c : Configuration L) (n : ℕ) (lines later : List (List ℕ)) (line : List ℕ) (s : RunStop)
     → all ≡ told_after done (answers m c n lines) → lines ≡ line ∷ later → Appends a b done
     → AppendsFront b d (answer_to m c n (line_of m.names line)).text → s ≢ ReadFailed
-        → Leaves (λ o. o ≡ output_of all) a d (Err s)
+    → Leaves (λ o. o ≡ output_of all) a d (Err s)
 left_stop {L = L} m all a b d done c n lines later line s p q before here other =
     let x = answer_to m c n (line_of m.names line) in
     let tail = front_of done x (answers m x.config (n + 1) later) x.status in
-    leaves_stop (λ o. o ≡ output_of all) a d s other
-    (output_of all, refl, front_whole (output_of all) a b d done x.text tail.0
-        (ap (λ (y : Answer L). y.text) (one_more m all done c n lines later line p q) ∙ tail.1) before here)
+    leaves_stop (λ o. o ≡ output_of all) a d s other (
+      output_of all,
+      refl,
+      front_whole (output_of all) a b d done x.text tail.0
+          (ap (λ (y : Answer L). y.text) (one_more m all done c n lines later line p q) ∙ tail.1) before here,
+    )
 
 -- an answer ended the lines
 pub left_ended : {L : Type 0} (all x : Answer L) (a b d : Option (List ℕ)) (done : List ℕ) (s : Status)
     → all ≡ told_after done x → s ≡ x.status
     → Appends a b done → Appends b d x.text → Leaves (λ o. o ≡ output_of all) a d (Ok s)
-left_ended {L = L} all x a b d done s is status before here =
-    (done ++ x.text, ap (λ (t : Status). (done ++ x.text, t)) status
-        ∙ sym (ap output_of is), Appends-trans a b d done x.text before here)
+left_ended {L = L} all x a b d done s is status before here = (
+  done ++ x.text,
+  ap (λ (t : Status). (done ++ x.text, t)) status
+      ∙ sym (ap output_of is),
+  Appends-trans a b d done x.text before here,
+)
 
 pub left_result : {L : Type 0} (m : Meaning L) (all : Answer L) (a b d : Option (List ℕ)) (done : List ℕ)
     (c c' : Configuration L) (n : ℕ) (lines : List (List ℕ)) (line : List ℕ) (r : Result Status RunStop)
     → all ≡ told_after done (answers m c n lines) → lines ≡ line ∷ [] → Appends a b done
     → IfOk r
-        (λ s. (s ≡ (answer_to m c n (line_of m.names line)).status)
-        × (c' ≡ (answer_to m c n (line_of m.names line)).config)
-        × Appends b d (answer_to m c n (line_of m.names line)).text)
+    (λ s. (s ≡ (answer_to m c n (line_of m.names line)).status)
+    × (c' ≡ (answer_to m c n (line_of m.names line)).config)
+    × Appends b d (answer_to m c n (line_of m.names line)).text)
     → OnErr r (AppendsFront b d (answer_to m c n (line_of m.names line)).text) → IfErr r (λ s. s ≢ ReadFailed)
-        → Leaves (λ o. o ≡ output_of all) a d r
+    → Leaves (λ o. o ≡ output_of all) a d r
 left_result {L = L} m all a b d done c c' n lines line (Ok s) p q before ok err other =
     left_ended all (answer_to m c n (line_of m.names line)) a b d done s (left_last m all done c n lines line p q) ok.0
-        before ok.2
+    before ok.2
 left_result {L = L} m all a b d done c c' n lines line (Err s) p q before ok err other =
     left_stop m all a b d done c n lines [] line s p q before err other
 
@@ -171,9 +177,9 @@ pub last_config : {L : Type 0} (m : Meaning L) (all : Answer L) (b d : Option (L
     (c c' : Configuration L) (n : ℕ) (lines : List (List ℕ)) (line : List ℕ) (r : Result Status RunStop)
     → all ≡ told_after done (answers m c n lines) → lines ≡ line ∷ []
     → IfOk r
-        (λ s. (s ≡ (answer_to m c n (line_of m.names line)).status)
-        × (c' ≡ (answer_to m c n (line_of m.names line)).config)
-        × Appends b d (answer_to m c n (line_of m.names line)).text)
+    (λ s. (s ≡ (answer_to m c n (line_of m.names line)).status)
+    × (c' ≡ (answer_to m c n (line_of m.names line)).config)
+    × Appends b d (answer_to m c n (line_of m.names line)).text)
     → OnOk r (c' ≡ all.config)
 last_config {L = L} m all b d done c c' n lines line (Ok s) p q ok =
     ok.1 ∙ sym (ap (λ (x : Answer L). x.config) (left_last m all done c n lines line p q))
@@ -208,7 +214,7 @@ pub ended_run : {L : Type 0} (m : Meaning L) (why : Purpose) (a : Answer L) (c :
     → Leaves (λ o. o ≡ output_of a) old mid (Ok answered) → c ≡ a.config
     → IfOk r (λ s. (s ≡ (ending m why c answered).1) × Appends mid new (ending m why c answered).0)
     → OnErr r (AppendsFront mid new (ending m why c answered).0) → IfErr r (λ s. s ≢ ReadFailed)
-        → Leaves (λ o. o ≡ output_for m why a) old new r
+    → Leaves (λ o. o ≡ output_for m why a) old new r
 ended_run {L = L} m why a c old mid new answered r (written, is, wrote) same = go r
   where
     last : Output
@@ -223,7 +229,7 @@ ended_run {L = L} m why a c old mid new answered r (written, is, wrote) same = g
     go : (r : Result Status RunStop)
         → IfOk r (λ s. (s ≡ (ending m why c answered).1) × Appends mid new (ending m why c answered).0)
         → OnErr r (AppendsFront mid new (ending m why c answered).0) → IfErr r (λ s. s ≢ ReadFailed)
-            → Leaves (λ o. o ≡ output_for m why a) old new r
+        → Leaves (λ o. o ≡ output_for m why a) old new r
     go (Ok s) ok err other =
         let P : List ℕ → Type 0 = λ l. Appends mid new l in (
           a.text ++ last.0,
@@ -232,9 +238,12 @@ ended_run {L = L} m why a c old mid new answered r (written, is, wrote) same = g
         )
     go (Err s) ok err other =
         let P : List ℕ → Type 0 = λ l. AppendsFront mid new l in
-        leaves_stop (λ o. o ≡ output_for m why a) old new s other
-        (output_for m why a, refl, AppendsFront-then old mid new a.text last.0 before
-            (subst P (ap (λ (o : Output). o.0) last_is) err))
+        leaves_stop (λ o. o ≡ output_for m why a) old new s other (
+          output_for m why a,
+          refl,
+          AppendsFront-then old mid new a.text last.0 before
+              (subst P (ap (λ (o : Output). o.0) last_is) err),
+        )
 
 -- a script that isn't too long is answered line by line
 pub short_output : {L : Type 0} (m : Meaning L) (why : Purpose) (c : Configuration L) (script : List ℕ)
@@ -243,7 +252,7 @@ pub short_output : {L : Type 0} (m : Meaning L) (why : Purpose) (c : Configurati
     → Leaves (λ o. o ≡ script_output m why c script) old new r
 short_output {L = L} m why c script old new r short left =
     let judged : Bool → Output =
-        λ b. if b then (too_long_text, BadInput) else output_for m why (answers m c 1 (lines_of script)) in
+    λ b. if b then (too_long_text, BadInput) else output_for m why (answers m c 1 (lines_of script)) in
     let P : Output → Type 0 = λ x. Leaves (λ o. o ≡ x) old new r in
     subst P (sym (ap judged (le-ltb 1048576 (length script) short))) left
 

@@ -54,7 +54,7 @@ module _ {L : Type 0} (m : Meaning L) where
 
   watched_left : (c : Configuration L) (i : ℕ) (b : Bool) (es : List Event)
       → left c ((if b then after_alarm_events i (alarm_of m.app c i) else []) ++ es)
-          ≡ left (if b then watched m c i else (c, refusal_text StrangeNode)).0 es
+      ≡ left (if b then watched m c i else (c, refusal_text StrangeNode)).0 es
   unfolding watched
   watched_left c i true es = watched_by c i (alarm_of m.app c i) es
   watched_left c i false es = refl
@@ -91,7 +91,7 @@ module _ {L : Type 0} (m : Meaning L) where
   abbrev more_events : Configuration L → ℕ → Line → List (List ℕ) → List Event
   more_events c n line lines =
       let a = answer_to m c n line in line_events m c line
-          ++ if_good a.status (events_of_lines m a.config (n + 1) lines) []
+      ++ if_good a.status (events_of_lines m a.config (n + 1) lines) []
 
   line_left : (c : Configuration L) (n : ℕ) (line : Line) (lines : List (List ℕ)) → IsUndisturbed line
       → Leave (n + 1) lines

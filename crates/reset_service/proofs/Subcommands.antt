@@ -93,7 +93,7 @@ module _ (s : Shape) (has_help : s.disable_help_subcommand ≡ false) where
 
   word_met-step : (names : Names) (is_trailing : Bool) (waiting : Waiting) (position : ℕ) (word : Text) (h : Held)
       → word_fault s names is_trailing waiting word h ≡ []
-          → StepsToNoHelp (word_met s.rules names is_trailing waiting position word h).1
+      → StepsToNoHelp (word_met s.rules names is_trailing waiting position word h).1
   word_met-step names true waiting position word h e = tt
   word_met-step names false waiting position word h e =
       subcommand_or_other-step (subcommand_met names waiting word) waiting position word h e
@@ -117,7 +117,7 @@ module _ (s : Shape) (has_help : s.disable_help_subcommand ≡ false) where
   walked_from-stop names None w word e m n =
       let met = word_met s.rules names w.is_trailing w.waiting w.position word w.held in
       after_step-stop word w met.0 met.1
-          (word_met-step names w.is_trailing w.waiting w.position word w.held (or_else-nil _ _ e).0) n
+      (word_met-step names w.is_trailing w.waiting w.position word w.held (or_else-nil _ _ e).0) n
 
   walked-stop : (names : Names) (w : Walk) (word : Text) → turn_fault s names w word ≡ [] → IsNoHelp w.stopped
       → IsNoHelp (walked s.rules names w word).stopped
@@ -138,7 +138,7 @@ module _ (s : Shape) (has_help : s.disable_help_subcommand ≡ false) where
 abbrev the_texts : Text → Text → Shape
 the_texts name input =
     slice_index_or (built (with_subcommand (new_app (codes "reset-service")) (texts_command name input).top)).subs 0
-        (texts_command name input).top
+    (texts_command name input).top
 
 abbrev the_tables : Shape
 the_tables = slice_index_or (built program).subs 3 tables_command.top
@@ -176,18 +176,18 @@ TakesTexts name input words = level_fault (the_texts name input) [] nothing_held
 
 paths_given : (name input : Text) (words : List Text) → TakesTexts name input words
     → (is_given (codes "TOPOLOGY") (rows_of_texts name input words) ≡ true)
-        × (is_given input (rows_of_texts name input words) ≡ true)
+    × (is_given input (rows_of_texts name input words) ≡ true)
 unfolding texts_command
 paths_given name input words e =
     let s = the_texts name input in
     let walked_well = or_else-nil (walk_fault s [] (walk_from nothing_held) words) _ e in
     let settled_well =
-        or_else-nil (settle_fault s.rules false (walk s.rules [] nothing_held words).held) _ walked_well.1 in
+    or_else-nil (settle_fault s.rules false (walk s.rules [] nothing_held words).held) _ walked_well.1 in
     let filled_well =
-        or_else-nil (defaults_fault (settled s.rules (walk s.rules [] nothing_held words).held).rows s.rules) _
-        settled_well.1 in
+    or_else-nil (defaults_fault (settled s.rules (walk s.rules [] nothing_held words).held).rows s.rules) _
+    settled_well.1 in
     both_given (is_given (codes "TOPOLOGY") (rows_of_texts name input words))
-        (is_given input (rows_of_texts name input words)) MissingRequiredArgument filled_well.1
+    (is_given input (rows_of_texts name input words)) MissingRequiredArgument filled_well.1
 
 -- where clap finds no fault in them, they have a value for each path
 has_texts : (name input : Text) (words : List Text) → TakesTexts name input words
@@ -224,7 +224,7 @@ the_verify = the_texts (codes "verify") (codes "HISTORY")
 abbrev sub_met : Bool → Bool → Bool → Bool → Bool → Option Shape
 sub_met r c v t h =
     cond r (Some the_replay)
-        (cond c (Some the_check) (cond v (Some the_verify) (cond t (Some the_tables) (cond h (Some the_help) None))))
+    (cond c (Some the_check) (cond v (Some the_verify) (cond t (Some the_tables) (cond h (Some the_help) None))))
 
 abbrev fault_at : List Text → Option Shape → Kinds
 fault_at words sub = option_map_or (λ s. level_fault s [] nothing_held words false []) sub []
@@ -246,7 +246,7 @@ unfolding program texts_command tables_command
 job_at None no_help e = tt
 job_at (Some p) no_help e =
     job_of_sub p no_help (answers_to p.0 (label_of the_replay)) (answers_to p.0 (label_of the_check))
-        (answers_to p.0 (label_of the_verify))
+    (answers_to p.0 (label_of the_verify))
     (answers_to p.0 (label_of the_tables)) (answers_to p.0 (label_of the_help)) refl e
 
 -- words in which clap finds no fault ask for a job
@@ -256,13 +256,13 @@ has_job words e =
     let a : App = built program in
     let given : List Text = argument_words program words in
     let stop : Option (Text × List Text) =
-        (walk (built program).top.rules (names_of (built program)) nothing_held given).stopped in
+    (walk (built program).top.rules (names_of (built program)) nothing_held given).stopped in
     let walked_well =
-        or_else-nil (walk_fault (built program).top (names_of (built program)) (walk_from nothing_held) given) _ e in
+    or_else-nil (walk_fault (built program).top (names_of (built program)) (walk_from nothing_held) given) _ e in
     let entered_well = or_else-nil (entered_fault (built program) stop) _ walked_well.1 in
     job_at stop
-        (walk-stop (built program).top refl (names_of (built program)) (walk_from nothing_held) given walked_well.0 tt)
-        entered_well.0
+    (walk-stop (built program).top refl (names_of (built program)) (walk_from nothing_held) given walked_well.0 tt)
+    entered_well.0
 
 -- ---- the answer of clap for a command that is the program
 

@@ -32,13 +32,13 @@ not_true false h = refl
 pub first_place : (text : List ℕ) (r : Option ℕ) → IsFirstByte (is_byte 10) text r → r ≡ position is_line_feed text
 first_place text None none =
     let end =
-        position_or_len_is is_line_feed text (length text) 0 (omega arith)
-        (λ k below. not_true _ (none k (omega arith) below)) (λ h. absurd (omega (arith, h))) in
+    position_or_len_is is_line_feed text (length text) 0 (omega arith)
+    (λ k below. not_true _ (none k (omega arith) below)) (λ h. absurd (omega (arith, h))) in
     rw end (grind (arith, nat_tests))
 first_place text (Some k) (first, here) =
     let place =
-        position_or_len_is is_line_feed text k 0 (omega (arith, first.high))
-        (λ j below. not_true _ (first.before j (omega arith) below)) (λ _. here) in
+    position_or_len_is is_line_feed text k 0 (omega (arith, first.high))
+    (λ j below. not_true _ (first.before j (omega arith) below)) (λ _. here) in
     let inside : ltb k (length text) ≡ true = let high = first.high in grind (arith, nat_tests) in
     sym (rw (place, inside) refl)
 
@@ -61,7 +61,7 @@ pub cut : (text : List ℕ) (i : ℕ) → position is_line_feed text ≡ Some i
     → lines_of text ≡ take i text ∷ lines_of (drop (i + 1) text)
 cut text i h =
     let place =
-        some_at (ltb (position_or_len is_line_feed text) (length text)) (position_or_len is_line_feed text) i h in
+    some_at (ltb (position_or_len is_line_feed text) (length text)) (position_or_len is_line_feed text) i h in
     cut_at text i place.1 (grind (arith, nat_tests))
 
 -- ---- a text is its lines, joined by line feeds
@@ -78,7 +78,7 @@ join_more line (l ∷ ls) h = refl
 pub first_line : (text line rest : List ℕ) → lines_of text ≡ line ∷ lines_of rest → text ≡ ended line ++ rest
 first_line text line rest h =
     sym (joined_lines text) ∙ ap (join_with_byte 10) h
-        ∙ join_more line (lines_of rest) (omega (arith, length-slice_split is_line_feed rest))
+    ∙ join_more line (lines_of rest) (omega (arith, length-slice_split is_line_feed rest))
     ∙ ap (λ l. line ++ (10 ∷ l)) (joined_lines rest) ∙ sym (append_assoc line (10 ∷ []) rest)
 
 -- ---- the lines that were passed, and those that are left
@@ -94,9 +94,9 @@ pub passed_text : (all rest after line : List ℕ) (front : List (List ℕ)) →
     → all ≡ flat_map ended (front ++ (line ∷ [])) ++ after
 passed_text all rest after line front p q =
     p ∙ ap (λ l. flat_map ended front ++ l) (first_line rest line after q)
-        ∙ sym (append_assoc (flat_map ended front) (ended line) after)
+    ∙ sym (append_assoc (flat_map ended front) (ended line) after)
     ∙ ap (λ l. l ++ after)
-        (sym (flat_map-append ended front (line ∷ []) ∙ ap (λ l. flat_map ended front ++ l) (append-nil (ended line))))
+    (sym (flat_map-append ended front (line ∷ []) ∙ ap (λ l. flat_map ended front ++ l) (append-nil (ended line))))
 
 pub text_before : (all front rest : List ℕ) → all ≡ front ++ rest → take (length all - length rest) all ≡ front
 text_before all front rest h =

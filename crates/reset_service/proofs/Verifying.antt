@@ -50,7 +50,7 @@ known_leaves (Some text) Is O P old new r f is left = leaves_weaker O (P text) o
 pub known_anyway : (known : Option (List ℕ)) (O : Output → Type 0) (P : List ℕ → Output → Type 0)
     (old new : Option (List ℕ)) (r : Result Status RunStop)
     → ((text : List ℕ) (o : Output) → O o → P text o) → Leaves O old new r
-        → IfSome known (λ text. Leaves (P text) old new r)
+    → IfSome known (λ text. Leaves (P text) old new r)
 known_anyway None O P old new r f left = tt
 known_anyway (Some text) O P old new r f left = leaves_weaker O (P text) old new r (f text) left
 
@@ -117,40 +117,40 @@ module _ {L : Type 0} (app : App L) (from_text : List ℕ → Option L) where
       → before ++ e ∷ rest ≡ before' ++ e' ∷ rest'
       → replayed app from_text c before ≡ Some left → entered app from_text left e ≡ None
       → replayed app from_text c before' ≡ Some left' → entered app from_text left' e' ≡ None
-          → length before ≡ length before'
+      → length before ≡ length before'
   refused_once c left left' [] [] rest rest' e e' is h none h' none' = refl
   refused_once c left left' [] (x ∷ before') rest rest' e e' is h none h' none' =
       let same : e ∷ rest ≡ x ∷ before' ++ e' ∷ rest' = is in
       let first : e ≡ x = cc in
       absurd (first_allowed c x before' (subst (λ y. entered app from_text c y ≡ None) first (here c left e h none))
-          (is_some_of _ left' h'))
+      (is_some_of _ left' h'))
   refused_once c left left' (x ∷ before) [] rest rest' e e' is h none h' none' =
       let same : x ∷ before ++ e ∷ rest ≡ e' ∷ rest' = is in
       let first : e' ≡ x = cc in
       absurd (first_allowed c x before (subst (λ y. entered app from_text c y ≡ None) first (here c left' e' h' none'))
-          (is_some_of _ left h))
+      (is_some_of _ left h))
   refused_once c left left' (x ∷ before) (y ∷ before') rest rest' e e' is h none h' none' =
       let same : x ∷ before ++ e ∷ rest ≡ y ∷ before' ++ e' ∷ rest' = is in
       let first : y ≡ x = cc in
       let more : before ++ e ∷ rest ≡ before' ++ e' ∷ rest' = cc in
       let there : replayed app from_text c (x ∷ before') ≡ Some left' =
-          subst (λ z. replayed app from_text c (z ∷ before') ≡ Some left') first h' in
+      subst (λ z. replayed app from_text c (z ∷ before') ≡ Some left') first h' in
       after_first c left x before (suc (length before) ≡ suc (length before')) h (λ a at further.
       ap suc (refused_once a left left' before before' rest rest' e e' more further none
-          (sym (replayed_first c a x before' at) ∙ there) none'))
+      (sym (replayed_first c a x before' at) ∙ there) none'))
 
   one_refused : (c : Configuration L) (es : List Entry) (p q : ℕ) → IsFirstRefused app from_text c es p
       → IsFirstRefused app from_text c es q → p ≡ q
   one_refused c es p q a b =
       a.place ∙ ap (λ n. n + 1)
-          (refused_once c a.left b.left a.before b.before a.rest b.rest a.entry b.entry (sym a.split ∙ b.split)
+      (refused_once c a.left b.left a.before b.before a.rest b.rest a.entry b.entry (sym a.split ∙ b.split)
       a.allowed a.refused b.allowed b.refused) ∙ sym b.place
 
   not_both : (c : Configuration L) (es : List Entry) (p : ℕ) → IsFirstRefused app from_text c es p
       → IsSome (replayed app from_text c es) → ⊥
   not_both c es p a some =
       refused_or_allowed c a.left a.before a.rest a.entry a.allowed a.refused
-          (subst (λ xs. IsSome (replayed app from_text c xs)) a.split some)
+      (subst (λ xs. IsSome (replayed app from_text c xs)) a.split some)
 
 -- no text has two readings
 abbrev pub OneReading : Type 0
@@ -188,7 +188,7 @@ module _ (one_reading : OneReading) {L : Type 0} (m : Meaning L) where
       → o ≡ p
   one_from g history o p (c, boot, verified) (d, other, verified') =
       one_verified d history o p (subst (λ x. IsVerified m x history o) (one_boot m.app g c d boot other) verified)
-          verified'
+      verified'
 
 one_of : OneReading → (app : AppName) (g : Graph) (history : List ℕ) (o p : Output) → IsVerifiedOf app g history o
     → IsVerifiedOf app g history p → o ≡ p

@@ -46,8 +46,8 @@ module _ {L : Type 0} (m : Meaning L) (c : Configuration L) (i : ℕ) (told : Op
     -- and a request where it has one
     pub asked_ok : {E : Type 0} (after : Configuration L) (r : Result (Unit {0}) E)
         → OnOk r
-            ((after ≡ (stepped c (outcome_of m.app c (Request i))).0)
-            × Appends b d (stepped c (outcome_of m.app c (Request i))).1)
+        ((after ≡ (stepped c (outcome_of m.app c (Request i))).0)
+        × Appends b d (stepped c (outcome_of m.app c (Request i))).1)
         → OnOk r ((after ≡ (watched m c i).0) × Appends a d (watched m c i).1)
     asked_ok after (Ok x) ok =
         let P : List ℕ → Type 0 = λ t. Appends a d t in (
@@ -62,4 +62,4 @@ module _ {L : Type 0} (m : Meaning L) (c : Configuration L) (i : ℕ) (told : Op
     asked_err (Ok x) err = tt
     asked_err (Err e) err =
         let P : List ℕ → Type 0 =
-            λ t. AppendsFront a d t in subst P (sym asked_text) (AppendsFront-then a b d (alarm_text told) _ wrote err)
+        λ t. AppendsFront a d t in subst P (sym asked_text) (AppendsFront-then a b d (alarm_text told) _ wrote err)

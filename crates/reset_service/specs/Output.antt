@@ -105,7 +105,7 @@ drawn_text f = codes "drawn " ++ ended (fault.fault_line f)
 abbrev pub node_head : ℕ → TreeRegs → WaveRegs → List ℕ
 node_head id tree wave =
     concat (codes "node " ∷ decimal id ∷ codes " tree " ∷ decimal tree.root ∷ codes " " ∷ decimal tree.father
-        ∷ codes " " ∷ decimal tree.dist
+    ∷ codes " " ∷ decimal tree.dist
     ∷ codes " wave " ∷ phase_name wave.phase ∷ codes " " ∷ decimal wave.session ∷ codes " local " ∷ [])
 
 -- what stands before it in the line of the newest session
@@ -116,7 +116,7 @@ newest_head id = concat (codes "newest " ∷ decimal id ∷ codes " " ∷ [])
 abbrev pub enabled_text : ℕ → Enabled → List ℕ
 enabled_text id rows =
     concat (codes "enabled " ∷ decimal id ∷ codes " tree " ∷ set_text rows.tree ∷ codes " wave " ∷ set_text rows.wave
-        ∷ codes " act " ∷ set_text rows.act ∷ ended [] ∷ [])
+    ∷ codes " act " ∷ set_text rows.act ∷ ended [] ∷ [])
 
 -- a number after a space
 abbrev pub spaced : ℕ → List ℕ
@@ -142,7 +142,7 @@ abbrev pub alarm_text : Option LinkFault → List ℕ
 alarm_text None = ended (codes "quiet")
 alarm_text (Some fault) =
     concat (codes "alarm " ∷ decimal fault.at ∷ codes " " ∷ decimal fault.other ∷ codes " " ∷ decimal fault.row
-        ∷ ended [] ∷ [])
+    ∷ ended [] ∷ [])
 
 abbrev pub graph_fault_text : TopoFault → List ℕ
 graph_fault_text NoNodes = ended (codes "bad topology NoNodes")
@@ -288,7 +288,7 @@ unfoldable pub answers : {L : Type 0} → Meaning L → Configuration L → ℕ 
 answers m c n [] = record { config = c; text = []; status = Good }
 answers m c n (line ∷ lines) =
     let a = answer_to m c n (line_of m.names line) in if_good a.status
-        (told_after a.text (answers m a.config (n + 1) lines)) a
+    (told_after a.text (answers m a.config (n + 1) lines)) a
 
 -- what follows lines that ended so, and the status of the run: a check of what good lines left, or nothing
 abbrev pub ending : {L : Type 0} → Meaning L → Purpose → Configuration L → Status → List ℕ × Status
@@ -303,7 +303,7 @@ output_for m purpose a = let last = ending m purpose a.config a.status in (a.tex
 abbrev pub script_output : {L : Type 0} → Meaning L → Purpose → Configuration L → List ℕ → List ℕ × Status
 script_output m purpose c script =
     if nat_lt 1048576 (length script) then (too_long_text, BadInput) else output_for m purpose
-        (answers m c 1 (lines_of script))
+    (answers m c 1 (lines_of script))
 
 -- ---- the output of texts
 

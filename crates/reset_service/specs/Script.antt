@@ -41,7 +41,7 @@ command_words (Watch at) = codes "watch" ∷ decimal at ∷ []
 abbrev pub AsksAbout : ℕ → List (List ℕ) → Type 0
 AsksAbout at words =
     (words ≡ command_words (ShowNode at))
-        ⊎ ((words ≡ command_words (Enabled at)) ⊎ ((words ≡ command_words (CheckNode at))
+    ⊎ ((words ≡ command_words (Enabled at)) ⊎ ((words ≡ command_words (CheckNode at))
     ⊎ ((words ≡ command_words (Alarm at)) ⊎ ((words ≡ command_words (Watch at)) ⊎ (words ≡ command_words (Draw at))))))
 
 -- the one line of a command with its case, if it has one, by number: its words, with a space between each two
@@ -133,7 +133,7 @@ commands_with m n k =
     Show ∷ ShowNode m ∷ Newest ∷ Enabled m ∷ Ready ∷ Step (Claim m) ∷ Step (Follow m) ∷ Step (Adopt m n)
     ∷ Step (Request m) ∷ Step (Relay m n) ∷ Step (Open m) ∷ Step (Join m) ∷ Step (Finish m) ∷ Step (Mend m)
     ∷ Step (Act m (n % 2 ^ 8) None) ∷ Step (Act m (n % 2 ^ 8) (Some k)) ∷ Check ∷ CheckNode m ∷ Alarm m ∷ Watch m
-        ∷ Draw m ∷ []
+    ∷ Draw m ∷ []
 
 -- whether a text may be a word of a line: it isn't empty, and has only the bytes 33 to 126
 abbrev pub is_text : List ℕ → Bool
@@ -144,9 +144,9 @@ is_text (byte ∷ bytes) = list_all is_ascii_graphic (byte ∷ bytes)
 abbrev pub faults_with : ℕ → ℕ → ℕ → ℕ → List Command
 faults_with m n k l =
     Inject (SetTree m (record { root = n; father = k; dist = l }))
-        ∷ Inject (SetWave m (record { phase = Normal; session = k }))
+    ∷ Inject (SetWave m (record { phase = Normal; session = k }))
     ∷ Inject (SetWave m (record { phase = Initiate; session = k }))
-        ∷ Inject (SetWave m (record { phase = Reset; session = k }))
+    ∷ Inject (SetWave m (record { phase = Reset; session = k }))
     ∷ Inject (LinkDown m n) ∷ Inject (LinkUp m n) ∷ []
 
 -- the fault that puts the local state with this text, if it is one

@@ -79,4 +79,4 @@ abbrev pub MakeSoundRun : {L : Type 0} → Meaning L → (Graph → (ℕ → L) 
     → Type 0
 MakeSoundRun m Inv c n lines =
     let es =
-        events_of_lines m c n lines in IsSoundRun m.app Inv c es (event_answers m.app c es) (answers m c n lines).config
+    events_of_lines m c n lines in IsSoundRun m.app Inv c es (event_answers m.app c es) (answers m c n lines).config

@@ -122,7 +122,7 @@ pub fn answer<P: Application, W: Write>(
     ensures ok { OnOk result
         ((config.new ≡ (answered (meaning_of P.app P.text P.from_text P.names) config.old command).0)
         × Appends (W.contents out.old) (W.contents out.new)
-            (answered (meaning_of P.app P.text P.from_text P.names) config.old command).1) }
+        (answered (meaning_of P.app P.text P.from_text P.names) config.old command).1) }
     ensures err { OnErr result
         (AppendsFront (W.contents out.old) (W.contents out.new)
         (answered (meaning_of P.app P.text P.from_text P.names) config.old command).1) }
@@ -158,7 +158,7 @@ pub fn answer_step<P: Application, W: Write>(
 ) -> Result<(), RunStop>
     ensures ok { OnOk result ((config.new ≡ (stepped config.old (outcome_of P.app config.old event)).0)
         × Appends (W.contents out.old) (W.contents out.new)
-            (stepped config.old (outcome_of P.app config.old event)).1) }
+        (stepped config.old (outcome_of P.app config.old event)).1) }
     ensures err { OnErr result
         (AppendsFront (W.contents out.old) (W.contents out.new)
         (stepped config.old (outcome_of P.app config.old event)).1) }

@@ -103,7 +103,7 @@ pub fn answer_watch<P: Application, W: Write>(
     ensures ok { OnOk result
         ((config.new ≡ (answered (meaning_of P.app P.text P.from_text P.names) config.old (Watch at)).0)
         × Appends (W.contents out.old) (W.contents out.new)
-            (answered (meaning_of P.app P.text P.from_text P.names) config.old (Watch at)).1) }
+        (answered (meaning_of P.app P.text P.from_text P.names) config.old (Watch at)).1) }
     ensures err { OnErr result (AppendsFront (W.contents out.old) (W.contents out.new)
         (answered (meaning_of P.app P.text P.from_text P.names) config.old (Watch at)).1) }
     ensures stop { IfErr result (λ stop. stop ≢ RunStop.ReadFailed) }
@@ -126,7 +126,7 @@ fn watch_node<P: Application, W: Write>(
     requires { IsNode config.now.graph at }
     ensures ok { OnOk result ((config.new ≡ (watched (meaning_of P.app P.text P.from_text P.names) config.old at).0)
         × Appends (W.contents out.old) (W.contents out.new)
-            (watched (meaning_of P.app P.text P.from_text P.names) config.old at).1) }
+        (watched (meaning_of P.app P.text P.from_text P.names) config.old at).1) }
     ensures err { OnErr result (AppendsFront (W.contents out.old) (W.contents out.new)
         (watched (meaning_of P.app P.text P.from_text P.names) config.old at).1) }
     ensures stop { IfErr result (λ stop. stop ≢ RunStop.ReadFailed) }

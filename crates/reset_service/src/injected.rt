@@ -28,7 +28,7 @@ pub fn answer_fault<P: Application, W: Write>(
 ) -> Result<(), RunStop>
     ensures ok { OnOk result ((config.new ≡ (disturbed config.old (injected P.from_text config.old fault.now)).0)
         × Appends (W.contents out.old) (W.contents out.new)
-            (disturbed config.old (injected P.from_text config.old fault.now)).1) }
+        (disturbed config.old (injected P.from_text config.old fault.now)).1) }
     ensures err { OnErr result (AppendsFront (W.contents out.old) (W.contents out.new)
         (disturbed config.old (injected P.from_text config.old fault.now)).1) }
     ensures stop { IfErr result (λ stop. stop ≢ RunStop.ReadFailed) }
@@ -51,7 +51,7 @@ pub fn answer_draw<P: Application, W: Write>(
     ensures ok { OnOk result
         ((config.new ≡ (answered (meaning_of P.app P.text P.from_text P.names) config.old (Draw seed)).0)
         × Appends (W.contents out.old) (W.contents out.new)
-            (answered (meaning_of P.app P.text P.from_text P.names) config.old (Draw seed)).1) }
+        (answered (meaning_of P.app P.text P.from_text P.names) config.old (Draw seed)).1) }
     ensures err { OnErr result (AppendsFront (W.contents out.old) (W.contents out.new)
         (answered (meaning_of P.app P.text P.from_text P.names) config.old (Draw seed)).1) }
     ensures stop { IfErr result (λ stop. stop ≢ RunStop.ReadFailed) }

@@ -10,10 +10,16 @@ pub(crate) const ONE_WAVE: &[u8] =
     b"request 1\nrelay 2 1\nrelay 3 2\nopen 3\njoin 2\njoin 1\nfinish 1\nfinish 2\nfinish 3\nshow\n";
 
 const WAVE_ANSWERS: &[u8] =
-    b"applied\napplied\napplied\napplied\napplied\napplied\napplied\napplied\ncomplete 1\nnode 1 tree 3 2 2 wave normal 1 local -\nnode 2 tree 3 3 1 wave normal 1 local -\nnode 3 tree 3 3 0 wave normal 1 local -\n";
+    b"applied\napplied\napplied\napplied\napplied\napplied\napplied\napplied\ncomplete 1\n\
+      node 1 tree 3 2 2 wave normal 1 local -\n\
+      node 2 tree 3 3 1 wave normal 1 local -\n\
+      node 3 tree 3 3 0 wave normal 1 local -\n";
 
 const CHECKED_ANSWERS: &[u8] =
-    b"applied\napplied\napplied\napplied\napplied\napplied\napplied\napplied\ncomplete 1\nnode 1 tree 3 2 2 wave normal 1 local -\nnode 2 tree 3 3 1 wave normal 1 local -\nnode 3 tree 3 3 0 wave normal 1 local -\nfaults 0\n";
+    b"applied\napplied\napplied\napplied\napplied\napplied\napplied\napplied\ncomplete 1\n\
+      node 1 tree 3 2 2 wave normal 1 local -\n\
+      node 2 tree 3 3 1 wave normal 1 local -\n\
+      node 3 tree 3 3 0 wave normal 1 local -\nfaults 0\n";
 
 /// A call that runs a script.
 #[derive(Clone, Copy, Debug)]

@@ -24,7 +24,7 @@ rises_by xs up i zero h =
 rises_by xs up i (suc d) h =
     let e : i + suc d + 1 ≡ i + d + 1 + 1 = omega arith in
     subst (λ k. get_or xs i 0 < get_or xs k 0) (sym e)
-        (omega (arith, rises_by xs up i d (omega arith), up (i + d + 1) (omega arith)))
+    (omega (arith, rises_by xs up i d (omega arith), up (i + d + 1) (omega arith)))
 
 pub rises : (xs : List ℕ) → IsStrictlyIncreasing xs → (i j : ℕ) → i < j → j < length xs → get_or xs i 0 < get_or xs j 0
 rises xs up i j less within =
@@ -35,7 +35,7 @@ pub rises_weakly : (xs : List ℕ) → IsStrictlyIncreasing xs → (i j : ℕ) �
     → get_or xs i 0 ≤ get_or xs j 0
 rises_weakly xs up i j le within =
     ⊎_elim (λ e. subst (λ k. get_or xs i 0 ≤ get_or xs k 0) e (omega arith))
-        (λ n. omega (arith, rises xs up i j (omega arith) within)) (cases_eq i j)
+    (λ n. omega (arith, rises xs up i j (omega arith) within)) (cases_eq i j)
 
 -- a number stands at one index
 pub index_once : (xs : List ℕ) → IsStrictlyIncreasing xs → (i j : ℕ) → i < length xs → j < length xs
@@ -43,7 +43,7 @@ pub index_once : (xs : List ℕ) → IsStrictlyIncreasing xs → (i j : ℕ) →
 index_once xs up i j i_in j_in e =
     ⊎_elim (λ same. same)
     (λ other. ⊎_elim (λ lt. absurd (omega (arith, rises xs up i j lt j_in)))
-        (λ gt. absurd (omega (arith, rises xs up j i gt i_in))) other)
+    (λ gt. absurd (omega (arith, rises xs up j i gt i_in))) other)
     (cases_order i j)
 
 -- a member stands at an index, and what stands at an index is a member
@@ -52,8 +52,8 @@ pub index_of_member : (xs : List ℕ) (x : ℕ) → list_any (λ y. eqb y x) xs 
 index_of_member [] x e = absurd (cc)
 index_of_member (y ∷ ys) x e =
     elim (eqb y x)
-        as (λ b. eqb y x ≡ b → (b || list_any (λ y. eqb y x) ys) ≡ true
-        → (k : ℕ) × (k < length (y ∷ ys)) × (get_or (y ∷ ys) k 0 ≡ x)) [
+    as (λ b. eqb y x ≡ b → (b || list_any (λ y. eqb y x) ys) ≡ true
+    → (k : ℕ) × (k < length (y ∷ ys)) × (get_or (y ∷ ys) k 0 ≡ x)) [
       | true ↦ λ same _. (0, omega arith, eqb-true y x same)
       | false ↦ λ _ rest. let r = index_of_member ys x rest in (suc r.0, omega (arith, r.1), r.2)
     ] refl e
@@ -61,7 +61,7 @@ index_of_member (y ∷ ys) x e =
 pub member_at : (xs : List ℕ) (k : ℕ) → k < length xs → list_any (λ y. eqb y (get_or xs k 0)) xs ≡ true
 member_at xs k within =
     list_any-from_Any (λ y. eqb y (get_or xs k 0)) xs
-        (k, get_or xs k 0, within, get_or_default xs k _ 0 within, eq-eqb _ _ refl)
+    (k, get_or xs k 0, within, get_or_default xs k _ 0 within, eq-eqb _ _ refl)
 
 -- a number at no index is no member
 pub no_member : (xs : List ℕ) (x : ℕ) → ((k : ℕ) → k < length xs → get_or xs k 0 ≢ x)
@@ -81,9 +81,9 @@ no_index p xs none k within =
     fails_before_first p xs k 0
     (⊎_elim
     (λ (e : ltb (position_or_len p xs) (length xs) ≡ true). absurd
-        (none-some (position_or_len p xs) (none ∙ ap (λ b. cond b (Some (position_or_len p xs)) None) e)))
+    (none-some (position_or_len p xs) (none ∙ ap (λ b. cond b (Some (position_or_len p xs)) None) e)))
     (λ (e : ltb (position_or_len p xs) (length xs) ≡ false). omega
-        (arith, ltb-false (position_or_len p xs) (length xs) e))
+    (arith, ltb-false (position_or_len p xs) (length xs) e))
     (cases_Bool (ltb (position_or_len p xs) (length xs))))
 
 -- a number is a member where it has an index
@@ -94,7 +94,7 @@ member_by_index xs x (Some k) at =
     sym (subst (λ z. list_any (λ y. eqb y z) xs ≡ true) (eqb-true (get_or xs k 0) x found.1) (member_at xs k found.0))
 member_by_index xs x None at =
     sym (no_member xs x
-        (λ k low e. absurd (true≢false (sym (eq-eqb (get_or xs k 0) x e) ∙ no_index (λ i. eqb i x) xs at k low))))
+    (λ k low e. absurd (true≢false (sym (eq-eqb (get_or xs k 0) x e) ∙ no_index (λ i. eqb i x) xs at k low))))
 
 -- ---- binary search
 
@@ -119,8 +119,8 @@ module _ (xs : List ℕ) (x : ℕ) (up : IsStrictlyIncreasing xs) where
       let at : position_or_len (λ i. eqb i x) xs ≡ length xs =
       position_or_len_is (λ i. eqb i x) xs (length xs) 0 (omega arith)
       (λ k lt. ne_eqb _ _
-          (λ e. ⊎_elim (λ low. absurd (omega (arith, h.1 k low, e))) (λ high. absurd (omega (arith, h.2 k high lt, e)))
-          (cases_lt k i)))
+      (λ e. ⊎_elim (λ low. absurd (omega (arith, h.1 k low, e))) (λ high. absurd (omega (arith, h.2 k high lt, e)))
+      (cases_lt k i)))
       (λ lt. absurd (omega arith)) in
       rw at (rw (le-ltb (length xs) (length xs) (omega arith)) refl)
 
@@ -132,8 +132,8 @@ module _ (xs : List ℕ) (x : ℕ) (up : IsStrictlyIncreasing xs) where
   member_if_found (Ok i) h = sym (subst (λ z. list_any (λ y. eqb y z) xs ≡ true) h.1 (member_at xs i h.0))
   member_if_found (Err i) h =
       sym (no_member xs x
-          (λ k lt e. ⊎_elim (λ low. absurd (omega (arith, h.1 k low, e)))
-          (λ high. absurd (omega (arith, h.2 k high lt, e))) (cases_lt k i)))
+      (λ k lt e. ⊎_elim (λ low. absurd (omega (arith, h.1 k low, e)))
+      (λ high. absurd (omega (arith, h.2 k high lt, e))) (cases_lt k i)))
 
   pub member_by_search : (r : Result ℕ ℕ) → IsBinarySearchResult (λ y. nat_cmp y x) xs r
       → is_ok r ≡ list_any (λ y. eqb y x) xs
@@ -153,8 +153,10 @@ between_from (x ∷ xs) low high up within = (
   (within 0 (omega arith)).0,
   (within 0 (omega arith)).1,
   between_from xs (x + 1) high (λ k h. rises (x ∷ xs) up (suc k) (suc (k + 1)) (omega arith) (omega arith))
-      (λ k h. (omega (arith, rises (x ∷ xs) up 0 (suc k) (omega arith) (omega arith)),
-          (within (suc k) (omega arith)).1)),
+      (λ k h. (
+        omega (arith, rises (x ∷ xs) up 0 (suc k) (omega arith) (omega arith)),
+        (within (suc k) (omega arith)).1,
+      )),
 )
 
 -- an index below all of them is none of them
@@ -170,12 +172,12 @@ one_index_on a rest [] low from high le all = refl
 one_index_on a rest (x ∷ xs) low from high le all =
     let e : x - low ≡ suc (x - (low + 1)) = omega (arith, all.0) in
     ap₂ (λ y ys. y ∷ ys) (ap (λ n. get_or (a ∷ rest) n 0) e)
-        (one_index_on a rest xs low (x + 1) high (omega (arith, all.0)) all.2)
+    (one_index_on a rest xs low (x + 1) high (omega (arith, all.0)) all.2)
 
 -- the ids at the indexes from `low` on are those that pass a test which passes exactly there
 filter_at : (p : ℕ → Bool) (ids row : List ℕ) (low : ℕ) → AreBetween low (low + length ids) row →
     ((k : ℕ) → k < length ids → p (get_or ids k 0) ≡ list_any (λ y. eqb y (low + k)) row)
-        → map (λ n. get_or ids (n - low) 0) row ≡ filter p ids
+    → map (λ n. get_or ids (n - low) 0) row ≡ filter p ids
 filter_at p [] [] low all passes = refl
 filter_at p [] (x ∷ xs) low all passes = absurd (omega (arith, all.0, all.1))
 filter_at p (a ∷ rest) [] low all passes =
@@ -185,15 +187,15 @@ filter_at p (a ∷ rest) (x ∷ xs) low all passes =
     (λ same.
     let le : low + 1 ≤ low + 1 = omega arith in
     let here : p a ≡ true =
-        passes 0 (omega arith) ∙ ap (λ b. b || list_any (λ y. eqb y (low + 0)) xs) (eq-eqb x (low + 0) (omega arith)) in
+    passes 0 (omega arith) ∙ ap (λ b. b || list_any (λ y. eqb y (low + 0)) xs) (eq-eqb x (low + 0) (omega arith)) in
     let first : x - low ≡ 0 = omega arith in
     let tail : AreBetween (low + 1) ((low + 1) + length rest) xs =
-        subst (λ h. AreBetween (low + 1) h xs) (omega arith)
-        (subst (λ l. AreBetween (l + 1) (low + suc (length rest)) xs) same all.2) in
+    subst (λ h. AreBetween (low + 1) h xs) (omega arith)
+    (subst (λ l. AreBetween (l + 1) (low + suc (length rest)) xs) same all.2) in
     let later : (k : ℕ) → k < length rest → p (get_or rest k 0) ≡ list_any (λ y. eqb y ((low + 1) + k)) xs =
     λ k h. passes (suc k) (omega arith)
-        ∙ ap (λ b. b || list_any (λ y. eqb y (low + suc k)) xs) (ne_eqb x (low + suc k) (λ e. absurd (omega arith)))
-        ∙ ap (λ n. list_any (λ y. eqb y n) xs) (omega arith) in
+    ∙ ap (λ b. b || list_any (λ y. eqb y (low + suc k)) xs) (ne_eqb x (low + suc k) (λ e. absurd (omega arith)))
+    ∙ ap (λ n. list_any (λ y. eqb y n) xs) (omega arith) in
     let head : get_or (a ∷ rest) (x - low) 0 ≡ a = ap (λ n. get_or (a ∷ rest) n 0) first in
     let others : map (λ n. get_or (a ∷ rest) (n - low) 0) xs ≡ filter p rest =
     one_index_on a rest xs low (low + 1) ((low + 1) + length rest) le tail ∙ filter_at p rest xs (low + 1) tail later in
@@ -202,23 +204,23 @@ filter_at p (a ∷ rest) (x ∷ xs) low all passes =
     let le : low + 1 ≤ low + 1 = omega arith in
     let more : low + 1 ≤ x = omega (arith, all.0) in
     let row_on : AreBetween (low + 1) ((low + 1) + length rest) (x ∷ xs) =
-        (more, omega (arith, all.1), subst (λ h. AreBetween (x + 1) h xs) (omega arith) all.2) in
+    (more, omega (arith, all.1), subst (λ h. AreBetween (x + 1) h xs) (omega arith) all.2) in
     let here : p a ≡ false =
-        passes 0 (omega arith)
-        ∙ above_low (x ∷ xs) (low + 1) ((low + 1) + length rest) (low + 0) (omega arith) row_on in
+    passes 0 (omega arith)
+    ∙ above_low (x ∷ xs) (low + 1) ((low + 1) + length rest) (low + 0) (omega arith) row_on in
     let later : (k : ℕ) → k < length rest → p (get_or rest k 0) ≡ list_any (λ y. eqb y ((low + 1) + k)) (x ∷ xs) =
     λ k h. passes (suc k) (omega arith) ∙ ap (λ n. list_any (λ y. eqb y n) (x ∷ xs)) (omega arith) in
     rw here (one_index_on a rest (x ∷ xs) low (low + 1) ((low + 1) + length rest) le row_on
-        ∙ filter_at p rest (x ∷ xs) (low + 1) row_on later))
+    ∙ filter_at p rest (x ∷ xs) (low + 1) row_on later))
     (cases_eq x low)
 
 -- the ids at the indexes of an ascending row are those that pass a test which passes exactly there
 pub filter_by_row : (p : ℕ → Bool) (ids row : List ℕ) → IsStrictlyIncreasing row →
     ((j : ℕ) → list_any (λ y. eqb y j) row ≡ true → j < length ids) →
     ((k : ℕ) → k < length ids → p (get_or ids k 0) ≡ list_any (λ y. eqb y k) row)
-        → map (λ n. get_or ids n 0) row ≡ filter p ids
+    → map (λ n. get_or ids n 0) row ≡ filter p ids
 filter_by_row p ids row up within passes =
     let all : AreBetween 0 (0 + length ids) row =
-        between_from row 0 (0 + length ids) up (λ k h. (omega arith, omega (arith, within _ (member_at row k h)))) in
+    between_from row 0 (0 + length ids) up (λ k h. (omega arith, omega (arith, within _ (member_at row k h)))) in
     simp unary_clauses at
-        (filter_at p ids row 0 all (λ k h. passes k h ∙ ap (λ n. list_any (λ y. eqb y n) row) (omega arith)))
+    (filter_at p ids row 0 all (λ k h. passes k h ∙ ap (λ n. list_any (λ y. eqb y n) row) (omega arith)))

@@ -30,8 +30,8 @@ module _ (ids : List ℕ) (rows : List (List ℕ)) (as_ids : AreIds ids) (as_row
       connected_from_marks ids rows as_ids as_rows are_graph marks found
       (λ i i_in.
       let other =
-          eqb-false (get_or marks i 0) (length ids)
-          (no_index (λ m. eqb m (length ids)) marks none i (omega (arith, found.are_reached.count))) in
+      eqb-false (get_or marks i 0) (length ids)
+      (no_index (λ m. eqb m (length ids)) marks none i (omega (arith, found.are_reached.count))) in
       omega (arith, found.are_reached.small i i_in))
 
   pub cut_off_by_marks : (i : ℕ) → Some i ≡ position (λ m. eqb m (length ids)) marks
@@ -39,14 +39,14 @@ module _ (ids : List ℕ) (rows : List (List ℕ)) (as_ids : AreIds ids) (as_row
   cut_off_by_marks i at =
       let index = position-Some (λ m. eqb m (length ids)) marks i 0 (sym at) in
       cut_off_from_marks ids rows as_ids as_rows are_graph marks found i
-          (omega (arith, index.0, found.are_reached.count))
+      (omega (arith, index.0, found.are_reached.count))
       (eqb-true (get_or marks i 0) (length ids) index.1)
       (λ k low. eqb-false (get_or marks k 0) (length ids) (index.2 k low))
 
 module _ (nodes ids : List ℕ) (links : List (ℕ × ℕ)) (rows : List (List ℕ)) (as_ids : AreIds ids)
     (sorted : AreSorted nodes ids) (few : length links ≤ MAX_LINKS)
     (apart : AreApart ids links) (joined : AreJoined ids links rows) (marks : List ℕ)
-        (found : AreDistances (length ids) rows 0 marks) where
+    (found : AreDistances (length ids) rows 0 marks) where
   module _ (none : None ≡ position (λ m. eqb m (length ids)) marks) where
     connected : IsConnected (graph_of ids rows)
     connected = connected_by_marks ids rows as_ids joined.as_rows marks found none
@@ -94,7 +94,7 @@ module _ (nodes ids : List ℕ) (links : List (ℕ × ℕ)) (near : Vec (Vec ℕ
     (made_are : ids ≡ made) (as_made : AreIds made) (sorted_made : AreSorted nodes made)
     (few : length links ≤ MAX_LINKS) (apart : AreApart ids links) (joined : AreJoined ids links (rows_of near.items))
     (lent_near : List (Vec ℕ Global)) (near_is : lent_near ≡ near.items) (marks : List ℕ)
-        (found : AreDistances (length lent_near) (rows_of lent_near) 0 marks)
+    (found : AreDistances (length lent_near) (rows_of lent_near) 0 marks)
     (lent_marks : List ℕ) (marks_are : lent_marks ≡ marks) (count : ℕ) (count_is : count ≡ vec_len near) where
   as_ids : AreIds ids
   as_ids = subst AreIds (sym made_are) as_made
@@ -108,7 +108,7 @@ module _ (nodes ids : List ℕ) (links : List (ℕ × ℕ)) (near : Vec (Vec ℕ
   found_ids : AreDistances (length ids) (rows_of near.items) 0 marks
   found_ids =
       subst (λ n. AreDistances n (rows_of near.items) 0 marks) rows_count
-          (subst (λ v. AreDistances (length v) (rows_of v) 0 marks) near_is found)
+      (subst (λ v. AreDistances (length v) (rows_of v) 0 marks) near_is found)
 
   index_of_count : (o : Option ℕ) → o ≡ position (λ m. eqb m count) lent_marks
       → o ≡ position (λ m. eqb m (length ids)) marks
@@ -131,8 +131,8 @@ module _ (nodes ids : List ℕ) (links : List (ℕ × ℕ)) (near : Vec (Vec ℕ
 pub distance_in : (ids : List ℕ) (rows : List (List ℕ)) (count : ℕ) → AreParts ids rows count → (start : ℕ)
     → start < length ids → (marks : List ℕ) → AreDistances (length ids) rows start marks → (k : ℕ) → k < length ids →
     (get_or marks k 0 < length ids)
-        × IsDistance (graph_of ids rows) (get_or ids k 0) (get_or ids start 0) (get_or marks k 0)
+    × IsDistance (graph_of ids rows) (get_or ids k 0) (get_or ids start 0) (get_or marks k 0)
 distance_in ids rows count are start within marks found k k_in =
     distance_of_mark ids rows are.as_ids are.as_rows start marks found k k_in
     (are.connected (get_or ids k 0) (get_or ids start 0) (Contains-get_or ids k 0 k_in)
-        (Contains-get_or ids start 0 within))
+    (Contains-get_or ids start 0 within))

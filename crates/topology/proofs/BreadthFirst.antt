@@ -28,30 +28,33 @@ some_unmarked n k marks within free =
 module _ (n mark : ℕ) (old before : List ℕ) (room : mark + unmarked n old ≤ n) (now reached : List ℕ)
     (count : length now ≡ length old) (kept : (k : ℕ) → get_or old k 0 ≢ n → get_or now k 0 ≡ get_or old k 0)
     (queued : QueuesMarked n mark old now before reached) (i : ℕ) (i_in : i < length now) (free : get_or now i 0 ≡ n)
-        where
-  was_free : get_or old i 0 ≡ n
-  was_free = ⊎_elim (λ e. e) (λ ne. sym (kept i ne) ∙ free) (cases_eq (get_or old i 0) n)
+  where
+    was_free : get_or old i 0 ≡ n
+    was_free = ⊎_elim (λ e. e) (λ ne. sym (kept i ne) ∙ free) (cases_eq (get_or old i 0) n)
 
-  mark_differs : mark ≢ n
-  mark_differs same = absurd (omega (arith, some_unmarked n i old (omega (arith, count)) was_free))
+    mark_differs : mark ≢ n
+    mark_differs same = absurd (omega (arith, some_unmarked n i old (omega (arith, count)) was_free))
 
-  -- an index that gets the mark comes behind the others
-  pub queue_more : QueuesMarked n mark old (set now i mark) before (reached ++ i ∷ [])
-  queue_more = record {
-    longer = omega (arith, length_push reached i, queued.longer);
-    front = λ p p_in. get_or_append_left reached (i ∷ []) 0 p (omega (arith, queued.longer)) ∙ queued.front p p_in;
-    behind = grind (arith, common_steps, was_free, queued.behind);
-    found = λ k was marked.
-        ⊎_elim
-        (λ same.
-            (length reached, omega (arith, length_push reached i), get_or_push reached i 0 (length reached) refl
-            ∙ sym same))
-        (λ other.
-        let at = queued.found k was (λ e. marked (get_or-set_other now i k mark 0 other ∙ e)) in
-        (at.0, omega (arith, at.1, length_push reached i), get_or_append_left reached (i ∷ []) 0 at.0 at.1 ∙ at.2))
-        (cases_eq k i);
-    room = omega (arith, length_push reached i, queued.room, one_fewer n i mark now i_in free mark_differs);
-  }
+    -- an index that gets the mark comes behind the others
+    pub queue_more : QueuesMarked n mark old (set now i mark) before (reached ++ i ∷ [])
+    queue_more = record {
+      longer = omega (arith, length_push reached i, queued.longer);
+      front = λ p p_in. get_or_append_left reached (i ∷ []) 0 p (omega (arith, queued.longer)) ∙ queued.front p p_in;
+      behind = grind (arith, common_steps, was_free, queued.behind);
+      found = λ k was marked.
+          ⊎_elim
+          (λ same. (
+            length reached,
+            omega (arith, length_push reached i),
+            get_or_push reached i 0 (length reached) refl
+                ∙ sym same,
+          ))
+          (λ other.
+          let at = queued.found k was (λ e. marked (get_or-set_other now i k mark 0 other ∙ e)) in
+          (at.0, omega (arith, at.1, length_push reached i), get_or_append_left reached (i ∷ []) 0 at.0 at.1 ∙ at.2))
+          (cases_eq k i);
+      room = omega (arith, length_push reached i, queued.room, one_fewer n i mark now i_in free mark_differs);
+    }
 
 -- ---- one reached index after another
 
@@ -68,8 +71,12 @@ module _ (n : ℕ) (rows : List (List ℕ)) (are : AreRows n rows) (start place 
   -- the next mark is free where some index has none
   mark_low : (k : ℕ) → k < n → get_or old k 0 ≡ n → mark < n
   mark_low k k_in free =
-      omega (arith, some_unmarked n k old (omega (arith, queued.are_reached.count)) free, queued.room,
-      (queued.below place place_in).1)
+      omega (
+        arith,
+        some_unmarked n k old (omega (arith, queued.are_reached.count)) free,
+        queued.room,
+        (queued.below place place_in).1,
+      )
 
   same_mark : (k : ℕ) → get_or old k 0 < n → get_or new k 0 ≡ get_or old k 0
   same_mark k less = marks.kept k (λ e. absurd (omega arith))
@@ -78,7 +85,7 @@ module _ (n : ℕ) (rows : List (List ℕ)) (are : AreRows n rows) (start place 
   record Cases (k : ℕ) : Type 0 where
     pub split : ((get_or old k 0 < n) × (get_or new k 0 ≡ get_or old k 0))
         ⊎ ((get_or old k 0 ≡ n)
-            × ((get_or new k 0 ≡ n) ⊎ ((get_or new k 0 ≡ mark) × (mark < n) × (near_has rows index k ≡ true))))
+        × ((get_or new k 0 ≡ n) ⊎ ((get_or new k 0 ≡ mark) × (mark < n) × (near_has rows index k ≡ true))))
 
   cases : (k : ℕ) → k < n → Cases k
   cases k k_in = record {
@@ -101,7 +108,7 @@ module _ (n : ℕ) (rows : List (List ℕ)) (are : AreRows n rows) (start place 
         ∙ queued.are_reached.at_start;
     small = λ k k_in.
         ⊎_elim (λ was. omega (arith, was.0, was.1))
-            (λ other. ⊎_elim (λ e. omega (arith, e)) (λ m. omega (arith, m.0, m.1)) other.1) (cases k k_in).split;
+        (λ other. ⊎_elim (λ e. omega (arith, e)) (λ m. omega (arith, m.0, m.1)) other.1) (cases k k_in).split;
     reached = λ k k_in less.
         ⊎_elim
         (λ was. ⊎_elim
@@ -110,9 +117,13 @@ module _ (n : ℕ) (rows : List (List ℕ)) (are : AreRows n rows) (start place 
         (queued.are_reached.reached k k_in was.0))
         (λ other. ⊎_elim
         (λ free. absurd (omega (arith, free)))
-        (λ m. inr
-            (index, (queued.below place place_in).0, are.symmetric k index
-            ∙ m.2, ap (λ x. x + 1) (same_mark index (omega (arith, m.1))) ∙ sym m.0))
+        (λ m. inr (
+          index,
+          (queued.below place place_in).0,
+          are.symmetric k index
+              ∙ m.2,
+          ap (λ x. x + 1) (same_mark index (omega (arith, m.1))) ∙ sym m.0,
+        ))
         other.1)
         (cases k k_in).split;
   }
@@ -130,14 +141,18 @@ module _ (n : ℕ) (rows : List (List ℕ)) (are : AreRows n rows) (start place 
         (λ low.
         let same : get_or after p 0 ≡ get_or before p 0 = queues.front p low in
         let was = queued.below p low in
-        inl (low, same, ap (λ i. get_or new i 0) same
-            ∙ same_mark (get_or before p 0) (omega (arith, was.1, queued.room))))
+        inl (
+          low,
+          same,
+          ap (λ i. get_or new i 0) same
+              ∙ same_mark (get_or before p 0) (omega (arith, was.1, queued.room)),
+        ))
         (λ high.
         let at = queues.behind p high p_in in
         let within : get_or after p 0 < n =
         ⊎_elim (λ inside. omega (arith, queued.are_reached.count))
-            (λ past. absurd (omega (arith, get_or_past old (get_or after p 0) 0 past, at.0, queued.are_reached.within)))
-            (cases_lt (get_or after p 0) (length old)) in
+        (λ past. absurd (omega (arith, get_or_past old (get_or after p 0) 0 past, at.0, queued.are_reached.within)))
+        (cases_lt (get_or after p 0) (length old)) in
         inr (high, within, at.1))
         (cases_lt p (length before));
   }
@@ -206,7 +221,7 @@ module _ (n : ℕ) (rows : List (List ℕ)) (are : AreRows n rows) (start place 
     found = λ k k_in less.
         ⊎_elim
         (λ was. let at = queued.found k k_in was.0
-            in (at.0, omega (arith, at.1, queues.longer), queues.front at.0 at.1 ∙ at.2))
+        in (at.0, omega (arith, at.1, queues.longer), queues.front at.0 at.1 ∙ at.2))
         (λ other. queues.found k other.0 (λ e. absurd (omega arith)))
         (cases k k_in).split;
     rising = new_rising;
@@ -239,10 +254,16 @@ module _ (n : ℕ) (rows : List (List ℕ)) (start : ℕ) (within : start < n) (
   one_marked : unmarked n marks + 1 ≤ n
   one_marked =
       let first =
-          one_fewer n start 0 (replicate n n) (subst (λ m. start < m) (sym (length-replicate n n)) within)
-          (get_or-replicate n start n 0 within) (λ e. absurd (omega arith)) in
-      omega (arith, first, ap (unmarked n) written, count_by-le-length (λ m. eqb m n) (replicate n n), length-replicate
-          n n)
+      one_fewer n start 0 (replicate n n) (subst (λ m. start < m) (sym (length-replicate n n)) within)
+      (get_or-replicate n start n 0 within) (λ e. absurd (omega arith)) in
+      omega (
+        arith,
+        first,
+        ap (unmarked n) written,
+        count_by-le-length (λ m. eqb m n) (replicate n n),
+        length-replicate
+            n n,
+      )
 
   alone : (p : ℕ) → p < length (start ∷ []) → get_or marks (get_or (start ∷ []) p 0) 0 ≡ 0
   alone p p_in =

@@ -74,7 +74,7 @@ by_indexes ids s t at off x y =
     let k = index_of_member ids x x_in in
     let l = index_of_member ids y y_in in
     subst (λ v. s v y ≡ t v y) k.2
-        (subst (λ w. s (get_or ids k.0 0) w ≡ t (get_or ids k.0 0) w) l.2 (at k.0 l.0 k.1 l.1)))
+    (subst (λ w. s (get_or ids k.0 0) w ≡ t (get_or ids k.0 0) w) l.2 (at k.0 l.0 k.1 l.1)))
     (λ none. off x y (inr none))
     (cases_Bool (has ids y)))
     (λ none. off x y (inl none))
@@ -89,7 +89,7 @@ no_link ids rows as_rows x y none =
     ⊎_elim
     (λ no_x. both_ways (has ids x) no_x (subst (λ z. has ids z ≡ true) l.first (member_at ids l.i l.within)))
     (λ no_y. both_ways (has ids y) no_y
-        (subst (λ z. has ids z ≡ true) l.second (member_at ids l.j (as_rows.within l.i l.j l.near))))
+    (subst (λ z. has ids z ≡ true) l.second (member_at ids l.j (as_rows.within l.i l.j l.near))))
     none)
 
 module _ (ids : List ℕ) (up : IsStrictlyIncreasing ids) (i j : ℕ) (i_in : i < length ids) (j_in : j < length ids) where
@@ -123,32 +123,32 @@ module _ (ids : List ℕ) (up : IsStrictlyIncreasing ids) (i j : ℕ) (i_in : i 
           (λ k l k_in l_in.
           linked_at ids new up are k l k_in l_in ∙ members k l
           ∙ ap₂ (λ s t. s || t) (sym (linked_at ids rows up was k l k_in l_in))
-              (joins_indexes ids up i j i_in j_in k l k_in l_in))
+          (joins_indexes ids up i j i_in j_in k l k_in l_in))
           (λ x y none. no_link ids new are x y none
-              ∙ sym (ap₂ (λ s t. s || t) (no_link ids rows was x y none) (no_join x y none)))
+          ∙ sym (ap₂ (λ s t. s || t) (no_link ids rows was x y none) (no_join x y none)))
 
       pub links_more : links_of ids new ≡ set.insert (set.insert (links_of ids rows) (a, b)) (b, a)
       links_more =
           set.same_set pair_total pair_antisymmetric _ _
-              (λ q. linked_more q.0 q.1 ∙ sym (has_more (links_of ids rows) a b q))
+          (λ q. linked_more q.0 q.1 ∙ sym (has_more (links_of ids rows) a b q))
 
     module _ (members : (x y : ℕ) → near_has new x y ≡ (near_has rows x y && not (joins x y (i, j)))) where
       pub linked_fewer : (x y : ℕ)
           → are_linked (graph_of ids new) x y ≡ (are_linked (graph_of ids rows) x y && not (joins x y (a, b)))
       linked_fewer =
           by_indexes ids (are_linked (graph_of ids new))
-              (λ x y. are_linked (graph_of ids rows) x y && not (joins x y (a, b)))
+          (λ x y. are_linked (graph_of ids rows) x y && not (joins x y (a, b)))
           (λ k l k_in l_in.
           linked_at ids new up are k l k_in l_in ∙ members k l
           ∙ ap₂ (λ s t. s && not t) (sym (linked_at ids rows up was k l k_in l_in))
-              (joins_indexes ids up i j i_in j_in k l k_in l_in))
+          (joins_indexes ids up i j i_in j_in k l k_in l_in))
           (λ x y none. no_link ids new are x y none
-              ∙ sym (ap₂ (λ s t. s && not t) (no_link ids rows was x y none) (no_join x y none)))
+          ∙ sym (ap₂ (λ s t. s && not t) (no_link ids rows was x y none) (no_join x y none)))
 
       pub links_fewer : links_of ids new ≡ set.remove (set.remove (links_of ids rows) (a, b)) (b, a)
       links_fewer =
           set.same_set pair_total pair_antisymmetric _ _
-              (λ q. linked_fewer q.0 q.1 ∙ sym (has_fewer (links_of ids rows) a b q))
+          (λ q. linked_fewer q.0 q.1 ∙ sym (has_fewer (links_of ids rows) a b q))
 
 -- what a test was before it was made false at some places where it was true
 given_back : (p t : Bool) → (t ≡ true → p ≡ true) → p ≡ ((p && not t) || t)
@@ -161,7 +161,7 @@ given_back false false gives = refl
 module _ (ids : List ℕ) (as_ids : AreIds ids) (i j : ℕ) (i_in : i < length ids) (j_in : j < length ids)
     (rows new : List (List ℕ)) (was : AreRows (length ids) rows) (are : AreRows (length ids) new)
     (different : get_or ids i 0 ≢ get_or ids j 0)
-        (members : (x y : ℕ) → near_has new x y ≡ (near_has rows x y || joins x y (i, j)))
+    (members : (x y : ℕ) → near_has new x y ≡ (near_has rows x y || joins x y (i, j)))
     (absent : are_linked (graph_of ids rows) (get_or ids i 0) (get_or ids j 0) ≡ false) where
   pub two_more : set.len (links_of ids new) ≡ set.len (links_of ids rows) + 2
   two_more =
@@ -193,8 +193,8 @@ linked_parts ids rows new count old i j i_in j_in fresh put different absent =
               r.0,
               walk_of_other (graph_of ids rows) (graph_of ids new)
                   (λ x y e. more x y
-                      ∙ or_left (are_linked (graph_of ids rows) x y) (joins x y (get_or ids i 0, get_or ids j 0)) e) c d
-                      r.0 r.1,
+                  ∙ or_left (are_linked (graph_of ids rows) x y) (joins x y (get_or ids i 0, get_or ids j 0)) e) c d
+                  r.0 r.1,
             );
         counted = omega (arith, longer, old.counted);
       };
@@ -214,9 +214,9 @@ module _ (ids : List ℕ) (rows new : List (List ℕ)) (count : ℕ) (old : AreP
   near_joined x y e =
       ⊎_elim
       (λ (p : (i ≡ x) × (j ≡ y)). subst (λ v. near_has rows v y ≡ true) p.0
-          (subst (λ w. near_has rows i w ≡ true) p.1 near))
+      (subst (λ w. near_has rows i w ≡ true) p.1 near))
       (λ (p : (i ≡ y) × (j ≡ x)). subst (λ v. near_has rows v y ≡ true) p.1
-          (subst (λ w. near_has rows j w ≡ true) p.0 (old.as_rows.symmetric j i ∙ near)))
+      (subst (λ w. near_has rows j w ≡ true) p.0 (old.as_rows.symmetric j i ∙ near)))
       (joins_ends x y (i, j) e)
 
   different : get_or ids i 0 ≢ get_or ids j 0
@@ -227,14 +227,14 @@ module _ (ids : List ℕ) (rows new : List (List ℕ)) (count : ℕ) (old : AreP
   absent : are_linked (graph_of ids new) (get_or ids i 0) (get_or ids j 0) ≡ false
   absent =
       linked_at ids new old.as_ids.ascending taken.as_rows i j i_in j_in ∙ taken.members i j
-          ∙ ap₂ (λ s t. s && not t) near (joins_own i j)
+      ∙ ap₂ (λ s t. s && not t) near (joins_own i j)
 
   -- the pairs before are those now and two more
   pub two_fewer : set.len (links_of ids rows) ≡ set.len (links_of ids new) + 2
   two_fewer =
       two_more ids old.as_ids i j i_in j_in new rows taken.as_rows old.as_rows different
       (λ x y. given_back (near_has rows x y) (joins x y (i, j)) (near_joined x y)
-          ∙ ap (λ p. p || joins x y (i, j)) (sym (taken.members x y)))
+      ∙ ap (λ p. p || joins x y (i, j)) (sym (taken.members x y)))
       absent
 
   pub graph_without : graph_of ids new ≡ without_link (graph_of ids rows) (get_or ids i 0) (get_or ids j 0)
@@ -245,8 +245,12 @@ module _ (ids : List ℕ) (rows new : List (List ℕ)) (count : ℕ) (old : AreP
   pub unlinked_parts : (fewer : ℕ) → fewer + 1 ≡ count → IsConnected (graph_of ids new)
       → Made ids new fewer (without_link (graph_of ids rows) (get_or ids i 0) (get_or ids j 0))
   unlinked_parts fewer one_less whole = record {
-    parts = record { as_ids = old.as_ids; as_rows = taken.as_rows; connected = whole;
-        counted = omega (arith, two_fewer, old.counted, one_less) };
+    parts = record {
+      as_ids = old.as_ids;
+      as_rows = taken.as_rows;
+      connected = whole;
+      counted = omega (arith, two_fewer, old.counted, one_less);
+    };
     graph = graph_without;
   }
 
@@ -263,7 +267,7 @@ pub record MarksTellWithout (ids : List ℕ) (rows : List (List ℕ)) (count : �
 module _ (ids : List ℕ) (near : List (Vec ℕ Global)) (count : ℕ) (old : AreParts ids (rows_of near) count) (a b i j : ℕ)
     (at_a : IsIndexOf ids a i) (at_b : IsIndexOf ids b j)
     (lent_near : List (Vec ℕ Global)) (near_is : lent_near ≡ near) (copy : Vec (Vec ℕ Global) Global)
-        (copied : rows_of copy.items ≡ rows_of lent_near)
+    (copied : rows_of copy.items ≡ rows_of lent_near)
     (lent : List (Vec ℕ Global)) (lent_is : lent ≡ copy.items) (now : List (Vec ℕ Global)) where
   abbrev before : Graph
   before = graph_of ids (rows_of near)
@@ -277,18 +281,18 @@ module _ (ids : List ℕ) (near : List (Vec ℕ Global)) (count : ℕ) (old : Ar
   written : length (rows_of now) ≡ length lent → rows_of (with_items copy now).items ≡ rows_of now
   written same =
       ap rows_of
-          (with_items_is copy now
-          (omega (arith, length-map now (λ row. row.items), same, ap length lent_is, copy.ok.0)))
+      (with_items_is copy now
+      (omega (arith, length-map now (λ row. row.items), same, ap length lent_is, copy.ok.0)))
 
   pub with_link_made : (made : List ℕ) → made ≡ ids → (fresh : Bool)
       → Links (length lent) (rows_of lent) i j fresh (rows_of now) → a ≢ b → are_linked before a b ≡ false →
       Made made (rows_of (with_items copy now).items) (count + 1) (with_link before a b)
   with_link_made made made_are fresh put different absent =
       let put_ids : Links (length ids) (rows_of near) i j fresh (rows_of now) =
-          subst₂ (λ n r. Links n r i j fresh (rows_of now)) count_is same_rows put in
+      subst₂ (λ n r. Links n r i j fresh (rows_of now)) count_is same_rows put in
       let result =
       linked_parts ids (rows_of near) (rows_of now) count old i j at_a.0 at_b.0 fresh put_ids
-          (λ e. different (sym at_a.1 ∙ e ∙ at_b.1)) (ap₂ (are_linked before) at_a.1 at_b.1 ∙ absent) in
+      (λ e. different (sym at_a.1 ∙ e ∙ at_b.1)) (ap₂ (are_linked before) at_a.1 at_b.1 ∙ absent) in
       subst (λ v. Made v (rows_of (with_items copy now).items) (count + 1) (with_link before a b)) (sym made_are)
       (subst (λ r. Made ids r (count + 1) (with_link before a b)) (sym (written put.as_rows.count))
       (subst₂ (λ x y. Made ids (rows_of now) (count + 1) (with_link before x y)) at_a.1 at_b.1 result))
@@ -302,8 +306,12 @@ module _ (ids : List ℕ) (near : List (Vec ℕ Global)) (count : ℕ) (old : Ar
 
     some_link : 1 ≤ count
     some_link =
-        omega (arith, old.counted, two_fewer ids (rows_of near) (rows_of now) count old i j at_a.0 at_b.0 taken_ids
-        there_ids)
+        omega (
+          arith,
+          old.counted,
+          two_fewer ids (rows_of near) (rows_of now) count old i j at_a.0 at_b.0 taken_ids
+              there_ids,
+        )
 
     graph_is : graph_of ids (rows_of now) ≡ without_link before a b
     graph_is =
@@ -320,20 +328,20 @@ module _ (ids : List ℕ) (near : List (Vec ℕ Global)) (count : ℕ) (old : Ar
       found_ids =
           subst₂ (λ n r. AreDistances n r 0 marks)
           (sym (length-map searched (λ row. row.items)) ∙ ap length searched_rows ∙ taken_ids.as_rows.count)
-              searched_rows found
+          searched_rows found
 
       index_of_count : (o : Option ℕ) → o ≡ position (λ m. eqb m free) lent_marks
           → o ≡ position (λ m. eqb m (length ids)) marks
       index_of_count o at =
           subst₂ (λ n xs. o ≡ position (λ m. eqb m n) xs)
-              (omega (arith, free_is, copy.ok.0, ap length lent_is, count_is)) marks_are at
+          (omega (arith, free_is, copy.ok.0, ap length lent_is, count_is)) marks_are at
 
       cut_off_without : (k : ℕ) → Some k ≡ position (λ m. eqb m free) lent_marks
           → IsCutOff (without_link before a b) (get_or ids k 0)
       cut_off_without k at =
           subst (λ g. IsCutOff g (get_or ids k 0)) graph_is
           (cut_off_by_marks ids (rows_of now) old.as_ids taken_ids.as_rows marks found_ids k
-              (index_of_count (Some k) at))
+          (index_of_count (Some k) at))
 
       module _ (none : None ≡ position (λ m. eqb m free) lent_marks) where
         whole : IsConnected (graph_of ids (rows_of now))
@@ -348,14 +356,18 @@ module _ (ids : List ℕ) (near : List (Vec ℕ Global)) (count : ℕ) (old : Ar
         without_link_made made made_are =
             let result =
             unlinked_parts ids (rows_of near) (rows_of now) count old i j at_a.0 at_b.0 taken_ids there_ids (count - 1)
-                (omega (arith, some_link)) whole in
+            (omega (arith, some_link)) whole in
             subst (λ v. Made v (rows_of (with_items copy now).items) (count - 1) (without_link before a b))
-                (sym made_are)
+            (sym made_are)
             (subst (λ r. Made ids r (count - 1) (without_link before a b)) (sym (written taken.as_rows.count))
             (subst₂ (λ x y. Made ids (rows_of now) (count - 1) (without_link before x y)) at_a.1 at_b.1 result))
 
       pub marks_tell_without : MarksTellWithout ids (rows_of (with_items copy now).items) count
           (without_link before a b) lent_marks free
       marks_tell_without =
-          record { some = some_link; connected = connected_without; made = without_link_made;
-          cut_off = cut_off_without }
+          record {
+            some = some_link;
+            connected = connected_without;
+            made = without_link_made;
+            cut_off = cut_off_without;
+          }

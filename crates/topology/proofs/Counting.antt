@@ -29,7 +29,7 @@ one_direction a b l =
     (λ e.
     ⊎_elim
     (λ x. let same : ◌≡◌ {A = ℕ × ℕ} (a, b) (l.0, l.1) = same_pair (a, b) (l.0, l.1) x in subst
-        (λ (p : ℕ × ℕ). joins p.0 p.1 l ≡ true) (sym same) (joins_own l.0 l.1))
+    (λ (p : ℕ × ℕ). joins p.0 p.1 l ≡ true) (sym same) (joins_own l.0 l.1))
     (λ x. let same : ◌≡◌ {A = ℕ × ℕ} (a, b) (l.1, l.0) = same_pair (a, b) (l.1, l.0) x in
     subst (λ (p : ℕ × ℕ). joins p.0 p.1 l ≡ true) (sym same) (joins_back l.1 l.0 l ∙ joins_own l.0 l.1))
     (or_cases (eq_by_cmp pair_cmp (a, b) (l.0, l.1)) (eq_by_cmp pair_cmp (a, b) (l.1, l.0)) e))
@@ -38,11 +38,11 @@ one_direction a b l =
     (λ (p : (l.0 ≡ a) × (l.1 ≡ b)).
     or_left (eq_by_cmp pair_cmp (a, b) (l.0, l.1)) (eq_by_cmp pair_cmp (a, b) (l.1, l.0))
     (subst (λ (q : ℕ × ℕ). eq_by_cmp pair_cmp (a, b) q ≡ true) (ap₂ (λ x y. (x, y)) (sym p.0) (sym p.1))
-        (pair_itself (a, b))))
+    (pair_itself (a, b))))
     (λ (p : (l.0 ≡ b) × (l.1 ≡ a)).
     or_right (eq_by_cmp pair_cmp (a, b) (l.0, l.1)) (eq_by_cmp pair_cmp (a, b) (l.1, l.0))
     (subst (λ (q : ℕ × ℕ). eq_by_cmp pair_cmp (a, b) q ≡ true) (ap₂ (λ x y. (x, y)) (sym p.1) (sym p.0))
-        (pair_itself (a, b))))
+    (pair_itself (a, b))))
     (joins_ends a b l e))
 
 or_assoc : (a b c : Bool) → (a || (b || c)) ≡ ((a || b) || c)
@@ -54,7 +54,7 @@ any_direction : (a b : ℕ) (links : List (ℕ × ℕ))
 any_direction a b [] = refl
 any_direction a b (l ∷ ls) =
     or_assoc (eq_by_cmp pair_cmp (a, b) (l.0, l.1)) (eq_by_cmp pair_cmp (a, b) (l.1, l.0))
-        (list_any (eq_by_cmp pair_cmp (a, b)) (both_directions ls))
+    (list_any (eq_by_cmp pair_cmp (a, b)) (both_directions ls))
     ∙ ap₂ (λ x y. x || y) (one_direction a b l) (any_direction a b ls)
 
 abbrev set_of : List (ℕ × ℕ) → set.FinSet pair_cmp
@@ -84,7 +84,7 @@ len_both s a b different here back =
     let absent : set.contains (set.insert s (a, b)) (b, a) ≡ false =
     set.contains-insert pair_total s (a, b) (b, a) ∙ ap₂ (λ x y. x || y) apart back in
     let inner : set.len (set.insert s (a, b)) ≡ set.len s + 1 =
-        set.len-insert pair_total s (a, b) ∙ cond-false _ _ _ here in
+    set.len-insert pair_total s (a, b) ∙ cond-false _ _ _ here in
     let outer : set.len (set.insert (set.insert s (a, b)) (b, a)) ≡ set.len (set.insert s (a, b)) + 1 =
     set.len-insert pair_total (set.insert s (a, b)) (b, a) ∙ cond-false _ _ _ absent in
     outer ∙ omega (arith, inner)
@@ -103,7 +103,7 @@ length_both (l ∷ ls) once apart =
     len_both rest b a (λ e. All-head (λ (m : ℕ × ℕ). m.0 ≢ m.1) l ls apart (sym e)) no_back (set_has a b ls ∙ absent) in
     let later : set.len rest ≡ 2 * length ls =
     length_both ls (pairs_tail (ordered_links ls) (min a b, max a b) once)
-        (All-tail (λ (m : ℕ × ℕ). m.0 ≢ m.1) l ls apart) in
+    (All-tail (λ (m : ℕ × ℕ). m.0 ≢ m.1) l ls apart) in
     outer ∙ omega arith
   where
     any_back : (ls : List (ℕ × ℕ)) → list_any (joins l.1 l.0) ls ≡ list_any (joins l.0 l.1) ls
@@ -114,7 +114,7 @@ length_both (l ∷ ls) once apart =
 pub links_counted : (nodes ids : List ℕ) (links : List (ℕ × ℕ)) (rows : List (List ℕ))
     → IsGraphOf nodes links (graph_of ids rows) →
     AllPairs (λ p q. p ≢ q) (ordered_links links) → All (λ l. l.0 ≢ l.1) links
-        → 2 * length links ≡ set.len (links_of ids rows)
+    → 2 * length links ≡ set.len (links_of ids rows)
 links_counted nodes ids links rows of_lists once apart =
     let same : links_of ids rows ≡ set_of links =
     set.same_set pair_total pair_antisymmetric (links_of ids rows) (set_of links)

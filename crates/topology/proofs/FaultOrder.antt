@@ -59,7 +59,7 @@ module _ (nodes : List ℕ) (links : List (ℕ × ℕ)) where
   pub clean_known : Clean 5 → All (Contains nodes) (ends_of links) → Clean 6
   clean_known before known (StrangeNode n) le x =
       no_first (λ i. Contains nodes i → ⊥) (ends_of links) n
-          (All-weaker (Contains nodes) (λ i. (Contains nodes i → ⊥) → ⊥) (λ i is not. not is) (ends_of links) known) x
+      (All-weaker (Contains nodes) (λ i. (Contains nodes i → ⊥) → ⊥) (λ i is not. not is) (ends_of links) known) x
   clean_known before known e le x = before e (omega arith) x
 
   pub clean_apart : Clean 6 → All (λ l. l.0 ≢ l.1) links → Clean 7
@@ -89,15 +89,15 @@ module _ (nodes : List ℕ) (some : nodes ≡ [] → ⊥) (few : length nodes �
     valid = λ k d within.
         All-contains IsId nodes (get_or ids k d) valid
         (contains_from_test nodes (get_or ids k d)
-            (sym (sorted.members (get_or ids k d))
-            ∙ test_from_contains ids (get_or ids k d) (Contains-get_or ids k d within)));
+        (sym (sorted.members (get_or ids k d))
+        ∙ test_from_contains ids (get_or ids k d) (Contains-get_or ids k d within)));
     ascending = sorted.ascending;
   }
 
   pub twice_node_first : (links : List (ℕ × ℕ)) (n : ℕ) → IsFirstRepeat nodes n → IsFirstFault nodes links (TwiceNode n)
   twice_node_first links n repeat =
       first_fault nodes links (TwiceNode n) 3 refl
-          (clean_ids nodes links (clean_few nodes links (clean_some nodes links some) few) valid) repeat
+      (clean_ids nodes links (clean_few nodes links (clean_some nodes links some) few) valid) repeat
 
 -- ---- what the ids in order tell
 
@@ -113,11 +113,11 @@ module _ (nodes ids : List ℕ) (as_ids : AreIds ids) (sorted : AreSorted nodes 
       clean_distinct nodes links
       (clean_ids nodes links
       (clean_few nodes links
-          (clean_some nodes links (λ e. absurd (omega (arith, as_ids.some, sorted.count, ap length e))))
-          (omega (arith, as_ids.small, sorted.count)))
+      (clean_some nodes links (λ e. absurd (omega (arith, as_ids.some, sorted.count, ap length e))))
+      (omega (arith, as_ids.small, sorted.count)))
       (λ k d within. All-contains IsId ids (get_or nodes k d) as_ids.valid
-          (contains_from_test ids (get_or nodes k d)
-          (id_from_node (get_or nodes k d) (Contains-get_or nodes k d within)))))
+      (contains_from_test ids (get_or nodes k d)
+      (id_from_node (get_or nodes k d) (Contains-get_or nodes k d within)))))
       sorted.distinct
 
   module _ (links : List (ℕ × ℕ)) (few : length links ≤ MAX_LINKS) where
@@ -126,13 +126,13 @@ module _ (nodes ids : List ℕ) (as_ids : AreIds ids) (sorted : AreSorted nodes 
     strange_first n first =
         first_fault nodes links (StrangeNode n) 5 refl (clean_links nodes links (clean_nodes links) few)
         (first_weaker (λ x. has ids x ≡ true → ⊥) (λ x. Contains nodes x → ⊥) (λ x not at. not (id_from_node x at))
-            (λ x not e. not (node_from_id x e)) (ends_of links) n first)
+        (λ x not e. not (node_from_id x e)) (ends_of links) n first)
 
     module _ (known : All (λ x. has ids x ≡ true) (ends_of links)) where
       clean_ends : Clean nodes links 6
       clean_ends =
           clean_known nodes links (clean_links nodes links (clean_nodes links) few)
-              (All-weaker (λ x. has ids x ≡ true) (Contains nodes) node_from_id (ends_of links) known)
+          (All-weaker (λ x. has ids x ≡ true) (Contains nodes) node_from_id (ends_of links) known)
 
       pub self_first : (n : ℕ) → IsFirst (λ (l : ℕ × ℕ). l.0 ≡ l.1) links (n, n) → IsFirstFault nodes links (SelfLink n)
       self_first n first = first_fault nodes links (SelfLink n) 6 refl clean_ends first
@@ -164,7 +164,7 @@ join_from_link a b links at =
     ⊎_elim
     (λ here. list_any-from_Any (joins a b) links (here.0, (a, b), here.1, here.2, joins_own a b))
     (λ back. list_any-from_Any (joins a b) links
-        (back.0, (b, a), back.1, back.2, joins_back a b (b, a) ∙ joins_own b a))
+    (back.0, (b, a), back.1, back.2, joins_back a b (b, a) ∙ joins_own b a))
     at
 
 module _ (nodes ids : List ℕ) (as_ids : AreIds ids) (sorted : AreSorted nodes ids) (links : List (ℕ × ℕ))
@@ -184,22 +184,25 @@ module _ (nodes ids : List ℕ) (as_ids : AreIds ids) (sorted : AreSorted nodes 
       let near : near_has rows i.0 j.0 ≡ true =
       joined.members i.0 j.0 i.1 j.1 ∙ ap₂ (λ x y. list_any (joins x y) links) i.2 j.2 ∙ e in
       subst (λ x. AreLinked (graph_of ids rows) x b) i.2
-          (subst (λ y. AreLinked (graph_of ids rows) (get_or ids i.0 0) y) j.2 (linked_to ids rows i.0 j.0 i.1 near))
+      (subst (λ y. AreLinked (graph_of ids rows) (get_or ids i.0 0) y) j.2 (linked_to ids rows i.0 j.0 i.1 near))
 
   pub graph_of_lists : IsGraphOf nodes links (graph_of ids rows)
   graph_of_lists = record {
     as_graph = graph_of_rows ids rows as_ids.ascending joined.as_rows as_ids.some;
     bound = refl;
     same_nodes =
-        λ x. (λ at. node_from_id nodes ids as_ids sorted x (test_from_contains ids x at), λ at. contains_from_test ids x
-        (id_from_node nodes ids as_ids sorted x at));
+        λ x. (
+          λ at. node_from_id nodes ids as_ids sorted x (test_from_contains ids x at),
+          λ at. contains_from_test ids x
+              (id_from_node nodes ids as_ids sorted x at),
+        );
     same_links = λ a b. (
       λ e.
           let l = linked_from ids rows a b e in
           let j_in = joined.as_rows.within l.i l.j l.near in
           link_from_join a b links
-              (sym (ap₂ (λ x y. list_any (joins x y) links) l.first l.second)
-              ∙ sym (joined.members l.i l.j l.within j_in) ∙ l.near),
+          (sym (ap₂ (λ x y. list_any (joins x y) links) l.first l.second)
+          ∙ sym (joined.members l.i l.j l.within j_in) ∙ l.near),
       λ at.
           ⊎_elim
           (λ here. let p = ends_are_ids a b here in linked_by a b p.0 p.1 (join_from_link a b links (inl here)))

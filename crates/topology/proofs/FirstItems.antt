@@ -17,21 +17,31 @@ module _ {X : Type 0} (P : X → Type 0) where
   pub first_at : (xs front rest : List X) (x : X) → xs ≡ front ++ x ∷ rest → All (λ y. P y → ⊥) front → P x
       → IsFirst P xs x
   first_at xs front rest x whole none here =
-      record { front = front; rest = rest; whole = whole;
-          before = λ y y_in. All-contains (λ z. P z → ⊥) front y none y_in; here = here }
+      record {
+        front = front;
+        rest = rest;
+        whole = whole;
+        before = λ y y_in. All-contains (λ z. P z → ⊥) front y none y_in;
+        here = here;
+      }
 
   -- where no item has the property there is no first
   pub no_first : (xs : List X) (x : X) → All (λ y. P y → ⊥) xs → IsFirst P xs x → ⊥
   no_first xs x none first =
       All-contains (λ z. P z → ⊥) xs x none
       (subst (λ ys. Contains ys x) (sym first.whole)
-          (Contains-append_right first.front (x ∷ first.rest) x (0, omega arith, refl))) first.here
+      (Contains-append_right first.front (x ∷ first.rest) x (0, omega arith, refl))) first.here
 
 pub first_weaker : {X : Type 0} (P Q : X → Type 0) → ((x : X) → P x → Q x) → ((x : X) → Q x → P x)
     → (xs : List X) (x : X) → IsFirst P xs x → IsFirst Q xs x
 first_weaker P Q to from xs x f =
-    record { front = f.front; rest = f.rest; whole = f.whole; before = λ y y_in q. f.before y y_in (from y q);
-    here = to x f.here }
+    record {
+      front = f.front;
+      rest = f.rest;
+      whole = f.whole;
+      before = λ y y_in q. f.before y y_in (from y q);
+      here = to x f.here;
+    }
 
 -- a loop over the list has come to its end
 pub all_passed : {X : Type 0} (P : X → Type 0) (xs : List X) (i : ℕ) → length xs ≤ i → All P (take i xs) → All P xs
@@ -44,11 +54,11 @@ pub no_repeat : {X : Type 0} (xs : List X) → AllPairs (λ x y. x ≢ y) xs →
 no_repeat xs apart x r =
     let k = r.earlier.0 in
     let long : length xs ≡ length r.front + suc (length r.rest) =
-        ap length r.whole ∙ length-append r.front (x ∷ r.rest) in
+    ap length r.whole ∙ length-append r.front (x ∷ r.rest) in
     let first : get_or xs k x ≡ x =
-        ap (λ ys. get_or ys k x) r.whole ∙ get_or_append_left r.front (x ∷ r.rest) x k r.earlier.1 ∙ r.earlier.2 in
+    ap (λ ys. get_or ys k x) r.whole ∙ get_or_append_left r.front (x ∷ r.rest) x k r.earlier.1 ∙ r.earlier.2 in
     let second : get_or xs (length r.front) x ≡ x =
-        ap (λ ys. get_or ys (length r.front) x) r.whole ∙ get_or_at r.front x r.rest x (length r.front) refl in
+    ap (λ ys. get_or ys (length r.front) x) r.whole ∙ get_or_at r.front x r.rest x (length r.front) refl in
     apart k (length r.front) x r.earlier.1 (omega arith) (first ∙ sym second)
 
 pub first_repeat_at : {X : Type 0} (xs front rest : List X) (x : X) → xs ≡ front ++ x ∷ rest
@@ -80,7 +90,7 @@ module _ (links : List (ℕ × ℕ)) (k : ℕ) (within : k < length links) where
   ends_whole =
       let f : ℕ × ℕ → List ℕ = λ l. l.0 ∷ l.1 ∷ [] in
       ap ends_of (split_at links k (0, 0) within)
-          ∙ flat_map-append f (take k links) (get_or links k (0, 0) ∷ drop (k + 1) links)
+      ∙ flat_map-append f (take k links) (get_or links k (0, 0) ∷ drop (k + 1) links)
 
   pub first_end : (P : ℕ → Type 0) → All (λ y. P y → ⊥) (ends_of (take k links)) → P (get_or links k (0, 0)).0
       → IsFirst P (ends_of links) (get_or links k (0, 0)).0
@@ -95,7 +105,7 @@ module _ (links : List (ℕ × ℕ)) (k : ℕ) (within : k < length links) where
       first_at P (ends_of links) (ends_of (take k links) ++ a ∷ []) (ends_of (drop (k + 1) links)) b
       (ends_whole ∙ sym (append_assoc (ends_of (take k links)) (a ∷ []) (b ∷ ends_of (drop (k + 1) links))))
       (All-append (λ y. P y → ⊥) (ends_of (take k links)) (a ∷ []) none
-          (All-cons (λ y. P y → ⊥) a [] first (All-nil (λ y. P y → ⊥)))) here
+      (All-cons (λ y. P y → ⊥) a [] first (All-nil (λ y. P y → ⊥)))) here
 
   pub both_ends : (P : ℕ → Type 0) → All P (ends_of (take k links)) → P (get_or links k (0, 0)).0
       → P (get_or links k (0, 0)).1 → All P (ends_of (take (k + 1) links))
@@ -103,8 +113,8 @@ module _ (links : List (ℕ × ℕ)) (k : ℕ) (within : k < length links) where
       let a = (get_or links k (0, 0)).0 in
       let b = (get_or links k (0, 0)).1 in
       subst (All P) (sym ends_more)
-          (All-append P (ends_of (take k links)) (a ∷ b ∷ []) all
-          (All-cons P a (b ∷ []) first (All-cons P b [] second (All-nil P))))
+      (All-append P (ends_of (take k links)) (a ∷ b ∷ []) all
+      (All-cons P a (b ∷ []) first (All-cons P b [] second (All-nil P))))
 
   pub ends_known : (P : ℕ → Type 0) → All P (ends_of links) → P (get_or links k (0, 0)).0 × P (get_or links k (0, 0)).1
   ends_known P all =

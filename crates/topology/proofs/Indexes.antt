@@ -30,18 +30,18 @@ module _ (ids : List ℕ) (up : IsStrictlyIncreasing ids) (n : ℕ) (indexes : L
       record {
         found = λ k low.
             ⊎_elim (λ same. subst (λ j. get_or put (get_or ids j 0) None ≡ Some j) (sym same)
-                (get_or-set_same indexes x (Some n) None room))
+            (get_or-set_same indexes x (Some n) None room))
             (λ other.
             let earlier : k < n = omega (arith, low, other) in
             get_or-set_other indexes x (get_or ids k 0) (Some n) None
-                (λ e. absurd (omega (arith, e, rises ids up k n earlier within))) ∙ has.found k earlier)
+            (λ e. absurd (omega (arith, e, rises ids up k n earlier within))) ∙ has.found k earlier)
             (cases_eq k n);
         only = λ id k e.
             ⊎_elim
             (λ (here : id ≡ x).
             let last : n ≡ k =
-                same_Some n k
-                (sym (get_or-set_same indexes x (Some n) None room) ∙ ap (λ i. get_or put i None) (sym here) ∙ e) in
+            same_Some n k
+            (sym (get_or-set_same indexes x (Some n) None room) ∙ ap (λ i. get_or put i None) (sym here) ∙ e) in
             (omega (arith, last), ap (λ j. get_or ids j 0) (sym last) ∙ sym here))
             (λ (there : id ≢ x).
             let before = has.only id k (sym (get_or-set_other indexes x id (Some n) None there) ∙ e) in
@@ -63,5 +63,5 @@ has_all ids up indexes has id = of (get_or indexes id None) (position (λ i. eqb
     of None (Some k) at index =
         let found = position-Some (λ i. eqb i id) ids k 0 index in
         absurd (none-some k
-            (sym at ∙ ap (λ i. get_or indexes i None) (sym (eqb-true (get_or ids k 0) id found.1))
-            ∙ has.found k found.0))
+        (sym at ∙ ap (λ i. get_or indexes i None) (sym (eqb-true (get_or ids k 0) id found.1))
+        ∙ has.found k found.0))

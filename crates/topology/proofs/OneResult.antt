@@ -23,7 +23,7 @@ use Rattle.topology.proofs.RowLemmas.{pair_total, pair_antisymmetric}
 below_all : (x : ℕ) (xs : List ℕ) → IsStrictlyIncreasing (x ∷ xs) → (z : ℕ) → Contains xs z → x < z
 below_all x xs up z (k, low, at) =
     subst (λ n. x < n) (sym (get_or_default xs k z 0 low) ∙ at)
-        (rises (x ∷ xs) up 0 (suc k) (omega arith) (omega (arith, low)))
+    (rises (x ∷ xs) up 0 (suc k) (omega arith) (omega (arith, low)))
 
 rest_up : (x : ℕ) (xs : List ℕ) → IsStrictlyIncreasing (x ∷ xs) → IsStrictlyIncreasing xs
 rest_up x xs up k low =
@@ -47,7 +47,7 @@ same_ascending (x ∷ xs) (y ∷ ys) xs_up ys_up to from =
     head =
         ⊎_elim (λ e. sym e)
         (λ x_in. ⊎_elim (λ e. e)
-            (λ y_in. absurd (omega (arith, below_all x xs xs_up y y_in, below_all y ys ys_up x x_in)))
+        (λ y_in. absurd (omega (arith, below_all x xs xs_up y y_in, below_all y ys ys_up x x_in)))
         (in_rest x y xs (from y (0, omega arith, refl))))
         (in_rest y x ys (to x (0, omega arith, refl)))
 
@@ -69,7 +69,7 @@ one_graph nodes links g h of_g of_h =
     let Parts : Type 0 = List ℕ × (ℕ × set.FinSet pair_cmp) in
     let whole : Parts → Graph = λ p. record { ids = p.0; bound = p.1.0; links = p.1.1 } in
     let parts : (g.ids, (g.bound, g.links)) ≡ (h.ids, (h.bound, h.links)) =
-        ap₂ (λ a b. (a, b)) ids (ap₂ (λ a b. (a, b)) bounds pairs) in
+    ap₂ (λ a b. (a, b)) ids (ap₂ (λ a b. (a, b)) bounds pairs) in
     ap whole parts
   where
     ids : g.ids ≡ h.ids
@@ -108,12 +108,12 @@ module _ {X : Type 0} (xs : List X) where
     item_in : length front < length behind → get_or behind (length front) x ≡ x
     item_in less =
         sym (get_or_append_left behind (y ∷ more) x (length front) less)
-            ∙ ap (λ ys. get_or ys (length front) x) (sym other) ∙ item_at front rest x whole
+        ∙ ap (λ ys. get_or ys (length front) x) (sym other) ∙ item_at front rest x whole
 
     part_in : length front < length behind → front ≡ take (length front) behind
     part_in less =
         sym (part_is front rest x whole) ∙ ap (take (length front)) other
-            ∙ take-append-le (length front) behind (y ∷ more) (omega (arith, less))
+        ∙ take-append-le (length front) behind (y ∷ more) (omega (arith, less))
 
     -- two parts of which neither is the longer one end at one item
     one_item : (length front < length behind → ⊥) → (length behind < length front → ⊥) → x ≡ y
@@ -121,7 +121,7 @@ module _ {X : Type 0} (xs : List X) where
         ⊎_elim
         (λ same.
         sym (item_at front rest x whole) ∙ get_or_default xs (length front) x y (within front rest x whole)
-            ∙ ap (λ k. get_or xs k y) same
+        ∙ ap (λ k. get_or xs k y) same
         ∙ item_at behind more y other)
         (λ apart. ⊎_elim (λ less. absurd (not_less less)) (λ longer. absurd (not_more longer)) apart)
         (cases_order (length front) (length behind))
@@ -157,8 +157,8 @@ module _ {X : Type 0} (xs : List X) where
 one_cut_off : (g : Graph) (m n : ℕ) → IsCutOff g m → IsCutOff g n → m ≡ n
 one_cut_off g m n a b =
     ⊎_elim (λ same. same)
-        (λ apart. ⊎_elim (λ less. absurd (a.cut_off (b.least m a.node less)))
-        (λ less. absurd (b.cut_off (a.least n b.node less))) apart)
+    (λ apart. ⊎_elim (λ less. absurd (a.cut_off (b.least m a.node less)))
+    (λ less. absurd (b.cut_off (a.least n b.node less))) apart)
     (cases_order m n)
 
 module _ (nodes : List ℕ) (links : List (ℕ × ℕ)) where

@@ -17,7 +17,7 @@ without j row = filter (λ i. not (eqb i j)) row
 eqb_back : (x y : ℕ) → eqb x y ≡ eqb y x
 eqb_back x y =
     ⊎_elim (λ e. eq-eqb x y e ∙ sym (eq-eqb y x (sym e))) (λ ne. ne_eqb x y ne ∙ sym (ne_eqb y x (λ e. ne (sym e))))
-        (cases_eq x y)
+    (cases_eq x y)
 
 only_other : (p q : Bool) → (not q && p) ≡ (p && not (true && q))
 only_other true true = refl
@@ -54,12 +54,12 @@ module _ (rows : List (List ℕ)) (i j : ℕ) (within : i < length rows) where
       (λ same.
       let here : near_has now i b ≡ (near_has rows i b && not (eqb i i && eqb j b)) =
       ap (λ r. has r b) row_taken ∙ has-filter (λ k. not (eqb k j)) (row_at rows i) b
-          ∙ only_other (near_has rows i b) (eqb b j)
+      ∙ only_other (near_has rows i b) (eqb b j)
       ∙ ap₂ (λ s t. near_has rows i b && not (s && t)) (sym (eq-eqb i i refl)) (eqb_back b j) in
       subst (λ k. near_has now k b ≡ (near_has rows k b && not (eqb i k && eqb j b))) (sym same) here)
       (λ other.
       ap (λ r. has r b) (get_or-set_other rows i a (without j (row_at rows i)) [] other)
-          ∙ untouched (near_has rows a b) (eqb j b)
+      ∙ untouched (near_has rows a b) (eqb j b)
       ∙ ap (λ t. near_has rows a b && not (t && eqb j b)) (sym (ne_eqb i a (λ e. other (sym e)))))
       (cases_eq a i)
 
@@ -67,9 +67,9 @@ module _ (rows : List (List ℕ)) (i j : ℕ) (within : i < length rows) where
   taken_ascends up a =
       ⊎_elim
       (λ same. subst IsStrictlyIncreasing (sym (ap (row_at now) same ∙ row_taken))
-          (IsStrictlyIncreasing-filter (λ k. not (eqb k j)) (row_at rows i) (up i)))
+      (IsStrictlyIncreasing-filter (λ k. not (eqb k j)) (row_at rows i) (up i)))
       (λ other. subst IsStrictlyIncreasing (sym (get_or-set_other rows i a (without j (row_at rows i)) [] other))
-          (up a))
+      (up a))
       (cases_eq a i)
 
 module _ (n : ℕ) (rows : List (List ℕ)) (are : AreRows n rows) (i j : ℕ) (i_in : i < n) (j_in : j < n) where
@@ -103,7 +103,7 @@ module _ (n : ℕ) (rows : List (List ℕ)) (are : AreRows n rows) (i j : ℕ) (
           (and_parts (near_has rows a b) (not (joins a b (i, j))) (sym (near_unlinked a b) ∙ e)).0;
       symmetric = λ a b.
           near_unlinked a b ∙ ap₂ (λ x y. x && not y) (are.symmetric a b) (joins_back a b (i, j))
-              ∙ sym (near_unlinked b a);
+          ∙ sym (near_unlinked b a);
       irreflexive = λ a. near_unlinked a a ∙ ap (λ x. x && not (joins a a (i, j))) (are.irreflexive a);
     };
   }
@@ -112,16 +112,16 @@ module _ (n : ℕ) (rows : List (List ℕ)) (are : AreRows n rows) (i j : ℕ) (
 pub unlinked_rows : (near : List (Vec ℕ Global)) → AreRows (length near) (rows_of near) → (i j : ℕ) → i < length near
     → j < length near → (d v e w : Vec ℕ Global) →
     v.items ≡ without j (get_or near i d).items → w.items ≡ without i (get_or (set near i v) j e).items
-        → Unlinks (length near) (rows_of near) i j (rows_of (set (set near i v) j w))
+    → Unlinks (length near) (rows_of near) i j (rows_of (set (set near i v) j w))
 unlinked_rows near are i j i_in j_in d v e w v_is w_is =
     let v_row : v.items ≡ without j (row_at (rows_of near) i) =
-        v_is ∙ ap (without j) (sym (row_items near i j d i_in)) in
+    v_is ∙ ap (without j) (sym (row_items near i j d i_in)) in
     let first_is : rows_of (set near i v) ≡ set (rows_of near) i (without j (row_at (rows_of near) i)) =
     map-set (λ row. row.items) near i v ∙ ap (set (rows_of near) i) v_row in
     let j_low : j < length (set near i v) = subst (λ n. j < n) (sym (length-set near i v)) j_in in
     let w_row : w.items ≡ without i (row_at (rows_of (set near i v)) j) =
-        w_is ∙ ap (without i) (sym (get_or-map (λ row. row.items) (set near i v) j e [] j_low)) in
+    w_is ∙ ap (without i) (sym (get_or-map (λ row. row.items) (set near i v) j e [] j_low)) in
     subst (Unlinks (length near) (rows_of near) i j)
     (sym (map-set (λ row. row.items) (set near i v) j w
-        ∙ ap₂ (λ r x. set r j x) first_is (w_row ∙ ap (λ r. without i (row_at r j)) first_is)))
+    ∙ ap₂ (λ r x. set r j x) first_is (w_row ∙ ap (λ r. without i (row_at r j)) first_is)))
     (unlinked (length near) (rows_of near) are i j i_in j_in)

@@ -28,7 +28,7 @@ pair_total = on_texts (λ (p : ℕ × ℕ). p.0 ∷ p.1 ∷ [])
 pub same_pair : (p q : ℕ × ℕ) → eq_by_cmp pair_cmp p q ≡ true → p ≡ q
 same_pair p q e =
     let lists : (p.0 ∷ p.1 ∷ []) ≡ (q.0 ∷ q.1 ∷ []) =
-        slice_cmp-IsAntisymmetric nat_cmp-IsAntisymmetric _ _ ((Equal-is (pair_cmp p q)).0 e) in
+    slice_cmp-IsAntisymmetric nat_cmp-IsAntisymmetric _ _ ((Equal-is (pair_cmp p q)).0 e) in
     let first : p.0 ≡ q.0 = cc in
     let second : p.1 ≡ q.1 = cc in
     ap₂ (λ x y. (x, y)) first second
@@ -69,14 +69,14 @@ module _ (ids : List ℕ) (rows : List (List ℕ)) where
   any_row a b (i ∷ is) =
       list_any-append (eq_by_cmp pair_cmp (a, b)) (pairs_at ids rows i) (flat_map (pairs_at ids rows) is)
       ∙ ap₂ (λ x y. x || y)
-          (any_map (eq_by_cmp pair_cmp (a, b)) (λ j. (get_or ids i 0, get_or ids j 0)) (row_at rows i)) (any_row a b is)
+      (any_map (eq_by_cmp pair_cmp (a, b)) (λ j. (get_or ids i 0, get_or ids j 0)) (row_at rows i)) (any_row a b is)
 
   linked_by_rows : (a b : ℕ)
       → are_linked (graph_of ids rows) a b ≡ list_any (row_links a b) (range_with_len 0 (length ids))
   unfolding links_of
   linked_by_rows a b =
       set.contains-from_list pair_total (flat_map (pairs_at ids rows) (range_with_len 0 (length ids))) (a, b)
-          ∙ any_row a b (range_with_len 0 (length ids))
+      ∙ any_row a b (range_with_len 0 (length ids))
 
   pub linked_from : (a b : ℕ) → AreLinked (graph_of ids rows) a b → Linked ids rows a b
   linked_from a b e =
@@ -85,10 +85,10 @@ module _ (ids : List ℕ) (rows : List (List ℕ)) where
       let low : row.0 < length ids = subst (λ n. row.0 < n) (length_range 0 (length ids)) row.2 in
       let at : row.0 ≡ i = sym (get_or-range_with_len 0 (length ids) row.0 i low ∙ omega arith) ∙ row.3 in
       let entry =
-          Any-from_list_any (λ j. eq_by_cmp pair_cmp (a, b) (get_or ids i 0, get_or ids j 0)) (row_at rows i) row.4 in
+      Any-from_list_any (λ j. eq_by_cmp pair_cmp (a, b) (get_or ids i 0, get_or ids j 0)) (row_at rows i) row.4 in
       let j = entry.1 in
       let same : ◌≡◌ {A = ℕ × ℕ} (a, b) (get_or ids i 0, get_or ids j 0) =
-          same_pair (a, b) (get_or ids i 0, get_or ids j 0) entry.4 in
+      same_pair (a, b) (get_or ids i 0, get_or ids j 0) entry.4 in
       record {
         i = i;
         j = j;
@@ -106,12 +106,22 @@ module _ (ids : List ℕ) (rows : List (List ℕ)) where
       let entry = Any-from_list_any (λ y. eqb y j) (row_at rows i) e in
       let same : entry.1 ≡ j = eqb-true entry.1 j entry.4 in
       let here : row_links a b i ≡ true =
-      list_any-from_Any (λ j. eq_by_cmp pair_cmp (a, b) (get_or ids i 0, get_or ids j 0)) (row_at rows i)
-      (entry.0, entry.1, entry.2, entry.3, subst (λ k. eq_by_cmp pair_cmp (a, b) (a, get_or ids k 0) ≡ true) (sym same)
-          (pair_itself (a, b))) in
-      linked_by_rows a b ∙ list_any-from_Any (row_links a b) (range_with_len 0 (length ids))
-      (i, i, subst (λ n. i < n) (sym (length_range 0 (length ids))) within, get_or-range_with_len 0 (length ids) i i
-          within ∙ omega arith, here)
+      list_any-from_Any (λ j. eq_by_cmp pair_cmp (a, b) (get_or ids i 0, get_or ids j 0)) (row_at rows i) (
+        entry.0,
+        entry.1,
+        entry.2,
+        entry.3,
+        subst (λ k. eq_by_cmp pair_cmp (a, b) (a, get_or ids k 0) ≡ true) (sym same)
+            (pair_itself (a, b)),
+      ) in
+      linked_by_rows a b ∙ list_any-from_Any (row_links a b) (range_with_len 0 (length ids)) (
+        i,
+        i,
+        subst (λ n. i < n) (sym (length_range 0 (length ids))) within,
+        get_or-range_with_len 0 (length ids) i i
+            within ∙ omega arith,
+        here,
+      )
 
   module _ (up : IsStrictlyIncreasing ids) (as_rows : AreRows (length ids) rows) where
     -- the ids at two indexes are linked where the row of one has the other
@@ -132,7 +142,7 @@ module _ (ids : List ℕ) (rows : List (List ℕ)) where
         let l = linked_from a b e in
         let back = linked_to l.j l.i (as_rows.within l.i l.j l.near) (as_rows.symmetric l.j l.i ∙ l.near) in
         subst (λ y. AreLinked (graph_of ids rows) b y) l.first
-            (subst (λ x. AreLinked (graph_of ids rows) x (get_or ids l.i 0)) l.second back)
+        (subst (λ x. AreLinked (graph_of ids rows) x (get_or ids l.i 0)) l.second back)
 
     -- what rows make is a graph
     pub graph_of_rows : 0 < length ids → IsGraph (graph_of ids rows)
@@ -144,9 +154,9 @@ module _ (ids : List ℕ) (rows : List (List ℕ)) where
       irreflexive = λ a e.
           let l = linked_from a a e in
           let same : l.i ≡ l.j =
-              index_once ids up l.i l.j l.within (as_rows.within l.i l.j l.near) (l.first ∙ sym l.second) in
+          index_once ids up l.i l.j l.within (as_rows.within l.i l.j l.near) (l.first ∙ sym l.second) in
           both_ways (near_has rows l.j l.j) (as_rows.irreflexive l.j)
-              (subst (λ k. near_has rows k l.j ≡ true) same l.near);
+          (subst (λ k. near_has rows k l.j ≡ true) same l.near);
       ends = λ a b e. let l = linked_from a b e in (l.i, l.within, get_or_default ids l.i a 0 l.within ∙ l.first);
     }
 
@@ -155,7 +165,7 @@ module _ (ids : List ℕ) (rows : List (List ℕ)) where
         → map (λ n. get_or ids n 0) (row_at rows i) ≡ neighbours_of (graph_of ids rows) (get_or ids i 0)
     neighbours_at i i_in =
         filter_by_row (are_linked (graph_of ids rows) (get_or ids i 0)) ids (row_at rows i) (as_rows.ascending i)
-            (λ j e. as_rows.within i j e)
+        (λ j e. as_rows.within i j e)
         (λ k k_in. linked_at i k i_in k_in)
 
     -- what the index of a number tells of its link with the id at another
@@ -164,7 +174,7 @@ module _ (ids : List ℕ) (rows : List (List ℕ)) where
     linked_at_index i b j i_in at_b =
         let index = position-Some (λ k. eqb k b) ids j 0 (sym at_b) in
         sym (linked_at i j i_in index.0)
-            ∙ ap (are_linked (graph_of ids rows) (get_or ids i 0)) (eqb-true (get_or ids j 0) b index.1)
+        ∙ ap (are_linked (graph_of ids rows) (get_or ids i 0)) (eqb-true (get_or ids j 0) b index.1)
 
     pub unlinked_first : (a b : ℕ) → None ≡ position (λ k. eqb k a) ids → false ≡ are_linked (graph_of ids rows) a b
     unlinked_first a b none =
@@ -183,8 +193,8 @@ module _ (n : ℕ) (near : List (Vec ℕ Global)) (as_rows : AreRows n (map (λ 
   pub row_here : row_at (map (λ r. r.items) near) i ≡ row.items
   row_here =
       get_or-map (λ r. r.items) near i row []
-          (subst (λ k. i < k) (sym as_rows.count ∙ length-map near (λ r. r.items)) within)
-          ∙ ap (λ r. r.items) (sym read)
+      (subst (λ k. i < k) (sym as_rows.count ∙ length-map near (λ r. r.items)) within)
+      ∙ ap (λ r. r.items) (sym read)
 
   pub row_ascends : IsStrictlyIncreasing row.items
   row_ascends = subst IsStrictlyIncreasing row_here (as_rows.ascending i)
@@ -204,17 +214,17 @@ module _ (n : ℕ) (near : List (Vec ℕ Global)) (as_rows : AreRows n (map (λ 
 pub row_neighbours : (ids : List ℕ) (near : List (Vec ℕ Global)) → AreRows (length ids) (map (λ r. r.items) near)
     → (i : ℕ) (row : Vec ℕ Global) → i < length ids → row ≡ get_or near i row →
     IsStrictlyIncreasing ids
-        → map (λ n. get_or ids n 0) row.items ≡ neighbours_of (graph_of ids (map (λ r. r.items) near)) (get_or ids i 0)
+    → map (λ n. get_or ids n 0) row.items ≡ neighbours_of (graph_of ids (map (λ r. r.items) near)) (get_or ids i 0)
 row_neighbours ids near as_rows i row within read up =
     ap (map (λ n. get_or ids n 0)) (sym (row_here (length ids) near as_rows i row within read))
-        ∙ neighbours_at ids (map (λ r. r.items) near) up as_rows i within
+    ∙ neighbours_at ids (map (λ r. r.items) near) up as_rows i within
 
 -- a search for the index of a number, in the row of another, tells whether the two are linked
 pub linked_by_search : (ids : List ℕ) (near : List (Vec ℕ Global)) → AreRows (length ids) (map (λ r. r.items) near)
     → IsStrictlyIncreasing ids → (i : ℕ) (row : Vec ℕ Global) → i < length ids → row ≡ get_or near i row →
     (b j : ℕ) → Some j ≡ position (λ k. eqb k b) ids → (r : Result ℕ ℕ)
-        → IsBinarySearchResult (λ y. nat_cmp y j) row.items r
-        → is_ok r ≡ are_linked (graph_of ids (map (λ r. r.items) near)) (get_or ids i 0) b
+    → IsBinarySearchResult (λ y. nat_cmp y j) row.items r
+    → is_ok r ≡ are_linked (graph_of ids (map (λ r. r.items) near)) (get_or ids i 0) b
 linked_by_search ids near as_rows up i row within read b j at_b r h =
     found_in_row (length ids) near as_rows i row within read j r h
-        ∙ linked_at_index ids (map (λ r. r.items) near) up as_rows i b j within at_b
+    ∙ linked_at_index ids (map (λ r. r.items) near) up as_rows i b j within at_b

@@ -104,15 +104,15 @@ unfolding app_named
 app_named-own name =
     let not_mutex = if-own (bytes_eq name (codes "routes")) (Ok Routes) (Err UnknownApp) tt tt in
     let not_token =
-        if-own (bytes_eq name (codes "mutex")) (Ok Mutex)
-        (if bytes_eq name (codes "routes") then Ok Routes else Err UnknownApp) tt not_mutex in
+    if-own (bytes_eq name (codes "mutex")) (Ok Mutex)
+    (if bytes_eq name (codes "routes") then Ok Routes else Err UnknownApp) tt not_mutex in
     let not_idle = if-own (bytes_eq name (codes "token")) (Ok Token)
     (if bytes_eq name (codes "mutex") then Ok Mutex else
-        (if bytes_eq name (codes "routes") then Ok Routes else Err UnknownApp)) tt not_token in
+    (if bytes_eq name (codes "routes") then Ok Routes else Err UnknownApp)) tt not_token in
     if-own (bytes_eq name (codes "idle")) (Ok Idle)
     (if bytes_eq name (codes "token") then Ok Token
     else (if bytes_eq name (codes "mutex") then Ok Mutex else
-        (if bytes_eq name (codes "routes") then Ok Routes else Err UnknownApp))) tt not_idle
+    (if bytes_eq name (codes "routes") then Ok Routes else Err UnknownApp))) tt not_idle
 
 table_of-own : (text : List ℕ) → IfErr (table_of text) IsOwn
 unfolding table_of

@@ -76,10 +76,10 @@ module _ (ids : List ℕ) (rows : List (List ℕ)) (as_ids : AreIds ids) (as_row
       let j_in : l.j < length ids = as_rows.within l.i l.j l.near in
       let same : l.i ≡ i = index_once ids as_ids.ascending l.i i l.within i_in l.first in
       let near : near_has rows l.j i ≡ true =
-          subst (λ k. near_has rows l.j k ≡ true) same (as_rows.symmetric l.j l.i ∙ l.near) in
+      subst (λ k. near_has rows l.j k ≡ true) same (as_rows.symmetric l.j l.i ∙ l.near) in
       let rest =
-          mark_of_walk cs l.j j_in
-          (subst (λ x. IsWalk (graph_of ids rows) x cs (get_or ids start 0)) (sym l.second) w.1) in
+      mark_of_walk cs l.j j_in
+      (subst (λ x. IsWalk (graph_of ids rows) x cs (get_or ids start 0)) (sym l.second) w.1) in
       let step = found.closed l.j i j_in near rest.0 in
       (step.0, omega (arith, step.1, rest.1))
 
@@ -90,11 +90,15 @@ module _ (ids : List ℕ) (rows : List (List ℕ)) (as_ids : AreIds ids) (as_row
   pub distance_of_mark : (i : ℕ) → i < length ids → IsReached (graph_of ids rows) (get_or ids i 0) (get_or ids start 0)
       →
       (get_or marks i 0 < length ids)
-          × IsDistance (graph_of ids rows) (get_or ids i 0) (get_or ids start 0) (get_or marks i 0)
+      × IsDistance (graph_of ids rows) (get_or ids i 0) (get_or ids start 0) (get_or marks i 0)
   distance_of_mark i i_in r =
-      let low = (mark_of_walk r.0 i i_in r.1).0 in
-      (low, record { walk = walk_of_mark (get_or marks i 0) i i_in refl low;
-          least = λ cs w. (mark_of_walk cs i i_in w).1 })
+      let low = (mark_of_walk r.0 i i_in r.1).0 in (
+        low,
+        record {
+          walk = walk_of_mark (get_or marks i 0) i i_in refl low;
+          least = λ cs w. (mark_of_walk cs i i_in w).1;
+        },
+      )
 
 -- an id stands at an index
 pub index_of_node : (ids : List ℕ) (x : ℕ) → Contains ids x → (i : ℕ) × (i < length ids) × (get_or ids i 0 ≡ x)
@@ -111,11 +115,13 @@ module _ (ids : List ℕ) (rows : List (List ℕ)) (as_ids : AreIds ids) (as_row
       let g = graph_of ids rows in
       let there = reached_of_mark ids rows as_ids as_rows 0 marks found i.0 i.1 (low i.0 i.1) in
       let back =
-          reached_back g are (get_or ids j.0 0) (get_or ids 0 0)
-          (reached_of_mark ids rows as_ids as_rows 0 marks found j.0 j.1 (low j.0 j.1)) in
-      subst (λ x. IsReached g x b) i.2 (subst (λ y. IsReached g (get_or ids i.0 0) y) j.2
-      (there.0
-          ++ back.0, walk_on g (get_or ids i.0 0) (get_or ids 0 0) (get_or ids j.0 0) there.0 back.0 there.1 back.1))
+      reached_back g are (get_or ids j.0 0) (get_or ids 0 0)
+      (reached_of_mark ids rows as_ids as_rows 0 marks found j.0 j.1 (low j.0 j.1)) in
+      subst (λ x. IsReached g x b) i.2 (subst (λ y. IsReached g (get_or ids i.0 0) y) j.2 (
+        there.0
+            ++ back.0,
+        walk_on g (get_or ids i.0 0) (get_or ids 0 0) (get_or ids j.0 0) there.0 back.0 there.1 back.1,
+      ))
 
   -- the first index with none is the least id that is cut off
   pub cut_off_from_marks : (i : ℕ) → i < length ids → get_or marks i 0 ≡ length ids
@@ -137,10 +143,10 @@ module _ (ids : List ℕ) (rows : List (List ℕ)) (as_ids : AreIds ids) (as_row
             (cases_eq k.0 i))
             (cases_lt k.0 i) in
             let low : get_or marks k.0 0 < length ids =
-                omega (arith, found.are_reached.small k.0 k.1, before k.0 k_low) in
+            omega (arith, found.are_reached.small k.0 k.1, before k.0 k_low) in
             subst (λ x. IsReached g (get_or ids 0 0) x) k.2
             (reached_back g are (get_or ids k.0 0) (get_or ids 0 0)
-                (reached_of_mark ids rows as_ids as_rows 0 marks found k.0 k.1 low));
+            (reached_of_mark ids rows as_ids as_rows 0 marks found k.0 k.1 low));
       }
 
 -- a walk of a graph is one of each graph with its links

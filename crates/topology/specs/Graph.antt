@@ -23,7 +23,7 @@ pub record Graph : Type 0 where
 abbrev pub graph_code : Coded Graph
 graph_code =
     code_by (List ℕ × (ℕ × set.FinSet pair_cmp))
-        (coded× (coded_list coded_ℕ) (coded× coded_ℕ (set.code (coded× coded_ℕ coded_ℕ))))
+    (coded× (coded_list coded_ℕ) (coded× coded_ℕ (set.code (coded× coded_ℕ coded_ℕ))))
     (λ g. (g.ids, (g.bound, g.links))) (λ p. record { ids = p.0; bound = p.1.0; links = p.1.1 }) (λ _. refl)
 
 abbrev pub IsNode : Graph → ℕ → Type 0

@@ -20,12 +20,12 @@ pub below_greater_root : (K root : ℕ) (asked : List (ℕ × TreeRegs)) → len
     → asked_passes (λ j. nat_lt j.dist K && nat_lt root j.root) asked ≡ true → AreBelow K asked
 below_greater_root K root asked =
     below_asked K (λ j. nat_lt j.dist K && nat_lt root j.root)
-        (λ j h. ltb-true j.dist K (and_parts (nat_lt j.dist K) (nat_lt root j.root) h).0) asked
+    (λ j h. ltb-true j.dist K (and_parts (nat_lt j.dist K) (nat_lt root j.root) h).0) asked
 
 pub below_shorter_way : (K root dist : ℕ) (asked : List (ℕ × TreeRegs)) → length asked ≤ 1
     → asked_passes (λ j. nat_lt j.dist K && root == j.root && nat_lt (j.dist + 1) dist) asked ≡ true → AreBelow K asked
 below_shorter_way K root dist asked =
     below_asked K (λ j. nat_lt j.dist K && root == j.root && nat_lt (j.dist + 1) dist)
     (λ j h. ltb-true j.dist K
-        (and_parts (nat_lt j.dist K) (root == j.root)
-        (and_parts (nat_lt j.dist K && root == j.root) (nat_lt (j.dist + 1) dist) h).0).0) asked
+    (and_parts (nat_lt j.dist K) (root == j.root)
+    (and_parts (nat_lt j.dist K && root == j.root) (nat_lt (j.dist + 1) dist) h).0).0) asked

@@ -34,16 +34,23 @@ at_most_greatest g graph i node = at (cases_lt node.0 (length g.ids - 1))
 
     at : (node.0 < length g.ids - 1) ⊎ (length g.ids - 1 ≤ node.0) → i ≤ greatest g
     at (inl below) =
-        omega (arith, AllPairs-from_increasing g.ids graph.ascending node.0 (length g.ids - 1) 0 below
-        (omega (arith, node.1)), read)
+        omega (
+          arith,
+          AllPairs-from_increasing g.ids graph.ascending node.0 (length g.ids - 1) 0 below
+              (omega (arith, node.1)),
+          read,
+        )
     at (inr last) =
         let same : node.0 ≡ length g.ids - 1 = omega (arith, node.1) in
         omega (arith, ap (slice_index g.ids) same, read)
 
 greatest_node : (g : Graph) → IsGraph g → IsNode g (greatest g)
-greatest_node g graph =
-    (length g.ids - 1, omega (arith, graph.some), get_or_default g.ids (length g.ids - 1) _ 0
-    (omega (arith, graph.some)))
+greatest_node g graph = (
+  length g.ids - 1,
+  omega (arith, graph.some),
+  get_or_default g.ids (length g.ids - 1) _ 0
+      (omega (arith, graph.some)),
+)
 
 index_node : (g : Graph) (ix : ℕ) → ix < length g.ids → IsNode g (slice_index g.ids ix)
 index_node g ix short = (ix, short, get_or_default g.ids ix _ 0 short)
@@ -59,7 +66,7 @@ module _ (g : Graph) (graph : IsGraph g) (connected : IsConnected g) (distances 
     (are : AreDistances g (greatest g) distances)
     (ix : ℕ) (short : ix < length g.ids) (near : List ℕ)
     (ids : map (λ n. slice_index g.ids n) near ≡ neighbours_of g (slice_index g.ids ix))
-        (within : All (λ n. n < length g.ids) near) (up : IsStrictlyIncreasing near) where
+    (within : All (λ n. n < length g.ids) near) (up : IsStrictlyIncreasing near) where
   abbrev i : ℕ
   i = slice_index g.ids ix
 
@@ -71,9 +78,12 @@ module _ (g : Graph) (graph : IsGraph g) (connected : IsConnected g) (distances 
   near_linked k there =
       let x = slice_index g.ids (slice_index near k) in
       let in_map : has (map (λ n. slice_index g.ids n) near) x ≡ true =
-          has-Contains _ x
-          (k, omega (arith, length-map near (λ n. slice_index g.ids n)), get_or-map (λ n. slice_index g.ids n) near k 0
-          x there) in
+      has-Contains _ x (
+        k,
+        omega (arith, length-map near (λ n. slice_index g.ids n)),
+        get_or-map (λ n. slice_index g.ids n) near k 0
+            x there,
+      ) in
       first _ _ (sym (has-filter (are_linked g i) g.ids x) ∙ ap (λ ns. has ns x) (sym ids) ∙ in_map)
     where
       first : (a b : Bool) → (a && b) ≡ true → a ≡ true
@@ -84,7 +94,7 @@ module _ (g : Graph) (graph : IsGraph g) (connected : IsConnected g) (distances 
   linked_near j linked =
       let node : has g.ids j ≡ true = has-Contains g.ids j (graph.ends j i (graph.symmetric j i ∙ linked)) in
       let among : has (neighbours_of g i) j ≡ true =
-          has-filter (are_linked g i) g.ids j ∙ both (are_linked g i j) _ linked node in
+      has-filter (are_linked g i) g.ids j ∙ both (are_linked g i j) _ linked node in
       let place = Contains-has (map (λ n. slice_index g.ids n) near) j (ap (λ ns. has ns j) ids ∙ among) in
       let there : place.0 < length near = omega (arith, place.1, length-map near (λ n. slice_index g.ids n)) in
       (place.0, there, sym (get_or-map (λ n. slice_index g.ids n) near place.0 0 j there) ∙ place.2)
@@ -104,7 +114,7 @@ module _ (g : Graph) (graph : IsGraph g) (connected : IsConnected g) (distances 
       let at = linked_near j h.linked in
       let P : ℕ → Type 0 = λ k. IsDistance g k (greatest g) (slice_index distances (slice_index near at.0)) in
       let same : slice_index distances (slice_index near at.0) ≡ h.steps =
-          one_distance (subst P at.2 (are.each (slice_index near at.0) (within at.0 0 at.1))) h.distance in
+      one_distance (subst P at.2 (are.each (slice_index near at.0) (within at.0 0 at.1))) h.distance in
       (at.0, at.1, at.2, ap (λ e. e + 1) same ∙ h.nearer)
 
   -- with a nearer neighbour
@@ -137,8 +147,8 @@ module _ (g : Graph) (graph : IsGraph g) (connected : IsConnected g) (distances 
           side (inr e) (inl after) =
               let rows = AllPairs-from_increasing near up f.place at.0 0 after at.1 in
               let rise =
-                  AllPairs-from_increasing g.ids graph.ascending n (slice_index near at.0) 0
-                  (omega (arith, rows, f.item)) (within at.0 0 at.1) in
+              AllPairs-from_increasing g.ids graph.ascending n (slice_index near at.0) 0
+              (omega (arith, rows, f.item)) (within at.0 0 at.1) in
               omega (arith, rise, at.2)
           side (inr e) (inr l) =
               let same : f.place ≡ at.0 = omega arith in

@@ -25,8 +25,8 @@ one_regs g i r s a b =
         (λ below.
         let nearer = subst₂ (λ n d. IsNearer g n d i r.father) root dist (a.father below) in
         let other =
-            subst₂ (λ n d. IsNearer g n d i s.father) (sym root) (sym dist) (b.father (λ top. below (top ∙ sym root)))
-            in
+        subst₂ (λ n d. IsNearer g n d i s.father) (sym root) (sym dist) (b.father (λ top. below (top ∙ sym root)))
+        in
         omega (arith, a.least s.father other, b.least r.father nearer))
         (cases_eq i r.root)
 
@@ -35,4 +35,4 @@ one_boot g trees others a b =
     same_lists trees others (a.count ∙ sym b.count)
     (λ k d low.
     one_regs g (get_or g.ids k 0) (get_or trees k d) (get_or others k d) (a.each k d low)
-        (b.each k d (omega (arith, low, a.count, b.count))))
+    (b.each k d (omega (arith, low, a.count, b.count))))

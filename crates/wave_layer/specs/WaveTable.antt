@@ -100,46 +100,95 @@ wave_table v asked =
     let up = father_regs v.own v.father in
     let join = codes "phase, session := reset, session.j; restart" in
     let mend = codes "phase, session := phase.j, session.j" in
-    record { number = 1; name = codes "request"; guard = codes "phase = normal"; effect = codes "phase := initiate";
-        holds = is_normal phase; does = becomes Initiate session }
-    ∷ record { number = 2; name = codes "relay"; guard = codes "phase = normal, child c is initiate";
-        effect = codes "phase := initiate"; holds = is_normal phase && any_initiate asked;
-        does = becomes Initiate session }
-    ∷ record { number = 3; name = codes "open"; guard = codes "father = id, phase = initiate";
-        effect = codes "phase, session := reset, session + 1; restart"; holds = is_root v.father && is_initiate phase;
-        does = opens session }
-    ∷ record { number = 4; name = codes "join-normal";
-        guard = codes "father j is reset, phase = normal, session.j = session + 1"; effect = join;
-        holds = father_reset v.father && is_normal phase && up.session == next_session session;
-        does = restarts Reset up.session }
-    ∷ record { number = 5; name = codes "join-asked";
-        guard = codes "father j is reset, phase = initiate, session.j = session + 1"; effect = join;
-        holds = father_reset v.father && is_initiate phase && up.session == next_session session;
-        does = restarts Reset up.session }
-    ∷ record { number = 6; name = codes "finish";
-        guard = codes "father != id, phase = reset, every child is not reset and has session";
-        effect = codes "phase := normal";
-        holds = not (is_root v.father) && is_reset phase && children_done session v.children;
-        does = becomes Normal session }
-    ∷ record { number = 7; name = codes "finish-root";
-        guard = codes "father = id, phase = reset, every child is not reset and has session";
-        effect = codes "phase := normal; complete";
-        holds = is_root v.father && is_reset phase && children_done session v.children;
-        does = completes Normal session }
-    ∷ record { number = 8; name = codes "mend-reset"; guard = codes "father j is not reset, phase = reset";
-        effect = mend; holds = father_awake v.father && is_reset phase; does = becomes up.phase up.session }
-    ∷ record { number = 9; name = codes "mend-number";
-        guard = codes "father j is not reset, phase != reset, session != session.j"; effect = mend;
-        holds = father_awake v.father && not (is_reset phase) && not (session == up.session);
-        does = becomes up.phase up.session }
-    ∷ record { number = 10; name = codes "mend-both";
-        guard = codes "father j is reset, phase = reset, session != session.j"; effect = mend;
-        holds = father_reset v.father && is_reset phase && not (session == up.session);
-        does = becomes up.phase up.session }
-    ∷ record { number = 11; name = codes "mend-late";
-        guard = codes "father j is reset, phase != reset, session.j is neither session nor session + 1"; effect = mend;
-        holds = father_reset v.father && not (is_reset phase) && not (up.session == session)
-        && not (up.session == next_session session); does = becomes up.phase up.session }
+    record {
+      number = 1;
+      name = codes "request";
+      guard = codes "phase = normal";
+      effect = codes "phase := initiate";
+      holds = is_normal phase;
+      does = becomes Initiate session;
+    }
+    ∷ record {
+      number = 2;
+      name = codes "relay";
+      guard = codes "phase = normal, child c is initiate";
+      effect = codes "phase := initiate";
+      holds = is_normal phase && any_initiate asked;
+      does = becomes Initiate session;
+    }
+    ∷ record {
+      number = 3;
+      name = codes "open";
+      guard = codes "father = id, phase = initiate";
+      effect = codes "phase, session := reset, session + 1; restart";
+      holds = is_root v.father && is_initiate phase;
+      does = opens session;
+    }
+    ∷ record {
+      number = 4;
+      name = codes "join-normal";
+      guard = codes "father j is reset, phase = normal, session.j = session + 1";
+      effect = join;
+      holds = father_reset v.father && is_normal phase && up.session == next_session session;
+      does = restarts Reset up.session;
+    }
+    ∷ record {
+      number = 5;
+      name = codes "join-asked";
+      guard = codes "father j is reset, phase = initiate, session.j = session + 1";
+      effect = join;
+      holds = father_reset v.father && is_initiate phase && up.session == next_session session;
+      does = restarts Reset up.session;
+    }
+    ∷ record {
+      number = 6;
+      name = codes "finish";
+      guard = codes "father != id, phase = reset, every child is not reset and has session";
+      effect = codes "phase := normal";
+      holds = not (is_root v.father) && is_reset phase && children_done session v.children;
+      does = becomes Normal session;
+    }
+    ∷ record {
+      number = 7;
+      name = codes "finish-root";
+      guard = codes "father = id, phase = reset, every child is not reset and has session";
+      effect = codes "phase := normal; complete";
+      holds = is_root v.father && is_reset phase && children_done session v.children;
+      does = completes Normal session;
+    }
+    ∷ record {
+      number = 8;
+      name = codes "mend-reset";
+      guard = codes "father j is not reset, phase = reset";
+      effect = mend;
+      holds = father_awake v.father && is_reset phase;
+      does = becomes up.phase up.session;
+    }
+    ∷ record {
+      number = 9;
+      name = codes "mend-number";
+      guard = codes "father j is not reset, phase != reset, session != session.j";
+      effect = mend;
+      holds = father_awake v.father && not (is_reset phase) && not (session == up.session);
+      does = becomes up.phase up.session;
+    }
+    ∷ record {
+      number = 10;
+      name = codes "mend-both";
+      guard = codes "father j is reset, phase = reset, session != session.j";
+      effect = mend;
+      holds = father_reset v.father && is_reset phase && not (session == up.session);
+      does = becomes up.phase up.session;
+    }
+    ∷ record {
+      number = 11;
+      name = codes "mend-late";
+      guard = codes "father j is reset, phase != reset, session.j is neither session nor session + 1";
+      effect = mend;
+      holds = father_reset v.father && not (is_reset phase) && not (up.session == session)
+          && not (up.session == next_session session);
+      does = becomes up.phase up.session;
+    }
     ∷ []
 
 -- the registers of the child with this id

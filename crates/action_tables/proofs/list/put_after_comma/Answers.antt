@@ -6,9 +6,9 @@ use Rattle.action_tables.proofs.list.put_after_comma.Goals as goal
 pub returns-in_err-put_bytes-clause-err : goal.returns-in_err-put_bytes-clause-err
 returns-in_err-put_bytes-clause-err g c =
     OnErr-always _ _
-        (AppendsFront-first _ _ (44 ∷ []) (g.T.ListItem.text c.args.item.now) c.in_err-put_bytes.ensures.err)
+    (AppendsFront-first _ _ (44 ∷ []) (g.T.ListItem.text c.args.item.now) c.in_err-put_bytes.ensures.err)
 
 pub returns-clause-err : goal.returns-clause-err
 returns-clause-err g c =
     on_err_weaker _ (AppendsFront-then _ _ _ (44 ∷ []) (g.T.ListItem.text c.args.item.now) c.in_ok-put_bytes.ensures.ok)
-        c.put.ensures.err
+    c.put.ensures.err

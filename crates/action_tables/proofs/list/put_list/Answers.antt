@@ -12,7 +12,7 @@ returns-in_ok-put-in-len1-up-clause-ok g c =
     let first = c.first-item.result in
     let rest = flat_map (λ x. 44 ∷ text x) (take (length items - 1) (drop 1 items)) in
     OnOk-then _ _ _ _ (text first) rest (list_text text items)
-        (list_text-some text items first c.in-len1-up.len_at_least ∙ ap (λ x. text x ++ rest) (sym c.first-item.is))
+    (list_text-some text items first c.in-len1-up.len_at_least ∙ ap (λ x. text x ++ rest) (sym c.first-item.is))
     c.in_ok-put-in-len1-up.ensures.ok c.put_more.ensures.ok
 
 pub returns-in_ok-put-in-len1-up-clause-err : goal.returns-in_ok-put-in-len1-up-clause-err
@@ -22,5 +22,5 @@ returns-in_ok-put-in-len1-up-clause-err g c =
     let first = c.first-item.result in
     let rest = flat_map (λ x. 44 ∷ text x) (take (length items - 1) (drop 1 items)) in
     OnErr-then _ _ _ _ (text first) rest (list_text text items)
-        (list_text-some text items first c.in-len1-up.len_at_least ∙ ap (λ x. text x ++ rest) (sym c.first-item.is))
+    (list_text-some text items first c.in-len1-up.len_at_least ∙ ap (λ x. text x ++ rest) (sym c.first-item.is))
     c.in_ok-put-in-len1-up.ensures.ok c.put_more.ensures.err

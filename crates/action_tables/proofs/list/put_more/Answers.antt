@@ -7,8 +7,8 @@ use Rattle.action_tables.proofs.list.put_more.Goals as goal
 pub returns-in_err-put_after_comma-clause-err : goal.returns-in_err-put_after_comma-clause-err
 returns-in_err-put_after_comma-clause-err g c =
     let here =
-        subst (λ x. AppendsFront (g.W.Write.contents c.loop-item.out) (g.W.Write.contents c.put_after_comma.new.out)
-        (44 ∷ g.T.ListItem.text x)) c.item-item.is c.in_err-put_after_comma.ensures.err in
+    subst (λ x. AppendsFront (g.W.Write.contents c.loop-item.out) (g.W.Write.contents c.put_after_comma.new.out)
+    (44 ∷ g.T.ListItem.text x)) c.item-item.is c.in_err-put_after_comma.ensures.err in
     OnErr-always _ _
-        (AppendsFront-piece _ _ _ (λ x. 44 ∷ g.T.ListItem.text x) c.args.items.now c.loop-item.item-index
-        c.item-item.result (omega arith) c.loop-item.invariant here)
+    (AppendsFront-piece _ _ _ (λ x. 44 ∷ g.T.ListItem.text x) c.args.items.now c.loop-item.item-index
+    c.item-item.result (omega arith) c.loop-item.invariant here)

@@ -15,5 +15,5 @@ pub returns-in_ok-put_bytes-clause-err : goal.returns-in_ok-put_bytes-clause-err
 returns-in_ok-put_bytes-clause-err g c =
     let text : case_above c.args.set c.args.number c.args.case ≡ 44 ∷ decimal c.args.case = grind (arith, nat_tests) in
     rw text (on_err_weaker _
-        (λ h. AppendsFront-then _ _ _ (44 ∷ []) (decimal c.args.case) c.in_ok-put_bytes.ensures.ok h)
-        (rw (← c.from.ensures) c.put_number.ensures.err))
+    (λ h. AppendsFront-then _ _ _ (44 ∷ []) (decimal c.args.case) c.in_ok-put_bytes.ensures.ok h)
+    (rw (← c.from.ensures) c.put_number.ensures.err))

@@ -7,5 +7,5 @@ use Rattle.action_tables.proofs.part.put_cases_above.Goals as goal
 pub returns-in_err-put_case_above-clause-err : goal.returns-in_err-put_case_above-clause-err
 returns-in_err-put_case_above-clause-err g c =
     OnErr-always _ _
-        (AppendsFront-piece _ _ _ (case_above c.args.set c.args.number) c.args.cases.now c.loop-case.case-index _
-        (omega arith) c.loop-case.invariant c.in_err-put_case_above.ensures.err)
+    (AppendsFront-piece _ _ _ (case_above c.args.set c.args.number) c.args.cases.now c.loop-case.case-index _
+    (omega arith) c.loop-case.invariant c.in_err-put_case_above.ensures.err)

@@ -11,7 +11,7 @@ returns-in_ok-put_number-in-Some-clause-ok g c =
     let n = c.in-Some.first in
     let first : slice_get c.args.set 0 ≡ Some n = cc in
     OnOk-then c.put_cases_above.result (g.W.Write.contents c.args.out.now) (g.W.Write.contents c.put_number.new.out)
-        (g.W.Write.contents c.put_cases_above.new.out)
+    (g.W.Write.contents c.put_cases_above.new.out)
     (decimal n) (flat_map (case_above c.args.set n) spelled) (set_text c.args.set)
     (text_from c.args.set spelled n cases_spelled c.is_listed.ensures first)
     (rw (← c.from.ensures) c.in_ok-put_number-in-Some.ensures.ok) c.put_cases_above.ensures.ok
@@ -21,7 +21,7 @@ returns-in_ok-put_number-in-Some-clause-err g c =
     let n = c.in-Some.first in
     let first : slice_get c.args.set 0 ≡ Some n = cc in
     OnErr-then c.put_cases_above.result (g.W.Write.contents c.args.out.now) (g.W.Write.contents c.put_number.new.out)
-        (g.W.Write.contents c.put_cases_above.new.out)
+    (g.W.Write.contents c.put_cases_above.new.out)
     (decimal n) (flat_map (case_above c.args.set n) spelled) (set_text c.args.set)
     (text_from c.args.set spelled n cases_spelled c.is_listed.ensures first)
     (rw (← c.from.ensures) c.in_ok-put_number-in-Some.ensures.ok) c.put_cases_above.ensures.err

@@ -7,10 +7,13 @@ moved : (all front rest : List ℕ) (n : ℕ) → all ≡ front ++ rest
     → all ≡ (front ++ take n rest) ++ take (length rest - n) (drop n rest)
 moved all front rest n e =
     e ∙ ap (λ l. front ++ l) (sym (take-append-drop n rest)) ∙ sym (append_assoc front (take n rest) (drop n rest))
-        ∙ ap (λ l. (front ++ take n rest) ++ l) (sym (take_rest rest n))
+    ∙ ap (λ l. (front ++ take n rest) ++ l) (sym (take_rest rest n))
 
 pub loop-rest-preserved : goal.loop-rest-preserved
 loop-rest-preserved g c =
-    let (front, cut, appended) = c.loop-rest.invariant in
-    (front ++ take c.in-Ok.count c.loop-rest.rest.now, moved _ front _ _ cut, Appends-trans _ _ _ front _ appended
-        c.in-Ok.ensures.bytes)
+    let (front, cut, appended) = c.loop-rest.invariant in (
+      front ++ take c.in-Ok.count c.loop-rest.rest.now,
+      moved _ front _ _ cut,
+      Appends-trans _ _ _ front _ appended
+          c.in-Ok.ensures.bytes,
+    )

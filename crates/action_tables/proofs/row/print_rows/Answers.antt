@@ -12,7 +12,7 @@ pub returns-in_err-print_row-clause-err : goal.returns-in_err-print_row-clause-e
 returns-in_err-print_row-clause-err g c =
     OnErr-always _ _
     (table_text-no_row _ _ _ _ _ c.args.rows.now c.loop-row.row-index _ (omega arith) c.in_ok-print_title.ensures.ok
-        c.loop-row.invariant c.in_err-print_row.ensures.err)
+    c.loop-row.invariant c.in_err-print_row.ensures.err)
 
 pub loop-row-preserved : goal.loop-row-preserved
 loop-row-preserved g c =

@@ -14,11 +14,11 @@ loop-entry-preserved c =
       | then-is_better+in_ok-put w ↦
           rw w.entries-is
           (took c.args.bound c.args.neighbour c.args.own.now c.args.theirs.now c.requires.neighbour small
-              c.requires.theirs c.loop-entry.entries.items c.loop-entry.entry-index none within
+          c.requires.theirs c.loop-entry.entries.items c.loop-entry.entry-index none within
           inv.0 inv.1 (sym c.is_better.ensures ∙ w.if-is_better.true) w.put.new.entries.items w.in_ok-put.ensures)
       | else-is_better w ↦
           rw w.entries-is
           (left c.args.bound c.args.neighbour c.args.own.now c.args.theirs.now c.requires.neighbour small
-              c.requires.theirs c.loop-entry.entries.items c.loop-entry.entry-index none within
+          c.requires.theirs c.loop-entry.entries.items c.loop-entry.entry-index none within
           inv.0 inv.1 (sym c.is_better.ensures ∙ w.if-is_better.false))
     ]

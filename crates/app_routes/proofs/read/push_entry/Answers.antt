@@ -11,13 +11,13 @@ returns-then-not-is_above-clause-bad c = λ _ e spelled all.
     let es = c.args.entries.now.items in
     let entry = c.in-Some.entry in
     let same : e ≡ entry =
-        entries_spelled.one e entry (item_at_seam IsEntry es e [] all.are_entries) c.in-Some.ensures.entry
-        (sym spelled ∙ c.in-Some.ensures.found) in
+    entries_spelled.one e entry (item_at_seam IsEntry es e [] all.are_entries) c.in-Some.ensures.entry
+    (sym spelled ∙ c.in-Some.ensures.found) in
     let above : EndsBelow (destinations es) entry.destination =
-        subst (λ f. EndsBelow (destinations es) f.destination) same (routes_end_below es e all) in
+    subst (λ f. EndsBelow (destinations es) f.destination) same (routes_end_below es e all) in
     true≢false
-        (sym (c.if-not-is_above.ensures.1
-        (subst (λ l. EndsBelow (destinations l) entry.destination) (sym c.as_slice.ensures) above)))
+    (sym (c.if-not-is_above.ensures.1
+    (subst (λ l. EndsBelow (destinations l) entry.destination) (sym c.as_slice.ensures) above)))
 
 pub returns-clause-ok : goal.returns-clause-ok
 returns-clause-ok c =
@@ -25,7 +25,11 @@ returns-clause-ok c =
     let entry = c.in-Some.entry in
     let pushed : c.push.new.self.items ≡ es ++ entry ∷ [] = c.in_ok-push.ensures.ok in
     let above : EndsBelow (destinations es) entry.destination =
-        subst (λ l. EndsBelow (destinations l) entry.destination) c.as_slice.ensures (c.if-not-is_above.ensures.0 refl)
-        in
-    record { item = entry; spelled = c.in-Some.ensures.found; pushed = pushed;
-        are = subst AreRoutes (sym pushed) (routes_push es entry c.requires c.in-Some.ensures.entry above) }
+    subst (λ l. EndsBelow (destinations l) entry.destination) c.as_slice.ensures (c.if-not-is_above.ensures.0 refl)
+    in
+    record {
+      item = entry;
+      spelled = c.in-Some.ensures.found;
+      pushed = pushed;
+      are = subst AreRoutes (sym pushed) (routes_push es entry c.requires c.in-Some.ensures.entry above);
+    }

@@ -14,7 +14,7 @@ returns-in_err-hops-clause-only c =
     let first = c.in_ok-destination in
     rw c.from_residual-in_err-hops.ensures (λ e is spelled.
     two_colons e is c.args.text.now first.destination.now first.rest.now (sym spelled) first.ensures.found
-        first.ensures.first c.in_err-hops.ensures.none)
+    first.ensures.first c.in_err-hops.ensures.none)
 
 pub returns-in_err-read_id-clause-only : goal.returns-in_err-read_id-clause-only
 returns-in_err-read_id-clause-only c =
@@ -22,8 +22,8 @@ returns-in_err-read_id-clause-only c =
     let second = c.in_ok-hops in
     rw c.from_residual-in_err-read_id.ensures (λ e is spelled.
     let parts =
-        parts_of e is c.args.text.now first.destination.now first.rest.now (sym spelled) first.ensures.found
-        first.ensures.first second.hops.now second.next.now second.ensures.found second.ensures.first in
+    parts_of e is c.args.text.now first.destination.now first.rest.now (sym spelled) first.ensures.found
+    first.ensures.first second.hops.now second.next.now second.ensures.found second.ensures.first in
     c.in_err-read_id.ensures.only e.destination is.destination (sym parts.first))
 
 pub returns-in_err-read_number-clause-only : goal.returns-in_err-read_number-clause-only
@@ -32,8 +32,8 @@ returns-in_err-read_number-clause-only c =
     let second = c.in_ok-hops in
     rw c.from_residual-in_err-read_number.ensures (λ e is spelled.
     let parts =
-        parts_of e is c.args.text.now first.destination.now first.rest.now (sym spelled) first.ensures.found
-        first.ensures.first second.hops.now second.next.now second.ensures.found second.ensures.first in
+    parts_of e is c.args.text.now first.destination.now first.rest.now (sym spelled) first.ensures.found
+    first.ensures.first second.hops.now second.next.now second.ensures.found second.ensures.first in
     c.in_err-read_number.ensures.only e.hops is.hops (sym parts.second))
 
 pub returns-in_err-read_id-2-clause-only : goal.returns-in_err-read_id-2-clause-only
@@ -42,6 +42,6 @@ returns-in_err-read_id-2-clause-only c =
     let second = c.in_ok-hops in
     rw c.from_residual-in_err-read_id-2.ensures (λ e is spelled.
     let parts =
-        parts_of e is c.args.text.now first.destination.now first.rest.now (sym spelled) first.ensures.found
-        first.ensures.first second.hops.now second.next.now second.ensures.found second.ensures.first in
+    parts_of e is c.args.text.now first.destination.now first.rest.now (sym spelled) first.ensures.found
+    first.ensures.first second.hops.now second.next.now second.ensures.found second.ensures.first in
     c.in_err-read_id-2.ensures.only e.next is.next (sym parts.third))

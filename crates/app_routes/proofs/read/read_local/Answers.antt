@@ -14,9 +14,9 @@ returns-in_err-push_entry-clause-bad c =
     let p = err_from_is_err_and c.from_residual.result c.from_residual.ensures.1 in
     rw (p.1, p.2)
     (λ bad. bad_next entries_spelled routes_fronts c.args.text.now es c.loop-piece.invariant.0 no_dash
-        c.in-Some.piece.now c.in-Some.more.now
+    c.in-Some.piece.now c.in-Some.more.now
     (c.loop-piece.invariant.1 ∙ ap (λ l. with_commas entry_text es ++ l) c.in-Some.ensures.found)
-        c.in-Some.ensures.first (c.in_err-push_entry.ensures.bad (other_ok _ _ bad)))
+    c.in-Some.ensures.first (c.in_err-push_entry.ensures.bad (other_ok _ _ bad)))
 
 pub loop-piece-preserved : goal.loop-piece-preserved
 loop-piece-preserved c =
@@ -31,14 +31,14 @@ pub returns-in_err-push_entry-2-clause-bad : goal.returns-in_err-push_entry-2-cl
 returns-in_err-push_entry-2-clause-bad c =
     let no_dash : c.args.text.now ≢ 45 ∷ [] = search rules in
     let p = err_from_is_err_and c.from_residual-in_err-push_entry-2.result c.from_residual-in_err-push_entry-2.ensures.1
-        in
+    in
     rw (p.1, p.2)
     (λ bad. bad_last entries_spelled routes_fronts c.args.text.now c.loop-piece.entries.items c.loop-piece.invariant.0
-        no_dash c.loop-piece.rest.now c.loop-piece.invariant.1 c.in_default.ensures.none
+    no_dash c.loop-piece.rest.now c.loop-piece.invariant.1 c.in_default.ensures.none
     (c.in_err-push_entry-2.ensures.bad (other_ok _ _ bad)))
 
 pub returns-clause-ok : goal.returns-clause-ok
 returns-clause-ok c =
     rw c.from_ascending.ensures
     (read_last entry_text c.args.text.now c.loop-piece.entries.items c.loop-piece.rest.now
-        c.push_entry-2.new.entries.items c.in_ok-push_entry-2.ensures.ok c.loop-piece.invariant.1)
+    c.push_entry-2.new.entries.items c.in_ok-push_entry-2.ensures.ok c.loop-piece.invariant.1)

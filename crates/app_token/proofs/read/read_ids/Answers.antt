@@ -14,9 +14,9 @@ returns-in_err-push_id-clause-bad c =
     let p = err_from_is_err_and c.from_residual.result c.from_residual.ensures.1 in
     rw (p.1, p.2)
     (λ bad. bad_next ids_spelled bits_fronts c.args.text.now ids c.loop-piece.invariant.0 no_dash c.in-Some.piece.now
-        c.in-Some.more.now
+    c.in-Some.more.now
     (c.loop-piece.invariant.1 ∙ ap (λ l. with_commas decimal ids ++ l) c.in-Some.ensures.found) c.in-Some.ensures.first
-        (c.in_err-push_id.ensures.bad (other_ok _ _ bad)))
+    (c.in_err-push_id.ensures.bad (other_ok _ _ bad)))
 
 pub loop-piece-preserved : goal.loop-piece-preserved
 loop-piece-preserved c =
@@ -33,11 +33,11 @@ returns-in_err-push_id-2-clause-bad c =
     let p = err_from_is_err_and c.from_residual-in_err-push_id-2.result c.from_residual-in_err-push_id-2.ensures.1 in
     rw (p.1, p.2)
     (λ bad. bad_last ids_spelled bits_fronts c.args.text.now c.loop-piece.ids.items c.loop-piece.invariant.0 no_dash
-        c.loop-piece.rest.now c.loop-piece.invariant.1 c.in_default.ensures.none
+    c.loop-piece.rest.now c.loop-piece.invariant.1 c.in_default.ensures.none
     (c.in_err-push_id-2.ensures.bad (other_ok _ _ bad)))
 
 pub returns-clause-ok : goal.returns-clause-ok
 returns-clause-ok c =
     rw c.from_ascending.ensures
     (read_last decimal c.args.text.now c.loop-piece.ids.items c.loop-piece.rest.now c.push_id-2.new.ids.items
-        c.in_ok-push_id-2.ensures.ok c.loop-piece.invariant.1)
+    c.in_ok-push_id-2.ensures.ok c.loop-piece.invariant.1)

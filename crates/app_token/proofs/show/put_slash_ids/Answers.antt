@@ -11,4 +11,4 @@ returns-in_err-put_bytes-clause-err g c =
 pub returns-clause-err : goal.returns-clause-err
 returns-clause-err g c =
     on_err_weaker _ (AppendsFront-then _ _ _ (47 ∷ []) (set_text c.args.ids.now) c.in_ok-put_bytes.ensures.ok)
-        c.put_list.ensures.err
+    c.put_list.ensures.err

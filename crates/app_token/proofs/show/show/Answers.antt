@@ -11,7 +11,7 @@ returns-in_err-put_slash_ids-clause-err g c =
     let given = 47 ∷ set_text c.args.local.now.given in
     let taken = 47 ∷ set_text c.args.local.now.taken in
     OnErr-always _ _
-        (AppendsFront-then _ _ _ (hold_text c.args.local.now.hold) (given ++ taken) c.in_ok-put_hold.ensures.ok
+    (AppendsFront-then _ _ _ (hold_text c.args.local.now.hold) (given ++ taken) c.in_ok-put_hold.ensures.ok
     (AppendsFront-first _ _ given taken (rw (← c.ids.ensures.value) c.in_err-put_slash_ids.ensures.err)))
 
 pub returns-clause-err : goal.returns-clause-err
@@ -19,9 +19,9 @@ returns-clause-err g c =
     let given = 47 ∷ set_text c.args.local.now.given in
     let taken = 47 ∷ set_text c.args.local.now.taken in
     let last : OnErr c.put_slash_ids-2.result
-        (AppendsFront (g.W.Write.contents c.put_slash_ids.new.out) (g.W.Write.contents c.put_slash_ids-2.new.out)
-        taken) =
+    (AppendsFront (g.W.Write.contents c.put_slash_ids.new.out) (g.W.Write.contents c.put_slash_ids-2.new.out)
+    taken) =
     rw (← c.ids-2.ensures.value) c.put_slash_ids-2.ensures.err in
     on_err_weaker _
-        (λ h. AppendsFront-then _ _ _ (hold_text c.args.local.now.hold) (given ++ taken) c.in_ok-put_hold.ensures.ok
+    (λ h. AppendsFront-then _ _ _ (hold_text c.args.local.now.hold) (given ++ taken) c.in_ok-put_hold.ensures.ok
     (AppendsFront-then _ _ _ given taken (rw (← c.ids.ensures.value) c.in_ok-put_slash_ids.ensures.ok) h)) last

@@ -7,4 +7,4 @@ pub returns : goal.returns
 returns g c =
     let index : Graph → _ = λ graph. position (λ i. i == c.args.at) graph.ids in
     c.is_some.ensures ∙ ap is_some (c.index_of.ensures ∙ ap index c.topology.ensures)
-        ∙ sym (list_any-position c.args.config.now.graph.ids c.args.at)
+    ∙ sym (list_any-position c.args.config.now.graph.ids c.args.at)

@@ -15,13 +15,13 @@ returns-clause-read c =
     let bytes : c.in_ok-bytes.bytes.items ≡ c.in-Some.word.now = search rules in
     let items : c.new-text.result ≡ c.in-Some.word.now = c.new-text.ensures ∙ bytes in
     let found =
-        local_found c.args.text.now c.in-Some.word.now c.new-text.result c.in-Some.at c.in-Some.ensures.found word items
-        in
+    local_found c.args.text.now c.in-Some.word.now c.new-text.result c.in-Some.at c.in-Some.ensures.found word items
+    in
     ((c.in-Some.ensures.small, found.0), found.1)
 
 pub returns-in_err-bytes-clause-memory : goal.returns-in_err-bytes-clause-memory
 returns-in_err-bytes-clause-memory c =
     let word : IsOneWord c.in-Some.word.now = c.is_one_word.ensures.0 (search rules) in
     OnErr-always _ _
-        (local_asked c.args.text.now c.in-Some.word.now c.in-Some.at c.in-Some.ensures.found c.in-Some.ensures.small
-        word)
+    (local_asked c.args.text.now c.in-Some.word.now c.in-Some.at c.in-Some.ensures.found c.in-Some.ensures.small
+    word)

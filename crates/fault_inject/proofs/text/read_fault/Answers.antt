@@ -7,16 +7,16 @@ pub returns-then-eq-clause-found : goal.returns-then-eq-clause-found
 returns-then-eq-clause-found c =
     let named : c.in-Some.command.now ≡ codes "fault" = search rules in
     line_found c.args.line.now c.in-Some.command.now c.in-Some.rest.now c.in-Some.ensures.found named c.fault_of.result
-        c.fault_of.ensures.read
+    c.fault_of.ensures.read
 
 pub returns-then-eq-clause-only : goal.returns-then-eq-clause-only
 returns-then-eq-clause-only c =
     let named : c.in-Some.command.now ≡ codes "fault" = search rules in
     line_only c.args.line.now c.in-Some.command.now c.in-Some.rest.now c.in-Some.ensures.found named c.fault_of.result
-        c.fault_of.ensures.read
+    c.fault_of.ensures.read
 
 pub returns-then-eq-clause-memory : goal.returns-then-eq-clause-memory
 returns-then-eq-clause-memory c =
     let named : c.in-Some.command.now ≡ codes "fault" = search rules in
     line_memory c.args.line.now c.in-Some.command.now c.in-Some.rest.now c.in-Some.ensures.found named c.fault_of.result
-        c.fault_of.ensures.memory
+    c.fault_of.ensures.memory

@@ -8,10 +8,10 @@ pub returns-in_err-read_number-clause-only : goal.returns-in_err-read_number-cla
 returns-in_err-read_number-clause-only c =
     rw c.from_residual-in_err-read_number.ensures
     (no_second c.args.text.now c.in_ok-first.second.now c.in_ok-first.first c.in_ok-first.ensures.found
-        c.in_err-read_number.ensures.only)
+    c.in_err-read_number.ensures.only)
 
 pub returns-clause-found : goal.returns-clause-found
 returns-clause-found c =
     c.in_ok-first.ensures.found
     ∙ one_found (decimal c.in_ok-first.first) c.in_ok-first.second.now (decimal c.in_ok-first.first)
-        c.in_ok-read_number.field-0 refl c.in_ok-read_number.ensures.found c.in_ok-read_number.ensures.small
+    c.in_ok-read_number.field-0 refl c.in_ok-read_number.ensures.found c.in_ok-read_number.ensures.small

@@ -17,14 +17,14 @@ add_link-requires-clause-others g c = λ κs within same.
     let i = slice_index graph.ids c.args.index in
     let j = slice_index graph.ids (slice_index near c.loop-near.near-index) in
     let Lists : Graph → Type 0 =
-        λ h. map (λ n. slice_index h.ids n) near ≡ neighbours_of h (slice_index h.ids c.args.index) in
+    λ h. map (λ n. slice_index h.ids n) near ≡ neighbours_of h (slice_index h.ids c.args.index) in
     let lists = subst Lists c.topology.ensures c.neighbours-near-items.ensures.ids in
     let linked : AreLinked graph i j =
-        near_passes graph.ids (are_linked graph i) near graph.ids c.loop-near.near-index lists c.loop-near-test.true in
+    near_passes graph.ids (are_linked graph i) near graph.ids c.loop-near.near-index lists c.loop-near-test.true in
     let P : ℕ → Type 0 = λ k. AreLinked graph i k in
     let own : j ≡ i =
-        sym (ap (λ (n : Neighbour g.row.P-Local.Denot). n.id) c.end_at-then-not-is_quiet.ensures) ∙ same
-        ∙ ap (λ (n : Neighbour g.row.P-Local.Denot). n.id) c.requires.there in
+    sym (ap (λ (n : Neighbour g.row.P-Local.Denot). n.id) c.end_at-then-not-is_quiet.ensures) ∙ same
+    ∙ ap (λ (n : Neighbour g.row.P-Local.Denot). n.id) c.requires.there in
     c.is_graph.ensures.graph.irreflexive i (subst P own linked)
 
 pub loop-near-preserved : goal.loop-near-preserved
@@ -37,21 +37,21 @@ loop-near-preserved g c =
     let near = c.neighbours-near-items.result.now in
     let index = c.loop-near.near-index in
     let Told : ℕ → Neighbour g.row.P-Local.Denot → Type 0 =
-        λ K other. c.if-not-is_quiet.found.items ≡ before ++ link_faults app K own other in
+    λ K other. c.if-not-is_quiet.found.items ≡ before ++ link_faults app K own other in
     let there = near_of app config (slice_index ids (slice_index near index)) in
     let told : (other : Neighbour g.row.P-Local.Denot) → other ≡ there → Told c.bound_of-k.result other
-        → Told config.graph.bound there = λ other is added.
+    → Told config.graph.bound there = λ other is added.
     subst (λ K. Told K there) c.bound_of-k.ensures.value (subst (Told c.bound_of-k.result) is added) in
     let more = λ (added : Told config.graph.bound there).
     more_told_at (near_of app config) (link_faults app config.graph.bound own) ids near index _ before _
-        c.loop-near-test.true added c.loop-near.invariant in
+    c.loop-near-test.true added c.loop-near.invariant in
     elim c.if-not-is_quiet.branch [
       | then-not-is_quiet+in_ok-add_link w ↦ more
           (told w.end_at-then-not-is_quiet.result w.end_at-then-not-is_quiet.ensures
           (ap (λ (v : Vec LinkFault Global). v.items) w.found-is ∙ w.in_ok-add_link.ensures))
       | else-not-is_quiet w ↦ more (told c.end_at.result c.end_at.ensures
           (ap (λ (v : Vec LinkFault Global). v.items) w.found-is ∙ sym (append-nil before)
-              ∙ ap (λ l. before ++ l) (sym (c.is_quiet.ensures w.if-not-is_quiet.false))))
+          ∙ ap (λ l. before ++ l) (sym (c.is_quiet.ensures w.if-not-is_quiet.false))))
     ]
 
 pub returns : goal.returns
@@ -61,11 +61,11 @@ returns g c =
     let graph = config.graph in
     let near = c.neighbours-near-items.result.now in
     let Lists : Graph → Type 0 =
-        λ h. map (λ n. slice_index h.ids n) near ≡ neighbours_of h (slice_index h.ids c.args.index) in
+    λ h. map (λ n. slice_index h.ids n) near ≡ neighbours_of h (slice_index h.ids c.args.index) in
     let lists = subst Lists c.topology.ensures c.neighbours-near-items.ensures.ids in
     let all = take_all c.loop-near.near-index near c.loop-near-test.false in
     c.loop-near.invariant
     ∙ ap (λ ns. c.args.found.now.items
-        ++ flat_map (link_faults app graph.bound c.args.own.now) (at_indexes (near_of app config) graph.ids ns)) all
+    ++ flat_map (link_faults app graph.bound c.args.own.now) (at_indexes (near_of app config) graph.ids ns)) all
     ∙ ap (λ js. c.args.found.now.items
-        ++ flat_map (link_faults app graph.bound c.args.own.now) (map (near_of app config) js)) lists
+    ++ flat_map (link_faults app graph.bound c.args.own.now) (map (near_of app config) js)) lists

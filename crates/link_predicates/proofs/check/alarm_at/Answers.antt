@@ -19,20 +19,20 @@ returns-then-is_some g c =
     let links = link_faults app c.bound_of-k.result c.end_at-own.result in
     let rest = find is_of_app (flat_map links (at_indexes (near_of app config) graph.ids (drop (k + 1) near))) in
     let fault =
-        c.link_alarm-fault.ensures
-        ∙ ap (λ (n : Neighbour g.row.P-Local.Denot). find is_of_app (links n)) c.end_at.ensures in
+    c.link_alarm-fault.ensures
+    ∙ ap (λ (n : Neighbour g.row.P-Local.Denot). find is_of_app (links n)) c.end_at.ensures in
     let some = sym c.is_some.ensures ∙ c.if-is_some.true in
     let Lists : Graph → Type 0 =
-        λ h. map (λ n. slice_index h.ids n) near ≡ neighbours_of h (slice_index h.ids c.args.index) in
+    λ h. map (λ n. slice_index h.ids n) near ≡ neighbours_of h (slice_index h.ids c.args.index) in
     sym (found_later is_of_app (near_of app config) links graph.ids near k c.loop-near-test.true
     ∙ ap (λ o. option_or o rest) (sym fault) ∙ found_first c.link_alarm-fault.result rest some)
     ∙ c.loop-near.invariant
     ∙ ap (λ K. find is_of_app
-        (flat_map (link_faults app K c.end_at-own.result) (at_indexes (near_of app config) graph.ids near)))
-        c.bound_of-k.ensures.value
+    (flat_map (link_faults app K c.end_at-own.result) (at_indexes (near_of app config) graph.ids near)))
+    c.bound_of-k.ensures.value
     ∙ ap (λ (n : Neighbour g.row.P-Local.Denot). find is_of_app
-        (flat_map (link_faults app graph.bound n) (at_indexes (near_of app config) graph.ids near)))
-        c.end_at-own.ensures
+    (flat_map (link_faults app graph.bound n) (at_indexes (near_of app config) graph.ids near)))
+    c.end_at-own.ensures
     ∙ alarm_is app config i near (subst Lists c.topology.ensures c.neighbours-near-items.ensures.ids)
 
 pub loop-near-preserved : goal.loop-near-preserved
@@ -45,8 +45,8 @@ loop-near-preserved g c =
     let links = link_faults app c.bound_of-k.result c.end_at-own.result in
     let rest = find is_of_app (flat_map links (at_indexes (near_of app config) ids (drop (k + 1) near))) in
     let fault =
-        c.link_alarm-fault.ensures
-        ∙ ap (λ (n : Neighbour g.row.P-Local.Denot). find is_of_app (links n)) c.end_at.ensures in
+    c.link_alarm-fault.ensures
+    ∙ ap (λ (n : Neighbour g.row.P-Local.Denot). find is_of_app (links n)) c.end_at.ensures in
     let none = sym c.is_some.ensures ∙ c.if-is_some.false in
     sym (found_later is_of_app (near_of app config) links ids near k c.loop-near-test.true
     ∙ ap (λ o. option_or o rest) (sym fault) ∙ found_rest c.link_alarm-fault.result rest none)
@@ -61,14 +61,14 @@ returns g c =
     let i = slice_index graph.ids c.args.index in
     let links = link_faults app c.bound_of-k.result c.end_at-own.result in
     let Lists : Graph → Type 0 =
-        λ h. map (λ n. slice_index h.ids n) near ≡ neighbours_of h (slice_index h.ids c.args.index) in
+    λ h. map (λ n. slice_index h.ids n) near ≡ neighbours_of h (slice_index h.ids c.args.index) in
     sym (at_drop_all (λ left. find is_of_app (flat_map links (at_indexes (near_of app config) graph.ids left))) near
-        c.loop-near.near-index c.loop-near-test.false)
+    c.loop-near.near-index c.loop-near-test.false)
     ∙ c.loop-near.invariant
     ∙ ap (λ K. find is_of_app
-        (flat_map (link_faults app K c.end_at-own.result) (at_indexes (near_of app config) graph.ids near)))
-        c.bound_of-k.ensures.value
+    (flat_map (link_faults app K c.end_at-own.result) (at_indexes (near_of app config) graph.ids near)))
+    c.bound_of-k.ensures.value
     ∙ ap (λ (n : Neighbour g.row.P-Local.Denot). find is_of_app
-        (flat_map (link_faults app graph.bound n) (at_indexes (near_of app config) graph.ids near)))
-        c.end_at-own.ensures
+    (flat_map (link_faults app graph.bound n) (at_indexes (near_of app config) graph.ids near)))
+    c.end_at-own.ensures
     ∙ alarm_is app config i near (subst Lists c.topology.ensures c.neighbours-near-items.ensures.ids)

@@ -16,11 +16,11 @@ returns g c =
     let id = ap (λ l. slice_index l index) (c.ids.ensures ∙ ap (λ (graph : Graph). graph.ids) c.topology.ensures) in
     let t = value_at-place (record { root = 0; father = 0; dist = 0 }) ids config.trees index up shaped.trees c.requires
     ∙ ap (λ trees. slice_index_or trees index (record { root = 0; father = 0; dist = 0 })) (sym c.trees.ensures.value)
-        in
+    in
     let w = value_at-place (record { phase = Normal; session = 0 }) ids config.waves index up shaped.waves c.requires
     ∙ ap (λ waves. slice_index_or waves index (record { phase = Normal; session = 0 })) (sym c.waves.ensures.value) in
     let l = read_at-place (g.P.Application.app.start config.graph (slice_index ids index)) ids config.locals index _ up
-        shaped.locals c.requires
+    shaped.locals c.requires
     (c.index-locals-index.is
-        ∙ ap (λ locals. slice_index_or locals index c.index-locals-index.result) c.locals.ensures.value) in
+    ∙ ap (λ locals. slice_index_or locals index c.index-locals-index.result) c.locals.ensures.value) in
     same_neighbour _ _ _ _ _ _ _ _ id (sym t) (sym w) (sym l)

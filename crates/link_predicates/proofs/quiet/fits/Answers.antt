@@ -14,4 +14,4 @@ returns c = λ good.
     let is : c.unwrap-view.result ≡ view = subst P c.unwrap-view.ensures c.new.ensures.value in
     let Holds : LocalView → Type 0 = λ v. FatherHolds v.own v.father in
     denied_where_right (mending_row own up) (mending_tells own up)
-        (subst Holds is (c.wave_good.ensures.predicate.0 good))
+    (subst Holds is (c.wave_good.ensures.predicate.0 good))

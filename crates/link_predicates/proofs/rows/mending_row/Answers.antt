@@ -11,5 +11,5 @@ returns c =
     let P : Option LocalView → Type 0 = λ o. IfSome o (λ v. v ≡ view) in
     let is : c.unwrap-view.result ≡ view = subst P c.unwrap-view.ensures c.new.ensures.value in
     c.first_enabled.ensures
-        ∙ ap (first_enabled (8 ∷ 9 ∷ 10 ∷ 11 ∷ []))
-        (c.wave_enabled.ensures ∙ ap (λ (v : LocalView). enabled_of (wave_table v v.children)) is)
+    ∙ ap (first_enabled (8 ∷ 9 ∷ 10 ∷ 11 ∷ []))
+    (c.wave_enabled.ensures ∙ ap (λ (v : LocalView). enabled_of (wave_table v v.children)) is)

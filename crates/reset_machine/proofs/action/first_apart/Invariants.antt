@@ -9,5 +9,5 @@ invariant-loop-near g l =
     let w = wave_of l.place.config in
     let ids = l.place.config.graph.ids in
     first_apart w l.place.id
-        (filter (reads_near l.reads l.with) (map (λ n. slice_index ids n) (drop l.near-index l.near-items)))
+    (filter (reads_near l.reads l.with) (map (λ n. slice_index ids n) (drop l.near-index l.near-items)))
     ≡ first_apart w l.place.id (filter (reads_near l.reads l.with) (map (λ n. slice_index ids n) l.near-items))

@@ -11,9 +11,9 @@ returns g c =
     let config = place.config in
     let app = g.P.Application.app in
     let next =
-        fitted-next app config.graph (node_bound config.graph) (wave_of config) (local_of app config) place.id
-        c.args.choice.case c.args.choice.with c.reads-reads.result c.here.result.id c.here.result.k c.local.result.now
-        (seen_values c.deref.result.now) _
+    fitted-next app config.graph (node_bound config.graph) (wave_of config) (local_of app config) place.id
+    c.args.choice.case c.args.choice.with c.reads-reads.result c.here.result.id c.here.result.k c.local.result.now
+    (seen_values c.deref.result.now) _
     c.reads-reads.ensures c.in_default.ensures c.in_default-first_apart.ensures c.here.ensures.id c.here.ensures.bound
-        c.local.ensures (ap seen_values c.deref.ensures.value ∙ c.in-Ok.ensures) refl in
+    c.local.ensures (ap seen_values c.deref.ensures.value ∙ c.in-Ok.ensures) refl in
     record { exact = judged-ends _ c.on_clock.result _ next c.on_clock.ensures.exact }

@@ -11,4 +11,4 @@ invariant-loop-near g l =
     let config = l.place.config in
     let f : ℕ → ℕ × g.row.P-Local.Denot = λ j. (j, local_of g.P.Application.app config j) in
     seen_values l.seen.items ++ among config.graph.ids (reads_near l.reads l.with) f (drop l.near-index l.near-items)
-        ≡ among config.graph.ids (reads_near l.reads l.with) f l.near-items
+    ≡ among config.graph.ids (reads_near l.reads l.with) f l.near-items

@@ -8,5 +8,5 @@ loop-index-preserved g c =
     let start = g.P.Application.app.start c.args.topology.now in
     let short : c.loop-index.index < length ids = omega (arith, c.loop-index-test.true, c.len-index-end.ensures) in
     start_more start ids c.loop-index.index _ _ c.in_ok-on_start.field-0 short
-        (start_is start ids c.loop-index.index _ short c.in_ok-on_start.ensures) c.in_ok-push.ensures.items
-        c.loop-index.invariant
+    (start_is start ids c.loop-index.index _ short c.in_ok-on_start.ensures) c.in_ok-push.ensures.items
+    c.loop-index.invariant

@@ -11,16 +11,16 @@ loop-case-init g c =
     let app = g.P.Application.app in
     let config = c.args.place.now.config in
     taken_first
-        (is_taken app config.graph (node_bound config.graph) (wave_of config) (local_of app config) c.args.place.now.id)
-        c.empty-acts.result c.empty-acts.ensures
+    (is_taken app config.graph (node_bound config.graph) (wave_of config) (local_of app config) c.args.place.now.id)
+    c.empty-acts.result c.empty-acts.ensures
 
 pub loop-case-preserved : goal.loop-case-preserved
 loop-case-preserved g c =
     let app = g.P.Application.app in
     let config = c.args.place.now.config in
     let taken =
-        is_taken app config.graph (node_bound config.graph) (wave_of config) (local_of app config) c.args.place.now.id
-        in
+    is_taken app config.graph (node_bound config.graph) (wave_of config) (local_of app config) c.args.place.now.id
+    in
     elim c.if-branch.branch [
       | then-branch v ↦ taken_more taken c.loop-case.case c.loop-case.acts c.if-branch.acts (omega arith)
           (sym c.in_ok-is_enabled.ensures ∙ v.if-branch.true) (v.acts-is ∙ v.with-acts.ensures) c.loop-case.invariant
@@ -34,5 +34,5 @@ returns g c =
     let app = g.P.Application.app in
     let config = c.args.place.now.config in
     taken_all
-        (is_taken app config.graph (node_bound config.graph) (wave_of config) (local_of app config) c.args.place.now.id)
-        c.loop-case.case c.loop-case.acts (omega arith) c.loop-case.invariant
+    (is_taken app config.graph (node_bound config.graph) (wave_of config) (local_of app config) c.args.place.now.id)
+    c.loop-case.case c.loop-case.acts (omega arith) c.loop-case.invariant

@@ -10,4 +10,4 @@ invariant-loop-case g l =
     let app = g.P.Application.app in
     let config = l.place.config in
     AreTaken (is_taken app config.graph (node_bound config.graph) (wave_of config) (local_of app config) l.place.id)
-        l.case l.acts
+    l.case l.acts

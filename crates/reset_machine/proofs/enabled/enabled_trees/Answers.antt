@@ -11,6 +11,6 @@ tree_rows-requires g c =
     let P : List (ℕ × TreeRegs) → Type 0 = λ near. IsView place.id c.bound.result near in
     let near = c.deref.ensures.value ∙ c.in_ok-read_near_trees.ensures in
     rw c.id.ensures
-        (subst P (sym near)
-        (near_is_view place.config.graph c.bound.result (tree_of place.config) place.id c.is_place.ensures.graph
-        c.bound.ensures.positive))
+    (subst P (sym near)
+    (near_is_view place.config.graph c.bound.result (tree_of place.config) place.id c.is_place.ensures.graph
+    c.bound.ensures.positive))

@@ -12,9 +12,9 @@ returns-then-tree_at-id g c =
     let here = id_at-position config.graph.ids c.args.index c.args.child c.requires.0 in
     let father = ap (λ k. (tree_of config k).father) (sym here) ∙ ap (λ r. r.father) (sym c.tree_at.ensures) in
     asked_child config.graph (tree_of config) (wave_of config) place.id c.args.child _
-        (father ∙ c.if-tree_at-id.true ∙ c.id.ensures) c.requires.1
+    (father ∙ c.if-tree_at-id.true ∙ c.id.ensures) c.requires.1
     (found_is_node config.graph.ids c.args.child c.args.child c.args.index refl (sym c.requires.0))
-        (ap (wave_of config) (sym here) ∙ sym c.wave_at.ensures)
+    (ap (wave_of config) (sym here) ∙ sym c.wave_at.ensures)
 
 pub returns-else-tree_at-id : goal.returns-else-tree_at-id
 returns-else-tree_at-id g c =
@@ -23,4 +23,4 @@ returns-else-tree_at-id g c =
     let here = id_at-position config.graph.ids c.args.index c.args.child c.requires.0 in
     let father = ap (λ k. (tree_of config k).father) (sym here) ∙ ap (λ r. r.father) (sym c.tree_at.ensures) in
     asked_of_another config.graph (tree_of config) (wave_of config) place.id c.args.child
-        (ne_eqb _ _ (λ same. absurd (c.if-tree_at-id.false (sym father ∙ same ∙ sym c.id.ensures))))
+    (ne_eqb _ _ (λ same. absurd (c.if-tree_at-id.false (sym father ∙ same ∙ sym c.id.ensures))))

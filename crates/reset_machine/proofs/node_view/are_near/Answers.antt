@@ -10,11 +10,11 @@ returns-then-not-is_at g c =
     let f = near_of g.P.Application.app config in
     let indexes = c.neighbours-indexes.result.now in
     let short : c.loop-number.number < length indexes =
-        omega (arith, c.if-near-indexes.false, c.loop-number-test.true) in (
+    omega (arith, c.if-near-indexes.false, c.loop-number-test.true) in (
       λ is. absurd (false≢true is),
       λ is. c.if-not-is_at.ensures.1
           (c.index-near-number.is
-              ∙ ap (λ l. slice_index_or l c.loop-number.number c.index-near-number.result)
-              (is ∙ sym (ap (map f) c.neighbours-indexes.ensures.ids))
+          ∙ ap (λ l. slice_index_or l c.loop-number.number c.index-near-number.result)
+          (is ∙ sym (ap (map f) c.neighbours-indexes.ensures.ids))
           ∙ at_number f config.graph.ids indexes c.loop-number.number c.index-near-number.result short),
     )

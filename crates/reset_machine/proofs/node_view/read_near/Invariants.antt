@@ -7,5 +7,5 @@ abbrev pub invariant-loop-index : goal.invariant-loop-index
 invariant-loop-index g l =
     let config = l.place.config in
     l.near.items
-        ≡ map (near_of g.P.Application.app config)
-        (map (λ n. slice_index config.graph.ids n) (take l.index-index l.index-items))
+    ≡ map (near_of g.P.Application.app config)
+    (map (λ n. slice_index config.graph.ids n) (take l.index-index l.index-items))

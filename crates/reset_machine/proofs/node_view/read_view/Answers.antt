@@ -19,11 +19,11 @@ new-requires-after_bounds g c = λ κs within.
     let P : List (ℕ × TreeRegs) → Type 0 = λ near. IsView place.id c.bound.result near in
     let near = ap near_trees c.in_ok-near.ensures
     ∙ map-map (λ (n : Neighbour g.row.P-Local.Denot). (n.id, n.tree)) (near_of g.P.Application.app config)
-        (neighbours_of config.graph place.id) in
+    (neighbours_of config.graph place.id) in
     rw c.id.ensures
-        (subst P (sym near)
-        (near_is_view config.graph c.bound.result (tree_of config) place.id c.is_place.ensures.graph
-        c.bound.ensures.positive))
+    (subst P (sym near)
+    (near_is_view config.graph c.bound.result (tree_of config) place.id c.is_place.ensures.graph
+    c.bound.ensures.positive))
 
 pub returns : goal.returns
 returns g c =
@@ -36,5 +36,5 @@ returns g c =
     ∙ same_view _ _ _ _ _ _ _ _ _ _ _ _ _ _ c.id.ensures c.bound.ensures.bound c.tree.ensures c.wave.ensures
     (c.in_ok-local.ensures ∙ c.local.ensures)
     (start_is start graph.ids place.index _ short started
-        ∙ ap start (id_at-position graph.ids place.index place.id c.is_place.ensures.place))
+    ∙ ap start (id_at-position graph.ids place.index place.id c.is_place.ensures.place))
     c.in_ok-near.ensures

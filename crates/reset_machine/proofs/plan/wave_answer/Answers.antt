@@ -17,13 +17,16 @@ returns g c =
     let e = c.args.event in
     let v = c.narrow_view-view.result in
     let layer =
-        ap (λ b. first_answer
-        (cond b (Tree (tree_view_of graph (node_bound graph) t (event_node e)))
-        (Wave (view_of graph t w (event_node e)))) (named_node e) (cases_of e)) c.requires.wave
+    ap (λ b. first_answer
+    (cond b (Tree (tree_view_of graph (node_bound graph) t (event_node e)))
+    (Wave (view_of graph t w (event_node e)))) (named_node e) (cases_of e)) c.requires.wave
     ∙ ap (λ i. first_answer (Wave (view_of graph t w i)) (named_node e) (cases_of e)) (sym c.requires.node) in
     let rows =
-        ap (λ o. first_answer (Wave v) o (cases_of e)) (sym c.named.ensures)
-        ∙ ap (λ cs. first_answer (Wave v) c.named.result cs) (sym c.cases.ensures) in
-    record { exact = exact_of _ _
-        (layer ∙ sym (narrow_answers e (view_of graph t w place.id) v c.requires.wave c.narrow_view-view.ensures) ∙ rows
-        ∙ sym c.first_answer.ensures) }
+    ap (λ o. first_answer (Wave v) o (cases_of e)) (sym c.named.ensures)
+    ∙ ap (λ cs. first_answer (Wave v) c.named.result cs) (sym c.cases.ensures) in
+    record {
+      exact = exact_of _ _
+          (layer ∙ sym (narrow_answers e (view_of graph t w place.id) v c.requires.wave c.narrow_view-view.ensures)
+          ∙ rows
+          ∙ sym c.first_answer.ensures);
+    }

@@ -8,5 +8,5 @@ pub loop-near-preserved : goal.loop-near-preserved
 loop-near-preserved g c =
     let config = c.args.place.now.config in
     one_more (λ j. (j, tree_of config j)) config.graph.ids c.neighbours-near-items.result.now c.loop-near.near-index _ _
-        _ (omega arith)
+    _ (omega arith)
     (same_pair (sym c.id_at.ensures) (sym c.tree_at.ensures)) c.in_ok-push.ensures.items c.loop-near.invariant

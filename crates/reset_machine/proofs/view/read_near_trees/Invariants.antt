@@ -7,4 +7,4 @@ abbrev pub invariant-loop-near : goal.invariant-loop-near
 invariant-loop-near g l =
     let config = l.place.config in
     l.near_trees.items
-        ≡ map (λ j. (j, tree_of config j)) (map (λ n. slice_index config.graph.ids n) (take l.near-index l.near-items))
+    ≡ map (λ j. (j, tree_of config j)) (map (λ n. slice_index config.graph.ids n) (take l.near-index l.near-items))

@@ -9,10 +9,10 @@ returns g c =
     let app = g.P.Application.app in
     let v = c.args.view.now in
     let next =
-        case_taken-next app v c.args.choice.case c.args.choice.with c.reads-reads.result c.neighbours-near.result.now _
-        _ _ _ _
+    case_taken-next app v c.args.choice.case c.args.choice.with c.reads-reads.result c.neighbours-near.result.now _
+    _ _ _ _
     c.reads-reads.ensures c.neighbours-near.ensures.value (ap (λ r. r.session) c.wave.ensures) c.id.ensures c.k.ensures
-        c.local.ensures
+    c.local.ensures
     c.in_default.ensures c.in_default-first_apart.ensures (ap seen_values c.deref.ensures.value ∙ c.in_ok-seen.ensures)
-        in
+    in
     record { exact = judged-ends _ c.on_clock.result _ next c.on_clock.ensures.exact }

@@ -7,9 +7,9 @@ pub returns-in-Some : goal.returns-in-Some
 returns-in-Some g c =
     ap (λ n. Is n.wave) c.father.view_is
     ∙ father-found c.args.view.now _ _ _ (Some c.in-Some.father.now) c.tree-named.ensures c.id.ensures
-        c.neighbours.ensures.value c.if-named-id.false c.in-Some.ensures
+    c.neighbours.ensures.value c.if-named-id.false c.in-Some.ensures
 
 pub returns-in-None : goal.returns-in-None
 returns-in-None g c =
     father-found c.args.view.now _ _ _ None c.tree-named.ensures c.id.ensures c.neighbours.ensures.value
-        c.if-named-id.false c.in-None.ensures
+    c.if-named-id.false c.in-None.ensures

@@ -7,5 +7,5 @@ use Rattle.reset_model.proofs.decide.first_apart.Given as goal
 abbrev pub invariant-loop-other : goal.invariant-loop-other
 invariant-loop-other g l =
     find (λ n. not (n.wave.session == l.session))
-        (filter (λ n. reads_near l.reads l.with n.id) (drop l.other-index l.near))
+    (filter (λ n. reads_near l.reads l.with n.id) (drop l.other-index l.near))
     ≡ find (λ n. not (n.wave.session == l.session)) (filter (λ n. reads_near l.reads l.with n.id) l.near)

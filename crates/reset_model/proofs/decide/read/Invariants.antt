@@ -7,4 +7,4 @@ use Rattle.reset_model.proofs.decide.read.Given as goal
 abbrev pub invariant-loop-other : goal.invariant-loop-other
 invariant-loop-other g l =
     seen_values l.seen.items
-        ≡ map (λ n. (n.id, n.local)) (filter (λ n. reads_near l.reads l.with n.id) (take l.other-index l.near))
+    ≡ map (λ n. (n.id, n.local)) (filter (λ n. reads_near l.reads l.with n.id) (take l.other-index l.near))

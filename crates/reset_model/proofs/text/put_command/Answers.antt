@@ -12,6 +12,6 @@ returns-in_err-put_bytes-2-clause-err g c =
 pub returns-clause-err : goal.returns-clause-err
 returns-clause-err g c =
     on_err_weaker _
-        (λ h. AppendsFront-then _ _ _ c.args.command.now (32 ∷ decimal c.args.at) c.in_ok-put_bytes.ensures.ok
+    (λ h. AppendsFront-then _ _ _ c.args.command.now (32 ∷ decimal c.args.at) c.in_ok-put_bytes.ensures.ok
     (AppendsFront-then _ _ _ (32 ∷ []) (decimal c.args.at) c.in_ok-put_bytes-2.ensures.ok h))
-        (rw (← c.from.ensures) c.put_number.ensures.err)
+    (rw (← c.from.ensures) c.put_number.ensures.err)

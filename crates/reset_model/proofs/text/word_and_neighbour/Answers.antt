@@ -6,10 +6,10 @@ pub returns-in_err-read_number-in-Some-clause-only : goal.returns-in_err-read_nu
 returns-in_err-read_number-in-Some-clause-only c =
     rw c.from_residual.ensures
     (one_and_none c.args.text.now c.in-Some.word.now c.in-Some.number.now c.in-Some.ensures.found
-        c.in_err-read_number-in-Some.ensures.only)
+    c.in_err-read_number-in-Some.ensures.only)
 
 pub returns-in_ok-read_number-in-Some-clause-found : goal.returns-in_ok-read_number-in-Some-clause-found
 returns-in_ok-read_number-in-Some-clause-found c =
     c.in-Some.ensures.found
     ∙ one_found c.in-Some.word.now c.in-Some.number.now c.in-Some.word.now c.in_ok-read_number-in-Some.field-0 refl
-        c.in_ok-read_number-in-Some.ensures.found c.in_ok-read_number-in-Some.ensures.small
+    c.in_ok-read_number-in-Some.ensures.found c.in_ok-read_number-in-Some.ensures.small

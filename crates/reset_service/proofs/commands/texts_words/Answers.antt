@@ -11,4 +11,4 @@ returns-clause-app c =
     let one : app_of c.in_ok-arg.field-0 ≡ with_rule (new_app c.args.name.now) (path (codes "TOPOLOGY")) =
     c.in_ok-arg.ensures.shape (search rules) ∙ ap₂ with_rule texts c.path_word.ensures.rule in
     IfOk-weaker c.arg-2.result _ _
-        (λ r h. h.shape c.path_word-2.ensures.local ∙ ap₂ with_rule one c.path_word-2.ensures.rule) c.arg-2.ensures
+    (λ r h. h.shape c.path_word-2.ensures.local ∙ ap₂ with_rule one c.path_word-2.ensures.rule) c.arg-2.ensures

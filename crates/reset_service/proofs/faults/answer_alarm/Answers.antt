@@ -10,20 +10,20 @@ pub returns-then-is_node-clause-ok : goal.returns-then-is_node-clause-ok
 returns-then-is_node-clause-ok g c =
     let m = meaning_of g.P.Application.app g.P.Application.text g.P.Application.from_text g.P.Application.names in
     let text =
-        alarm_node m c.args.config.now c.args.at c.alarm.result (sym c.is_node.ensures ∙ c.if-is_node.true)
-        c.alarm.ensures.found c.alarm.ensures.none in
+    alarm_node m c.args.config.now c.args.at c.alarm.result (sym c.is_node.ensures ∙ c.if-is_node.true)
+    c.alarm.ensures.found c.alarm.ensures.none in
     let P : List ℕ → Type 0 =
-        λ t. OnOk c.put_alarm.result
-        (Appends (g.W.Write.contents c.args.out.now) (g.W.Write.contents c.put_alarm.new.out) t) in
+    λ t. OnOk c.put_alarm.result
+    (Appends (g.W.Write.contents c.args.out.now) (g.W.Write.contents c.put_alarm.new.out) t) in
     subst P (sym text) c.put_alarm.ensures.ok
 
 pub returns-then-is_node-clause-err : goal.returns-then-is_node-clause-err
 returns-then-is_node-clause-err g c =
     let m = meaning_of g.P.Application.app g.P.Application.text g.P.Application.from_text g.P.Application.names in
     let text =
-        alarm_node m c.args.config.now c.args.at c.alarm.result (sym c.is_node.ensures ∙ c.if-is_node.true)
-        c.alarm.ensures.found c.alarm.ensures.none in
+    alarm_node m c.args.config.now c.args.at c.alarm.result (sym c.is_node.ensures ∙ c.if-is_node.true)
+    c.alarm.ensures.found c.alarm.ensures.none in
     let P : List ℕ → Type 0 =
-        λ t. OnErr c.put_alarm.result
-        (AppendsFront (g.W.Write.contents c.args.out.now) (g.W.Write.contents c.put_alarm.new.out) t) in
+    λ t. OnErr c.put_alarm.result
+    (AppendsFront (g.W.Write.contents c.args.out.now) (g.W.Write.contents c.put_alarm.new.out) t) in
     subst P (sym text) c.put_alarm.ensures.err

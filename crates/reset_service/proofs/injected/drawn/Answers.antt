@@ -8,4 +8,4 @@ returns g c =
     let ids = c.args.config.now.graph.ids in
     let started : c.seed_from_u64-random.result ≡ seeded c.args.seed = search rules in
     c.draw_fault.ensures.fault ∙ ap (λ random. drawn_fault ids (next_words random).0) started
-        ∙ sym (drawn-is ids c.args.seed)
+    ∙ sym (drawn-is ids c.args.seed)

@@ -12,10 +12,10 @@ pub returns-in_err-write_fault-clause-err : goal.returns-in_err-write_fault-clau
 returns-in_err-write_fault-clause-err g c =
     OnErr-always _ _
     (AppendsFront-then _ _ _ (codes "drawn ") _ c.in_ok-put_bytes.ensures.ok
-        (AppendsFront-first _ _ (fault_line c.args.fault.now) (10 ∷ []) c.in_err-write_fault.ensures.err))
+    (AppendsFront-first _ _ (fault_line c.args.fault.now) (10 ∷ []) c.in_err-write_fault.ensures.err))
 
 pub returns-clause-err : goal.returns-clause-err
 returns-clause-err g c =
     OnErr-then _ _ _ _ (codes "drawn ") _ _ refl c.in_ok-put_bytes.ensures.ok
     (OnErr-then _ _ _ _ (fault_line c.args.fault.now) (10 ∷ []) _ refl c.in_ok-write_fault.ensures.ok
-        c.put_bytes-2.ensures.err)
+    c.put_bytes-2.ensures.err)

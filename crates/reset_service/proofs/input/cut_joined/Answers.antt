@@ -12,7 +12,7 @@ returns-then-is_separator c =
     at_separator front (lines_of c.in-Some.after.now)
     (lines ∙ ap (λ ls. front ++ ls) (c.in-Some.ensures.found ∙ ap (λ l. l ∷ lines_of c.in-Some.after.now) here))
     none (text_before c.args.joined.now (flat_map ended front) c.loop-line.rest.now text)
-        (sym (joined_lines c.in-Some.after.now))
+    (sym (joined_lines c.in-Some.after.now))
 
 pub loop-line-preserved : goal.loop-line-preserved
 loop-line-preserved c =
@@ -39,5 +39,5 @@ returns-else-is_separator-2 c =
     let other : c.loop-line.rest.now ≢ separator = search rules in
     let P : List (List ℕ) → Type 0 = λ ls. HasNoSeparator ls in
     topology_alone
-        (subst P (sym (lines ∙ ap (λ ls. front ++ ls) c.in_default.ensures.only))
-        (no_separator_more front c.loop-line.rest.now none other)) refl refl
+    (subst P (sym (lines ∙ ap (λ ls. front ++ ls) c.in_default.ensures.only))
+    (no_separator_more front c.loop-line.rest.now none other)) refl refl

@@ -7,7 +7,7 @@ use Rattle.reset_service.proofs.input.cut_joined.Given as goal
 abbrev pub invariant-loop-line : goal.invariant-loop-line
 invariant-loop-line l =
     (front : List (List ℕ)) × (lines_of l.joined ≡ front ++ lines_of l.rest)
-        × (l.joined ≡ flat_map ended front ++ l.rest) × HasNoSeparator front
+    × (l.joined ≡ flat_map ended front ++ l.rest) × HasNoSeparator front
 
 abbrev pub decreases-loop-line : goal.decreases-loop-line
 decreases-loop-line l = length l.rest

@@ -18,8 +18,8 @@ returns-in-Ok g c =
     let stopped : c.in-Ok.ended ≢ Good = search rules in
     let bad : a.status ≢ Good = λ good. stopped (ok.0 ∙ good) in
     let is =
-        left_bad m all done c.loop-line.config c.loop-line.number (lines_of c.loop-line.rest.now)
-        (lines_of c.in-Some.after.now) c.in-Some.line.now
+    left_bad m all done c.loop-line.config c.loop-line.number (lines_of c.loop-line.rest.now)
+    (lines_of c.in-Some.after.now) c.in-Some.line.now
     left c.in-Some.ensures.found bad in
     record {
       leaves = left_ended all a _ _ _ done c.in-Ok.ended is ok.0 wrote ok.2;
@@ -33,7 +33,7 @@ returns-in-Err-clause-leaves g c =
     let (done, left, wrote, bound) = c.loop-line.invariant in
     left_stop m (answers m c.args.config.now 1 (lines_of c.args.script.now)) (g.W.Write.contents c.args.out.now)
     (g.W.Write.contents c.loop-line.out) (g.W.Write.contents c.answer_line.new.out) done c.loop-line.config
-        c.loop-line.number
+    c.loop-line.number
     (lines_of c.loop-line.rest.now) (lines_of c.in-Some.after.now) c.in-Some.line.now c.in-Err.stop
     left c.in-Some.ensures.found wrote c.in-Err.ensures.err c.in-Err.ensures.stop
 
@@ -59,16 +59,16 @@ returns-clause-leaves g c =
     let (done, left, wrote, bound) = c.loop-line.invariant in
     left_result m (answers m c.args.config.now 1 (lines_of c.args.script.now)) (g.W.Write.contents c.args.out.now)
     (g.W.Write.contents c.loop-line.out) (g.W.Write.contents c.answer_line-2.new.out) done c.loop-line.config
-        c.answer_line-2.new.config
+    c.answer_line-2.new.config
     c.loop-line.number (lines_of c.loop-line.rest.now) c.loop-line.rest.now c.answer_line-2.result
     left c.in_default.ensures.only wrote c.answer_line-2.ensures.ok c.answer_line-2.ensures.err
-        c.answer_line-2.ensures.stop
+    c.answer_line-2.ensures.stop
 
 pub returns-clause-config : goal.returns-clause-config
 returns-clause-config g c =
     let m = meaning_of g.P.Application.app g.P.Application.text g.P.Application.from_text g.P.Application.names in
     let (done, left, wrote, bound) = c.loop-line.invariant in
     last_config m (answers m c.args.config.now 1 (lines_of c.args.script.now)) _ _ done c.loop-line.config
-        c.answer_line-2.new.config
+    c.answer_line-2.new.config
     c.loop-line.number (lines_of c.loop-line.rest.now) c.loop-line.rest.now c.answer_line-2.result
     left c.in_default.ensures.only c.answer_line-2.ensures.ok

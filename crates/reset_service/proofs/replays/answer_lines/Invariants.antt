@@ -10,10 +10,10 @@ abbrev pub invariant-loop-line : goal.invariant-loop-line
 invariant-loop-line g l =
     let m = meaning_of g.P.Application.app g.P.Application.text g.P.Application.from_text g.P.Application.names in
     (done : List ℕ)
-        × (answers m l.initial.config 1 (lines_of l.script)
-        ≡ told_after done (answers m l.config l.number (lines_of l.rest)))
+    × (answers m l.initial.config 1 (lines_of l.script)
+    ≡ told_after done (answers m l.config l.number (lines_of l.rest)))
     × Appends (g.W.Write.contents l.initial.out) (g.W.Write.contents l.out) done
-        × (l.number + length l.rest ≤ length l.script + 1)
+    × (l.number + length l.rest ≤ length l.script + 1)
 
 abbrev pub decreases-loop-line : goal.decreases-loop-line
 decreases-loop-line g l = length l.rest

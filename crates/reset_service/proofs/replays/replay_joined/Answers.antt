@@ -5,6 +5,9 @@ use Rattle.reset_service.proofs.replays.replay_joined.Goals as goal
 
 pub returns-in-Err : goal.returns-in-Err
 returns-in-Err g c =
-    let read = some_read (g.R.Read.remaining c.args.joined.now) in
-    (read.0, read.1, leaves_unread (IsJoinedOutput read.0) (g.W.Write.contents c.args.out.now) c.in-Err.stop
-        c.in-Err.ensures.err)
+    let read = some_read (g.R.Read.remaining c.args.joined.now) in (
+      read.0,
+      read.1,
+      leaves_unread (IsJoinedOutput read.0) (g.W.Write.contents c.args.out.now) c.in-Err.stop
+          c.in-Err.ensures.err,
+    )

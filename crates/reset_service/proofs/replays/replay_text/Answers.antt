@@ -10,11 +10,11 @@ use Rattle.reset_service.proofs.replays.replay_text.Goals as goal
 pub returns-in-Ok-clause-leaves : goal.returns-in-Ok-clause-leaves
 returns-in-Ok-clause-leaves g c =
     leaves_weaker (IsReplayOf c.in-Ok.app Replay c.in-Ok.topology c.args.script.now)
-        (IsOutput Replay c.args.topology.now c.args.script.now) _ _ c.run_app.result
+    (IsOutput Replay c.args.topology.now c.args.script.now) _ _ c.run_app.result
     (λ o is. good_topology c.in-Ok.topology c.in-Ok.app c.in-Ok.ensures.ok is) c.run_app.ensures.leaves
 
 pub returns-in-Err-clause-leaves : goal.returns-in-Err-clause-leaves
 returns-in-Err-clause-leaves g c =
     leaves_weaker (λ o. (c.in-Err.fault ≢ NoMemory) × (o ≡ (bad_topology_text c.in-Err.fault, BadInput)))
-        (IsOutput Replay c.args.topology.now c.args.script.now) _ _ c.refuse_topology.result
+    (IsOutput Replay c.args.topology.now c.args.script.now) _ _ c.refuse_topology.result
     (λ o is. bad_topology c.in-Err.fault (c.in-Err.ensures.err is.0) is.1) c.refuse_topology.ensures.leaves

@@ -28,6 +28,9 @@ returns-in-Ok-read_text-clause-leaves g c = (
 
 pub returns-in-Err-read_text-clause-leaves : goal.returns-in-Err-read_text-clause-leaves
 returns-in-Err-read_text-clause-leaves g c =
-    let read = some_read (g.R.Read.remaining c.args.script.now) in
-    (read.0, read.1, leaves_unread (IsOutput c.args.purpose c.args.topology.now read.0)
-        (g.W.Write.contents c.args.out.now) c.in-Err-read_text.stop c.in-Err-read_text.ensures.err)
+    let read = some_read (g.R.Read.remaining c.args.script.now) in (
+      read.0,
+      read.1,
+      leaves_unread (IsOutput c.args.purpose c.args.topology.now read.0)
+          (g.W.Write.contents c.args.out.now) c.in-Err-read_text.stop c.in-Err-read_text.ensures.err,
+    )

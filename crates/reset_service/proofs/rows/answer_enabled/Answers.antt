@@ -13,7 +13,7 @@ returns-in_err-put_enabled-in-Ok-clause-err g c =
     let m = meaning_of g.P.Application.app g.P.Application.text g.P.Application.from_text g.P.Application.names in
     let text = enabled_node m c.args.config.now c.args.at c.in-Ok.rows c.in-Ok.ensures.ok.0 c.in-Ok.ensures.ok.1 in
     let P : List ℕ → Type 0 =
-        λ t. AppendsFront (g.W.Write.contents c.args.out.now) (g.W.Write.contents c.put_enabled.new.out) t in
+    λ t. AppendsFront (g.W.Write.contents c.args.out.now) (g.W.Write.contents c.put_enabled.new.out) t in
     OnErr-always _ _ (subst P (sym text) c.in_err-put_enabled-in-Ok.ensures.err)
 
 pub returns-in_ok-put_enabled-in-Ok-clause-ok : goal.returns-in_ok-put_enabled-in-Ok-clause-ok
@@ -21,7 +21,7 @@ returns-in_ok-put_enabled-in-Ok-clause-ok g c =
     let m = meaning_of g.P.Application.app g.P.Application.text g.P.Application.from_text g.P.Application.names in
     let text = enabled_node m c.args.config.now c.args.at c.in-Ok.rows c.in-Ok.ensures.ok.0 c.in-Ok.ensures.ok.1 in
     let P : List ℕ → Type 0 =
-        λ t. Appends (g.W.Write.contents c.args.out.now) (g.W.Write.contents c.put_enabled.new.out) t in
+    λ t. Appends (g.W.Write.contents c.args.out.now) (g.W.Write.contents c.put_enabled.new.out) t in
     subst P (sym text) c.in_ok-put_enabled-in-Ok.ensures.ok
 
 pub returns-in_err-put_refusal-in-Err : goal.returns-in_err-put_refusal-in-Err
@@ -29,10 +29,10 @@ returns-in_err-put_refusal-in-Err g c =
     let m = meaning_of g.P.Application.app g.P.Application.text g.P.Application.from_text g.P.Application.names in
     let memory : c.in-Err.refusal ≢ NoMemory = search rules in
     let text =
-        told_refused c.args.config.now c.args.at (enabled_line m c.args.config.now c.args.at) c.in-Err.refusal
-        c.in-Err.ensures.err memory in
+    told_refused c.args.config.now c.args.at (enabled_line m c.args.config.now c.args.at) c.in-Err.refusal
+    c.in-Err.ensures.err memory in
     let P : List ℕ → Type 0 =
-        λ t. AppendsFront (g.W.Write.contents c.args.out.now) (g.W.Write.contents c.put_refusal.new.out) t in
+    λ t. AppendsFront (g.W.Write.contents c.args.out.now) (g.W.Write.contents c.put_refusal.new.out) t in
     record {
       ok = search rules;
       err = OnErr-always _ _ (subst P (sym text) c.in_err-put_refusal-in-Err.ensures.err);
@@ -44,10 +44,10 @@ returns-in_ok-put_refusal-in-Err g c =
     let m = meaning_of g.P.Application.app g.P.Application.text g.P.Application.from_text g.P.Application.names in
     let memory : c.in-Err.refusal ≢ NoMemory = search rules in
     let text =
-        told_refused c.args.config.now c.args.at (enabled_line m c.args.config.now c.args.at) c.in-Err.refusal
-        c.in-Err.ensures.err memory in
+    told_refused c.args.config.now c.args.at (enabled_line m c.args.config.now c.args.at) c.in-Err.refusal
+    c.in-Err.ensures.err memory in
     let P : List ℕ → Type 0 =
-        λ t. Appends (g.W.Write.contents c.args.out.now) (g.W.Write.contents c.put_refusal.new.out) t in
+    λ t. Appends (g.W.Write.contents c.args.out.now) (g.W.Write.contents c.put_refusal.new.out) t in
     record {
       ok = subst P (sym text) c.in_ok-put_refusal-in-Err.ensures.ok;
       err = search rules;

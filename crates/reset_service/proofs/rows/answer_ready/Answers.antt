@@ -9,19 +9,19 @@ use Rattle.reset_service.proofs.rows.answer_ready.Goals as goal
 pub returns-in_err-put_ready-in-Ok-clause-err : goal.returns-in_err-put_ready-in-Ok-clause-err
 returns-in_err-put_ready-in-Ok-clause-err g c =
     let text =
-        ready_line-is
-        (meaning_of g.P.Application.app g.P.Application.text g.P.Application.from_text g.P.Application.names)
-        c.args.config.now c.deref.result.now (c.deref.ensures.value ∙ c.in-Ok.ensures) in
+    ready_line-is
+    (meaning_of g.P.Application.app g.P.Application.text g.P.Application.from_text g.P.Application.names)
+    c.args.config.now c.deref.result.now (c.deref.ensures.value ∙ c.in-Ok.ensures) in
     let P : List ℕ → Type 0 =
-        λ t. AppendsFront (g.W.Write.contents c.args.out.now) (g.W.Write.contents c.put_ready.new.out) t in
+    λ t. AppendsFront (g.W.Write.contents c.args.out.now) (g.W.Write.contents c.put_ready.new.out) t in
     OnErr-always _ _ (subst P (sym text) c.in_err-put_ready-in-Ok.ensures.err)
 
 pub returns-in_ok-put_ready-in-Ok-clause-ok : goal.returns-in_ok-put_ready-in-Ok-clause-ok
 returns-in_ok-put_ready-in-Ok-clause-ok g c =
     let text =
-        ready_line-is
-        (meaning_of g.P.Application.app g.P.Application.text g.P.Application.from_text g.P.Application.names)
-        c.args.config.now c.deref.result.now (c.deref.ensures.value ∙ c.in-Ok.ensures) in
+    ready_line-is
+    (meaning_of g.P.Application.app g.P.Application.text g.P.Application.from_text g.P.Application.names)
+    c.args.config.now c.deref.result.now (c.deref.ensures.value ∙ c.in-Ok.ensures) in
     let P : List ℕ → Type 0 =
-        λ t. Appends (g.W.Write.contents c.args.out.now) (g.W.Write.contents c.put_ready.new.out) t in
+    λ t. Appends (g.W.Write.contents c.args.out.now) (g.W.Write.contents c.put_ready.new.out) t in
     subst P (sym text) c.in_ok-put_ready-in-Ok.ensures.ok

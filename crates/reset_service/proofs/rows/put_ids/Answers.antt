@@ -7,5 +7,5 @@ use Rattle.reset_service.proofs.rows.put_ids.Goals as goal
 pub returns-in_err-put_id-clause-err : goal.returns-in_err-put_id-clause-err
 returns-in_err-put_id-clause-err g c =
     OnErr-always _ _
-        (AppendsFront-piece _ _ _ spaced c.args.ids.now c.loop-id.id-index _ (omega arith) c.loop-id.invariant
-        c.in_err-put_id.ensures.err)
+    (AppendsFront-piece _ _ _ spaced c.args.ids.now c.loop-id.id-index _ (omega arith) c.loop-id.invariant
+    c.in_err-put_id.ensures.err)

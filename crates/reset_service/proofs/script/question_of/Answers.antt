@@ -12,9 +12,9 @@ returns-in_err-read_number-in-show-clause-only c =
 pub returns-in_ok-read_number-in-show-clause-found : goal.returns-in_ok-read_number-in-show-clause-found
 returns-in_ok-read_number-in-show-clause-found c =
     one_found c.args.word.now c.args.rest.now (codes "show") c.in_ok-read_number-in-show.field-0
-        (text_from_reads c.args.word.now (codes "show") (omega arith)
-        (omega arith, (omega arith, (omega arith, (omega arith, tt))))) c.in_ok-read_number-in-show.ensures.found
-        (search rules)
+    (text_from_reads c.args.word.now (codes "show") (omega arith)
+    (omega arith, (omega arith, (omega arith, (omega arith, tt))))) c.in_ok-read_number-in-show.ensures.found
+    (search rules)
 
 pub returns-in_err-read_number-in-enabled-clause-only : goal.returns-in_err-read_number-in-enabled-clause-only
 returns-in_err-read_number-in-enabled-clause-only c =
@@ -24,9 +24,9 @@ returns-in_err-read_number-in-enabled-clause-only c =
 pub returns-in_ok-read_number-in-enabled-clause-found : goal.returns-in_ok-read_number-in-enabled-clause-found
 returns-in_ok-read_number-in-enabled-clause-found c =
     one_found c.args.word.now c.args.rest.now (codes "enabled") c.in_ok-read_number-in-enabled.field-0
-        (text_from_reads c.args.word.now (codes "enabled") (omega arith)
-        (omega arith, (omega arith, (omega arith, (omega arith, (omega arith, (omega arith, (omega arith, tt))))))))
-        c.in_ok-read_number-in-enabled.ensures.found (search rules)
+    (text_from_reads c.args.word.now (codes "enabled") (omega arith)
+    (omega arith, (omega arith, (omega arith, (omega arith, (omega arith, (omega arith, (omega arith, tt))))))))
+    c.in_ok-read_number-in-enabled.ensures.found (search rules)
 
 pub returns-in_err-read_number-in-check-clause-only : goal.returns-in_err-read_number-in-check-clause-only
 returns-in_err-read_number-in-check-clause-only c =
@@ -36,9 +36,9 @@ returns-in_err-read_number-in-check-clause-only c =
 pub returns-in_ok-read_number-in-check-clause-found : goal.returns-in_ok-read_number-in-check-clause-found
 returns-in_ok-read_number-in-check-clause-found c =
     one_found c.args.word.now c.args.rest.now (codes "check") c.in_ok-read_number-in-check.field-0
-        (text_from_reads c.args.word.now (codes "check") (omega arith)
-        (omega arith, (omega arith, (omega arith, (omega arith, (omega arith, tt))))))
-        c.in_ok-read_number-in-check.ensures.found (search rules)
+    (text_from_reads c.args.word.now (codes "check") (omega arith)
+    (omega arith, (omega arith, (omega arith, (omega arith, (omega arith, tt))))))
+    c.in_ok-read_number-in-check.ensures.found (search rules)
 
 pub returns-in_err-read_number-in-alarm-clause-only : goal.returns-in_err-read_number-in-alarm-clause-only
 returns-in_err-read_number-in-alarm-clause-only c =
@@ -48,9 +48,9 @@ returns-in_err-read_number-in-alarm-clause-only c =
 pub returns-in_ok-read_number-in-alarm-clause-found : goal.returns-in_ok-read_number-in-alarm-clause-found
 returns-in_ok-read_number-in-alarm-clause-found c =
     one_found c.args.word.now c.args.rest.now (codes "alarm") c.in_ok-read_number-in-alarm.field-0
-        (text_from_reads c.args.word.now (codes "alarm") (omega arith)
-        (omega arith, (omega arith, (omega arith, (omega arith, (omega arith, tt))))))
-        c.in_ok-read_number-in-alarm.ensures.found (search rules)
+    (text_from_reads c.args.word.now (codes "alarm") (omega arith)
+    (omega arith, (omega arith, (omega arith, (omega arith, (omega arith, tt))))))
+    c.in_ok-read_number-in-alarm.ensures.found (search rules)
 
 pub returns-in_err-read_number-in-watch-clause-only : goal.returns-in_err-read_number-in-watch-clause-only
 returns-in_err-read_number-in-watch-clause-only c =
@@ -60,9 +60,9 @@ returns-in_err-read_number-in-watch-clause-only c =
 pub returns-in_ok-read_number-in-watch-clause-found : goal.returns-in_ok-read_number-in-watch-clause-found
 returns-in_ok-read_number-in-watch-clause-found c =
     one_found c.args.word.now c.args.rest.now (codes "watch") c.in_ok-read_number-in-watch.field-0
-        (text_from_reads c.args.word.now (codes "watch") (omega arith)
-        (omega arith, (omega arith, (omega arith, (omega arith, (omega arith, tt))))))
-        c.in_ok-read_number-in-watch.ensures.found (search rules)
+    (text_from_reads c.args.word.now (codes "watch") (omega arith)
+    (omega arith, (omega arith, (omega arith, (omega arith, (omega arith, tt))))))
+    c.in_ok-read_number-in-watch.ensures.found (search rules)
 
 pub returns-in_err-read_number-in-draw-clause-only : goal.returns-in_err-read_number-in-draw-clause-only
 returns-in_err-read_number-in-draw-clause-only c =
@@ -72,6 +72,6 @@ returns-in_err-read_number-in-draw-clause-only c =
 pub returns-in_ok-read_number-in-draw-clause-found : goal.returns-in_ok-read_number-in-draw-clause-found
 returns-in_ok-read_number-in-draw-clause-found c =
     one_found c.args.word.now c.args.rest.now (codes "draw") c.in_ok-read_number-in-draw.field-0
-        (text_from_reads c.args.word.now (codes "draw") (omega arith)
-        (omega arith, (omega arith, (omega arith, (omega arith, tt))))) c.in_ok-read_number-in-draw.ensures.found
-        (search rules)
+    (text_from_reads c.args.word.now (codes "draw") (omega arith)
+    (omega arith, (omega arith, (omega arith, (omega arith, tt))))) c.in_ok-read_number-in-draw.ensures.found
+    (search rules)

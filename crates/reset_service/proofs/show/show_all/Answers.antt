@@ -14,15 +14,15 @@ returns-in_err-show_node-clause-err g c =
     let config = c.args.config.now in
     let i = c.loop-id.id-index in
     let items : c.ids-id-items.result.now ≡ config.graph.ids =
-        c.ids-id-items.ensures ∙ ap (λ (t : Graph). t.ids) c.topology.ensures in
+    c.ids-id-items.ensures ∙ ap (λ (t : Graph). t.ids) c.topology.ensures in
     let inside : i < length config.graph.ids = subst (λ (ids : List ℕ). i < length ids) items c.loop-id-test.true in
     let P : List ℕ → Type 0 =
-        λ ids. AppendsFront (g.W.Write.contents c.loop-id.out) (g.W.Write.contents c.show_node.new.out)
-        (at_node config (get_or ids i 0) (shown m config (get_or ids i 0))) in
+    λ ids. AppendsFront (g.W.Write.contents c.loop-id.out) (g.W.Write.contents c.show_node.new.out)
+    (at_node config (get_or ids i 0) (shown m config (get_or ids i 0))) in
     let Q : List ℕ → Type 0 =
-        λ t. AppendsFront (g.W.Write.contents c.loop-id.out) (g.W.Write.contents c.show_node.new.out) t in
+    λ t. AppendsFront (g.W.Write.contents c.loop-id.out) (g.W.Write.contents c.show_node.new.out) t in
     OnErr-always _ _
-        (AppendsFront-piece (g.W.Write.contents c.args.out.now) (g.W.Write.contents c.loop-id.out)
-        (g.W.Write.contents c.show_node.new.out) (shown m config) config.graph.ids i 0 inside
+    (AppendsFront-piece (g.W.Write.contents c.args.out.now) (g.W.Write.contents c.loop-id.out)
+    (g.W.Write.contents c.show_node.new.out) (shown m config) config.graph.ids i 0 inside
     c.loop-id.invariant
-        (subst Q (told_at config (shown m config) i inside) (subst P items c.in_err-show_node.ensures.err)))
+    (subst Q (told_at config (shown m config) i inside) (subst P items c.in_err-show_node.ensures.err)))

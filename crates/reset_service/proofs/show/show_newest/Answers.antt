@@ -14,14 +14,14 @@ returns-in_err-newest_of-clause-err g c =
     let config = c.args.config.now in
     let i = c.loop-id.id-index in
     let items : c.ids-id-items.result.now ≡ config.graph.ids =
-        c.ids-id-items.ensures ∙ ap (λ (t : Graph). t.ids) c.topology.ensures in
+    c.ids-id-items.ensures ∙ ap (λ (t : Graph). t.ids) c.topology.ensures in
     let inside : i < length config.graph.ids = subst (λ (ids : List ℕ). i < length ids) items c.loop-id-test.true in
     let P : List ℕ → Type 0 =
-        λ ids. AppendsFront (g.W.Write.contents c.loop-id.out) (g.W.Write.contents c.newest_of.new.out)
-        (newest_line m config (get_or ids i 0)) in
+    λ ids. AppendsFront (g.W.Write.contents c.loop-id.out) (g.W.Write.contents c.newest_of.new.out)
+    (newest_line m config (get_or ids i 0)) in
     OnErr-always _ _
-        (AppendsFront-piece (g.W.Write.contents c.args.out.now) (g.W.Write.contents c.loop-id.out)
-        (g.W.Write.contents c.newest_of.new.out) (newest_line m config) config.graph.ids i 0 inside
+    (AppendsFront-piece (g.W.Write.contents c.args.out.now) (g.W.Write.contents c.loop-id.out)
+    (g.W.Write.contents c.newest_of.new.out) (newest_line m config) config.graph.ids i 0 inside
     c.loop-id.invariant (subst P items c.in_err-newest_of.ensures.err))
 
 pub loop-id-preserved : goal.loop-id-preserved
@@ -30,11 +30,11 @@ loop-id-preserved g c =
     let config = c.args.config.now in
     let i = c.loop-id.id-index in
     let items : c.ids-id-items.result.now ≡ config.graph.ids =
-        c.ids-id-items.ensures ∙ ap (λ (t : Graph). t.ids) c.topology.ensures in
+    c.ids-id-items.ensures ∙ ap (λ (t : Graph). t.ids) c.topology.ensures in
     let inside : i < length config.graph.ids = subst (λ (ids : List ℕ). i < length ids) items c.loop-id-test.true in
     let P : List ℕ → Type 0 =
-        λ ids. Appends (g.W.Write.contents c.loop-id.out) (g.W.Write.contents c.newest_of.new.out)
-        (newest_line m config (get_or ids i 0)) in
+    λ ids. Appends (g.W.Write.contents c.loop-id.out) (g.W.Write.contents c.newest_of.new.out)
+    (newest_line m config (get_or ids i 0)) in
     Appends-piece (g.W.Write.contents c.args.out.now) (g.W.Write.contents c.loop-id.out)
-        (g.W.Write.contents c.newest_of.new.out) (newest_line m config) config.graph.ids i 0 inside
+    (g.W.Write.contents c.newest_of.new.out) (newest_line m config) config.graph.ids i 0 inside
     c.loop-id.invariant (subst P items c.in_ok-newest_of.ensures.ok)

@@ -37,7 +37,7 @@ returns-in_err-put_not_enabled-in-Err-NotEnabledAt-clause-leaves g c =
     let stop : IsErrAnd c.from_residual-in_err-put_not_enabled-in-Err-NotEnabledAt.result (λ s. s ≡ WriteFailed) =
     search (rules, c.from_residual-in_err-put_not_enabled-in-Err-NotEnabledAt.ensures) in
     leaves_fault (IsAnswered m c.args.opening c.args.entries.now) _ _
-        c.from_residual-in_err-put_not_enabled-in-Err-NotEnabledAt.result stop (
+    c.from_residual-in_err-put_not_enabled-in-Err-NotEnabledAt.result stop (
       (not_enabled_text position, NotEnabled),
       not_enabled position (c.in-Err-NotEnabledAt.ensures.err position c.in-Err-NotEnabledAt.field-0-is) refl,
       c.in_err-put_not_enabled-in-Err-NotEnabledAt.ensures.err,

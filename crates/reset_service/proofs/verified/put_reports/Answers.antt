@@ -7,5 +7,5 @@ use Rattle.reset_service.proofs.verified.put_reports.Goals as goal
 pub returns-in_err-put_report-clause-err : goal.returns-in_err-put_report-clause-err
 returns-in_err-put_report-clause-err g c =
     OnErr-always _ _
-        (AppendsFront-piece _ _ _ report_line c.args.reports.now c.loop-report.report-index _ (omega arith)
-        c.loop-report.invariant c.in_err-put_report.ensures.err)
+    (AppendsFront-piece _ _ _ report_line c.args.reports.now c.loop-report.report-index _ (omega arith)
+    c.loop-report.invariant c.in_err-put_report.ensures.err)

@@ -13,9 +13,9 @@ returns-in-Ok-clause-leaves g c =
     let m = meaning_of g.P.Application.app g.P.Application.text g.P.Application.from_text g.P.Application.names in
     let entries = c.deref.result.now in
     known_leaves (g.R.Read.remaining c.args.history.now) (λ text. IsReadAs text (Ok entries))
-        (IsAnswered m c.args.opening entries)
+    (IsAnswered m c.args.opening entries)
     (λ text. IsVerified m c.args.opening text) _ _ c.answer_entries.result
-        (λ text o read is. is_history entries read is)
+    (λ text o read is. is_history entries read is)
     (rw c.deref.ensures.value c.in-Ok.ensures.ok) c.answer_entries.ensures.leaves
 
 pub returns-clause-leaves : goal.returns-clause-leaves
@@ -25,6 +25,6 @@ returns-clause-leaves g c =
     let memory : fault ≢ NoMemory = search rules in
     let device : fault ≢ ReadFailed = search rules in
     known_leaves (g.R.Read.remaining c.args.history.now) (λ text. IsReadAs text (Err fault))
-        (λ o. o ≡ (bad_history_text fault, BadInput))
+    (λ o. o ≡ (bad_history_text fault, BadInput))
     (λ text. IsVerified m c.args.opening text) _ _ c.refuse_history.result (λ text o read is. bad_history fault read is)
     (c.in-Err.ensures.err memory device) c.refuse_history.ensures.leaves

@@ -8,12 +8,12 @@ use Rattle.reset_service.proofs.words.paths_of.Goals as goal
 pub unwrap-requires : goal.unwrap-requires
 unwrap-requires c =
     some_text c.get_str.result _ (c.get_str.ensures ∙ first_value-rows (found_of c.args.values.now) (codes "TOPOLOGY"))
-        c.requires.0
+    c.requires.0
 
 pub unwrap-requires-2 : goal.unwrap-requires-2
 unwrap-requires-2 c =
     some_text c.get_str-2.result _
-        (c.get_str-2.ensures ∙ first_value-rows (found_of c.args.values.now) c.args.input.now) c.requires.1
+    (c.get_str-2.ensures ∙ first_value-rows (found_of c.args.values.now) c.args.input.now) c.requires.1
 
 pub returns-clause-topology : goal.returns-clause-topology
 returns-clause-topology c =

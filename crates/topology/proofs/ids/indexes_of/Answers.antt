@@ -5,8 +5,12 @@ use Rattle.topology.proofs.ids.indexes_of.Goals as goal
 
 pub index_mut-requires : goal.index_mut-requires
 index_mut-requires c =
-    omega (arith, at_most_last c.args.ids.now c.requires.ascending c.loop-index.index c.loop-index-test.true,
-        c.loop-index.invariant.0, c.loop-index.indexes.ok.0)
+    omega (
+      arith,
+      at_most_last c.args.ids.now c.requires.ascending c.loop-index.index c.loop-index-test.true,
+      c.loop-index.invariant.0,
+      c.loop-index.indexes.ok.0,
+    )
 
 pub loop-index-preserved : goal.loop-index-preserved
 loop-index-preserved c =
@@ -15,8 +19,11 @@ loop-index-preserved c =
           ∙ c.loop-index.invariant.0,
       has_more ids c.requires.ascending c.loop-index.index c.loop-index.indexes.items c.loop-index.invariant.1
           c.loop-index-test.true
-          (omega (arith, at_most_last ids c.requires.ascending c.loop-index.index c.loop-index-test.true,
-              c.loop-index.invariant.0)),
+          (omega (
+            arith,
+            at_most_last ids c.requires.ascending c.loop-index.index c.loop-index-test.true,
+            c.loop-index.invariant.0,
+          )),
     )
 
 pub returns : goal.returns
@@ -24,4 +31,4 @@ returns c =
     let ids = c.args.ids.now in
     let same : c.loop-index.index ≡ length ids = omega (arith, c.loop-index-test.false, c.loop-index.auto.index-end) in
     has_all ids c.requires.ascending c.loop-index.indexes.items
-        (subst (λ n. HasFirst ids n c.loop-index.indexes.items) same c.loop-index.invariant.1)
+    (subst (λ n. HasFirst ids n c.loop-index.indexes.items) same c.loop-index.invariant.1)

@@ -12,7 +12,7 @@ returns-then-a-b c =
     let pair : ◌≡◌ {A = ℕ × ℕ} l (l.0, l.0) = ap (λ y. (l.0, y)) (sym same) in
     subst (IsFirst (λ (m : ℕ × ℕ). m.0 ≡ m.1) links) pair
     (first_at (λ (m : ℕ × ℕ). m.0 ≡ m.1) links (take k links) (drop (k + 1) links) l
-        (split_at links k (0, 0) c.loop-a-test.true) c.loop-a.invariant same)
+    (split_at links k (0, 0) c.loop-a-test.true) c.loop-a.invariant same)
 
 pub returns : goal.returns
 returns c =

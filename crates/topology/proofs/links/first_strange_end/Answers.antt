@@ -17,7 +17,7 @@ returns-then-is_none c =
     sym (member_by_index ids (get_or links k (0, 0)).0 c.index_of.result c.index_of.ensures) ∙ c.if-is_none.ensures in
     first_end links k c.loop-a-test.true (λ x. has ids x ≡ true → ⊥)
     (All-weaker (λ x. has ids x ≡ true) (λ x. (has ids x ≡ true → ⊥) → ⊥) (λ x is not. not is) (ends_of (take k links))
-        c.loop-a.invariant)
+    c.loop-a.invariant)
     (both_ways (has ids (get_or links k (0, 0)).0) strange)
 
 pub returns-then-is_none-2 : goal.returns-then-is_none-2
@@ -29,10 +29,10 @@ returns-then-is_none-2 c =
     sym (member_by_index ids (get_or links k (0, 0)).0 c.index_of.result c.index_of.ensures) ∙ c.if-is_none.ensures in
     let strange : has ids (get_or links k (0, 0)).1 ≡ false =
     sym (member_by_index ids (get_or links k (0, 0)).1 c.index_of-in-loop-a.result c.index_of-in-loop-a.ensures)
-        ∙ c.if-is_none-2.ensures in
+    ∙ c.if-is_none-2.ensures in
     second_end links k c.loop-a-test.true (λ x. has ids x ≡ true → ⊥)
     (All-weaker (λ x. has ids x ≡ true) (λ x. (has ids x ≡ true → ⊥) → ⊥) (λ x is not. not is) (ends_of (take k links))
-        c.loop-a.invariant)
+    c.loop-a.invariant)
     (λ not. not known) (both_ways (has ids (get_or links k (0, 0)).1) strange)
 
 pub loop-a-preserved : goal.loop-a-preserved
@@ -43,7 +43,7 @@ loop-a-preserved c =
     both_ends links k c.loop-a-test.true (λ x. has ids x ≡ true) c.loop-a.invariant
     (sym (member_by_index ids (get_or links k (0, 0)).0 c.index_of.result c.index_of.ensures) ∙ c.if-is_none.ensures)
     (sym (member_by_index ids (get_or links k (0, 0)).1 c.index_of-in-loop-a.result c.index_of-in-loop-a.ensures)
-        ∙ c.if-is_none-2.ensures)
+    ∙ c.if-is_none-2.ensures)
 
 pub returns : goal.returns
 returns c =

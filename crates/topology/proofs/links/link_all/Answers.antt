@@ -12,12 +12,12 @@ use Rattle.topology.proofs.links.link_all.Goals as goal
 pub index_among-i-requires : goal.index_among-i-requires
 index_among-i-requires c =
     (ends_known c.args.links.now c.loop-a.a-index c.loop-a-test.true (λ x. has c.args.ids.now x ≡ true)
-        c.requires.apart.known).0
+    c.requires.apart.known).0
 
 pub index_among-j-requires : goal.index_among-j-requires
 index_among-j-requires c =
     (ends_known c.args.links.now c.loop-a.a-index c.loop-a-test.true (λ x. has c.args.ids.now x ≡ true)
-        c.requires.apart.known).1
+    c.requires.apart.known).1
 
 pub returns-then-not-branch-clause-err : goal.returns-then-not-branch-clause-err
 returns-then-not-branch-clause-err c =
@@ -25,22 +25,22 @@ returns-then-not-branch-clause-err c =
     let ids = c.args.ids.now in
     let k = c.loop-a.a-index in
     let count : length c.loop-a.near ≡ length ids =
-        sym (length-map c.loop-a.near (λ row. row.items)) ∙ c.loop-a.invariant.as_rows.count in
+    sym (length-map c.loop-a.near (λ row. row.items)) ∙ c.loop-a.invariant.as_rows.count in
     let put : Links (length ids) (rows_of c.loop-a.near) c.index_among-i.result c.index_among-j.result false
-        (rows_of c.link.new.near) =
+    (rows_of c.link.new.near) =
     subst₂ (λ n b. Links n (rows_of c.loop-a.near) c.index_among-i.result c.index_among-j.result b
-        (rows_of c.link.new.near)) count c.if-not-branch.true c.in_ok-link.ensures in
+    (rows_of c.link.new.near)) count c.if-not-branch.true c.in_ok-link.ensures in
     let l : ℕ × ℕ = get_or links k (0, 0) in
     let i = c.index_among-i.result in
     let j = c.index_among-j.result in
     let earlier : Contains (ordered_links (take k links)) (min l.0 l.1, max l.0 l.1) =
     subst₂ (λ a b. Contains (ordered_links (take k links)) (min a b, max a b)) c.index_among-i.ensures.value
-        c.index_among-j.ensures.value
+    c.index_among-j.ensures.value
     (link_repeated ids c.are_ids.ensures.ascending (take k links) (rows_of c.loop-a.near) (rows_of c.link.new.near)
-        c.loop-a.invariant i j c.index_among-i.ensures.within c.index_among-j.ensures.within put) in
+    c.loop-a.invariant i j c.index_among-i.ensures.within c.index_among-j.ensures.within put) in
     let repeat : IsFirstRepeat (ordered_links links) (min l.0 l.1, max l.0 l.1) =
     first_repeat_at (ordered_links links) (ordered_links (take k links)) (ordered_links (drop (k + 1) links))
-        (min l.0 l.1, max l.0 l.1)
+    (min l.0 l.1, max l.0 l.1)
     (ordered_whole links k c.loop-a-test.true) c.loop-a.invariant.distinct earlier in
     λ _. ((min l.0 l.1, max l.0 l.1), ap₂ TwiceLink c.min.ensures c.max.ensures, repeat)
 
@@ -50,14 +50,14 @@ loop-a-preserved c =
     let ids = c.args.ids.now in
     let k = c.loop-a.a-index in
     let count : length c.loop-a.near ≡ length ids =
-        sym (length-map c.loop-a.near (λ row. row.items)) ∙ c.loop-a.invariant.as_rows.count in
+    sym (length-map c.loop-a.near (λ row. row.items)) ∙ c.loop-a.invariant.as_rows.count in
     let put : Links (length ids) (rows_of c.loop-a.near) c.index_among-i.result c.index_among-j.result true
-        (rows_of c.link.new.near) =
+    (rows_of c.link.new.near) =
     subst₂ (λ n b. Links n (rows_of c.loop-a.near) c.index_among-i.result c.index_among-j.result b
-        (rows_of c.link.new.near)) count c.if-not-branch.false c.in_ok-link.ensures in
+    (rows_of c.link.new.near)) count c.if-not-branch.false c.in_ok-link.ensures in
     subst (λ (ls : List (ℕ × ℕ)). AreJoined ids ls (rows_of c.link.new.near))
-        (sym (take_more links k (0, 0) c.loop-a-test.true))
+    (sym (take_more links k (0, 0) c.loop-a-test.true))
     (joined_more ids c.are_ids.ensures.ascending (take k links) (rows_of c.loop-a.near) (rows_of c.link.new.near)
-        c.loop-a.invariant c.index_among-i.result c.index_among-j.result
+    c.loop-a.invariant c.index_among-i.result c.index_among-j.result
     c.index_among-i.ensures.within c.index_among-j.ensures.within (get_or links k (0, 0)) c.index_among-i.ensures.value
-        c.index_among-j.ensures.value put)
+    c.index_among-j.ensures.value put)

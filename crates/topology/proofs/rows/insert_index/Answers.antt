@@ -7,11 +7,11 @@ pub returns-in-Ok : goal.returns-in-Ok
 returns-in-Ok c =
     kept c.args.row.now.items c.args.index c.requires c.in-Ok.field-0
     (subst₂ (λ xs r. IsBinarySearchResult (λ y. nat_cmp y c.args.index) xs r) c.deref.ensures.value c.in-Ok.is
-        c.binary_search.ensures.position)
+    c.binary_search.ensures.position)
 
 pub returns-in_ok-insert-in-Err : goal.returns-in_ok-insert-in-Err
 returns-in_ok-insert-in-Err c =
     rw c.in_ok-insert-in-Err.ensures.items
     (inserted c.args.row.now.items c.args.index c.requires c.in-Err.place
     (subst₂ (λ xs r. IsBinarySearchResult (λ y. nat_cmp y c.args.index) xs r) c.deref.ensures.value c.in-Err.is
-        c.binary_search.ensures.position))
+    c.binary_search.ensures.position))

@@ -17,7 +17,7 @@ loop-place-init c =
     record {
       queued = subst (AreQueued n (rows_of near) start 0 (set c.args.marks.now start 0)) (sym first)
           (begun n (rows_of near) start c.requires.within (set c.args.marks.now start 0)
-              (ap (λ xs. set xs start 0) c.requires.free));
+          (ap (λ xs. set xs start 0) c.requires.free));
       capacity = omega (arith, c.push.ensures.capacity, c.requires.capacity);
     }
 
@@ -30,7 +30,7 @@ mark_row-requires-clause-within c =
     let index = c.index-index.result.now in
     let place_in : place < length c.loop-place.reached.items = omega arith in
     let read : index ≡ get_or c.loop-place.reached.items place 0 =
-        get_or_read c.loop-place.reached.items place index place_in c.index-index.ensures 0 in
+    get_or_read c.loop-place.reached.items place index place_in c.index-index.ensures 0 in
     let index_in : index < n = subst (λ i. i < n) (sym read) (queued.below place place_in).0 in
     rw (c.deref.ensures.value, queued.are_reached.count)
     (row_within n near c.requires.rows index c.index-near-index.result index_in c.index-near-index.is)
@@ -51,9 +51,9 @@ loop-place-preserved c =
     let read : index ≡ get_or before place 0 = get_or_read before place index place_in c.index-index.ensures 0 in
     let index_in : index < n = subst (λ i. i < n) (sym read) (queued.below place place_in).0 in
     let row_is : c.deref.result.now ≡ row_at (rows_of near) index =
-        c.deref.ensures.value ∙ sym (row_here n near c.requires.rows index row index_in c.index-near-index.is) in
+    c.deref.ensures.value ∙ sym (row_here n near c.requires.rows index row index_in c.index-near-index.is) in
     let marked : MarksRow n (row_at (rows_of near) index) (get_or old index 0 + 1) old new =
-        subst (λ r. MarksRow n r (get_or old index 0 + 1) old new) row_is c.mark_row.ensures.marked in
+    subst (λ r. MarksRow n r (get_or old index 0 + 1) old new) row_is c.mark_row.ensures.marked in
     record {
       queued = next_place n (rows_of near) c.requires.rows c.args.start place old before queued place_in new after
           (subst (λ i. MarksRow n (row_at (rows_of near) i) (get_or old i 0 + 1) old new) read marked)

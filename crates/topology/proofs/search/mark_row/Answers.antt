@@ -17,9 +17,9 @@ loop-index-preserved c =
             subst (QueuesMarked c.args.free c.args.mark old _ before)
             (sym (rw w.unwrap.ensures at w.push.ensures.items))
             (queue_more c.args.free c.args.mark old before c.requires.room c.loop-index.marks c.loop-index.reached.items
-                so_far.marked.count so_far.marked.kept so_far.queued
+            so_far.marked.count so_far.marked.kept so_far.queued
             (get_or c.args.row.now c.loop-index.index-index 0)
-                (omega (arith, c.requires.within c.loop-index.index-index 0)) w.if-marks-index.true);
+            (omega (arith, c.requires.within c.loop-index.index-index 0)) w.if-marks-index.true);
         capacity = grind (arith, common_steps);
       })
       | else-marks-index w ↦ rw (w.marks-is, w.reached-is) (record {

@@ -9,4 +9,4 @@ returns-in-Ok c = table_read c.args.text.now _ (omega arith) c.in-Ok.ensures.ok.
 pub returns-in-Err-2 : goal.returns-in-Err-2
 returns-in-Err-2 c _ =
     table_refused c.args.text.now (omega arith)
-        (c.in-Err.ensures.refused (λ memory. false≢true (c.if-is_memory.ensures.1 memory)))
+    (c.in-Err.ensures.refused (λ memory. false≢true (c.if-is_memory.ensures.1 memory)))

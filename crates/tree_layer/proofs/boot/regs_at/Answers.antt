@@ -14,12 +14,15 @@ returns c =
     let root : c.get-root.result ≡ greatest g = c.get-root.ensures.number ∙ c.greatest.ensures in
     elim c.match-nearer_among.branch [
       | in-Some w ↦
-          rw (root, w.father-is ∙ w.get-father.ensures.number
-              ∙ sym (get_or_from_slice_get g.ids _ _ 0 (sym w.id_at.ensures ∙ w.unwrap.ensures)))
+          rw (
+            root,
+            w.father-is ∙ w.get-father.ensures.number
+                ∙ sym (get_or_from_slice_get g.ids _ _ 0 (sym w.id_at.ensures ∙ w.unwrap.ensures)),
+          )
           (booted_below g graph connected c.args.distances.now c.requires.distances c.args.ix c.requires.place near
-              c.neighbours.ensures.ids c.neighbours.ensures.within c.neighbours.ensures.ascending _ w.in-Some.ensures)
+          c.neighbours.ensures.ids c.neighbours.ensures.within c.neighbours.ensures.ascending _ w.in-Some.ensures)
       | in-None w ↦
           rw (w.father-is, root)
           (booted_top g graph connected c.args.distances.now c.requires.distances c.args.ix c.requires.place near
-              c.neighbours.ensures.ids c.neighbours.ensures.within c.neighbours.ensures.ascending w.in-None.ensures)
+          c.neighbours.ensures.ids c.neighbours.ensures.within c.neighbours.ensures.ascending w.in-None.ensures)
     ]

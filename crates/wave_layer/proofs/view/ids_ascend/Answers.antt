@@ -7,5 +7,5 @@ use Rattle.wave_layer.proofs.view.ids_ascend.Goals as goal
 pub returns : goal.returns
 returns c =
     ascends_from_answer (record { phase = Normal; session = 0 }) c.args.children.now _
-        (c.is_sorted_by.ensures.cases (λ one next. nat_lt one.0 next.0)
-        (answers_always _ _ _ (λ f a r g h. search rules)))
+    (c.is_sorted_by.ensures.cases (λ one next. nat_lt one.0 next.0)
+    (answers_always _ _ _ (λ f a r g h. search rules)))

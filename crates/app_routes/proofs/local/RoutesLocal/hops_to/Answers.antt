@@ -7,13 +7,13 @@ pub returns-in-Ok : goal.returns-in-Ok
 returns-in-Ok c =
     let entries = c.entries-entries.ensures in
     rw entries.value
-        (hops_at c.args.self.now entries.routes.ascending c.args.destination c.in-Ok.place
-        (record { destination = 0; hops = 0; next = 0 })
+    (hops_at c.args.self.now entries.routes.ascending c.args.destination c.in-Ok.place
+    (record { destination = 0; hops = 0; next = 0 })
     (subst (λ es. IsPlaceOf es c.args.destination (Ok c.in-Ok.place)) entries.value c.in-Ok.ensures))
 
 pub returns-in-Err : goal.returns-in-Err
 returns-in-Err c =
     let entries = c.entries-entries.ensures in
     no_hops c.args.self.now entries.routes.ascending c.args.destination c.in-Err.field-0
-        (record { destination = 0; hops = 0; next = 0 })
+    (record { destination = 0; hops = 0; next = 0 })
     (subst (λ es. IsPlaceOf es c.args.destination (Err c.in-Err.field-0)) entries.value c.in-Err.ensures)

@@ -10,4 +10,4 @@ returns c =
     c.is_ok.ensures.value
     ∙ member_by_search c.args.self.now id c.ids.ensures.bits.ascending answer
     (subst (λ xs. IsBinarySearchResult (λ y. nat_cmp y id) xs answer) c.ids.ensures.value
-        c.binary_search.ensures.position)
+    c.binary_search.ensures.position)

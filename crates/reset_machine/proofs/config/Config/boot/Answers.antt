@@ -10,15 +10,22 @@ use Rattle.reset_machine.proofs.config.Config.boot.Goals as goal
 
 abbrev booted : (g : Over) → After-is_graph g → Configuration g.row.P-Local.Denot
 booted g c =
-    record { graph = c.args.topology; trees = c.in-Ok.trees.items; waves = c.in-Ok-boot_wave.waves.items;
-    locals = c.in-Ok-start_all.locals.items }
+    record {
+      graph = c.args.topology;
+      trees = c.in-Ok.trees.items;
+      waves = c.in-Ok-boot_wave.waves.items;
+      locals = c.in-Ok-start_all.locals.items;
+    }
 
 is_boot : (g : Over) (c : After-is_graph g) → IsBoot g.P.Application.app c.args.topology (booted g c)
 is_boot g c =
     let regs : WaveRegs = record { phase = Normal; session = 0 } in
-    record { graph = refl; trees = c.in-Ok.ensures;
-        waves = c.in-Ok-boot_wave.ensures ∙ ap (λ n. replicate n regs) c.len.ensures;
-        locals = c.in-Ok-start_all.ensures }
+    record {
+      graph = refl;
+      trees = c.in-Ok.ensures;
+      waves = c.in-Ok-boot_wave.ensures ∙ ap (λ n. replicate n regs) c.len.ensures;
+      locals = c.in-Ok-start_all.ensures;
+    }
 
 pub returns-clause-tree_picture : goal.returns-clause-tree_picture
 returns-clause-tree_picture g c =
@@ -31,5 +38,5 @@ pub returns-clause-sound : goal.returns-clause-sound
 returns-clause-sound g c =
     let app = g.P.Application.app in
     pictures_sound (booted g c) c.is_graph.ensures.graph c.is_graph.ensures.connected
-        (boot_tree_picture app c.args.topology (booted g c) c.is_graph.ensures.graph (is_boot g c))
-        (boot_wave_picture app c.args.topology (booted g c) (is_boot g c))
+    (boot_tree_picture app c.args.topology (booted g c) c.is_graph.ensures.graph (is_boot g c))
+    (boot_wave_picture app c.args.topology (booted g c) (is_boot g c))

@@ -7,5 +7,5 @@ returns-in-Tree-clause-outcome g c =
     let place = rw (← c.self.view_is) at c.in-Ok.ensures.place in
     let exact = rw (← c.self.view_is) at c.in-Ok.ensures.exact in
     rw (← c.self.view_is)
-        (put_tree_outcome g.P.Application.app _ _ _ _ c.args.event _ _ c.self.invariant.0.trees place
-        (exact ∙ ap Ok c.in-Tree.is))
+    (put_tree_outcome g.P.Application.app _ _ _ _ c.args.event _ _ c.self.invariant.0.trees place
+    (exact ∙ ap Ok c.in-Tree.is))

@@ -10,10 +10,10 @@ returns g c =
     let waves = c.self.inside.waves.items in
     let short : length ids - 1 < length ids = omega (arith, c.is_graph.ensures.graph.some) in
     let newest =
-        value_at-place (record { phase = Normal; session = 0 }) ids waves (length ids - 1)
-        c.is_graph.ensures.graph.ascending c.self.invariant.0.waves short in
+    value_at-place (record { phase = Normal; session = 0 }) ids waves (length ids - 1)
+    c.is_graph.ensures.graph.ascending c.self.invariant.0.waves short in
     let read = rw c.len.ensures at c.index.ensures in
     rw (← c.self.view_is)
-        (ap (λ r. r.session)
-        (read ∙ get_or_default waves (length ids - 1) _ (record { phase = Normal; session = 0 })
-        (omega (arith, c.self.invariant.0.waves)) ∙ sym newest))
+    (ap (λ r. r.session)
+    (read ∙ get_or_default waves (length ids - 1) _ (record { phase = Normal; session = 0 })
+    (omega (arith, c.self.invariant.0.waves)) ∙ sym newest))

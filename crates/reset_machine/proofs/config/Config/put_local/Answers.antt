@@ -8,11 +8,13 @@ returns-in-Some-clause-ok g c =
     let i = c.self.inside in
     let found = sym c.in-Some.ensures in
     let with : List _ → Configuration _ =
-        λ xs. record { graph = i.topology; trees = i.trees.items; waves = i.waves.items; locals = xs } in
-    rw (← c.self.view_is)
-        (Contains-position _ _ _ found, ap
-        with (sym
-        (put_at-position i.topology.ids i.locals.items _ c.args.at c.args.local c.self.invariant.0.locals found)))
+    λ xs. record { graph = i.topology; trees = i.trees.items; waves = i.waves.items; locals = xs } in
+    rw (← c.self.view_is) (
+      Contains-position _ _ _ found,
+      ap
+          with (sym
+          (put_at-position i.topology.ids i.locals.items _ c.args.at c.args.local c.self.invariant.0.locals found)),
+    )
 
 pub returns-in-None-clause-err : goal.returns-in-None-clause-err
 returns-in-None-clause-err g c =

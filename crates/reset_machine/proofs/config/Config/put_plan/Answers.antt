@@ -20,10 +20,12 @@ returns-clause-ok g c =
     let at = c.id-at.ensures ∙ ap (λ v. v.id) c.seen_view-2.ensures in
     let written = c.write.ensures ∙ ap (λ i. after_effect now i c.into_effect.result) at in
     let is =
-        put-planned app now c.args.plan.view c.args.plan.event c.into_effect.result c.args.plan.reply seen
-        c.into_effect.ensures ∙ ap₂ (λ d r. Ok (d, r)) (sym written) (sym c.reply-reply.ensures) in
-    (answer_step app now c.write.new.self c.args.plan.event c.is_graph.ensures.graph c.is_graph.ensures.shaped
-        (Ok c.reply-reply.result) is, c.reply-reply.ensures)
+    put-planned app now c.args.plan.view c.args.plan.event c.into_effect.result c.args.plan.reply seen
+    c.into_effect.ensures ∙ ap₂ (λ d r. Ok (d, r)) (sym written) (sym c.reply-reply.ensures) in (
+      answer_step app now c.write.new.self c.args.plan.event c.is_graph.ensures.graph c.is_graph.ensures.shaped
+          (Ok c.reply-reply.result) is,
+      c.reply-reply.ensures,
+    )
 
 pub returns-clause-outcome : goal.returns-clause-outcome
 returns-clause-outcome g c =
@@ -33,7 +35,7 @@ returns-clause-outcome g c =
     let at = c.id-at.ensures ∙ ap (λ v. v.id) c.seen_view-2.ensures in
     let written = c.write.ensures ∙ ap (λ i. after_effect now i c.into_effect.result) at in
     put-planned app now c.args.plan.view c.args.plan.event c.into_effect.result c.args.plan.reply seen
-        c.into_effect.ensures ∙ ap₂ (λ d r. Ok (d, r)) (sym written) (sym c.reply-reply.ensures)
+    c.into_effect.ensures ∙ ap₂ (λ d r. Ok (d, r)) (sym written) (sym c.reply-reply.ensures)
 
 pub returns-clause-lawful : goal.returns-clause-lawful
 returns-clause-lawful g c =
@@ -48,10 +50,10 @@ returns-clause-lawful g c =
     let at = c.id-at.ensures ∙ ap (λ v. v.id) c.seen_view-2.ensures in
     let written = c.write.ensures ∙ ap (λ i. after_effect now i c.into_effect.result) at in
     let is =
-        put-planned app now c.args.plan.view e c.into_effect.result c.args.plan.reply seen c.into_effect.ensures
-        ∙ ap₂ (λ d r. Ok (d, r)) (sym written) (sym c.reply-reply.ensures) in
+    put-planned app now c.args.plan.view e c.into_effect.result c.args.plan.reply seen c.into_effect.ensures
+    ∙ ap₂ (λ d r. Ok (d, r)) (sym written) (sym c.reply-reply.ensures) in
     sound_step app g.P.Application.Inv now new e graph whole shaped
     (λ reply run sound inv. c.invariants.ensures.kept now new (e ∷ []) (Did reply ∷ []) graph whole shaped sound run
-        inv)
+    inv)
     (λ reply run sound opens. c.invariants.ensures.opened now new (e ∷ []) (Did reply ∷ []) graph whole shaped sound run
-        opens) (Ok c.reply-reply.result) is
+    opens) (Ok c.reply-reply.result) is

@@ -9,11 +9,13 @@ returns-in-Some-clause-ok g c =
     let i = c.self.inside in
     let found = sym c.in-Some.ensures in
     let with : List TreeRegs → Configuration _ =
-        λ xs. record { graph = i.topology; trees = xs; waves = i.waves.items; locals = i.locals.items } in
-    rw (← c.self.view_is)
-        (Contains-position _ _ _ found, ap
-        with (sym
-        (put_at-position i.topology.ids i.trees.items _ c.args.at c.args.regs c.self.invariant.0.trees found)))
+    λ xs. record { graph = i.topology; trees = xs; waves = i.waves.items; locals = i.locals.items } in
+    rw (← c.self.view_is) (
+      Contains-position _ _ _ found,
+      ap
+          with (sym
+          (put_at-position i.topology.ids i.trees.items _ c.args.at c.args.regs c.self.invariant.0.trees found)),
+    )
 
 pub returns-in-None-clause-err : goal.returns-in-None-clause-err
 returns-in-None-clause-err g c =

@@ -9,11 +9,13 @@ returns-in-Some-clause-ok g c =
     let i = c.self.inside in
     let found = sym c.in-Some.ensures in
     let with : List WaveRegs → Configuration _ =
-        λ xs. record { graph = i.topology; trees = i.trees.items; waves = xs; locals = i.locals.items } in
-    rw (← c.self.view_is)
-        (Contains-position _ _ _ found, ap
-        with (sym
-        (put_at-position i.topology.ids i.waves.items _ c.args.at c.args.regs c.self.invariant.0.waves found)))
+    λ xs. record { graph = i.topology; trees = i.trees.items; waves = xs; locals = i.locals.items } in
+    rw (← c.self.view_is) (
+      Contains-position _ _ _ found,
+      ap
+          with (sym
+          (put_at-position i.topology.ids i.waves.items _ c.args.at c.args.regs c.self.invariant.0.waves found)),
+    )
 
 pub returns-in-None-clause-err : goal.returns-in-None-clause-err
 returns-in-None-clause-err g c =

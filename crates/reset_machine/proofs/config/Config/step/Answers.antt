@@ -17,8 +17,8 @@ returns-in-Act g c =
     let whole = c.is_graph.ensures.connected in
     let shaped = c.is_graph.ensures.shaped in
     let is =
-        act_is_outcome app now new e graph c.in-Act.at c.in-Act.case c.in-Act.with c.in-Act.is r c.act.ensures.outcome
-        in
+    act_is_outcome app now new e graph c.in-Act.at c.in-Act.case c.in-Act.with c.in-Act.is r c.act.ensures.outcome
+    in
     record {
       ok = answer_step app now new e graph shaped r is;
       reply = answer_reply app now new e graph shaped r is;
@@ -26,9 +26,9 @@ returns-in-Act g c =
       kept = c.act.ensures.kept;
       lawful = sound_step app Inv now new e graph whole shaped
           (λ reply run sound inv. c.invariants.ensures.kept now new (e ∷ []) (Did reply ∷ []) graph whole shaped sound
-              run inv)
+          run inv)
           (λ reply run sound opens. c.invariants.ensures.opened now new (e ∷ []) (Did reply ∷ []) graph whole shaped
-              sound run opens) r is;
+          sound run opens) r is;
       outcome = is;
     }
 
@@ -51,8 +51,8 @@ returns-in_default g c =
       kept = c.fire.ensures.kept;
       lawful = sound_step app Inv now new e graph whole shaped
           (λ reply run sound inv. c.invariants.ensures.kept now new (e ∷ []) (Did reply ∷ []) graph whole shaped sound
-              run inv)
+          run inv)
           (λ reply run sound opens. c.invariants.ensures.opened now new (e ∷ []) (Did reply ∷ []) graph whole shaped
-              sound run opens) r is;
+          sound run opens) r is;
       outcome = is;
     }

@@ -9,6 +9,8 @@ returns-in-None-clause-none g c =
 pub returns-in-Some-clause-found : goal.returns-in-Some-clause-found
 returns-in-Some-clause-found g c =
     let found = sym c.in-Some.ensures in
-    rw (← c.self.view_is)
-        (Contains-position _ _ _ found, read_at-position (record { root = 0; father = 0; dist = 0 }) _ _ _ _ _
-        c.self.invariant.0.trees found c.index.ensures)
+    rw (← c.self.view_is) (
+      Contains-position _ _ _ found,
+      read_at-position (record { root = 0; father = 0; dist = 0 }) _ _ _ _ _
+          c.self.invariant.0.trees found c.index.ensures,
+    )

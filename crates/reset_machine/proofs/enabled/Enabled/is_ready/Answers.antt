@@ -18,7 +18,7 @@ returns-then-count-count_of c =
       | else-count-gt0 v ↦
           let none = le-ltb 0 (length rows.tree) (omega (arith, v.if-count-gt0.false, c.count.ensures)) in
           v.value-is ∙ ap (λ r. nat_lt r v.count-else-count-gt0.result) v.count_of.ensures
-              ∙ ap (λ n. nat_lt (cond (is_among 1 rows.wave) 1 0) n) v.count-else-count-gt0.ensures
+          ∙ ap (λ n. nat_lt (cond (is_among 1 rows.wave) 1 0) n) v.count-else-count-gt0.ensures
           ∙ or_false trees waves none
     ] in
     or_left c.if-count-gt0.value trees waves (nat_lt 0 (length rows.act)) counted c.if-count-count_of.true
@@ -36,7 +36,7 @@ returns-else-count-count_of c =
       | else-count-gt0 v ↦
           let none = le-ltb 0 (length rows.tree) (omega (arith, v.if-count-gt0.false, c.count.ensures)) in
           v.value-is ∙ ap (λ r. nat_lt r v.count-else-count-gt0.result) v.count_of.ensures
-              ∙ ap (λ n. nat_lt (cond (is_among 1 rows.wave) 1 0) n) v.count-else-count-gt0.ensures
+          ∙ ap (λ n. nat_lt (cond (is_among 1 rows.wave) 1 0) n) v.count-else-count-gt0.ensures
           ∙ or_false trees waves none
     ] in
     ap (nat_lt 0) c.count-else-count-count_of.ensures

@@ -7,5 +7,5 @@ returns g c =
     let now = place.config.now in
     let read = rw c.locals.ensures.value at c.index-locals-self.is in
     rw (← c.self.view_is)
-        (read_at-position (g.P.Application.app.start now.graph place.id) now.graph.ids now.locals place.index place.id _
-        c.locals.ensures.shaped.locals c.self.invariant read)
+    (read_at-position (g.P.Application.app.start now.graph place.id) now.graph.ids now.locals place.index place.id _
+    c.locals.ensures.shaped.locals c.self.invariant read)

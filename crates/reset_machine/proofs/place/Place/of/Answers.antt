@@ -9,4 +9,4 @@ returns-in-Some-clause-node g c =
 pub returns-in-None-clause-none : goal.returns-in-None-clause-none
 returns-in-None-clause-none g c =
     rw (← c.topology.ensures)
-        (λ node. position-Contains c.topology.result.now.ids c.args.id node (sym c.in-None.ensures))
+    (λ node. position-Contains c.topology.result.now.ids c.args.id node (sym c.in-None.ensures))

@@ -8,5 +8,5 @@ returns g c =
     let place = c.self.inside in
     let now = place.config.now in
     rw (← c.self.view_is, c.waves.ensures.value)
-        (sym (value_at-position (record { phase = Normal; session = 0 }) now.graph.ids now.waves place.index place.id
-        c.waves.ensures.shaped.waves c.self.invariant))
+    (sym (value_at-position (record { phase = Normal; session = 0 }) now.graph.ids now.waves place.index place.id
+    c.waves.ensures.shaped.waves c.self.invariant))

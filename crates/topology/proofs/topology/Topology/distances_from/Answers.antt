@@ -13,7 +13,7 @@ returns-clause-distances c =
     let near = c.self.inside.near.items in
     let ids = c.self.inside.ids in
     let within : c.args.index < length ids =
-        subst (λ (g : Graph). c.args.index < length g.ids) (sym c.self.view_is) c.requires in
+    subst (λ (g : Graph). c.args.index < length g.ids) (sym c.self.view_is) c.requires in
     let count : length near ≡ length ids = sym (length-map near (λ row. row.items)) ∙ c.self.invariant.as_rows.count in
     rw (← c.self.view_is)
     (IfOk-weaker c.distances_to.result _ _
@@ -28,7 +28,7 @@ returns-clause-below c =
     let near = c.self.inside.near.items in
     let ids = c.self.inside.ids in
     let within : c.args.index < length ids =
-        subst (λ (g : Graph). c.args.index < length g.ids) (sym c.self.view_is) c.requires in
+    subst (λ (g : Graph). c.args.index < length g.ids) (sym c.self.view_is) c.requires in
     let count : length near ≡ length ids = sym (length-map near (λ row. row.items)) ∙ c.self.invariant.as_rows.count in
     rw (← c.self.view_is)
     (IfOk-weaker c.distances_to.result _ _
@@ -37,6 +37,6 @@ returns-clause-below c =
     (subst (λ v. AreDistances (length v) (rows_of v) c.args.index ds.items) c.deref.ensures.value found) in
     All-from_get_or (λ d. d < length ids) ds.items 0
     (λ k k_in.
-        (distance_in ids (rows_of near) c.self.inside.link_count c.self.invariant c.args.index within ds.items here k
-        (omega (arith, here.are_reached.count))).0))
+    (distance_in ids (rows_of near) c.self.inside.link_count c.self.invariant c.args.index within ds.items here k
+    (omega (arith, here.are_reached.count))).0))
     c.distances_to.ensures)

@@ -17,13 +17,13 @@ returns-in-Some c =
     let g = c.args.self.now in
     let i = c.in-Some.index in
     let same : get_or g.ids i 0 ≡ c.args.a =
-        eqb-true _ _ (position-Some (λ k. k == c.args.a) g.ids i 0 (sym c.in-Some.ensures)).1 in
+    eqb-true _ _ (position-Some (λ k. k == c.args.a) g.ids i 0 (sym c.in-Some.ensures)).1 in
     c.is_some.ensures ∙ found_if _ _ c.neighbour_at.result c.neighbour_at.ensures.found c.neighbour_at.ensures.none
-        ∙ ap (λ x. are_linked g x c.args.b) same
+    ∙ ap (λ x. are_linked g x c.args.b) same
 
 pub returns-in-None : goal.returns-in-None
 returns-in-None c =
     let are = c.self.invariant in
     rw (← c.self.view_is)
     (unlinked_first _ _ are.as_ids.ascending are.as_rows c.args.a c.args.b
-        (c.in-None.ensures ∙ ap (λ g. position (λ k. k == c.args.a) g.ids) (sym c.self.view_is)))
+    (c.in-None.ensures ∙ ap (λ g. position (λ k. k == c.args.a) g.ids) (sym c.self.view_is)))

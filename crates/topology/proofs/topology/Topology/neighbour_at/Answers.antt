@@ -10,15 +10,15 @@ returns-in-Some-clause-found c =
     let ids = c.self.inside.ids in
     let j = c.in-Some.neighbour in
     let within : c.args.index < length ids =
-        subst (λ (g : Graph). c.args.index < length g.ids) (sym c.self.view_is) c.requires in
+    subst (λ (g : Graph). c.args.index < length g.ids) (sym c.self.view_is) c.requires in
     let is_index : Some j ≡ position (λ i. i == c.args.id) ids =
-        c.in-Some.ensures ∙ ap (λ g. position (λ i. i == c.args.id) g.ids) (sym c.self.view_is) in
+    c.in-Some.ensures ∙ ap (λ g. position (λ i. i == c.args.id) g.ids) (sym c.self.view_is) in
     rw (← c.self.view_is) (
       sym is_index,
       sym (linked_by_search ids _ are.as_rows are.as_ids.ascending c.args.index c.index.result.now within
           c.index.ensures c.args.id j is_index c.binary_search.result
           (subst (λ xs. IsBinarySearchResult (λ y. nat_cmp y j) xs c.binary_search.result) c.deref.ensures.value
-              c.binary_search.ensures.position))
+          c.binary_search.ensures.position))
           ∙ sym c.is_ok.ensures.value ∙ c.if-is_ok.true,
     )
 
@@ -28,14 +28,14 @@ returns-in_default-clause-none c =
     let ids = c.self.inside.ids in
     let j = c.in-Some.neighbour in
     let within : c.args.index < length ids =
-        subst (λ (g : Graph). c.args.index < length g.ids) (sym c.self.view_is) c.requires in
+    subst (λ (g : Graph). c.args.index < length g.ids) (sym c.self.view_is) c.requires in
     let is_index : Some j ≡ position (λ i. i == c.args.id) ids =
-        c.in-Some.ensures ∙ ap (λ g. position (λ i. i == c.args.id) g.ids) (sym c.self.view_is) in
+    c.in-Some.ensures ∙ ap (λ g. position (λ i. i == c.args.id) g.ids) (sym c.self.view_is) in
     rw (← c.self.view_is)
     (sym (linked_by_search ids _ are.as_rows are.as_ids.ascending c.args.index c.index.result.now within c.index.ensures
-        c.args.id j is_index c.binary_search.result
+    c.args.id j is_index c.binary_search.result
     (subst (λ xs. IsBinarySearchResult (λ y. nat_cmp y j) xs c.binary_search.result) c.deref.ensures.value
-        c.binary_search.ensures.position))
+    c.binary_search.ensures.position))
     ∙ sym c.is_ok.ensures.value ∙ c.if-is_ok.false)
 
 pub returns-in_default-2-clause-none : goal.returns-in_default-2-clause-none
@@ -43,5 +43,5 @@ returns-in_default-2-clause-none c =
     let are = c.self.invariant in
     rw (← c.self.view_is)
     (sym (unlinked_second _ _ are.as_ids.ascending are.as_rows _ c.args.id
-        (sym c.in_default.is ∙ c.index_of.ensures
-        ∙ ap (λ g. position (λ k. k == c.args.id) g.ids) (sym c.self.view_is))))
+    (sym c.in_default.is ∙ c.index_of.ensures
+    ∙ ap (λ g. position (λ k. k == c.args.id) g.ids) (sym c.self.view_is))))
