@@ -1,5 +1,6 @@
 -- The line of an entry is its own, and has no line feed.
-use Rattle.std.proofs.Common.{◌≡◌, ℕ, ◌<◌, ◌^◌, nat_lt, true, true≢false, List, [], ◌∷◌, get_or, refl, sym, ap, ◌∙◌, arith}
+use Rattle.std.proofs.Common.{◌≡◌, ℕ, ◌<◌, ◌^◌, nat_lt, true, true≢false, List, [], ◌∷◌, get_or, refl, sym, ap, ◌∙◌}
+use Rattle.std.proofs.Common.{arith}
 use Rattle.std.specs.Prelude.{codes, Some, None}
 use Rattle.std.specs.Char.{is_ascii_graphic}
 use Rattle.std.specs.Fmt.{decimal}
@@ -12,7 +13,8 @@ use Rattle.wave_layer.specs.declared.regs.Phase.{Phase}
 use Rattle.wave_layer.specs.declared.regs.Phase.TheVariants.{Normal, Initiate, Reset}
 use Rattle.reset_model.specs.EventText as event
 use Rattle.reset_model.specs.declared.event.Event.{Event}
-use Rattle.reset_model.specs.declared.event.Event.TheVariants.{Claim, Follow, Adopt, Request, Relay, Open, Join, Finish, Mend, Act}
+use Rattle.reset_model.specs.declared.event.Event.TheVariants.{Claim, Follow, Adopt, Request, Relay, Open, Join, Finish}
+use Rattle.reset_model.specs.declared.event.Event.TheVariants.{Mend, Act}
 use Rattle.reset_model.proofs.EventLines.{one_event}
 use Rattle.fault_inject.specs.FaultText as fault
 use Rattle.fault_inject.specs.declared.fault.Fault.{Fault}
@@ -46,23 +48,31 @@ printed_word (b ∷ word) h =
 pub number : (n : ℕ) → n < 2 ^ 32 → HasNo 10 (decimal n)
 number n small = HasNo-decimal 10 n (λ digit. omega (arith, digit.0)) (omega (arith, small))
 
-joined : (word : List ℕ) (words : List (List ℕ)) → AllByRecursion (HasNo 10) (word ∷ words) → HasNo 10 (join_with_byte 32 (word ∷ words))
+joined : (word : List ℕ) (words : List (List ℕ)) → AllByRecursion (HasNo 10) (word ∷ words)
+    → HasNo 10 (join_with_byte 32 (word ∷ words))
 joined word [] all = all.0
 joined word (next ∷ words) all =
-    HasNo-append 10 word (32 ∷ join_with_byte 32 (next ∷ words)) all.0 ((λ e. absurd (omega (arith, e))), joined next words all.1)
+    HasNo-append 10 word (32 ∷ join_with_byte 32 (next ∷ words)) all.0
+    ((λ e. absurd (omega (arith, e))), joined next words all.1)
 
 event_plain : (e : Event) → event.Fits e → HasNo 10 (event.event_line e)
 event_plain (Claim at) h = joined (codes "claim") (decimal at ∷ []) (letters (codes "claim") refl, (number at h, tt))
 event_plain (Follow at) h = joined (codes "follow") (decimal at ∷ []) (letters (codes "follow") refl, (number at h, tt))
-event_plain (Adopt at from) h = joined (codes "adopt") (decimal at ∷ decimal from ∷ []) (letters (codes "adopt") refl, (number at h.0, (number from h.1, tt)))
-event_plain (Request at) h = joined (codes "request") (decimal at ∷ []) (letters (codes "request") refl, (number at h, tt))
-event_plain (Relay at child) h = joined (codes "relay") (decimal at ∷ decimal child ∷ []) (letters (codes "relay") refl, (number at h.0, (number child h.1, tt)))
+event_plain (Adopt at from) h =
+    joined (codes "adopt") (decimal at ∷ decimal from ∷ [])
+    (letters (codes "adopt") refl, (number at h.0, (number from h.1, tt)))
+event_plain (Request at) h =
+    joined (codes "request") (decimal at ∷ []) (letters (codes "request") refl, (number at h, tt))
+event_plain (Relay at child) h =
+    joined (codes "relay") (decimal at ∷ decimal child ∷ [])
+    (letters (codes "relay") refl, (number at h.0, (number child h.1, tt)))
 event_plain (Open at) h = joined (codes "open") (decimal at ∷ []) (letters (codes "open") refl, (number at h, tt))
 event_plain (Join at) h = joined (codes "join") (decimal at ∷ []) (letters (codes "join") refl, (number at h, tt))
 event_plain (Finish at) h = joined (codes "finish") (decimal at ∷ []) (letters (codes "finish") refl, (number at h, tt))
 event_plain (Mend at) h = joined (codes "mend") (decimal at ∷ []) (letters (codes "mend") refl, (number at h, tt))
 event_plain (Act at case None) h =
-    joined (codes "act") (decimal at ∷ decimal case ∷ []) (letters (codes "act") refl, (number at h.0, (number case (omega (arith, h.1)), tt)))
+    joined (codes "act") (decimal at ∷ decimal case ∷ [])
+    (letters (codes "act") refl, (number at h.0, (number case (omega (arith, h.1)), tt)))
 event_plain (Act at case (Some j)) h =
     joined (codes "act") (decimal at ∷ decimal case ∷ decimal j ∷ [])
     (letters (codes "act") refl, (number at h.0, (number case (omega (arith, h.1)), (number j h.2, tt))))
@@ -74,11 +84,19 @@ phase_plain Reset = letters (codes "reset") refl
 
 fault_plain : (f : Fault) → fault.Fits f → IsPrintable f → HasNo 10 (fault.fault_line f)
 fault_plain (SetTree at regs) h p =
-    joined (codes "fault") (codes "tree" ∷ decimal at ∷ decimal regs.root ∷ decimal regs.father ∷ decimal regs.dist ∷ [])
-    (letters (codes "fault") refl, (letters (codes "tree") refl, (number at h.0, (number regs.root h.1, (number regs.father h.2, (number regs.dist h.3, tt))))))
+    joined (codes "fault")
+    (codes "tree" ∷ decimal at ∷ decimal regs.root ∷ decimal regs.father ∷ decimal regs.dist ∷ []) (
+      letters (codes "fault") refl,
+      (
+        letters (codes "tree") refl,
+        (number at h.0, (number regs.root h.1, (number regs.father h.2, (number regs.dist h.3, tt)))),
+      ),
+    )
 fault_plain (SetWave at regs) h p =
-    joined (codes "fault") (codes "wave" ∷ decimal at ∷ phase_name regs.phase ∷ decimal regs.session ∷ [])
-    (letters (codes "fault") refl, (letters (codes "wave") refl, (number at h.0, (phase_plain regs.phase, (number regs.session h.1, tt)))))
+    joined (codes "fault") (codes "wave" ∷ decimal at ∷ phase_name regs.phase ∷ decimal regs.session ∷ []) (
+      letters (codes "fault") refl,
+      (letters (codes "wave") refl, (number at h.0, (phase_plain regs.phase, (number regs.session h.1, tt)))),
+    )
 fault_plain (SetLocal at text) h p =
     joined (codes "fault") (codes "local" ∷ decimal at ∷ text ∷ [])
     (letters (codes "fault") refl, (letters (codes "local") refl, (number at h.0, (printed text p, tt))))
@@ -119,4 +137,5 @@ pub one_entry : (a b : Entry) → Fits a → Fits b → entry_line a ≡ entry_l
 one_entry (Step e) (Step f) h k is = ap Step (one_event e f h k is)
 one_entry (Disturbed f) (Disturbed g) h k is = ap Disturbed (one_fault f g h.0 k.0 is)
 one_entry (Step e) (Disturbed f) h k is = absurd (event_second e (ap (λ line. get_or line 1 0) is ∙ fault_second f))
-one_entry (Disturbed f) (Step e) h k is = absurd (event_second e (ap (λ line. get_or line 1 0) (sym is) ∙ fault_second f))
+one_entry (Disturbed f) (Step e) h k is =
+    absurd (event_second e (ap (λ line. get_or line 1 0) (sym is) ∙ fault_second f))

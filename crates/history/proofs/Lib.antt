@@ -3,3 +3,11 @@ mod Plays
 pub mod HistoryLines
 mod HistoryReadings
 mod ReadLines
+mod ShortLines
+mod KeptNetworks
+mod LatestOpenings
+mod ReportedCompletions
+mod StretchRuns
+mod SoundStretches
+mod TrueReports
+mod ReportOrder

@@ -1,5 +1,7 @@
 -- What a history's text is read as, line by line.
-use Rattle.std.proofs.Common.{◌≡◌, ◌≢◌, ℕ, ◌+◌, ◌<◌, ◌≤◌, ◌^◌, Bool, true, false, true≢false, if◌then◌else◌, List, [], ◌∷◌, ◌++◌, Option, None, Some, IfErr, IfOk, IfSome, Result, Ok, Err, length, refl, sym, ap, subst, ◌∙◌, arith, Vec, Global, append_assoc, append-nil}
+use Rattle.std.proofs.Common.{◌≡◌, ◌≢◌, ℕ, ◌+◌, ◌<◌, ◌≤◌, ◌^◌, Bool, true, false, true≢false, if◌then◌else◌, List, []}
+use Rattle.std.proofs.Common.{◌∷◌, ◌++◌, Option, None, Some, IfErr, IfOk, IfSome, Result, Ok, Err, length, refl, sym}
+use Rattle.std.proofs.Common.{ap, subst, ◌∙◌, arith, Vec, Global, append_assoc, append-nil}
 use Rattle.std.specs.Prelude.{codes}
 use Rattle.std.specs.Fmt.{decimal}
 use Rattle.std.specs.Io.KnownBytes.{Consumes, IsAtEnd}
@@ -19,7 +21,8 @@ use Rattle.history.specs.declared.read.Lines.{Lines}
 use Rattle.history.specs.declared.read.Reading.{Reading}
 use Rattle.history.specs.declared.text.BookFault.{BookFault}
 use Rattle.history.specs.declared.text.BookFault.TheVariants.{BadLine, BadVersion, TooLong, NoMemory, ReadFailed}
-use Rattle.history.specs.HistoryText.{Begins, BeginsWith, HasLine, IsPrintable, IsReadAs, ended, entries_text, entry_line, first_line, history_text, version_line}
+use Rattle.history.specs.HistoryText.{Begins, BeginsWith, HasLine, IsPrintable, IsReadAs, ended, entries_text}
+use Rattle.history.specs.HistoryText.{entry_line, first_line, history_text, version_line}
 use Rattle.history.specs.Reading.{GoesOn, HasRead, IsBadVersion, IsFaulty, IsSoFar}
 use Rattle.history.proofs.HistoryLines.{entry_plain}
 use Rattle.history.proofs.HistoryReadings.{IsStuck, same_ended, version_plain}
@@ -32,7 +35,8 @@ no_whole text line plain (rest, is) =
     has_byte 10 line rest (subst (HasNo 10) (is ∙ append_assoc line (10 ∷ []) rest) plain)
 
 -- a line ends before a longer text without a line feed does not
-no_late : (line long rest more : List ℕ) → HasNo 10 long → length line < length long → line ++ 10 ∷ rest ≡ long ++ more → ⊥
+no_late : (line long rest more : List ℕ) → HasNo 10 long → length line < length long → line ++ 10 ∷ rest ≡ long ++ more
+    → ⊥
 no_late line [] rest more plain short is = omega (arith, short)
 no_late [] (b ∷ long) rest more plain short is = plain.0 (first 10 b rest (long ++ more) is)
   where
@@ -45,15 +49,18 @@ no_late (a ∷ line) (b ∷ long) rest more plain short is =
     others x y xs ys e = cc
 
 begins_late : (line long more : List ℕ) → HasNo 10 long → length line < length long → BeginsWith (long ++ more) line → ⊥
-begins_late line long more plain short (rest, is) = no_late line long rest more plain short (sym (append_assoc line (10 ∷ []) rest) ∙ sym is)
+begins_late line long more plain short (rest, is) =
+    no_late line long rest more plain short (sym (append_assoc line (10 ∷ []) rest) ∙ sym is)
 
 -- a whole line that begins a text is its first
-begins_same : (line line' more : List ℕ) → HasNo 10 line → HasNo 10 line' → BeginsWith (ended line ++ more) line' → line ≡ line'
+begins_same : (line line' more : List ℕ) → HasNo 10 line → HasNo 10 line' → BeginsWith (ended line ++ more) line'
+    → line ≡ line'
 begins_same line line' more plain plain' (rest, is) = (same_ended line line' more rest plain plain' is).front
 
 -- ---- what goes on
 
-pub goes_on : (begun : Bool) (es : List Entry) (line bytes text : List ℕ) → IsSoFar begun es line text → IsSoFar begun es (line ++ bytes) (text ++ bytes)
+pub goes_on : (begun : Bool) (es : List Entry) (line bytes text : List ℕ) → IsSoFar begun es line text
+    → IsSoFar begun es (line ++ bytes) (text ++ bytes)
 goes_on true es line bytes text b = record {
   lines = b.lines;
   few = b.few;
@@ -69,16 +76,21 @@ is_some : (xs ys : List ℕ) → 0 < length xs → xs ++ ys ≢ []
 is_some xs ys some is = omega (arith, some, length-append xs ys, ap length is)
 
 -- a text can't go on so, where what comes after its whole lines begins with no line
-bad_next : (begun : Bool) (es : List Entry) (line text : List ℕ) → IsSoFar begun es line text → 0 < length line → IsStuck line
+bad_next : (begun : Bool) (es : List Entry) (line text : List ℕ) → IsSoFar begun es line text → 0 < length line
+    → IsStuck line
     → ((v : ℕ) → v < 2 ^ 32 → BeginsWith line (version_line v) → ⊥) → IsReadAs text (Err (BadLine (next_line begun es)))
-bad_next true es line text b some stuck none = IsReadAs.bad_line es line b (λ is. omega (arith, some, ap length is)) stuck
-bad_next false es line text is some stuck none = IsReadAs.no_version (λ v small begins. none v small (subst (λ t. BeginsWith t (version_line v)) is.1 begins))
+bad_next true es line text b some stuck none =
+    IsReadAs.bad_line es line b (λ is. omega (arith, some, ap length is)) stuck
+bad_next false es line text is some stuck none =
+    IsReadAs.no_version (λ v small begins. none v small (subst (λ t. BeginsWith t (version_line v)) is.1 begins))
 
 -- the line goes on
-pub has_more : (r : Reading) (new : Vec ℕ Global) (bytes text : List ℕ) → HasRead r text → HasNo 10 bytes → new.items ≡ r.line.items ++ bytes
+pub has_more : (r : Reading) (new : Vec ℕ Global) (bytes text : List ℕ) → HasRead r text → HasNo 10 bytes
+    → new.items ≡ r.line.items ++ bytes
     → length bytes + length r.line.items ≤ 256 → HasRead (record { lines = r.lines; line = new }) (text ++ bytes)
 has_more r new bytes text read plain is short = record {
-  lines = subst (λ line. GoesOn r.lines line (text ++ bytes)) (sym is) (goes_on r.lines.begun r.lines.entries.items r.line.items bytes text read.lines);
+  lines = subst (λ line. GoesOn r.lines line (text ++ bytes)) (sym is)
+      (goes_on r.lines.begun r.lines.entries.items r.line.items bytes text read.lines);
   plain = subst (HasNo 10) (sym is) (HasNo-append 10 r.line.items bytes read.plain plain);
   short = omega (arith, ap length is, length-append r.line.items bytes, short);
 }
@@ -97,39 +109,51 @@ whole_lines lines line text so = of lines.begun refl
         let b = subst (λ b. IsSoFar b lines.entries.items line text) is so in
         let before : Begins (history_text lines.entries.items) lines.entries.items [] =
         record { lines = b.lines; few = b.few; spelled = sym (append-nil (history_text lines.entries.items)) } in
-        record { whole = history_text lines.entries.items; so = subst (λ b. IsSoFar b lines.entries.items [] (history_text lines.entries.items)) (sym is) before; cut = b.spelled }
+        record {
+          whole = history_text lines.entries.items;
+          so = subst (λ b. IsSoFar b lines.entries.items [] (history_text lines.entries.items)) (sym is) before;
+          cut = b.spelled;
+        }
     of false is =
         let b = subst (λ b. IsSoFar b lines.entries.items line text) is so in
         record { whole = []; so = subst (λ b. IsSoFar b lines.entries.items [] []) (sym is) (b.0, refl); cut = b.1 }
 
 -- the line ends
-pub ended_at : (whole line text bytes : List ℕ) → text ++ bytes ≡ whole ++ line → whole ++ ended line ≡ text ++ ended bytes
+pub ended_at : (whole line text bytes : List ℕ) → text ++ bytes ≡ whole ++ line
+    → whole ++ ended line ≡ text ++ ended bytes
 ended_at whole line text bytes cut =
     sym (append_assoc whole line (10 ∷ [])) ∙ ap (λ t. t ++ 10 ∷ []) (sym cut) ∙ append_assoc text bytes (10 ∷ [])
 
 -- a fault stays one however the text goes on
-pub faulty_on : (text bytes : List ℕ) (fault : BookFault) → IsFaulty (text ++ bytes) fault → IsFaulty (text ++ ended bytes) fault
+pub faulty_on : (text bytes : List ℕ) (fault : BookFault) → IsFaulty (text ++ bytes) fault
+    → IsFaulty (text ++ ended bytes) fault
 faulty_on text bytes fault faulty more =
-    subst (λ t. IsReadAs t (Err fault)) (sym (append_assoc (text ++ bytes) (10 ∷ []) more) ∙ ap (λ t. t ++ more) (append_assoc text bytes (10 ∷ [])))
+    subst (λ t. IsReadAs t (Err fault))
+    (sym (append_assoc (text ++ bytes) (10 ∷ []) more) ∙ ap (λ t. t ++ more) (append_assoc text bytes (10 ∷ [])))
     (faulty (10 ∷ more))
 
 -- what is left of some bytes, after one line more
-pub fed_line : (done rest line after bytes : List ℕ) → bytes ≡ done ++ rest → rest ≡ line ++ 10 ∷ after → bytes ≡ (done ++ ended line) ++ after
+pub fed_line : (done rest line after bytes : List ℕ) → bytes ≡ done ++ rest → rest ≡ line ++ 10 ∷ after
+    → bytes ≡ (done ++ ended line) ++ after
 fed_line done rest line after bytes cut found =
-    cut ∙ ap (λ t. done ++ t) (found ∙ sym (append_assoc line (10 ∷ []) after)) ∙ sym (append_assoc done (ended line) after)
+    cut ∙ ap (λ t. done ++ t) (found ∙ sym (append_assoc line (10 ∷ []) after))
+    ∙ sym (append_assoc done (ended line) after)
 
 -- a fault that is told before all of the bytes
-pub faulty_more : (text done rest line after bytes : List ℕ) (fault : BookFault) → bytes ≡ done ++ rest → rest ≡ line ++ 10 ∷ after
+pub faulty_more : (text done rest line after bytes : List ℕ) (fault : BookFault) → bytes ≡ done ++ rest
+    → rest ≡ line ++ 10 ∷ after
     → IsFaulty ((text ++ done) ++ ended line) fault → IsFaulty (text ++ bytes) fault
 faulty_more text done rest line after bytes fault cut found faulty more =
     subst (λ t. IsReadAs t (Err fault))
     (sym (append_assoc ((text ++ done) ++ ended line) after more)
-    ∙ ap (λ t. t ++ more) (ap (λ t. t ++ after) (append_assoc text done (ended line)) ∙ append_assoc text (done ++ ended line) after
+    ∙ ap (λ t. t ++ more)
+    (ap (λ t. t ++ after) (append_assoc text done (ended line)) ∙ append_assoc text (done ++ ended line) after
     ∙ ap (λ t. text ++ t) (sym (fed_line done rest line after bytes cut found))))
     (faulty (after ++ more))
 
 -- a line of over 256 bytes
-pub bad_long : (begun : Bool) (es : List Entry) (line bytes text : List ℕ) → IsSoFar begun es line text → HasNo 10 line → HasNo 10 bytes
+pub bad_long : (begun : Bool) (es : List Entry) (line bytes text : List ℕ) → IsSoFar begun es line text → HasNo 10 line
+    → HasNo 10 bytes
     → 256 < length bytes + length line → IsFaulty (text ++ bytes) (BadLine (next_line begun es))
 bad_long begun es line bytes text so plain plain' long more =
     let all : HasNo 10 (line ++ bytes) = HasNo-append 10 line bytes plain plain' in
@@ -144,17 +168,27 @@ bad_long begun es line bytes text so plain plain' long more =
   where
     short_version : (v : ℕ) → v < 2 ^ 32 → length (version_line v) ≤ 256
     short_version v small =
-        omega (arith, length-append (codes "reset-history ") (decimal v), length-decimal-le 10 v (omega arith) (omega (arith, small)) (omega (arith, small)))
+        omega (
+          arith,
+          length-append (codes "reset-history ") (decimal v),
+          length-decimal-le 10 v (omega arith)
+              (omega (arith, small)) (omega (arith, small)),
+        )
 
 -- a text that ends in a line without its line feed, or before its first
-pub bad_end : (begun : Bool) (es : List Entry) (line text : List ℕ) → IsSoFar begun es line text → HasNo 10 line → (begun ≡ true → line ≢ [])
+pub bad_end : (begun : Bool) (es : List Entry) (line text : List ℕ) → IsSoFar begun es line text → HasNo 10 line
+    → (begun ≡ true → line ≢ [])
     → IsReadAs text (Err (BadLine (next_line begun es)))
-bad_end true es line text b plain some = IsReadAs.bad_line es line b (some refl) (λ entry has begins. no_whole line (entry_line entry) plain begins)
+bad_end true es line text b plain some =
+    IsReadAs.bad_line es line b (some refl) (λ entry has begins. no_whole line (entry_line entry) plain begins)
 bad_end false es line text is plain some =
-    IsReadAs.no_version (λ v small begins. no_whole line (version_line v) plain (subst (λ t. BeginsWith t (version_line v)) is.1 begins))
+    IsReadAs.no_version
+    (λ v small begins. no_whole line (version_line v) plain
+    (subst (λ t. BeginsWith t (version_line v)) is.1 begins))
 
 -- a text that ends after whole lines
-pub good_end : (begun : Bool) (es : List Entry) (line text : List ℕ) → begun ≡ true → IsSoFar begun es line text → length line ≡ 0 → IsReadAs text (Ok es)
+pub good_end : (begun : Bool) (es : List Entry) (line text : List ℕ) → begun ≡ true → IsSoFar begun es line text
+    → length line ≡ 0 → IsReadAs text (Ok es)
 good_end false es line text is so none = absurd (true≢false (sym is))
 good_end true es [] text is so none = IsReadAs.history es so
 good_end true es (b ∷ line) text is so none = absurd (omega (arith, none))
@@ -162,7 +196,8 @@ good_end true es (b ∷ line) text is so none = absurd (omega (arith, none))
 -- ---- whole lines
 
 -- a first line
-pub begun_by : (begun : Bool) (es : List Entry) (line text : List ℕ) → begun ≡ false → IsSoFar begun es [] text → line ≡ first_line
+pub begun_by : (begun : Bool) (es : List Entry) (line text : List ℕ) → begun ≡ false → IsSoFar begun es [] text
+    → line ≡ first_line
     → IsSoFar true es [] (text ++ ended line)
 begun_by true es line text is so same = absurd (true≢false is)
 begun_by false es line text is so same = record {
@@ -173,22 +208,26 @@ begun_by false es line text is so same = record {
       ∙ sym (ap (λ es'. (ended first_line ++ entries_text es') ++ []) so.0);
 }
 
-pub bad_version : (begun : Bool) (es : List Entry) (line text : List ℕ) (fault : BookFault) → begun ≡ false → IsSoFar begun es [] text → HasNo 10 line
+pub bad_version : (begun : Bool) (es : List Entry) (line text : List ℕ) (fault : BookFault) → begun ≡ false
+    → IsSoFar begun es [] text → HasNo 10 line
     → IsBadVersion line fault → IsFaulty (text ++ ended line) fault
 bad_version true es line text fault is so plain bad = absurd (true≢false is)
 bad_version false es line text (BadLine n) is so plain bad = λ more.
     subst (λ k. IsReadAs ((text ++ ended line) ++ more) (Err (BadLine k))) (sym bad.0)
     (IsReadAs.no_version (λ v small begins. bad.1 v small
-    (begins_same line (version_line v) more plain (version_plain v small) (subst (λ t. BeginsWith ((t ++ ended line) ++ more) (version_line v)) so.1 begins))))
+    (begins_same line (version_line v) more plain (version_plain v small)
+    (subst (λ t. BeginsWith ((t ++ ended line) ++ more) (version_line v)) so.1 begins))))
 bad_version false es line text BadVersion is so plain bad = λ more.
     let (v, small, other, spelled) = bad in
-    IsReadAs.other_version v small other (more, ap (λ t. (t ++ ended line) ++ more) so.1 ∙ ap (λ l. ended l ++ more) spelled)
+    IsReadAs.other_version v small other
+    (more, ap (λ t. (t ++ ended line) ++ more) so.1 ∙ ap (λ l. ended l ++ more) spelled)
 bad_version false es line text TooLong is so plain bad = absurd bad
 bad_version false es line text NoMemory is so plain bad = absurd bad
 bad_version false es line text ReadFailed is so plain bad = absurd bad
 
 -- an entry's line
-pub one_more : (begun : Bool) (es : List Entry) (entry : Entry) (line text : List ℕ) → begun ≡ true → IsSoFar begun es [] text → length es ≢ 1000000
+pub one_more : (begun : Bool) (es : List Entry) (entry : Entry) (line text : List ℕ) → begun ≡ true
+    → IsSoFar begun es [] text → length es ≢ 1000000
     → HasLine entry → line ≡ entry_line entry → IsSoFar begun (es ++ entry ∷ []) [] (text ++ ended line)
 one_more false es entry line text is b some has same = absurd (true≢false (sym is))
 one_more true es entry line text is b some has same = record {
@@ -200,64 +239,84 @@ one_more true es entry line text is b some has same = record {
       ∙ ap (λ t. ended first_line ++ t) (sym (texts es entry)) ∙ sym (append-nil (history_text (es ++ entry ∷ [])));
 }
   where
-    texts : (es : List Entry) (entry : Entry) → entries_text (es ++ entry ∷ []) ≡ entries_text es ++ ended (entry_line entry)
+    texts : (es : List Entry) (entry : Entry)
+        → entries_text (es ++ entry ∷ []) ≡ entries_text es ++ ended (entry_line entry)
     texts [] entry = append-nil (ended (entry_line entry))
-    texts (e ∷ es) entry = ap (λ t. ended (entry_line e) ++ t) (texts es entry) ∙ sym (append_assoc (ended (entry_line e)) (entries_text es) (ended (entry_line entry)))
+    texts (e ∷ es) entry =
+        ap (λ t. ended (entry_line e) ++ t) (texts es entry)
+        ∙ sym (append_assoc (ended (entry_line e)) (entries_text es) (ended (entry_line entry)))
 
 -- the text goes on with a whole line
-with_line : (es : List Entry) (line text more : List ℕ) → Begins text es [] → Begins ((text ++ ended line) ++ more) es (ended line ++ more)
-with_line es line text more b = goes_on true es (ended line) more (text ++ ended line) (goes_on true es [] (ended line) text b)
+with_line : (es : List Entry) (line text more : List ℕ) → Begins text es []
+    → Begins ((text ++ ended line) ++ more) es (ended line ++ more)
+with_line es line text more b =
+    goes_on true es (ended line) more (text ++ ended line) (goes_on true es [] (ended line) text b)
 
-pub no_entry : (begun : Bool) (es : List Entry) (line text : List ℕ) → begun ≡ true → IsSoFar begun es [] text → HasNo 10 line
-    → ((entry : Entry) → HasLine entry → line ≡ entry_line entry → ⊥) → IsFaulty (text ++ ended line) (BadLine (next_line begun es))
+pub no_entry : (begun : Bool) (es : List Entry) (line text : List ℕ) → begun ≡ true → IsSoFar begun es [] text
+    → HasNo 10 line
+    → ((entry : Entry) → HasLine entry → line ≡ entry_line entry → ⊥)
+    → IsFaulty (text ++ ended line) (BadLine (next_line begun es))
 no_entry false es line text is b plain none = absurd (true≢false (sym is))
 no_entry true es line text is b plain none = λ more.
     IsReadAs.bad_line es (ended line ++ more) (with_line es line text more b)
     (is_some (ended line) more (omega (arith, length-append line (10 ∷ []))))
-    (λ entry has begins. none entry has (begins_same line (entry_line entry) more plain (entry_plain entry has.fits) begins))
+    (λ entry has begins. none entry has
+    (begins_same line (entry_line entry) more plain (entry_plain entry has.fits) begins))
 
-pub too_many : (begun : Bool) (es : List Entry) (entry : Entry) (line text : List ℕ) → begun ≡ true → IsSoFar begun es [] text → length es ≡ 1000000
+pub too_many : (begun : Bool) (es : List Entry) (entry : Entry) (line text : List ℕ) → begun ≡ true
+    → IsSoFar begun es [] text → length es ≡ 1000000
     → HasLine entry → line ≡ entry_line entry → IsFaulty (text ++ ended line) TooLong
 too_many false es entry line text is b full has same = absurd (true≢false (sym is))
 too_many true es entry line text is b full has same = λ more.
-    IsReadAs.too_long es (ended line ++ more) entry (with_line es line text more b) full has (more, ap (λ l. ended l ++ more) same)
+    IsReadAs.too_long es (ended line ++ more) entry (with_line es line text more b) full has
+    (more, ap (λ l. ended l ++ more) same)
 
 -- ---- lines of no entry
 
 pub is_no_entry : (line : List ℕ) → ((e : Event) → event.Fits e → line ≡ event.event_line e → ⊥)
-    → ((f : Fault) → fault.Fits f → IsPrintable f → line ≡ fault.fault_line f → ⊥) → (entry : Entry) → HasLine entry → line ≡ entry_line entry → ⊥
+    → ((f : Fault) → fault.Fits f → IsPrintable f → line ≡ fault.fault_line f → ⊥) → (entry : Entry) → HasLine entry
+    → line ≡ entry_line entry → ⊥
 is_no_entry line no_event no_fault (Step e) has is = no_event e has.fits is
 is_no_entry line no_event no_fault (Disturbed f) has is = no_fault f has.fits.0 has.fits.1 is
 
 -- the line of a fault whose text isn't printable
 pub is_unprintable : (line : List ℕ) (g : Fault) → fault.Fits g → line ≡ fault.fault_line g → (IsPrintable g → ⊥)
     → (f : Fault) → fault.Fits f → IsPrintable f → line ≡ fault.fault_line f → ⊥
-is_unprintable line g fits spelled not f fits' printable is = not (subst IsPrintable (one_fault f g fits' fits (sym is ∙ spelled)) printable)
+is_unprintable line g fits spelled not f fits' printable is =
+    not (subst IsPrintable (one_fault f g fits' fits (sym is ∙ spelled)) printable)
 
 -- ---- what a reader gives
 
-pub all_given : (a b : Option (List ℕ)) (given : List ℕ) (r : Result (List Entry) BookFault) → Consumes a b given → IsAtEnd b → IsReadAs given r
+pub all_given : (a b : Option (List ℕ)) (given : List ℕ) (r : Result (List Entry) BookFault) → Consumes a b given
+    → IsAtEnd b → IsReadAs given r
     → IfSome a (λ text. IsReadAs text r)
 all_given None b given r consumed end read = tt
 all_given (Some x) None given r consumed end read = absurd consumed
 all_given (Some x) (Some y) given r consumed end read =
     subst (λ text. IsReadAs text r) (sym (consumed ∙ ap (λ t. given ++ t) end ∙ append-nil given)) read
 
-pub some_given : (a b : Option (List ℕ)) (given : List ℕ) (fault : BookFault) → Consumes a b given → IsFaulty given fault
+pub some_given : (a b : Option (List ℕ)) (given : List ℕ) (fault : BookFault) → Consumes a b given
+    → IsFaulty given fault
     → IfSome a (λ text. IsReadAs text (Err fault))
 some_given None b given fault consumed faulty = tt
 some_given (Some x) None given fault consumed faulty = absurd consumed
-some_given (Some x) (Some y) given fault consumed faulty = subst (λ text. IsReadAs text (Err fault)) (sym consumed) (faulty y)
+some_given (Some x) (Some y) given fault consumed faulty =
+    subst (λ text. IsReadAs text (Err fault)) (sym consumed) (faulty y)
 
 -- all was given
-pub end_ok : (a b : Option (List ℕ)) (given : List ℕ) (reading : Reading) (r : Result (Vec Entry Global) BookFault) → Consumes a b given → IsAtEnd b
-    → HasRead reading given → IfOk r (λ entries. (text : List ℕ) → HasRead reading text → IsReadAs text (Ok entries.items))
+pub end_ok : (a b : Option (List ℕ)) (given : List ℕ) (reading : Reading) (r : Result (Vec Entry Global) BookFault)
+    → Consumes a b given → IsAtEnd b
+    → HasRead reading given
+    → IfOk r (λ entries. (text : List ℕ) → HasRead reading text → IsReadAs text (Ok entries.items))
     → IfOk r (λ entries. IfSome a (λ text. IsReadAs text (Ok entries.items)))
-end_ok a b given reading (Ok entries) consumed end read ended = all_given a b given (Ok entries.items) consumed end (ended given read)
+end_ok a b given reading (Ok entries) consumed end read ended =
+    all_given a b given (Ok entries.items) consumed end (ended given read)
 end_ok a b given reading (Err fault) consumed end read ended = tt
 
-pub end_err : (a b : Option (List ℕ)) (given : List ℕ) (reading : Reading) (r : Result (Vec Entry Global) BookFault) → Consumes a b given → IsAtEnd b
+pub end_err : (a b : Option (List ℕ)) (given : List ℕ) (reading : Reading) (r : Result (Vec Entry Global) BookFault)
+    → Consumes a b given → IsAtEnd b
     → HasRead reading given → IfErr r (λ fault. (text : List ℕ) → HasRead reading text → IsReadAs text (Err fault))
     → IfErr r (λ fault. fault ≢ NoMemory → fault ≢ ReadFailed → IfSome a (λ text. IsReadAs text (Err fault)))
 end_err a b given reading (Ok entries) consumed end read ended = tt
-end_err a b given reading (Err fault) consumed end read ended = λ memory device. all_given a b given (Err fault) consumed end (ended given read)
+end_err a b given reading (Err fault) consumed end read ended =
+    λ memory device. all_given a b given (Err fault) consumed end (ended given read)

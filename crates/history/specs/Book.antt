@@ -1,6 +1,6 @@
 -- A book: a configuration with the entries that led to it from its opening, and what it makes of events and faults.
 use Rattle.std.specs.Prelude.{◌≡◌, ℕ, ◌+◌, ◌≤◌, ◌≢◌, ⊤, ◌-◌, ◌==◌, Bool, nat_le, slice_get, if◌then◌else◌, List, []}
-use Rattle.std.specs.Prelude.{◌∷◌, ◌++◌, length, Option, Some, None, Result, Ok, Err}
+use Rattle.std.specs.Prelude.{◌∷◌, ◌++◌, All, length, Option, Some, None, Result, Ok, Err}
 use Rattle.app_interface.specs.Application.{App}
 use Rattle.reset_model.specs.declared.event.Event.{Event}
 use Rattle.reset_model.specs.Configuration.{Configuration}
@@ -20,6 +20,7 @@ use Rattle.history.specs.declared.refusal.DisturbRefusal.TheVariants as disturb
 use Rattle.history.specs.declared.refusal.ApplyRefusal.{ApplyRefusal}
 use Rattle.history.specs.declared.refusal.ApplyRefusal.TheVariants.{StrangeNode, Stale, BookFull, NoMemory}
 use Rattle.history.specs.Entries.{replayed}
+use Rattle.history.specs.HistoryText.{HasLine}
 
 -- what contracts see of a book: how it opened, what happened since, what that left, and how many entries it may have
 pub record BookView (L : Type 0) : Type 0 where
@@ -28,11 +29,12 @@ pub record BookView (L : Type 0) : Type 0 where
   pub config : Configuration L
   pub limit : ℕ
 
--- the configuration is what the entries leave, and they are within the limit
+-- the configuration is what the entries leave, which are within the limit, and which a history may have
 pub record IsBook {L : Type 0} (app : App L) (from_text : List ℕ → Option L) (b : BookView L) : Type 0 where
   pub replay : replayed app from_text b.opening b.entries ≡ Some b.config
   pub room : length b.entries ≤ b.limit
   pub small : b.limit ≤ 1000000
+  pub lines : All HasLine b.entries
 
 -- the book with an entry more, which left this
 abbrev pub with_entry : {L : Type 0} → BookView L → Entry → Configuration L → BookView L

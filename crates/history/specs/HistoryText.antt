@@ -1,5 +1,6 @@
 -- The texts of histories.
-use Rattle.std.specs.Prelude.{◌≡◌, ◌≢◌, ℕ, ◌+◌, ◌<◌, ◌≤◌, ◌^◌, IsTrue, All, List, [], ◌∷◌, ◌++◌, length, codes, Result, Ok, Err}
+use Rattle.std.specs.Prelude.{◌≡◌, ◌≢◌, ℕ, ◌+◌, ◌<◌, ◌≤◌, ◌^◌, IsTrue, All, List, [], ◌∷◌, ◌++◌, length, codes, Result}
+use Rattle.std.specs.Prelude.{Ok, Err}
 use Rattle.std.specs.Char.{is_ascii_graphic}
 use Rattle.std.specs.Fmt.{decimal}
 use Rattle.std.specs.List.{flat_map, list_all}
@@ -62,12 +63,16 @@ pub record Begins (text : List ℕ) (es : List Entry) (rest : List ℕ) : Type 0
   pub few : length es ≤ 1000000
   pub spelled : text ≡ history_text es ++ rest
 
--- what a text is read as: the entries of the history that it is, or the first of its lines that a history can't have there
+-- what a text is read as: the entries of the history that it is, or the first of its lines that a history can't have
+-- there
 pub data IsReadAs (text : List ℕ) : Result (List Entry) BookFault → Type 0 where
   history : (es : List Entry) → Begins text es [] → IsReadAs text (Ok es)
-  no_version : ((version : ℕ) → version < 2 ^ 32 → BeginsWith text (version_line version) → ⊥) → IsReadAs text (Err (BadLine 1))
-  other_version : (version : ℕ) → version < 2 ^ 32 → version ≢ 1 → BeginsWith text (version_line version) → IsReadAs text (Err BadVersion)
+  no_version : ((version : ℕ) → version < 2 ^ 32 → BeginsWith text (version_line version) → ⊥)
+      → IsReadAs text (Err (BadLine 1))
+  other_version : (version : ℕ) → version < 2 ^ 32 → version ≢ 1 → BeginsWith text (version_line version)
+      → IsReadAs text (Err BadVersion)
   bad_line : (es : List Entry) (rest : List ℕ) → Begins text es rest → rest ≢ []
-      → ((entry : Entry) → HasLine entry → BeginsWith rest (entry_line entry) → ⊥) → IsReadAs text (Err (BadLine (length es + 2)))
+      → ((entry : Entry) → HasLine entry → BeginsWith rest (entry_line entry) → ⊥)
+      → IsReadAs text (Err (BadLine (length es + 2)))
   too_long : (es : List Entry) (rest : List ℕ) (entry : Entry) → Begins text es rest → length es ≡ 1000000
       → HasLine entry → BeginsWith rest (entry_line entry) → IsReadAs text (Err TooLong)

@@ -4,3 +4,5 @@ pub mod Played
 pub mod Book
 pub mod HistoryText
 pub mod Reading
+pub mod Verdict
+pub mod Stretches

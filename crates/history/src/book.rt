@@ -4,6 +4,7 @@ ghost use Rattle.std.specs.Prelude.{◌≡◌, ◌≢◌, ℕ, ◌+◌, ◌≤�
 ghost use Rattle.std.specs.Prelude.{MatchResult};
 
 use crate::entry::{Entry, Receipt, Report};
+use crate::line::{fault_has_line, step_has_line};
 use crate::player::Player;
 use crate::refusal::{ApplyRefusal, BookRefusal, DisturbRefusal, fault_refused, step_refused};
 use app_interface::Application;
@@ -27,8 +28,9 @@ pub struct Book<P: Application> {
 }
 
 impl<P: Application> Model for Book<P> {
-    ghost use Rattle.std.specs.Prelude.{◌≤◌, length};
+    ghost use Rattle.std.specs.Prelude.{◌≤◌, All, length};
     ghost use Rattle.history.specs.Book.{BookView};
+    ghost use Rattle.history.specs.HistoryText.{HasLine};
     ghost use Rattle.history.specs.Played.{HasPlayed};
 
     ghost Value = { BookView P.Local };
@@ -46,7 +48,7 @@ impl<P: Application> Model for Book<P> {
     } };
 
     ghost invariant = { λ b. HasPlayed P.app P.from_text b.opening.value b.entries.items b.player
-        × (length b.entries.items ≤ b.limit) × (b.limit ≤ 1000000) };
+        × (length b.entries.items ≤ b.limit) × (b.limit ≤ 1000000) × All HasLine b.entries.items };
 }
 
 impl<P: Application> Book<P> {
@@ -91,6 +93,7 @@ impl<P: Application> Book<P> {
         let position = self.entries.len() + 1;
         match self.player.enter_step(alloc, position, event) {
             Ok(reply) => {
+                step_has_line(event);
                 self.entries.push_reserved(Entry::Step(event));
                 Ok(Receipt {
                     position,
@@ -134,6 +137,7 @@ impl<P: Application> Book<P> {
         let position = self.entries.len() + 1;
         match self.player.enter_fault(alloc, position, &fault) {
             Ok(()) => {
+                fault_has_line::<P>(&fault);
                 self.entries.push_reserved(Entry::Disturbed(fault));
                 Ok(position)
             }
@@ -188,6 +192,7 @@ impl<P: Application> Book<P> {
         let event = plan.event();
         match self.player.enter_plan(position, plan) {
             Ok(reply) => {
+                step_has_line(event);
                 self.entries.push_reserved(Entry::Step(event));
                 Ok(Receipt {
                     position,
@@ -223,7 +228,8 @@ impl<P: Application> Book<P> {
         }
     }
 
-    /// Its configuration is what its entries leave from its opening, and they are within its limit.
+    /// Its configuration is what its entries leave from its opening, which are within its limit, and which a
+    /// history may have.
     pub fn is_book(&self)
         ensures { IsBook P.app P.from_text self.now }
     {

@@ -4,16 +4,22 @@
 
 mod book;
 mod entry;
+mod line;
 mod openings;
 mod player;
 mod read;
 mod refusal;
+mod stretches;
 mod text;
 mod verification;
 
 pub use book::{Book, MAX_ENTRIES};
 pub use entry::{Entry, Receipt, Report, Summary, VerifyFault};
-pub use read::read_book;
+pub use read::{is_graphic, is_printable, read_book};
 pub use refusal::{ApplyRefusal, BookRefusal, DisturbRefusal};
-pub use text::{BookFault, one_reading_a_text, write_book};
-pub use verification::verify;
+pub use stretches::{
+    replays_stay_connected, reports_are_completions, reports_are_true, stretches_refine,
+    undisturbed_parts_are_stretches,
+};
+pub use text::{BookFault, books_read_back, one_reading_a_text, write_book};
+pub use verification::{ReaderFault, verify, verify_reader};

@@ -1,11 +1,13 @@
 // Reading the text of a history.
 
-ghost use Rattle.std.specs.Prelude.{◌≡◌, ◌≢◌, ◌++◌, ◌∷◌, [], ℕ, ◌<◌, ◌^◌, ◌↔◌, List, if◌then◌else◌, length, ◌+◌, IfErr, IfNone, IfOk, IfSome, IsTrue, OnErr, OnOk, Result, Ok, Err};
+ghost use Rattle.std.specs.Prelude.{◌≡◌, ◌≢◌, ◌++◌, ◌∷◌, [], ℕ, ◌<◌, ◌^◌, ◌↔◌, List, if◌then◌else◌, length, ◌+◌, IfErr};
+ghost use Rattle.std.specs.Prelude.{IfNone, IfOk, IfSome, IsTrue, OnErr, OnOk, Result, Ok, Err};
 ghost use Rattle.std.specs.Char.{is_ascii_graphic};
 ghost use Rattle.std.specs.List.{list_all};
 ghost use Rattle.action_tables.specs.Cuts.{HasNo};
 ghost use Rattle.history.specs.declared.entry.Entry.{Entry};
-ghost use Rattle.history.specs.HistoryText.{HasLine, IsPrintable, IsReadAs, ended, entry_line, first_line, version_line};
+ghost use Rattle.history.specs.HistoryText.{HasLine, IsPrintable, IsReadAs, ended, entry_line, first_line};
+ghost use Rattle.history.specs.HistoryText.{version_line};
 ghost use Rattle.history.specs.Reading.{GoesOn, HasRead, IsBadVersion, IsFaulty};
 
 use crate::book::MAX_ENTRIES;
@@ -84,7 +86,8 @@ impl Reading {
     fn end_line(&mut self, alloc: Global, bytes: &[u8]) -> Result<(), BookFault>
         ensures ok { OnOk result ((text : List ℕ) → HasNo 10 bytes.now → HasRead self.old text
             → HasRead self.new (text ++ ended bytes.now)) }
-        ensures err { IfErr result (λ f. f ≢ BookFault.NoMemory → (text : List ℕ) → HasNo 10 bytes.now → HasRead self.old text
+        ensures err { IfErr result
+            (λ f. f ≢ BookFault.NoMemory → (text : List ℕ) → HasNo 10 bytes.now → HasRead self.old text
             → IsFaulty (text ++ ended bytes.now) f) }
         ensures device { IfErr result (λ f. f ≢ BookFault.ReadFailed) }
     {
@@ -99,9 +102,11 @@ impl Reading {
 
     // The line goes on with these bytes.
     fn go_on(&mut self, bytes: &[u8]) -> Result<(), BookFault>
-        ensures ok { OnOk result ((text : List ℕ) → HasNo 10 bytes.now → HasRead self.old text → HasRead self.new (text ++ bytes.now)) }
+        ensures ok { OnOk result
+            ((text : List ℕ) → HasNo 10 bytes.now → HasRead self.old text → HasRead self.new (text ++ bytes.now)) }
         ensures lines { self.new.lines ≡ self.old.lines }
-        ensures err { IfErr result (λ f. f ≢ BookFault.NoMemory → (text : List ℕ) → HasNo 10 bytes.now → HasRead self.old text
+        ensures err { IfErr result
+            (λ f. f ≢ BookFault.NoMemory → (text : List ℕ) → HasNo 10 bytes.now → HasRead self.old text
             → IsFaulty (text ++ bytes.now) f) }
         ensures device { IfErr result (λ f. f ≢ BookFault.ReadFailed) }
     {
@@ -136,8 +141,10 @@ struct Lines {
 impl Lines {
     // Takes the next line, without its line feed.
     fn take(&mut self, alloc: Global, line: &[u8]) -> Result<(), BookFault>
-        ensures ok { OnOk result ((text : List ℕ) → GoesOn self.old [] text → GoesOn self.new [] (text ++ ended line.now)) }
-        ensures err { IfErr result (λ f. f ≢ BookFault.NoMemory → (text : List ℕ) → HasNo 10 line.now → GoesOn self.old [] text
+        ensures ok { OnOk result
+            ((text : List ℕ) → GoesOn self.old [] text → GoesOn self.new [] (text ++ ended line.now)) }
+        ensures err { IfErr result
+            (λ f. f ≢ BookFault.NoMemory → (text : List ℕ) → HasNo 10 line.now → GoesOn self.old [] text
             → IsFaulty (text ++ ended line.now) f) }
         ensures device { IfErr result (λ f. f ≢ BookFault.ReadFailed) }
     {
@@ -193,7 +200,8 @@ fn read_version(line: &[u8]) -> Result<(), BookFault>
 // The entry of a line.
 fn read_entry(alloc: Global, line: &[u8]) -> Result<Option<Entry>, AllocError>
     ensures found { IfOk result (λ read. IfSome read (λ entry. HasLine entry × (line.now ≡ entry_line entry))) }
-    ensures only { IfOk result (λ read. IfNone read ((entry : Entry) → HasLine entry → line.now ≡ entry_line entry → ⊥)) }
+    ensures only { IfOk result
+        (λ read. IfNone read ((entry : Entry) → HasLine entry → line.now ≡ entry_line entry → ⊥)) }
 {
     if line.len() > MAX_LINE {
         return Ok(None);
@@ -207,8 +215,8 @@ fn read_entry(alloc: Global, line: &[u8]) -> Result<Option<Entry>, AllocError>
     }
 }
 
-// Whether the text of a local state, where the fault has one, may stand in a line.
-fn is_printable(fault: &Fault) -> bool
+/// Whether the text of a local state, where the fault has one, may stand in a line.
+pub fn is_printable(fault: &Fault) -> bool
     ensures { IsTrue result ↔ IsPrintable fault.now }
 {
     match fault {
@@ -217,8 +225,8 @@ fn is_printable(fault: &Fault) -> bool
     }
 }
 
-// Whether all bytes are from 33 to 126.
-fn is_graphic(text: &[u8]) -> bool
+/// Whether all bytes are from 33 to 126.
+pub fn is_graphic(text: &[u8]) -> bool
     ensures { result ≡ list_all is_ascii_graphic text.now }
 {
     text.iter().all(u8::is_ascii_graphic)

@@ -4,6 +4,7 @@ ghost use Rattle.std.specs.Prelude.{◌≡◌, ◌≢◌, ◌++◌, ℕ, List, I
 ghost use Rattle.std.specs.Io.KnownBytes.{Appends};
 ghost use Rattle.action_tables.specs.Written.{AppendsFront};
 ghost use Rattle.history.specs.declared.entry.Entry.{Entry};
+ghost use Rattle.history.specs.Book.{BookView, IsBook};
 ghost use Rattle.history.specs.HistoryText.{IsReadAs, ended, entries_text, entry_line, history_text};
 
 use crate::book::Book;
@@ -35,10 +36,17 @@ pub fn one_reading_a_text()
     ensures { (text : List ℕ) (r s : Result (List Entry) BookFault) → IsReadAs text r → IsReadAs text s → r ≡ s }
 {}
 
+/// What a book's history is written as reads back as its entries.
+pub fn books_read_back<P: Application>()
+    ensures { (b : BookView P.Local) → IsBook P.app P.from_text b
+        → IsReadAs (history_text b.entries) (Ok b.entries) }
+{}
+
 /// Writes the text of a book's history.
 pub fn write_book<P: Application, W: Write>(book: &Book<P>, out: &mut W) -> Result<(), WriteFault>
     ensures ok { OnOk result (Appends (W.contents out.old) (W.contents out.new) (history_text book.now.entries)) }
-    ensures err { OnErr result (AppendsFront (W.contents out.old) (W.contents out.new) (history_text book.now.entries)) }
+    ensures err { OnErr result
+        (AppendsFront (W.contents out.old) (W.contents out.new) (history_text book.now.entries)) }
 {
     write_entries(book.entries(), out)
 }

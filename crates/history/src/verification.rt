@@ -1,14 +1,46 @@
 // Whether entries are a history.
 
-ghost use Rattle.std.specs.Prelude.{◌≡◌, length, IfOk, IfErr, IsSome, ℕ};
+ghost use Rattle.std.specs.Prelude.{◌≡◌, length, IfOk, IfErr, IfSome, IsSome, ℕ};
 ghost use Rattle.history.specs.Entries.{IsFirstRefused, replayed};
 ghost use Rattle.history.specs.Reports.{reports_of};
+ghost use Rattle.history.specs.Verdict.{IsVerdict};
 
 use crate::entry::{Entry, Summary, VerifyFault};
 use crate::player::Player;
+use crate::read::read_book;
+use crate::text::BookFault;
 use app_interface::Application;
 use reset_machine::Config;
 use std::alloc::Global;
+use std::io::Read;
+
+/// Why what a reader gives isn't a history.
+#[derive(Clone, Copy, Debug, PartialEq, Eq)]
+pub enum ReaderFault {
+    /// The text is none, or can't be read.
+    Text(BookFault),
+    /// An entry isn't allowed where it stands, or memory is wanting.
+    Entries(VerifyFault),
+}
+
+/// Reads a history to its end, and then plays its entries from the opening, and tells what they come to. A
+/// fault of the text comes before an entry that isn't allowed, wherever the two stand.
+pub fn verify_reader<P: Application, R: Read>(
+    alloc: Global,
+    opening: Config<P>,
+    reader: &mut R,
+) -> Result<Summary, ReaderFault>
+    ensures { IfSome (R.remaining reader.old) (λ text. IsVerdict P.app P.from_text opening text result) }
+{
+    let entries = match read_book(alloc, reader) {
+        Ok(entries) => entries,
+        Err(fault) => return Err(ReaderFault::Text(fault)),
+    };
+    match verify(alloc, opening, &entries) {
+        Ok(summary) => Ok(summary),
+        Err(fault) => Err(ReaderFault::Entries(fault)),
+    }
+}
 
 /// Plays the entries from the opening, and tells what they come to, or names the first that isn't
 /// allowed where it stands. An entry for which memory is wanting is `NoMemory`.

@@ -6,4 +6,5 @@ use Rattle.history.proofs.read.read_book.Given as goal
 
 abbrev pub invariant-loop : goal.invariant-loop
 invariant-loop g l =
-    (given : List ℕ) × Consumes (g.R.Read.remaining l.fn.reader) (g.R.Read.remaining l.reader) given × HasRead l.reading given × (length l.chunk ≡ 8192)
+    (given : List ℕ) × Consumes (g.R.Read.remaining l.fn.reader) (g.R.Read.remaining l.reader) given
+    × HasRead l.reading given × (length l.chunk ≡ 8192)

@@ -1,7 +1,8 @@
 use Rattle.std.proofs.Common.{true≢false, sym}
 use Rattle.history.proofs.ReadLines.{is_no_entry, is_unprintable}
 use Rattle.history.proofs.read.read_entry.Goals as goal
-use Rattle.history.proofs.read.read_entry.Goals.{in_default-2-via-in-Some-2+else-is_printable, in_default-2-via-in_default-2}
+use Rattle.history.proofs.read.read_entry.Goals.{in_default-2-via-in-Some-2+else-is_printable}
+use Rattle.history.proofs.read.read_entry.Goals.{in_default-2-via-in_default-2}
 
 pub returns-in_default-2-clause-only : goal.returns-in_default-2-clause-only
 returns-in_default-2-clause-only c =
@@ -12,7 +13,8 @@ returns-in_default-2-clause-only c =
           let found = rw w.in-Some-2.is at c.in_ok-fault.ensures.found in
           let fits = rw w.in-Some-2.is at c.in_ok-fault.ensures.fits in
           is_no_entry c.args.line.now no_event
-          (is_unprintable c.args.line.now fault fits found (λ printable. true≢false (sym (w.if-is_printable.ensures.1 printable))))
+          (is_unprintable c.args.line.now fault fits found
+          (λ printable. true≢false (sym (w.if-is_printable.ensures.1 printable))))
       | in_default-2-via-in_default-2 w ↦
           let no_fault = rw w.in_default-2.is at c.in_ok-fault.ensures.only in
           is_no_entry c.args.line.now no_event (λ f fits printable is. no_fault f fits is)

@@ -8,5 +8,10 @@ use Rattle.history.proofs.text.put_entries.Goals as goal
 
 pub returns-in_err-put_entry-clause-err : goal.returns-in_err-put_entry-clause-err
 returns-in_err-put_entry-clause-err g c =
-    let here = subst (λ (e : Entry). AppendsFront (g.W.Write.contents c.loop-entry.out) (g.W.Write.contents c.put_entry.new.out) (ended (entry_line e))) c.entry-item.is c.in_err-put_entry.ensures.err in
-    OnErr-always _ _ (AppendsFront-piece _ _ _ (λ entry. ended (entry_line entry)) c.args.entries.now c.loop-entry.entry-index c.entry-item.result (omega arith) c.loop-entry.invariant here)
+    let here =
+    subst (λ (e : Entry). AppendsFront (g.W.Write.contents c.loop-entry.out)
+    (g.W.Write.contents c.put_entry.new.out) (ended (entry_line e))) c.entry-item.is c.in_err-put_entry.ensures.err
+    in
+    OnErr-always _ _
+    (AppendsFront-piece _ _ _ (λ entry. ended (entry_line entry)) c.args.entries.now c.loop-entry.entry-index
+    c.entry-item.result (omega arith) c.loop-entry.invariant here)

@@ -9,6 +9,7 @@ returns-in_err-put_command-clause-err g c =
 
 pub returns-clause-err : goal.returns-clause-err
 returns-clause-err g c =
-    OnErr-then c.put_bytes.result (g.W.Write.contents c.args.out.now) (g.W.Write.contents c.put_command.new.out) (g.W.Write.contents c.put_bytes.new.out)
+    OnErr-then c.put_bytes.result (g.W.Write.contents c.args.out.now) (g.W.Write.contents c.put_command.new.out)
+    (g.W.Write.contents c.put_bytes.new.out)
     (entry_line c.args.entry.now) (10 ∷ []) (ended (entry_line c.args.entry.now)) refl
     c.in_ok-put_command.ensures.ok c.put_bytes.ensures.err

@@ -5,16 +5,19 @@ use Rattle.history.proofs.text.write_entries.Goals as goal
 
 pub returns-in_err-put_bytes-clause-err : goal.returns-in_err-put_bytes-clause-err
 returns-in_err-put_bytes-clause-err g c =
-    OnErr-always _ _ (AppendsFront-first _ _ (ended first_line) (entries_text c.args.entries.now) c.in_err-put_bytes.ensures.err)
+    OnErr-always _ _
+    (AppendsFront-first _ _ (ended first_line) (entries_text c.args.entries.now) c.in_err-put_bytes.ensures.err)
 
 pub returns-clause-err : goal.returns-clause-err
 returns-clause-err g c =
-    OnErr-then c.put_entries.result (g.W.Write.contents c.args.out.now) (g.W.Write.contents c.put_bytes.new.out) (g.W.Write.contents c.put_entries.new.out)
+    OnErr-then c.put_entries.result (g.W.Write.contents c.args.out.now) (g.W.Write.contents c.put_bytes.new.out)
+    (g.W.Write.contents c.put_entries.new.out)
     (ended first_line) (entries_text c.args.entries.now) (history_text c.args.entries.now) refl
     c.in_ok-put_bytes.ensures.ok c.put_entries.ensures.err
 
 pub returns-clause-ok : goal.returns-clause-ok
 returns-clause-ok g c =
-    OnOk-then c.put_entries.result (g.W.Write.contents c.args.out.now) (g.W.Write.contents c.put_bytes.new.out) (g.W.Write.contents c.put_entries.new.out)
+    OnOk-then c.put_entries.result (g.W.Write.contents c.args.out.now) (g.W.Write.contents c.put_bytes.new.out)
+    (g.W.Write.contents c.put_entries.new.out)
     (ended first_line) (entries_text c.args.entries.now) (history_text c.args.entries.now) refl
     c.in_ok-put_bytes.ensures.ok c.put_entries.ensures.ok

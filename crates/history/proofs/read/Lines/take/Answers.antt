@@ -10,7 +10,8 @@ pub returns-then-len-eq-MAX_ENTRIES-clause-err : goal.returns-then-len-eq-MAX_EN
 returns-then-len-eq-MAX_ENTRIES-clause-err g c text plain so =
     let self = g.args.self.now in
     let found = rw g.in-Ok-Some.field-0-is at g.in-Ok-Some.ensures.found in
-    too_many self.begun self.entries.items g.in-Ok-Some.entry g.args.line.now text g.if-not-self.false so (omega (arith, g.len.ensures, g.if-len-eq-MAX_ENTRIES.true))
+    too_many self.begun self.entries.items g.in-Ok-Some.entry g.args.line.now text g.if-not-self.false so
+    (omega (arith, g.len.ensures, g.if-len-eq-MAX_ENTRIES.true))
     found.0 found.1
 
 pub returns-in_err-read_version-clause-err : goal.returns-in_err-read_version-clause-err
@@ -18,13 +19,15 @@ returns-in_err-read_version-clause-err c =
     let self = c.args.self.now in
     let p = err_from_is_err_and c.from_residual.result c.from_residual.ensures.1 in
     rw (p.1, p.2)
-    (λ memory text plain so. bad_version self.begun self.entries.items c.args.line.now text _ c.if-not-self.true so plain c.in_err-read_version.ensures.err)
+    (λ memory text plain so. bad_version self.begun self.entries.items c.args.line.now text _ c.if-not-self.true so
+    plain c.in_err-read_version.ensures.err)
 
 pub returns-in-Ok-None-clause-err : goal.returns-in-Ok-None-clause-err
 returns-in-Ok-None-clause-err g c text plain so =
     let self = g.args.self.now in
     rw g.bad_line.ensures
-    (no_entry self.begun self.entries.items g.args.line.now text g.if-not-self.false so plain (rw g.in-Ok-None.field-0-is at g.in-Ok-None.ensures.only))
+    (no_entry self.begun self.entries.items g.args.line.now text g.if-not-self.false so plain
+    (rw g.in-Ok-None.field-0-is at g.in-Ok-None.ensures.only))
 
 pub returns-clause-ok : goal.returns-clause-ok
 returns-clause-ok c =

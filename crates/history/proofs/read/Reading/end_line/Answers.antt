@@ -18,7 +18,8 @@ returns-in_err-take-clause-err c =
     (λ memory text plain read.
     let on = c.in_ok-go_on.ensures.ok text plain read in
     let lines = whole_lines c.go_on.new.self.lines c.go_on.new.self.line.items (text ++ c.args.bytes.now) on.lines in
-    subst (λ t. IsFaulty t c.in_err-take.field-0.0) (ended_at lines.whole c.go_on.new.self.line.items text c.args.bytes.now lines.cut)
+    subst (λ t. IsFaulty t c.in_err-take.field-0.0)
+    (ended_at lines.whole c.go_on.new.self.line.items text c.args.bytes.now lines.cut)
     ((rw c.deref.ensures.value at c.in_err-take.ensures.err) memory lines.whole on.plain lines.so))
 
 pub returns-clause-ok : goal.returns-clause-ok
@@ -28,7 +29,8 @@ returns-clause-ok c text plain read =
     let taken = (rw c.deref.ensures.value at c.in_ok-take.ensures.ok) lines.whole lines.so in
     record {
       lines = subst (λ line. GoesOn c.take-2.new.self line (text ++ ended c.args.bytes.now)) (sym c.clear.ensures.items)
-          (subst (GoesOn c.take-2.new.self []) (ended_at lines.whole c.go_on.new.self.line.items text c.args.bytes.now lines.cut) taken);
+          (subst (GoesOn c.take-2.new.self [])
+          (ended_at lines.whole c.go_on.new.self.line.items text c.args.bytes.now lines.cut) taken);
       plain = rw c.clear.ensures.items tt;
       short = omega (arith, ap length c.clear.ensures.items);
     }

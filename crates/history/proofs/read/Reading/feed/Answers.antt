@@ -11,14 +11,16 @@ returns-in_err-end_line-clause-err c =
     let p = err_from_is_err_and c.from_residual.result c.from_residual.ensures.1 in
     rw (p.1, p.2)
     (λ memory text read.
-    faulty_more text done c.loop-line.rest.now c.in-Some.line.now c.in-Some.after.now c.args.bytes.now _ cut c.in-Some.ensures.found
+    faulty_more text done c.loop-line.rest.now c.in-Some.line.now c.in-Some.after.now c.args.bytes.now _ cut
+    c.in-Some.ensures.found
     (c.in_err-end_line.ensures.err memory (text ++ done) c.in-Some.ensures.first (fed text read)))
 
 pub loop-line-preserved : goal.loop-line-preserved
 loop-line-preserved c =
     let (done, cut, fed) = c.loop-line.invariant in (
       done ++ ended c.in-Some.line.now,
-      fed_line done c.loop-line.rest.now c.in-Some.line.now c.in-Some.after.now c.args.bytes.now cut c.in-Some.ensures.found,
+      fed_line done c.loop-line.rest.now c.in-Some.line.now c.in-Some.after.now c.args.bytes.now cut
+          c.in-Some.ensures.found,
       λ text read. subst (HasRead c.end_line.new.self) (append_assoc text done (ended c.in-Some.line.now))
           (c.in_ok-end_line.ensures.ok (text ++ done) c.in-Some.ensures.first (fed text read)),
     )

@@ -5,7 +5,8 @@ use Rattle.history.proofs.read.Reading.feed.Given as goal
 
 abbrev pub invariant-loop-line : goal.invariant-loop-line
 invariant-loop-line l =
-    (done : List ℕ) × (l.bytes ≡ done ++ l.rest) × ((text : List ℕ) → HasRead l.initial.self text → HasRead l.self (text ++ done))
+    (done : List ℕ) × (l.bytes ≡ done ++ l.rest)
+    × ((text : List ℕ) → HasRead l.initial.self text → HasRead l.self (text ++ done))
 
 abbrev pub decreases-loop-line : goal.decreases-loop-line
 decreases-loop-line l = length l.rest

@@ -1,0 +1,282 @@
+-- Entries leave a network where there was one: a connected graph, whose nodes have their registers and local states.
+use Rattle.std.proofs.Common.{◌≡◌, ◌≢◌, ℕ, ◌==◌, ◌&&◌, ◌||◌, not, Bool, true, false, cond, nat_eq, List, [], ◌∷◌}
+use Rattle.std.proofs.Common.{length, Option, Some, None, Result, Ok, Err, ◌⊎◌, inl, inr, ⊎_elim}
+use Rattle.std.proofs.Common.{refl, sym, ap, ap₂, subst, ◌∙◌, arith}
+use Rattle.std.specs.FinSet as set
+use Rattle.std.specs.List.{AllByRecursion}
+use Rattle.std.specs.Option.{option_and_then}
+use Rattle.std.specs.Ordering.{eq_by_cmp}
+use Rattle.std.proofs.lemmas.Bool.{and_parts, both_ways, eq-eqb, or_cases, or_left}
+use Rattle.action_tables.specs.Numbers.{is_among}
+use Rattle.app_interface.specs.Application.{App}
+use Rattle.topology.specs.Building.{joins}
+use Rattle.topology.specs.Changing.{Reason, first_of, with_link, without_link}
+use Rattle.topology.specs.Graph.{AreLinked, Graph, IsConnected, IsGraph, IsNode, are_linked, pair_cmp}
+use Rattle.topology.specs.Reaching.{is_connected}
+use Rattle.topology.proofs.Counting.{one_direction}
+use Rattle.topology.proofs.Inserting.{joins_back, joins_ends}
+use Rattle.topology.proofs.Membership.{Contains-has}
+use Rattle.topology.proofs.Reaching.{connected_is_tested}
+use Rattle.topology.proofs.RowLemmas.{pair_total}
+use Rattle.topology.proofs.Walks.{walk_of_other}
+use Rattle.reset_model.specs.Configuration.{Configuration, IsShaped, put_at, with_graph}
+use Rattle.reset_model.specs.Planned.{Outcome, outcome_of}
+use Rattle.reset_model.specs.declared.event.Event.{Event}
+use Rattle.reset_model.specs.declared.step.Reply.{Reply}
+use Rattle.reset_model.proofs.ConfigurationSteps.{outcome_is_step}
+use Rattle.reset_model.proofs.RunShadows.{step_graph}
+use Rattle.reset_model.proofs.Shapes.{outcome_shaped}
+use Rattle.fault_inject.specs.Effects.{damaged, injected, refusals, with_read}
+use Rattle.fault_inject.specs.declared.fault.Fault.{Fault}
+use Rattle.fault_inject.specs.declared.fault.Fault.TheVariants.{SetTree, SetWave, SetLocal, LinkDown, LinkUp}
+use Rattle.fault_inject.specs.declared.refusal.FaultRefusal.{FaultRefusal}
+use Rattle.history.specs.declared.entry.Entry.{Entry}
+use Rattle.history.specs.declared.entry.Entry.TheVariants.{Step, Disturbed}
+use Rattle.history.specs.Entries.{entered, left_by_fault, left_by_step, replayed}
+
+-- a configuration of a connected graph, in which each node has its registers and its local state
+pub record IsNetwork {L : Type 0} (c : Configuration L) : Type 0 where
+  pub graph : IsGraph c.graph
+  pub whole : IsConnected c.graph
+  pub shaped : IsShaped c
+
+-- ---- one link more or less
+
+or_last : (x y s : Bool) → (y || (x || s)) ≡ (s || (x || y))
+or_last true true true = refl
+or_last true true false = refl
+or_last true false true = refl
+or_last true false false = refl
+or_last false true true = refl
+or_last false true false = refl
+or_last false false true = refl
+or_last false false false = refl
+
+and_last : (x y s : Bool) → (not y && (not x && s)) ≡ (s && not (x || y))
+and_last true true true = refl
+and_last true true false = refl
+and_last true false true = refl
+and_last true false false = refl
+and_last false true true = refl
+and_last false true false = refl
+and_last false false true = refl
+and_last false false false = refl
+
+module _ (g : Graph) (a b : ℕ) where
+  linked_more : (x y : ℕ) → are_linked (with_link g a b) x y ≡ (are_linked g x y || joins x y (a, b))
+  linked_more x y =
+      set.contains-insert pair_total (set.insert g.links (a, b)) (b, a) (x, y)
+      ∙ ap (λ t. eq_by_cmp pair_cmp (x, y) (b, a) || t) (set.contains-insert pair_total g.links (a, b) (x, y))
+      ∙ or_last (eq_by_cmp pair_cmp (x, y) (a, b)) (eq_by_cmp pair_cmp (x, y) (b, a)) (are_linked g x y)
+      ∙ ap (λ t. are_linked g x y || t) (one_direction x y (a, b))
+
+  linked_fewer : (x y : ℕ) → are_linked (without_link g a b) x y ≡ (are_linked g x y && not (joins x y (a, b)))
+  linked_fewer x y =
+      set.contains-remove pair_total (set.remove g.links (a, b)) (b, a) (x, y)
+      ∙ ap (λ t. not (eq_by_cmp pair_cmp (x, y) (b, a)) && t) (set.contains-remove pair_total g.links (a, b) (x, y))
+      ∙ and_last (eq_by_cmp pair_cmp (x, y) (a, b)) (eq_by_cmp pair_cmp (x, y) (b, a)) (are_linked g x y)
+      ∙ ap (λ t. are_linked g x y && not t) (one_direction x y (a, b))
+
+  module _ (are : IsGraph g) where
+    graph_less : IsGraph (without_link g a b)
+    graph_less =
+        let was : (x y : ℕ) → AreLinked (without_link g a b) x y → AreLinked g x y =
+        λ x y e. (and_parts (are_linked g x y) (not (joins x y (a, b))) (sym (linked_fewer x y) ∙ e)).0 in
+        record {
+          some = are.some;
+          bounded = are.bounded;
+          ascending = are.ascending;
+          symmetric = λ x y. linked_fewer x y
+              ∙ ap₂ (λ s t. s && not t) (are.symmetric x y) (joins_back x y (a, b))
+              ∙ sym (linked_fewer y x);
+          irreflexive = λ x e. are.irreflexive x (was x x e);
+          ends = λ x y e. are.ends x y (was x y e);
+        }
+
+    module _ (node_a : IsNode g a) (node_b : IsNode g b) (other : a ≢ b) where
+      is_old_or_new : (x y : ℕ) → AreLinked (with_link g a b) x y
+          → AreLinked g x y ⊎ (((a ≡ x) × (b ≡ y)) ⊎ ((a ≡ y) × (b ≡ x)))
+      is_old_or_new x y e =
+          ⊎_elim (λ old. inl old) (λ joined. inr (joins_ends x y (a, b) joined))
+          (or_cases (are_linked g x y) (joins x y (a, b)) (sym (linked_more x y) ∙ e))
+
+      graph_more : IsGraph (with_link g a b)
+      graph_more = record {
+        some = are.some;
+        bounded = are.bounded;
+        ascending = are.ascending;
+        symmetric = λ x y. linked_more x y
+            ∙ ap₂ (λ s t. s || t) (are.symmetric x y) (joins_back x y (a, b))
+            ∙ sym (linked_more y x);
+        irreflexive = λ x e. ⊎_elim (λ old. are.irreflexive x old)
+            (λ joined. ⊎_elim (λ (p : (a ≡ x) × (b ≡ x)). other (p.0 ∙ sym p.1))
+            (λ (p : (a ≡ x) × (b ≡ x)). other (p.0 ∙ sym p.1)) joined)
+            (is_old_or_new x x e);
+        ends = λ x y e. ⊎_elim (λ old. are.ends x y old)
+            (λ joined. ⊎_elim (λ (p : (a ≡ x) × (b ≡ y)). subst (IsNode g) p.0 node_a)
+            (λ (p : (a ≡ y) × (b ≡ x)). subst (IsNode g) p.1 node_b) joined)
+            (is_old_or_new x y e);
+      }
+
+      whole_more : IsConnected g → IsConnected (with_link g a b)
+      whole_more whole x y x_in y_in =
+          let walk = whole x y x_in y_in in (
+            walk.0,
+            walk_of_other g (with_link g a b)
+                (λ v w e. linked_more v w ∙ or_left (are_linked g v w) (joins v w (a, b)) e) x y walk.0 walk.1,
+          )
+
+-- ---- faults
+
+length-put_at : {X : Type 0} (ids : List ℕ) (xs : List X) (i : ℕ) (y : X) → length xs ≡ length ids
+    → length (put_at ids xs i y) ≡ length ids
+length-put_at [] xs i y same = same
+length-put_at (k ∷ ks) [] i y same = same
+length-put_at (k ∷ ks) (x ∷ xs) i y same =
+    let rest : length (put_at ks xs i y) ≡ length ks = length-put_at ks xs i y (omega (arith, same)) in
+    elim (nat_eq k i) as (λ b. length (cond b (y ∷ xs) (x ∷ put_at ks xs i y)) ≡ length (k ∷ ks))
+    [ true ↦ same | false ↦ omega (arith, rest) ]
+
+-- where the first reason that holds is none, none of them holds
+none_holds : {F : Type 0} (reasons : List (Reason F)) → first_of reasons ≡ None
+    → AllByRecursion (λ reason. reason.holds ≡ false) reasons
+none_holds [] none = tt
+none_holds {F} (reason ∷ reasons) none = by_test (none_holds reasons) reason.holds none
+  where
+    by_test : (first_of reasons ≡ None → AllByRecursion (λ reason. reason.holds ≡ false) reasons) → (b : Bool)
+        → cond b (Some reason.told) (first_of reasons) ≡ None
+        → (b ≡ false) × AllByRecursion (λ reason. reason.holds ≡ false) reasons
+    by_test more true is = absurd (cc)
+    by_test more false is = (refl, more is)
+
+not_false : (b : Bool) → not b ≡ false → b ≡ true
+not_false true e = refl
+not_false false e = sym e
+
+module _ {L : Type 0} (from_text : List ℕ → Option L) (c : Configuration L) (network : IsNetwork c) where
+  abbrev graph : IsGraph c.graph
+  graph = network.graph
+
+  abbrev shaped : IsShaped c
+  shaped = network.shaped
+
+  with_read_network : (at : ℕ) (o : Option L) → IsNetwork (with_read c at o)
+  with_read_network at None = network
+  with_read_network at (Some local) = record {
+    graph = graph;
+    whole = network.whole;
+    shaped = record {
+      trees = shaped.trees;
+      waves = shaped.waves;
+      locals = length-put_at c.graph.ids c.locals at local shaped.locals;
+    };
+  }
+
+  -- a configuration with the same nodes has the same shape
+  other_links : (g : Graph) → g.ids ≡ c.graph.ids → IsGraph g → IsConnected g → IsNetwork (with_graph c g)
+  other_links g same are whole = record {
+    graph = are;
+    whole = whole;
+    shaped = record {
+      trees = shaped.trees ∙ ap length (sym same);
+      waves = shaped.waves ∙ ap length (sym same);
+      locals = shaped.locals ∙ ap length (sym same);
+    };
+  }
+
+  is_there : (i : ℕ) → not (is_among i c.graph.ids) ≡ false → IsNode c.graph i
+  is_there i e = Contains-has c.graph.ids i (not_false (is_among i c.graph.ids) e)
+
+  damaged_network : (f : Fault) → first_of (refusals from_text c f) ≡ None → IsNetwork (damaged from_text c f)
+  damaged_network (SetTree at regs) none = record {
+    graph = graph;
+    whole = network.whole;
+    shaped = record {
+      trees = length-put_at c.graph.ids c.trees at regs shaped.trees;
+      waves = shaped.waves;
+      locals = shaped.locals;
+    };
+  }
+  damaged_network (SetWave at regs) none = record {
+    graph = graph;
+    whole = network.whole;
+    shaped = record {
+      trees = shaped.trees;
+      waves = length-put_at c.graph.ids c.waves at regs shaped.waves;
+      locals = shaped.locals;
+    };
+  }
+  damaged_network (SetLocal at text) none = with_read_network at (from_text text)
+  damaged_network (LinkDown a b) none =
+      let holds = none_holds (refusals from_text c (LinkDown a b)) none in
+      let less = graph_less c.graph a b graph in
+      other_links (without_link c.graph a b) refl less
+      ((connected_is_tested (without_link c.graph a b) less).0
+      (not_false (is_connected (without_link c.graph a b)) holds.1.1.1.0))
+  damaged_network (LinkUp a b) none =
+      let holds = none_holds (refusals from_text c (LinkUp a b)) none in
+      let node_a = is_there a holds.0 in
+      let node_b = is_there b holds.1.0 in
+      let other : a ≢ b = λ same. both_ways (a == b) holds.1.1.0 (eq-eqb a b same) in
+      other_links (with_link c.graph a b) refl (graph_more c.graph a b graph node_a node_b other)
+      (whole_more c.graph a b graph node_a node_b other network.whole)
+
+  injected_network : (f : Fault) (left : Configuration L) → injected from_text c f ≡ Ok left → IsNetwork left
+  unfolding injected
+  injected_network f left is = by_refusal (first_of (refusals from_text c f)) refl is
+    where
+      by_refusal : (o : Option FaultRefusal) → first_of (refusals from_text c f) ≡ o
+          → (elim o as (λ _. Configuration L → Result (Configuration L) FaultRefusal)
+          [ None ↦ λ d. Ok d | Some refusal ↦ λ d. Err refusal ]) (damaged from_text c f) ≡ Ok left
+          → IsNetwork left
+      by_refusal None none is =
+          let same : damaged from_text c f ≡ left = cc in
+          subst IsNetwork same (damaged_network f none)
+      by_refusal (Some r) some is = absurd (cc)
+
+-- ---- entries
+
+module _ {L : Type 0} (app : App L) where
+  pub applied_network : (c left : Configuration L) (e : Event) (reply : Reply) → IsNetwork c
+      → outcome_of app c e ≡ Ok (left, reply) → IsNetwork left
+  applied_network c left e reply network is =
+      let step = (outcome_is_step app c network.graph network.shaped e left reply is).0 in
+      let same = step_graph app c left e step in
+      record {
+        graph = subst IsGraph (sym same) network.graph;
+        whole = subst IsConnected (sym same) network.whole;
+        shaped = outcome_shaped app c network.shaped e left reply is;
+      }
+
+  module _ (from_text : List ℕ → Option L) where
+    entered_network : (c left : Configuration L) (entry : Entry) → IsNetwork c
+        → entered app from_text c entry ≡ Some left → IsNetwork left
+    entered_network c left (Step e) network is = by_outcome (outcome_of app c e) refl is
+      where
+        by_outcome : (o : Outcome L) → outcome_of app c e ≡ o → left_by_step o ≡ Some left → IsNetwork left
+        by_outcome (Ok done) ok is =
+            let same : done.0 ≡ left = cc in
+            subst IsNetwork same (applied_network c done.0 e done.1 network ok)
+        by_outcome (Err f) err is = absurd (cc)
+    entered_network c left (Disturbed f) network is = by_fault (injected from_text c f) refl is
+      where
+        by_fault : (o : Result (Configuration L) FaultRefusal) → injected from_text c f ≡ o
+            → left_by_fault o ≡ Some left → IsNetwork left
+        by_fault (Ok done) ok is =
+            let same : done ≡ left = cc in subst IsNetwork same (injected_network from_text c network f done ok)
+        by_fault (Err refusal) err is = absurd (cc)
+
+    pub replayed_network : (es : List Entry) (c left : Configuration L) → IsNetwork c
+        → replayed app from_text c es ≡ Some left → IsNetwork left
+    unfolding replayed
+    replayed_network [] c left network is = let same : c ≡ left = cc in subst IsNetwork same network
+    replayed_network (e ∷ es) c left network is =
+        by_entry (λ after some rest. replayed_network es after left (entered_network c after e network some) rest)
+        (entered app from_text c e) refl is
+      where
+        by_entry : ((after : Configuration L) → entered app from_text c e ≡ Some after
+            → replayed app from_text after es ≡ Some left → IsNetwork left)
+            → (o : Option (Configuration L)) → entered app from_text c e ≡ o
+            → option_and_then (λ after. replayed app from_text after es) o ≡ Some left → IsNetwork left
+        by_entry later (Some after) some is = later after some is
+        by_entry later None none is = absurd (cc)

@@ -1,0 +1,35 @@
+-- What a history's text comes to: what its entries tell, or why it is none.
+use Rattle.std.specs.Prelude.{◌≡◌, ℕ, ⊤, List, length, IsSome, Option, Result, Ok, Err}
+use Rattle.app_interface.specs.Application.{App}
+use Rattle.reset_model.specs.Configuration.{Configuration}
+use Rattle.history.specs.declared.entry.Entry.{Entry}
+use Rattle.history.specs.declared.entry.Summary.{Summary}
+use Rattle.history.specs.declared.entry.VerifyFault.TheVariants.{NotEnabledAt}
+use Rattle.history.specs.declared.entry.VerifyFault.TheVariants as verify
+use Rattle.history.specs.declared.text.BookFault.TheVariants as book
+use Rattle.history.specs.declared.verification.ReaderFault.{ReaderFault}
+use Rattle.history.specs.declared.verification.ReaderFault.TheVariants as reader
+use Rattle.history.specs.Entries.{IsFirstRefused, replayed}
+use Rattle.history.specs.HistoryText.{IsReadAs}
+use Rattle.history.specs.Reports.{reports_of}
+
+-- each of the entries is allowed where it stands, and this is their number and what they report
+pub record IsSummary {L : Type 0} (app : App L) (from_text : List ℕ → Option L) (c : Configuration L) (es : List Entry)
+    (s : Summary) : Type 0 where
+  pub allowed : IsSome (replayed app from_text c es)
+  pub entries : s.entries ≡ length es
+  pub reports : s.reports.items ≡ reports_of app from_text c es
+
+-- what is answered of the text of a history that opens so: the summary of its entries; why the text is none,
+-- before any entry is judged; or which entry is the first that isn't allowed where it stands. Want of memory, or
+-- a reader that failed, may stand in place of any answer
+abbrev pub IsVerdict : {L : Type 0} → App L → (List ℕ → Option L) → Configuration L → List ℕ
+    → Result Summary ReaderFault → Type 0
+IsVerdict app from_text c text (Ok s) =
+    (es : List Entry) × IsReadAs text (Ok es) × IsSummary app from_text c es s
+IsVerdict app from_text c text (Err (reader.Entries (NotEnabledAt position))) =
+    (es : List Entry) × IsReadAs text (Ok es) × IsFirstRefused app from_text c es position
+IsVerdict app from_text c text (Err (reader.Entries verify.NoMemory)) = ⊤
+IsVerdict app from_text c text (Err (reader.Text book.NoMemory)) = ⊤
+IsVerdict app from_text c text (Err (reader.Text book.ReadFailed)) = ⊤
+IsVerdict app from_text c text (Err (reader.Text f)) = IsReadAs text (Err f)

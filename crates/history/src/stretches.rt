@@ -1,0 +1,66 @@
+// What a history tells where no fault was done.
+
+ghost use Rattle.std.specs.Prelude.{◌≡◌, ◌↔◌, ◌++◌, ℕ, List, All, Contains, IsSome, Some, map};
+ghost use Rattle.std.specs.List.Sorted.{IsStrictlyIncreasing};
+ghost use Rattle.topology.specs.Graph.{IsConnected, IsGraph};
+ghost use Rattle.reset_model.specs.declared.event.Event.{Event};
+ghost use Rattle.reset_model.specs.declared.step.Reply.TheVariants.{Complete};
+ghost use Rattle.reset_model.specs.Configuration.{Configuration, IsShaped};
+ghost use Rattle.reset_model.specs.Sound.{IsSound};
+ghost use Rattle.history.specs.declared.entry.Entry.{Entry};
+ghost use Rattle.history.specs.declared.entry.Report.{Report};
+ghost use Rattle.history.specs.Entries.{replayed};
+ghost use Rattle.history.specs.Reports.{reports_of};
+ghost use Rattle.history.specs.Stretches.{IsApplied, IsIn, IsReport, IsSoundStretch, IsStretch, IsTrueReport};
+ghost use Rattle.history.specs.Stretches.{Stretch, steps};
+
+use app_interface::Application;
+
+/// The reports of entries are exactly the completions that they tell, in the order in which they came,
+/// each with its position and that of the latest opening at the same node that no fault came after.
+pub fn reports_are_completions<P: Application>()
+    ensures exactly { (opening : Configuration P.Local) (es : List Entry) (r : Report)
+        → (Contains (reports_of P.app P.from_text opening es) r ↔ IsReport P.app P.from_text opening es r) }
+    ensures each { (opening left : Configuration P.Local) (es : List Entry) (position session : ℕ) (event : Event)
+        → IsApplied P.app P.from_text opening es position event (Complete session) left
+        → (r : Report) × Contains (reports_of P.app P.from_text opening es) r
+        × (r.number ≡ session) × (r.finished ≡ position) }
+    ensures in_turn { (opening : Configuration P.Local) (es : List Entry)
+        → IsStrictlyIncreasing (map (λ r. r.finished) (reports_of P.app P.from_text opening es)) }
+{}
+
+/// Whatever entries are allowed, faults among them, a connected graph stays one, and no node loses its
+/// registers or its local state.
+pub fn replays_stay_connected<P: Application>()
+    ensures { (c left : Configuration P.Local) (es : List Entry) → IsGraph c.graph → IsConnected c.graph → IsShaped c
+        → replayed P.app P.from_text c es ≡ Some left
+        → IsGraph left.graph × IsConnected left.graph × IsShaped left }
+{}
+
+/// Where all entries are allowed, the events between two faults are an undisturbed stretch, and so is each
+/// part of them.
+pub fn undisturbed_parts_are_stretches<P: Application>()
+    ensures { (opening : Configuration P.Local) (es before rest : List Entry) (events : List Event)
+        → es ≡ before ++ (steps events ++ rest) → IsSome (replayed P.app P.from_text opening es)
+        → (s : Stretch P.Local) × IsStretch P.app P.from_text opening es s
+        × (s.before ≡ before) × (s.events ≡ events) }
+{}
+
+/// From sound registers on, an undisturbed stretch is a run of the abstract machine, which keeps the
+/// application's invariant, and has it once a session opens. Nothing is repaired in it.
+pub fn stretches_refine<P: Application>()
+    ensures { (opening : Configuration P.Local) (es : List Entry) (s : Stretch P.Local)
+        → IsGraph opening.graph → IsConnected opening.graph → IsShaped opening
+        → IsStretch P.app P.from_text opening es s → IsSound s.here → IsSoundStretch P.app P.Inv s }
+{}
+
+/// Each report of an undisturbed stretch that begins in sound registers is true: right after it every node
+/// is in its session and none is reset. Where the stretch has the opening, nobody opened another session
+/// in between, and each other node joined exactly once and had its start state right after it joined.
+pub fn reports_are_true<P: Application>()
+    ensures { (opening : Configuration P.Local) (es : List Entry) (s : Stretch P.Local)
+        → IsGraph opening.graph → IsConnected opening.graph → IsShaped opening
+        → IsStretch P.app P.from_text opening es s → IsSound s.here
+        → All (λ r. IsIn s r.finished → IsTrueReport P.app P.from_text opening es s r)
+        (reports_of P.app P.from_text opening es) }
+{}
