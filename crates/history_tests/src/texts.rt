@@ -1,7 +1,10 @@
 // The texts of histories.
 
 use crate::line::{line, whole_reset};
-use history::{Book, BookFault, Entry, MAX_ENTRIES, read_book, verify, write_book};
+use history::{
+    Book, BookFault, Entry, MAX_ENTRIES, ReaderFault, Summary, VerifyFault, read_book, verify,
+    verify_reader, write_book,
+};
 use std::alloc::Global;
 use std::io;
 use std::io::Read;
@@ -142,6 +145,52 @@ fn each_failed_read_is_told(rt: HostRuntime) {
             Ok(_) => panic!(rt; "a failed read"),
             Err(fault) => assert_eq!(rt; fault, BookFault::ReadFailed),
         }
+        assert_eq!(rt; failing.reads, stop);
+    }
+}
+
+// How many entries and reports the text of a history has on the line, or why it is none there.
+fn verdict<R: Read>(
+    rt: &impl Abort,
+    alloc: Global,
+    reader: &mut R,
+) -> Result<(usize, usize), ReaderFault> {
+    let summary = verify_reader(alloc, line(rt, alloc), reader)?;
+    Ok((summary.entries, summary.reports.len()))
+}
+
+#[test]
+fn verifies_what_a_reader_gives(rt: HostRuntime) {
+    let mut whole = WHOLE_RESET;
+    assert_eq!(rt; verdict(&rt, rt.alloc(), &mut whole), Ok((9, 1)));
+    let mut header = b"reset-history 1\n".as_slice();
+    assert_eq!(rt; verdict(&rt, rt.alloc(), &mut header), Ok((0, 0)));
+    let mut two = b"reset-history 1\nrequest 1\nrelay 2 1\n".as_slice();
+    assert_eq!(rt; verdict(&rt, rt.alloc(), &mut two), Ok((2, 0)));
+    let mut cut = b"reset-history 1\nrequest 1\nrela".as_slice();
+    let bad_line = Err(ReaderFault::Text(BookFault::BadLine(3)));
+    assert_eq!(rt; verdict(&rt, rt.alloc(), &mut cut), bad_line);
+    let mut other = b"reset-history 9\n".as_slice();
+    let bad_version = Err(ReaderFault::Text(BookFault::BadVersion));
+    assert_eq!(rt; verdict(&rt, rt.alloc(), &mut other), bad_version);
+    let mut early = b"reset-history 1\nrequest 3\nopen 3\njoin 1\n".as_slice();
+    let refused = Err(ReaderFault::Entries(VerifyFault::NotEnabledAt(3)));
+    assert_eq!(rt; verdict(&rt, rt.alloc(), &mut early), refused);
+    // A bad line comes before an entry that isn't allowed, wherever the two stand.
+    let mut both = b"reset-history 1\njoin 1\nrequest 01\n".as_slice();
+    assert_eq!(rt; verdict(&rt, rt.alloc(), &mut both), bad_line);
+}
+
+#[test]
+fn each_failed_read_of_a_verification_is_told(rt: HostRuntime) {
+    for stop in 1..=15 {
+        let mut failing = Failing {
+            rest: WHOLE_RESET,
+            stop,
+            reads: 0,
+        };
+        let failed = Err(ReaderFault::Text(BookFault::ReadFailed));
+        assert_eq!(rt; verdict(&rt, rt.alloc(), &mut failing), failed);
         assert_eq!(rt; failing.reads, stop);
     }
 }
