@@ -11,3 +11,5 @@ mod StretchRuns
 mod SoundStretches
 mod TrueReports
 mod ReportOrder
+pub mod FirstRefused
+mod Verdicts

@@ -1,8 +1,9 @@
 -- What a history's text comes to: what its entries tell, or why it is none.
-use Rattle.std.specs.Prelude.{◌≡◌, ℕ, ⊤, List, length, IsSome, Option, Result, Ok, Err}
+use Rattle.std.specs.Prelude.{◌≡◌, ℕ, ⊤, List, length, IsSome, Option, Some, None, Result, Ok, Err}
 use Rattle.app_interface.specs.Application.{App}
 use Rattle.reset_model.specs.Configuration.{Configuration}
 use Rattle.history.specs.declared.entry.Entry.{Entry}
+use Rattle.history.specs.declared.entry.Report.{Report}
 use Rattle.history.specs.declared.entry.Summary.{Summary}
 use Rattle.history.specs.declared.entry.VerifyFault.TheVariants.{NotEnabledAt}
 use Rattle.history.specs.declared.entry.VerifyFault.TheVariants as verify
@@ -33,3 +34,12 @@ IsVerdict app from_text c text (Err (reader.Entries verify.NoMemory)) = ⊤
 IsVerdict app from_text c text (Err (reader.Text book.NoMemory)) = ⊤
 IsVerdict app from_text c text (Err (reader.Text book.ReadFailed)) = ⊤
 IsVerdict app from_text c text (Err (reader.Text f)) = IsReadAs text (Err f)
+
+-- what an answer tells: how many entries there are, and their reports, or the fault. Want of memory, and a reader
+-- that failed, tell nothing of a text
+abbrev pub verdict_of : Result Summary ReaderFault → Option (Result (ℕ × List Report) ReaderFault)
+verdict_of (Ok s) = Some (Ok (s.entries, s.reports.items))
+verdict_of (Err (reader.Entries verify.NoMemory)) = None
+verdict_of (Err (reader.Text book.NoMemory)) = None
+verdict_of (Err (reader.Text book.ReadFailed)) = None
+verdict_of (Err fault) = Some (Err fault)

@@ -1,9 +1,13 @@
 // Whether entries are a history.
 
-ghost use Rattle.std.specs.Prelude.{◌≡◌, length, IfOk, IfErr, IfSome, IsSome, ℕ};
+ghost use Rattle.std.specs.Prelude.{◌≡◌, length, IfOk, IfErr, IfSome, IsSome, List, Some, Result, ℕ};
+ghost use Rattle.reset_model.specs.Configuration.{Configuration};
+ghost use Rattle.history.specs.declared.entry.Report.{Report};
+ghost use Rattle.history.specs.declared.entry.Summary.{Summary};
+ghost use Rattle.history.specs.declared.verification.ReaderFault.{ReaderFault};
 ghost use Rattle.history.specs.Entries.{IsFirstRefused, replayed};
 ghost use Rattle.history.specs.Reports.{reports_of};
-ghost use Rattle.history.specs.Verdict.{IsVerdict};
+ghost use Rattle.history.specs.Verdict.{IsVerdict, verdict_of};
 
 use crate::entry::{Entry, Summary, VerifyFault};
 use crate::player::Player;
@@ -22,6 +26,14 @@ pub enum ReaderFault {
     /// An entry isn't allowed where it stands, or memory is wanting.
     Entries(VerifyFault),
 }
+
+/// Whoever reads a text from an opening, and however often: no two answers tell different things.
+pub fn one_verdict_a_text<P: Application>()
+    ensures { (c : Configuration P.Local) (text : List ℕ) (r s : Result Summary ReaderFault)
+        (v w : Result (ℕ × List Report) ReaderFault)
+        → IsVerdict P.app P.from_text c text r → IsVerdict P.app P.from_text c text s
+        → verdict_of r ≡ Some v → verdict_of s ≡ Some w → v ≡ w }
+{}
 
 /// Reads a history to its end, and then plays its entries from the opening, and tells what they come to. A
 /// fault of the text comes before an entry that isn't allowed, wherever the two stand.
