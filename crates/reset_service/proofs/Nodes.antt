@@ -20,7 +20,7 @@ use Rattle.reset_model.proofs.Places.{Contains-position, list_any-position}
 use Rattle.app_interface.specs.Application.{App}
 use Rattle.link_predicates.specs.Faults.{alarm_of, faults, node_faults}
 use Rattle.link_predicates.specs.declared.fault.LinkFault.{LinkFault}
-use Rattle.reset_service.specs.Lines.{ended}
+use Rattle.history.specs.HistoryText.{ended}
 use Rattle.reset_service.specs.Meaning.{Meaning}
 use Rattle.reset_model.specs.Refinement.{has_joined}
 use Rattle.reset_service.specs.Output.{after_alarm, alarm_line, alarm_text, at_node, enabled_line, faults_status}

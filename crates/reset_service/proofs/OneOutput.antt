@@ -13,7 +13,8 @@ use Rattle.topology.specs.declared.text.ReadFault.{ReadFault}
 use Rattle.topology.specs.declared.text.ReadFault.TheVariants.{Topology}
 use Rattle.topology.proofs.OneResult.{one_first_fault, one_graph}
 use Rattle.reset_model.proofs.OneBoot.{one_boot}
-use Rattle.reset_service.specs.Lines.{HasNoSeparator, IsCut, ended, lines_of, separator}
+use Rattle.history.specs.HistoryText.{ended}
+use Rattle.reset_service.specs.Lines.{HasNoSeparator, IsCut, lines_of, separator}
 use Rattle.reset_service.specs.Lines.IsCut.{at_separator, topology_alone}
 use Rattle.reset_service.specs.Meaning.{Meaning, idle_meaning, token_meaning, mutex_meaning, routes_meaning}
 use Rattle.reset_service.specs.Output.{Describes, IsJoinedOutput, IsJudged, IsOutput, IsReplay, IsReplayOf}

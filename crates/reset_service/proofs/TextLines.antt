@@ -12,7 +12,8 @@ use Rattle.std.proofs.lemmas.List.Splits.{slice_split_none, slice_split_first, l
 use Rattle.std.proofs.lemmas.List.Splits.{join_with_byte-slice_split}
 use Rattle.std.proofs.lemmas.List.Sums.{fails_before_first, position_or_len_is}
 use Rattle.memchr.specs.Find.{is_byte, IsFirstByte}
-use Rattle.reset_service.specs.Lines.{is_line_feed, lines_of, ended, separator, HasNoSeparator}
+use Rattle.history.specs.HistoryText.{ended}
+use Rattle.reset_service.specs.Lines.{is_line_feed, lines_of, separator, HasNoSeparator}
 
 some_at : (b : Bool) (n i : ℕ) → cond b (Some n) None ≡ Some i → (b ≡ true) × (n ≡ i)
 some_at true n i h = (refl, cc)

@@ -1,8 +1,7 @@
 -- What a verification leaves, and that it writes one thing.
 use Rattle.std.proofs.Common.{◌≡◌, ◌≢◌, ◌+◌, ℕ, suc, List, [], ◌∷◌, ◌++◌, Option, Some, None, Result, Ok, Err, IfSome}
-use Rattle.std.proofs.Common.{IsSome, length, refl, sym, ap, ◌∙◌, subst, inl}
+use Rattle.std.proofs.Common.{IsSome, length, refl, sym, ap, ap₂, ◌∙◌, subst}
 use Rattle.std.specs.Option.{option_and_then}
-use Rattle.std.proofs.KnownBytes.{Keeps-refl}
 use Rattle.topology.specs.Graph.{Graph}
 use Rattle.topology.specs.declared.text.AppName.{AppName}
 use Rattle.topology.specs.declared.text.AppName.TheVariants.{Idle, Token, Mutex, Routes}
@@ -11,18 +10,24 @@ use Rattle.reset_model.specs.Configuration.{Configuration}
 use Rattle.reset_model.proofs.OneBoot.{one_boot}
 use Rattle.history.specs.Entries.{IsFirstRefused, entered, replayed}
 use Rattle.history.specs.HistoryText.{IsReadAs}
+use Rattle.history.specs.Reports.{reports_of}
+use Rattle.history.specs.Verdict.{IsVerdict}
 use Rattle.history.specs.declared.entry.Entry.{Entry}
+use Rattle.history.specs.declared.entry.Summary.{Summary}
+use Rattle.history.specs.declared.entry.VerifyFault.TheVariants.{NotEnabledAt}
 use Rattle.history.specs.declared.text.BookFault.{BookFault}
+use Rattle.history.specs.declared.text.BookFault.TheVariants.{BadLine, BadVersion, TooLong}
+use Rattle.history.specs.declared.text.BookFault.TheVariants as book
+use Rattle.history.specs.declared.verification.ReaderFault.{ReaderFault}
+use Rattle.history.specs.declared.verification.ReaderFault.TheVariants.{Entries, Text}
 use Rattle.reset_service.specs.Meaning.{Meaning, idle_meaning, token_meaning, mutex_meaning, routes_meaning}
 use Rattle.reset_service.specs.Output.{Leaves}
-use Rattle.reset_service.specs.Verified.{IsAnswered, IsVerification, IsVerified, IsVerifiedFrom, IsVerifiedOf}
-use Rattle.reset_service.specs.Verified.{bad_history_text, not_enabled_text}
-use Rattle.reset_service.specs.Verified.IsAnswered.{not_enabled, allowed}
-use Rattle.reset_service.specs.Verified.IsVerified.{bad_history, is_history}
+use Rattle.reset_service.specs.Verified.{IsVerification, IsVerified, IsVerifiedFrom, IsVerifiedOf}
+use Rattle.reset_service.specs.Verified.{bad_history_text, not_enabled_text, verified_text}
+use Rattle.reset_service.specs.Verified.IsVerified.{allowed, bad_history, not_enabled}
 use Rattle.reset_service.specs.declared.status.Status.{Status}
-use Rattle.reset_service.specs.declared.status.Status.TheVariants.{BadInput, NotEnabled}
+use Rattle.reset_service.specs.declared.status.Status.TheVariants.{BadInput, Good, NotEnabled}
 use Rattle.reset_service.specs.declared.status.RunStop.{RunStop}
-use Rattle.reset_service.specs.declared.status.RunStop.TheVariants.{ReadFailed, WriteFailed, NoMemory}
 use Rattle.reset_service.proofs.Runs.{leaves_weaker}
 use Rattle.reset_service.proofs.OneOutput.{one_judged}
 
@@ -54,14 +59,28 @@ pub known_anyway : (known : Option (List ℕ)) (O : Output → Type 0) (P : List
 known_anyway None O P old new r f left = tt
 known_anyway (Some text) O P old new r f left = leaves_weaker O (P text) old new r (f text) left
 
--- before anything was written
-pub known_unread : (known : Option (List ℕ)) (P : List ℕ → Output → Type 0) (a : Option (List ℕ)) (s : RunStop)
-    → s ≢ WriteFailed
-    → IfSome known (λ text. Leaves (P text) a a (Err s))
-known_unread None P a s other = tt
-known_unread (Some text) P a ReadFailed other = Keeps-refl a
-known_unread (Some text) P a WriteFailed other = absurd (other refl)
-known_unread (Some text) P a NoMemory other = inl (Keeps-refl a)
+-- ---- what a verdict is answered with
+
+module _ {L : Type 0} (m : Meaning L) (c : Configuration L) (text : List ℕ) where
+  abbrev IsVerdictHere : Result Summary ReaderFault → Type 0
+  IsVerdictHere = IsVerdict m.app m.from_text c text
+
+  pub of_summary : (s : Summary) (o : Output) → IsVerdictHere (Ok s)
+      → o ≡ (verified_text s.entries s.reports.items, Good) → IsVerified m c text o
+  of_summary s o (es, read, sum) is =
+      allowed es read sum.allowed (is ∙ ap₂ (λ n rs. (verified_text n rs, Good)) sum.entries sum.reports)
+
+  pub of_refused : (position : ℕ) (o : Output) → IsVerdictHere (Err (Entries (NotEnabledAt position)))
+      → o ≡ (not_enabled_text position, NotEnabled) → IsVerified m c text o
+  of_refused position o (es, read, first) is = not_enabled es position read first is
+
+  pub of_no_history : (f : BookFault) (o : Output) → f ≢ book.NoMemory → f ≢ book.ReadFailed
+      → IsVerdictHere (Err (Text f)) → o ≡ (bad_history_text f, BadInput) → IsVerified m c text o
+  of_no_history (BadLine n) o memory device bad is = bad_history (BadLine n) bad is
+  of_no_history BadVersion o memory device bad is = bad_history BadVersion bad is
+  of_no_history TooLong o memory device bad is = bad_history TooLong bad is
+  of_no_history book.NoMemory o memory device bad is = absurd (memory refl)
+  of_no_history book.ReadFailed o memory device bad is = absurd (device refl)
 
 -- ---- one thing is written
 
@@ -157,32 +176,44 @@ abbrev pub OneReading : Type 0
 OneReading = (text : List ℕ) (r s : Result (List Entry) BookFault) → IsReadAs text r → IsReadAs text s → r ≡ s
 
 module _ (one_reading : OneReading) {L : Type 0} (m : Meaning L) where
-  one_answer : (c : Configuration L) (es : List Entry) (o p : Output) → IsAnswered m c es o → IsAnswered m c es p
-      → o ≡ p
-  one_answer c es o p (not_enabled n first is) (not_enabled k other is') =
-      is ∙ ap (λ x. (not_enabled_text x, NotEnabled)) (one_refused m.app m.from_text c es n k first other) ∙ sym is'
-  one_answer c es o p (not_enabled n first is) (allowed some is') =
-      absurd (not_both m.app m.from_text c es n first some)
-  one_answer c es o p (allowed some is) (not_enabled n first is') =
-      absurd (not_both m.app m.from_text c es n first some)
-  one_answer c es o p (allowed some is) (allowed other is') = is ∙ sym is'
+  one_history : (text : List ℕ) (es ds : List Entry) → IsReadAs text (Ok es) → IsReadAs text (Ok ds) → es ≡ ds
+  one_history text es ds read other = let same : Ok es ≡ Ok ds = one_reading text (Ok es) (Ok ds) read other in cc
 
   bad_or_read : (text : List ℕ) (f : BookFault) (es : List Entry) → IsReadAs text (Err f) → IsReadAs text (Ok es) → ⊥
   bad_or_read text f es bad read = let same : Err f ≡ Ok es = one_reading text (Err f) (Ok es) bad read in absurd (cc)
+
+  refused_or_all : (c : Configuration L) (text : List ℕ) (es ds : List Entry) (n : ℕ) → IsReadAs text (Ok es)
+      → IsReadAs text (Ok ds) → IsFirstRefused m.app m.from_text c es n → IsSome (replayed m.app m.from_text c ds) → ⊥
+  refused_or_all c text es ds n read other first some =
+      let entries : ds ≡ es = one_history text ds es other read in
+      not_both m.app m.from_text c es n first (subst (λ xs. IsSome (replayed m.app m.from_text c xs)) entries some)
 
   one_verified : (c : Configuration L) (history : List ℕ) (o p : Output) → IsVerified m c history o
       → IsVerified m c history p → o ≡ p
   one_verified c history o p (bad_history f bad is) (bad_history e other is') =
       let same : Err f ≡ Err e = one_reading history (Err f) (Err e) bad other in
       let fault : f ≡ e = cc in is ∙ ap (λ x. (bad_history_text x, BadInput)) fault ∙ sym is'
-  one_verified c history o p (bad_history f bad is) (is_history es read answered) =
+  one_verified c history o p (bad_history f bad is) (not_enabled es n read first is') =
       absurd (bad_or_read history f es bad read)
-  one_verified c history o p (is_history es read answered) (bad_history f bad is) =
+  one_verified c history o p (bad_history f bad is) (allowed es read some is') =
       absurd (bad_or_read history f es bad read)
-  one_verified c history o p (is_history es read answered) (is_history ds other answered') =
-      let same : Ok es ≡ Ok ds = one_reading history (Ok es) (Ok ds) read other in
-      let entries : es ≡ ds = cc in
-      one_answer c ds o p (subst (λ xs. IsAnswered m c xs o) entries answered) answered'
+  one_verified c history o p (not_enabled es n read first is) (bad_history f bad is') =
+      absurd (bad_or_read history f es bad read)
+  one_verified c history o p (not_enabled es n read first is) (not_enabled ds k other second is') =
+      let entries : es ≡ ds = one_history history es ds read other in
+      let same : n ≡ k =
+      one_refused m.app m.from_text c ds n k (subst (λ xs. IsFirstRefused m.app m.from_text c xs n) entries first)
+      second in
+      is ∙ ap (λ x. (not_enabled_text x, NotEnabled)) same ∙ sym is'
+  one_verified c history o p (not_enabled es n read first is) (allowed ds other some is') =
+      absurd (refused_or_all c history es ds n read other first some)
+  one_verified c history o p (allowed es read some is) (bad_history f bad is') =
+      absurd (bad_or_read history f es bad read)
+  one_verified c history o p (allowed es read some is) (not_enabled ds n other first is') =
+      absurd (refused_or_all c history ds es n other read first some)
+  one_verified c history o p (allowed es read some is) (allowed ds other every is') =
+      let entries : es ≡ ds = one_history history es ds read other in
+      is ∙ ap (λ xs. (verified_text (length xs) (reports_of m.app m.from_text c xs), Good)) entries ∙ sym is'
 
   one_from : (g : Graph) (history : List ℕ) (o p : Output) → IsVerifiedFrom m g history o → IsVerifiedFrom m g history p
       → o ≡ p

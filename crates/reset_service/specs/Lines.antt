@@ -1,6 +1,7 @@
 -- The lines of a text.
 use Rattle.std.specs.Prelude.{◌≡◌, ◌≢◌, ℕ, Bool, ◌==◌, List, [], ◌∷◌, ◌++◌, codes, take, All, Option, IfSome}
 use Rattle.std.specs.List.{flat_map, join_with_byte, slice_split}
+use Rattle.history.specs.HistoryText.{ended}
 
 abbrev pub is_line_feed : ℕ → Bool
 is_line_feed byte = byte == 10
@@ -8,10 +9,6 @@ is_line_feed byte = byte == 10
 -- what stands before, between and after the line feeds of a text
 abbrev pub lines_of : List ℕ → List (List ℕ)
 lines_of text = slice_split is_line_feed text
-
--- a text with its line feed
-abbrev pub ended : List ℕ → List ℕ
-ended text = text ++ (10 ∷ [])
 
 -- the line that ends the topology of a joined text
 abbrev pub separator : List ℕ

@@ -46,7 +46,8 @@ use Rattle.reset_machine.specs.declared.enabled.Enabled.{Enabled}
 use Rattle.action_tables.specs.Numbers.{is_among}
 use Rattle.action_tables.specs.RowText.{set_text}
 use Rattle.action_tables.specs.Written.{AppendsFront}
-use Rattle.reset_service.specs.Lines.{ended, lines_of, IsCut}
+use Rattle.history.specs.HistoryText.{ended}
+use Rattle.reset_service.specs.Lines.{lines_of, IsCut}
 use Rattle.reset_service.specs.Meaning.{Meaning, idle_meaning, token_meaning, mutex_meaning, routes_meaning}
 use Rattle.reset_service.specs.Script.{line_of}
 use Rattle.reset_service.specs.declared.script.Command.{Command}

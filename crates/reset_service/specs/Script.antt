@@ -11,8 +11,8 @@ use Rattle.app_interface.specs.FromText.{number_of}
 use Rattle.reset_model.specs.EventText.{event_words, neighbour_words, Fits}
 use Rattle.reset_model.specs.Words.{words_of}
 use Rattle.fault_inject.specs.FaultText as fault
-use Rattle.fault_inject.specs.declared.fault.Fault.{Fault}
 use Rattle.fault_inject.specs.declared.fault.Fault.TheVariants.{SetTree, SetWave, SetLocal, LinkDown, LinkUp}
+use Rattle.history.specs.HistoryText.{IsPrintable}
 use Rattle.wave_layer.specs.declared.regs.Phase.TheVariants.{Normal, Initiate, Reset}
 use Rattle.reset_model.specs.declared.event.Event.TheVariants.{Claim, Follow, Adopt, Request, Relay, Open, Join, Finish}
 use Rattle.reset_model.specs.declared.event.Event.TheVariants.{Mend, Act}
@@ -47,14 +47,6 @@ AsksAbout at words =
 -- the one line of a command with its case, if it has one, by number: its words, with a space between each two
 abbrev pub command_line : Command → List ℕ
 command_line command = join_with_byte 32 (command_words command)
-
--- the text of a fault that puts a local state has only the bytes 33 to 126
-abbrev pub IsPrintable : Fault → Type 0
-IsPrintable (SetTree at regs) = Unit {0}
-IsPrintable (SetWave at regs) = Unit {0}
-IsPrintable (SetLocal at text) = IsTrue (list_all is_ascii_graphic text)
-IsPrintable (LinkDown a b) = Unit {0}
-IsPrintable (LinkUp a b) = Unit {0}
 
 -- the numbers of a command are those of 32 bits, that of a case is one of 8 bits, and a text is one word
 abbrev pub CommandFits : Command → Type 0

@@ -1,5 +1,5 @@
 -- What a verification of a history writes.
-use Rattle.std.specs.Prelude.{◌≡◌, ℕ, List, [], ◌∷◌, ◌++◌, length, codes, Option, Some, None, IsSome, Ok, Err}
+use Rattle.std.specs.Prelude.{◌≡◌, ℕ, List, [], ◌∷◌, ◌++◌, length, codes, All, Option, Some, None, IsSome, Ok, Err}
 use Rattle.std.specs.Fmt.{decimal}
 use Rattle.std.specs.List.{concat, flat_map}
 use Rattle.topology.specs.Graph.{Graph}
@@ -7,14 +7,15 @@ use Rattle.topology.specs.declared.text.AppName.{AppName}
 use Rattle.topology.specs.declared.text.AppName.TheVariants.{Idle, Token, Mutex, Routes}
 use Rattle.reset_model.specs.Configuration.{Configuration}
 use Rattle.reset_model.specs.Outcome.{IsBoot}
+use Rattle.reset_model.specs.Sound.{IsSound}
 use Rattle.history.specs.Entries.{IsFirstRefused, replayed}
-use Rattle.history.specs.HistoryText.{IsReadAs}
+use Rattle.history.specs.HistoryText.{IsReadAs, ended}
 use Rattle.history.specs.Reports.{reports_of}
+use Rattle.history.specs.Stretches.{IsIn, IsStretch, IsTrueReport, Stretch}
 use Rattle.history.specs.declared.entry.Entry.{Entry}
 use Rattle.history.specs.declared.entry.Report.{Report}
 use Rattle.history.specs.declared.text.BookFault.{BookFault}
 use Rattle.history.specs.declared.text.BookFault.TheVariants.{BadLine, BadVersion, TooLong, NoMemory, ReadFailed}
-use Rattle.reset_service.specs.Lines.{ended}
 use Rattle.reset_service.specs.Meaning.{Meaning, idle_meaning, token_meaning, mutex_meaning, routes_meaning}
 use Rattle.reset_service.specs.Output.{IsJudged, numbered}
 use Rattle.reset_service.specs.declared.status.Status.{Status}
@@ -56,21 +57,18 @@ bad_history_text ReadFailed = ended (codes "bad history ReadFailed")
 
 -- ---- the output of texts
 
--- what entries are answered with from a configuration on, and the status
-pub data IsAnswered {L : Type 0} (m : Meaning L) (c : Configuration L) (es : List Entry) (output : List ℕ × Status) :
-    Type 0 where
-  not_enabled : (position : ℕ) → IsFirstRefused m.app m.from_text c es position
-      → output ≡ (not_enabled_text position, NotEnabled)
-      → IsAnswered m c es output
-  allowed : IsSome (replayed m.app m.from_text c es)
-      → output ≡ (verified_text (length es) (reports_of m.app m.from_text c es), Good) → IsAnswered m c es output
-
--- what a text is answered with: it is read to its end, or to its first bad line, before an entry is judged
+-- what the text of a history that opens so is answered with, and the status: it is read to its end, or to its first bad
+-- line, before an entry is judged
 pub data IsVerified {L : Type 0} (m : Meaning L) (c : Configuration L) (history : List ℕ) (output : List ℕ × Status) :
     Type 0 where
   bad_history : (f : BookFault) → IsReadAs history (Err f) → output ≡ (bad_history_text f, BadInput)
       → IsVerified m c history output
-  is_history : (es : List Entry) → IsReadAs history (Ok es) → IsAnswered m c es output → IsVerified m c history output
+  not_enabled : (es : List Entry) (position : ℕ) → IsReadAs history (Ok es)
+      → IsFirstRefused m.app m.from_text c es position → output ≡ (not_enabled_text position, NotEnabled)
+      → IsVerified m c history output
+  allowed : (es : List Entry) → IsReadAs history (Ok es) → IsSome (replayed m.app m.from_text c es)
+      → output ≡ (verified_text (length es) (reports_of m.app m.from_text c es), Good)
+      → IsVerified m c history output
 
 -- the same from the booted configuration of a graph
 abbrev pub IsVerifiedFrom : {L : Type 0} → Meaning L → Graph → List ℕ → List ℕ × Status → Type 0
@@ -86,3 +84,27 @@ IsVerifiedOf Routes = IsVerifiedFrom routes_meaning
 -- what a verification writes, and its status: the topology is judged before the history
 abbrev pub IsVerification : List ℕ → List ℕ → List ℕ × Status → Type 0
 IsVerification topology history = IsJudged (λ app g. IsVerifiedOf app g history) topology
+
+-- ---- what the reports mean
+
+-- what is written tells true reports of a history, from the booted configuration of a graph on: the history is that of
+-- entries each of which is allowed where it stands, and what is written are their reports. The booted registers are
+-- sound, and each report of a stretch that begins in sound registers is true
+pub record TellsTrueReports {L : Type 0} (m : Meaning L) (g : Graph) (history written : List ℕ) : Type 0 where
+  pub opening : Configuration L
+  pub entries : List Entry
+  pub booted : IsBoot m.app g opening
+  pub sound : IsSound opening
+  pub read : IsReadAs history (Ok entries)
+  pub allowed : IsSome (replayed m.app m.from_text opening entries)
+  pub reported : written ≡ verified_text (length entries) (reports_of m.app m.from_text opening entries)
+  pub true_reports : (s : Stretch L) → IsStretch m.app m.from_text opening entries s → IsSound s.here
+      → All (λ r. IsIn s r.finished → IsTrueReport m.app m.from_text opening entries s r)
+      (reports_of m.app m.from_text opening entries)
+
+-- the same for the application of a name
+abbrev pub TellsTrueReportsOf : AppName → Graph → List ℕ → List ℕ → Type 0
+TellsTrueReportsOf Idle = TellsTrueReports idle_meaning
+TellsTrueReportsOf Token = TellsTrueReports token_meaning
+TellsTrueReportsOf Mutex = TellsTrueReports mutex_meaning
+TellsTrueReportsOf Routes = TellsTrueReports routes_meaning

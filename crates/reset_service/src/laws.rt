@@ -1,18 +1,22 @@
 // Laws of what a run writes, and of what its lines leave.
 
 ghost use Rattle.std.specs.Prelude.{◌≡◌, ℕ, List};
-ghost use Rattle.topology.specs.Graph.{IsConnected, IsGraph};
+ghost use Rattle.topology.specs.Graph.{Graph, IsConnected, IsGraph};
+ghost use Rattle.topology.specs.declared.text.AppName.{AppName};
 ghost use Rattle.reset_model.specs.Configuration.{Configuration, IsShaped};
 ghost use Rattle.reset_model.specs.Sound.{IsSound};
 ghost use Rattle.reset_service.specs.Meaning.{meaning_of};
-ghost use Rattle.reset_service.specs.Output.{IsJoinedOutput, IsOutput};
+ghost use Rattle.reset_service.specs.Output.{Describes, IsJoinedOutput, IsOutput};
 ghost use Rattle.reset_service.specs.Stretches.{AreUndisturbed, MakeRun, MakeSoundRun};
-ghost use Rattle.reset_service.specs.Verified.{IsVerification};
+ghost use Rattle.reset_service.specs.Verified.{IsVerification, TellsTrueReportsOf};
 ghost use Rattle.reset_service.specs.declared.status.Purpose.{Purpose};
 ghost use Rattle.reset_service.specs.declared.status.Status.{Status};
 
-use app_interface::Application;
-use history::one_reading_a_text;
+use app_interface::{Application, Idle};
+use app_mutex::EdgeReversal;
+use app_routes::Routes;
+use app_token::Token;
+use history::{one_reading_a_text, reports_are_true};
 use reset_machine::{completions, invariants, refinement, runs_stay_sound};
 
 /// A topology and a script have at most one output, status included.
@@ -32,6 +36,20 @@ pub fn one_verification()
         → IsVerification topology history o → IsVerification topology history p → o ≡ p }
 {
     one_reading_a_text();
+}
+
+/// What a verification that ends well means. Its topology describes a graph and names an application; its
+/// history is that of entries each of which is allowed where it stands, from the booted configuration on;
+/// and it writes the reports of these entries. The booted registers are sound, and so the entries before
+/// the first fault are a stretch that begins in sound registers. Each report of such a stretch is true.
+pub fn verified_reports_are_true()
+    ensures { (topology history written : List ℕ) → IsVerification topology history (written, Status.Good)
+        → (g : Graph) × (app : AppName) × Describes topology g app × TellsTrueReportsOf app g history written }
+{
+    reports_are_true::<Idle>();
+    reports_are_true::<Token>();
+    reports_are_true::<EdgeReversal>();
+    reports_are_true::<Routes>();
 }
 
 /// Between two faults the lines of a script make a run happen: whatever the configuration, lines of which

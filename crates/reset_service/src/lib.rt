@@ -22,7 +22,9 @@ mod words;
 
 pub use gather::Gathered;
 pub use input::{READ_LIMIT, read_text};
-pub use laws::{one_joined_output, one_output, one_verification, stretches_are_runs};
+pub use laws::{
+    one_joined_output, one_output, one_verification, stretches_are_runs, verified_reports_are_true,
+};
 pub use replays::{check_text, replay, replay_joined, replay_text};
 pub use status::{RunStop, Status};
 pub use tables::print_tables;

@@ -1,10 +1,9 @@
 // The lines of a script.
 
 ghost use Rattle.std.specs.Prelude.{◌≡◌, ℕ, ◌<◌, ◌^◌, ◌⊎◌, [], ◌∷◌, List, Option, option_map, IsTrue, IfOk, IfSome};
-ghost use Rattle.std.specs.Prelude.{IfNone, OnErr, ◌↔◌};
+ghost use Rattle.std.specs.Prelude.{IfNone, OnErr};
 ghost use Rattle.std.specs.Fmt.{decimal};
-ghost use Rattle.std.specs.Char.{is_ascii_graphic};
-ghost use Rattle.std.specs.List.{join_with_byte, list_all};
+ghost use Rattle.std.specs.List.{join_with_byte};
 ghost use Rattle.reset_model.specs.EventText.{Fits, neighbour_words};
 ghost use Rattle.reset_model.specs.Words.{words_of};
 ghost use Rattle.reset_model.specs.declared.event.Event.TheVariants.{Act};
@@ -12,13 +11,14 @@ ghost use Rattle.fault_inject.specs.FaultText.{IsLocalFault, fault_line};
 ghost use Rattle.fault_inject.specs.declared.fault.Fault.{Fault};
 ghost use Rattle.reset_service.specs.declared.script.Command.{Command};
 ghost use Rattle.reset_service.specs.declared.script.Command.TheVariants.{Inject, Step};
-ghost use Rattle.reset_service.specs.Script.{AsksAbout, CommandFits, IsPlain, IsPrintable, Spells, case_named};
+ghost use Rattle.reset_service.specs.Script.{AsksAbout, CommandFits, IsPlain, Spells, case_named};
 ghost use Rattle.reset_service.specs.Script.{command_line, command_words, command_of, is_called, is_name, is_silent};
 ghost use Rattle.reset_service.specs.Script.{line_of, named_words};
 
 use action_tables::read_number;
 use app_interface::Application;
 use fault_inject::{Fault, read_fault};
+use history::{is_graphic, is_printable};
 use reset_machine::{Event, event_of, split_word, word_and_neighbour};
 use std::alloc::{AllocError, Global};
 
@@ -133,16 +133,6 @@ fn read_injected(alloc: Global, line: &[u8]) -> Result<Option<Command>, AllocErr
     Ok(Some(Command::Inject(fault)))
 }
 
-// Whether the text of a local state, where the fault has one, may stand in a line.
-fn is_printable(fault: &Fault) -> bool
-    ensures { IsTrue result ↔ IsPrintable fault.now }
-{
-    match fault {
-        Fault::SetLocal { text, .. } => is_graphic(text.as_bytes()),
-        _ => true,
-    }
-}
-
 // The action that a line stands for which has a name for its case.
 fn read_named<P: Application>(line: &[u8]) -> Option<Event>
     ensures found { IfSome result (λ e. Spells P.names line.now (Step e)) }
@@ -169,12 +159,6 @@ fn is_name(word: &[u8]) -> bool
     ensures { result ≡ is_name word.now }
 {
     matches!(word, [first, ..] if first.is_ascii_alphabetic()) && is_graphic(word)
-}
-
-fn is_graphic(word: &[u8]) -> bool
-    ensures { result ≡ list_all is_ascii_graphic word.now }
-{
-    word.iter().all(u8::is_ascii_graphic)
 }
 
 // The case that this word names, if it names one.

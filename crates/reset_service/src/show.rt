@@ -6,7 +6,7 @@ ghost use Rattle.std.specs.Io.KnownBytes.{Appends};
 ghost use Rattle.action_tables.specs.Written.{AppendsFront};
 ghost use Rattle.topology.specs.Graph.{IsNode};
 ghost use Rattle.reset_model.specs.Configuration.{local_of, tree_of, wave_of};
-ghost use Rattle.reset_service.specs.Lines.{ended};
+ghost use Rattle.history.specs.HistoryText.{ended};
 ghost use Rattle.reset_service.specs.Meaning.{meaning_of};
 ghost use Rattle.reset_service.specs.Output.{at_node, newest_head, newest_line, node_head, shown};
 

@@ -9,7 +9,7 @@ ghost use Rattle.action_tables.specs.Written.{AppendsFront};
 ghost use Rattle.reset_service.specs.Meaning.{meaning_of};
 ghost use Rattle.reset_service.specs.Output.{Leaves};
 ghost use Rattle.reset_service.specs.Verified.{bad_history_text, counts_line, not_enabled_text, position_text};
-ghost use Rattle.reset_service.specs.Verified.{report_line, verified_text, IsAnswered, IsVerification, IsVerified};
+ghost use Rattle.reset_service.specs.Verified.{report_line, verified_text, IsVerification, IsVerified};
 ghost use Rattle.reset_service.specs.Verified.{IsVerifiedFrom, IsVerifiedOf};
 
 use crate::answer::put_numbered;
@@ -20,7 +20,7 @@ use app_interface::{Application, Idle};
 use app_mutex::EdgeReversal;
 use app_routes::Routes;
 use app_token::Token;
-use history::{BookFault, Entry, Report, VerifyFault, read_book, verify};
+use history::{BookFault, ReaderFault, Report, Summary, VerifyFault, verify_reader};
 use reset_machine::Config;
 use std::alloc::Global;
 use std::io::{Read, Write};
@@ -98,11 +98,15 @@ fn verify_from<P: Application, R: Read, W: Write>(
         (W.contents out.new) result) }
     ensures unread { result ≡ Err RunStop.ReadFailed → Keeps (W.contents out.old) (W.contents out.new) }
 {
-    match read_book(alloc, history) {
-        Ok(entries) => answer_entries(alloc, opening, &entries, out),
-        Err(BookFault::NoMemory) => Err(RunStop::NoMemory),
-        Err(BookFault::ReadFailed) => Err(RunStop::ReadFailed),
-        Err(fault) => refuse_history(fault, out),
+    match verify_reader(alloc, opening, history) {
+        Ok(summary) => answer_summary(&summary, out),
+        Err(ReaderFault::Text(BookFault::NoMemory)) => Err(RunStop::NoMemory),
+        Err(ReaderFault::Text(BookFault::ReadFailed)) => Err(RunStop::ReadFailed),
+        Err(ReaderFault::Text(fault)) => refuse_history(fault, out),
+        Err(ReaderFault::Entries(VerifyFault::NotEnabledAt(position))) => {
+            refuse_entry(position, out)
+        }
+        Err(ReaderFault::Entries(VerifyFault::NoMemory)) => Err(RunStop::NoMemory),
     }
 }
 
@@ -116,28 +120,25 @@ fn refuse_history<W: Write>(fault: BookFault, out: &mut W) -> Result<Status, Run
     Ok(Status::BadInput)
 }
 
-// Answers entries: what they report, or the first that isn't allowed where it stands.
-fn answer_entries<P: Application, W: Write>(
-    alloc: Global,
-    opening: Config<P>,
-    entries: &[Entry],
-    out: &mut W,
-) -> Result<Status, RunStop>
-    ensures leaves { Leaves (IsAnswered (meaning_of P.app P.text P.from_text P.names) opening entries.now)
+// Answers a history by the position of its first entry that isn't allowed where it stands.
+fn refuse_entry<W: Write>(position: usize, out: &mut W) -> Result<Status, RunStop>
+    ensures leaves { Leaves (λ output. output ≡ (not_enabled_text position, Status.NotEnabled)) (W.contents out.old)
+        (W.contents out.new) result }
+    ensures stop { IfErr result (λ stop. stop ≢ RunStop.ReadFailed) }
+{
+    put_not_enabled(out, position)?;
+    Ok(Status::NotEnabled)
+}
+
+// Answers a history by what it comes to.
+fn answer_summary<W: Write>(summary: &Summary, out: &mut W) -> Result<Status, RunStop>
+    ensures leaves { Leaves
+        (λ output. output ≡ (verified_text summary.now.entries summary.now.reports.items, Status.Good))
         (W.contents out.old) (W.contents out.new) result }
     ensures stop { IfErr result (λ stop. stop ≢ RunStop.ReadFailed) }
 {
-    match verify(alloc, opening, entries) {
-        Ok(summary) => {
-            put_summary(out, summary.entries, &summary.reports)?;
-            Ok(Status::Good)
-        }
-        Err(VerifyFault::NotEnabledAt(position)) => {
-            put_not_enabled(out, position)?;
-            Ok(Status::NotEnabled)
-        }
-        Err(VerifyFault::NoMemory) => Err(RunStop::NoMemory),
-    }
+    put_summary(out, summary.entries, &summary.reports)?;
+    Ok(Status::Good)
 }
 
 // Writes what a text that is no history is answered with.

@@ -1,6 +1,7 @@
 use Rattle.std.proofs.Common.{◌≡◌, ◌≢◌, [], ◌∷◌, ◌++◌, refl, sym, ap, ◌∙◌, subst, rules, List, ℕ}
 use Rattle.std.specs.List.{flat_map}
-use Rattle.reset_service.specs.Lines.{ended, lines_of, separator, HasNoSeparator}
+use Rattle.history.specs.HistoryText.{ended}
+use Rattle.reset_service.specs.Lines.{lines_of, separator, HasNoSeparator}
 use Rattle.reset_service.specs.Lines.IsCut.{at_separator, topology_alone}
 use Rattle.reset_service.proofs.TextLines.{joined_lines, no_separator_more, passed_lines, passed_text, text_before}
 use Rattle.reset_service.proofs.input.cut_joined.Goals as goal

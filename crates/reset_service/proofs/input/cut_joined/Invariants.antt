@@ -1,7 +1,8 @@
 -- The lines that were passed are none of them the separator.
 use Rattle.std.proofs.Common.{◌≡◌, ℕ, List, ◌++◌, length}
 use Rattle.std.specs.List.{flat_map}
-use Rattle.reset_service.specs.Lines.{lines_of, ended, HasNoSeparator}
+use Rattle.history.specs.HistoryText.{ended}
+use Rattle.reset_service.specs.Lines.{lines_of, HasNoSeparator}
 use Rattle.reset_service.proofs.input.cut_joined.Given as goal
 
 abbrev pub invariant-loop-line : goal.invariant-loop-line

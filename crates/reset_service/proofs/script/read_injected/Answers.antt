@@ -1,7 +1,7 @@
 use Rattle.std.proofs.Common.{◌≡◌, ◌∙◌, sym, subst, true≢false}
 use Rattle.fault_inject.proofs.FaultLines.{one_fault}
 use Rattle.fault_inject.specs.FaultText.{Fits, fault_line}
-use Rattle.reset_service.specs.Script.{IsPrintable}
+use Rattle.history.specs.HistoryText.{IsPrintable}
 use Rattle.reset_service.proofs.script.read_injected.Goals as goal
 
 pub returns-then-not-is_printable-clause-only : goal.returns-then-not-is_printable-clause-only

@@ -2,7 +2,7 @@ use Rattle.std.specs.Prelude.{codes}
 use Rattle.std.proofs.Common.{if◌then◌else◌, sym}
 use Rattle.action_tables.proofs.Fronts.{AppendsFront-first, OnErr-always, OnErr-then, OnOk-then}
 use Rattle.reset_model.specs.Configuration.{local_of}
-use Rattle.reset_service.specs.Lines.{ended}
+use Rattle.history.specs.HistoryText.{ended}
 use Rattle.reset_service.specs.Meaning.{meaning_of}
 use Rattle.reset_model.specs.Configuration.{wave_of}
 use Rattle.reset_model.specs.Refinement.{has_joined}

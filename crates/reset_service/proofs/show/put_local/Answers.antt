@@ -1,7 +1,7 @@
 use Rattle.std.specs.Prelude.{codes}
 use Rattle.std.proofs.Common.{refl}
 use Rattle.action_tables.proofs.Fronts.{AppendsFront-first, OnErr-always, OnErr-then}
-use Rattle.reset_service.specs.Lines.{ended}
+use Rattle.history.specs.HistoryText.{ended}
 use Rattle.reset_service.proofs.show.put_local.Goals as goal
 
 pub returns-in_err-show-clause-err : goal.returns-in_err-show-clause-err

@@ -1,7 +1,7 @@
 use Rattle.std.proofs.Common.{List, ℕ, subst, sym}
 use Rattle.action_tables.specs.Written.{AppendsFront}
 use Rattle.action_tables.proofs.Fronts.{AppendsFront-first, OnErr-always, OnErr-then}
-use Rattle.reset_service.specs.Lines.{ended}
+use Rattle.history.specs.HistoryText.{ended}
 use Rattle.reset_service.specs.Meaning.{meaning_of}
 use Rattle.reset_service.specs.Output.{node_head, shown}
 use Rattle.reset_service.proofs.Nodes.{shown_node, told_none}

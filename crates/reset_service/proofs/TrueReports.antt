@@ -1,0 +1,99 @@
+-- What a verification that ends well tells.
+use Rattle.std.proofs.Common.{◌≡◌, ℕ, List, All, length, sym, ap, subst, ◌∙◌}
+use Rattle.std.proofs.lemmas.List.{length-map, length-replicate}
+use Rattle.topology.specs.Graph.{Graph, IsConnected, IsGraph}
+use Rattle.topology.specs.declared.text.AppName.{AppName}
+use Rattle.topology.specs.declared.text.AppName.TheVariants.{Idle, Token, Mutex, Routes}
+use Rattle.reset_model.specs.Configuration.{Configuration, IsShaped}
+use Rattle.reset_model.specs.Outcome.{IsBoot}
+use Rattle.reset_model.specs.Sound.{IsSound}
+use Rattle.reset_model.proofs.SoundConfigurations.{boot_tree_picture, boot_wave_picture, pictures_sound}
+use Rattle.history.specs.Reports.{reports_of}
+use Rattle.history.specs.Stretches.{IsIn, IsStretch, IsTrueReport, Stretch}
+use Rattle.history.specs.declared.entry.Entry.{Entry}
+use Rattle.reset_service.specs.Meaning.{Meaning, idle_meaning, token_meaning, mutex_meaning, routes_meaning}
+use Rattle.reset_service.specs.Output.{Describes}
+use Rattle.reset_service.specs.Output.IsJudged.{bad_topology, good_topology}
+use Rattle.reset_service.specs.Verified.{IsVerification, IsVerified, IsVerifiedFrom, IsVerifiedOf}
+use Rattle.reset_service.specs.Verified.{TellsTrueReports, TellsTrueReportsOf}
+use Rattle.reset_service.specs.Verified.IsVerified.{allowed, bad_history, not_enabled}
+use Rattle.reset_service.specs.declared.status.Status.{Status}
+use Rattle.reset_service.specs.declared.status.Status.TheVariants.{BadInput, Good, NotEnabled}
+use Rattle.reset_service.proofs.TopologyTexts.{topology_connected}
+
+abbrev Output : Type 0
+Output = List ℕ × Status
+
+module _ {L : Type 0} (m : Meaning L) where
+  -- that the reports of stretches are true, as it is known of any entries
+  abbrev pub AreTrue : Type 0
+  AreTrue =
+      (opening : Configuration L) (es : List Entry) (s : Stretch L) → IsGraph opening.graph
+      → IsConnected opening.graph → IsShaped opening → IsStretch m.app m.from_text opening es s → IsSound s.here
+      → All (λ r. IsIn s r.finished → IsTrueReport m.app m.from_text opening es s r)
+      (reports_of m.app m.from_text opening es)
+
+  module _ (g : Graph) (graph : IsGraph g) (connected : IsConnected g) (c : Configuration L)
+      (boot : IsBoot m.app g c) where
+    has_graph : IsGraph c.graph
+    has_graph = subst IsGraph (sym boot.graph) graph
+
+    is_connected : IsConnected c.graph
+    is_connected = subst IsConnected (sym boot.graph) connected
+
+    is_shaped : IsShaped c
+    is_shaped =
+        let count : length g.ids ≡ length c.graph.ids = ap (λ (h : Graph). length h.ids) (sym boot.graph) in
+        record {
+          trees = boot.trees.count ∙ count;
+          waves = ap length boot.waves ∙ length-replicate (length g.ids) _ ∙ count;
+          locals = ap length boot.locals ∙ length-map g.ids (m.app.start g) ∙ count;
+        }
+
+    is_sound : IsSound c
+    is_sound =
+        pictures_sound c has_graph is_connected (boot_tree_picture m.app g c graph boot)
+        (boot_wave_picture m.app g c boot)
+
+    tells_from : AreTrue → (history written : List ℕ) → IsVerified m c history (written, Good)
+        → TellsTrueReports m g history written
+    tells_from known history written (bad_history f bad is) =
+        let other : Good ≡ BadInput = ap (λ (o : Output). o.1) is in absurd (cc)
+    tells_from known history written (not_enabled es n read first is) =
+        let other : Good ≡ NotEnabled = ap (λ (o : Output). o.1) is in absurd (cc)
+    tells_from known history written (allowed es read some is) =
+        record {
+          opening = c;
+          entries = es;
+          booted = boot;
+          sound = is_sound;
+          read = read;
+          allowed = some;
+          reported = ap (λ (o : Output). o.0) is;
+          true_reports = λ s stretch sound. known c es s has_graph is_connected is_shaped stretch sound;
+        }
+
+  tells : (g : Graph) → IsGraph g → IsConnected g → AreTrue → (history written : List ℕ)
+      → IsVerifiedFrom m g history (written, Good) → TellsTrueReports m g history written
+  tells g graph connected known history written (c, boot, verified) =
+      tells_from g graph connected c boot known history written verified
+
+module _ (idle : AreTrue idle_meaning) (token : AreTrue token_meaning) (mutex : AreTrue mutex_meaning)
+    (routes : AreTrue routes_meaning) where
+  tells_of : (app : AppName) (g : Graph) → IsGraph g → IsConnected g → (history written : List ℕ)
+      → IsVerifiedOf app g history (written, Good) → TellsTrueReportsOf app g history written
+  tells_of Idle g graph connected = tells idle_meaning g graph connected idle
+  tells_of Token g graph connected = tells token_meaning g graph connected token
+  tells_of Mutex g graph connected = tells mutex_meaning g graph connected mutex
+  tells_of Routes g graph connected = tells routes_meaning g graph connected routes
+
+  pub verified_reports : (topology history written : List ℕ) → IsVerification topology history (written, Good)
+      → (g : Graph) × (app : AppName) × Describes topology g app × TellsTrueReportsOf app g history written
+  verified_reports topology history written (bad_topology f bad is) =
+      let other : Good ≡ BadInput = ap (λ (o : Output). o.1) is in absurd (cc)
+  verified_reports topology history written (good_topology g app describes verified) = (
+    g,
+    app,
+    describes,
+    tells_of app g describes.2.exact.as_graph (topology_connected _ _ g describes.2) history written verified,
+  )

@@ -1,0 +1,7 @@
+use Rattle.reset_service.proofs.TrueReports.{verified_reports}
+use Rattle.reset_service.proofs.laws.verified_reports_are_true.Goals as goal
+
+pub returns : goal.returns
+returns c =
+    verified_reports c.reports_are_true.ensures c.reports_are_true-2.ensures c.reports_are_true-3.ensures
+    c.reports_are_true-4.ensures
