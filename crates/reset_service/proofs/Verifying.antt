@@ -8,7 +8,8 @@ use Rattle.topology.specs.declared.text.AppName.TheVariants.{Idle, Token, Mutex,
 use Rattle.app_interface.specs.Application.{App}
 use Rattle.reset_model.specs.Configuration.{Configuration}
 use Rattle.reset_model.proofs.OneBoot.{one_boot}
-use Rattle.history.specs.Entries.{IsFirstRefused, entered, replayed}
+use Rattle.history.proofs.FirstRefused.{not_allowed, one_first_refused}
+use Rattle.history.specs.Entries.{IsFirstRefused, replayed}
 use Rattle.history.specs.HistoryText.{IsReadAs}
 use Rattle.history.specs.Reports.{reports_of}
 use Rattle.history.specs.Verdict.{IsVerdict}
@@ -84,93 +85,6 @@ module _ {L : Type 0} (m : Meaning L) (c : Configuration L) (text : List ℕ) wh
 
 -- ---- one thing is written
 
--- the first step of a chain that ends didn't fail
-chain_fails : {A B : Type 0} (f : A → Option B) (o : Option A) → o ≡ None → IsSome (option_and_then f o) → ⊥
-chain_fails f None is some = absurd (cc)
-chain_fails f (Some a) is some = absurd (cc)
-
-is_some_of : {A : Type 0} (o : Option A) (a : A) → o ≡ Some a → IsSome o
-is_some_of None a is = absurd (cc)
-is_some_of (Some b) a is = refl
-
-module _ {L : Type 0} (app : App L) (from_text : List ℕ → Option L) where
-  -- no first entry is both refused and allowed
-  first_allowed : (c : Configuration L) (e : Entry) (es : List Entry) → entered app from_text c e ≡ None
-      → IsSome (replayed app from_text c (e ∷ es)) → ⊥
-  unfolding replayed
-  first_allowed c e es = chain_fails (λ after. replayed app from_text after es) (entered app from_text c e)
-
-  here : (c left : Configuration L) (e : Entry) → replayed app from_text c [] ≡ Some left
-      → entered app from_text left e ≡ None → entered app from_text c e ≡ None
-  unfolding replayed
-  here c left e h none = let same : c ≡ left = cc in rw same none
-
-  -- what is replayed after the first entry
-  after_first : (c left : Configuration L) (x : Entry) (es : List Entry) (Q : Type 0)
-      → replayed app from_text c (x ∷ es) ≡ Some left
-      → ((a : Configuration L) → entered app from_text c x ≡ Some a → replayed app from_text a es ≡ Some left → Q) → Q
-  unfolding replayed
-  after_first c left x es Q h go = at_first (entered app from_text c x) refl h
-    where
-      at_first : (o : Option (Configuration L)) → entered app from_text c x ≡ o
-          → option_and_then (λ after. replayed app from_text after es) o ≡ Some left → Q
-      at_first None is h = absurd (cc)
-      at_first (Some a) is h = go a is h
-
-  replayed_first : (c a : Configuration L) (x : Entry) (es : List Entry) → entered app from_text c x ≡ Some a
-      → replayed app from_text c (x ∷ es) ≡ replayed app from_text a es
-  unfolding replayed
-  replayed_first c a x es is = rw is refl
-
-  -- entries before one that isn't allowed, and that one, aren't allowed
-  refused_or_allowed : (c left : Configuration L) (before rest : List Entry) (e : Entry)
-      → replayed app from_text c before ≡ Some left
-      → entered app from_text left e ≡ None → IsSome (replayed app from_text c (before ++ e ∷ rest)) → ⊥
-  refused_or_allowed c left [] rest e h none some = first_allowed c e rest (here c left e h none) some
-  refused_or_allowed c left (x ∷ before) rest e h none some =
-      after_first c left x before ⊥ h (λ a is more. refused_or_allowed a left before rest e more none
-      (subst IsSome (replayed_first c a x (before ++ e ∷ rest) is) some))
-
-  -- the first entry that isn't allowed has one place
-  refused_once : (c left left' : Configuration L) (before before' rest rest' : List Entry) (e e' : Entry)
-      → before ++ e ∷ rest ≡ before' ++ e' ∷ rest'
-      → replayed app from_text c before ≡ Some left → entered app from_text left e ≡ None
-      → replayed app from_text c before' ≡ Some left' → entered app from_text left' e' ≡ None
-      → length before ≡ length before'
-  refused_once c left left' [] [] rest rest' e e' is h none h' none' = refl
-  refused_once c left left' [] (x ∷ before') rest rest' e e' is h none h' none' =
-      let same : e ∷ rest ≡ x ∷ before' ++ e' ∷ rest' = is in
-      let first : e ≡ x = cc in
-      absurd (first_allowed c x before' (subst (λ y. entered app from_text c y ≡ None) first (here c left e h none))
-      (is_some_of _ left' h'))
-  refused_once c left left' (x ∷ before) [] rest rest' e e' is h none h' none' =
-      let same : x ∷ before ++ e ∷ rest ≡ e' ∷ rest' = is in
-      let first : e' ≡ x = cc in
-      absurd (first_allowed c x before (subst (λ y. entered app from_text c y ≡ None) first (here c left' e' h' none'))
-      (is_some_of _ left h))
-  refused_once c left left' (x ∷ before) (y ∷ before') rest rest' e e' is h none h' none' =
-      let same : x ∷ before ++ e ∷ rest ≡ y ∷ before' ++ e' ∷ rest' = is in
-      let first : y ≡ x = cc in
-      let more : before ++ e ∷ rest ≡ before' ++ e' ∷ rest' = cc in
-      let there : replayed app from_text c (x ∷ before') ≡ Some left' =
-      subst (λ z. replayed app from_text c (z ∷ before') ≡ Some left') first h' in
-      after_first c left x before (suc (length before) ≡ suc (length before')) h (λ a at further.
-      ap suc (refused_once a left left' before before' rest rest' e e' more further none
-      (sym (replayed_first c a x before' at) ∙ there) none'))
-
-  one_refused : (c : Configuration L) (es : List Entry) (p q : ℕ) → IsFirstRefused app from_text c es p
-      → IsFirstRefused app from_text c es q → p ≡ q
-  one_refused c es p q a b =
-      a.place ∙ ap (λ n. n + 1)
-      (refused_once c a.left b.left a.before b.before a.rest b.rest a.entry b.entry (sym a.split ∙ b.split)
-      a.allowed a.refused b.allowed b.refused) ∙ sym b.place
-
-  not_both : (c : Configuration L) (es : List Entry) (p : ℕ) → IsFirstRefused app from_text c es p
-      → IsSome (replayed app from_text c es) → ⊥
-  not_both c es p a some =
-      refused_or_allowed c a.left a.before a.rest a.entry a.allowed a.refused
-      (subst (λ xs. IsSome (replayed app from_text c xs)) a.split some)
-
 -- no text has two readings
 abbrev pub OneReading : Type 0
 OneReading = (text : List ℕ) (r s : Result (List Entry) BookFault) → IsReadAs text r → IsReadAs text s → r ≡ s
@@ -186,7 +100,7 @@ module _ (one_reading : OneReading) {L : Type 0} (m : Meaning L) where
       → IsReadAs text (Ok ds) → IsFirstRefused m.app m.from_text c es n → IsSome (replayed m.app m.from_text c ds) → ⊥
   refused_or_all c text es ds n read other first some =
       let entries : ds ≡ es = one_history text ds es other read in
-      not_both m.app m.from_text c es n first (subst (λ xs. IsSome (replayed m.app m.from_text c xs)) entries some)
+      not_allowed m.app m.from_text c es n first (subst (λ xs. IsSome (replayed m.app m.from_text c xs)) entries some)
 
   one_verified : (c : Configuration L) (history : List ℕ) (o p : Output) → IsVerified m c history o
       → IsVerified m c history p → o ≡ p
@@ -202,7 +116,7 @@ module _ (one_reading : OneReading) {L : Type 0} (m : Meaning L) where
   one_verified c history o p (not_enabled es n read first is) (not_enabled ds k other second is') =
       let entries : es ≡ ds = one_history history es ds read other in
       let same : n ≡ k =
-      one_refused m.app m.from_text c ds n k (subst (λ xs. IsFirstRefused m.app m.from_text c xs n) entries first)
+      one_first_refused m.app m.from_text c ds n k (subst (λ xs. IsFirstRefused m.app m.from_text c xs n) entries first)
       second in
       is ∙ ap (λ x. (not_enabled_text x, NotEnabled)) same ∙ sym is'
   one_verified c history o p (not_enabled es n read first is) (allowed ds other some is') =
