@@ -15,5 +15,5 @@ pub mod ReadyTexts
 pub mod OneOutput
 pub mod Verifying
 pub mod Stretches
-pub mod TopologyTexts
-pub mod TrueReports
+pub mod ConnectedTopologies
+pub mod VerifiedReports

@@ -40,8 +40,8 @@ pub fn one_verification()
 
 /// What a verification that ends well means. Its topology describes a graph and names an application; its
 /// history is that of entries each of which is allowed where it stands, from the booted configuration on;
-/// and it writes the reports of these entries. The booted registers are sound, and so the entries before
-/// the first fault are a stretch that begins in sound registers. Each report of such a stretch is true.
+/// and it writes the reports of these entries. The booted registers are sound, so that the stretch before
+/// the first fault begins in sound registers. Each report of a stretch that does is true.
 pub fn verified_reports_are_true()
     ensures { (topology history written : List ℕ) → IsVerification topology history (written, Status.Good)
         → (g : Graph) × (app : AppName) × Describes topology g app × TellsTrueReportsOf app g history written }

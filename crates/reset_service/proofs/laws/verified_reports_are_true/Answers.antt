@@ -1,4 +1,4 @@
-use Rattle.reset_service.proofs.TrueReports.{verified_reports}
+use Rattle.reset_service.proofs.VerifiedReports.{verified_reports}
 use Rattle.reset_service.proofs.laws.verified_reports_are_true.Goals as goal
 
 pub returns : goal.returns

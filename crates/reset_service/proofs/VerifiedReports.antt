@@ -19,7 +19,7 @@ use Rattle.reset_service.specs.Verified.{TellsTrueReports, TellsTrueReportsOf}
 use Rattle.reset_service.specs.Verified.IsVerified.{allowed, bad_history, not_enabled}
 use Rattle.reset_service.specs.declared.status.Status.{Status}
 use Rattle.reset_service.specs.declared.status.Status.TheVariants.{BadInput, Good, NotEnabled}
-use Rattle.reset_service.proofs.TopologyTexts.{topology_connected}
+use Rattle.reset_service.proofs.ConnectedTopologies.{topology_connected}
 
 abbrev Output : Type 0
 Output = List ℕ × Status
