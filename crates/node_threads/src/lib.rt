@@ -1,0 +1,15 @@
+//! Node threads of the distributed reset service: one thread a node, a book under one lock, and the proof
+//! that what the threads were told is what the book has.
+#![tactic(auto)]
+
+mod locked;
+mod refusal;
+mod round;
+mod seat;
+mod sharing;
+
+pub use locked::Locked;
+pub use refusal::{CommitRefusal, LookRefusal, SeatRefusal, ShareFault};
+pub use round::Round;
+pub use seat::Seat;
+pub use sharing::{Shared, select, share};
