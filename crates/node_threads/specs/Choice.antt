@@ -4,9 +4,10 @@ use Rattle.std.specs.List.{flat_map}
 use Rattle.action_tables.specs.Numbers.{all_cases}
 use Rattle.app_interface.specs.Application.{App}
 use Rattle.reset_model.specs.declared.event.Event.{Event}
-use Rattle.reset_model.specs.declared.event.Event.TheVariants.{Claim, Follow, Adopt, Relay, Open, Join, Finish, Mend, Act}
+use Rattle.reset_model.specs.declared.event.Event.TheVariants.{Claim, Follow, Adopt, Relay, Open, Join, Finish}
+use Rattle.reset_model.specs.declared.event.Event.TheVariants.{Mend, Act}
 use Rattle.reset_model.specs.Planned.{planned}
-use Rattle.reset_model.specs.View.{Neighbour, NodeView, children_of}
+use Rattle.reset_model.specs.View.{NodeView, children_of}
 
 -- the view allows the event
 abbrev pub is_allowed : {L : Type 0} → App L → NodeView L → Event → Bool
@@ -19,8 +20,10 @@ case_events v case = Act v.id case None ∷ map (λ n. Act v.id case (Some n.id)
 -- what the node might do, in the order in which it is tried. It asks for no reset
 abbrev pub choices : {L : Type 0} → NodeView L → List Event
 choices v =
-    Claim v.id ∷ Follow v.id ∷ map (λ n. Adopt v.id n.id) v.near
-    ++ Mend v.id ∷ Join v.id ∷ Finish v.id ∷ Open v.id ∷ map (λ n. Relay v.id n.id) (children_of v)
+    (Claim v.id ∷ Follow v.id ∷ [])
+    ++ map (λ n. Adopt v.id n.id) v.near
+    ++ (Mend v.id ∷ Join v.id ∷ Finish v.id ∷ Open v.id ∷ [])
+    ++ map (λ n. Relay v.id n.id) (children_of v)
     ++ flat_map (case_events v) all_cases
 
 -- the first of these that the view allows

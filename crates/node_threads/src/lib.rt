@@ -2,12 +2,14 @@
 //! that what the threads were told is what the book has.
 #![tactic(auto)]
 
+mod choice;
 mod locked;
 mod refusal;
 mod round;
 mod seat;
 mod sharing;
 
+pub use choice::next_event;
 pub use locked::Locked;
 pub use refusal::{CommitRefusal, LookRefusal, SeatRefusal, ShareFault};
 pub use round::Round;

@@ -1,6 +1,6 @@
 // What the threads share.
 
-ghost use Rattle.std.specs.Prelude.{◌≡◌, ◌≢◌, ◌↔◌, ◌+◌, ◌<◌, ◌≤◌, Err, IfOk, IfErr, OnOk, OnErr, [], length, map, vec_len};
+ghost use Rattle.std.specs.Prelude.{◌≡◌, ◌≢◌, ◌↔◌, ◌+◌, ◌<◌, ◌≤◌, Err, IfOk, IfErr, OnOk, OnErr, [], length, map};
 ghost use Rattle.std.specs.Vec.{vec_capacity};
 ghost use Rattle.reset_model.specs.Steps.{event_node};
 ghost use Rattle.reset_model.specs.declared.event.Event.TheVariants.{Request};
