@@ -1,3 +1,6 @@
 mod Entering
 mod Trying
 mod Choices
+mod Telling
+mod Comparing
+mod Gathering

@@ -3,15 +3,19 @@
 #![tactic(auto)]
 
 mod choice;
+mod closing;
 mod locked;
 mod refusal;
 mod round;
 mod seat;
 mod sharing;
+mod turns;
 
 pub use choice::next_event;
+pub use closing::{CloseFault, Outcome, SeatList, close};
 pub use locked::Locked;
 pub use refusal::{CommitRefusal, LookRefusal, SeatRefusal, ShareFault};
 pub use round::Round;
 pub use seat::Seat;
-pub use sharing::{Shared, select, share};
+pub use sharing::{MAX_SEATS, Shared, select, share};
+pub use turns::{Gate, MAX_TURNS, TurnsEnd, node_turns};
