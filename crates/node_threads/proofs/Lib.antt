@@ -4,3 +4,4 @@ mod Choices
 mod Telling
 mod Comparing
 mod Gathering
+mod Crossing

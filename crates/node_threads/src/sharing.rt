@@ -89,6 +89,21 @@ fn seat_all<L: Round>(
 }
 
 impl<L: Round, P: Application> Shared<L, P> {
+    // The book as it stands.
+    pub(crate) fn into_book(self) -> Book<P> {
+        let Shared {
+            locked,
+            last: _,
+            cut: _,
+        } = self;
+        let Locked {
+            book,
+            mark: _,
+            tally: _,
+        } = locked.into_inner();
+        book
+    }
+
     /// What the seat's node sees at some moment of the call. It takes the lock.
     pub fn look<R: Wait>(
         &self,
