@@ -1,6 +1,6 @@
 -- What a step of a book leaves: the same graph, one entry more, and a receipt of it.
 use Rattle.std.proofs.Common.{◌≡◌, ℕ, ◌+◌, ◌≤◌, ◌==◌, Bool, true, false, not, cond, List, [], ◌∷◌, ◌++◌, length, drop}
-use Rattle.std.proofs.Common.{Some, None, Result, Ok, Err, IfOk, MatchResult, refl, ap, subst, ◌∙◌}
+use Rattle.std.proofs.Common.{Some, None, Result, Ok, Err, IfOk, MatchResult, refl, subst}
 use Rattle.std.proofs.lemmas.List.{drop-append-le}
 use Rattle.std.proofs.lemmas.List.Folds.{list_all-append}
 use Rattle.std.specs.List.{list_all, list_any}

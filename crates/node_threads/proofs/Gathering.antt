@@ -1,7 +1,7 @@
 -- What is gathered of the seats, where each node has one of them.
 use Rattle.std.proofs.Common.{◌≡◌, ℕ, suc, ◌+◌, ◌<◌, ◌≤◌, ◌==◌, ◌&&◌, ◌||◌, Bool, true, false, not, All, Contains, List, [], ◌∷◌}
 use Rattle.std.proofs.Common.{◌≢◌, IfErr, OnOk, Result, Ok, Err}
-use Rattle.std.proofs.Common.{Option, None, length, map, filter, find, get_or, subst, sym, ap, ◌∙◌, refl, arith, sum_by, ◌++◌, append_assoc, append-nil}
+use Rattle.std.proofs.Common.{Option, None, length, map, filter, get_or, subst, sym, ap, ◌∙◌, refl, arith, sum_by, ◌++◌, append_assoc, append-nil}
 use Rattle.std.proofs.lemmas.List.{length-append}
 use Rattle.std.proofs.lemmas.List.Sums.{sum_by-append}
 use Rattle.std.specs.List.{list_any}

@@ -1,5 +1,5 @@
 -- The receipts that reports tell are those of the entries, where these are played.
-use Rattle.std.proofs.Common.{◌≡◌, ℕ, ◌+◌, ◌<◌, ◌≤◌, ◌==◌, Bool, true, false, cond, List, [], ◌∷◌, ◌++◌, length, Option}
+use Rattle.std.proofs.Common.{◌≡◌, ℕ, ◌+◌, ◌<◌, ◌≤◌, ◌==◌, Bool, true, false, List, [], ◌∷◌, ◌++◌, length, Option}
 use Rattle.std.proofs.Common.{Some, None, Ok, Err, if◌then◌else◌, drop, filter, get_or, refl, ap, ap₂, sym, ◌∙◌, arith}
 use Rattle.std.proofs.Common.{append_assoc, append-nil, nat_lt, slice_get, ◌≢◌, ◌-◌, ◌⊎◌, inl, inr}
 use Rattle.std.proofs.lemmas.List.Elements.{filter-append}
@@ -10,7 +10,6 @@ use Rattle.std.proofs.lemmas.Bool.Decides.{eqb_tells}
 use Rattle.std.proofs.lemmas.List.{drop_all}
 use Rattle.std.proofs.lemmas.Option.{slice_get-get_or}
 use Rattle.app_interface.specs.Application.{App}
-use Rattle.fault_inject.specs.Effects.{injected}
 use Rattle.reset_model.specs.Configuration.{Configuration}
 use Rattle.reset_model.specs.Planned.{Outcome, outcome_of}
 use Rattle.reset_model.specs.Steps.{event_node}
@@ -23,8 +22,8 @@ use Rattle.history.specs.declared.entry.Entry.TheVariants.{Step, Disturbed}
 use Rattle.history.specs.declared.entry.Receipt.{Receipt}
 use Rattle.history.specs.declared.entry.Report.{Report}
 use Rattle.history.specs.Entries.{entered, left_by_step, replayed}
-use Rattle.history.specs.Reports.{latest_opening, outcome_reported, report_of, reported, reports_from}
-use Rattle.node_threads.specs.Seats.{outcome_receipts, receipt_of, receipts_from}
+use Rattle.history.specs.Reports.{latest_opening, outcome_reported, reported, reports_from}
+use Rattle.node_threads.specs.Seats.{outcome_receipts, receipts_from}
 use Rattle.node_threads.specs.Told.{left_after, left_by, receipt_told, receipts_told, reply_told, step_at, step_of}
 
 -- the first of the reports, if there is one, is of a later position

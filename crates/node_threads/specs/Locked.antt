@@ -7,7 +7,6 @@ use Rattle.reset_model.specs.Planned.{NodePlan}
 use Rattle.reset_model.specs.Steps.{event_node}
 use Rattle.history.specs.declared.entry.Entry.{Entry}
 use Rattle.history.specs.declared.entry.Entry.TheVariants.{Step, Disturbed}
-use Rattle.history.specs.declared.refusal.BookRefusal.{BookRefusal}
 use Rattle.history.specs.declared.refusal.BookRefusal.TheVariants.{NoMemory}
 use Rattle.history.specs.Book.{BookView, IsBook, IsUnapplied, booked}
 use Rattle.node_threads.specs.declared.refusal.CommitRefusal.{CommitRefusal}

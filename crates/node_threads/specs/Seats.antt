@@ -1,5 +1,5 @@
 -- Seat lists: what the entries of one node after a mark tell, and what its seat was told.
-use Rattle.std.specs.Prelude.{◌≡◌, ℕ, ◌+◌, ◌==◌, ◌&&◌, nat_lt, List, [], ◌∷◌, ◌++◌, filter, Option, Some, None, Ok, Err}
+use Rattle.std.specs.Prelude.{ℕ, ◌+◌, ◌==◌, nat_lt, List, [], ◌∷◌, ◌++◌, filter, Option, Ok, Err}
 use Rattle.std.specs.Option.{option_map_or}
 use Rattle.app_interface.specs.Application.{App}
 use Rattle.reset_model.specs.declared.event.Event.{Event}

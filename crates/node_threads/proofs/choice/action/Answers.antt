@@ -1,4 +1,4 @@
-use Rattle.std.proofs.Common.{◌≡◌, ◌∷◌, Some, None, map, find, ap, ap₂, sym, ◌∙◌, arith}
+use Rattle.std.proofs.Common.{◌∷◌, Some, None, map, find, ap, ap₂, sym, ◌∙◌, arith}
 use Rattle.std.specs.List.{flat_map}
 use Rattle.reset_model.specs.declared.event.Event.TheVariants.{Act}
 use Rattle.reset_machine.proofs.CaseChoices.{all_from_1}

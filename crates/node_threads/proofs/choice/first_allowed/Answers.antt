@@ -1,4 +1,4 @@
-use Rattle.std.proofs.Common.{◌≡◌, ◌∙◌, sym, find, get_or, drop}
+use Rattle.std.proofs.Common.{◌∙◌, sym, find}
 use Rattle.reset_model.specs.declared.event.Event.TheVariants.{Claim}
 use Rattle.node_threads.specs.Choice.{is_allowed}
 use Rattle.node_threads.proofs.Trying.{left_next, tried_false, tried_true}

@@ -1,4 +1,4 @@
-use Rattle.std.proofs.Common.{◌≡◌, ◌++◌, None, Some, sym, ◌∙◌}
+use Rattle.std.proofs.Common.{◌≡◌, ◌++◌, None, ◌∙◌}
 use Rattle.node_threads.specs.Choice.{is_allowed, next_of}
 use Rattle.node_threads.proofs.Entering.{if_ok}
 use Rattle.node_threads.proofs.Choices.{actions, adoptions, own_first, own_next, relays, tried, tried_near, tried_own}

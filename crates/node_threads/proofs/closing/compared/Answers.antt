@@ -1,6 +1,5 @@
-use Rattle.std.proofs.Common.{◌≡◌, true, false, ap, sym, ◌∙◌}
+use Rattle.std.proofs.Common.{◌≡◌, ap, sym, ◌∙◌}
 use Rattle.std.proofs.lemmas.Bool.{false≢true}
-use Rattle.node_threads.specs.declared.closing.CloseFault.TheVariants.{ListsDiffer}
 use Rattle.node_threads.specs.Seats.{of_node}
 use Rattle.node_threads.proofs.Comparing.{all_next, differs_first}
 use Rattle.node_threads.proofs.closing.compared.Goals as goal

@@ -1,5 +1,4 @@
-use Rattle.std.proofs.Common.{◌≡◌, ◌<◌, ◌++◌, [], drop, filter, length, nat_lt, ap, refl, sym, ◌∙◌, arith, Vec, Global}
-use Rattle.history.specs.declared.entry.Receipt.{Receipt}
+use Rattle.std.proofs.Common.{◌<◌, ◌++◌, [], filter, length, nat_lt, ap, refl, sym, ◌∙◌, arith}
 use Rattle.node_threads.specs.Seats.{receipts_after}
 use Rattle.node_threads.specs.Told.{receipts_told}
 use Rattle.node_threads.proofs.Telling.{told_all, told_fault, told_receipts, told_step}

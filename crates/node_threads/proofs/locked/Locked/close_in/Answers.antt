@@ -1,6 +1,5 @@
 use Rattle.std.proofs.Common.{◌≡◌, None, ap, sym, ◌∙◌}
 use Rattle.topology.specs.Graph.{Graph}
-use Rattle.reset_model.specs.Configuration.{Configuration}
 use Rattle.node_threads.specs.Closed.{first_missing}
 use Rattle.node_threads.proofs.Gathering.{decides}
 use Rattle.node_threads.proofs.locked.Locked.close_in.Goals as goal
