@@ -1,0 +1,49 @@
+-- What is shared may be seen by every thread. A number is the place of a type among the parameters of the function
+-- that starts the threads.
+use denote.RattleType.{RattleType}
+use denote.Param.{param}
+use denote.Param.Send.{sendable, IsSend, IsSync, part_keyless, Quiet-if}
+use denote.Exit.{yes, unseen}
+use mir.Syntax.{of_param}
+use Rattle.std.proofs.Crossing.{crosses}
+use Rattle.std.proofs.sync.ledger.Share.TheSendSync as share
+use Rattle.std.proofs.sync.ledger.Book.TheSendSync as tally
+use Rattle.std.proofs.sync.Mutex.TheSendSync as mutex
+use Rattle.std.specs.contracts.sync.ledger.Share as Share
+use Rattle.std.specs.contracts.sync.ledger.Book as Tally
+use Rattle.std.specs.contracts.sync.Mutex as Mutex
+use Rattle.std.specs.declared.sync.ledger.Ledger as Ledger
+use Rattle.app_interface.specs.declared.application.Application as Application
+use Rattle.history.specs.contracts.book.Book as Book
+use Rattle.node_threads.specs.declared.round.Round as Round
+use Rattle.node_threads.specs.contracts.locked.Locked as Locked
+use Rattle.node_threads.specs.contracts.sharing.Shared as Shared
+
+-- a bound is the same at every place among the parameters
+pub moved_send : (X : RattleType) → IsSend (param 2 X) → IsSend (param 4 X)
+moved_send X h = record {
+  owned = h.owned;
+  leaving = λ k. Quiet-if (k (of_param 4)) (X.exit yes) unseen (h.leaving yes) (λ x w. tt);
+}
+
+module _ (L P X : RattleType) (r : Round.Ghosts L.Denot) (a : Application.Ghosts P.Denot X.Denot)
+    (l : Ledger.Ghosts L.Denot) (local : IsSend (param 4 X)) where
+  book_send : IsSend (Book.the_row (param 1 P) (param 4 X) a)
+  book_send = search (crosses, sendable) depth 60 fits 20000
+
+  tally_send : IsSend (Tally.the_row (param 0 L) l)
+  tally_send = tally.the_send (param 0 L) l
+
+  locked_send : IsSend (Locked.the_row (param 0 L) (param 1 P) (param 4 X) r a l)
+  locked_send = search (sendable, book_send, tally_send) depth 60 fits 20000
+
+  mutex_sync : IsSync (Mutex.the_row (Locked.the_row (param 0 L) (param 1 P) (param 4 X) r a l))
+  mutex_sync = mutex.the_sync (Locked.the_row (param 0 L) (param 1 P) (param 4 X) r a l) locked_send
+
+  share_sync : IsSync (Share.the_row (param 0 L) l)
+  share_sync = record {
+    shared = λ d b o κ q. part_keyless (Share.the_row (param 0 L) l) (share.the_send (param 0 L) l) q d b o;
+  }
+
+  pub shared_sync : IsSync (Shared.the_row (param 0 L) (param 1 P) (param 4 X) r l a)
+  shared_sync = search (sendable, mutex_sync, share_sync) depth 60 fits 20000

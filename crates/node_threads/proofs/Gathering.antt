@@ -1,0 +1,212 @@
+-- What is gathered of the seats, where each node has one of them.
+use Rattle.std.proofs.Common.{◌≡◌, ℕ, suc, ◌+◌, ◌<◌, ◌≤◌, ◌==◌, ◌&&◌, ◌||◌, Bool, true, false, not, All, Contains, List, [], ◌∷◌}
+use Rattle.std.proofs.Common.{◌≢◌, IfErr, OnOk, Result, Ok, Err}
+use Rattle.std.proofs.Common.{Option, None, length, map, filter, get_or, subst, sym, ap, ◌∙◌, refl, arith, sum_by, ◌++◌, append_assoc, append-nil}
+use Rattle.std.proofs.lemmas.List.{length-append}
+use Rattle.std.proofs.lemmas.List.Sums.{sum_by-append}
+use Rattle.std.specs.List.{list_any}
+use Rattle.std.specs.List.Sorted.{IsStrictlyIncreasing}
+use Rattle.std.proofs.lemmas.Bool.{eq-eqb}
+use Rattle.std.proofs.lemmas.List.{get_or_default}
+use Rattle.std.proofs.lemmas.List.Elements.{All-map}
+use Rattle.std.proofs.lemmas.List.Filters.{length-filter_both}
+use Rattle.topology.specs.Building.{has}
+use Rattle.topology.proofs.Ascending.{rises}
+use Rattle.topology.proofs.Membership.{Contains-has, has-Contains, has-filter}
+use Rattle.reset_model.proofs.FirstFound.{find-none}
+use Rattle.app_interface.specs.Application.{App}
+use Rattle.history.specs.declared.entry.Receipt.{Receipt}
+use Rattle.history.specs.Book.{BookView}
+use Rattle.node_threads.specs.Closed.{AreSeatLists, IsClosed, IsFirstDiffering, IsUnclosed, NodeList, first_missing, is_seated, list_of}
+use Rattle.node_threads.specs.declared.closing.CloseFault.{CloseFault}
+use Rattle.node_threads.specs.declared.closing.CloseFault.TheVariants.{SeatMissing, ListsDiffer, NoMemory}
+use Rattle.node_threads.specs.Locked.{IsLocked}
+use Rattle.node_threads.specs.Seats.{SeatView, of_node, receipts_after, seat_list}
+use Rattle.node_threads.proofs.Telling.{other_number}
+
+below_all : (x : ℕ) (xs : List ℕ) → IsStrictlyIncreasing (x ∷ xs) → (z : ℕ) → Contains xs z → x < z
+below_all x xs up z (k, low, at) =
+    subst (λ n. x < n) (sym (get_or_default xs k z 0 low) ∙ at) (rises (x ∷ xs) up 0 (suc k) (omega arith) (omega (
+      arith,
+      low,
+    )))
+
+rest_up : (x : ℕ) (xs : List ℕ) → IsStrictlyIncreasing (x ∷ xs) → IsStrictlyIncreasing xs
+rest_up x xs up k low =
+    let e : suc k + 1 ≡ suc (k + 1) = omega arith in
+    subst (λ n. get_or xs k 0 < get_or (x ∷ xs) n 0) e (up (suc k) (omega (arith, low)))
+
+not_not : (b : Bool) → not b ≡ false → b ≡ true
+not_not true is = refl
+not_not false is = absurd (cc)
+
+-- the nodes of the lists are those that are seated
+seated_has : (seats : List SeatView) (i : ℕ) → has (map (λ l. l.0) (map list_of seats)) i ≡ is_seated seats i
+seated_has [] i = refl
+seated_has (s ∷ ss) i = ap (λ b. (s.node == i) || b) (seated_has ss i)
+
+pub everyone : (ids : List ℕ) (seats : List SeatView) → first_missing ids seats ≡ None → (i : ℕ) → Contains ids i
+    → Contains (map (λ l. l.0) (map list_of seats)) i
+everyone ids seats none i there =
+    let off = find-none (λ k. not (is_seated seats k)) ids i none (has-Contains ids i there) in
+    Contains-has (map (λ l. l.0) (map list_of seats)) i (seated_has seats i ∙ not_not (is_seated seats i) off)
+
+-- seats that were told what the book has
+pub seat_lists : {L : Type 0} (app : App L) (from_text : List ℕ → Option L) (b : BookView L) (mark : ℕ)
+    (told : List Receipt) (seats : List SeatView) → told ≡ receipts_after app from_text b mark
+    → first_missing b.config.graph.ids seats ≡ None → All (λ s. s.receipts ≡ of_node s.node told) seats
+    → AreSeatLists app from_text b mark (map list_of seats)
+seat_lists app from_text b mark told seats is none all = record {
+  all = everyone b.config.graph.ids seats none;
+  told = All-map (λ (l : NodeList). l.1 ≡ seat_list app from_text b mark l.0) list_of seats
+      (subst (λ t. All (λ s. s.receipts ≡ of_node s.node t) seats) is all);
+}
+
+-- ---- as many lists as nodes
+
+passes_here : (p : ℕ → Bool) (x : ℕ) (xs : List ℕ) (b : Bool) → p x ≡ b
+    → (list_any p xs ≡ true → 1 ≤ length (filter p xs)) → list_any p (x ∷ xs) ≡ true → 1 ≤ length (filter p (x ∷ xs))
+passes_here p x xs true is rest some = rw is (omega arith)
+passes_here p x xs false is rest some = rw is (rest (rw is at some))
+
+some_passes : (p : ℕ → Bool) (xs : List ℕ) → list_any p xs ≡ true → 1 ≤ length (filter p xs)
+some_passes p [] some = absurd (cc)
+some_passes p (x ∷ xs) some = passes_here p x xs (p x) refl (some_passes p xs) some
+
+or_right : (a b : Bool) → b ≡ true → (a || b) ≡ true
+or_right true b is = refl
+or_right false b is = is
+
+and_both : (a b : Bool) → a ≡ true → b ≡ true → (a && b) ≡ true
+and_both true b is also = also
+and_both false b is also = absurd (cc)
+
+-- ids that ascend, each among some numbers, are at most as many
+few : (ids ns : List ℕ) → IsStrictlyIncreasing ids → ((i : ℕ) → has ids i ≡ true → has ns i ≡ true)
+    → length ids ≤ length ns
+few [] ns up within = omega arith
+few (i ∷ ids) ns up within =
+    let same = λ (k : ℕ). k == i in
+    let others = λ (k : ℕ). not (k == i) in
+    let here : list_any same ns ≡ true = within i (ap (λ b. b || has ids i) (own i)) in
+    let rest : length ids ≤ length (filter others ns) = few ids (filter others ns) (rest_up i ids up) (λ j there.
+    has-filter others ns j ∙ and_both (others j) (has ns j) (ap not (other_number j i (below_all i ids up j
+    (Contains-has ids j there)))) (within j (or_right (i == j) (has ids j) there))) in
+    omega (
+      arith,
+      rest,
+      some_passes same ns here,
+      length-filter_both same others (λ k. refl) ns,
+    )
+  where
+    own : (i : ℕ) → (i == i) ≡ true
+    own i = eq-eqb i i refl
+
+length-lists : (seats : List SeatView) → length (map (λ l. l.0) (map list_of seats)) ≡ length seats
+length-lists [] = refl
+length-lists (s ∷ ss) = omega (arith, length-lists ss)
+
+pub as_many : (ids : List ℕ) (seats : List SeatView) → IsStrictlyIncreasing ids
+    → ((i : ℕ) → Contains ids i → Contains (map (λ l. l.0) (map list_of seats)) i) → length ids ≤ length seats
+as_many ids seats up all = omega (
+  arith,
+  length-lists seats,
+  few ids (map (λ l. l.0) (map list_of seats)) up (λ i there. has-Contains (map (λ l. l.0) (map list_of seats)) i (all i
+      (Contains-has ids i there))),
+)
+
+-- ---- the shares of the seats, put together
+
+-- what was gathered so far of the seats, and what is left
+pub record IsGathered (parts amount : ℕ) (lists : List NodeList) (rest seats : List SeatView) : Type 0 where
+  pub has_parts : parts ≡ 1 + length lists
+  pub counts : amount ≡ sum_by (λ l. length l.1) lists
+  pub whole : lists ++ map list_of rest ≡ map list_of seats
+
+length-map : (seats : List SeatView) → length (map list_of seats) ≡ length seats
+length-map [] = refl
+length-map (s ∷ ss) = omega (arith, length-map ss)
+
+-- all parts of the ledger are there, so its total is the number of the receipts
+pub closes : {L : Type 0} (app : App L) (from_text : List ℕ → Option L) (b : BookView L)
+    (mark n total parts amount all_parts : ℕ) (seats : List SeatView) (lists : List NodeList)
+    → IsLocked app from_text b mark total n → IsStrictlyIncreasing b.config.graph.ids
+    → AreSeatLists app from_text b mark (map list_of seats) → lists ≡ map list_of seats
+    → parts ≡ 1 + length lists → amount ≡ sum_by (λ l. length l.1) lists → parts ≤ all_parts → all_parts ≡ n + 1
+    → (parts ≡ all_parts → amount ≡ total) → IsClosed app from_text b mark lists
+closes app from_text b mark n total parts amount all_parts seats lists locked up told is has_parts counts within cut whole =
+    let same : length lists ≡ length seats = ap length is ∙ length-map seats in
+    let many : n ≤ length seats = omega (arith, locked.nodes, as_many b.config.graph.ids seats up told.all) in
+    let all : length lists ≡ n = omega (arith, same, many, within, cut, has_parts) in
+    let sum : sum_by (λ l. length l.1) lists ≡ total = sym counts ∙ whole (omega (arith, has_parts, cut, all)) in
+    record {
+      seats = subst (AreSeatLists app from_text b mark) (sym is) told;
+      locked = record {
+        book = locked.book;
+        nodes = locked.nodes ∙ sym all;
+        counted = ap (λ k. mark + k) sum ∙ locked.counted;
+        steps = locked.steps;
+      };
+    }
+
+-- ---- what the comparison decides
+
+pub decides : {L : Type 0} (app : App L) (from_text : List ℕ → Option L) (b : BookView L) (mark : ℕ)
+    (told : List Receipt) (seats : List SeatView) (r : Result (Unit {0}) CloseFault)
+    → told ≡ receipts_after app from_text b mark → first_missing b.config.graph.ids seats ≡ None
+    → OnOk r (All (λ s. s.receipts ≡ of_node s.node told) seats)
+    → IfErr r (λ f. (i : ℕ) → f ≡ ListsDiffer i → IsFirstDiffering told seats i)
+    → IfErr r (λ f. (i : ℕ) → f ≢ SeatMissing i)
+    → OnOk r (AreSeatLists app from_text b mark (map list_of seats)) × IfErr r (IsUnclosed app from_text b mark seats)
+decides app from_text b mark told seats (Ok u) is none all differs other =
+    (seat_lists app from_text b mark told seats is none all, tt)
+decides app from_text b mark told seats (Err (SeatMissing i)) is none all differs other = absurd (other i refl)
+decides app from_text b mark told seats (Err (ListsDiffer i)) is none all differs other =
+    (tt, (none, subst (λ t. IsFirstDiffering t seats i) is (differs i refl)))
+decides app from_text b mark told seats (Err NoMemory) is none all differs other = (tt, tt)
+
+-- there is room for one list more
+pub left_over : (lists : List NodeList) (s : SeatView) (rest seats : List SeatView)
+    → lists ++ map list_of (s ∷ rest) ≡ map list_of seats → length lists < length seats
+left_over lists s rest seats whole =
+    omega (arith, ap length whole, length-append lists (map list_of (s ∷ rest)), length-map seats)
+
+pub gathered_first : (parts amount : ℕ) (lists : List NodeList) (rest seats : List SeatView) → parts ≡ 1 → amount ≡ 0
+    → lists ≡ [] → rest ≡ seats → IsGathered parts amount lists rest seats
+gathered_first parts amount lists rest seats one none empty all = rw empty (record {
+  has_parts = one;
+  counts = none;
+  whole = ap (map list_of) all;
+})
+
+pub gathered_next : (parts amount more added : ℕ) (lists longer : List NodeList) (s : SeatView)
+    (before rest seats : List SeatView) → before ≡ s ∷ rest → longer ≡ lists ++ list_of s ∷ [] → more ≡ parts + 1
+    → added ≡ amount + length s.receipts → IsGathered parts amount lists before seats
+    → IsGathered more added longer rest seats
+gathered_next parts amount more added lists longer s before rest seats step put one plus so_far =
+    let whole : lists ++ map list_of (s ∷ rest) ≡ map list_of seats =
+    subst (λ xs. lists ++ map list_of xs ≡ map list_of seats) step so_far.whole in
+    rw put (record {
+      has_parts = omega (arith, one, so_far.has_parts, length-append lists (list_of s ∷ []));
+      counts = plus ∙ ap (λ k. k + length s.receipts) so_far.counts
+          ∙ sym (sum_by-append (λ (l : NodeList). length l.1) lists (list_of s ∷ []) ∙ ap (λ k. sum_by
+          (λ (l : NodeList). length l.1) lists + k) (omega arith));
+      whole = append_assoc lists (list_of s ∷ []) (map list_of rest) ∙ whole;
+    })
+
+nothing : (xs : List SeatView) → length xs ≡ 0 → xs ≡ []
+nothing [] none = refl
+nothing (x ∷ xs) none = absurd (omega (arith, none))
+
+pub gathered_all : (parts amount : ℕ) (lists : List NodeList) (rest seats : List SeatView) → length lists ≡ length seats
+    → IsGathered parts amount lists rest seats → lists ≡ map list_of seats
+gathered_all parts amount lists rest seats same so_far =
+    let none : length rest ≡ 0 = omega (
+      arith,
+      same,
+      ap length so_far.whole,
+      length-append lists (map list_of rest),
+      length-map rest,
+      length-map seats,
+    ) in
+    sym (append-nil lists) ∙ (ap (λ xs. lists ++ map list_of xs) (sym (nothing rest none)) ∙ so_far.whole)

@@ -1,0 +1,7 @@
+mod Entering
+mod Trying
+mod Choices
+mod Telling
+mod Comparing
+mod Gathering
+mod Crossing

@@ -1,0 +1,17 @@
+use Rattle.std.proofs.Common.{◌≡◌, None, ap, sym, ◌∙◌}
+use Rattle.topology.specs.Graph.{Graph}
+use Rattle.node_threads.specs.Closed.{first_missing}
+use Rattle.node_threads.proofs.Gathering.{decides}
+use Rattle.node_threads.proofs.locked.Locked.close_in.Goals as goal
+
+pub returns-in-Ok : goal.returns-in-Ok
+returns-in-Ok g c =
+    let l = c.args.self.now in
+    let seats = c.args.seats.now in
+    let ids = c.ids.ensures ∙ ap (λ (t : Graph). t.ids) (c.topology.ensures ∙ ap (λ k. k.graph) c.config.ensures) in
+    let none : first_missing l.book.config.graph.ids seats ≡ None =
+    sym (c.first_missing.ensures ∙ ap (λ is. first_missing is seats) ids) ∙ c.in-None.is in
+    let both = decides g.P.Application.app g.P.Application.from_text l.book l.mark c.deref.result.now seats
+    c.compared.result (c.deref.ensures.value ∙ c.in-Ok.ensures) none c.compared.ensures.ok c.compared.ensures.differs
+    c.compared.ensures.all in
+    record { ok = both.0; err = both.1 }

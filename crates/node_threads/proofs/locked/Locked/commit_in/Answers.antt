@@ -1,0 +1,31 @@
+use Rattle.std.proofs.Common.{◌≤◌, ◌∷◌, [], length, ap, ◌∙◌, arith}
+use Rattle.std.proofs.lemmas.List.{length-append}
+use Rattle.history.specs.declared.entry.Entry.TheVariants.{Step}
+use Rattle.node_threads.proofs.Entering.{booked_entered, booked_graph, steps_more}
+use Rattle.node_threads.proofs.locked.Locked.commit_in.Goals as goal
+
+pub invariant_of-self-clause-nodes : goal.invariant_of-self-clause-nodes
+invariant_of-self-clause-nodes g c =
+    let l = c.args.self.now in
+    ap (λ k. length k.ids) (booked_graph g.P.Application.app l.book c.args.plan.event c.apply.new.self c.in-Ok-apply.receipt
+    c.in-Ok-apply.ensures.ok.0) ∙ l.nodes
+
+pub invariant_of-self-clause-counted : goal.invariant_of-self-clause-counted
+invariant_of-self-clause-counted g c =
+    let l = c.args.self.now in
+    let entered = booked_entered g.P.Application.app l.book c.args.plan.event c.apply.new.self c.in-Ok-apply.receipt
+    c.in-Ok-apply.ensures.ok.0 in
+    rw entered.entries (omega (
+      arith,
+      l.counted,
+      c.add.ensures.total,
+      length-append l.book.entries (Step c.args.plan.event ∷ []),
+    ))
+
+pub invariant_of-self-clause-steps : goal.invariant_of-self-clause-steps
+invariant_of-self-clause-steps g c =
+    let l = c.args.self.now in
+    let within : l.mark ≤ length l.book.entries = omega (arith, l.counted) in
+    let entered = booked_entered g.P.Application.app l.book c.args.plan.event c.apply.new.self c.in-Ok-apply.receipt
+    c.in-Ok-apply.ensures.ok.0 in
+    rw entered.entries (steps_more l.mark l.book.entries c.args.plan.event within l.steps)

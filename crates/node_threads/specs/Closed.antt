@@ -1,0 +1,69 @@
+-- A closed sharing: a list for each node, and each the seat list of its node.
+use Rattle.std.specs.Prelude.{◌≡◌, ◌≢◌, ⊤, ℕ, Bool, ◌==◌, not, All, Contains, List, ◌∷◌, ◌++◌, length, map, find, sum_by}
+use Rattle.std.specs.Prelude.{Option, Some, None}
+use Rattle.std.specs.List.{list_any}
+use Rattle.app_interface.specs.Application.{App}
+use Rattle.topology.specs.Graph.{IsNode}
+use Rattle.history.specs.declared.entry.Receipt.{Receipt}
+use Rattle.history.specs.Book.{BookView}
+use Rattle.node_threads.specs.declared.closing.CloseFault.{CloseFault}
+use Rattle.node_threads.specs.declared.closing.CloseFault.TheVariants.{SeatMissing, ListsDiffer, NoMemory}
+use Rattle.node_threads.specs.Locked.{IsLocked}
+use Rattle.node_threads.specs.Seats.{SeatView, of_node, receipts_after, seat_list}
+
+-- a node, with what its seat was told
+abbrev pub NodeList : Type 0
+NodeList = ℕ × List Receipt
+
+abbrev pub list_of : SeatView → NodeList
+list_of s = (s.node, s.receipts)
+
+-- each node of the book has a list among these, and each list is the seat list of its node
+pub record AreSeatLists {L : Type 0} (app : App L) (from_text : List ℕ → Option L) (b : BookView L) (mark : ℕ)
+    (lists : List NodeList) : Type 0 where
+  pub all : (i : ℕ) → IsNode b.config.graph i → Contains (map (λ l. l.0) lists) i
+  pub told : All (λ l. l.1 ≡ seat_list app from_text b mark l.0) lists
+
+-- the book and the lists of a closed sharing: what held under the lock, with one list for each node and as many
+-- entries after the mark as the lists have receipts
+pub record IsClosed {L : Type 0} (app : App L) (from_text : List ℕ → Option L) (b : BookView L) (mark : ℕ)
+    (lists : List NodeList) : Type 0 where
+  pub seats : AreSeatLists app from_text b mark lists
+  pub locked : IsLocked app from_text b mark (sum_by (λ l. length l.1) lists) (length lists)
+
+-- ---- why seats don't close a sharing
+
+-- one of the seats is the node's
+abbrev pub is_seated : List SeatView → ℕ → Bool
+is_seated seats i = list_any (λ s. s.node == i) seats
+
+-- the least node without a seat
+abbrev pub first_missing : List ℕ → List SeatView → Option ℕ
+first_missing ids seats = find (λ i. not (is_seated seats i)) ids
+
+-- the first seat that wasn't told exactly what these receipts have of its node is one of node i
+pub record IsFirstDiffering (told : List Receipt) (seats : List SeatView) (i : ℕ) : Type 0 where
+  pub before : List SeatView
+  pub seat : SeatView
+  pub rest : List SeatView
+  pub split : seats ≡ before ++ seat ∷ rest
+  pub same : All (λ s. s.receipts ≡ of_node s.node told) before
+  pub differs : seat.receipts ≢ of_node seat.node told
+  pub node : i ≡ seat.node
+
+-- the first fault of the seats. Want of memory may stand in place of a list that differs
+abbrev pub IsUnclosed : {L : Type 0} → App L → (List ℕ → Option L) → BookView L → ℕ → List SeatView → CloseFault
+    → Type 0
+IsUnclosed app from_text b mark seats (SeatMissing i) = first_missing b.config.graph.ids seats ≡ Some i
+IsUnclosed app from_text b mark seats (ListsDiffer i) =
+    (first_missing b.config.graph.ids seats ≡ None)
+    × IsFirstDiffering (receipts_after app from_text b mark) seats i
+IsUnclosed app from_text b mark seats NoMemory = ⊤
+
+-- the fault of the seats by the book that lay under the lock
+pub record IsCloseFault {L : Type 0} (app : App L) (from_text : List ℕ → Option L) (mark nodes : ℕ)
+    (seats : List SeatView) (f : CloseFault) : Type 0 where
+  pub book : BookView L
+  pub total : ℕ
+  pub locked : IsLocked app from_text book mark total nodes
+  pub why : IsUnclosed app from_text book mark seats f

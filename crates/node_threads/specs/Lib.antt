@@ -1,0 +1,5 @@
+pub mod Seats
+pub mod Locked
+pub mod Choice
+pub mod Told
+pub mod Closed

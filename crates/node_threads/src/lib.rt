@@ -1,0 +1,23 @@
+//! Node threads of the distributed reset service: one thread a node, a book under one lock, and the proof
+//! that what the threads were told is what the book has.
+#![tactic(auto)]
+
+mod choice;
+mod closing;
+mod locked;
+mod refusal;
+mod round;
+mod run;
+mod seat;
+mod sharing;
+mod turns;
+
+pub use choice::next_event;
+pub use closing::{CloseFault, Outcome, SeatList, close};
+pub use locked::Locked;
+pub use refusal::{CommitRefusal, LookRefusal, SeatRefusal, ShareFault};
+pub use round::Round;
+pub use run::{RunCause, RunFault, run_nodes};
+pub use seat::Seat;
+pub use sharing::{MAX_SEATS, Shared, select, share};
+pub use turns::{Gate, MAX_TURNS, TurnsEnd, node_turns};

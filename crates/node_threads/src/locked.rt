@@ -1,0 +1,135 @@
+// What lies under the lock.
+
+ghost use Rattle.std.specs.Prelude.{◌≡◌, ◌≢◌, ◌+◌, Ok, IfOk, IfErr, OnOk, OnErr, true, drop, length};
+ghost use Rattle.std.specs.List.{list_all};
+ghost use Rattle.topology.specs.Graph.{IsNode};
+ghost use Rattle.reset_model.specs.Steps.{event_node};
+ghost use Rattle.reset_model.specs.View.{IsSeen, view_of};
+ghost use Rattle.history.specs.Book.{booked};
+ghost use Rattle.node_threads.specs.Locked.{IsLocked, IsPlanOf, IsUncommitted, IsUndone, is_step};
+ghost use Rattle.node_threads.specs.Seats.{with_receipt};
+
+use crate::refusal::{CommitRefusal, LookRefusal, SeatRefusal};
+use crate::round::Round;
+use crate::seat::Seat;
+use app_interface::Application;
+use history::{ApplyRefusal, Book, BookRefusal, Receipt};
+use reset_machine::{Event, Plan, StepRefusal, View};
+use std::alloc::{AllocError, Global};
+use std::sync::ledger::Book as Tally;
+
+/// What lies under the lock: a book, its mark, and the count of the entries since. Whenever the lock is
+/// got these facts hold of it.
+#[derive(Drop)]
+pub struct Locked<L: Round, P: Application> {
+    pub(crate) book: Book<P>,
+    pub(crate) mark: usize,
+    pub(crate) tally: Tally<L>,
+    ghost mark_is: { mark ≡ L.mark },
+    ghost nodes: { length book.config.graph.ids ≡ L.seats },
+    ghost counted: { mark + tally.total ≡ length book.entries },
+    ghost steps: { list_all is_step (drop mark book.entries) ≡ true },
+}
+
+impl<L: Round, P: Application> Locked<L, P> {
+    /// What holds of it: its book is one, with the round's mark and as many nodes as the round has seats;
+    /// its ledger's total is the number of entries after the mark, and none of these is a fault.
+    pub fn is_locked(&self)
+        ensures mark { self.now.mark ≡ L.mark }
+        ensures locked { IsLocked P.app P.from_text self.now.book L.mark self.now.tally.total L.seats }
+    {
+        self.book.is_book();
+    }
+
+    /// What the seat's node sees now.
+    pub fn look_in(&self, alloc: Global, seat: &Seat<L>) -> Result<View<P>, LookRefusal>
+        ensures ok { IfOk result (λ view. IsNode self.now.book.config.graph seat.now.node
+            × (view ≡ view_of P.app self.now.book.config seat.now.node)) }
+        ensures err { IfErr result (λ f. f ≢ LookRefusal.NoMemory
+            → (f ≡ LookRefusal.StrangeNode) × (IsNode self.now.book.config.graph seat.now.node → ⊥)) }
+    {
+        match self.book.config().view(alloc, seat.node()) {
+            Ok(view) => Ok(view),
+            Err(StepRefusal::NoMemory) => Err(LookRefusal::NoMemory),
+            Err(_) => Err(LookRefusal::StrangeNode),
+        }
+    }
+
+    /// Commits the plan: the book applies it, and the seat gets the receipt, or the plan comes back with the
+    /// first refusal. A refused plan changes nothing.
+    pub fn commit_in(
+        &mut self,
+        alloc: Global,
+        seat: &mut Seat<L>,
+        plan: Plan<P>,
+    ) -> Result<Receipt, (CommitRefusal<P>, Plan<P>)>
+        ensures ok { IfOk result (λ receipt. (booked P.app self.old.book plan.event ≡ Ok (self.new.book, receipt))
+            × (receipt.reply ≡ plan.reply) × (seat.new ≡ with_receipt seat.old receipt)) }
+        ensures yours { OnOk result (IsPlanOf seat.old.node plan × IsSeen P.app self.old.book.config plan.view) }
+        ensures unit { OnOk result (self.new.tally.total ≡ self.old.tally.total + 1) }
+        ensures err { IfErr result (λ e. IsUncommitted P.app self.old.book seat.old.node plan e.0 × (e.1 ≡ plan)) }
+        ensures kept { OnErr result ((self.new.book ≡ self.old.book) × (self.new.tally.total ≡ self.old.tally.total)
+            × (seat.new ≡ seat.old)) }
+    {
+        if plan.seen_view().id() != seat.node() || plan.event().node() != seat.node() {
+            return Err((CommitRefusal::NotYours, plan));
+        }
+        match seat.receipts.reserve(1) {
+            Ok(()) => {}
+            Err(AllocError) => {
+                return Err((CommitRefusal::Refused(ApplyRefusal::NoMemory), plan));
+            }
+        }
+        let Locked {
+            book,
+            mark: _,
+            tally,
+        } = self;
+        match book.apply(alloc, plan) {
+            Ok(receipt) => {
+                tally.add(&mut seat.share, 1);
+                seat.receipts.push_reserved(receipt);
+                Ok(receipt)
+            }
+            Err((refusal, plan)) => Err((CommitRefusal::Refused(refusal), plan)),
+        }
+    }
+
+    /// Does the event: the book's step, and the seat gets the receipt, or names the first refusal. A refused
+    /// event changes nothing.
+    pub fn step_in(
+        &mut self,
+        alloc: Global,
+        seat: &mut Seat<L>,
+        event: Event,
+    ) -> Result<Receipt, SeatRefusal>
+        ensures ok { IfOk result (λ receipt. (booked P.app self.old.book event ≡ Ok (self.new.book, receipt))
+            × (seat.new ≡ with_receipt seat.old receipt)) }
+        ensures yours { OnOk result (event_node event ≡ seat.old.node) }
+        ensures unit { OnOk result (self.new.tally.total ≡ self.old.tally.total + 1) }
+        ensures err { IfErr result (IsUndone P.app self.old.book seat.old.node event) }
+        ensures kept { OnErr result ((self.new.book ≡ self.old.book) × (self.new.tally.total ≡ self.old.tally.total)
+            × (seat.new ≡ seat.old)) }
+    {
+        if event.node() != seat.node() {
+            return Err(SeatRefusal::NotYours);
+        }
+        match seat.receipts.reserve(1) {
+            Ok(()) => {}
+            Err(AllocError) => return Err(SeatRefusal::Refused(BookRefusal::NoMemory)),
+        }
+        let Locked {
+            book,
+            mark: _,
+            tally,
+        } = self;
+        match book.step(alloc, event) {
+            Ok(receipt) => {
+                tally.add(&mut seat.share, 1);
+                seat.receipts.push_reserved(receipt);
+                Ok(receipt)
+            }
+            Err(refusal) => Err(SeatRefusal::Refused(refusal)),
+        }
+    }
+}

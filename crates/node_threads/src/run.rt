@@ -1,0 +1,234 @@
+// A thread for each node.
+
+ghost use Rattle.std.specs.Prelude.{◌≡◌, ◌≢◌, ◌+◌, ◌<◌, ◌≤◌, IfErr, IfOk, OnOk, Some, false, length, ℕ};
+ghost use denote.Param.{param};
+ghost use denote.Param.Send.{IsSync};
+ghost use Rattle.topology.specs.Graph.{IsNode};
+ghost use Rattle.node_threads.specs.Closed.{IsClosed};
+ghost use Rattle.node_threads.specs.contracts.sharing.Shared.{the_row};
+
+use crate::closing::{CloseFault, Outcome, close};
+use crate::refusal::{SeatRefusal, ShareFault};
+use crate::round::Round;
+use crate::seat::Seat;
+use crate::sharing::{MAX_SEATS, Shared, select, share};
+use crate::turns::{Gate, TurnsEnd, node_turns};
+use app_interface::Application;
+use history::{Book, BookRefusal};
+use std::alloc::Global;
+use std::marker::Brand;
+use std::sync::Wait;
+use std::sync::ledger::Blank;
+use std::thread;
+use std::thread::Threads;
+
+/// Why a run of node threads gives no outcome, in the order in which faults are given.
+#[derive(Clone, Copy, Debug, PartialEq, Eq)]
+pub enum RunCause {
+    /// The selected node isn't a node of the topology.
+    StrangeNode,
+    /// There are over 64 nodes.
+    TooManyForThreads,
+    /// A thread couldn't be started, for whatever cause. Those that were started are joined first.
+    NoThread,
+    /// The seats don't close the sharing.
+    Close(CloseFault),
+    /// Memory is wanting.
+    NoMemory,
+}
+
+/// Why a run gives no outcome, with the book as it stands.
+#[derive(Drop)]
+pub struct RunFault<P: Application> {
+    pub cause: RunCause,
+    pub book: Book<P>,
+}
+
+// What a run does at each seat: the selected node asks for a reset, and then each takes so many turns.
+#[derive(Clone, Copy)]
+struct Task {
+    turns: u32,
+    selected: Option<u32>,
+    ghost few: { turns ≤ 100000 },
+}
+
+// What the threads gave back, whether one couldn't be started, and whether memory was wanting.
+#[derive(Drop)]
+struct Joined<L: Round> {
+    seats: Vec<Seat<L>>,
+    refused: bool,
+    hungry: bool,
+}
+
+/// Runs each node in a thread of its own: the selected node asks for a reset, and then each takes so many
+/// turns. A book that is full ends a node's turns and is no fault. A node whose memory is wanting doesn't stop
+/// the others.
+pub fn run_nodes<P: Application, G: Gate + Sync, R: Threads + Wait + Sync>(
+    rt: &R,
+    alloc: Global,
+    gate: &G,
+    book: Book<P>,
+    turns: u32,
+    selected: Option<u32>,
+) -> Result<Outcome<P>, RunFault<P>>
+    requires { turns ≤ 100000 }
+    ensures closed { IfOk result (λ o. IsClosed P.app P.from_text o.book (length book.entries) o.seats.items) }
+    ensures few { OnOk result (length book.config.graph.ids ≤ 64) }
+    ensures strange { IfErr result (λ e. e.cause ≡ RunCause.StrangeNode
+        → (i : ℕ) → selected ≡ Some i → IsNode book.config.graph i → ⊥) }
+    ensures many { IfErr result (λ e. e.cause ≡ RunCause.TooManyForThreads → 64 < length book.config.graph.ids) }
+{
+    if !is_there(&book, selected) {
+        let cause = RunCause::StrangeNode;
+        return Err(RunFault { cause, book });
+    }
+    let nodes = book.config().topology().len();
+    if nodes > MAX_SEATS {
+        let cause = RunCause::TooManyForThreads;
+        return Err(RunFault { cause, book });
+    }
+    let task = Task { turns, selected };
+    run_round::<Brand, P, G, R>(rt, alloc, Blank::new(nodes as u64 + 1), gate, book, task)
+}
+
+// Whether the selected node, if there is one, is a node of the book.
+fn is_there<P: Application>(book: &Book<P>, selected: Option<u32>) -> bool
+    ensures { result ≡ false → (i : ℕ) → selected ≡ Some i → IsNode book.now.config.graph i → ⊥ }
+{
+    match selected {
+        Some(node) => book.config().tree_at(node).is_some(),
+        None => true,
+    }
+}
+
+// A run of one sharing.
+fn run_round<L: Round + Send + Sync, P: Application, G: Gate + Sync, R: Threads + Wait + Sync>(
+    rt: &R,
+    alloc: Global,
+    blank: Blank,
+    gate: &G,
+    book: Book<P>,
+    task: Task,
+) -> Result<Outcome<P>, RunFault<P>>
+    requires name { blank.name ≡ L.name }
+    requires parts { blank.parts ≡ L.parts }
+    requires one_more { L.parts ≡ L.seats + 1 }
+    requires mark { length book.entries ≡ L.mark }
+    requires nodes { length book.config.graph.ids ≡ L.seats }
+    ensures closed { IfOk result (λ o. IsClosed P.app P.from_text o.book L.mark o.seats.items) }
+    ensures strange { IfErr result (λ e. e.cause ≢ RunCause.StrangeNode) }
+    ensures many { IfErr result (λ e. e.cause ≡ RunCause.TooManyForThreads → 64 < L.seats) }
+{
+    let (shared, seats) = match share::<L, P>(alloc, blank, book) {
+        Ok(both) => both,
+        Err((fault, _blank, book)) => {
+            let cause = cause_of(fault);
+            return Err(RunFault { cause, book });
+        }
+    };
+    let joined = in_threads(rt, alloc, gate, &shared, seats, task);
+    let Joined {
+        seats,
+        refused,
+        hungry,
+    } = joined;
+    if refused {
+        let cause = RunCause::NoThread;
+        let book = shared.into_book();
+        return Err(RunFault { cause, book });
+    }
+    if hungry {
+        let cause = RunCause::NoMemory;
+        let book = shared.into_book();
+        return Err(RunFault { cause, book });
+    }
+    match close(alloc, shared, seats) {
+        Ok(outcome) => Ok(outcome),
+        Err((CloseFault::NoMemory, shared, _seats)) => {
+            let cause = RunCause::NoMemory;
+            let book = shared.into_book();
+            Err(RunFault { cause, book })
+        }
+        Err((fault, shared, _seats)) => {
+            let cause = RunCause::Close(fault);
+            let book = shared.into_book();
+            Err(RunFault { cause, book })
+        }
+    }
+}
+
+// A fault of sharing as a run tells it.
+fn cause_of(fault: ShareFault) -> RunCause
+    ensures many { result ≡ RunCause.TooManyForThreads → fault ≡ ShareFault.TooManyForThreads }
+    ensures strange { result ≢ RunCause.StrangeNode }
+{
+    match fault {
+        ShareFault::TooManyForThreads => RunCause::TooManyForThreads,
+        ShareFault::NoMemory => RunCause::NoMemory,
+    }
+}
+
+// What a thread does at a seat.
+fn sit<L: Round, P: Application, G: Gate, R: Wait>(
+    rt: &R,
+    alloc: Global,
+    gate: &G,
+    shared: &Shared<L, P>,
+    mut seat: Seat<L>,
+    task: Task,
+) -> (Seat<L>, TurnsEnd) {
+    if task.selected == Some(seat.node()) {
+        match select(rt, alloc, shared, &mut seat) {
+            Err(SeatRefusal::Refused(BookRefusal::NoMemory)) => return (seat, TurnsEnd::NoMemory),
+            _ => {}
+        }
+    }
+    let end = node_turns(rt, alloc, gate, shared, &mut seat, task.turns);
+    (seat, end)
+}
+
+// What is shared may be seen by every thread.
+fn crosses<L: Round + Send + Sync, P: Application>(shared: &Shared<L, P>)
+    ensures { IsSync (the_row (param 0 L.row) (param 1 P.row) (param 4 P.Local.row) L.Round.own L.Ledger.own P.Application.own) }
+{
+    let _ = shared;
+}
+
+// One thread for each seat, all joined. Room for the handles and the seats is made before the first is started.
+fn in_threads<L: Round + Send + Sync, P: Application, G: Gate + Sync, R: Threads + Wait + Sync>(
+    rt: &R,
+    alloc: Global,
+    gate: &G,
+    shared: &Shared<L, P>,
+    seats: Vec<Seat<L>>,
+    task: Task,
+) -> Joined<L> {
+    thread::scope(thread::scope_env(), rt, |scope| -> Joined<L> {
+        crosses(shared);
+        let mut handles = Vec::new(alloc);
+        let mut refused = false;
+        let mut hungry = false;
+        for seat in seats {
+            match scope.spawn(move || sit(rt, alloc, gate, shared, seat, task)) {
+                Ok(handle) => {
+                    if handles.push(handle).is_err() {
+                        hungry = true;
+                    }
+                }
+                Err(_) => refused = true,
+            }
+        }
+        let mut back = Vec::new(alloc);
+        for handle in handles {
+            let (seat, end) = handle.join(rt);
+            if end == TurnsEnd::NoMemory || back.push(seat).is_err() {
+                hungry = true;
+            }
+        }
+        Joined {
+            seats: back,
+            refused,
+            hungry,
+        }
+    })
+}

@@ -1,0 +1,172 @@
+// What the threads share.
+
+ghost use Rattle.std.specs.Prelude.{◌≡◌, ◌≢◌, ◌↔◌, ◌+◌, ◌<◌, ◌≤◌, Err, IfOk, IfErr, OnOk, OnErr, [], length, map};
+ghost use Rattle.std.specs.Vec.{vec_capacity};
+ghost use Rattle.reset_model.specs.Steps.{event_node};
+ghost use Rattle.reset_model.specs.declared.event.Event.TheVariants.{Request};
+ghost use Rattle.node_threads.specs.Locked.{IsPlanOf};
+ghost use Rattle.node_threads.specs.Seats.{empty_seat, with_receipt};
+
+use crate::locked::Locked;
+use crate::refusal::{CommitRefusal, LookRefusal, SeatRefusal, ShareFault};
+use crate::round::{Cut, Round};
+use crate::seat::Seat;
+use app_interface::Application;
+use history::{ApplyRefusal, Book, Receipt};
+use reset_machine::{Event, Plan, View};
+use std::alloc::{AllocError, Global};
+use std::sync::ledger::{Blank, Share};
+use std::sync::{Mutex, Wait};
+
+/// The most nodes of a book that is shared: each has a thread of its own.
+pub const MAX_SEATS: usize = 64;
+
+/// What the threads share: a book under one lock. It keeps the last part of the ledger, at amount 0.
+#[derive(Drop)]
+pub struct Shared<L: Round, P: Application> {
+    pub(crate) locked: Mutex<Locked<L, P>>,
+    pub(crate) last: Share<L>,
+    pub(crate) cut: Cut<L>,
+    ghost last_part: { last.parts ≡ 1 },
+    ghost last_empty: { last.amount ≡ 0 },
+}
+
+/// Shares a book: puts it under a lock, and gives each node, ascending, a seat. Or the blank and the book
+/// come back with the first fault.
+pub fn share<L: Round, P: Application>(
+    alloc: Global,
+    blank: Blank,
+    book: Book<P>,
+) -> Result<(Shared<L, P>, Vec<Seat<L>>), (ShareFault, Blank, Book<P>)>
+    requires name { blank.name ≡ L.name }
+    requires parts { blank.parts ≡ L.parts }
+    requires one_more { L.parts ≡ L.seats + 1 }
+    requires mark { length book.entries ≡ L.mark }
+    requires nodes { length book.config.graph.ids ≡ L.seats }
+    ensures seats { IfOk result (λ r. r.1.items ≡ map empty_seat book.config.graph.ids) }
+    ensures few { OnOk result (L.seats ≤ 64) }
+    ensures many { IfErr result (λ e. e.0 ≡ ShareFault.TooManyForThreads → 64 < L.seats) }
+    ensures returned { IfErr result (λ e. (e.1 ≡ blank) × (e.2 ≡ book)) }
+{
+    let nodes = book.config().topology().len();
+    if nodes > MAX_SEATS {
+        return Err((ShareFault::TooManyForThreads, blank, book));
+    }
+    let seats = match Vec::with_capacity(alloc, nodes) {
+        Ok(seats) => seats,
+        Err(AllocError) => return Err((ShareFault::NoMemory, blank, book)),
+    };
+    let mark = book.len();
+    let (tally, all) = blank.open::<L>();
+    let (seats, last) = seat_all(alloc, book.config().topology().ids(), seats, all);
+    let shared = Shared {
+        locked: Mutex::new(Locked { book, mark, tally }),
+        last,
+        cut: Cut::new(),
+    };
+    Ok((shared, seats))
+}
+
+// A seat for each node, with one part of the ledger, and the last part.
+fn seat_all<L: Round>(
+    alloc: Global,
+    ids: &[u32],
+    mut seats: Vec<Seat<L>>,
+    mut all: Share<L>,
+) -> (Vec<Seat<L>>, Share<L>)
+    requires none { seats.items ≡ [] }
+    requires room { length ids.now ≤ vec_capacity seats }
+    requires parts { all.parts ≡ length ids.now + 1 }
+    requires nothing { all.amount ≡ 0 }
+    ensures seats { result.0.items ≡ map empty_seat ids.now }
+    ensures last { (result.1.parts ≡ 1) × (result.1.amount ≡ 0) }
+{
+    for id in ids {
+        let part = all.split_off(1, 0);
+        seats.push_reserved(Seat::new(alloc, *id, part));
+    }
+    (seats, all)
+}
+
+impl<L: Round, P: Application> Shared<L, P> {
+    // The book as it stands.
+    pub(crate) fn into_book(self) -> Book<P> {
+        let Shared {
+            locked,
+            last: _,
+            cut: _,
+        } = self;
+        let Locked {
+            book,
+            mark: _,
+            tally: _,
+        } = locked.into_inner();
+        book
+    }
+
+    /// What the seat's node sees at some moment of the call. It takes the lock.
+    pub fn look<R: Wait>(
+        &self,
+        rt: &R,
+        alloc: Global,
+        seat: &Seat<L>,
+    ) -> Result<View<P>, LookRefusal>
+        ensures { IfOk result (λ view. view.id ≡ seat.now.node) }
+    {
+        self.locked.lock(rt).look_in(alloc, seat)
+    }
+
+    /// Commits the plan, which the seat gets a receipt for, or the plan comes back with the first refusal. A
+    /// refused plan changes nothing. It takes the lock.
+    pub fn commit<R: Wait>(
+        &self,
+        rt: &R,
+        alloc: Global,
+        seat: &mut Seat<L>,
+        plan: Plan<P>,
+    ) -> Result<Receipt, (CommitRefusal<P>, Plan<P>)>
+        ensures yours { OnOk result (IsPlanOf seat.old.node plan) }
+        ensures told { IfOk result (λ receipt. (receipt.event ≡ plan.event) × (receipt.reply ≡ plan.reply)) }
+        ensures seat { IfOk result (λ receipt. seat.new ≡ with_receipt seat.old receipt) }
+        ensures not_yours { IfErr result (λ e. e.0 ≡ CommitRefusal.NotYours ↔ (IsPlanOf seat.old.node plan → ⊥)) }
+        ensures stale { IfErr result (λ e. (now : _) → e.0 ≡ CommitRefusal.Refused (ApplyRefusal.Stale now)
+            → (now.id ≡ seat.old.node) × (plan.view ≢ now)) }
+        ensures kept { IfErr result (λ e. (seat.new ≡ seat.old) × (e.1 ≡ plan)) }
+    {
+        self.locked.lock(rt).commit_in(alloc, seat, plan)
+    }
+
+    /// Does the event, which the seat gets a receipt for, or names the first refusal. A refused event changes
+    /// nothing. It takes the lock.
+    pub fn step<R: Wait>(
+        &self,
+        rt: &R,
+        alloc: Global,
+        seat: &mut Seat<L>,
+        event: Event,
+    ) -> Result<Receipt, SeatRefusal>
+        ensures yours { OnOk result (event_node event ≡ seat.old.node) }
+        ensures told { IfOk result (λ receipt. receipt.event ≡ event) }
+        ensures seat { IfOk result (λ receipt. seat.new ≡ with_receipt seat.old receipt) }
+        ensures not_yours { result ≡ Err SeatRefusal.NotYours ↔ event_node event ≢ seat.old.node }
+        ensures kept { OnErr result (seat.new ≡ seat.old) }
+    {
+        self.locked.lock(rt).step_in(alloc, seat, event)
+    }
+}
+
+/// Asks for a reset at the seat's node: a step with its request. It takes the lock.
+pub fn select<L: Round, P: Application, R: Wait>(
+    rt: &R,
+    alloc: Global,
+    shared: &Shared<L, P>,
+    seat: &mut Seat<L>,
+) -> Result<Receipt, SeatRefusal>
+    ensures told { IfOk result (λ receipt. receipt.event ≡ Request seat.old.node) }
+    ensures seat { IfOk result (λ receipt. seat.new ≡ with_receipt seat.old receipt) }
+    ensures yours { result ≢ Err SeatRefusal.NotYours }
+    ensures kept { OnErr result (seat.new ≡ seat.old) }
+{
+    let at = seat.node();
+    shared.step(rt, alloc, seat, Event::Request { at })
+}
