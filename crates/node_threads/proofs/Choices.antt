@@ -1,5 +1,6 @@
 -- What is left to try of a node's choices, where the first of them aren't allowed.
-use Rattle.std.proofs.Common.{◌≡◌, ℕ, ◌==◌, List, [], ◌∷◌, ◌++◌, Option, None, filter, find, map, append_assoc, sym, ap, ap₂, ◌∙◌}
+use Rattle.std.proofs.Common.{◌≡◌, ℕ, ◌==◌, List, [], ◌∷◌, ◌++◌, Option, None, filter, find, map}
+use Rattle.std.proofs.Common.{append_assoc, sym, ap, ap₂, ◌∙◌}
 use Rattle.std.specs.List.{flat_map}
 use Rattle.action_tables.specs.Numbers.{all_cases}
 use Rattle.app_interface.specs.Application.{App}

@@ -1,7 +1,8 @@
 -- What is gathered of the seats, where each node has one of them.
-use Rattle.std.proofs.Common.{◌≡◌, ℕ, suc, ◌+◌, ◌<◌, ◌≤◌, ◌==◌, ◌&&◌, ◌||◌, Bool, true, false, not, All, Contains, List, [], ◌∷◌}
+use Rattle.std.proofs.Common.{◌≡◌, ℕ, suc, ◌+◌, ◌<◌, ◌≤◌, ◌==◌, ◌&&◌, ◌||◌, Bool, true, false, not}
+use Rattle.std.proofs.Common.{All, Contains, List, [], ◌∷◌, ◌++◌, append_assoc, append-nil}
 use Rattle.std.proofs.Common.{◌≢◌, IfErr, OnOk, Result, Ok, Err}
-use Rattle.std.proofs.Common.{Option, None, length, map, filter, get_or, subst, sym, ap, ◌∙◌, refl, arith, sum_by, ◌++◌, append_assoc, append-nil}
+use Rattle.std.proofs.Common.{Option, None, length, map, filter, get_or, subst, sym, ap, ◌∙◌, refl, arith, sum_by}
 use Rattle.std.proofs.lemmas.List.{length-append}
 use Rattle.std.proofs.lemmas.List.Sums.{sum_by-append}
 use Rattle.std.specs.List.{list_any}
@@ -17,7 +18,8 @@ use Rattle.reset_model.proofs.FirstFound.{find-none}
 use Rattle.app_interface.specs.Application.{App}
 use Rattle.history.specs.declared.entry.Receipt.{Receipt}
 use Rattle.history.specs.Book.{BookView}
-use Rattle.node_threads.specs.Closed.{AreSeatLists, IsClosed, IsFirstDiffering, IsUnclosed, NodeList, first_missing, is_seated, list_of}
+use Rattle.node_threads.specs.Closed.{AreSeatLists, IsClosed, IsFirstDiffering, IsUnclosed, NodeList}
+use Rattle.node_threads.specs.Closed.{first_missing, is_seated, list_of}
 use Rattle.node_threads.specs.declared.closing.CloseFault.{CloseFault}
 use Rattle.node_threads.specs.declared.closing.CloseFault.TheVariants.{SeatMissing, ListsDiffer, NoMemory}
 use Rattle.node_threads.specs.Locked.{IsLocked}
@@ -134,7 +136,8 @@ pub closes : {L : Type 0} (app : App L) (from_text : List ℕ → Option L) (b :
     → AreSeatLists app from_text b mark (map list_of seats) → lists ≡ map list_of seats
     → parts ≡ 1 + length lists → amount ≡ sum_by (λ l. length l.1) lists → parts ≤ all_parts → all_parts ≡ n + 1
     → (parts ≡ all_parts → amount ≡ total) → IsClosed app from_text b mark lists
-closes app from_text b mark n total parts amount all_parts seats lists locked up told is has_parts counts within cut whole =
+closes app from_text b mark n total parts amount all_parts seats lists locked up told is has_parts counts within cut
+    whole =
     let same : length lists ≡ length seats = ap length is ∙ length-map seats in
     let many : n ≤ length seats = omega (arith, locked.nodes, as_many b.config.graph.ids seats up told.all) in
     let all : length lists ≡ n = omega (arith, same, many, within, cut, has_parts) in

@@ -48,7 +48,8 @@ cases_next n low =
     ap (λ k. range_with_len n k) more
 
 pub case_next : {Y : Type 0} (p : Y → Bool) (f : ℕ → List Y) (n : ℕ) (all : Option Y) → n ≤ 16
-    → find p (flat_map f (cases_from n)) ≡ all → option_or (find p (f n)) (find p (flat_map f (cases_from (n + 1)))) ≡ all
+    → find p (flat_map f (cases_from n)) ≡ all
+    → option_or (find p (f n)) (find p (flat_map f (cases_from (n + 1)))) ≡ all
 case_next p f n all low so_far =
     let split : flat_map f (cases_from n) ≡ f n ++ flat_map f (cases_from (n + 1)) =
     ap (flat_map f) (cases_next n low) ∙ flat_map-cons f n (cases_from (n + 1)) in

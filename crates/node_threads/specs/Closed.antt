@@ -1,5 +1,6 @@
 -- A closed sharing: a list for each node, and each the seat list of its node.
-use Rattle.std.specs.Prelude.{◌≡◌, ◌≢◌, ⊤, ℕ, Bool, ◌==◌, not, All, Contains, List, ◌∷◌, ◌++◌, length, map, find, sum_by}
+use Rattle.std.specs.Prelude.{◌≡◌, ◌≢◌, ⊤, ℕ, Bool, ◌==◌, not, All, Contains, List, ◌∷◌, ◌++◌, length}
+use Rattle.std.specs.Prelude.{map, find, sum_by}
 use Rattle.std.specs.Prelude.{Option, Some, None}
 use Rattle.std.specs.List.{list_any}
 use Rattle.app_interface.specs.Application.{App}

@@ -4,7 +4,8 @@ ghost use Rattle.std.specs.Prelude.{◌≡◌, ◌≢◌, ◌≤◌, ◌++◌, �
 ghost use Rattle.std.specs.Prelude.{drop, filter, length, map, nat_lt, ℕ};
 ghost use Rattle.std.specs.Vec.{vec_capacity};
 ghost use Rattle.reset_model.specs.Steps.{event_node};
-ghost use Rattle.node_threads.specs.Closed.{AreSeatLists, IsCloseFault, IsClosed, IsFirstDiffering, IsUnclosed, first_missing};
+ghost use Rattle.node_threads.specs.Closed.{AreSeatLists, IsCloseFault, IsClosed, IsFirstDiffering, IsUnclosed};
+ghost use Rattle.node_threads.specs.Closed.{first_missing};
 ghost use Rattle.node_threads.specs.Closed.{is_seated, list_of};
 ghost use Rattle.node_threads.specs.Seats.{of_node, receipts_after};
 ghost use Rattle.node_threads.specs.Told.{left_after, reply_told, step_at};

@@ -189,7 +189,8 @@ fn sit<L: Round, P: Application, G: Gate, R: Wait>(
 
 // What is shared may be seen by every thread.
 fn crosses<L: Round + Send + Sync, P: Application>(shared: &Shared<L, P>)
-    ensures { IsSync (the_row (param 0 L.row) (param 1 P.row) (param 4 P.Local.row) L.Round.own L.Ledger.own P.Application.own) }
+    ensures { IsSync (the_row (param 0 L.row) (param 1 P.row) (param 4 P.Local.row) L.Round.own L.Ledger.own
+        P.Application.own) }
 {
     let _ = shared;
 }

@@ -11,7 +11,8 @@ loop-index-init g c =
     let app = g.P.Application.app in
     let from_text = g.P.Application.from_text in
     record {
-      whole = ap (λ items. items ++ filter (λ r. nat_lt c.args.mark r.position) (receipts_told c.reports-reports.result.now 0
+      whole = ap (λ items. items ++ filter (λ r. nat_lt c.args.mark r.position)
+          (receipts_told c.reports-reports.result.now 0
           b.entries)) c.new-told.ensures.items
           ∙ ap (filter (λ r. nat_lt c.args.mark r.position)) (ap (λ rs. receipts_told rs 0 b.entries)
           c.reports-reports.ensures
@@ -26,8 +27,9 @@ loop-index-preserved g c =
     let i = c.loop-index.index in
     let short : i < length b.entries = omega (arith, c.loop-index-test.true, c.len-index-end.ensures) in
     elim c.match-event_at.branch [
-      | in-Some+in_ok-push_after-in-Some w ↦ rw (w.told-is, w.next-is) (told_step c.args.mark all c.loop-index.told.items
-          w.push_after.new.told.items c.reports-reports.result.now c.loop-index.next w.reply_at-reply.result.1 i b.entries
+      | in-Some+in_ok-push_after-in-Some w ↦ rw (w.told-is, w.next-is) (told_step c.args.mark all
+          c.loop-index.told.items w.push_after.new.told.items c.reports-reports.result.now c.loop-index.next
+          w.reply_at-reply.result.1 i b.entries
           w.in-Some.event w.reply_at-reply.result.0 short (sym w.in-Some.is ∙ c.event_at.ensures)
           w.reply_at-reply.ensures.reply w.reply_at-reply.ensures.left w.reply_at-reply.ensures.within
           w.in_ok-push_after-in-Some.ensures c.loop-index.invariant)
