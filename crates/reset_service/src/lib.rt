@@ -11,6 +11,7 @@ mod gather;
 mod injected;
 mod input;
 mod laws;
+mod line;
 mod replays;
 mod rows;
 mod script;

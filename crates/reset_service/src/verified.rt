@@ -1,18 +1,19 @@
 // The verification of a history from a booted configuration.
 
-ghost use Rattle.std.specs.Prelude.{◌≡◌, ◌≢◌, Err, IfErr, IfSome, OnErr, OnOk};
+ghost use Rattle.std.specs.Prelude.{◌≡◌, ◌≢◌, ◌+◌, ◌≤◌, ◌++◌, length, Err, IfErr, IfSome, OnErr, OnOk};
 ghost use Rattle.std.specs.List.{flat_map};
 ghost use Rattle.std.specs.Io.KnownBytes.{Appends, Keeps};
 ghost use Rattle.topology.specs.TopologyText.{IsReadFault};
-ghost use Rattle.action_tables.specs.RowText.{part_text};
 ghost use Rattle.action_tables.specs.Written.{AppendsFront};
 ghost use Rattle.reset_service.specs.Meaning.{meaning_of};
 ghost use Rattle.reset_service.specs.Output.{Leaves};
 ghost use Rattle.reset_service.specs.Verified.{bad_history_text, counts_line, not_enabled_text, position_text};
 ghost use Rattle.reset_service.specs.Verified.{report_line, verified_text, IsVerification, IsVerified};
 ghost use Rattle.reset_service.specs.Verified.{IsVerifiedFrom, IsVerifiedOf};
+ghost use Rattle.reset_service.specs.declared.line.TheConstants.{ROOM};
 
 use crate::answer::put_numbered;
+use crate::line::LineBuffer;
 use crate::replays::refuse_topology;
 use crate::status::{RunStop, Status};
 use action_tables::{Part, WriteFault, put_bytes, put_parts};
@@ -204,26 +205,33 @@ fn put_report<W: Write>(out: &mut W, report: Report) -> Result<(), WriteFault>
     ensures ok { OnOk result (Appends (W.contents out.old) (W.contents out.new) (report_line report)) }
     ensures err { OnErr result (AppendsFront (W.contents out.old) (W.contents out.new) (report_line report)) }
 {
-    put_parts(
-        out,
-        &[
-            Part::Text(b"report "),
-            Part::Number(u64::from(report.number)),
-            Part::Text(b" opened "),
-            position_part(report.opened),
-            Part::Text(b" finished "),
-            Part::Number(report.finished as u64),
-            Part::Text(b"\n"),
-        ],
-    )
+    let line = line_of_report(report);
+    put_bytes(out, line.as_slice())
 }
 
-// A position, or a dash where there is none.
-fn position_part(position: Option<usize>) -> Part<'static>
-    ensures { part_text result ≡ position_text position }
+// A report in one piece: a history may have a million, and a call of the writer costs more than a copy.
+fn line_of_report(report: Report) -> LineBuffer
+    ensures { result ≡ report_line report }
+{
+    let mut line = LineBuffer::new();
+    line.push_text(b"report ");
+    line.push_number(u64::from(report.number));
+    line.push_text(b" opened ");
+    push_position(&mut line, report.opened);
+    line.push_text(b" finished ");
+    line.push_number(report.finished as u64);
+    line.push_text(b"\n");
+    line
+}
+
+// Adds a position, or a dash where there is none.
+fn push_position(line: &mut LineBuffer, position: Option<usize>)
+    requires { length line.old + 20 ≤ ROOM }
+    ensures pushed { line.new ≡ line.old ++ position_text position }
+    ensures length { length line.new ≤ length line.old + 20 }
 {
     match position {
-        Some(position) => Part::Number(position as u64),
-        None => Part::Text(b"-"),
+        Some(position) => line.push_number(position as u64),
+        None => line.push_text(b"-"),
     }
 }
