@@ -2,7 +2,7 @@
 //! with. It takes `TOPOLOGY SCRIPT`, and prints what `reset-service replay TOPOLOGY SCRIPT` prints
 //! where the topology is good and names the application `idle` or `mutex`, and the script has no `act`
 //! and no `newest`. Or it takes `verify TOPOLOGY HISTORY`, as `reset-service` does, of such topologies and
-//! of histories without `act`.
+//! of histories without `act`, or `threads TOPOLOGY --turns N --history FILE`, of such topologies.
 
 mod draw;
 mod event;
@@ -13,12 +13,15 @@ mod mutex;
 mod network;
 mod script;
 mod tables;
+mod threads;
 mod topology;
 
 use crate::history::{Verdict, verify};
-use crate::network::boot;
+use crate::network::{Network, boot};
 use crate::script::replay;
+use crate::threads::run_threads;
 use crate::topology::read_topology;
+use std::fs::File;
 use std::io::{self, BufWriter, Write};
 use std::process::ExitCode;
 use std::{env, fs};
@@ -39,27 +42,39 @@ fn main() -> ExitCode {
 /// Does what the words ask for, and tells the status that the process ends with.
 fn run() -> io::Result<u8> {
     let words: Vec<String> = env::args().skip(1).collect();
-    let (verifies, topology, text) = match words.as_slice() {
-        [topology, script] => (false, topology, script),
-        [verify, topology, history] if verify == "verify" => (true, topology, history),
-        _ => return Err(io::Error::other("usage: baseline [verify] TOPOLOGY TEXT")),
-    };
-    let (topology, text) = (fs::read(topology)?, fs::read(text)?);
-    let mut network = read_topology(&topology)
-        .and_then(|(app, ids, links)| boot(app, ids, &links))
-        .ok_or_else(|| io::Error::other("no good topology of the application idle or mutex"))?;
+    let words: Vec<&str> = words.iter().map(String::as_str).collect();
     let mut out = BufWriter::new(io::stdout().lock());
-    let status = if verifies {
-        match verify(&mut network, &text, &mut out)? {
-            Verdict::Good => 0,
-            Verdict::NotEnabled => 1,
-            Verdict::Bad => 2,
+    let status = match words.as_slice() {
+        ["threads", topology, "--turns", turns, "--history", history] => {
+            let turns = turns.parse().map_err(io::Error::other)?;
+            let network = read_network(topology)?;
+            let mut history = BufWriter::new(File::create(history)?);
+            run_threads(network, turns, &mut history, &mut out)?;
+            history.flush()?;
+            0
         }
-    } else if replay(&mut network, &text, &mut out)? {
-        0
-    } else {
-        2
+        ["verify", topology, history] => {
+            let text = fs::read(history)?;
+            match verify(&mut read_network(topology)?, &text, &mut out)? {
+                Verdict::Good => 0,
+                Verdict::NotEnabled => 1,
+                Verdict::Bad => 2,
+            }
+        }
+        [topology, script] => {
+            let text = fs::read(script)?;
+            if replay(&mut read_network(topology)?, &text, &mut out)? { 0 } else { 2 }
+        }
+        _ => return Err(io::Error::other("usage: baseline [verify] TOPOLOGY TEXT")),
     };
     out.flush()?;
     Ok(status)
+}
+
+/// The booted network of a topology.
+fn read_network(topology: &str) -> io::Result<Network> {
+    let topology = fs::read(topology)?;
+    read_topology(&topology)
+        .and_then(|(app, ids, links)| boot(app, ids, &links))
+        .ok_or_else(|| io::Error::other("no good topology of the application idle or mutex"))
 }

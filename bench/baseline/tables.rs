@@ -116,23 +116,23 @@ impl Network {
         row(1, node.wave.phase == Phase::Normal)
     }
 
-    fn relay_rows(node: &Node, near: &Node) -> Rows {
+    pub fn relay_rows(node: &Node, near: &Node) -> Rows {
         let asks = near.tree.father == node.id && near.wave.phase == Phase::Initiate;
         row(2, asks && node.wave.phase == Phase::Normal)
     }
 
-    fn open_rows(node: &Node) -> Rows {
+    pub fn open_rows(node: &Node) -> Rows {
         row(3, node.tree.father == node.id && node.wave.phase == Phase::Initiate)
     }
 
-    fn join_rows(node: &Node, up: Option<&Node>) -> Rows {
+    pub fn join_rows(node: &Node, up: Option<&Node>) -> Rows {
         let wave = node.wave;
         let joins = up.is_some_and(|up| up.wave.phase == Phase::Reset && wave.is_before(up.wave));
         row(4, joins && wave.phase == Phase::Normal)
             | row(5, joins && wave.phase == Phase::Initiate)
     }
 
-    fn finish_rows(&self, node: &Node) -> Rows {
+    pub fn finish_rows(&self, node: &Node) -> Rows {
         let session = node.wave.session;
         let done = node.wave.phase == Phase::Reset
             && self

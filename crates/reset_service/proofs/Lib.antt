@@ -17,3 +17,4 @@ pub mod Verifying
 pub mod Stretches
 pub mod ConnectedTopologies
 pub mod VerifiedReports
+pub mod Threading

@@ -18,6 +18,8 @@ use Rattle.reset_service.specs.declared.status.Status.TheVariants.{Good, FaultsF
 use Rattle.reset_service.specs.declared.status.Purpose.{Purpose}
 use Rattle.reset_service.specs.declared.status.RunStop.{RunStop}
 use Rattle.reset_service.specs.declared.status.RunStop.TheVariants.{ReadFailed, WriteFailed, NoMemory}
+use Rattle.reset_service.specs.declared.status.RunStop.TheVariants.{ThreadFailed, NotClosed}
+use Rattle.reset_service.specs.Stops.{IsInputStop, IsOutputStop}
 
 abbrev Output : Type 0
 Output = List ℕ × Status
@@ -118,11 +120,13 @@ left_last {L = L} m all done c n lines line p q =
 
 -- ---- what is left by a stop
 
-pub leaves_stop : (O : Output → Type 0) (a b : Option (List ℕ)) (s : RunStop) → s ≢ ReadFailed → HasFront O a b
+pub leaves_stop : (O : Output → Type 0) (a b : Option (List ℕ)) (s : RunStop) → IsOutputStop s → HasFront O a b
     → Leaves O a b (Err s)
-leaves_stop O a b ReadFailed other h = absurd (other refl)
+leaves_stop O a b ReadFailed other h = absurd other
 leaves_stop O a b WriteFailed other h = h
 leaves_stop O a b NoMemory other h = inr h
+leaves_stop O a b ThreadFailed other h = absurd other
+leaves_stop O a b NotClosed other h = absurd other
 
 -- an answer failed, after `done`
 front_whole : (all : Output) (a b d : Option (List ℕ)) (done text tail : List ℕ) → all.0 ≡ (done ++ text) ++ tail
@@ -134,7 +138,7 @@ front_whole all a b d done text tail e p q =
 pub left_stop : {L : Type 0} (m : Meaning L) (all : Answer L) (a b d : Option (List ℕ)) (done : List ℕ)
     (c : Configuration L) (n : ℕ) (lines later : List (List ℕ)) (line : List ℕ) (s : RunStop)
     → all ≡ told_after done (answers m c n lines) → lines ≡ line ∷ later → Appends a b done
-    → AppendsFront b d (answer_to m c n (line_of m.names line)).text → s ≢ ReadFailed
+    → AppendsFront b d (answer_to m c n (line_of m.names line)).text → IsOutputStop s
     → Leaves (λ o. o ≡ output_of all) a d (Err s)
 left_stop {L = L} m all a b d done c n lines later line s p q before here other =
     let x = answer_to m c n (line_of m.names line) in
@@ -164,7 +168,7 @@ pub left_result : {L : Type 0} (m : Meaning L) (all : Answer L) (a b d : Option 
     (λ s. (s ≡ (answer_to m c n (line_of m.names line)).status)
     × (c' ≡ (answer_to m c n (line_of m.names line)).config)
     × Appends b d (answer_to m c n (line_of m.names line)).text)
-    → OnErr r (AppendsFront b d (answer_to m c n (line_of m.names line)).text) → IfErr r (λ s. s ≢ ReadFailed)
+    → OnErr r (AppendsFront b d (answer_to m c n (line_of m.names line)).text) → IfErr r IsOutputStop
     → Leaves (λ o. o ≡ output_of all) a d r
 left_result {L = L} m all a b d done c c' n lines line (Ok s) p q before ok err other =
     left_ended all (answer_to m c n (line_of m.names line)) a b d done s (left_last m all done c n lines line p q) ok.0
@@ -207,13 +211,15 @@ front_for m why a old new s = go s
     go WriteFailed h = more_of h
     go NoMemory (inl h) = inl h
     go NoMemory (inr h) = inr (more_of h)
+    go ThreadFailed h = h
+    go NotClosed h = h
 
 -- the answers, and then what follows them
 pub ended_run : {L : Type 0} (m : Meaning L) (why : Purpose) (a : Answer L) (c : Configuration L)
     (old mid new : Option (List ℕ)) (answered : Status) (r : Result Status RunStop)
     → Leaves (λ o. o ≡ output_of a) old mid (Ok answered) → c ≡ a.config
     → IfOk r (λ s. (s ≡ (ending m why c answered).1) × Appends mid new (ending m why c answered).0)
-    → OnErr r (AppendsFront mid new (ending m why c answered).0) → IfErr r (λ s. s ≢ ReadFailed)
+    → OnErr r (AppendsFront mid new (ending m why c answered).0) → IfErr r IsOutputStop
     → Leaves (λ o. o ≡ output_for m why a) old new r
 ended_run {L = L} m why a c old mid new answered r (written, is, wrote) same = go r
   where
@@ -228,7 +234,7 @@ ended_run {L = L} m why a c old mid new answered r (written, is, wrote) same = g
 
     go : (r : Result Status RunStop)
         → IfOk r (λ s. (s ≡ (ending m why c answered).1) × Appends mid new (ending m why c answered).0)
-        → OnErr r (AppendsFront mid new (ending m why c answered).0) → IfErr r (λ s. s ≢ ReadFailed)
+        → OnErr r (AppendsFront mid new (ending m why c answered).0) → IfErr r IsOutputStop
         → Leaves (λ o. o ≡ output_for m why a) old new r
     go (Ok s) ok err other =
         let P : List ℕ → Type 0 = λ l. Appends mid new l in (
@@ -263,6 +269,8 @@ leaves_fault O a b (Ok s) is h = absurd is
 leaves_fault O a b (Err ReadFailed) is h = absurd (cc)
 leaves_fault O a b (Err WriteFailed) is h = h
 leaves_fault O a b (Err NoMemory) is h = inr h
+leaves_fault O a b (Err ThreadFailed) is h = absurd (cc)
+leaves_fault O a b (Err NotClosed) is h = absurd (cc)
 
 -- ---- what a run leaves, said of another output
 
@@ -273,9 +281,13 @@ leaves_weaker O P a b (Err ReadFailed) f h = h
 leaves_weaker O P a b (Err WriteFailed) f h = (h.0, f h.0 h.1, h.2)
 leaves_weaker O P a b (Err NoMemory) f (inl h) = inl h
 leaves_weaker O P a b (Err NoMemory) f (inr h) = inr (h.0, f h.0 h.1, h.2)
+leaves_weaker O P a b (Err ThreadFailed) f h = h
+leaves_weaker O P a b (Err NotClosed) f h = h
 
 -- a reading was cut short, before anything was written
-pub leaves_unread : (O : Output → Type 0) (a : Option (List ℕ)) (s : RunStop) → s ≢ WriteFailed → Leaves O a a (Err s)
+pub leaves_unread : (O : Output → Type 0) (a : Option (List ℕ)) (s : RunStop) → IsInputStop s → Leaves O a a (Err s)
 leaves_unread O a ReadFailed other = Keeps-refl a
-leaves_unread O a WriteFailed other = absurd (other refl)
+leaves_unread O a WriteFailed other = absurd other
 leaves_unread O a NoMemory other = inl (Keeps-refl a)
+leaves_unread O a ThreadFailed other = absurd other
+leaves_unread O a NotClosed other = absurd other

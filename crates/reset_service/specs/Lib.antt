@@ -2,10 +2,12 @@ pub mod Meaning
 pub mod Script
 pub mod Output
 pub mod Verified
+pub mod Threaded
 pub mod Parts
 pub mod Lines
 pub mod Words
 pub mod Tables
 pub mod Gathering
 pub mod StopText
+pub mod Stops
 pub mod Stretches

@@ -357,3 +357,5 @@ Leaves O old new (Ok status) = (written : List ℕ) × O (written, status) × Ap
 Leaves O old new (Err ReadFailed) = Keeps old new
 Leaves O old new (Err WriteFailed) = HasFront O old new
 Leaves O old new (Err stop.NoMemory) = Keeps old new ⊎ HasFront O old new
+Leaves O old new (Err stop.ThreadFailed) = ⊥
+Leaves O old new (Err stop.NotClosed) = ⊥

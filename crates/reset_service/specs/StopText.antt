@@ -2,8 +2,11 @@
 use Rattle.std.specs.Prelude.{ℕ, List, codes}
 use Rattle.reset_service.specs.declared.status.RunStop.{RunStop}
 use Rattle.reset_service.specs.declared.status.RunStop.TheVariants.{ReadFailed, WriteFailed, NoMemory}
+use Rattle.reset_service.specs.declared.status.RunStop.TheVariants.{ThreadFailed, NotClosed}
 
 abbrev pub stop_text : RunStop → List ℕ
 stop_text ReadFailed = codes "read fault"
 stop_text WriteFailed = codes "write fault"
 stop_text NoMemory = codes "out of memory"
+stop_text ThreadFailed = codes "thread fault"
+stop_text NotClosed = codes "lists differ"

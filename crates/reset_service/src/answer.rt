@@ -1,12 +1,13 @@
 // What the run writes.
 
-ghost use Rattle.std.specs.Prelude.{◌≡◌, ◌≢◌, ℕ, [], ◌∷◌, ◌++◌, codes, List, Err, IfErr, OnOk, OnErr};
+ghost use Rattle.std.specs.Prelude.{◌≡◌, ℕ, [], ◌∷◌, ◌++◌, codes, List, Err, IfErr, OnOk, OnErr};
 ghost use Rattle.std.specs.Io.KnownBytes.{Appends, Keeps};
 ghost use Rattle.action_tables.specs.Written.{AppendsFront};
 ghost use Rattle.reset_model.specs.Planned.{outcome_of};
 ghost use Rattle.reset_service.specs.Meaning.{meaning_of};
 ghost use Rattle.reset_service.specs.Output.{answered, stepped, bad_line_text, bad_topology_text, graph_fault_text};
 ghost use Rattle.reset_service.specs.Output.{numbered, refusal_text, reply_text, too_long_text, numbered_twice};
+ghost use Rattle.reset_service.specs.Stops.{IsOutputStop};
 
 use crate::faults::{answer_alarm, answer_check, answer_check_node, answer_watch};
 use crate::injected::{answer_draw, answer_fault};
@@ -126,7 +127,7 @@ pub fn answer<P: Application, W: Write>(
     ensures err { OnErr result
         (AppendsFront (W.contents out.old) (W.contents out.new)
         (answered (meaning_of P.app P.text P.from_text P.names) config.old command).1) }
-    ensures stop { IfErr result (λ stop. stop ≢ RunStop.ReadFailed) }
+    ensures stop { IfErr result IsOutputStop }
     ensures memory { result ≡ Err RunStop.NoMemory → config.new ≡ config.old }
 {
     match command {
@@ -162,7 +163,7 @@ pub fn answer_step<P: Application, W: Write>(
     ensures err { OnErr result
         (AppendsFront (W.contents out.old) (W.contents out.new)
         (stepped config.old (outcome_of P.app config.old event)).1) }
-    ensures stop { IfErr result (λ stop. stop ≢ RunStop.ReadFailed) }
+    ensures stop { IfErr result IsOutputStop }
     ensures memory { result ≡ Err RunStop.NoMemory
         → (config.new ≡ config.old) × Keeps (W.contents out.old) (W.contents out.new) }
     ensures fault { result ≡ Err RunStop.WriteFailed

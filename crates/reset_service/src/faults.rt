@@ -1,6 +1,6 @@
 // The answers that tell faults and alarms.
 
-ghost use Rattle.std.specs.Prelude.{◌≡◌, ◌≢◌, ◌++◌, codes, length, Err, IfErr, IfOk, OnErr, OnOk};
+ghost use Rattle.std.specs.Prelude.{◌≡◌, ◌++◌, codes, length, Err, IfErr, IfOk, OnErr, OnOk};
 ghost use Rattle.std.specs.List.{flat_map};
 ghost use Rattle.std.specs.Io.KnownBytes.{Appends};
 ghost use Rattle.topology.specs.Graph.{IsNode};
@@ -9,6 +9,7 @@ ghost use Rattle.reset_service.specs.Meaning.{meaning_of};
 ghost use Rattle.reset_service.specs.Output.{alarm_line, alarm_text, answered, at_node, fault_line, faults_lines};
 ghost use Rattle.reset_service.specs.Output.{faults_status, faults_text, found_status, node_faults_lines, watched};
 ghost use Rattle.reset_service.specs.declared.script.Command.TheVariants.{Watch};
+ghost use Rattle.reset_service.specs.Stops.{IsOutputStop};
 
 use crate::answer::{answer_step, put_numbered, put_refusal};
 use crate::status::{RunStop, Status};
@@ -33,7 +34,7 @@ pub fn answer_check<P: Application, W: Write>(
         (λ status. status ≡ faults_status (meaning_of P.app P.text P.from_text P.names) config.now) }
     ensures err { OnErr result (AppendsFront (W.contents out.old) (W.contents out.new)
         (faults_lines (meaning_of P.app P.text P.from_text P.names) config.now)) }
-    ensures stop { IfErr result (λ stop. stop ≢ RunStop.ReadFailed) }
+    ensures stop { IfErr result IsOutputStop }
 {
     match check_all(alloc, config) {
         Ok(found) => {
@@ -65,7 +66,7 @@ pub fn answer_check_node<P: Application, W: Write>(
         (at_node config.now at (node_faults_lines (meaning_of P.app P.text P.from_text P.names) config.now at))) }
     ensures err { OnErr result (AppendsFront (W.contents out.old) (W.contents out.new)
         (at_node config.now at (node_faults_lines (meaning_of P.app P.text P.from_text P.names) config.now at))) }
-    ensures stop { IfErr result (λ stop. stop ≢ RunStop.ReadFailed) }
+    ensures stop { IfErr result IsOutputStop }
 {
     match check_node(alloc, config, at) {
         Ok(found) => Ok(put_faults(out, &found)?),
@@ -106,7 +107,7 @@ pub fn answer_watch<P: Application, W: Write>(
         (answered (meaning_of P.app P.text P.from_text P.names) config.old (Watch at)).1) }
     ensures err { OnErr result (AppendsFront (W.contents out.old) (W.contents out.new)
         (answered (meaning_of P.app P.text P.from_text P.names) config.old (Watch at)).1) }
-    ensures stop { IfErr result (λ stop. stop ≢ RunStop.ReadFailed) }
+    ensures stop { IfErr result IsOutputStop }
     ensures memory { result ≡ Err RunStop.NoMemory → config.new ≡ config.old }
 {
     if is_node(&*config, at) {
@@ -129,7 +130,7 @@ fn watch_node<P: Application, W: Write>(
         (watched (meaning_of P.app P.text P.from_text P.names) config.old at).1) }
     ensures err { OnErr result (AppendsFront (W.contents out.old) (W.contents out.new)
         (watched (meaning_of P.app P.text P.from_text P.names) config.old at).1) }
-    ensures stop { IfErr result (λ stop. stop ≢ RunStop.ReadFailed) }
+    ensures stop { IfErr result IsOutputStop }
     ensures memory { result ≡ Err RunStop.NoMemory → config.new ≡ config.old }
 {
     let told = alarm(config, at);

@@ -1,12 +1,13 @@
 // The answers to faults.
 
-ghost use Rattle.std.specs.Prelude.{◌≡◌, ◌≢◌, ◌++◌, codes, Err, IfErr, OnErr, OnOk};
+ghost use Rattle.std.specs.Prelude.{◌≡◌, ◌++◌, codes, Err, IfErr, OnErr, OnOk};
 ghost use Rattle.std.specs.Io.KnownBytes.{Appends};
 ghost use Rattle.action_tables.specs.Written.{AppendsFront};
 ghost use Rattle.fault_inject.specs.Effects.{injected};
 ghost use Rattle.reset_service.specs.Meaning.{meaning_of};
 ghost use Rattle.reset_service.specs.Output.{answered, disturbed, drawn, drawn_text, fault_refusal_text};
 ghost use Rattle.reset_service.specs.declared.script.Command.TheVariants.{Draw};
+ghost use Rattle.reset_service.specs.Stops.{IsOutputStop};
 
 use crate::status::RunStop;
 use action_tables::{WriteFault, put_bytes};
@@ -31,7 +32,7 @@ pub fn answer_fault<P: Application, W: Write>(
         (disturbed config.old (injected P.from_text config.old fault.now)).1) }
     ensures err { OnErr result (AppendsFront (W.contents out.old) (W.contents out.new)
         (disturbed config.old (injected P.from_text config.old fault.now)).1) }
-    ensures stop { IfErr result (λ stop. stop ≢ RunStop.ReadFailed) }
+    ensures stop { IfErr result IsOutputStop }
     ensures memory { result ≡ Err RunStop.NoMemory → config.new ≡ config.old }
 {
     match inject(alloc, config, fault) {
@@ -54,7 +55,7 @@ pub fn answer_draw<P: Application, W: Write>(
         (answered (meaning_of P.app P.text P.from_text P.names) config.old (Draw seed)).1) }
     ensures err { OnErr result (AppendsFront (W.contents out.old) (W.contents out.new)
         (answered (meaning_of P.app P.text P.from_text P.names) config.old (Draw seed)).1) }
-    ensures stop { IfErr result (λ stop. stop ≢ RunStop.ReadFailed) }
+    ensures stop { IfErr result IsOutputStop }
     ensures memory { result ≡ Err RunStop.NoMemory → config.new ≡ config.old }
 {
     let fault = drawn(config, seed);

@@ -1,11 +1,12 @@
 // Reading texts up to their limit, and cutting them.
 
-ghost use Rattle.std.specs.Prelude.{◌≡◌, ◌≢◌, ℕ, ◌+◌, ◌<◌, ◌≤◌, [], ◌∷◌, length, IfOk, IfErr, IfSome, IfNone, IsTrue};
+ghost use Rattle.std.specs.Prelude.{◌≡◌, ℕ, ◌+◌, ◌<◌, ◌≤◌, [], ◌∷◌, length, IfOk, IfErr, IfSome, IfNone, IsTrue};
 ghost use Rattle.std.specs.Prelude.{◌↔◌, vec_len};
 ghost use Rattle.std.specs.List.{position};
 ghost use Rattle.std.specs.Io.KnownBytes.{Consumes, IsAtEnd};
 ghost use Rattle.reset_service.specs.Lines.{is_line_feed, lines_of, separator, IsCut, IsReadFrom};
 ghost use Rattle.reset_service.specs.Parts.{ReadMore};
+ghost use Rattle.reset_service.specs.Stops.{IsInputStop};
 
 use crate::status::RunStop;
 use memchr::memchr;
@@ -24,7 +25,7 @@ const CHUNK: usize = 8192;
 pub fn read_text<R: Read>(alloc: Global, reader: &mut R) -> Result<Vec<u8>, RunStop>
     ensures ok { IfOk result (λ text. IsReadFrom (R.remaining reader.old) text.items) }
     ensures taken { IfOk result (λ text. Consumes (R.remaining reader.old) (R.remaining reader.new) text.items) }
-    ensures err { IfErr result (λ stop. stop ≢ RunStop.WriteFailed) }
+    ensures err { IfErr result IsInputStop }
 {
     let mut text = Vec::new(alloc);
     let mut chunk = [0; CHUNK];
@@ -47,7 +48,7 @@ fn read_once<R: Read>(
         (λ n. ReadMore (R.remaining reader.old) (R.remaining reader.new) text.old.items text.new.items n) }
     ensures most { IfOk result (λ n. n ≤ length chunk.old) }
     ensures end { IfOk result (λ n. n ≡ 0 → 0 < length chunk.old → IsAtEnd (R.remaining reader.new)) }
-    ensures err { IfErr result (λ stop. stop ≢ RunStop.WriteFailed) }
+    ensures err { IfErr result IsInputStop }
 {
     match reader.read(chunk) {
         Ok(count) => {

@@ -1,7 +1,8 @@
 //! What the program of the distributed reset service does, as calls on texts, readers and writers: it
 //! replays scripts of reset events on the booted configuration of a topology and writes an answer to
-//! each line, checks the network that a script leaves, verifies histories, prints the tables that the
-//! nodes act by, and reads the words of its command line.
+//! each line, checks the network that a script leaves, verifies histories, runs a thread for each node
+//! and writes the history that they keep, prints the tables that the nodes act by, and reads the words of
+//! its command line.
 #![tactic(auto)]
 
 mod answer;
@@ -18,6 +19,7 @@ mod script;
 mod show;
 mod status;
 mod tables;
+mod threaded;
 mod verified;
 mod words;
 
@@ -29,5 +31,6 @@ pub use laws::{
 pub use replays::{check_text, replay, replay_joined, replay_text};
 pub use status::{RunStop, Status};
 pub use tables::print_tables;
+pub use threaded::threads_text;
 pub use verified::verify_text;
 pub use words::{Job, LineFault, Paths, no_text, read_words};

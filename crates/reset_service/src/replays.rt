@@ -9,6 +9,7 @@ ghost use Rattle.reset_service.specs.Meaning.{meaning_of};
 ghost use Rattle.reset_service.specs.Script.{line_of};
 ghost use Rattle.reset_service.specs.Output.{answer_to, answers, bad_topology_text, ending, script_output};
 ghost use Rattle.reset_service.specs.Output.{too_long_text, IsJoinedOutput, IsOutput, IsReplay, IsReplayOf, Leaves};
+ghost use Rattle.reset_service.specs.Stops.{IsOutputStop};
 
 use crate::answer::{answer, answer_step, put_bad_line, put_too_long, put_topology_fault};
 use crate::faults::answer_check;
@@ -37,7 +38,7 @@ pub fn replay_text<W: Write>(
 ) -> Result<Status, RunStop>
     ensures leaves { Leaves (IsOutput Purpose.Replay topology.now script.now) (W.contents out.old) (W.contents out.new)
         result }
-    ensures stop { IfErr result (λ stop. stop ≢ RunStop.ReadFailed) }
+    ensures stop { IfErr result IsOutputStop }
 {
     match read_topology(alloc, topology) {
         Ok((topology, app)) => run_app(alloc, Purpose::Replay, app, topology, script, out),
@@ -116,7 +117,7 @@ pub fn replay_joined<R: Read, W: Write>(
 // The run of a joined text.
 fn replay_whole<W: Write>(alloc: Global, joined: &[u8], out: &mut W) -> Result<Status, RunStop>
     ensures leaves { Leaves (IsJoinedOutput joined.now) (W.contents out.old) (W.contents out.new) result }
-    ensures stop { IfErr result (λ stop. stop ≢ RunStop.ReadFailed) }
+    ensures stop { IfErr result IsOutputStop }
 {
     if joined.len() > MAX_TEXT {
         return refuse_script(out);
@@ -136,7 +137,7 @@ fn run_app<W: Write>(
 ) -> Result<Status, RunStop>
     ensures leaves { Leaves (IsReplayOf app purpose topology script.now) (W.contents out.old) (W.contents out.new)
         result }
-    ensures stop { IfErr result (λ stop. stop ≢ RunStop.ReadFailed) }
+    ensures stop { IfErr result IsOutputStop }
 {
     match app {
         AppName::Idle => run_booted::<Idle, W>(alloc, purpose, topology, script, out),
@@ -155,7 +156,7 @@ fn run_booted<P: Application, W: Write>(
 ) -> Result<Status, RunStop>
     ensures leaves { Leaves (IsReplay (meaning_of P.app P.text P.from_text P.names) purpose topology script.now)
         (W.contents out.old) (W.contents out.new) result }
-    ensures stop { IfErr result (λ stop. stop ≢ RunStop.ReadFailed) }
+    ensures stop { IfErr result IsOutputStop }
 {
     match Config::<P>::boot(alloc, topology) {
         Ok(config) => run_script(alloc, purpose, config, script, out),
@@ -168,7 +169,7 @@ pub fn refuse_topology<W: Write>(fault: ReadFault, out: &mut W) -> Result<Status
     ensures leaves { Leaves
         (λ output. (fault ≢ ReadFault.NoMemory) × (output ≡ (bad_topology_text fault, Status.BadInput)))
         (W.contents out.old) (W.contents out.new) result }
-    ensures stop { IfErr result (λ stop. stop ≢ RunStop.ReadFailed) }
+    ensures stop { IfErr result IsOutputStop }
 {
     if fault == ReadFault::NoMemory {
         return Err(RunStop::NoMemory);
@@ -181,7 +182,7 @@ pub fn refuse_topology<W: Write>(fault: ReadFault, out: &mut W) -> Result<Status
 fn refuse_script<W: Write>(out: &mut W) -> Result<Status, RunStop>
     ensures leaves { Leaves (λ output. output ≡ (too_long_text, Status.BadInput)) (W.contents out.old)
         (W.contents out.new) result }
-    ensures stop { IfErr result (λ stop. stop ≢ RunStop.ReadFailed) }
+    ensures stop { IfErr result IsOutputStop }
 {
     put_too_long(out)?;
     Ok(Status::BadInput)
@@ -197,7 +198,7 @@ fn run_script<P: Application, W: Write>(
     ensures leaves { Leaves
         (λ output. output ≡ script_output (meaning_of P.app P.text P.from_text P.names) purpose config script.now)
         (W.contents out.old) (W.contents out.new) result }
-    ensures stop { IfErr result (λ stop. stop ≢ RunStop.ReadFailed) }
+    ensures stop { IfErr result IsOutputStop }
 {
     if script.len() > MAX_TEXT {
         return refuse_script(out);
@@ -221,7 +222,7 @@ fn end_run<P: Application, W: Write>(
         (status ≡ last.1) × Appends (W.contents out.old) (W.contents out.new) last.0) }
     ensures err { OnErr result (AppendsFront (W.contents out.old) (W.contents out.new)
         (ending (meaning_of P.app P.text P.from_text P.names) purpose config.now answered).0) }
-    ensures stop { IfErr result (λ stop. stop ≢ RunStop.ReadFailed) }
+    ensures stop { IfErr result IsOutputStop }
 {
     match (purpose, answered) {
         (Purpose::Check, Status::Good) => answer_check(alloc, config, out),
@@ -242,7 +243,7 @@ fn answer_lines<P: Application, W: Write>(
     ensures config { OnOk result
         (config.new
         ≡ (answers (meaning_of P.app P.text P.from_text P.names) config.old 1 (lines_of script.now)).config) }
-    ensures stop { IfErr result (λ stop. stop ≢ RunStop.ReadFailed) }
+    ensures stop { IfErr result IsOutputStop }
 {
     let mut rest = script;
     let mut number = 1;
@@ -274,7 +275,7 @@ fn answer_line<P: Application, W: Write>(
     ensures err { OnErr result
         (AppendsFront (W.contents out.old) (W.contents out.new)
         (answer_to (meaning_of P.app P.text P.from_text P.names) config.old number (line_of P.names line.now)).text) }
-    ensures stop { IfErr result (λ stop. stop ≢ RunStop.ReadFailed) }
+    ensures stop { IfErr result IsOutputStop }
 {
     match read_event(line) {
         Some(event) => {
@@ -300,7 +301,7 @@ fn answer_any_line<P: Application, W: Write>(
     ensures err { OnErr result
         (AppendsFront (W.contents out.old) (W.contents out.new)
         (answer_to (meaning_of P.app P.text P.from_text P.names) config.old number (line_of P.names line.now)).text) }
-    ensures stop { IfErr result (λ stop. stop ≢ RunStop.ReadFailed) }
+    ensures stop { IfErr result IsOutputStop }
 {
     match read_line::<P>(alloc, line)? {
         Line::Silent => Ok(Status::Good),

@@ -1,11 +1,12 @@
 // The answers that name enabled rows, and the nodes that have some.
 
-ghost use Rattle.std.specs.Prelude.{◌≡◌, ◌≢◌, ◌++◌, codes, IfErr, OnOk, OnErr};
+ghost use Rattle.std.specs.Prelude.{◌≡◌, ◌++◌, codes, IfErr, OnOk, OnErr};
 ghost use Rattle.std.specs.List.{flat_map};
 ghost use Rattle.std.specs.Io.KnownBytes.{Appends};
 ghost use Rattle.action_tables.specs.Written.{AppendsFront};
 ghost use Rattle.reset_service.specs.Meaning.{meaning_of};
 ghost use Rattle.reset_service.specs.Output.{at_node, enabled_line, enabled_text, ready_line, ready_text, spaced};
+ghost use Rattle.reset_service.specs.Stops.{IsOutputStop};
 
 use crate::answer::put_refusal;
 use crate::status::RunStop;
@@ -28,7 +29,7 @@ pub fn answer_enabled<P: Application, W: Write>(
     ensures err { OnErr result
         (AppendsFront (W.contents out.old) (W.contents out.new)
         (at_node config.now at (enabled_line (meaning_of P.app P.text P.from_text P.names) config.now at))) }
-    ensures stop { IfErr result (λ stop. stop ≢ RunStop.ReadFailed) }
+    ensures stop { IfErr result IsOutputStop }
 {
     match config.enabled(alloc, at) {
         Ok(rows) => Ok(put_enabled(out, at, rows)?),
@@ -69,7 +70,7 @@ pub fn answer_ready<P: Application, W: Write>(
     ensures err { OnErr result
         (AppendsFront (W.contents out.old) (W.contents out.new)
         (ready_line (meaning_of P.app P.text P.from_text P.names) config.now)) }
-    ensures stop { IfErr result (λ stop. stop ≢ RunStop.ReadFailed) }
+    ensures stop { IfErr result IsOutputStop }
 {
     match config.ready(alloc) {
         Ok(ids) => Ok(put_ready(out, &ids)?),

@@ -40,6 +40,10 @@ pub enum RunStop {
     WriteFailed,
     /// A growth was refused. What was written until then is a front of the output.
     NoMemory,
+    /// A thread could not be started. Nothing was written.
+    ThreadFailed,
+    /// What node threads kept isn't a history of what their seats were told. Nothing was written.
+    NotClosed,
 }
 
 impl From<WriteFault> for RunStop {
@@ -66,6 +70,8 @@ impl fmt::Display for RunStop {
             RunStop::ReadFailed => "read fault",
             RunStop::WriteFailed => "write fault",
             RunStop::NoMemory => "out of memory",
+            RunStop::ThreadFailed => "thread fault",
+            RunStop::NotClosed => "lists differ",
         })
     }
 }

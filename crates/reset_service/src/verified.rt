@@ -1,6 +1,6 @@
 // The verification of a history from a booted configuration.
 
-ghost use Rattle.std.specs.Prelude.{◌≡◌, ◌≢◌, ◌+◌, ◌≤◌, ◌++◌, length, Err, IfErr, IfSome, OnErr, OnOk};
+ghost use Rattle.std.specs.Prelude.{◌≡◌, ◌+◌, ◌≤◌, ◌++◌, length, Err, IfErr, IfSome, OnErr, OnOk};
 ghost use Rattle.std.specs.List.{flat_map};
 ghost use Rattle.std.specs.Io.KnownBytes.{Appends, Keeps};
 ghost use Rattle.topology.specs.TopologyText.{IsReadFault};
@@ -11,6 +11,7 @@ ghost use Rattle.reset_service.specs.Verified.{bad_history_text, counts_line, no
 ghost use Rattle.reset_service.specs.Verified.{report_line, verified_text, IsVerification, IsVerified};
 ghost use Rattle.reset_service.specs.Verified.{IsVerifiedFrom, IsVerifiedOf};
 ghost use Rattle.reset_service.specs.declared.line.TheConstants.{ROOM};
+ghost use Rattle.reset_service.specs.Stops.{IsOutputStop};
 
 use crate::answer::put_numbered;
 use crate::line::LineBuffer;
@@ -115,7 +116,7 @@ fn verify_from<P: Application, R: Read, W: Write>(
 fn refuse_history<W: Write>(fault: BookFault, out: &mut W) -> Result<Status, RunStop>
     ensures leaves { Leaves (λ output. output ≡ (bad_history_text fault, Status.BadInput)) (W.contents out.old)
         (W.contents out.new) result }
-    ensures stop { IfErr result (λ stop. stop ≢ RunStop.ReadFailed) }
+    ensures stop { IfErr result IsOutputStop }
 {
     put_history_fault(out, fault)?;
     Ok(Status::BadInput)
@@ -125,7 +126,7 @@ fn refuse_history<W: Write>(fault: BookFault, out: &mut W) -> Result<Status, Run
 fn refuse_entry<W: Write>(position: usize, out: &mut W) -> Result<Status, RunStop>
     ensures leaves { Leaves (λ output. output ≡ (not_enabled_text position, Status.NotEnabled)) (W.contents out.old)
         (W.contents out.new) result }
-    ensures stop { IfErr result (λ stop. stop ≢ RunStop.ReadFailed) }
+    ensures stop { IfErr result IsOutputStop }
 {
     put_not_enabled(out, position)?;
     Ok(Status::NotEnabled)
@@ -136,7 +137,7 @@ fn answer_summary<W: Write>(summary: &Summary, out: &mut W) -> Result<Status, Ru
     ensures leaves { Leaves
         (λ output. output ≡ (verified_text summary.now.entries summary.now.reports.items, Status.Good))
         (W.contents out.old) (W.contents out.new) result }
-    ensures stop { IfErr result (λ stop. stop ≢ RunStop.ReadFailed) }
+    ensures stop { IfErr result IsOutputStop }
 {
     put_summary(out, summary.entries, &summary.reports)?;
     Ok(Status::Good)

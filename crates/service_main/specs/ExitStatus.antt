@@ -4,6 +4,7 @@ use Rattle.reset_service.specs.declared.status.Status.{Status}
 use Rattle.reset_service.specs.declared.status.Status.TheVariants.{Good, FaultsFound, NotEnabled, BadInput}
 use Rattle.reset_service.specs.declared.status.RunStop.{RunStop}
 use Rattle.reset_service.specs.declared.status.RunStop.TheVariants.{ReadFailed, WriteFailed, NoMemory}
+use Rattle.reset_service.specs.declared.status.RunStop.TheVariants.{ThreadFailed, NotClosed}
 
 abbrev pub status_of : Result Status RunStop → ℕ
 status_of (Ok Good) = 0
@@ -13,3 +14,5 @@ status_of (Ok BadInput) = 2
 status_of (Err ReadFailed) = 3
 status_of (Err WriteFailed) = 3
 status_of (Err NoMemory) = 4
+status_of (Err ThreadFailed) = 3
+status_of (Err NotClosed) = 1

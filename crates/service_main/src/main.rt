@@ -1,17 +1,18 @@
 //! The program of the distributed reset service: it replays a script of reset events on the booted
-//! configuration of a topology and writes an answer to each, and it verifies histories. Here stand the
-//! files and the streams that it opens and its exit status; all else is the library `reset_service`.
+//! configuration of a topology and writes an answer to each, it runs a thread for each node, and it
+//! verifies histories. Here stand the files and the streams that it opens and its exit status; all else is
+//! the library `reset_service`.
 #![tactic(auto)]
 
 mod files;
 mod status;
 
-use crate::files::{open_file, read_file};
+use crate::files::{create_file, open_file, read_file};
 use crate::status::exit_code;
 use action_tables::put_bytes;
 use reset_service::{
     Gathered, Job, LineFault, Paths, RunStop, Status, check_text, no_text, print_tables,
-    read_words, replay, replay_joined, verify_text,
+    read_words, replay, replay_joined, threads_text, verify_text,
 };
 use std::io::Write;
 use std::process::ExitCode;
@@ -83,6 +84,12 @@ fn job_output<W: Write>(rt: &HostRuntime, job: Job<'_>, out: &mut W) -> Result<S
         Job::Verify(paths) => {
             let (topology, mut history) = open_texts(rt, paths)?;
             verify_text(rt.alloc(), &topology, &mut history, out)
+        }
+        Job::Threads(words) => {
+            let topology = read_file(rt, words.topology)?;
+            let mut history = create_file(rt, words.history)?;
+            let turns = words.turns;
+            threads_text(rt, rt.alloc(), &topology, turns, &mut history, out)
         }
         Job::Tables => print_tables(out),
     }

@@ -13,9 +13,13 @@ pub fn exit_code(ended: Result<Status, RunStop>) -> ExitCode
 {
     match ended {
         Ok(Status::Good) => ExitCode::from(0),
-        Ok(Status::FaultsFound | Status::NotEnabled) => ExitCode::from(1),
+        Ok(Status::FaultsFound | Status::NotEnabled) | Err(RunStop::NotClosed) => {
+            ExitCode::from(1)
+        }
         Ok(Status::BadInput) => ExitCode::from(2),
-        Err(RunStop::ReadFailed | RunStop::WriteFailed) => ExitCode::from(3),
+        Err(RunStop::ReadFailed | RunStop::WriteFailed | RunStop::ThreadFailed) => {
+            ExitCode::from(3)
+        }
         Err(RunStop::NoMemory) => ExitCode::from(4),
     }
 }

@@ -1,0 +1,152 @@
+//! One thread a node around one mutex: what each does under the lock is its whole turn.
+
+use crate::event::Event;
+use crate::network::{Local, Network, Node};
+use crate::tables::{Refusal, Reply};
+use std::fmt;
+use std::io::{self, Write};
+use std::sync::Mutex;
+use std::thread;
+
+const MAX_ENTRIES: usize = 1_000_000;
+
+/// What a node did: a step, or an action of `mutex`.
+#[derive(Clone, Copy)]
+enum Entry {
+    Step(Event),
+    Enter(u32),
+    Leave(u32),
+}
+
+/// What lies under the lock.
+struct Book {
+    network: Network,
+    entries: Vec<Entry>,
+    reports: usize,
+}
+
+/// Runs a thread for each node: the one with the least identifier asks for a reset, and then each takes so
+/// many turns. Writes the history, and then how many nodes, entries and reports there are.
+pub fn run_threads(
+    network: Network,
+    turns: u32,
+    history: &mut impl Write,
+    out: &mut impl Write,
+) -> io::Result<()> {
+    let ids: Vec<u32> = network.nodes.iter().map(|node| node.id).collect();
+    let book = Mutex::new(Book { network, entries: Vec::new(), reports: 0 });
+    thread::scope(|scope| {
+        for (place, id) in ids.iter().enumerate() {
+            let book = &book;
+            scope.spawn(move || {
+                if place == 0 {
+                    book.lock().unwrap().enter(Entry::Step(Event::Request(*id)));
+                }
+                for _ in 0..turns {
+                    book.lock().unwrap().take_turn(place);
+                }
+            });
+        }
+    });
+    let book = book.into_inner().unwrap();
+    writeln!(history, "reset-history 1")?;
+    for entry in &book.entries {
+        writeln!(history, "{entry}")?;
+    }
+    let (entries, reports) = (book.entries.len(), book.reports);
+    writeln!(out, "threads {} nodes {entries} entries {reports} reports", ids.len())
+}
+
+impl Book {
+    fn take_turn(&mut self, place: usize) {
+        if let Some(entry) = self.network.next_entry(&self.network.nodes[place]) {
+            self.enter(entry);
+        }
+    }
+
+    /// Does an entry and keeps it, if it is allowed and there is room.
+    fn enter(&mut self, entry: Entry) {
+        if self.entries.len() == MAX_ENTRIES {
+            return;
+        }
+        let done = match entry {
+            Entry::Step(event) => self.network.step(event),
+            Entry::Enter(at) => self.network.put_inside(at, true),
+            Entry::Leave(at) => self.network.put_inside(at, false),
+        };
+        if let Ok(reply) = done {
+            self.reports += usize::from(matches!(reply, Reply::Complete(_)));
+            self.entries.push(entry);
+        }
+    }
+}
+
+impl Network {
+    /// The first entry that is allowed at the node, in a fixed order.
+    fn next_entry(&self, node: &Node) -> Option<Entry> {
+        let id = node.id;
+        self.next_of_tree(node).or_else(|| self.next_of_wave(node)).map(Entry::Step).or_else(|| {
+            match self.act_rows(node) {
+                0 => None,
+                rows if rows & 1 << 1 != 0 => Some(Entry::Enter(id)),
+                _ => Some(Entry::Leave(id)),
+            }
+        })
+    }
+
+    fn next_of_tree(&self, node: &Node) -> Option<Event> {
+        let up = self.father(node);
+        if self.claim_rows(node, up) != 0 {
+            return Some(Event::Claim(node.id));
+        }
+        if self.follow_rows(node, up) != 0 {
+            return Some(Event::Follow(node.id));
+        }
+        let from = self.neighbours(node).find(|near| self.adopt_rows(node, near) != 0)?;
+        Some(Event::Adopt(node.id, from.id))
+    }
+
+    fn next_of_wave(&self, node: &Node) -> Option<Event> {
+        let (id, up) = (node.id, self.father(node));
+        if Self::mend_rows(node, up) != 0 {
+            return Some(Event::Mend(id));
+        }
+        if Self::join_rows(node, up) != 0 {
+            return Some(Event::Join(id));
+        }
+        if self.finish_rows(node) != 0 {
+            return Some(Event::Finish(id));
+        }
+        if Self::open_rows(node) != 0 && node.wave.session != u32::MAX {
+            return Some(Event::Open(id));
+        }
+        let child = self.children(node).find(|near| Self::relay_rows(node, near) != 0)?;
+        Some(Event::Relay(id, child.id))
+    }
+
+    /// Puts a node of `mutex` in, or out with the turns handed on.
+    fn put_inside(&mut self, id: u32, inside: bool) -> Result<Reply, Refusal> {
+        let at = self.find(id)?;
+        let bit = self.nodes[at].local.bit;
+        self.nodes[at].local = Local { inside, bit: if inside { bit } else { !bit } };
+        Ok(Reply::Applied)
+    }
+}
+
+impl fmt::Display for Entry {
+    fn fmt(&self, f: &mut fmt::Formatter) -> fmt::Result {
+        match self {
+            Entry::Step(Event::Claim(at)) => write!(f, "claim {at}"),
+            Entry::Step(Event::Follow(at)) => write!(f, "follow {at}"),
+            Entry::Step(Event::Adopt(at, from)) => write!(f, "adopt {at} {from}"),
+            Entry::Step(Event::Request(at)) => write!(f, "request {at}"),
+            Entry::Step(Event::Relay(at, child)) => write!(f, "relay {at} {child}"),
+            Entry::Step(Event::Open(at)) => write!(f, "open {at}"),
+            Entry::Step(Event::Join(at)) => write!(f, "join {at}"),
+            Entry::Step(Event::Finish(at)) => write!(f, "finish {at}"),
+            Entry::Step(Event::Mend(at)) => write!(f, "mend {at}"),
+            Entry::Enter(at) => write!(f, "act {at} 1"),
+            Entry::Leave(at) => write!(f, "act {at} 2"),
+        }
+    }
+}

@@ -1,0 +1,142 @@
+-- What a run of node threads comes to, and what it leaves to its two writers.
+use Rattle.std.proofs.Common.{◌≡◌, ◌<◌, ◌≤◌, ℕ, suc, true, List, [], ◌∷◌, Option, Result, Ok, Err}
+use Rattle.std.proofs.Common.{IfOk, IsSome, length, refl, sym, ap, ◌∙◌, subst, inl, inr}
+use Rattle.std.specs.Prelude.{IsErrAnd}
+use Rattle.std.specs.List.{list_all}
+use Rattle.std.specs.Io.KnownBytes.{Appends, Keeps}
+use Rattle.std.proofs.KnownBytes.{Keeps-refl}
+use Rattle.action_tables.specs.Written.{AppendsFront}
+use Rattle.topology.specs.Graph.{Graph}
+use Rattle.topology.specs.TopologyText.{IsReadFault}
+use Rattle.topology.specs.declared.text.AppName.{AppName}
+use Rattle.topology.specs.declared.text.ReadFault.{ReadFault}
+use Rattle.reset_model.specs.declared.event.Event.{Event}
+use Rattle.reset_model.specs.Configuration.{Configuration}
+use Rattle.reset_model.specs.Outcome.{IsBoot}
+use Rattle.history.specs.Entries.{replayed}
+use Rattle.history.specs.HistoryText.{IsReadAs}
+use Rattle.history.specs.Reports.{reports_of}
+use Rattle.history.specs.Stretches.{steps}
+use Rattle.history.specs.Verdict.{IsVerdict}
+use Rattle.history.specs.declared.entry.Entry.{Entry}
+use Rattle.history.specs.declared.entry.Entry.TheVariants.{Step, Disturbed}
+use Rattle.history.specs.declared.entry.Summary.{Summary}
+use Rattle.history.specs.declared.text.BookFault.{BookFault}
+use Rattle.node_threads.specs.Locked.{is_step}
+use Rattle.node_threads.specs.declared.run.RunCause.{RunCause}
+use Rattle.node_threads.specs.declared.run.RunCause.TheVariants.{TooManyForThreads}
+use Rattle.reset_service.specs.Meaning.{Meaning}
+use Rattle.reset_service.specs.Output.{Describes, bad_topology_text}
+use Rattle.reset_service.specs.Output.IsJudged.{bad_topology, good_topology}
+use Rattle.reset_service.specs.Stops.{IsRunStop}
+use Rattle.reset_service.specs.Threaded.{IsKept, IsKeptFrom, IsKeptOf, IsThreaded, LeavesBoth, threads_line}
+use Rattle.reset_service.specs.Threaded.{told_history, told_output, too_many_text}
+use Rattle.reset_service.specs.Threaded.IsKept.{too_many, kept}
+use Rattle.reset_service.specs.declared.status.RunStop.{RunStop}
+use Rattle.reset_service.specs.declared.status.RunStop.TheVariants.{ReadFailed, WriteFailed, NoMemory}
+use Rattle.reset_service.specs.declared.status.RunStop.TheVariants.{ThreadFailed, NotClosed}
+use Rattle.reset_service.specs.declared.status.Status.{Status}
+use Rattle.reset_service.specs.declared.status.Status.TheVariants.{BadInput, Good}
+use Rattle.reset_service.specs.declared.threaded.Told.{Told}
+use Rattle.reset_service.specs.declared.threaded.Told.TheVariants.{BadTopology, TooManyNodes, Kept}
+
+abbrev Output : Type 0
+Output = List ℕ × Status
+
+-- said of a value that is there
+pub ok_weaker : {T E : Type 0} (r : Result T E) (P Q : T → Type 0) → ((t : T) → P t → Q t) → IfOk r P → IfOk r Q
+ok_weaker (Ok t) P Q f h = f t h
+ok_weaker (Err e) P Q f h = tt
+
+-- ---- entries of which none is a fault
+
+pub steps_of : (es : List Entry) → list_all is_step es ≡ true → (events : List Event) × (es ≡ steps events)
+steps_of [] all = ([], refl)
+steps_of (Step e ∷ es) all =
+    let rest = steps_of es all in (e ∷ rest.0, ap (λ xs. Step e ∷ xs) rest.1)
+steps_of (Disturbed f ∷ es) all = absurd (cc)
+
+steps_count : (events : List Event) → length (steps events) ≡ length events
+steps_count [] = refl
+steps_count (e ∷ es) = ap (λ n. suc n) (steps_count es)
+
+-- ---- what a verdict on a history that was kept says
+
+-- no text has two readings
+abbrev pub OneReading : Type 0
+OneReading = (text : List ℕ) (r s : Result (List Entry) BookFault) → IsReadAs text r → IsReadAs text s → r ≡ s
+
+module _ {L : Type 0} (m : Meaning L) (c : Configuration L) where
+  pub kept_by : OneReading → (text : List ℕ) (es : List Entry) (s : Summary) → length c.graph.ids ≤ 64
+      → IsReadAs text (Ok es) → list_all is_step es ≡ true → IsVerdict m.app m.from_text c text (Ok s)
+      → (nodes reports : ℕ) → nodes ≡ length c.graph.ids → reports ≡ length s.reports.items
+      → IsKept m c text (threads_line nodes s.entries reports, Good)
+  kept_by reading text es s few read all (ds, other, sum) nodes reports n r =
+      let same : Ok ds ≡ Ok es = reading text (Ok ds) (Ok es) other read in
+      let entries : ds ≡ es = cc in
+      let made = steps_of es all in
+      let is : ds ≡ steps made.0 = entries ∙ made.1 in
+      kept made.0 few (subst (λ xs. IsReadAs text (Ok xs)) made.1 read)
+      (subst (λ xs. IsSome (replayed m.app m.from_text c xs)) is sum.allowed)
+      (ap (λ k. (threads_line k s.entries reports, Good)) n
+      ∙ ap (λ k. (threads_line (length c.graph.ids) k reports, Good))
+      (sum.entries ∙ ap length is ∙ steps_count made.0)
+      ∙ ap (λ k. (threads_line (length c.graph.ids) (length made.0) k, Good))
+      (r ∙ ap length sum.reports ∙ ap (λ xs. length (reports_of m.app m.from_text c xs)) is))
+
+  -- a run that gave no outcome is told of where there are too many nodes
+  pub many_kept : (r : Result Told RunStop) (cause : RunCause)
+      → IfOk r (λ told. (told ≡ TooManyNodes) × (cause ≡ TooManyForThreads))
+      → (cause ≡ TooManyForThreads → 64 < length c.graph.ids)
+      → IfOk r (λ told. IsKept m c (told_history told) (told_output told))
+  many_kept (Ok told) cause (is, by) many =
+      subst (λ x. IsKept m c (told_history x) (told_output x)) (sym is) (too_many (many by) refl)
+  many_kept (Err stop) cause is many = tt
+
+-- ---- a topology is judged first
+
+pub threaded : (topology : List ℕ) (g : Graph) (app : AppName) (r : Result Told RunStop) → Describes topology g app
+    → IfOk r (λ told. IsKeptOf app g (told_history told) (told_output told))
+    → IfOk r (λ told. (told_output told).1 ≡ BadInput → told_history told ≡ [])
+    → IfOk r (λ told. IsThreaded topology (told_history told) (told_output told))
+threaded topology g app (Ok told) describes is unkept = record { judged = good_topology g app describes is; unkept = unkept }
+threaded topology g app (Err stop) describes is unkept = tt
+
+pub unthreaded : (topology : List ℕ) (f : ReadFault) → IsReadFault topology f
+    → IsThreaded topology [] (bad_topology_text f, BadInput)
+unthreaded topology f is = record { judged = bad_topology f is refl; unkept = λ _. refl }
+
+-- ---- what is left to the two writers
+
+module _ (O : List ℕ → Output → Type 0) where
+  -- nothing, where the threads gave nothing to tell
+  pub both_kept : (a b : Option (List ℕ)) (s : RunStop) → IsRunStop s → LeavesBoth O a a b b (Err s)
+  both_kept a b ReadFailed is = absurd is
+  both_kept a b WriteFailed is = absurd is
+  both_kept a b NoMemory is = (Keeps-refl a, Keeps-refl b)
+  both_kept a b ThreadFailed is = (Keeps-refl a, Keeps-refl b)
+  both_kept a b NotClosed is = (Keeps-refl a, Keeps-refl b)
+
+  -- a front of the history
+  pub cut_history : (told : Told) (a d b : Option (List ℕ)) (r : Result Status RunStop)
+      → IsErrAnd r (λ s. s ≡ WriteFailed) → O (told_history told) (told_output told)
+      → AppendsFront a d (told_history told) → LeavesBoth O a d b b r
+  cut_history told a d b (Ok s) is o front = absurd is
+  cut_history told a d b (Err ReadFailed) is o front = absurd (cc)
+  cut_history told a d b (Err WriteFailed) is o front =
+      (told_history told, told_output told, o, inl (front, Keeps-refl b))
+  cut_history told a d b (Err NoMemory) is o front = absurd (cc)
+  cut_history told a d b (Err ThreadFailed) is o front = absurd (cc)
+  cut_history told a d b (Err NotClosed) is o front = absurd (cc)
+
+  -- the history, and a front of the line
+  pub cut_line : (told : Told) (a d b e : Option (List ℕ)) (r : Result Status RunStop)
+      → IsErrAnd r (λ s. s ≡ WriteFailed) → O (told_history told) (told_output told)
+      → Appends a d (told_history told) → AppendsFront b e (told_output told).0 → LeavesBoth O a d b e r
+  cut_line told a d b e (Ok s) is o wrote front = absurd is
+  cut_line told a d b e (Err ReadFailed) is o wrote front = absurd (cc)
+  cut_line told a d b e (Err WriteFailed) is o wrote front =
+      (told_history told, told_output told, o, inr (wrote, front))
+  cut_line told a d b e (Err NoMemory) is o wrote front = absurd (cc)
+  cut_line told a d b e (Err ThreadFailed) is o wrote front = absurd (cc)
+  cut_line told a d b e (Err NotClosed) is o wrote front = absurd (cc)

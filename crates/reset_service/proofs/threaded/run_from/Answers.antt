@@ -1,0 +1,13 @@
+use Rattle.std.proofs.Common.{◌≡◌, ◌<◌, ◌∙◌, ℕ, List, ap, length, subst}
+use Rattle.reset_service.specs.Meaning.{meaning_of}
+use Rattle.reset_service.proofs.Threading.{many_kept}
+use Rattle.reset_service.proofs.threaded.run_from.Goals as goal
+
+pub returns-in-Err-clause-ok : goal.returns-in-Err-clause-ok
+returns-in-Err-clause-ok g c =
+    let m = meaning_of g.P.Application.app g.P.Application.text g.P.Application.from_text g.P.Application.names in
+    let ids : List ℕ = c.args.opening.graph.ids in
+    let same : c.open_book-book.result.config.graph.ids ≡ ids =
+    ap (λ b. b.config.graph.ids) c.open_book-book.ensures ∙ ap (λ x. x.graph.ids) c.in_ok-copy.ensures in
+    many_kept m c.args.opening c.stopped_by.result c.in-Err.fault.cause c.stopped_by.ensures.many
+    (λ many. subst (λ ids. 64 < length ids) same (c.in-Err.ensures.many many))

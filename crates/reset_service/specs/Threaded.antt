@@ -1,0 +1,102 @@
+-- What a run of node threads leaves: the history that the threads keep, and what is written of it.
+use Rattle.std.specs.Prelude.{◌≡◌, ◌⊎◌, ◌<◌, ◌≤◌, ℕ, List, [], ◌∷◌, length, codes, Option, IsSome, Result, Ok, Err}
+use Rattle.std.specs.Fmt.{decimal}
+use Rattle.std.specs.List.{concat}
+use Rattle.std.specs.Io.KnownBytes.{Appends, Keeps}
+use Rattle.action_tables.specs.Written.{AppendsFront}
+use Rattle.topology.specs.Graph.{Graph}
+use Rattle.topology.specs.declared.text.AppName.{AppName}
+use Rattle.topology.specs.declared.text.AppName.TheVariants.{Idle, Token, Mutex, Routes}
+use Rattle.reset_model.specs.declared.event.Event.{Event}
+use Rattle.reset_model.specs.Configuration.{Configuration}
+use Rattle.reset_model.specs.Outcome.{IsBoot}
+use Rattle.history.specs.Entries.{replayed}
+use Rattle.history.specs.HistoryText.{IsReadAs, ended}
+use Rattle.history.specs.Reports.{reports_of}
+use Rattle.history.specs.Stretches.{steps}
+use Rattle.reset_service.specs.Meaning.{Meaning, idle_meaning, token_meaning, mutex_meaning, routes_meaning}
+use Rattle.reset_service.specs.Output.{IsJudged, bad_topology_text}
+use Rattle.reset_service.specs.declared.status.RunStop.{RunStop}
+use Rattle.reset_service.specs.declared.status.RunStop.TheVariants as stop
+use Rattle.reset_service.specs.declared.status.Status.{Status}
+use Rattle.reset_service.specs.declared.status.Status.TheVariants.{Good, BadInput}
+use Rattle.reset_service.specs.declared.threaded.Told.{Told}
+use Rattle.reset_service.specs.declared.threaded.Told.TheVariants.{BadTopology, TooManyNodes, Kept}
+
+-- ---- lines
+
+-- the line of the numbers of nodes, of entries and of reports
+abbrev pub threads_line : ℕ → ℕ → ℕ → List ℕ
+threads_line nodes entries reports =
+    concat (codes "threads " ∷ decimal nodes ∷ codes " nodes " ∷ decimal entries ∷ codes " entries " ∷ decimal reports
+    ∷ ended (codes " reports") ∷ [])
+
+-- the line of a topology that has more nodes than there may be threads
+abbrev pub too_many_text : List ℕ
+too_many_text = ended (codes "bad topology TooManyForThreads")
+
+-- ---- the history and the output of a run
+
+-- the history that node threads keep from a configuration on, and what is written of it: a step after the other, each
+-- allowed where it stands, and no fault
+pub data IsKept {L : Type 0} (m : Meaning L) (c : Configuration L) (history : List ℕ) (output : List ℕ × Status) :
+    Type 0 where
+  too_many : 64 < length c.graph.ids → output ≡ (too_many_text, BadInput) → IsKept m c history output
+  kept : (events : List Event) → length c.graph.ids ≤ 64 → IsReadAs history (Ok (steps events))
+      → IsSome (replayed m.app m.from_text c (steps events))
+      → output ≡ (
+        threads_line (length c.graph.ids) (length events)
+            (length (reports_of m.app m.from_text c (steps events))),
+        Good,
+      )
+      → IsKept m c history output
+
+-- the same from the booted configuration of a graph
+abbrev pub IsKeptFrom : {L : Type 0} → Meaning L → Graph → List ℕ → List ℕ × Status → Type 0
+IsKeptFrom {L = L} m g history output = (c : Configuration L) × IsBoot m.app g c × IsKept m c history output
+
+-- the same for the application of a name
+abbrev pub IsKeptOf : AppName → Graph → List ℕ → List ℕ × Status → Type 0
+IsKeptOf Idle = IsKeptFrom idle_meaning
+IsKeptOf Token = IsKeptFrom token_meaning
+IsKeptOf Mutex = IsKeptFrom mutex_meaning
+IsKeptOf Routes = IsKeptFrom routes_meaning
+
+-- a run of node threads on the topology of a text leaves this history, this output and this status: a bad topology is
+-- answered first, and leaves no history
+pub record IsThreaded (topology history : List ℕ) (output : List ℕ × Status) : Type 0 where
+  pub judged : IsJudged (λ app g. IsKeptOf app g history) topology output
+  pub unkept : output.1 ≡ BadInput → history ≡ []
+
+-- ---- what a run leaves to its two writers
+
+-- it was cut short by a writer: the history comes first
+abbrev pub IsCutShort : (old new : Option (List ℕ)) → (before after : Option (List ℕ)) → (history written : List ℕ)
+    → Type 0
+IsCutShort old new before after history written =
+    (AppendsFront old new history × Keeps before after) ⊎ (Appends old new history × AppendsFront before after written)
+
+-- of a history that went to one writer and an output that went to the other. Only a writer cuts a run short in the
+-- middle: after any other stop nothing was written
+abbrev pub LeavesBoth : (List ℕ → List ℕ × Status → Type 0) → (old new : Option (List ℕ))
+    → (before after : Option (List ℕ)) → Result Status RunStop → Type 0
+LeavesBoth O old new before after (Ok status) =
+    (history written : List ℕ) × O history (written, status) × Appends old new history × Appends before after written
+LeavesBoth O old new before after (Err stop.ReadFailed) = ⊥
+LeavesBoth O old new before after (Err stop.WriteFailed) =
+    (history : List ℕ) × (output : List ℕ × Status) × O history output
+    × IsCutShort old new before after history output.0
+LeavesBoth O old new before after (Err stop.NoMemory) = Keeps old new × Keeps before after
+LeavesBoth O old new before after (Err stop.ThreadFailed) = Keeps old new × Keeps before after
+LeavesBoth O old new before after (Err stop.NotClosed) = Keeps old new × Keeps before after
+
+-- ---- what private clauses cite: what a run comes to before anything is written
+
+abbrev pub told_history : Told → List ℕ
+told_history (Kept k) = k.history.items
+told_history told = []
+
+abbrev pub told_output : Told → List ℕ × Status
+told_output (BadTopology f) = (bad_topology_text f, BadInput)
+told_output TooManyNodes = (too_many_text, BadInput)
+told_output (Kept k) = (threads_line k.nodes k.entries k.reports, Good)

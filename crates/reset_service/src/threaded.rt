@@ -1,0 +1,292 @@
+// Runs of node threads from a booted configuration.
+
+ghost use Rattle.std.specs.Prelude.{◌≡◌, ◌≢◌, ◌+◌, ◌≤◌, ◌⊎◌, [], length, Err, IfErr, IfOk, IsErrAnd, IsTrue, Ok, OnErr};
+ghost use Rattle.std.specs.Prelude.{OnOk};
+ghost use Rattle.std.specs.List.{list_all};
+ghost use Rattle.std.specs.Io.KnownBytes.{Appends, Keeps};
+ghost use Rattle.action_tables.specs.Written.{AppendsFront};
+ghost use Rattle.topology.specs.Graph.{IsNode};
+ghost use Rattle.node_threads.specs.Locked.{is_step};
+ghost use Rattle.history.specs.HistoryText.{IsReadAs, history_text};
+ghost use Rattle.reset_service.specs.Meaning.{meaning_of};
+ghost use Rattle.reset_service.specs.Output.{bad_topology_text};
+ghost use Rattle.reset_service.specs.Threaded.{threads_line, too_many_text, IsKept, IsKeptFrom, IsKeptOf, IsThreaded};
+ghost use Rattle.reset_service.specs.Threaded.{LeavesBoth, told_history, told_output};
+ghost use Rattle.reset_service.specs.Stops.{IsRunStop};
+
+use crate::answer::put_topology_fault;
+use crate::status::{RunStop, Status};
+use action_tables::{Part, WriteFault, put_bytes, put_parts};
+use app_interface::{Application, Idle};
+use app_mutex::EdgeReversal;
+use app_routes::Routes;
+use app_token::Token;
+use history::{
+    Book, BookFault, MAX_ENTRIES, ReaderFault, VerifyFault, books_read_back, one_reading_a_text,
+    verify_reader, write_book,
+};
+use node_threads::{Gate, RunCause, run_nodes};
+use reset_machine::Config;
+use std::alloc::Global;
+use std::io::Write;
+use std::sync::Wait;
+use std::thread::Threads;
+use topology::{AppName, ReadFault, Topology, read_topology};
+
+// What a run of node threads comes to, before anything is written.
+#[derive(Drop)]
+enum Told {
+    BadTopology(ReadFault),
+    TooManyNodes,
+    Kept(Kept),
+}
+
+// The history that node threads kept, as a text, and what it has.
+#[derive(Drop)]
+struct Kept {
+    history: Vec<u8>,
+    nodes: usize,
+    entries: usize,
+    reports: usize,
+}
+
+// A gate that nobody watches.
+struct NoGate;
+
+impl Gate for NoGate {
+    fn planned(&self, _node: u32) {}
+
+    fn committed(&self, _node: u32) {}
+}
+
+/// Runs a thread for each node of a topology text from its booted configuration on: the node with the least
+/// identifier asks for a reset, and then each takes so many turns. Writes the history that they keep to one
+/// writer, and then to the other how many nodes there are, and how many entries and reports the history has.
+///
+/// The history is told only where a verification from the booted configuration takes it too. Nothing is
+/// written before the threads have ended. A run ends where the history has a million entries.
+pub fn threads_text<R: Threads + Wait + Sync, H: Write, W: Write>(
+    rt: &R,
+    alloc: Global,
+    topology: &[u8],
+    turns: u32,
+    history: &mut H,
+    out: &mut W,
+) -> Result<Status, RunStop>
+    requires { turns ≤ 100000 }
+    ensures { LeavesBoth (IsThreaded topology.now) (H.contents history.old) (H.contents history.new)
+        (W.contents out.old) (W.contents out.new) result }
+{
+    let told = run_text(rt, alloc, topology, turns)?;
+    put_history(history, &told)?;
+    put_told(out, &told)?;
+    Ok(status_of(&told))
+}
+
+// Runs the threads of a topology text.
+fn run_text<R: Threads + Wait + Sync>(
+    rt: &R,
+    alloc: Global,
+    topology: &[u8],
+    turns: u32,
+) -> Result<Told, RunStop>
+    requires { turns ≤ 100000 }
+    ensures ok { IfOk result (λ told. IsThreaded topology.now (told_history told) (told_output told)) }
+    ensures stop { IfErr result IsRunStop }
+{
+    match read_topology(alloc, topology) {
+        Ok((topology, app)) => run_app(rt, alloc, app, topology, turns),
+        Err(ReadFault::NoMemory) => Err(RunStop::NoMemory),
+        Err(fault) => Ok(Told::BadTopology(fault)),
+    }
+}
+
+// Runs the threads of a topology, with the application of this name.
+fn run_app<R: Threads + Wait + Sync>(
+    rt: &R,
+    alloc: Global,
+    app: AppName,
+    topology: Topology,
+    turns: u32,
+) -> Result<Told, RunStop>
+    requires { turns ≤ 100000 }
+    ensures ok { IfOk result (λ told. IsKeptOf app topology (told_history told) (told_output told)) }
+    ensures unkept { IfOk result (λ told. (told_output told).1 ≡ Status.BadInput → told_history told ≡ []) }
+    ensures stop { IfErr result IsRunStop }
+{
+    match app {
+        AppName::Idle => run_booted::<Idle, R>(rt, alloc, topology, turns),
+        AppName::Token => run_booted::<Token, R>(rt, alloc, topology, turns),
+        AppName::Mutex => run_booted::<EdgeReversal, R>(rt, alloc, topology, turns),
+        AppName::Routes => run_booted::<Routes, R>(rt, alloc, topology, turns),
+    }
+}
+
+fn run_booted<P: Application, R: Threads + Wait + Sync>(
+    rt: &R,
+    alloc: Global,
+    topology: Topology,
+    turns: u32,
+) -> Result<Told, RunStop>
+    requires { turns ≤ 100000 }
+    ensures ok { IfOk result (λ told. IsKeptFrom (meaning_of P.app P.text P.from_text P.names) topology
+        (told_history told) (told_output told)) }
+    ensures unkept { IfOk result (λ told. (told_output told).1 ≡ Status.BadInput → told_history told ≡ []) }
+    ensures stop { IfErr result IsRunStop }
+{
+    match Config::<P>::boot(alloc, topology) {
+        Ok(opening) => run_from(rt, alloc, opening, turns),
+        Err(_) => Err(RunStop::NoMemory),
+    }
+}
+
+// Runs the threads from this configuration on. What they keep is judged from a copy of it.
+fn run_from<P: Application, R: Threads + Wait + Sync>(
+    rt: &R,
+    alloc: Global,
+    opening: Config<P>,
+    turns: u32,
+) -> Result<Told, RunStop>
+    requires { turns ≤ 100000 }
+    ensures ok { IfOk result (λ told. IsKept (meaning_of P.app P.text P.from_text P.names) opening
+        (told_history told) (told_output told)) }
+    ensures unkept { IfOk result (λ told. (told_output told).1 ≡ Status.BadInput → told_history told ≡ []) }
+    ensures stop { IfErr result IsRunStop }
+{
+    opening.topology().is_graph();
+    let least = opening.topology().ids()[0];
+    let book = Book::open_book(alloc, opening.copy(alloc)?, MAX_ENTRIES);
+    match run_nodes(rt, alloc, &NoGate, book, turns, Some(least)) {
+        Ok(outcome) => judge(alloc, opening, &outcome.book),
+        Err(fault) => stopped_by(fault.cause),
+    }
+}
+
+// What a run comes to whose threads gave no outcome.
+fn stopped_by(cause: RunCause) -> Result<Told, RunStop>
+    requires { cause ≢ RunCause.StrangeNode }
+    ensures many { IfOk result (λ told. (told ≡ Told.TooManyNodes) × (cause ≡ RunCause.TooManyForThreads)) }
+    ensures stop { IfErr result IsRunStop }
+{
+    match cause {
+        RunCause::StrangeNode => unreachable!(),
+        RunCause::TooManyForThreads => Ok(Told::TooManyNodes),
+        RunCause::NoThread => Err(RunStop::ThreadFailed),
+        RunCause::Close(_) => Err(RunStop::NotClosed),
+        RunCause::NoMemory => Err(RunStop::NoMemory),
+    }
+}
+
+// Judges the history that was kept from an opening on, which is told where its verification takes it.
+fn judge<P: Application>(alloc: Global, opening: Config<P>, book: &Book<P>) -> Result<Told, RunStop>
+    requires few { length opening.graph.ids ≤ 64 }
+    requires steps { IsTrue (list_all is_step book.now.entries) }
+    ensures ok { IfOk result (λ told. IsKept (meaning_of P.app P.text P.from_text P.names) opening
+        (told_history told) (told_output told)) }
+    ensures unkept { IfOk result (λ told. (told_output told).1 ≡ Status.BadInput → told_history told ≡ []) }
+    ensures stop { IfErr result IsRunStop }
+{
+    one_reading_a_text();
+    let nodes = opening.topology().len();
+    let history = text_of(alloc, book)?;
+    let mut rest = history.as_slice();
+    match verify_reader(alloc, opening, &mut rest) {
+        Ok(summary) => {
+            let reports = summary.reports.as_slice();
+            Ok(Told::Kept(Kept {
+                history,
+                nodes,
+                entries: summary.entries,
+                reports: reports.len(),
+            }))
+        }
+        Err(fault) => Err(stop_of(fault)),
+    }
+}
+
+// The text of a book's history.
+fn text_of<P: Application>(alloc: Global, book: &Book<P>) -> Result<Vec<u8>, RunStop>
+    ensures text { IfOk result (λ text. text.items ≡ history_text book.now.entries) }
+    ensures read { IfOk result (λ text. IsReadAs text.items (Ok book.now.entries)) }
+    ensures stop { IfErr result IsRunStop }
+{
+    book.is_book();
+    books_read_back::<P>();
+    let mut text = Vec::new(alloc);
+    match write_book(book, &mut text) {
+        Ok(()) => Ok(text),
+        Err(_) => Err(RunStop::NoMemory),
+    }
+}
+
+// What stops a run whose history isn't taken.
+fn stop_of(fault: ReaderFault) -> RunStop
+    ensures { IsRunStop result }
+{
+    match fault {
+        ReaderFault::Text(BookFault::NoMemory) | ReaderFault::Entries(VerifyFault::NoMemory) => {
+            RunStop::NoMemory
+        }
+        ReaderFault::Text(_) | ReaderFault::Entries(_) => RunStop::NotClosed,
+    }
+}
+
+// ---- what is written
+
+// Writes the history of a run that kept one.
+fn put_history<H: Write>(history: &mut H, told: &Told) -> Result<(), WriteFault>
+    ensures ok { OnOk result (Appends (H.contents history.old) (H.contents history.new) (told_history told.now)) }
+    ensures err { OnErr result
+        (AppendsFront (H.contents history.old) (H.contents history.new) (told_history told.now)) }
+{
+    match told {
+        Told::Kept(kept) => put_bytes(history, &kept.history),
+        Told::BadTopology(_) | Told::TooManyNodes => put_bytes(history, b""),
+    }
+}
+
+// Writes the line of a run.
+fn put_told<W: Write>(out: &mut W, told: &Told) -> Result<(), WriteFault>
+    ensures ok { OnOk result (Appends (W.contents out.old) (W.contents out.new) (told_output told.now).0) }
+    ensures err { OnErr result (AppendsFront (W.contents out.old) (W.contents out.new) (told_output told.now).0) }
+{
+    match told {
+        Told::BadTopology(fault) => put_topology_fault(out, *fault),
+        Told::TooManyNodes => put_bytes(out, b"bad topology TooManyForThreads\n"),
+        Told::Kept(kept) => put_counts(out, kept.nodes, kept.entries, kept.reports),
+    }
+}
+
+fn put_counts<W: Write>(
+    out: &mut W,
+    nodes: usize,
+    entries: usize,
+    reports: usize,
+) -> Result<(), WriteFault>
+    ensures ok { OnOk result (Appends (W.contents out.old) (W.contents out.new) (threads_line nodes entries reports)) }
+    ensures err { OnErr result
+        (AppendsFront (W.contents out.old) (W.contents out.new) (threads_line nodes entries reports)) }
+{
+    put_parts(
+        out,
+        &[
+            Part::Text(b"threads "),
+            Part::Number(nodes as u64),
+            Part::Text(b" nodes "),
+            Part::Number(entries as u64),
+            Part::Text(b" entries "),
+            Part::Number(reports as u64),
+            Part::Text(b" reports\n"),
+        ],
+    )
+}
+
+// The status of a run.
+fn status_of(told: &Told) -> Status
+    ensures { result ≡ (told_output told.now).1 }
+{
+    match told {
+        Told::BadTopology(_) | Told::TooManyNodes => Status::BadInput,
+        Told::Kept(_) => Status::Good,
+    }
+}
