@@ -30,4 +30,4 @@ pub use replays::{check_text, replay, replay_joined, replay_text};
 pub use status::{RunStop, Status};
 pub use tables::print_tables;
 pub use verified::verify_text;
-pub use words::{Job, LineFault, Paths, no_text, read_words};
+pub use words::{Job, LineFault, Paths, ThreadWords, no_text, read_words};

@@ -1,10 +1,10 @@
 // What the words of the command line ask for.
 
-ghost use Rattle.std.specs.Prelude.{◌≡◌, [], codes, map, Some, IfOk, IfErr};
+ghost use Rattle.std.specs.Prelude.{◌≡◌, ◌≤◌, [], codes, map, IfErr, IfOk, IsSomeAnd, Some};
 ghost use Rattle.clap.specs.Words.{first_of, found_of, kind_of, rows_of, subcommand_rows_of};
 ghost use Rattle.reset_service.specs.declared.words.LineFault.TheVariants.{NoMemory};
-ghost use Rattle.reset_service.specs.Words.{faults_of, AskFor, AskedBy, HasJob, HasTexts, IsFaultOf, IsInvalidValue};
-ghost use Rattle.reset_service.specs.Words.{StandsFor};
+ghost use Rattle.reset_service.specs.Words.{faults_of, AskFor, AskedBy, HasJob, HasTexts, HasTurns, IsFaultOf};
+ghost use Rattle.reset_service.specs.Words.{IsInvalidValue, StandsFor, Writes};
 
 use crate::commands::command_line;
 use clap::error::ErrorKind;
@@ -22,6 +22,17 @@ pub struct Paths<'a> {
     pub input: &'a str,
 }
 
+/// The words of a run of node threads.
+#[derive(Clone, Copy, Debug, PartialEq, Eq)]
+pub struct ThreadWords<'a> {
+    /// The path of the topology.
+    pub topology: &'a str,
+    /// How many turns each node takes, from 1 to 100,000.
+    pub turns: u32,
+    /// The path of the file for the history.
+    pub history: &'a str,
+}
+
 /// What the program is to do.
 #[derive(Clone, Copy, Debug, PartialEq, Eq)]
 pub enum Job<'a> {
@@ -33,6 +44,8 @@ pub enum Job<'a> {
     Check(Paths<'a>),
     /// Verify the history of a file from the booted configuration of another's topology.
     Verify(Paths<'a>),
+    /// Run a thread for each node of a topology, and write what they did to a file.
+    Threads(ThreadWords<'a>),
     /// Print the tables.
     Tables,
 }
@@ -97,6 +110,7 @@ fn job_of<'a>(matches: &ArgMatches<'a>) -> Job<'a>
         Some(("replay", values)) => Job::Replay(paths_of(values, "SCRIPT")),
         Some(("check", values)) => Job::Check(paths_of(values, "SCRIPT")),
         Some(("verify", values)) => Job::Verify(paths_of(values, "HISTORY")),
+        Some(("threads", values)) => Job::Threads(thread_words_of(values)),
         Some(_) => Job::Tables,
     }
 }
@@ -110,6 +124,23 @@ fn paths_of<'a>(values: &ArgMatches<'a>, input: &str) -> Paths<'a>
     Paths {
         topology: values.get_str("TOPOLOGY").unwrap(),
         input: values.get_str(input).unwrap(),
+    }
+}
+
+// The words of matches that have a topology, a number of turns and a file for the history.
+fn thread_words_of<'a>(values: &ArgMatches<'a>) -> ThreadWords<'a>
+    requires texts { HasTexts (codes "history") (rows_of (found_of values.now)) }
+    requires turns { HasTurns (rows_of (found_of values.now)) }
+    ensures topology { first_of (codes "TOPOLOGY") (rows_of (found_of values.now)) ≡ Some result.topology.now }
+    ensures history { first_of (codes "history") (rows_of (found_of values.now)) ≡ Some result.history.now }
+    ensures turns { IsSomeAnd (first_of (codes "turns") (rows_of (found_of values.now))) (Writes result.turns) }
+    ensures least { 1 ≤ result.turns }
+    ensures most { result.turns ≤ 100000 }
+{
+    ThreadWords {
+        topology: values.get_str("TOPOLOGY").unwrap(),
+        turns: values.get_one::<u32>("turns").unwrap(),
+        history: values.get_str("history").unwrap(),
     }
 }
 
