@@ -129,7 +129,8 @@ Example:
   reset-service verify examples/verified-wave/topology.toml examples/verified-wave/history",
 };
 
-const THREADS_ABOUT: &str = "Runs a thread for each node, and writes what the nodes did as a history";
+const THREADS_ABOUT: &str =
+    "Runs a thread for each node, and writes what the nodes did as a history";
 
 const THREADS_LONG_ABOUT: &str = "\
 Runs a thread for each node, and writes what the nodes did as a history.
