@@ -1,6 +1,6 @@
 -- Each row of a walk in which clap finds no fault has values, and its argument takes them.
-use Rattle.std.proofs.Common.{◌≡◌, ◌∙◌, ◌<◌, ◌&&◌, ◌⊎◌, ℕ, Bool, cond, true, false, zero, suc, refl, sym, subst, ap, arith}
-use Rattle.std.proofs.Common.{inl, inr, not, List, [], ◌∷◌, ◌++◌, length, drop, Option, Some, None, true≢false}
+use Rattle.std.proofs.Common.{◌≡◌, ◌∙◌, ◌<◌, ◌&&◌, ◌⊎◌, ℕ, Bool, cond, true, false, zero, suc, refl, sym, subst, ap}
+use Rattle.std.proofs.Common.{arith, inl, inr, not, List, [], ◌∷◌, ◌++◌, length, drop, Option, Some, None, true≢false}
 use Rattle.std.proofs.lemmas.List.{length-append}
 use Rattle.std.proofs.lemmas.Slice.Eq.{bytes_eq-Decides}
 use Rattle.std.specs.List.{fold}
@@ -16,15 +16,15 @@ use Rattle.clap.specs.Kinds.{Kinds, or_else, range_kinds}
 use Rattle.clap.specs.Lexer.{long_of, short_of}
 use Rattle.clap.specs.Simple.{Shape}
 use Rattle.clap.specs.Takes.{is_given}
-use Rattle.clap.specs.Walk.{Held, Names, Outcome, Row, Rule, Step, Text, Waiting, Walk, action_of, after_flag, after_step}
-use Rattle.clap.specs.Walk.{arg_by_id, arg_by_index, arg_by_long, arg_by_short, at_row, attached_value, bundle}
-use Rattle.clap.specs.Walk.{bundle_met, bundle_step, flag_met, has_long, has_row, has_short, is_pending}
+use Rattle.clap.specs.Walk.{Held, Names, Outcome, Row, Rule, Step, Text, Waiting, Walk, action_of, after_flag}
+use Rattle.clap.specs.Walk.{after_step, arg_by_id, arg_by_index, arg_by_long, arg_by_short, at_row, attached_value}
+use Rattle.clap.specs.Walk.{bundle, bundle_met, bundle_step, flag_met, has_long, has_row, has_short, is_pending}
 use Rattle.clap.specs.Walk.{long_met, long_or_other, more_values, most_values, nothing_held, option_met, option_word}
-use Rattle.clap.specs.Walk.{plain_word, positional_held, pushed, reacted, reading_by, rows_after, settled, settled_rows}
-use Rattle.clap.specs.Walk.{short_met, short_or_plain, stronger, subcommand_met, subcommand_or_other, takes_several, takes_values}
-use Rattle.clap.specs.Walk.{to_positional, used, used_as, used_by_id, walk, walk_from, walked, walked_from}
-use Rattle.clap.specs.Walk.{with_default, with_values, without, word_met}
-use Rattle.clap.specs.Walk.{done, waits, plain, refused, idle, option, positional, next, trailing, subcommand, value}
+use Rattle.clap.specs.Walk.{plain_word, positional_held, pushed, reacted, reading_by, rows_after, settled}
+use Rattle.clap.specs.Walk.{settled_rows, short_met, short_or_plain, stronger, subcommand_met, subcommand_or_other}
+use Rattle.clap.specs.Walk.{takes_several, takes_values, to_positional, used, used_as, used_by_id, walk, walk_from}
+use Rattle.clap.specs.Walk.{walked, walked_from, with_default, with_values, without, word_met, done, waits, plain}
+use Rattle.clap.specs.Walk.{refused, idle, option, positional, next, trailing, subcommand, value}
 use Rattle.clap.specs.declared.builder.action.ArgAction.{ArgAction}
 use Rattle.clap.specs.declared.builder.action.ArgAction.TheVariants.{Set, Help}
 use Rattle.clap.specs.declared.error.kind.ErrorKind.TheVariants.{TooManyValues}
@@ -122,7 +122,7 @@ AreTaken-without c id rows f = AreTaken-at_row c id (λ _. []) [] rows (λ r sam
 
 -- ---- a use
 
--- no values are too few
+-- a use without a value is a fault where the least is over 0
 no_values : (least most : ℕ) → nat_lt 0 least ≡ true → range_kinds least most 0 ≡ [] → ⊥
 no_values least most some e =
     let bad = rw some at e in
@@ -131,7 +131,8 @@ no_values least most some e =
 AreTaken-used : (c : List Rule) (again : Bool) (a : Rule) (values : List Text) (rows : List Row) → Fits c a
     → use_fault again a values rows ≡ [] → AreTaken c rows → AreTaken c (used a values rows)
 AreTaken-used c again a values rows (none, inr help) e f =
-    let parts = or_else-nil (range_kinds (unwrap_or_range a.range).start_inclusive (most_values a) (length values)) _ e in
+    let parts =
+    or_else-nil (range_kinds (unwrap_or_range a.range).start_inclusive (most_values a) (length values)) _ e in
     let bad = rw help at parts.1 in
     absurd (cc)
 AreTaken-used c again a [] rows (none, inl fit) e f =
@@ -238,7 +239,8 @@ module _ (c : List Rule) (again : Bool) (fit : AllFit c c) where
 
   -- ---- words
 
-  Taken-option_word : (found : Option Rule) (id word : Text) (h : Held) → Taken h → Taken (option_word found id word h).0
+  Taken-option_word : (found : Option Rule) (id word : Text) (h : Held) → Taken h
+      → Taken (option_word found id word h).0
   Taken-option_word None id word h f = f
   Taken-option_word (Some a) id word h f = f
 

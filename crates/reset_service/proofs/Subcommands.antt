@@ -1,6 +1,7 @@
 -- The subcommand of words in which clap finds no fault is one of the program's own, with its values.
-use Rattle.std.proofs.Common.{◌≡◌, ◌∙◌, ◌≤◌, ◌<◌, ◌&&◌, ◌||◌, not, ℕ, Bool, cond, true, false, refl, sym, ap, subst, arith}
-use Rattle.std.proofs.Common.{List, [], ◌∷◌, codes, drop, length, Option, Some, None, inl, inr, true≢false, ◌==◌}
+use Rattle.std.proofs.Common.{◌≡◌, ◌∙◌, ◌≤◌, ◌<◌, ◌&&◌, ◌||◌, not, ℕ, Bool, cond, true, false, refl, sym, ap, subst}
+use Rattle.std.proofs.Common.{arith, List, [], ◌∷◌, codes, drop, length, Option, Some, None, inl, inr, true≢false}
+use Rattle.std.proofs.Common.{◌==◌}
 use Rattle.std.specs.List.{fold, slice_index_or}
 use Rattle.std.specs.Option.{option_map_or}
 use Rattle.std.specs.Str.{bytes_eq}
@@ -15,21 +16,22 @@ use Rattle.clap.specs.Kinds.{or_else}
 use Rattle.clap.specs.Simple.{argument_words, entered, label_of, names_of, rows_at}
 use Rattle.clap.specs.Takes.{is_given}
 use Rattle.clap.specs.ValueTests.{accepts}
-use Rattle.clap.specs.Faults.{entered_fault, level_fault, other_fault, step_fault, turn_fault, values_fault, walk_fault}
-use Rattle.clap.specs.Faults.{word_fault}
+use Rattle.clap.specs.Faults.{entered_fault, level_fault, other_fault, step_fault, turn_fault, values_fault}
+use Rattle.clap.specs.Faults.{walk_fault, word_fault}
 use Rattle.clap.specs.declared.builder.value_parser.ValueParser.TheVariants.{Signed}
 use Rattle.clap.specs.declared.error.ErrorKind.{ErrorKind}
 use Rattle.clap.specs.declared.error.ErrorKind.TheVariants.{DisplayHelp, InvalidSubcommand, MissingRequiredArgument}
 use Rattle.clap.specs.Walk.{Held, Names, Outcome, Step, Waiting, Walk, after_flag, after_step, answers_to, arg_by_id}
 use Rattle.clap.specs.Walk.{arg_by_index, arg_by_long, bundle, long_met, long_or_other, nothing_held, plain_word}
 use Rattle.clap.specs.Walk.{row_text, short_or_plain, subcommand_met, subcommand_or_other, to_positional, walk}
-use Rattle.clap.specs.Walk.{walk_from, walked, walked_from, word_met}
-use Rattle.clap.specs.Walk.{done, waits, plain, refused, idle, option, positional, next, trailing, subcommand, value}
+use Rattle.clap.specs.Walk.{walk_from, walked, walked_from, word_met, done, waits, plain, refused, idle, option}
+use Rattle.clap.specs.Walk.{positional, next, trailing, subcommand, value}
 use Rattle.clap.proofs.OnLiterals.{clap_on_literals}
 use Rattle.clap.proofs.ValueTestLemmas.{accepts-Accepts}
 use Rattle.reset_service.specs.Words.{HasJob, HasTexts, HasTurns, Writes, faults_of, program, tables_command}
 use Rattle.reset_service.specs.Words.{texts_command, threads_command}
-use Rattle.reset_service.proofs.PathRows.{AllFit, AreTaken, IsTaken, TakesWords, checked, given_row, or_else-nil, rows_taken}
+use Rattle.reset_service.proofs.PathRows.{AllFit, AreTaken, IsTaken, TakesWords, checked, given_row, or_else-nil}
+use Rattle.reset_service.proofs.PathRows.{rows_taken}
 
 -- ---- the walk meets no `help`
 

@@ -135,18 +135,25 @@ const THREADS_ABOUT: &str =
 const THREADS_LONG_ABOUT: &str = "\
 Runs a thread for each node, and writes what the nodes did as a history.
 
-The network starts from the booted configuration of its topology. The node with the least identifier
-asks for a reset first, and then each node takes N turns: in a turn it takes the first event that
-it is allowed, if there is one. What the nodes did is written to FILE as a history, which
-`verify` accepts; the file is created, or emptied where it is there. At most 1,000,000 entries are
-kept: a run that reaches this many ends there. The last line is `threads N nodes E entries R reports`.
+The network starts from the booted configuration of its topology. The node with the least
+identifier asks for a reset first. Then each node takes N turns, all nodes at the same time. In a
+turn a node does the first event that it may do, requests left out; it does nothing where it may do
+none, or where a neighbour has changed what it saw. What the nodes did is written to FILE as a
+history, which `verify` accepts; the file is created, or emptied where it is there. At most
+1,000,000 entries are kept: a run that reaches this many ends there. Then one line is printed,
+`threads N nodes E entries R reports`: the nodes, the entries of the history, and the resets that
+were completed.
 
-A topology of over 64 nodes is answered by `bad topology TooManyForThreads`, and the exit status is 2.";
+A topology of over 64 nodes is answered by `bad topology TooManyForThreads`, and the exit status
+is 2.";
 
 const THREADS_AFTER_HELP: &str = "\
 Example:
   reset-service threads examples/one-wave/topology.toml --turns 100 --history history
   reset-service verify examples/one-wave/topology.toml history";
+
+const FEW_NODES_HELP: &str =
+    "A file in TOML that names the nodes, at most 64, the links between them, and the application";
 
 const TURNS_HELP: &str = "How many turns each node takes, from 1 to 100000";
 
@@ -211,7 +218,7 @@ fn threads_words<'a>(alloc: Global) -> Result<Command<'a>, AllocError>
         .about(THREADS_ABOUT)
         .long_about(THREADS_LONG_ABOUT)
         .after_help(THREADS_AFTER_HELP)
-        .arg(path_word(alloc, "TOPOLOGY", TOPOLOGY_HELP))?
+        .arg(path_word(alloc, "TOPOLOGY", FEW_NODES_HELP))?
         .arg(turns_word(alloc))?
         .arg(history_word(alloc))
 }

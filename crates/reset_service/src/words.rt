@@ -22,7 +22,7 @@ pub struct Paths<'a> {
     pub input: &'a str,
 }
 
-/// The words of a run of node threads.
+/// The words of a run of node threads, one for each node of the topology.
 #[derive(Clone, Copy, Debug, PartialEq, Eq)]
 pub struct ThreadWords<'a> {
     /// The path of the topology.
@@ -44,7 +44,7 @@ pub enum Job<'a> {
     Check(Paths<'a>),
     /// Verify the history of a file from the booted configuration of another's topology.
     Verify(Paths<'a>),
-    /// Run a thread for each node of a topology, and write what they did to a file.
+    /// Run a thread for each node of a topology, and write what the nodes did to a file.
     Threads(ThreadWords<'a>),
     /// Print the tables.
     Tables,
@@ -137,10 +137,11 @@ fn thread_words_of<'a>(values: &ArgMatches<'a>) -> ThreadWords<'a>
     ensures least { 1 ≤ result.turns }
     ensures most { result.turns ≤ 100000 }
 {
+    let paths = paths_of(values, "history");
     ThreadWords {
-        topology: values.get_str("TOPOLOGY").unwrap(),
+        topology: paths.topology,
         turns: values.get_one::<u32>("turns").unwrap(),
-        history: values.get_str("history").unwrap(),
+        history: paths.input,
     }
 }
 
