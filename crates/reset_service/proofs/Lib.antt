@@ -18,3 +18,4 @@ pub mod Stretches
 pub mod ConnectedTopologies
 pub mod VerifiedReports
 pub mod Threading
+pub mod KeptRuns

@@ -1,282 +1,394 @@
--- Each row that a walk makes has a value, where no flag makes one.
-use Rattle.std.proofs.Common.{◌≡◌, ◌<◌, ◌&&◌, ℕ, Bool, cond, true, false, zero, suc, refl, sym, arith, List, [], ◌∷◌}
-use Rattle.std.proofs.Common.{◌++◌, length, drop, Option, Some, None, true≢false}
+-- Each row of a walk in which clap finds no fault has values, and its argument takes them.
+use Rattle.std.proofs.Common.{◌≡◌, ◌∙◌, ◌<◌, ◌&&◌, ◌⊎◌, ℕ, Bool, cond, true, false, zero, suc, refl, sym, subst, ap}
+use Rattle.std.proofs.Common.{arith, inl, inr, not, List, [], ◌∷◌, ◌++◌, length, drop, Option, Some, None, true≢false}
 use Rattle.std.proofs.lemmas.List.{length-append}
+use Rattle.std.proofs.lemmas.Slice.Eq.{bytes_eq-Decides}
 use Rattle.std.specs.List.{fold}
 use Rattle.std.specs.Option.{option_map_or}
 use Rattle.std.specs.Str.{bytes_eq, chars}
-use Rattle.std.specs.Prelude.{⊤, IsSome, encode_utf8, find, option_and_then, slice_get}
+use Rattle.std.specs.Prelude.{⊤, IfSome, encode_utf8, find, is_some, nat_lt, slice_get}
+use Rattle.clap.specs.Facts.{explicit_source, unwrap_or_range}
+use Rattle.clap.specs.Faults.{action_fault, bundle_fault, bundle_step_fault, flag_word_fault, flags_fault, level_fault}
+use Rattle.clap.specs.Faults.{long_fault, option_fault, other_fault, positional_fault, react_fault, settle_fault}
+use Rattle.clap.specs.Faults.{repeat_fault, short_fault, step_fault, turn_fault, use_fault, values_fault, walk_fault}
+use Rattle.clap.specs.Faults.{check_fault, defaults_fault, stray_fault, word_fault}
+use Rattle.clap.specs.Kinds.{Kinds, or_else, range_kinds}
 use Rattle.clap.specs.Lexer.{long_of, short_of}
-use Rattle.clap.specs.Facts.{explicit_source}
+use Rattle.clap.specs.Simple.{Shape}
 use Rattle.clap.specs.Takes.{is_given}
-use Rattle.clap.specs.Walk.{Held, Names, Outcome, Row, Rule, Step, Text, Waiting, Walk, after_flag, after_step}
-use Rattle.clap.specs.Walk.{arg_by_id, arg_by_index, arg_by_long, arg_by_short, at_row, bundle, bundle_met, bundle_step}
-use Rattle.clap.specs.Walk.{default_rows, finished, first_of, flag_met, has_row, is_pending, long_met, long_or_other}
-use Rattle.clap.specs.Walk.{more_values, option_word, plain_word, positional_held, pushed, reading_by, settled}
-use Rattle.clap.specs.Walk.{settled_rows, short_met, short_or_plain, subcommand_met, subcommand_or_other, takes_several}
-use Rattle.clap.specs.Walk.{takes_values, to_positional, used, used_as, used_by_id, walked, walked_from, with_default}
-use Rattle.clap.specs.Walk.{with_values, without, word_met, action_of}
-use Rattle.clap.specs.Walk.{done, waits, plain, refused, idle, option, positional, next, trailing, subcommand, value}
+use Rattle.clap.specs.Walk.{Held, Names, Outcome, Row, Rule, Step, Text, Waiting, Walk, action_of, after_flag}
+use Rattle.clap.specs.Walk.{after_step, arg_by_id, arg_by_index, arg_by_long, arg_by_short, at_row, attached_value}
+use Rattle.clap.specs.Walk.{bundle, bundle_met, bundle_step, flag_met, has_long, has_row, has_short, is_pending}
+use Rattle.clap.specs.Walk.{long_met, long_or_other, more_values, most_values, nothing_held, option_met, option_word}
+use Rattle.clap.specs.Walk.{plain_word, positional_held, pushed, reacted, reading_by, rows_after, settled}
+use Rattle.clap.specs.Walk.{settled_rows, short_met, short_or_plain, stronger, subcommand_met, subcommand_or_other}
+use Rattle.clap.specs.Walk.{takes_several, takes_values, to_positional, used, used_as, used_by_id, walk, walk_from}
+use Rattle.clap.specs.Walk.{walked, walked_from, with_default, with_values, without, word_met, done, waits, plain}
+use Rattle.clap.specs.Walk.{refused, idle, option, positional, next, trailing, subcommand, value}
 use Rattle.clap.specs.declared.builder.action.ArgAction.{ArgAction}
-use Rattle.clap.specs.declared.builder.action.ArgAction.TheVariants.{Set, Append, SetTrue, SetFalse, Count, Help}
-use Rattle.clap.specs.declared.builder.action.ArgAction.TheVariants.{HelpShort, HelpLong, Version}
-use Rattle.clap.specs.declared.builder.value_parser.Reading.{Reading}
+use Rattle.clap.specs.declared.builder.action.ArgAction.TheVariants.{Set, Help}
+use Rattle.clap.specs.declared.error.kind.ErrorKind.TheVariants.{TooManyValues}
 use Rattle.clap.specs.declared.parser.matches.ValueSource.{ValueSource}
+
+-- ---- no kind of error
+
+pub or_else-nil : (a b : Kinds) → or_else a b ≡ [] → (a ≡ []) × (b ≡ [])
+or_else-nil [] b e = (refl, e)
+or_else-nil (k ∷ ks) b e = absurd (cc)
 
 -- ---- rows
 
--- each row has a value
-abbrev pub Filled : List Row → Type 0
-Filled [] = ⊤
-Filled (r ∷ rs) = (0 < length r.values) × Filled rs
+-- the row has values, the argument takes them, and they are read by its parser
+abbrev pub IsTaken : Option Rule → Row → Type 0
+IsTaken None r = ⊤
+IsTaken (Some a) r = (0 < length r.values) × (values_fault a r.values ≡ []) × (r.reading ≡ reading_by a)
 
-Filled-append : (xs ys : List Row) → Filled xs → Filled ys → Filled (xs ++ ys)
-Filled-append [] ys f g = g
-Filled-append (x ∷ xs) ys f g = (f.0, Filled-append xs ys f.1 g)
+-- so it is for each row and the argument of its id
+abbrev pub AreTaken : List Rule → List Row → Type 0
+AreTaken c [] = ⊤
+AreTaken c (r ∷ rs) = IsTaken (arg_by_id c r.id) r × AreTaken c rs
 
-Filled-at_row : (id : Text) (change : Row → List Row) (missing rows : List Row)
-    → ((r : Row) → 0 < length r.values → Filled (change r))
-    → Filled missing → Filled rows → Filled (at_row id change missing rows)
-Filled-at_row id change missing [] changed added f = added
-Filled-at_row id change missing (r ∷ rs) changed added f =
-    go (bytes_eq r.id id) (Filled-at_row id change missing rs changed added f.1)
+-- an argument that asks for help, or takes a value with each use and is the one of its id; it has no default
+abbrev pub TakesValue : List Rule → Rule → Type 0
+TakesValue c a = (action_of a ≡ Set) × (nat_lt 0 (unwrap_or_range a.range).start_inclusive ≡ true)
+    × (arg_by_id c a.id ≡ Some a)
+
+abbrev pub Fits : List Rule → Rule → Type 0
+Fits c a = (a.defaults ≡ []) × (TakesValue c a ⊎ (action_of a ≡ Help))
+
+abbrev pub AllFit : List Rule → List Rule → Type 0
+AllFit c [] = ⊤
+AllFit c (a ∷ rest) = Fits c a × AllFit c rest
+
+found_fits : (c : List Rule) (test : Rule → Bool) (rest : List Rule) → AllFit c rest → IfSome (find test rest) (Fits c)
+found_fits c test [] fit = tt
+found_fits c test (a ∷ rest) fit = go (test a) (found_fits c test rest fit.1)
   where
-    go : (b : Bool) → Filled (at_row id change missing rs)
-        → Filled (cond b (change r ++ rs) (r ∷ at_row id change missing rs))
-    go true below = Filled-append (change r) rs (changed r f.0) f.1
-    go false below = (f.0, below)
+    go : (b : Bool) → IfSome (find test rest) (Fits c) → IfSome (cond b (Some a) (find test rest)) (Fits c)
+    go true below = fit.0
+    go false below = below
 
-Filled-with_values : (id : Text) (how : Reading) (s : ValueSource) (values : List Text) (rows : List Row)
-    → 0 < length values → Filled rows
-    → Filled (with_values id how s values rows)
-Filled-with_values id how s values rows some f =
-    Filled-at_row id (more_values s values) _ rows (λ r h. (omega (arith, length-append r.values values), tt))
-    (some, tt) f
+AreTaken-append : (c : List Rule) (xs ys : List Row) → AreTaken c xs → AreTaken c ys → AreTaken c (xs ++ ys)
+AreTaken-append c [] ys f g = g
+AreTaken-append c (x ∷ xs) ys f g = (f.0, AreTaken-append c xs ys f.1 g)
 
-Filled-without : (id : Text) (rows : List Row) → Filled rows → Filled (without id rows)
-Filled-without id rows f = Filled-at_row id (λ _. []) [] rows (λ r h. tt) tt f
+AreTaken-at_row : (c : List Rule) (id : Text) (change : Row → List Row) (missing rows : List Row)
+    → ((r : Row) → bytes_eq r.id id ≡ true → IsTaken (arg_by_id c r.id) r → AreTaken c (change r))
+    → AreTaken c missing → AreTaken c rows → AreTaken c (at_row id change missing rows)
+AreTaken-at_row c id change missing [] changed added f = added
+AreTaken-at_row c id change missing (r ∷ rs) changed added f =
+    go (bytes_eq r.id id) refl (AreTaken-at_row c id change missing rs changed added f.1)
+  where
+    go : (b : Bool) → bytes_eq r.id id ≡ b → AreTaken c (at_row id change missing rs)
+        → AreTaken c (cond b (change r ++ rs) (r ∷ at_row id change missing rs))
+    go true same below = AreTaken-append c (change r) rs (changed r same f.0) f.1
+    go false other below = (f.0, below)
 
--- ---- a use with a value
+values_fault-append : (a : Rule) (xs ys : List Text) → values_fault a xs ≡ [] → values_fault a ys ≡ []
+    → values_fault a (xs ++ ys) ≡ []
+values_fault-append a [] ys e f = f
+values_fault-append a (x ∷ xs) ys e f =
+    let parts = or_else-nil _ (values_fault a xs) e in
+    rw parts.0 (values_fault-append a xs ys parts.1 f)
 
-Filled-used_as : (action : ArgAction) (id : Text) (how : Reading) (v : Text) (vs : List Text) (rows : List Row)
-    → Filled rows
-    → Filled (used_as action id how (v ∷ vs) rows)
-Filled-used_as Set id how v vs rows f = Filled-with_values id how _ (v ∷ vs) _ (omega arith) (Filled-without id rows f)
-Filled-used_as SetTrue id how v vs rows f =
-    Filled-with_values id how _ (v ∷ vs) _ (omega arith) (Filled-without id rows f)
-Filled-used_as SetFalse id how v vs rows f =
-    Filled-with_values id how _ (v ∷ vs) _ (omega arith) (Filled-without id rows f)
-Filled-used_as Append id how v vs rows f = Filled-with_values id how _ (v ∷ vs) rows (omega arith) f
-Filled-used_as Count id how v vs rows f =
-    Filled-with_values id how _ (v ∷ vs) _ (omega arith) (Filled-without id rows f)
-Filled-used_as Help id how v vs rows f = f
-Filled-used_as HelpShort id how v vs rows f = f
-Filled-used_as HelpLong id how v vs rows f = f
-Filled-used_as Version id how v vs rows f = f
+AreTaken-with_values : (c : List Rule) (a : Rule) (s : ValueSource) (values : List Text) (rows : List Row)
+    → arg_by_id c a.id ≡ Some a → 0 < length values → values_fault a values ≡ [] → AreTaken c rows
+    → AreTaken c (with_values a.id (reading_by a) s values rows)
+AreTaken-with_values c a s values rows own some passes f =
+    AreTaken-at_row c a.id (more_values s values) (new ∷ []) rows changed (added, tt) f
+  where
+    new : Row
+    new = record { id = a.id; values = values; count = None; source = Some s; reading = reading_by a }
 
-Filled-used : (a : Rule) (values : List Text) (rows : List Row) → 0 < length values → Filled rows
-    → Filled (used a values rows)
-Filled-used a [] rows some f = absurd (omega arith)
-Filled-used a (v ∷ vs) rows some f = Filled-used_as (action_of a) a.id (reading_by a) v vs rows f
+    changed : (r : Row) → bytes_eq r.id a.id ≡ true → IsTaken (arg_by_id c r.id) r → AreTaken c (more_values s values r)
+    changed r same taken =
+        let is : arg_by_id c r.id ≡ Some a = ap (arg_by_id c) ((bytes_eq-Decides r.id a.id).0 same) ∙ own in
+        let old : IsTaken (Some a) r = subst (λ (o : Option Rule). IsTaken o r) is taken in (
+          subst
+              (λ (o : Option Rule). IsTaken o
+              (record r { values = r.values ++ values; source = Some (stronger r.source s) })) (sym is) (
+                omega (arith, length-append r.values values),
+                values_fault-append a r.values values old.1 passes,
+                old.2,
+              ),
+          tt,
+        )
+
+    added : IsTaken (arg_by_id c a.id) new
+    added = subst (λ (o : Option Rule). IsTaken o new) (sym own) (some, passes, refl)
+
+AreTaken-without : (c : List Rule) (id : Text) (rows : List Row) → AreTaken c rows → AreTaken c (without id rows)
+AreTaken-without c id rows f = AreTaken-at_row c id (λ _. []) [] rows (λ r same h. tt) tt f
+
+-- ---- a use
+
+-- a use without a value is a fault where the least is over 0
+no_values : (least most : ℕ) → nat_lt 0 least ≡ true → range_kinds least most 0 ≡ [] → ⊥
+no_values least most some e =
+    let bad = rw some at e in
+    cc
+
+AreTaken-used : (c : List Rule) (again : Bool) (a : Rule) (values : List Text) (rows : List Row) → Fits c a
+    → use_fault again a values rows ≡ [] → AreTaken c rows → AreTaken c (used a values rows)
+AreTaken-used c again a values rows (none, inr help) e f =
+    let parts =
+    or_else-nil (range_kinds (unwrap_or_range a.range).start_inclusive (most_values a) (length values)) _ e in
+    let bad = rw help at parts.1 in
+    absurd (cc)
+AreTaken-used c again a [] rows (none, inl fit) e f =
+    absurd (no_values _ (most_values a) fit.1 (or_else-nil (range_kinds _ (most_values a) 0) _ e).0)
+AreTaken-used c again a (v ∷ vs) rows (none, inl fit) e f =
+    let parts =
+    or_else-nil (range_kinds (unwrap_or_range a.range).start_inclusive (most_values a) (length (v ∷ vs))) _ e in
+    let as_set : action_fault Set again a (v ∷ vs) rows ≡ [] =
+    subst (λ (x : ArgAction). action_fault x again a (v ∷ vs) rows ≡ []) fit.0 parts.1 in
+    let passes = (or_else-nil (repeat_fault again a.id rows) _ as_set).1 in
+    subst (λ (x : ArgAction). AreTaken c (used_as x a.id (reading_by a) (v ∷ vs) rows)) (sym fit.0)
+    (AreTaken-with_values c a _ (v ∷ vs) (without a.id rows) fit.2 (omega arith) passes
+    (AreTaken-without c a.id rows f))
 
 -- ---- what is held
 
-abbrev pub HasPending : Option (Text × List Text) → Type 0
-HasPending None = ⊤
-HasPending (Some p) = 0 < length p.1
+module _ (c : List Rule) (again : Bool) (fit : AllFit c c) where
+  abbrev Taken : Held → Type 0
+  Taken h = AreTaken c h.rows
 
--- each row has a value, and so has what is pending
-abbrev pub IsFilled : Held → Type 0
-IsFilled h = Filled h.rows × HasPending h.pending
+  Taken-settled : (h : Held) → settle_fault c again h ≡ [] → Taken h → Taken (settled c h)
+  Taken-settled h e f = go h.pending e
+    where
+      by_id : (p : Text × List Text) (o : Option Rule) → IfSome o (Fits c)
+          → option_map_or (λ a. use_fault again a p.1 h.rows) o [] ≡ []
+          → AreTaken c (used_by_id o p.1 h.rows)
+      by_id p None fits e = f
+      by_id p (Some a) fits e = AreTaken-used c again a p.1 h.rows fits e f
 
-Filled-used_by_id : (found : Option Rule) (values : List Text) (rows : List Row) → 0 < length values → Filled rows
-    → Filled (used_by_id found values rows)
-Filled-used_by_id None values rows some f = f
-Filled-used_by_id (Some a) values rows some f = Filled-used a values rows some f
+      go : (p : Option (Text × List Text))
+          → option_map_or (λ p. option_map_or (λ a. use_fault again a p.1 h.rows) (arg_by_id c p.0) []) p [] ≡ []
+          → AreTaken c (settled_rows c p h.rows)
+      go None e = f
+      go (Some p) e = by_id p (arg_by_id c p.0) (found_fits c (λ a. bytes_eq a.id p.0) c fit) e
 
-Filled-settled_rows : (c : List Rule) (p : Option (Text × List Text)) (rows : List Row) → HasPending p → Filled rows
-    → Filled (settled_rows c p rows)
-Filled-settled_rows c None rows h f = f
-Filled-settled_rows c (Some p) rows h f = Filled-used_by_id (arg_by_id c p.0) p.1 rows h f
+  Taken-reacted : (a : Rule) (values : List Text) (h : Held) → Fits c a → react_fault c again a values h ≡ [] → Taken h
+      → Taken (reacted c a values h)
+  Taken-reacted a values h fits e f =
+      let parts = or_else-nil (settle_fault c again h) _ e in
+      AreTaken-used c again a values (settled c h).rows fits parts.1 (Taken-settled h parts.0 f)
 
-IsFilled-settled : (c : List Rule) (h : Held) → IsFilled h → IsFilled (settled c h)
-IsFilled-settled c h f = (Filled-settled_rows c h.pending h.rows f.1 f.0, tt)
+  -- ---- flags
 
-IsFilled-pushed : (id word : Text) (h : Held) → IsFilled h → IsFilled (pushed id word h)
-IsFilled-pushed id word h f =
-    (f.0, omega (arith, length-append (Rattle.clap.specs.Walk.started id h.pending).1 (word ∷ [])))
+  Taken-option_met : (a : Rule) (o : Option Text) (h : Held) → Fits c a → option_fault c again a o h ≡ [] → Taken h
+      → Taken (option_met c a o h).0
+  Taken-option_met a (Some v) h fits e f = Taken-reacted a (v ∷ []) h fits e f
+  Taken-option_met a None h fits e f = Taken-settled h e f
 
--- ---- flags
+  Taken-flag_met : (a : Rule) (o : Option Text) (h : Held) → Fits c a
+      → cond (is_some o) (TooManyValues ∷ [])
+      (react_fault c again a [] h) ≡ []
+      → Taken h → Taken (flag_met c a o h).0
+  Taken-flag_met a (Some v) h fits e f = f
+  Taken-flag_met a None h fits e f = Taken-reacted a [] h fits e f
 
--- the argument, if there is one, takes no value, and its use makes no row
-abbrev pub MakesNoRow : Option Rule → Type 0
-MakesNoRow None = ⊤
-MakesNoRow (Some a) = (takes_values a ≡ false) × ((rows : List Row) → used a [] rows ≡ rows)
+  Taken-long_met : (found : Option Rule) (o : Option Text) (h : Held) → IfSome found (Fits c)
+      → long_fault c again found o h ≡ [] → Taken h → Taken (long_met c found o h).0
+  Taken-long_met None o h fits e f = f
+  Taken-long_met (Some a) o h fits e f = go (takes_values a) e
+    where
+      go : (b : Bool)
+          → cond b (option_fault c again a o h)
+          (cond (is_some o) (TooManyValues ∷ [])
+          (react_fault c again a [] h)) ≡ []
+          → Taken (cond b (option_met c a o h) (flag_met c a o h)).0
+      go true e = Taken-option_met a o h fits e f
+      go false e = Taken-flag_met a o h fits e f
 
--- no flag of these rules makes a row
-pub record HasQuietFlags (c : List Rule) : Type 0 where
-  pub long : (name : Text) → MakesNoRow (arg_by_long c name)
-  pub short : (x : ℕ) → MakesNoRow (arg_by_short c x)
+  Taken-short_met : (found : Option Rule) (rest : Text) (h : Held) (then : Held → Held × Outcome) (fault : Held → Kinds)
+      → IfSome found (Fits c) → ((k : Held) → fault k ≡ [] → Taken k → Taken (then k).0)
+      → short_fault c again found rest h fault ≡ [] → Taken h → Taken (short_met c found rest h then).0
+  Taken-short_met None rest h then fault fits below e f = f
+  Taken-short_met (Some a) rest h then fault fits below e f = go (takes_values a) e
+    where
+      go : (b : Bool)
+          → cond b (option_fault c again a (attached_value rest) h)
+          (or_else (react_fault c again a [] h) (fault (reacted c a [] h))) ≡ []
+          → Taken (cond b (option_met c a (attached_value rest) h) (then (reacted c a [] h))).0
+      go true e = Taken-option_met a (attached_value rest) h fits e f
+      go false e =
+          let parts = or_else-nil (react_fault c again a [] h) _ e in
+          below _ parts.1 (Taken-reacted a [] h fits parts.0 f)
 
-IsFilled-flag_met : (c : List Rule) (a : Rule) (v : Option Text) (h : Held)
-    → ((rows : List Row) → used a [] rows ≡ rows) → IsFilled h → IsFilled (flag_met c a v h).0
-IsFilled-flag_met c a (Some v) h same f = f
-IsFilled-flag_met c a None h same f = (rw (same (settled c h).rows) (IsFilled-settled c h f).0, tt)
+  Taken-bundle_step : (o : Option ℕ) (flags : Text) (skip : ℕ) (so_far : Outcome) (h : Held)
+      (then : Text → ℕ → Outcome → Held → Held × Outcome) (fault : Text → ℕ → Held → Kinds)
+      → ((t : Text) (n : ℕ) (s : Outcome) (k : Held) → fault t n k ≡ [] → Taken k → Taken (then t n s k).0)
+      → bundle_step_fault c again o flags skip h fault ≡ [] → Taken h
+      → Taken (bundle_step c o flags skip so_far h then).0
+  Taken-bundle_step None flags skip so_far h then fault below e f = f
+  Taken-bundle_step (Some x) flags zero so_far h then fault below e f =
+      Taken-short_met (arg_by_short c x) (drop (length (encode_utf8 x)) flags) h _ _
+      (found_fits c (λ a. not (is_some a.index) && has_short a x) c fit)
+      (below (drop (length (encode_utf8 x)) flags) 0 done) e f
+  Taken-bundle_step (Some x) flags (suc skip) so_far h then fault below e f =
+      below (drop (length (encode_utf8 x)) flags) skip so_far h e f
 
-IsFilled-long_met : (c : List Rule) (found : Option Rule) (v : Option Text) (h : Held) → MakesNoRow found → IsFilled h
-    → IsFilled (long_met c found v h).0
-IsFilled-long_met c None v h quiet f = f
-IsFilled-long_met c (Some a) v h quiet f = rw quiet.0 (IsFilled-flag_met c a v h quiet.1 f)
-
-IsFilled-short_met : (c : List Rule) (found : Option Rule) (rest : Text) (h : Held) (then : Held → Held × Outcome)
-    → MakesNoRow found
-    → ((k : Held) → IsFilled k → IsFilled (then k).0) → IsFilled h → IsFilled (short_met c found rest h then).0
-IsFilled-short_met c None rest h then quiet below f = f
-IsFilled-short_met c (Some a) rest h then quiet below f =
-    rw quiet.0 (below _ (rw (quiet.1 (settled c h).rows) (IsFilled-settled c h f).0, tt))
-
-module _ (c : List Rule) (flags_quiet : HasQuietFlags c) where
-  IsFilled-bundle_step : (o : Option ℕ) (flags : Text) (skip : ℕ) (so_far : Outcome) (h : Held)
-      (then : Text → ℕ → Outcome → Held → Held × Outcome)
-      → ((t : Text) (n : ℕ) (s : Outcome) (k : Held) → IsFilled k → IsFilled (then t n s k).0) → IsFilled h
-      → IsFilled (bundle_step c o flags skip so_far h then).0
-  IsFilled-bundle_step None flags skip so_far h then below f = f
-  IsFilled-bundle_step (Some x) flags zero so_far h then below f =
-      IsFilled-short_met c (arg_by_short c x) (drop (length (encode_utf8 x)) flags) h _ (flags_quiet.short x)
-      (below (drop (length (encode_utf8 x)) flags) 0 done) f
-  IsFilled-bundle_step (Some x) flags (suc skip) so_far h then below f =
-      below (drop (length (encode_utf8 x)) flags) skip so_far h f
-
-  IsFilled-bundle_met : (k : ℕ) (flags : Text) (skip : ℕ) (so_far : Outcome) (h : Held) → IsFilled h
-      → IsFilled (bundle_met c k flags skip so_far h).0
-  unfolding bundle_met
-  IsFilled-bundle_met zero flags skip so_far h f = f
-  IsFilled-bundle_met (suc k) flags skip so_far h f =
-      IsFilled-bundle_step (slice_get (chars flags) 0) flags skip so_far h (bundle_met c k) (IsFilled-bundle_met k) f
+  Taken-bundle_met : (k : ℕ) (flags : Text) (skip : ℕ) (so_far : Outcome) (h : Held)
+      → flags_fault c again k flags skip h ≡ [] → Taken h → Taken (bundle_met c k flags skip so_far h).0
+  unfolding bundle_met flags_fault
+  Taken-bundle_met zero flags skip so_far h e f = f
+  Taken-bundle_met (suc k) flags skip so_far h e f =
+      Taken-bundle_step (slice_get (chars flags) 0) flags skip so_far h (bundle_met c k) (flags_fault c again k)
+      (λ t n s j. Taken-bundle_met k t n s j) e f
 
   -- ---- words
 
-  IsFilled-option_word : (found : Option Rule) (id word : Text) (h : Held) → IsFilled h
-      → IsFilled (option_word found id word h).0
-  IsFilled-option_word None id word h f = f
-  IsFilled-option_word (Some a) id word h f = IsFilled-pushed id word h f
+  Taken-option_word : (found : Option Rule) (id word : Text) (h : Held) → Taken h
+      → Taken (option_word found id word h).0
+  Taken-option_word None id word h f = f
+  Taken-option_word (Some a) id word h f = f
 
-  IsFilled-plain_word : (waiting : Waiting) (word : Text) (h : Held) → IsFilled h
-      → IsFilled (plain_word c waiting word h).0
-  IsFilled-plain_word idle word h f = f
-  IsFilled-plain_word (option id) word h f = IsFilled-option_word (arg_by_id c id) id word h f
-  IsFilled-plain_word positional word h f = f
+  Taken-plain_word : (waiting : Waiting) (word : Text) (h : Held) → Taken h → Taken (plain_word c waiting word h).0
+  Taken-plain_word idle word h f = f
+  Taken-plain_word (option id) word h f = Taken-option_word (arg_by_id c id) id word h f
+  Taken-plain_word positional word h f = f
 
-  IsFilled-after_flag : (waiting : Waiting) (word : Text) (h : Held) (o : Outcome) → IsFilled h
-      → IsFilled (after_flag c waiting word h o).0
-  IsFilled-after_flag waiting word h done f = f
-  IsFilled-after_flag waiting word h (waits id) f = f
-  IsFilled-after_flag waiting word h plain f = IsFilled-plain_word waiting word h f
-  IsFilled-after_flag waiting word h refused f = IsFilled-plain_word waiting word h f
+  Taken-after_flag : (waiting : Waiting) (word : Text) (h : Held) (o : Outcome) → Taken h
+      → Taken (after_flag c waiting word h o).0
+  Taken-after_flag waiting word h done f = f
+  Taken-after_flag waiting word h (waits id) f = f
+  Taken-after_flag waiting word h plain f = Taken-plain_word waiting word h f
+  Taken-after_flag waiting word h refused f = Taken-plain_word waiting word h f
 
-  IsFilled-short_or_plain : (waiting : Waiting) (word : Text) (o : Option Text) (h : Held) → IsFilled h
-      → IsFilled (short_or_plain c waiting word o h).0
-  IsFilled-short_or_plain waiting word None h f = IsFilled-plain_word waiting word h f
-  IsFilled-short_or_plain waiting word (Some flags) h f =
-      IsFilled-after_flag waiting word _ (bundle c flags h).1
-      (IsFilled-bundle_met (length flags) flags h.skip plain (record h { skip = 0 }) f)
+  Taken-short_or_plain : (waiting : Waiting) (word : Text) (o : Option Text) (h : Held)
+      → option_map_or (λ flags. bundle_fault c again flags h) o [] ≡ [] → Taken h
+      → Taken (short_or_plain c waiting word o h).0
+  Taken-short_or_plain waiting word None h e f = Taken-plain_word waiting word h f
+  Taken-short_or_plain waiting word (Some flags) h e f =
+      Taken-after_flag waiting word _ (bundle c flags h).1
+      (Taken-bundle_met (length flags) flags h.skip plain (record h { skip = 0 }) e f)
 
-  IsFilled-long_or_other : (waiting : Waiting) (word : Text) (o : Option (Text × Option Text)) (h : Held) → IsFilled h
-      → IsFilled (long_or_other c waiting word o h).0
-  IsFilled-long_or_other waiting word None h f = IsFilled-short_or_plain waiting word (short_of word) h f
-  IsFilled-long_or_other waiting word (Some p) h f =
-      IsFilled-after_flag waiting word _ (long_met c (arg_by_long c p.0) p.1 h).1
-      (IsFilled-long_met c (arg_by_long c p.0) p.1 h (flags_quiet.long p.0) f)
+  Taken-long_or_other : (waiting : Waiting) (word : Text) (o : Option (Text × Option Text)) (h : Held)
+      → flag_word_fault c again o word h ≡ [] → Taken h → Taken (long_or_other c waiting word o h).0
+  Taken-long_or_other waiting word None h e f = Taken-short_or_plain waiting word (short_of word) h e f
+  Taken-long_or_other waiting word (Some p) h e f =
+      Taken-after_flag waiting word _ (long_met c (arg_by_long c p.0) p.1 h).1
+      (Taken-long_met (arg_by_long c p.0) p.1 h
+      (found_fits c (λ a. not (is_some a.index) && has_long a p.0) c fit) e f)
 
-  IsFilled-subcommand_or_other : (o : Option Text) (waiting : Waiting) (position : ℕ) (word : Text) (h : Held)
-      → IsFilled h
-      → IsFilled (subcommand_or_other c o waiting position word h).0
-  IsFilled-subcommand_or_other (Some name) waiting position word h f = f
-  IsFilled-subcommand_or_other None waiting position word h f = go (bytes_eq word (45 ∷ 45 ∷ []))
+  Taken-positional_held : (a : Rule) (word : Text) (h : Held) → positional_fault c again a h ≡ [] → Taken h
+      → Taken (positional_held c a word h)
+  Taken-positional_held a word h e f = go (is_pending a h.pending && takes_several a) e
     where
-      go : (b : Bool) → IsFilled (cond b (h, trailing position) (long_or_other c waiting word (long_of word) h)).0
-      go true = f
-      go false = IsFilled-long_or_other waiting word (long_of word) h f
+      go : (b : Bool) → cond b [] (settle_fault c again h) ≡ [] → Taken (pushed a.id word (cond b h (settled c h)))
+      go true e = f
+      go false e = Taken-settled h e f
 
-  IsFilled-word_met : (names : Names) (is_trailing : Bool) (waiting : Waiting) (position : ℕ) (word : Text) (h : Held)
-      → IsFilled h
-      → IsFilled (word_met c names is_trailing waiting position word h).0
-  IsFilled-word_met names true waiting position word h f = f
-  IsFilled-word_met names false waiting position word h f =
-      IsFilled-subcommand_or_other (subcommand_met names waiting word) waiting position word h f
+-- ---- the walk
 
-  IsFilled-positional_held : (a : Rule) (word : Text) (h : Held) → IsFilled h → IsFilled (positional_held c a word h)
-  IsFilled-positional_held a word h f = go (is_pending a h.pending && takes_several a)
+module _ (s : Shape) (fit : AllFit s.rules s.rules) where
+  abbrev HoldsTaken : Held → Type 0
+  HoldsTaken h = AreTaken s.rules h.rows
+
+  Taken-subcommand_or_other : (o : Option Text) (waiting : Waiting) (position : ℕ) (word : Text) (h : Held)
+      → other_fault s o word h ≡ [] → HoldsTaken h
+      → HoldsTaken (subcommand_or_other s.rules o waiting position word h).0
+  Taken-subcommand_or_other (Some name) waiting position word h e f = f
+  Taken-subcommand_or_other None waiting position word h e f = go (bytes_eq word (45 ∷ 45 ∷ [])) e
     where
-      go : (b : Bool) → IsFilled (pushed a.id word (cond b h (settled c h)))
-      go true = IsFilled-pushed a.id word h f
-      go false = IsFilled-pushed a.id word (settled c h) (IsFilled-settled c h f)
+      go : (b : Bool) → cond b [] (flag_word_fault s.rules s.args_override_self (long_of word) word h) ≡ []
+          → HoldsTaken (cond b (h, trailing position) (long_or_other s.rules waiting word (long_of word) h)).0
+      go true e = f
+      go false e = Taken-long_or_other s.rules s.args_override_self fit waiting word (long_of word) h e f
 
-  IsFilled-to_positional : (found : Option Rule) (word : Text) (w : Walk) (h : Held) → IsFilled h
-      → IsFilled (to_positional c found word w h).held
-  IsFilled-to_positional None word w h f = f
-  IsFilled-to_positional (Some a) word w h f = IsFilled-positional_held a word h f
+  Taken-word_met : (names : Names) (is_trailing : Bool) (waiting : Waiting) (position : ℕ) (word : Text) (h : Held)
+      → word_fault s names is_trailing waiting word h ≡ [] → HoldsTaken h
+      → HoldsTaken (word_met s.rules names is_trailing waiting position word h).0
+  Taken-word_met names true waiting position word h e f = f
+  Taken-word_met names false waiting position word h e f =
+      Taken-subcommand_or_other (subcommand_met names waiting word) waiting position word h e f
 
-  IsFilled-after_step : (word : Text) (w : Walk) (h : Held) (step : Step) → IsFilled h
-      → IsFilled (after_step c word w h step).held
-  IsFilled-after_step word w h (next waiting) f = f
-  IsFilled-after_step word w h (trailing position) f = f
-  IsFilled-after_step word w h (subcommand name) f = f
-  IsFilled-after_step word w h value f = IsFilled-to_positional (arg_by_index c w.position) word w h f
+  Taken-to_positional : (found : Option Rule) (word : Text) (w : Walk) (h : Held)
+      → option_map_or (λ a. positional_fault s.rules s.args_override_self a h) found
+      (stray_fault s) ≡ []
+      → HoldsTaken h → HoldsTaken (to_positional s.rules found word w h).held
+  Taken-to_positional None word w h e f = f
+  Taken-to_positional (Some a) word w h e f = Taken-positional_held s.rules s.args_override_self fit a word h e f
 
-  IsFilled-walked_from : (names : Names) (stop : Option (Text × List Text)) (w : Walk) (word : Text) → IsFilled w.held
-      → IsFilled (walked_from c names stop w word).held
-  IsFilled-walked_from names (Some p) w word f = f
-  IsFilled-walked_from names None w word f =
-      IsFilled-after_step word w _ (word_met c names w.is_trailing w.waiting w.position word w.held).1
-      (IsFilled-word_met names w.is_trailing w.waiting w.position word w.held f)
+  Taken-after_step : (word : Text) (w : Walk) (h : Held) (step : Step) → step_fault s w.position h step ≡ []
+      → HoldsTaken h → HoldsTaken (after_step s.rules word w h step).held
+  Taken-after_step word w h (next waiting) e f = f
+  Taken-after_step word w h (trailing position) e f = f
+  Taken-after_step word w h (subcommand name) e f = f
+  Taken-after_step word w h value e f = Taken-to_positional (arg_by_index s.rules w.position) word w h e f
 
-  pub IsFilled-walk : (names : Names) (w : Walk) (words : List Text) → IsFilled w.held
-      → IsFilled (fold (walked c names) w words).held
-  unfolding walked
-  IsFilled-walk names w [] f = f
-  IsFilled-walk names w (word ∷ words) f =
-      IsFilled-walk names (walked c names w word) words (IsFilled-walked_from names w.stopped w word f)
+  Taken-walked_from : (names : Names) (stop : Option (Text × List Text)) (w : Walk) (word : Text)
+      → cond (is_some stop) [] (or_else (word_fault s names w.is_trailing w.waiting word w.held)
+      (step_fault s w.position (word_met s.rules names w.is_trailing w.waiting w.position word w.held).0
+      (word_met s.rules names w.is_trailing w.waiting w.position word w.held).1)) ≡ []
+      → HoldsTaken w.held → HoldsTaken (walked_from s.rules names stop w word).held
+  Taken-walked_from names (Some p) w word e f = f
+  Taken-walked_from names None w word e f =
+      let parts = or_else-nil (word_fault s names w.is_trailing w.waiting word w.held) _ e in
+      Taken-after_step word w _ (word_met s.rules names w.is_trailing w.waiting w.position word w.held).1 parts.1
+      (Taken-word_met names w.is_trailing w.waiting w.position word w.held parts.0 f)
 
--- ---- defaults
+  Taken-walk : (names : Names) (w : Walk) (words : List Text) → walk_fault s names w words ≡ [] → HoldsTaken w.held
+      → HoldsTaken (fold (walked s.rules names) w words).held
+  unfolding walked walk_fault
+  Taken-walk names w [] e f = f
+  Taken-walk names w (word ∷ words) e f =
+      let parts = or_else-nil (turn_fault s names w word) (walk_fault s names (walked s.rules names w word) words) e in
+      Taken-walk names (walked s.rules names w word) words parts.1
+      (Taken-walked_from names w.stopped w word parts.0 f)
 
-Filled-default_rows : (id : Text) (how : Reading) (values : List Text) (rows : List Row) → Filled rows
-    → Filled (default_rows id how values rows)
-Filled-default_rows id how [] rows f = f
-Filled-default_rows id how (v ∷ vs) rows f = Filled-with_values id how _ (v ∷ vs) rows (omega arith) f
+-- ---- after the walk
 
-Filled-with_default : (rows : List Row) (a : Rule) → Filled rows → Filled (with_default rows a)
-Filled-with_default rows a f = go (has_row a.id rows)
+-- no argument has a default
+no_defaults : (c rest : List Rule) (rows : List Row) → AllFit c rest → fold with_default rows rest ≡ rows
+no_defaults c [] rows fit = refl
+no_defaults c (a ∷ rest) rows fit = ap (λ rs. fold with_default rs rest) same ∙ no_defaults c rest rows fit.1
   where
-    go : (b : Bool) → Filled (cond b rows (default_rows a.id (reading_by a) a.defaults rows))
-    go true = f
-    go false = Filled-default_rows a.id (reading_by a) a.defaults rows f
+    same : with_default rows a ≡ rows
+    same = rw fit.0.0 (go (has_row a.id rows))
+      where
+        go : (b : Bool) → cond b rows rows ≡ rows
+        go true = refl
+        go false = refl
 
-Filled-defaults : (c : List Rule) (rows : List Row) → Filled rows → Filled (fold with_default rows c)
-Filled-defaults [] rows f = f
-Filled-defaults (a ∷ c) rows f = Filled-defaults c (with_default rows a) (Filled-with_default rows a f)
+-- clap finds no fault in the words behind the subcommand
+abbrev pub TakesWords : Shape → List Text → Type 0
+TakesWords s words = level_fault s [] nothing_held words false [] ≡ []
 
-pub Filled-finished : (c : List Rule) (h : Held) → IsFilled h → Filled (finished c h)
-Filled-finished c h f = Filled-defaults c (settled c h).rows (IsFilled-settled c h f).0
+pub rows_taken : (s : Shape) → AllFit s.rules s.rules → (words : List Text) → TakesWords s words
+    → AreTaken s.rules (rows_after s.rules [] words)
+rows_taken s fit words e =
+    let end = (walk s.rules [] nothing_held words).held in
+    let walked_well = or_else-nil (walk_fault s [] (walk_from nothing_held) words) _ e in
+    let settled_well = or_else-nil (settle_fault s.rules s.args_override_self end) _ walked_well.1 in
+    subst (AreTaken s.rules) (sym (no_defaults s.rules s.rules (settled s.rules end).rows fit))
+    (Taken-settled s.rules s.args_override_self fit end settled_well.0
+    (Taken-walk s fit [] (walk_from nothing_held) words walked_well.0 tt))
 
--- ---- an argument that was given has a value
+-- the last check finds no fault
+pub checked : (s : Shape) (words : List Text) → TakesWords s words
+    → check_fault s (rows_after s.rules [] words) false ≡ []
+checked s words e =
+    let end = (walk s.rules [] nothing_held words).held in
+    let walked_well = or_else-nil (walk_fault s [] (walk_from nothing_held) words) _ e in
+    let settled_well = or_else-nil (settle_fault s.rules s.args_override_self end) _ walked_well.1 in
+    (or_else-nil (defaults_fault (settled s.rules end).rows s.rules) _ settled_well.1).1
 
-first_value : (values : List Text) → 0 < length values → IsSome (slice_get values 0)
-first_value [] some = absurd (omega arith)
-first_value (v ∷ vs) some = refl
+-- ---- an argument that was given
 
-abbrev is_given_in : Option Row → Bool
-is_given_in found = option_map_or (λ r. explicit_source r.source) found false
-
-abbrev first_in : Option Row → Option Text
-first_in found = option_and_then (λ r. slice_get r.values 0) found
-
-pub given_has_value : (id : Text) (rows : List Row) → Filled rows → is_given id rows ≡ true → IsSome (first_of id rows)
-given_has_value id [] f given = absurd (true≢false (sym given))
-given_has_value id (r ∷ rs) f given = go (bytes_eq r.id id) given (given_has_value id rs f.1)
+-- the row of an argument that was given
+pub given_row : (c : List Rule) (id : Text) (rows : List Row) → AreTaken c rows → is_given id rows ≡ true
+    → (r : Row) × (find (λ x. bytes_eq x.id id) rows ≡ Some r) × IsTaken (arg_by_id c id) r
+given_row c id [] f given = absurd (true≢false (sym given))
+given_row c id (r ∷ rs) f given = go (bytes_eq r.id id) refl given (given_row c id rs f.1)
   where
-    go : (b : Bool) → is_given_in (cond b (Some r) (find (λ x. bytes_eq x.id id) rs)) ≡ true
-        → (is_given id rs ≡ true → IsSome (first_of id rs))
-        → IsSome (first_in (cond b (Some r) (find (λ x. bytes_eq x.id id) rs)))
-    go true e below = first_value r.values f.0
-    go false e below = below e
+    go : (b : Bool) → bytes_eq r.id id ≡ b
+        → option_map_or (λ x. explicit_source x.source) (cond b (Some r) (find (λ x. bytes_eq x.id id) rs)) false
+        ≡ true
+        → (is_given id rs ≡ true
+        → (q : Row) × (find (λ x. bytes_eq x.id id) rs ≡ Some q) × IsTaken (arg_by_id c id) q)
+        → (q : Row) × (cond b (Some r) (find (λ x. bytes_eq x.id id) rs) ≡ Some q) × IsTaken (arg_by_id c id) q
+    go true same e below =
+        (r, refl, subst (λ (t : Text). IsTaken (arg_by_id c t) r) ((bytes_eq-Decides r.id id).0 same) f.0)
+    go false other e below = below e

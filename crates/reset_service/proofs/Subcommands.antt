@@ -1,35 +1,37 @@
 -- The subcommand of words in which clap finds no fault is one of the program's own, with its values.
-use Rattle.std.proofs.Common.{◌≡◌, ◌∙◌, ◌&&◌, ◌||◌, not, ℕ, Bool, cond, true, false, refl, sym, ap, subst, List, []}
-use Rattle.std.proofs.Common.{◌∷◌, codes, Option, Some, None, inl, inr, true≢false}
+use Rattle.std.proofs.Common.{◌≡◌, ◌∙◌, ◌≤◌, ◌<◌, ◌&&◌, ◌||◌, not, ℕ, Bool, cond, true, false, refl, sym, ap, subst}
+use Rattle.std.proofs.Common.{arith, List, [], ◌∷◌, codes, drop, length, Option, Some, None, inl, inr, true≢false}
+use Rattle.std.proofs.Common.{◌==◌}
 use Rattle.std.specs.List.{fold, slice_index_or}
 use Rattle.std.specs.Option.{option_map_or}
 use Rattle.std.specs.Str.{bytes_eq}
-use Rattle.std.specs.Prelude.{⊤, is_some, option_map}
+use Rattle.std.specs.Str.Parse.{digits_value, starts_with_minus, without_leading_plus}
+use Rattle.std.specs.Prelude.{⊤, IsSome, IsSomeAnd, is_some, option_and_then, option_map, pos, slice_get, unwrap_or}
+use Rattle.std.proofs.lemmas.Int.{ints}
 use Rattle.std.proofs.lemmas.Slice.Eq.{bytes_eq-Decides}
-use Rattle.clap.specs.Lexer.{long_of, short_of}
-use Rattle.clap.specs.Words.{App, Kinds, Row, Rule, Shape, Text, built, fault_of, is_simple, is_simple_and_free}
-use Rattle.clap.specs.Words.{new_app, new_rule, subcommand_of, with_subcommand}
+use Rattle.clap.specs.Lexer.{long_of, short_of, without_minus}
+use Rattle.clap.specs.Words.{App, IsSignedIn, Kinds, Row, Rule, Shape, Text, built, fault_of, first_of, is_simple}
+use Rattle.clap.specs.Words.{is_simple_and_free, new_app, new_rule, read_as, subcommand_of, with_subcommand}
 use Rattle.clap.specs.Kinds.{or_else}
 use Rattle.clap.specs.Simple.{argument_words, entered, label_of, names_of, rows_at}
 use Rattle.clap.specs.Takes.{is_given}
-use Rattle.clap.specs.Faults.{entered_fault, level_fault, other_fault, settle_fault, defaults_fault, step_fault}
-use Rattle.clap.specs.Faults.{turn_fault, walk_fault, word_fault}
+use Rattle.clap.specs.ValueTests.{accepts}
+use Rattle.clap.specs.Faults.{entered_fault, level_fault, other_fault, step_fault, turn_fault, values_fault}
+use Rattle.clap.specs.Faults.{walk_fault, word_fault}
+use Rattle.clap.specs.declared.builder.value_parser.ValueParser.TheVariants.{Signed}
 use Rattle.clap.specs.declared.error.ErrorKind.{ErrorKind}
 use Rattle.clap.specs.declared.error.ErrorKind.TheVariants.{DisplayHelp, InvalidSubcommand, MissingRequiredArgument}
-use Rattle.clap.specs.Walk.{Held, Names, Outcome, Step, Waiting, Walk, after_flag, after_step, answers_to, arg_by_index}
-use Rattle.clap.specs.Walk.{bundle, has_long, has_short, settled, long_met, arg_by_long, long_or_other, nothing_held}
-use Rattle.clap.specs.Walk.{plain_word, short_or_plain, subcommand_met, subcommand_or_other, to_positional, walk}
-use Rattle.clap.specs.Walk.{walk_from, walked, walked_from, word_met}
-use Rattle.clap.specs.Walk.{done, waits, plain, refused, idle, option, positional, next, trailing, subcommand, value}
+use Rattle.clap.specs.Walk.{Held, Names, Outcome, Step, Waiting, Walk, after_flag, after_step, answers_to, arg_by_id}
+use Rattle.clap.specs.Walk.{arg_by_index, arg_by_long, bundle, long_met, long_or_other, nothing_held, plain_word}
+use Rattle.clap.specs.Walk.{row_text, short_or_plain, subcommand_met, subcommand_or_other, to_positional, walk}
+use Rattle.clap.specs.Walk.{walk_from, walked, walked_from, word_met, done, waits, plain, refused, idle, option}
+use Rattle.clap.specs.Walk.{positional, next, trailing, subcommand, value}
 use Rattle.clap.proofs.OnLiterals.{clap_on_literals}
-use Rattle.reset_service.specs.Words.{HasJob, HasTexts, faults_of, program, tables_command, texts_command}
-use Rattle.reset_service.proofs.PathRows.{HasQuietFlags, MakesNoRow, Filled-finished, IsFilled-walk, given_has_value}
-
--- ---- no kind of error
-
-or_else-nil : (a b : Kinds) → or_else a b ≡ [] → (a ≡ []) × (b ≡ [])
-or_else-nil [] b e = (refl, e)
-or_else-nil (k ∷ ks) b e = absurd (cc)
+use Rattle.clap.proofs.ValueTestLemmas.{accepts-Accepts}
+use Rattle.reset_service.specs.Words.{HasJob, HasTexts, HasTurns, Writes, faults_of, program, tables_command}
+use Rattle.reset_service.specs.Words.{texts_command, threads_command}
+use Rattle.reset_service.proofs.PathRows.{AllFit, AreTaken, IsTaken, TakesWords, checked, given_row, or_else-nil}
+use Rattle.reset_service.proofs.PathRows.{rows_taken}
 
 -- ---- the walk meets no `help`
 
@@ -140,66 +142,187 @@ the_texts name input =
     slice_index_or (built (with_subcommand (new_app (codes "reset-service")) (texts_command name input).top)).subs 0
     (texts_command name input).top
 
+abbrev the_replay : Shape
+the_replay = the_texts (codes "replay") (codes "SCRIPT")
+
+abbrev the_check : Shape
+the_check = the_texts (codes "check") (codes "SCRIPT")
+
+abbrev the_verify : Shape
+the_verify = the_texts (codes "verify") (codes "HISTORY")
+
+abbrev the_threads : Shape
+the_threads = slice_index_or (built program).subs 3 threads_command.top
+
 abbrev the_tables : Shape
-the_tables = slice_index_or (built program).subs 3 tables_command.top
+the_tables = slice_index_or (built program).subs 4 tables_command.top
 
 abbrev the_help : Shape
-the_help = slice_index_or (built program).subs 4 tables_command.top
+the_help = slice_index_or (built program).subs 5 tables_command.top
 
-abbrev help_flag : Text → Text → Rule
-help_flag name input = slice_index_or (the_texts name input).rules 2 (new_rule [])
+-- the rows of the words after the subcommand
+abbrev rows_of_words : Shape → List Text → List Row
+rows_of_words s words = (rows_at s words).1
 
--- its flags are those of help, which make no row
-quiet_help : (name input : Text) (b : Bool) → MakesNoRow (cond b (Some (help_flag name input)) None)
+first_value : (values : List Text) → 0 < length values → IsSome (slice_get values 0)
+first_value [] some = absurd (omega arith)
+first_value (v ∷ vs) some = refl
+
+-- an argument that was given has a value
+text_found : (c : List Rule) (id : Text) (a : Rule) (rows : List Row) → arg_by_id c id ≡ Some a → AreTaken c rows
+    → is_given id rows ≡ true → IsSome (first_of id rows)
+text_found c id a rows is taken given =
+    let row = given_row c id rows taken given in
+    let of_a = subst (λ (o : Option Rule). IsTaken o row.0) is row.2 in
+    subst (λ (o : Option Row). IsSome (option_and_then (λ r. slice_get r.values 0) o)) (sym row.1)
+    (first_value row.0.values of_a.0)
+
+-- ---- the subcommands with two paths
+
+scripts_fit : (name : Text) → AllFit (the_texts name (codes "SCRIPT")).rules (the_texts name (codes "SCRIPT")).rules
 unfolding texts_command
-quiet_help name input true = (refl, λ rows. refl)
-quiet_help name input false = tt
+scripts_fit name = ((refl, inl (refl, refl, refl)), ((refl, inl (refl, refl, refl)), ((refl, inr refl), tt)))
 
-quiet_flags : (name input : Text) → HasQuietFlags (the_texts name input).rules
+histories_fit : AllFit the_verify.rules the_verify.rules
 unfolding texts_command
-quiet_flags name input = record {
-  long = λ flag. quiet_help name input (has_long (help_flag name input) flag);
-  short = λ x. quiet_help name input (has_short (help_flag name input) x);
-}
+histories_fit = ((refl, inl (refl, refl, refl)), ((refl, inl (refl, refl, refl)), ((refl, inr refl), tt)))
 
 both_given : (a b : Bool) (k : ErrorKind) → cond (not a || (not b || false)) (k ∷ []) [] ≡ [] → (a ≡ true) × (b ≡ true)
 both_given true true k e = (refl, refl)
 both_given true false k e = absurd (cc)
 both_given false b k e = absurd (cc)
 
--- the rows of the words after it
-abbrev rows_of_texts : Text → Text → List Text → List Row
-rows_of_texts name input words = (rows_at (the_texts name input) words).1
-
-abbrev TakesTexts : Text → Text → List Text → Type 0
-TakesTexts name input words = level_fault (the_texts name input) [] nothing_held words false [] ≡ []
-
-paths_given : (name input : Text) (words : List Text) → TakesTexts name input words
-    → (is_given (codes "TOPOLOGY") (rows_of_texts name input words) ≡ true)
-    × (is_given input (rows_of_texts name input words) ≡ true)
+paths_given : (name input : Text) (words : List Text) → TakesWords (the_texts name input) words
+    → (is_given (codes "TOPOLOGY") (rows_of_words (the_texts name input) words) ≡ true)
+    × (is_given input (rows_of_words (the_texts name input) words) ≡ true)
 unfolding texts_command
 paths_given name input words e =
-    let s = the_texts name input in
-    let walked_well = or_else-nil (walk_fault s [] (walk_from nothing_held) words) _ e in
-    let settled_well =
-    or_else-nil (settle_fault s.rules false (walk s.rules [] nothing_held words).held) _ walked_well.1 in
-    let filled_well =
-    or_else-nil (defaults_fault (settled s.rules (walk s.rules [] nothing_held words).held).rows s.rules) _
-    settled_well.1 in
-    both_given (is_given (codes "TOPOLOGY") (rows_of_texts name input words))
-    (is_given input (rows_of_texts name input words)) MissingRequiredArgument filled_well.1
+    both_given (is_given (codes "TOPOLOGY") (rows_of_words (the_texts name input) words))
+    (is_given input (rows_of_words (the_texts name input) words)) MissingRequiredArgument
+    (checked (the_texts name input) words e)
 
--- where clap finds no fault in them, they have a value for each path
-has_texts : (name input : Text) (words : List Text) → TakesTexts name input words
-    → HasTexts input (rows_of_texts name input words)
-has_texts name input words e =
-    let s = the_texts name input in
-    let filled = Filled-finished s.rules (walk s.rules [] nothing_held words).held
-    (IsFilled-walk s.rules (quiet_flags name input) [] (walk_from nothing_held) words (tt, tt)) in
-    let given = paths_given name input words e in (
-      given_has_value (codes "TOPOLOGY") (rows_of_texts name input words) filled given.0,
-      given_has_value input (rows_of_texts name input words) filled given.1,
+-- where clap finds no fault in the words, they have a value for each path
+has_scripts : (name : Text) (words : List Text) → TakesWords (the_texts name (codes "SCRIPT")) words
+    → HasTexts (codes "SCRIPT") (rows_of_words (the_texts name (codes "SCRIPT")) words)
+unfolding texts_command
+has_scripts name words e =
+    let s = the_texts name (codes "SCRIPT") in
+    let given = paths_given name (codes "SCRIPT") words e in
+    let taken = rows_taken s (scripts_fit name) words e in (
+      text_found s.rules (codes "TOPOLOGY") _ (rows_of_words s words) refl taken given.0,
+      text_found s.rules (codes "SCRIPT") _ (rows_of_words s words) refl taken given.1,
     )
+
+has_histories : (words : List Text) → TakesWords the_verify words
+    → HasTexts (codes "HISTORY") (rows_of_words the_verify words)
+unfolding texts_command
+has_histories words e =
+    let given = paths_given (codes "verify") (codes "HISTORY") words e in
+    let taken = rows_taken the_verify histories_fit words e in (
+      text_found the_verify.rules (codes "TOPOLOGY") _ (rows_of_words the_verify words) refl taken given.0,
+      text_found the_verify.rules (codes "HISTORY") _ (rows_of_words the_verify words) refl taken given.1,
+    )
+
+-- ---- the subcommand `threads`
+
+abbrev the_turns : Rule
+the_turns = slice_index_or the_threads.rules 1 (new_rule [])
+
+threads_fit : AllFit the_threads.rules the_threads.rules
+unfolding program threads_command texts_command tables_command
+threads_fit = (
+  (refl, inl (refl, refl, refl)),
+  (
+    (refl, inl (refl, refl, refl)),
+    ((refl, inl (refl, refl, refl)), ((refl, inr refl), tt)),
+  ),
+)
+
+all_given : (a b c : Bool) (k : ErrorKind) → cond (not a || (not b || (not c || false))) (k ∷ []) [] ≡ []
+    → (a ≡ true) × (b ≡ true) × (c ≡ true)
+all_given true true true k e = (refl, refl, refl)
+all_given true true false k e = absurd (cc)
+all_given true false c k e = absurd (cc)
+all_given false b c k e = absurd (cc)
+
+-- a text from 1 on has no minus
+without_minus-cond : (t : Text) → without_minus t ≡ cond (starts_with_minus t) (drop 1 t) t
+without_minus-cond [] = refl
+without_minus-cond (x ∷ xs) = go (x == 45)
+  where
+    go : (b : Bool) → unwrap_or (cond b (Some xs) None) (x ∷ xs) ≡ cond b xs (x ∷ xs)
+    go true = refl
+    go false = refl
+
+-- a text that passed the range is read as it was written, and writes a number of the range
+abbrev WritesTurns : Option Text → Type 0
+WritesTurns o = (n : ℕ) × IsSomeAnd o (Writes n) × (option_map without_minus o ≡ o) × (1 ≤ n) × (n ≤ 100000)
+
+writes_turns : (t : Text) → IsSignedIn (pos 1) (pos 100000) t → WritesTurns (Some t)
+writes_turns t passed = go (starts_with_minus t) refl
+  where
+    go : (b : Bool) → starts_with_minus t ≡ b → WritesTurns (Some t)
+    go true minus =
+        let low_ok = rw minus at passed.2 in
+        absurd (omega (arith, ints))
+    go false minus =
+        let numeral = rw minus at passed.0 in
+        let low_ok = rw minus at passed.2 in
+        let high_ok = rw minus at passed.3 in (
+          digits_value 10 (without_leading_plus t),
+          (numeral, refl),
+          ap Some (without_minus-cond t ∙ rw minus refl),
+          omega (arith, ints),
+          omega (arith, ints),
+        )
+
+is_accepted : (b : Bool) (k : ErrorKind) → cond b [] (k ∷ []) ≡ [] → b ≡ true
+is_accepted true k e = refl
+is_accepted false k e = absurd (cc)
+
+values_write_turns : (values : List Text) → 0 < length values → values_fault the_turns values ≡ []
+    → WritesTurns (slice_get values 0)
+unfolding program threads_command texts_command tables_command
+values_write_turns [] some e = absurd (omega arith)
+values_write_turns (v ∷ vs) some e =
+    writes_turns v
+    (accepts-Accepts false (Signed (pos 1) (pos 100000)) v
+    (is_accepted (accepts false (Signed (pos 1) (pos 100000)) v) _ (or_else-nil _ (values_fault the_turns vs) e).0))
+
+abbrev RowWritesTurns : Option Row → Type 0
+RowWritesTurns o = (n : ℕ) × IsSomeAnd (option_and_then (λ r. slice_get r.values 0) o) (Writes n)
+    × (option_and_then row_text o ≡ option_and_then (λ r. slice_get r.values 0) o) × (1 ≤ n) × (n ≤ 100000)
+
+row_writes_turns : (r : Row) → IsTaken (Some the_turns) r → RowWritesTurns (Some r)
+unfolding program threads_command texts_command tables_command
+row_writes_turns r taken =
+    let writes = values_write_turns r.values taken.0 taken.1 in (
+      writes.0,
+      writes.1,
+      ap (λ how. option_map (read_as how) (slice_get r.values 0)) taken.2 ∙ writes.2,
+      writes.3,
+      writes.4,
+    )
+
+-- where clap finds no fault in the words, they have a value for each argument
+has_thread_words : (words : List Text) → TakesWords the_threads words
+    → HasTexts (codes "history") (rows_of_words the_threads words) × HasTurns (rows_of_words the_threads words)
+unfolding program threads_command texts_command tables_command
+has_thread_words words e =
+    let rows = rows_of_words the_threads words in
+    let given =
+    all_given (is_given (codes "TOPOLOGY") rows) (is_given (codes "turns") rows) (is_given (codes "history") rows)
+    MissingRequiredArgument (checked the_threads words e) in
+    let taken = rows_taken the_threads threads_fit words e in
+    let turns = given_row the_threads.rules (codes "turns") rows taken given.1 in (
+      (
+        text_found the_threads.rules (codes "TOPOLOGY") _ rows refl taken given.0,
+        text_found the_threads.rules (codes "history") _ rows refl taken given.2,
+      ),
+      subst RowWritesTurns (sym turns.1) (row_writes_turns turns.0 turns.2),
+    )
+
+-- ---- the job
 
 -- `==` of texts reads both ways
 bytes_eq-swap : (xs ys : List ℕ) → bytes_eq xs ys ≡ false → (bytes_eq ys xs || false) ≡ true → ⊥
@@ -211,47 +334,43 @@ bytes_eq-swap xs ys differs same =
     go true e = refl
     go false e = e
 
-abbrev the_replay : Shape
-the_replay = the_texts (codes "replay") (codes "SCRIPT")
-
-abbrev the_check : Shape
-the_check = the_texts (codes "check") (codes "SCRIPT")
-
-abbrev the_verify : Shape
-the_verify = the_texts (codes "verify") (codes "HISTORY")
-
--- the subcommand whose name is the word: `replay`, `check`, `verify`, `tables` or `help`
-abbrev sub_met : Bool → Bool → Bool → Bool → Bool → Option Shape
-sub_met r c v t h =
+-- the subcommand whose name is the word: `replay`, `check`, `verify`, `threads`, `tables` or `help`
+abbrev sub_met : Bool → Bool → Bool → Bool → Bool → Bool → Option Shape
+sub_met r c v n t h =
     cond r (Some the_replay)
-    (cond c (Some the_check) (cond v (Some the_verify) (cond t (Some the_tables) (cond h (Some the_help) None))))
+    (cond c (Some the_check)
+    (cond v (Some the_verify)
+    (cond n (Some the_threads) (cond t (Some the_tables) (cond h (Some the_help) None)))))
 
 abbrev fault_at : List Text → Option Shape → Kinds
 fault_at words sub = option_map_or (λ s. level_fault s [] nothing_held words false []) sub []
 
-job_of_sub : (p : Text × List Text) → bytes_eq p.0 (codes "help") ≡ false → (r c v t h : Bool)
+job_of_sub : (p : Text × List Text) → bytes_eq p.0 (codes "help") ≡ false → (r c v n t h : Bool)
     → answers_to p.0 (label_of the_help) ≡ h
-    → fault_at p.1 (sub_met r c v t h) ≡ [] → HasJob (option_map (λ s. rows_at s p.1) (sub_met r c v t h))
-unfolding program texts_command tables_command
-job_of_sub p no_help true c v t h a f = inl (inl refl, has_texts (codes "replay") (codes "SCRIPT") p.1 f)
-job_of_sub p no_help false true v t h a f = inl (inr refl, has_texts (codes "check") (codes "SCRIPT") p.1 f)
-job_of_sub p no_help false false true t h a f = inr (inl (refl, has_texts (codes "verify") (codes "HISTORY") p.1 f))
-job_of_sub p no_help false false false true h a f = inr (inr refl)
-job_of_sub p no_help false false false false true a f = absurd (bytes_eq-swap p.0 (codes "help") no_help a)
-job_of_sub p no_help false false false false false a f = tt
+    → fault_at p.1 (sub_met r c v n t h) ≡ [] → HasJob (option_map (λ s. rows_at s p.1) (sub_met r c v n t h))
+unfolding program threads_command texts_command tables_command
+job_of_sub p no_help true c v n t h a f = inl (inl refl, has_scripts (codes "replay") p.1 f)
+job_of_sub p no_help false true v n t h a f = inl (inr refl, has_scripts (codes "check") p.1 f)
+job_of_sub p no_help false false true n t h a f = inr (inl (refl, has_histories p.1 f))
+job_of_sub p no_help false false false true t h a f =
+    let found = has_thread_words p.1 f in
+    inr (inr (inl (refl, found.0, found.1)))
+job_of_sub p no_help false false false false true h a f = inr (inr (inr refl))
+job_of_sub p no_help false false false false false true a f = absurd (bytes_eq-swap p.0 (codes "help") no_help a)
+job_of_sub p no_help false false false false false false a f = tt
 
 job_at : (stop : Option (Text × List Text)) → IsNoHelp stop → entered_fault (built program) stop ≡ []
     → HasJob (entered (built program) stop)
-unfolding program texts_command tables_command
+unfolding program threads_command texts_command tables_command
 job_at None no_help e = tt
 job_at (Some p) no_help e =
     job_of_sub p no_help (answers_to p.0 (label_of the_replay)) (answers_to p.0 (label_of the_check))
-    (answers_to p.0 (label_of the_verify))
+    (answers_to p.0 (label_of the_verify)) (answers_to p.0 (label_of the_threads))
     (answers_to p.0 (label_of the_tables)) (answers_to p.0 (label_of the_help)) refl e
 
 -- words in which clap finds no fault ask for a job
 pub has_job : (words : List Text) → fault_of program words ≡ [] → HasJob (subcommand_of program words)
-unfolding program texts_command tables_command
+unfolding program threads_command texts_command tables_command
 has_job words e =
     let a : App = built program in
     let given : List Text = argument_words program words in
@@ -267,11 +386,11 @@ has_job words e =
 -- ---- the answer of clap for a command that is the program
 
 program_is_simple : is_simple program ≡ true
-unfolding program texts_command tables_command clap_on_literals
+unfolding program threads_command texts_command tables_command clap_on_literals
 program_is_simple = refl
 
 program_is_free : is_simple_and_free program ≡ true
-unfolding program texts_command tables_command clap_on_literals
+unfolding program threads_command texts_command tables_command clap_on_literals
 program_is_free = refl
 
 pub faults_are : (a : App) (words : List Text) (P : Kinds → Type 0) → a ≡ program

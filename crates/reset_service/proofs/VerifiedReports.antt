@@ -35,13 +35,13 @@ module _ {L : Type 0} (m : Meaning L) where
 
   module _ (g : Graph) (graph : IsGraph g) (connected : IsConnected g) (c : Configuration L)
       (boot : IsBoot m.app g c) where
-    has_graph : IsGraph c.graph
+    pub has_graph : IsGraph c.graph
     has_graph = subst IsGraph (sym boot.graph) graph
 
-    is_connected : IsConnected c.graph
+    pub is_connected : IsConnected c.graph
     is_connected = subst IsConnected (sym boot.graph) connected
 
-    is_shaped : IsShaped c
+    pub is_shaped : IsShaped c
     is_shaped =
         let count : length g.ids ≡ length c.graph.ids = ap (λ (h : Graph). length h.ids) (sym boot.graph) in
         record {
@@ -50,7 +50,7 @@ module _ {L : Type 0} (m : Meaning L) where
           locals = ap length boot.locals ∙ length-map g.ids (m.app.start g) ∙ count;
         }
 
-    is_sound : IsSound c
+    pub is_sound : IsSound c
     is_sound =
         pictures_sound c has_graph is_connected (boot_tree_picture m.app g c graph boot)
         (boot_wave_picture m.app g c boot)

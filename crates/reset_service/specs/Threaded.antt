@@ -1,19 +1,24 @@
 -- What a run of node threads leaves: the history that the threads keep, and what is written of it.
-use Rattle.std.specs.Prelude.{◌≡◌, ◌⊎◌, ◌<◌, ◌≤◌, ℕ, List, [], ◌∷◌, length, codes, Option, IsSome, Result, Ok, Err}
+use Rattle.std.specs.Prelude.{◌≡◌, ◌⊎◌, ◌<◌, ◌≤◌, ℕ, List, [], ◌∷◌, length, codes, All, Option, IsSome, Result, Ok, Err}
 use Rattle.std.specs.Fmt.{decimal}
 use Rattle.std.specs.List.{concat}
 use Rattle.std.specs.Io.KnownBytes.{Appends, Keeps}
 use Rattle.action_tables.specs.Written.{AppendsFront}
+use Rattle.app_mutex.specs.Turns.{HoldsTurns}
+use Rattle.app_routes.specs.Ways.{HasRoutes}
+use Rattle.app_token.specs.OneToken.{HasOneToken}
 use Rattle.topology.specs.Graph.{Graph}
 use Rattle.topology.specs.declared.text.AppName.{AppName}
 use Rattle.topology.specs.declared.text.AppName.TheVariants.{Idle, Token, Mutex, Routes}
 use Rattle.reset_model.specs.declared.event.Event.{Event}
 use Rattle.reset_model.specs.Configuration.{Configuration}
 use Rattle.reset_model.specs.Outcome.{IsBoot}
+use Rattle.reset_model.specs.Refinement.{abstract_of}
+use Rattle.reset_model.specs.Sound.{IsSound}
 use Rattle.history.specs.Entries.{replayed}
 use Rattle.history.specs.HistoryText.{IsReadAs, ended}
 use Rattle.history.specs.Reports.{reports_of}
-use Rattle.history.specs.Stretches.{steps}
+use Rattle.history.specs.Stretches.{IsSoundStretch, IsStretch, IsTrueReport, Stretch, steps}
 use Rattle.reset_service.specs.Meaning.{Meaning, idle_meaning, token_meaning, mutex_meaning, routes_meaning}
 use Rattle.reset_service.specs.Output.{IsJudged, bad_topology_text}
 use Rattle.reset_service.specs.declared.status.RunStop.{RunStop}
@@ -89,6 +94,38 @@ LeavesBoth O old new before after (Err stop.WriteFailed) =
 LeavesBoth O old new before after (Err stop.NoMemory) = Keeps old new × Keeps before after
 LeavesBoth O old new before after (Err stop.ThreadFailed) = Keeps old new × Keeps before after
 LeavesBoth O old new before after (Err stop.NotClosed) = Keeps old new × Keeps before after
+
+-- ---- what was kept is a run
+
+-- all events from a configuration on, as one stretch
+abbrev pub whole : {L : Type 0} → Configuration L → List Event → Configuration L → Stretch L
+whole c events left = record { before = []; events = events; rest = []; here = c; left = left }
+
+-- a history and a line tell a run from the booted configuration of a graph, whose registers are sound: its steps are
+-- one undisturbed stretch, which is a run of the abstract machine, in which the application's fact Inv holds at the
+-- end, and each of its reports is true. The line counts nodes, steps and reports
+pub record TellsRun {L : Type 0} (m : Meaning L) (Inv : Graph → (ℕ → L) → Type 0) (g : Graph) (history line : List ℕ) :
+    Type 0 where
+  pub opening : Configuration L
+  pub events : List Event
+  pub left : Configuration L
+  pub booted : IsBoot m.app g opening
+  pub sound : IsSound opening
+  pub read : IsReadAs history (Ok (steps events))
+  pub stretch : IsStretch m.app m.from_text opening (steps events) (whole opening events left)
+  pub lawful : IsSoundStretch m.app Inv (whole opening events left)
+  pub invariant : Inv left.graph (abstract_of m.app left)
+  pub told : line ≡ threads_line (length g.ids) (length events)
+      (length (reports_of m.app m.from_text opening (steps events)))
+  pub true_reports : All (IsTrueReport m.app m.from_text opening (steps events) (whole opening events left))
+      (reports_of m.app m.from_text opening (steps events))
+
+-- the same for the application of a name, with its fact
+abbrev pub TellsRunOf : AppName → Graph → List ℕ → List ℕ → Type 0
+TellsRunOf Idle = TellsRun idle_meaning (λ g v. Unit {0})
+TellsRunOf Token = TellsRun token_meaning HasOneToken
+TellsRunOf Mutex = TellsRun mutex_meaning HoldsTurns
+TellsRunOf Routes = TellsRun routes_meaning HasRoutes
 
 -- ---- what private clauses cite: what a run comes to before anything is written
 

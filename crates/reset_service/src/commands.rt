@@ -1,11 +1,12 @@
 // The commands of the program and their help, as `clap` reads and prints them.
 
-ghost use Rattle.std.specs.Prelude.{◌≡◌, IfOk, false};
+ghost use Rattle.std.specs.Prelude.{◌≡◌, IfOk, codes, false};
 ghost use Rattle.clap.specs.Words.{app_of, rule_of};
 ghost use Rattle.clap.specs.declared.builder.command.Command.TheViews.{out-Command as fields_of};
-ghost use Rattle.reset_service.specs.Words.{path, program, tables_command, texts_command};
+ghost use Rattle.reset_service.specs.Words.{file_option, path, program, tables_command, texts_command};
+ghost use Rattle.reset_service.specs.Words.{threads_command, turns_option};
 
-use clap::{Arg, Command};
+use clap::{Arg, Command, value_parser};
 use std::alloc::{AllocError, Global};
 
 const ABOUT: &str =
@@ -29,7 +30,7 @@ Exit status:
   0  good, refused commands included
   1  the subcommand `check` found faults, or `verify` an entry that isn't allowed
   2  a bad topology, script, history or command line
-  3  a file or a standard stream could not be read or written
+  3  a file or a standard stream could not be read or written, or a thread could not be started
   4  out of memory";
 
 const TOPOLOGY_HELP: &str =
@@ -128,6 +129,36 @@ Example:
   reset-service verify examples/verified-wave/topology.toml examples/verified-wave/history",
 };
 
+const THREADS_ABOUT: &str =
+    "Runs a thread for each node, and writes what the nodes did as a history";
+
+const THREADS_LONG_ABOUT: &str = "\
+Runs a thread for each node, and writes what the nodes did as a history.
+
+The network starts from the booted configuration of its topology. The node with the least
+identifier asks for a reset first. Then each node takes N turns, all nodes at the same time. In a
+turn a node does the first event that it may do, requests left out; it does nothing where it may do
+none, or where a neighbour has changed what it saw. What the nodes did is written to FILE as a
+history, which `verify` accepts; the file is created, or emptied where it is there. At most
+1,000,000 entries are kept: a run that reaches this many ends there. Then one line is printed,
+`threads N nodes E entries R reports`: the nodes, the entries of the history, and the resets that
+were completed.
+
+A topology of over 64 nodes is answered by `bad topology TooManyForThreads`, and the exit status
+is 2.";
+
+const THREADS_AFTER_HELP: &str = "\
+Example:
+  reset-service threads examples/one-wave/topology.toml --turns 100 --history history
+  reset-service verify examples/one-wave/topology.toml history";
+
+const FEW_NODES_HELP: &str =
+    "A file in TOML that names the nodes, at most 64, the links between them, and the application";
+
+const TURNS_HELP: &str = "How many turns each node takes, from 1 to 100000";
+
+const HISTORY_FILE_HELP: &str = "The file that the history is written to";
+
 const TABLES_ABOUT: &str = "Prints the tables that the nodes act by";
 
 const TABLES_LONG_ABOUT: &str = "\
@@ -156,6 +187,7 @@ pub fn command_line<'a>(alloc: Global) -> Result<Command<'a>, AllocError>
         .subcommand(replay)?
         .subcommand(check)?
         .subcommand(verify)?
+        .subcommand(threads_words(alloc)?)?
         .subcommand(tables_words(alloc))
 }
 
@@ -177,6 +209,20 @@ fn texts_words<'a>(
         .arg(path_word(alloc, input, help.input))
 }
 
+// The subcommand with the path of a topology, a number of turns and the path of a file for the history.
+fn threads_words<'a>(alloc: Global) -> Result<Command<'a>, AllocError>
+    ensures app { IfOk result (λ command. app_of command ≡ threads_command) }
+    ensures local { IfOk result (λ command. (fields_of command).has_globals ≡ false) }
+{
+    Command::new(alloc, "threads")
+        .about(THREADS_ABOUT)
+        .long_about(THREADS_LONG_ABOUT)
+        .after_help(THREADS_AFTER_HELP)
+        .arg(path_word(alloc, "TOPOLOGY", FEW_NODES_HELP))?
+        .arg(turns_word(alloc))?
+        .arg(history_word(alloc))
+}
+
 fn tables_words<'a>(alloc: Global) -> Command<'a>
     ensures app { app_of result ≡ tables_command }
     ensures local { (fields_of result).has_globals ≡ false }
@@ -192,4 +238,29 @@ fn path_word<'a>(alloc: Global, name: &'a str, help: &'a str) -> Arg<'a>
     ensures local { result.global ≡ false }
 {
     Arg::new(alloc, name).required(true).help(help)
+}
+
+// How many turns each node takes, which has to be given.
+fn turns_word<'a>(alloc: Global) -> Arg<'a>
+    ensures rule { rule_of result ≡ turns_option }
+    ensures local { result.global ≡ false }
+{
+    Arg::new(alloc, "turns")
+        .long("turns")
+        .value_name("N")
+        .required(true)
+        .value_parser(value_parser!(u32).range(1..=100_000))
+        .help(TURNS_HELP)
+}
+
+// The path of the file for the history, which has to be given.
+fn history_word<'a>(alloc: Global) -> Arg<'a>
+    ensures rule { rule_of result ≡ file_option (codes "history") }
+    ensures local { result.global ≡ false }
+{
+    Arg::new(alloc, "history")
+        .long("history")
+        .value_name("FILE")
+        .required(true)
+        .help(HISTORY_FILE_HELP)
 }

@@ -4,10 +4,13 @@ ghost use Rattle.std.specs.Prelude.{◌≡◌, ℕ, List};
 ghost use Rattle.topology.specs.Graph.{Graph, IsConnected, IsGraph};
 ghost use Rattle.topology.specs.declared.text.AppName.{AppName};
 ghost use Rattle.reset_model.specs.Configuration.{Configuration, IsShaped};
+ghost use Rattle.reset_model.specs.Outcome.{IsBoot};
+ghost use Rattle.reset_model.specs.Refinement.{abstract_of};
 ghost use Rattle.reset_model.specs.Sound.{IsSound};
 ghost use Rattle.reset_service.specs.Meaning.{meaning_of};
 ghost use Rattle.reset_service.specs.Output.{Describes, IsJoinedOutput, IsOutput};
 ghost use Rattle.reset_service.specs.Stretches.{AreUndisturbed, MakeRun, MakeSoundRun};
+ghost use Rattle.reset_service.specs.Threaded.{IsKeptFrom, IsThreaded, TellsRun, TellsRunOf};
 ghost use Rattle.reset_service.specs.Verified.{IsVerification, TellsTrueReportsOf};
 ghost use Rattle.reset_service.specs.declared.status.Purpose.{Purpose};
 ghost use Rattle.reset_service.specs.declared.status.Status.{Status};
@@ -16,7 +19,7 @@ use app_interface::{Application, Idle};
 use app_mutex::EdgeReversal;
 use app_routes::Routes;
 use app_token::Token;
-use history::{one_reading_a_text, reports_are_true};
+use history::{one_reading_a_text, reports_are_completions, reports_are_true, stretches_refine};
 use reset_machine::{completions, invariants, refinement, runs_stay_sound};
 
 /// A topology and a script have at most one output, status included.
@@ -51,6 +54,44 @@ pub fn verified_reports_are_true()
     reports_are_true::<EdgeReversal>();
     reports_are_true::<Routes>();
 }
+
+/// In a booted configuration the application's invariant holds, of all nodes as they are.
+pub fn booted_invariants_hold<P: Application>()
+    ensures { (g : Graph) (c : Configuration P.Local) → IsGraph g → IsBoot P.app g c
+        → P.Inv c.graph (abstract_of P.app c) }
+{}
+
+/// What node threads keep from the booted configuration of a graph, where it is told, is a run.
+pub fn kept_histories_are_runs<P: Application>()
+    ensures { (g : Graph) (history line : List ℕ) → IsGraph g → IsConnected g
+        → IsKeptFrom (meaning_of P.app P.text P.from_text P.names) g history (line, Status.Good)
+        → TellsRun (meaning_of P.app P.text P.from_text P.names) P.Inv g history line }
+{
+    booted_invariants_hold::<P>();
+    reports_are_completions::<P>();
+    reports_are_true::<P>();
+    stretches_refine::<P>();
+}
+
+/// What a run of node threads that ends well means. Its topology describes a graph and names an application; its
+/// history is that of steps alone, one undisturbed stretch from the booted configuration on, whose registers are
+/// sound. So it is a run of the abstract machine, at its end the application's invariant holds, and each of its
+/// reports is true; and the line counts its nodes, its entries and its reports.
+pub fn threads_keep_a_run()
+    ensures { (topology history line : List ℕ) → IsThreaded topology history (line, Status.Good)
+        → (g : Graph) × (app : AppName) × Describes topology g app × TellsRunOf app g history line }
+{
+    kept_histories_are_runs::<Idle>();
+    kept_histories_are_runs::<Token>();
+    kept_histories_are_runs::<EdgeReversal>();
+    kept_histories_are_runs::<Routes>();
+}
+
+/// A verification takes the history of a run of node threads that ends well.
+pub fn threads_are_verified()
+    ensures { (topology history line : List ℕ) → IsThreaded topology history (line, Status.Good)
+        → (written : List ℕ) × IsVerification topology history (written, Status.Good) }
+{}
 
 /// Between two faults the lines of a script make a run happen: whatever the configuration, lines of which
 /// none asks for a fault leave exactly what a run of their events leaves, each event answered by its

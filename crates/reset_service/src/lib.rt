@@ -19,6 +19,7 @@ mod script;
 mod show;
 mod status;
 mod tables;
+mod thread_words;
 mod threaded;
 mod verified;
 mod words;
@@ -26,11 +27,14 @@ mod words;
 pub use gather::Gathered;
 pub use input::{READ_LIMIT, read_text};
 pub use laws::{
-    one_joined_output, one_output, one_verification, stretches_are_runs, verified_reports_are_true,
+    booted_invariants_hold, kept_histories_are_runs, one_joined_output, one_output,
+    one_verification, stretches_are_runs, threads_are_verified, threads_keep_a_run,
+    verified_reports_are_true,
 };
 pub use replays::{check_text, replay, replay_joined, replay_text};
 pub use status::{RunStop, Status};
 pub use tables::print_tables;
+pub use thread_words::ThreadWords;
 pub use threaded::threads_text;
 pub use verified::verify_text;
 pub use words::{Job, LineFault, Paths, no_text, read_words};

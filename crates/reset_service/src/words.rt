@@ -1,12 +1,13 @@
 // What the words of the command line ask for.
 
-ghost use Rattle.std.specs.Prelude.{◌≡◌, [], codes, map, Some, IfOk, IfErr};
+ghost use Rattle.std.specs.Prelude.{◌≡◌, ◌≤◌, [], codes, map, IfErr, IfOk, IsSomeAnd, Some};
 ghost use Rattle.clap.specs.Words.{first_of, found_of, kind_of, rows_of, subcommand_rows_of};
 ghost use Rattle.reset_service.specs.declared.words.LineFault.TheVariants.{NoMemory};
-ghost use Rattle.reset_service.specs.Words.{faults_of, AskFor, AskedBy, HasJob, HasTexts, IsFaultOf, IsInvalidValue};
-ghost use Rattle.reset_service.specs.Words.{StandsFor};
+ghost use Rattle.reset_service.specs.Words.{faults_of, AskFor, AskedBy, HasJob, HasTexts, HasTurns, IsFaultOf};
+ghost use Rattle.reset_service.specs.Words.{IsInvalidValue, StandsFor, Writes};
 
 use crate::commands::command_line;
+use crate::thread_words::ThreadWords;
 use clap::error::ErrorKind;
 use clap::{ArgMatches, Error};
 use std::alloc::{AllocError, Global};
@@ -33,6 +34,8 @@ pub enum Job<'a> {
     Check(Paths<'a>),
     /// Verify the history of a file from the booted configuration of another's topology.
     Verify(Paths<'a>),
+    /// Run a thread for each node of a topology, and write what the nodes did to a file.
+    Threads(ThreadWords<'a>),
     /// Print the tables.
     Tables,
 }
@@ -97,6 +100,7 @@ fn job_of<'a>(matches: &ArgMatches<'a>) -> Job<'a>
         Some(("replay", values)) => Job::Replay(paths_of(values, "SCRIPT")),
         Some(("check", values)) => Job::Check(paths_of(values, "SCRIPT")),
         Some(("verify", values)) => Job::Verify(paths_of(values, "HISTORY")),
+        Some(("threads", values)) => Job::Threads(thread_words_of(values)),
         Some(_) => Job::Tables,
     }
 }
@@ -110,6 +114,24 @@ fn paths_of<'a>(values: &ArgMatches<'a>, input: &str) -> Paths<'a>
     Paths {
         topology: values.get_str("TOPOLOGY").unwrap(),
         input: values.get_str(input).unwrap(),
+    }
+}
+
+// The words of matches that have a topology, a number of turns and a file for the history.
+fn thread_words_of<'a>(values: &ArgMatches<'a>) -> ThreadWords<'a>
+    requires texts { HasTexts (codes "history") (rows_of (found_of values.now)) }
+    requires turns { HasTurns (rows_of (found_of values.now)) }
+    ensures topology { first_of (codes "TOPOLOGY") (rows_of (found_of values.now)) ≡ Some result.topology.now }
+    ensures history { first_of (codes "history") (rows_of (found_of values.now)) ≡ Some result.history.now }
+    ensures turns { IsSomeAnd (first_of (codes "turns") (rows_of (found_of values.now))) (Writes result.turns) }
+    ensures least { 1 ≤ result.turns }
+    ensures most { result.turns ≤ 100000 }
+{
+    let paths = paths_of(values, "history");
+    ThreadWords {
+        topology: paths.topology,
+        turns: values.get_one::<u32>("turns").unwrap(),
+        history: paths.input,
     }
 }
 

@@ -1,7 +1,7 @@
 use Rattle.std.proofs.Common.{rules, ◌≡◌, ◌∙◌, ap, ap₂, codes}
 use Rattle.std.proofs.lemmas.Result.{IfOk-weaker}
 use Rattle.clap.specs.Words.{App, app_of, new_app, with_subcommand}
-use Rattle.reset_service.specs.Words.{program, texts_command}
+use Rattle.reset_service.specs.Words.{program, texts_command, threads_command}
 use Rattle.reset_service.proofs.commands.command_line.Goals as goal
 
 pub returns : goal.returns
@@ -25,6 +25,15 @@ returns c =
     (texts_command (codes "check") (codes "SCRIPT")).top) (texts_command (codes "verify") (codes "HISTORY")).top =
     c.in_ok-subcommand-3.ensures.shape c.in_ok-verify.ensures.local
     ∙ ap₂ with_subcommand two (ap (λ (a : App). a.top) c.in_ok-verify.ensures.app) in
-    IfOk-weaker c.subcommand-4.result _ _
+    let four : app_of c.in_ok-subcommand-4.field-0
+    ≡ with_subcommand
+    (with_subcommand
+    (with_subcommand
+    (with_subcommand (new_app (codes "reset-service")) (texts_command (codes "replay") (codes "SCRIPT")).top)
+    (texts_command (codes "check") (codes "SCRIPT")).top) (texts_command (codes "verify") (codes "HISTORY")).top)
+    threads_command.top =
+    c.in_ok-subcommand-4.ensures.shape c.in_ok-threads_words.ensures.local
+    ∙ ap₂ with_subcommand three (ap (λ (a : App). a.top) c.in_ok-threads_words.ensures.app) in
+    IfOk-weaker c.subcommand-5.result _ _
     (λ r h. h.shape c.tables_words.ensures.local
-    ∙ ap₂ with_subcommand three (ap (λ (a : App). a.top) c.tables_words.ensures.app)) c.subcommand-4.ensures
+    ∙ ap₂ with_subcommand four (ap (λ (a : App). a.top) c.tables_words.ensures.app)) c.subcommand-5.ensures
