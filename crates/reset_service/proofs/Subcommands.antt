@@ -179,6 +179,7 @@ text_found c id a rows is taken given =
 
 -- ---- the subcommands with two paths
 
+-- each argument takes a value, and the flag asks for help
 scripts_fit : (name : Text) → AllFit (the_texts name (codes "SCRIPT")).rules (the_texts name (codes "SCRIPT")).rules
 unfolding texts_command
 scripts_fit name = ((refl, inl (refl, refl, refl)), ((refl, inl (refl, refl, refl)), ((refl, inr refl), tt)))
@@ -245,7 +246,7 @@ all_given true true false k e = absurd (cc)
 all_given true false c k e = absurd (cc)
 all_given false b c k e = absurd (cc)
 
--- a text from 1 on has no minus
+-- a text without its minus, if it begins with one
 without_minus-cond : (t : Text) → without_minus t ≡ cond (starts_with_minus t) (drop 1 t) t
 without_minus-cond [] = refl
 without_minus-cond (x ∷ xs) = go (x == 45)
