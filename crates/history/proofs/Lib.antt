@@ -1,4 +1,8 @@
 mod Tables
+mod Pieces
+mod Replays
+mod Checkpoints
+mod SegmentTexts
 mod Plays
 pub mod HistoryLines
 mod HistoryReadings

@@ -1,5 +1,6 @@
 pub mod Entries
 pub mod Reports
+pub mod Segments
 pub mod Played
 pub mod Book
 pub mod HistoryText

@@ -1,18 +1,21 @@
 // Books: configurations with the entries that led to them.
 
 ghost use Rattle.std.specs.Prelude.{◌≡◌, ◌≢◌, ℕ, ◌+◌, ◌≤◌, [], length, option_map, Ok, Err, OnErr, OnOk, IfOk, IfErr};
-ghost use Rattle.std.specs.Prelude.{MatchResult};
+ghost use Rattle.std.specs.Prelude.{◌<◌, ◌↔◌, take, Some, MatchResult};
 
 use crate::entry::{Entry, Receipt, Report};
 use crate::line::{fault_has_line, step_has_line};
+use crate::log::Log;
 use crate::player::Player;
-use crate::refusal::{ApplyRefusal, BookRefusal, DisturbRefusal, fault_refused, step_refused};
+use crate::refusal::{
+    ApplyRefusal, AtFault, BookRefusal, DisturbRefusal, fault_refused, step_refused,
+};
+use crate::segments::Segments;
 use app_interface::Application;
 use fault_inject::{Fault, inject};
 use reset_machine::{Config, Event, Plan, StepRefusal, View};
 use std::alloc::{AllocError, Global};
 use std::marker::Model;
-use std::snapshot::Snapshot;
 
 /// The most entries that a book may have.
 pub const MAX_ENTRIES: usize = 1_000_000;
@@ -21,10 +24,8 @@ pub const MAX_ENTRIES: usize = 1_000_000;
 #[derive(Drop)]
 pub struct Book<P: Application> {
     player: Player<P>,
-    entries: Vec<Entry>,
+    log: Log<P>,
     limit: usize,
-    // Contracts tell the opening. It takes no memory.
-    opening: Snapshot<Config<P>>,
 }
 
 impl<P: Application> Model for Book<P> {
@@ -32,6 +33,7 @@ impl<P: Application> Model for Book<P> {
     ghost use Rattle.history.specs.Book.{BookView};
     ghost use Rattle.history.specs.HistoryText.{HasLine};
     ghost use Rattle.history.specs.Played.{HasPlayed};
+    ghost use Rattle.history.specs.Segments.{IsLog, entries_of};
 
     ghost Value = { BookView P.Local };
 
@@ -41,14 +43,15 @@ impl<P: Application> Model for Book<P> {
     ghost coded = { Prim.hlevel (codes, graph_code) };
 
     ghost view = { λ b. record {
-      opening = b.opening.value;
-      entries = b.entries.items;
+      opening = b.log.opening.value;
+      entries = entries_of b.log.segments;
       config = b.player.config;
       limit = b.limit;
     } };
 
-    ghost invariant = { λ b. HasPlayed P.app P.from_text b.opening.value b.entries.items b.player
-        × (length b.entries.items ≤ b.limit) × (b.limit ≤ 1000000) × All HasLine b.entries.items };
+    ghost invariant = { λ b. HasPlayed P.app P.from_text b.log.opening.value (entries_of b.log.segments) b.player
+        × (length (entries_of b.log.segments) ≤ b.limit) × (b.limit ≤ 1000000)
+        × All HasLine (entries_of b.log.segments) × IsLog P.app P.from_text b.log };
 }
 
 impl<P: Application> Book<P> {
@@ -58,7 +61,9 @@ impl<P: Application> Book<P> {
     ghost use Rattle.fault_inject.specs.Effects.{injected};
     ghost use Rattle.reset_model.specs.Planned.{outcome_of};
     ghost use Rattle.history.specs.Book.{IsBook, IsUnapplied, booked, disturbed_book, entry_at};
+    ghost use Rattle.history.specs.Entries.{replayed};
     ghost use Rattle.history.specs.Reports.{reports_of};
+    ghost use Rattle.history.specs.Segments.{IsSegmented, entries_of};
 
     /// A book without entries that opens with this configuration. It takes no memory.
     pub fn open_book(alloc: Global, config: Config<P>, limit: usize) -> Book<P>
@@ -66,9 +71,8 @@ impl<P: Application> Book<P> {
         ensures { result ≡ record { opening = config; entries = []; config = config; limit = limit } }
     {
         Book {
-            opening: Snapshot::of(&config),
+            log: Log::new(alloc, &config),
             player: Player::new(alloc, config),
-            entries: Vec::new(alloc),
             limit,
         }
     }
@@ -84,17 +88,18 @@ impl<P: Application> Book<P> {
         ensures lawful { IfOk result (λ receipt. IsSound self.old.config
             → IsSoundStep P.app P.Inv self.old.config event receipt.reply self.new.config) }
     {
-        if self.entries.len() >= self.limit {
+        let count = self.log.segments.len();
+        if count >= self.limit {
             return Err(self.full_step(alloc, event));
         }
-        if self.entries.reserve(1).is_err() {
+        if self.log.make_room(alloc, &self.player.config).is_err() {
             return Err(BookRefusal::NoMemory);
         }
-        let position = self.entries.len() + 1;
+        let position = count + 1;
         match self.player.enter_step(alloc, position, event) {
             Ok(reply) => {
                 step_has_line(event);
-                self.entries.push_reserved(Entry::Step(event));
+                self.log.push(Entry::Step(event));
                 Ok(Receipt {
                     position,
                     event,
@@ -128,17 +133,18 @@ impl<P: Application> Book<P> {
         ensures returned { IfErr result (λ e. e.1 ≡ fault) }
         ensures kept { OnErr result (self.new ≡ self.old) }
     {
-        if self.entries.len() >= self.limit {
+        let count = self.log.segments.len();
+        if count >= self.limit {
             return Err((self.full_disturb(alloc, &fault), fault));
         }
-        if self.entries.reserve(1).is_err() {
+        if self.log.make_room(alloc, &self.player.config).is_err() {
             return Err((DisturbRefusal::NoMemory, fault));
         }
-        let position = self.entries.len() + 1;
+        let position = count + 1;
         match self.player.enter_fault(alloc, position, &fault) {
             Ok(()) => {
                 fault_has_line::<P>(&fault);
-                self.entries.push_reserved(Entry::Disturbed(fault));
+                self.log.push(Entry::Disturbed(fault));
                 Ok(position)
             }
             Err(refusal) => Err((fault_refused(refusal), fault)),
@@ -177,10 +183,11 @@ impl<P: Application> Book<P> {
         ensures lawful { IfOk result (λ receipt. IsSound self.old.config
             → IsSoundStep P.app P.Inv self.old.config plan.event receipt.reply self.new.config) }
     {
-        if self.entries.len() >= self.limit {
+        let count = self.log.segments.len();
+        if count >= self.limit {
             return Err((self.full_apply(alloc, plan.seen_view()), plan));
         }
-        match self.entries.reserve(1) {
+        match self.log.make_room(alloc, &self.player.config) {
             Ok(()) => {}
             Err(AllocError) => return Err((ApplyRefusal::NoMemory, plan)),
         }
@@ -188,12 +195,12 @@ impl<P: Application> Book<P> {
             Ok(()) => {}
             Err(AllocError) => return Err((ApplyRefusal::NoMemory, plan)),
         }
-        let position = self.entries.len() + 1;
+        let position = count + 1;
         let event = plan.event();
         match self.player.enter_plan(position, plan) {
             Ok(reply) => {
                 step_has_line(event);
-                self.entries.push_reserved(Entry::Step(event));
+                self.log.push(Entry::Step(event));
                 Ok(Receipt {
                     position,
                     event,
@@ -240,7 +247,7 @@ impl<P: Application> Book<P> {
     pub fn len(&self) -> usize
         ensures { result ≡ length self.now.entries }
     {
-        self.entries.len()
+        self.log.segments.len()
     }
 
     /// How many entries it may have.
@@ -250,11 +257,12 @@ impl<P: Application> Book<P> {
         self.limit
     }
 
-    // Its entries.
-    pub(crate) fn entries(&self) -> &[Entry]
-        ensures { result.now ≡ self.now.entries }
+    // Its entries, in segments.
+    pub(crate) fn segments(&self) -> &Segments
+        ensures segmented { IsSegmented result.now }
+        ensures same { entries_of result.now ≡ self.now.entries }
     {
-        &self.entries
+        &self.log.segments
     }
 
     /// The entry at this position. Positions count from 1. None outside 1 to [`len`](Book::len).
@@ -262,7 +270,7 @@ impl<P: Application> Book<P> {
         ensures { option_map (λ entry. entry.now) result ≡ entry_at self.now.entries position }
     {
         match position.checked_sub(1) {
-            Some(index) => self.entries.get(index),
+            Some(index) => self.log.segments.get(index),
             None => None,
         }
     }
@@ -272,6 +280,34 @@ impl<P: Application> Book<P> {
         ensures { result.now ≡ self.now.config }
     {
         &self.player.config
+    }
+
+    /// The configuration after its first entries: that of the opening at position 0, and its own at
+    /// [`len`](Book::len). Fewer than 1,024 entries are played for it, from a checkpoint before the position.
+    pub fn config_at(&self, alloc: Global, position: usize) -> Result<Config<P>, AtFault>
+        ensures ok { IfOk result (λ config. replayed P.app P.from_text self.now.opening
+            (take position self.now.entries) ≡ Some config) }
+        ensures beyond { result ≡ Err AtFault.NoPosition ↔ length self.now.entries < position }
+    {
+        if position > self.len() {
+            return Err(AtFault::NoPosition);
+        }
+        match self.config_after(alloc, position) {
+            Ok(config) => Ok(config),
+            Err(AllocError) => Err(AtFault::NoMemory),
+        }
+    }
+
+    // The configuration after this many entries.
+    fn config_after(&self, alloc: Global, count: usize) -> Result<Config<P>, AllocError>
+        requires { count ≤ length self.now.entries }
+        ensures { IfOk result (λ config. replayed P.app P.from_text self.now.opening
+            (take count self.now.entries) ≡ Some config) }
+    {
+        if count == self.len() {
+            return self.player.config.copy(alloc);
+        }
+        self.log.config_before(alloc, count)
     }
 
     /// The completions that its entries tell, in turn.

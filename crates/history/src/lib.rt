@@ -5,10 +5,13 @@
 mod book;
 mod entry;
 mod line;
+mod log;
 mod openings;
 mod player;
 mod read;
 mod refusal;
+mod replay;
+mod segments;
 mod stretches;
 mod text;
 mod verification;
@@ -16,7 +19,7 @@ mod verification;
 pub use book::{Book, MAX_ENTRIES};
 pub use entry::{Entry, Receipt, Report, Summary, VerifyFault};
 pub use read::{is_graphic, is_printable, read_book};
-pub use refusal::{ApplyRefusal, BookRefusal, DisturbRefusal};
+pub use refusal::{ApplyRefusal, AtFault, BookRefusal, DisturbRefusal};
 pub use stretches::{
     replays_stay_connected, reports_are_completions, reports_are_true, stretches_refine,
     undisturbed_parts_are_stretches,

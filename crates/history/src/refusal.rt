@@ -41,6 +41,15 @@ pub enum ApplyRefusal<P: Application> {
     NoMemory,
 }
 
+/// Why a book doesn't tell the configuration at a position, in the order in which refusals are given.
+#[derive(Clone, Copy, Debug, PartialEq, Eq)]
+pub enum AtFault {
+    /// The book has fewer entries. Positions go from 0, the opening, to [`len`](crate::Book::len).
+    NoPosition,
+    /// Memory is wanting.
+    NoMemory,
+}
+
 // A refused step as a book tells it.
 pub(crate) fn step_refused(refusal: StepRefusal) -> BookRefusal
     ensures memory { refusal ≡ StepRefusal.NoMemory → result ≡ BookRefusal.NoMemory }

@@ -5,10 +5,12 @@ ghost use Rattle.std.specs.Io.KnownBytes.{Appends};
 ghost use Rattle.action_tables.specs.Written.{AppendsFront};
 ghost use Rattle.history.specs.declared.entry.Entry.{Entry};
 ghost use Rattle.history.specs.Book.{BookView, IsBook};
+ghost use Rattle.history.specs.Segments.{IsSegmented, entries_of};
 ghost use Rattle.history.specs.HistoryText.{IsReadAs, ended, entries_text, entry_line, history_text};
 
 use crate::book::Book;
 use crate::entry::Entry;
+use crate::segments::{SEGMENT, Segments};
 use action_tables::{WriteFault, put_bytes};
 use app_interface::Application;
 use fault_inject::write_fault;
@@ -48,16 +50,33 @@ pub fn write_book<P: Application, W: Write>(book: &Book<P>, out: &mut W) -> Resu
     ensures err { OnErr result
         (AppendsFront (W.contents out.old) (W.contents out.new) (history_text book.now.entries)) }
 {
-    write_entries(book.entries(), out)
+    write_segments(book.segments(), out)
 }
 
 // Writes the text of the history that has these entries.
-fn write_entries<W: Write>(entries: &[Entry], out: &mut W) -> Result<(), WriteFault>
-    ensures ok { OnOk result (Appends (W.contents out.old) (W.contents out.new) (history_text entries.now)) }
-    ensures err { OnErr result (AppendsFront (W.contents out.old) (W.contents out.new) (history_text entries.now)) }
+fn write_segments<W: Write>(segments: &Segments, out: &mut W) -> Result<(), WriteFault>
+    requires { IsSegmented segments.now }
+    ensures ok { OnOk result
+        (Appends (W.contents out.old) (W.contents out.new) (history_text (entries_of segments.now))) }
+    ensures err { OnErr result
+        (AppendsFront (W.contents out.old) (W.contents out.new) (history_text (entries_of segments.now))) }
 {
     put_bytes(out, b"reset-history 1\n")?;
-    put_entries(out, entries)
+    put_segments(out, segments)
+}
+
+// Writes the lines of entries, segment by segment.
+fn put_segments<W: Write>(out: &mut W, segments: &Segments) -> Result<(), WriteFault>
+    requires { IsSegmented segments.now }
+    ensures ok { OnOk result
+        (Appends (W.contents out.old) (W.contents out.new) (entries_text (entries_of segments.now))) }
+    ensures err { OnErr result
+        (AppendsFront (W.contents out.old) (W.contents out.new) (entries_text (entries_of segments.now))) }
+{
+    for index in 0..segments.len().div_ceil(SEGMENT) {
+        put_entries(out, segments.segment(index))?;
+    }
+    Ok(())
 }
 
 // Writes the lines of entries.

@@ -8,4 +8,6 @@ mod histories;
 #[cfg(test)]
 mod line;
 #[cfg(test)]
+mod positions;
+#[cfg(test)]
 mod texts;

@@ -1,0 +1,24 @@
+use Rattle.std.proofs.Common.{refl}
+use Rattle.action_tables.proofs.Fronts.{AppendsFront-first, OnErr-always, OnErr-then, OnOk-then}
+use Rattle.history.specs.Segments.{entries_of}
+use Rattle.history.specs.HistoryText.{ended, entries_text, first_line, history_text}
+use Rattle.history.proofs.text.write_segments.Goals as goal
+
+pub returns-in_err-put_bytes-clause-err : goal.returns-in_err-put_bytes-clause-err
+returns-in_err-put_bytes-clause-err g c =
+    OnErr-always _ _
+    (AppendsFront-first _ _ (ended first_line) (entries_text (entries_of c.args.segments.now)) c.in_err-put_bytes.ensures.err)
+
+pub returns-clause-err : goal.returns-clause-err
+returns-clause-err g c =
+    OnErr-then c.put_segments.result (g.W.Write.contents c.args.out.now) (g.W.Write.contents c.put_bytes.new.out)
+    (g.W.Write.contents c.put_segments.new.out)
+    (ended first_line) (entries_text (entries_of c.args.segments.now)) (history_text (entries_of c.args.segments.now)) refl
+    c.in_ok-put_bytes.ensures.ok c.put_segments.ensures.err
+
+pub returns-clause-ok : goal.returns-clause-ok
+returns-clause-ok g c =
+    OnOk-then c.put_segments.result (g.W.Write.contents c.args.out.now) (g.W.Write.contents c.put_bytes.new.out)
+    (g.W.Write.contents c.put_segments.new.out)
+    (ended first_line) (entries_text (entries_of c.args.segments.now)) (history_text (entries_of c.args.segments.now)) refl
+    c.in_ok-put_bytes.ensures.ok c.put_segments.ensures.ok

@@ -1,0 +1,49 @@
+// Entries played again, each of which was allowed where it stands.
+
+ghost use Rattle.std.specs.Prelude.{◌≡◌, IfOk, IsSome, OnOk, Some};
+ghost use Rattle.history.specs.Entries.{entered, replayed};
+
+use crate::entry::Entry;
+use app_interface::Application;
+use fault_inject::{FaultRefusal, inject};
+use reset_machine::{Config, StepRefusal};
+use std::alloc::{AllocError, Global};
+
+// What the entries leave from this configuration.
+pub fn replay<P: Application>(
+    alloc: Global,
+    config: Config<P>,
+    entries: &[Entry],
+) -> Result<Config<P>, AllocError>
+    requires { IsSome (replayed P.app P.from_text config entries.now) }
+    ensures { IfOk result (λ left. replayed P.app P.from_text config entries.now ≡ Some left) }
+{
+    let mut left = config;
+    for entry in entries {
+        play(alloc, &mut left, entry)?;
+    }
+    Ok(left)
+}
+
+// Does what the entry tells.
+fn play<P: Application>(
+    alloc: Global,
+    config: &mut Config<P>,
+    entry: &Entry,
+) -> Result<(), AllocError>
+    requires { IsSome (entered P.app P.from_text config.old entry.now) }
+    ensures { OnOk result (entered P.app P.from_text config.old entry.now ≡ Some config.new) }
+{
+    match entry {
+        Entry::Step(event) => match config.step(alloc, *event) {
+            Ok(_) => Ok(()),
+            Err(StepRefusal::NoMemory) => Err(AllocError),
+            Err(_) => unreachable!(),
+        },
+        Entry::Disturbed(fault) => match inject(alloc, config, fault) {
+            Ok(()) => Ok(()),
+            Err(FaultRefusal::NoMemory) => Err(AllocError),
+            Err(_) => unreachable!(),
+        },
+    }
+}
