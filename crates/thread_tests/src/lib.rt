@@ -11,6 +11,8 @@ mod repairs;
 #[cfg(test)]
 mod rounds;
 #[cfg(test)]
+mod runs;
+#[cfg(test)]
 mod seats;
 #[cfg(test)]
 mod starts;
