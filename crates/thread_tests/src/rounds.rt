@@ -1,0 +1,138 @@
+// What happens at the seats of one sharing.
+
+ghost use Rattle.std.specs.Prelude.{◌≡◌, ◌+◌, length};
+
+use app_interface::Idle;
+use history::{Book, Receipt};
+use node_threads::{Outcome, Round, Seat, ShareFault, Shared, close, share};
+use reset_machine::{Event, Plan, Reply, View};
+use std::alloc::Global;
+use std::marker::Brand;
+use std::process::Abort;
+use std::sync::Wait;
+use std::sync::ledger::Blank;
+use wave_layer::Phase;
+
+// What a test does with what is shared and its seats. The name of the sharing is a parameter, so that it is
+// written for each.
+pub trait Scene {
+    fn play<L: Round, R: Wait + Abort>(
+        rt: &R,
+        alloc: Global,
+        shared: Shared<L, Idle>,
+        seats: Vec<Seat<L>>,
+    );
+}
+
+// Shares the book and plays the scene. Or the fault, and the book that came back.
+pub fn play<S: Scene, R: Wait + Abort>(
+    rt: &R,
+    alloc: Global,
+    book: Book<Idle>,
+) -> Result<(), (ShareFault, Book<Idle>)> {
+    let nodes = book.config().topology().len();
+    let blank = Blank::new(nodes as u64 + 1);
+    play_round::<Brand, S, R>(rt, alloc, blank, book)
+}
+
+fn play_round<L: Round, S: Scene, R: Wait + Abort>(
+    rt: &R,
+    alloc: Global,
+    blank: Blank,
+    book: Book<Idle>,
+) -> Result<(), (ShareFault, Book<Idle>)>
+    requires name { blank.name ≡ L.name }
+    requires parts { blank.parts ≡ L.parts }
+    requires one_more { L.parts ≡ L.seats + 1 }
+    requires mark { length book.entries ≡ L.mark }
+    requires nodes { length book.config.graph.ids ≡ L.seats }
+{
+    match share::<L, Idle>(alloc, blank, book) {
+        Ok((shared, seats)) => {
+            S::play::<L, R>(rt, alloc, shared, seats);
+            Ok(())
+        }
+        Err((fault, _blank, book)) => Err((fault, book)),
+    }
+}
+
+// The seats of the nodes 1, 2, 3.
+pub fn three<L: Round>(rt: &impl Abort, mut seats: Vec<Seat<L>>) -> (Seat<L>, Seat<L>, Seat<L>) {
+    assert_eq!(rt; seats.len(), 3);
+    let third = seat_of(rt, seats.pop(), 3);
+    let second = seat_of(rt, seats.pop(), 2);
+    let first = seat_of(rt, seats.pop(), 1);
+    (first, second, third)
+}
+
+// The seat, which is of this node.
+fn seat_of<L: Round>(rt: &impl Abort, seat: Option<Seat<L>>, node: u32) -> Seat<L> {
+    match seat {
+        Some(seat) => {
+            assert_eq!(rt; seat.node(), node);
+            seat
+        }
+        None => panic!(rt; "a seat"),
+    }
+}
+
+// What the seat's node sees.
+pub fn seen<L: Round, R: Wait + Abort>(
+    rt: &R,
+    alloc: Global,
+    shared: &Shared<L, Idle>,
+    seat: &Seat<L>,
+) -> View<Idle> {
+    match shared.look(rt, alloc, seat) {
+        Ok(view) => view,
+        Err(_) => panic!(rt; "a node"),
+    }
+}
+
+// What the event would do now at the seat's node.
+pub fn planned<L: Round, R: Wait + Abort>(
+    rt: &R,
+    alloc: Global,
+    shared: &Shared<L, Idle>,
+    seat: &Seat<L>,
+    event: Event,
+) -> Plan<Idle> {
+    match seen(rt, alloc, shared, seat).plan(alloc, event) {
+        Ok(plan) => plan,
+        Err(_) => panic!(rt; "a plan"),
+    }
+}
+
+// Whether the node with this view sees that this neighbour is initiate.
+pub fn sees_initiate(view: &View<Idle>, at: u32) -> bool {
+    view.neighbours()
+        .iter()
+        .any(|near| near.id == at && near.wave.phase == Phase::Initiate)
+}
+
+// That the event was applied at this position.
+pub fn applied(position: usize, event: Event) -> Receipt {
+    Receipt {
+        position,
+        event,
+        reply: Reply::Applied,
+    }
+}
+
+// The outcome of the sharing with these seats, which close it.
+pub fn closed<L: Round>(
+    rt: &impl Abort,
+    alloc: Global,
+    shared: Shared<L, Idle>,
+    seats: (Seat<L>, Seat<L>, Seat<L>),
+) -> Outcome<Idle> {
+    let (first, second, third) = seats;
+    let mut all = Vec::new(alloc);
+    all.push(first).expect(rt, "memory for a seat");
+    all.push(second).expect(rt, "memory for a seat");
+    all.push(third).expect(rt, "memory for a seat");
+    match close(alloc, shared, all) {
+        Ok(outcome) => outcome,
+        Err(_) => panic!(rt; "the seats of all nodes"),
+    }
+}

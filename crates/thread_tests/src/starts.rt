@@ -1,0 +1,139 @@
+// How a run begins, and what it refuses.
+
+use crate::topologies::{line, opened, small, star};
+use crate::turns::Still;
+use app_interface::Idle;
+use history::{Book, Entry};
+use node_threads::{Outcome, RunCause, run_nodes};
+use reset_machine::Event;
+use std::alloc::Global;
+use std::process::Abort;
+use std::sync::Wait;
+use std::thread::Threads;
+
+// The outcome of ten turns of each node.
+fn run<R: Threads + Wait + Sync + Abort>(
+    rt: &R,
+    alloc: Global,
+    book: Book<Idle>,
+    selected: Option<u32>,
+) -> Outcome<Idle> {
+    match run_nodes(rt, alloc, &Still, book, 10, selected) {
+        Ok(outcome) => outcome,
+        Err(_) => panic!(rt; "a run"),
+    }
+}
+
+// Why there is no outcome, with the book.
+fn refusal<R: Threads + Wait + Sync + Abort>(
+    rt: &R,
+    alloc: Global,
+    book: Book<Idle>,
+    selected: Option<u32>,
+) -> (RunCause, Book<Idle>) {
+    match run_nodes(rt, alloc, &Still, book, 10, selected) {
+        Ok(_) => panic!(rt; "no run"),
+        Err(fault) => (fault.cause, fault.book),
+    }
+}
+
+// Whether the book has this step at this position.
+fn has_step(book: &Book<Idle>, position: usize, event: Event) -> bool {
+    book.entry(position) == Some(&Entry::Step(event))
+}
+
+#[test]
+fn the_first_entry_is_the_request_of_the_selected_node(rt: HostRuntime) {
+    for _ in 0..20 {
+        let book = opened::<Idle>(&rt, rt.alloc(), line(&rt, rt.alloc()));
+        let outcome = run(&rt, rt.alloc(), book, Some(1));
+        assert!(rt; has_step(&outcome.book, 1, Event::Request { at: 1 }));
+    }
+}
+
+#[test]
+fn without_a_selected_node_nothing_happens(rt: HostRuntime) {
+    let book = opened::<Idle>(&rt, rt.alloc(), line(&rt, rt.alloc()));
+    let outcome = run(&rt, rt.alloc(), book, None);
+    assert_eq!(rt; outcome.book.len(), 0);
+    assert_eq!(rt; outcome.seats.len(), 3);
+    for list in &outcome.seats {
+        assert!(rt; list.receipts.is_empty());
+    }
+}
+
+// The request and its relays.
+fn asked() -> [Event; 3] {
+    [
+        Event::Request { at: 1 },
+        Event::Relay { at: 2, child: 1 },
+        Event::Relay { at: 3, child: 2 },
+    ]
+}
+
+// A book of the line in which a request has come to the leader.
+fn asked_book(rt: &impl Abort, alloc: Global) -> Book<Idle> {
+    let mut book = opened::<Idle>(rt, alloc, line(rt, alloc));
+    for event in asked() {
+        assert!(rt; book.step(alloc, event).is_ok());
+    }
+    book
+}
+
+// Whether the book begins with the request and its relays.
+fn begins_asked(book: &Book<Idle>) -> bool {
+    for (event, position) in asked().into_iter().zip(1..=3) {
+        if !has_step(book, position, event) {
+            return false;
+        }
+    }
+    true
+}
+
+#[test]
+fn what_the_book_had_stays_at_its_beginning(rt: HostRuntime) {
+    let book = asked_book(&rt, rt.alloc());
+    let outcome = run(&rt, rt.alloc(), book, None);
+    assert!(rt; begins_asked(&outcome.book));
+    // The leader alone may go on.
+    assert!(rt; has_step(&outcome.book, 4, Event::Open { at: 3 }));
+    let mut told = 3usize;
+    for list in &outcome.seats {
+        told = told.saturating_add(list.receipts.len());
+        assert!(rt; list.receipts.iter().all(|receipt| receipt.position > 3));
+    }
+    assert_eq!(rt; told, outcome.book.len());
+}
+
+#[test]
+fn a_strange_node_is_refused_and_the_book_comes_back(rt: HostRuntime) {
+    let book = asked_book(&rt, rt.alloc());
+    let (cause, book) = refusal(&rt, rt.alloc(), book, Some(9));
+    assert_eq!(rt; cause, RunCause::StrangeNode);
+    assert_eq!(rt; book.len(), 3);
+    assert!(rt; begins_asked(&book));
+}
+
+#[test]
+fn too_many_nodes_are_refused_and_the_book_comes_back(rt: HostRuntime) {
+    let mut book = opened::<Idle>(&rt, rt.alloc(), star(&rt, rt.alloc(), 65));
+    let request = Event::Request { at: 7 };
+    assert!(rt; book.step(rt.alloc(), request).is_ok());
+    let (cause, book) = refusal(&rt, rt.alloc(), book, Some(1));
+    assert_eq!(rt; cause, RunCause::TooManyForThreads);
+    // A strange node is told first.
+    let (cause, book) = refusal(&rt, rt.alloc(), book, Some(66));
+    assert_eq!(rt; cause, RunCause::StrangeNode);
+    assert_eq!(rt; book.len(), 1);
+    assert!(rt; has_step(&book, 1, request));
+}
+
+#[test]
+fn a_full_book_is_no_fault(rt: HostRuntime) {
+    let book = small::<Idle>(&rt, rt.alloc(), 2);
+    let outcome = run(&rt, rt.alloc(), book, Some(3));
+    // The leader asks and opens. Then there is no room for node 2 to join.
+    assert_eq!(rt; outcome.book.len(), 2);
+    assert!(rt; has_step(&outcome.book, 1, Event::Request { at: 3 }));
+    assert!(rt; has_step(&outcome.book, 2, Event::Open { at: 3 }));
+}
