@@ -15,4 +15,6 @@ mod histories;
 #[cfg(test)]
 mod replays;
 #[cfg(test)]
+mod threads;
+#[cfg(test)]
 mod words;

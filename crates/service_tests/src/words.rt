@@ -43,7 +43,7 @@ fn mistakes_and_help(rt: HostRuntime) {
     let missing = Some(ErrorKind::MissingRequiredArgument);
     let help = Some(ErrorKind::DisplayHelp);
     assert!(rt;
-        kind_at(alloc, &[program, "threads", "a", "b"]) == Some(ErrorKind::InvalidSubcommand)
+        kind_at(alloc, &[program, "thread", "a", "b"]) == Some(ErrorKind::InvalidSubcommand)
     );
     assert!(rt; kind_at(alloc, &[program, "--help"]) == help);
     for name in ["replay", "check", "verify"] {
@@ -52,6 +52,33 @@ fn mistakes_and_help(rt: HostRuntime) {
         assert!(rt; kind_at(alloc, &[program, name]) == missing);
         assert!(rt; kind_at(alloc, &[program, name, "--help"]) == help);
     }
+}
+
+#[test]
+fn words_of_threads(rt: HostRuntime) {
+    let alloc = rt.alloc();
+    let program = "reset-service";
+    for (text, turns) in [("1", 1), ("100000", 100_000)] {
+        let words = [program, "threads", "a", "--history", "b c", "--turns", text];
+        match read_words(alloc, &words) {
+            Ok(Job::Threads(found)) => {
+                assert_eq!(rt; found.topology, "a");
+                assert_eq!(rt; found.turns, turns);
+                assert_eq!(rt; found.history, "b c");
+            }
+            _ => panic!(rt; "{text} turns"),
+        }
+    }
+    for text in ["0", "100001", "4294967297", "x", ""] {
+        let words = [program, "threads", "a", "--history", "b", "--turns", text];
+        let kind = kind_at(alloc, &words);
+        assert!(rt;
+            kind == Some(ErrorKind::ValueValidation) || kind == Some(ErrorKind::InvalidValue)
+        );
+    }
+    let missing = Some(ErrorKind::MissingRequiredArgument);
+    assert!(rt; kind_at(alloc, &[program, "threads", "a", "--turns", "1"]) == missing);
+    assert!(rt; kind_at(alloc, &[program, "threads", "a", "--history", "b"]) == missing);
 }
 
 #[test]
