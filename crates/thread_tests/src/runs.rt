@@ -1,7 +1,5 @@
 // Runs with a thread for each node, on several topologies.
 
-ghost use Rattle.std.specs.Prelude.{◌≤◌};
-
 use crate::topologies::{booted, grid, line, opened, ring, star};
 use crate::turns::Still;
 use app_interface::{Application, Here, Idle, Seen};
@@ -17,6 +15,9 @@ use std::sync::Wait;
 use std::thread::Threads;
 use topology::Topology;
 
+// How many turns each node takes in a run.
+const TURNS: u32 = 100;
+
 // How many runs of an application there are on each topology.
 const RUNS: u32 = 10;
 
@@ -28,19 +29,6 @@ enum Shape {
     Ring,
     Grid,
     Star,
-}
-
-// How many turns each node takes in a run. For each it waits until the lock comes round to it, so that on a
-// busy machine the time of a run is that of all turns of all nodes.
-fn turns_of(shape: Shape) -> u32
-    ensures { result ≤ 100 }
-{
-    match shape {
-        Shape::Line => 100,
-        Shape::Ring => 50,
-        Shape::Grid => 25,
-        Shape::Star => 10,
-    }
 }
 
 fn topology_of(rt: &impl Abort, alloc: Global, shape: Shape) -> Topology {
@@ -148,7 +136,7 @@ fn run<P: Application, R: Threads + Wait + Sync + Abort>(
     shape: Shape,
 ) -> Vec<Event> {
     let book = opened::<P>(rt, alloc, topology_of(rt, alloc, shape));
-    match run_nodes(rt, alloc, &Still, book, turns_of(shape), Some(1)) {
+    match run_nodes(rt, alloc, &Still, book, TURNS, Some(1)) {
         Ok(outcome) => {
             let steps = steps_of(rt, alloc, &outcome.book);
             assert!(rt; steps.contains(&Event::Request { at: 1 }));
