@@ -1,7 +1,7 @@
 -- What node threads keep is a run of the abstract machine, whose reports are true.
 use Rattle.std.proofs.Common.{◌≡◌, ◌<◌, ◌≤◌, ◌+◌, ℕ, Bool, true, false, if◌then◌else◌, nat_eq, List, [], ◌∷◌, ◌++◌}
-use Rattle.std.proofs.Common.{All, Contains, IsSome, Option, Some, None, Ok, ◌↔◌, ◌==◌, arith, length, map, refl, sym, ap}
-use Rattle.std.proofs.Common.{◌∙◌, subst, append-nil}
+use Rattle.std.proofs.Common.{All, Contains, IsSome, Option, Some, None, Ok, ◌↔◌, ◌==◌, arith, length, map, refl, sym}
+use Rattle.std.proofs.Common.{ap, ◌∙◌, subst, append-nil}
 use Rattle.std.proofs.lemmas.Bool.{eqb-true}
 use Rattle.std.proofs.lemmas.List.{length-append, length-map}
 use Rattle.std.proofs.lemmas.List.Elements.{All-contains, All-contains_itself, All-weaker}
@@ -148,8 +148,8 @@ module _ {L : Type 0} (m : Meaning L) (Inv : Graph → (ℕ → L) → Type 0) w
           told = ap (λ (o : Output). o.0) is
               ∙ ap (λ (h : Graph). threads_line (length h.ids) (length events) (length reports)) boot.graph;
           true_reports = All-weaker (Contains reports) (IsTrueReport m.app m.from_text c es s)
-              (λ r there. All-contains (λ x. IsIn s x.finished → IsTrueReport m.app m.from_text c es s x) reports r known
-              there (inside c left events r ((are c es r).0 there))) reports (All-contains_itself reports);
+              (λ r there. All-contains (λ x. IsIn s x.finished → IsTrueReport m.app m.from_text c es s x) reports r
+              known there (inside c left events r ((are c es r).0 there))) reports (All-contains_itself reports);
         }
 
     pub tells_run : (history line : List ℕ) → IsKeptFrom m g history (line, Good) → TellsRun m Inv g history line

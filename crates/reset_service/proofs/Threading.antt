@@ -99,7 +99,8 @@ pub threaded : (topology : List ℕ) (g : Graph) (app : AppName) (r : Result Tol
     → IfOk r (λ told. IsKeptOf app g (told_history told) (told_output told))
     → IfOk r (λ told. (told_output told).1 ≡ BadInput → told_history told ≡ [])
     → IfOk r (λ told. IsThreaded topology (told_history told) (told_output told))
-threaded topology g app (Ok told) describes is unkept = record { judged = good_topology g app describes is; unkept = unkept }
+threaded topology g app (Ok told) describes is unkept =
+    record { judged = good_topology g app describes is; unkept = unkept }
 threaded topology g app (Err stop) describes is unkept = tt
 
 pub unthreaded : (topology : List ℕ) (f : ReadFault) → IsReadFault topology f
