@@ -1,8 +1,9 @@
 -- A list that is cut into pieces of 1,024, all full, and a last one.
-use Rattle.std.proofs.Common.{◌≡◌, ℕ, zero, suc, ◌+◌, ◌*◌, ◌/◌, ◌%◌, ◌<◌, ◌≤◌, List, [], ◌∷◌, ◌++◌, length, take, drop, Option, Some}
+use Rattle.std.proofs.Common.{◌≡◌, ℕ, zero, suc, ◌+◌, ◌*◌, ◌/◌, ◌%◌, ◌<◌, ◌≤◌, List, [], ◌∷◌, ◌++◌, length, take, drop}
+use Rattle.std.proofs.Common.{Option, Some}
 use Rattle.std.proofs.Common.{slice_get, refl, sym, ap, ◌∙◌, arith, append-nil, append_assoc}
 use Rattle.std.proofs.lemmas.List.{length-append, length-drop, length-take, take_all}
-use Rattle.std.proofs.Math.Seq.{drop-append-add, drop-append_seam, take-add, take-append_seam}
+use Rattle.std.proofs.Math.Seq.{drop-append-add, drop-append_seam, take-add, take-append_seam, take-take}
 use Rattle.std.proofs.lemmas.Grind.{flat_map-append}
 use Rattle.std.proofs.lemmas.List.Elements.{All-head, All-push, All-tail}
 use Rattle.std.proofs.Common.{None, is_some, ltb, get_or, option_map}
@@ -101,6 +102,12 @@ module _ {A : Type 0} where
         length-drop (index / 1024 * 1024) xs,
       )
 
+  -- what stands in a piece before an index
+  pub piece_front : (xs piece : List A) (index : ℕ) → piece ≡ take 1024 (drop (index / 1024 * 1024) xs)
+      → take (index % 1024) piece ≡ take (index % 1024) (drop (index / 1024 * 1024) xs)
+  piece_front xs piece index is =
+      ap (take (index % 1024)) is ∙ take-take (index % 1024) 1024 (drop (index / 1024 * 1024) xs) (omega arith)
+
   -- one piece more
   pub pieces_next : (xs : List A) (k : ℕ) → take ((k + 1) * 1024) xs ≡ take (k * 1024) xs ++ take 1024 (drop (k * 1024)
       xs)
@@ -112,4 +119,5 @@ module _ {A : Type 0} where
 pub got_item : {B A : Type 0} (seen : B → A) (got : Option B) (xs : List A) (i : ℕ) → is_some got ≡ ltb i (length xs)
     → IfSome got (λ b. seen b ≡ get_or xs i (seen b)) → option_map seen got ≡ slice_get xs i
 got_item seen None xs i none some = sym (slice_get_past xs i (grind (arith, nat_tests)))
-got_item seen (Some b) xs i inside is = sym (slice_get_read xs (length xs) i (seen b) refl (grind (arith, nat_tests)) is)
+got_item seen (Some b) xs i inside is =
+    sym (slice_get_read xs (length xs) i (seen b) refl (grind (arith, nat_tests)) is)

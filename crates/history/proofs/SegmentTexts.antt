@@ -27,7 +27,8 @@ pub writes_next : (a b c : Option (List ℕ)) (es : List Entry) (k : ℕ) → Ap
     → Appends a c (entries_text (take ((k + 1) * 1024) es))
 writes_next a b c es k so_far next =
     subst (Appends a c) (sym (text_next es k))
-    (Appends-trans a b c (entries_text (take (k * 1024) es)) (entries_text (take 1024 (drop (k * 1024) es))) so_far next)
+    (Appends-trans a b c (entries_text (take (k * 1024) es)) (entries_text (take 1024 (drop (k * 1024) es))) so_far
+    next)
 
 pub writes_front : (a b c : Option (List ℕ)) (es : List Entry) (k : ℕ)
     → Appends a b (entries_text (take (k * 1024) es))

@@ -6,19 +6,21 @@ use Rattle.history.proofs.text.write_segments.Goals as goal
 
 pub returns-in_err-put_bytes-clause-err : goal.returns-in_err-put_bytes-clause-err
 returns-in_err-put_bytes-clause-err g c =
-    OnErr-always _ _
-    (AppendsFront-first _ _ (ended first_line) (entries_text (entries_of c.args.segments.now)) c.in_err-put_bytes.ensures.err)
+    let es = entries_of c.args.segments.now in
+    OnErr-always _ _ (AppendsFront-first _ _ (ended first_line) (entries_text es) c.in_err-put_bytes.ensures.err)
 
 pub returns-clause-err : goal.returns-clause-err
 returns-clause-err g c =
+    let es = entries_of c.args.segments.now in
     OnErr-then c.put_segments.result (g.W.Write.contents c.args.out.now) (g.W.Write.contents c.put_bytes.new.out)
     (g.W.Write.contents c.put_segments.new.out)
-    (ended first_line) (entries_text (entries_of c.args.segments.now)) (history_text (entries_of c.args.segments.now)) refl
+    (ended first_line) (entries_text es) (history_text es) refl
     c.in_ok-put_bytes.ensures.ok c.put_segments.ensures.err
 
 pub returns-clause-ok : goal.returns-clause-ok
 returns-clause-ok g c =
+    let es = entries_of c.args.segments.now in
     OnOk-then c.put_segments.result (g.W.Write.contents c.args.out.now) (g.W.Write.contents c.put_bytes.new.out)
     (g.W.Write.contents c.put_segments.new.out)
-    (ended first_line) (entries_text (entries_of c.args.segments.now)) (history_text (entries_of c.args.segments.now)) refl
+    (ended first_line) (entries_text es) (history_text es) refl
     c.in_ok-put_bytes.ensures.ok c.put_segments.ensures.ok

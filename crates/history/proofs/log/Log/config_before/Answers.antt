@@ -1,10 +1,9 @@
-use Rattle.std.proofs.Common.{◌≡◌, ◌*◌, ◌/◌, ◌%◌, ◌∙◌, IsSome, Some, arith, ap, drop, length, subst, sym, take}
+use Rattle.std.proofs.Common.{◌*◌, ◌/◌, ◌%◌, ◌∙◌, IsSome, Some, arith, ap, length, subst, sym}
 use Rattle.std.proofs.lemmas.List.{length-take-le}
-use Rattle.std.proofs.Math.Seq.{take-take}
 use Rattle.history.specs.Entries.{replayed}
 use Rattle.history.specs.Segments.{entries_of}
 use Rattle.history.proofs.Checkpoints.{checkpoint_before, same_end}
-use Rattle.history.proofs.Pieces.{piece_long}
+use Rattle.history.proofs.Pieces.{piece_front, piece_long}
 use Rattle.history.proofs.Replays.{allowed_between, replayed_between}
 use Rattle.history.proofs.log.Log.config_before.Goals as goal
 
@@ -25,10 +24,10 @@ replay-requires-after_bounds g c κs within =
     let here = c.in_ok-checkpoint.checkpoint in
     let at = checkpoint_before app from_text log.opening.value c.index.result.now es log.checkpoints.items index
     c.requires.log.checkpoints c.requires.inside c.index.ensures in
-    let front : take (index % 1024) c.segment.result.now ≡ take (index % 1024) (drop from es) =
-    ap (take (index % 1024)) c.segment.ensures ∙ take-take (index % 1024) 1024 (drop from es) (omega arith) in
-    subst (λ xs. IsSome (replayed app from_text here xs)) (sym front) (allowed_between app from_text log.opening.value here
-    es from (index % 1024) c.requires.run (at ∙ ap (λ d. Some d) (sym c.in_ok-checkpoint.ensures)))
+    let front = piece_front es c.segment.result.now index c.segment.ensures in
+    subst (λ xs. IsSome (replayed app from_text here xs)) (sym front)
+    (allowed_between app from_text log.opening.value here es from (index % 1024) c.requires.run
+    (at ∙ ap (λ d. Some d) (sym c.in_ok-checkpoint.ensures)))
 
 pub returns : goal.returns
 returns g c =
@@ -41,8 +40,7 @@ returns g c =
     let here = c.in_ok-checkpoint.checkpoint in
     let at = checkpoint_before app from_text log.opening.value c.index.result.now es log.checkpoints.items index
     c.requires.log.checkpoints c.requires.inside c.index.ensures in
-    let front : take (index % 1024) c.segment.result.now ≡ take (index % 1024) (drop from es) =
-    ap (take (index % 1024)) c.segment.ensures ∙ take-take (index % 1024) 1024 (drop from es) (omega arith) in
+    let front = piece_front es c.segment.result.now index c.segment.ensures in
     let whole = replayed_between app from_text log.opening.value here es from (index % 1024) index
     (at ∙ ap (λ d. Some d) (sym c.in_ok-checkpoint.ensures)) (omega arith) in
     same_end _ _ c.replay.result (whole ∙ ap (replayed app from_text here) (sym front)) c.replay.ensures
