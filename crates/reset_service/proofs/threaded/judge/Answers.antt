@@ -14,4 +14,5 @@ returns-in-Ok-clause-ok g c =
     (subst (λ text. IsVerdict m.app m.from_text c.args.opening text (Ok c.in-Ok.summary)) c.as_slice-rest.ensures.value
     c.in-Ok.ensures)
     c.len-nodes.result (length c.as_slice-reports.result.now)
-    (c.len-nodes.ensures ∙ ap (λ (h : Graph). length h.ids) c.topology.ensures) (ap length c.as_slice-reports.ensures.value)
+    (c.len-nodes.ensures ∙ ap (λ (h : Graph). length h.ids) c.topology.ensures)
+    (ap length c.as_slice-reports.ensures.value)
