@@ -14,9 +14,12 @@ use reset_service::{
     Gathered, Job, LineFault, Paths, RunStop, Status, check_text, no_text, print_tables,
     read_words, replay, replay_joined, threads_text, verify_text,
 };
+use std::env::Env;
 use std::io::Write;
 use std::process::ExitCode;
 use std::rt::Files;
+use std::sync::Wait;
+use std::thread::Threads;
 use std::{env, io};
 
 fn main(rt: HostRuntime) -> ExitCode {
@@ -27,7 +30,10 @@ fn main(rt: HostRuntime) -> ExitCode {
     exit_code(ended)
 }
 
-fn run(rt: &HostRuntime) -> Result<Status, RunStop> {
+// Threads can be had only of the runtime that `main` is given, so what is called of it is said here.
+fn run<R: Env + Files + Input + Print + Eprint + AllocGlobal + Threads + Wait + Sync>(
+    rt: &R,
+) -> Result<Status, RunStop> {
     let words = match given_words(rt) {
         Ok(words) => words,
         Err(fault) => return answer_fault(rt, fault),
@@ -39,7 +45,7 @@ fn run(rt: &HostRuntime) -> Result<Status, RunStop> {
 }
 
 // The words that the program was started with, its own name first.
-fn given_words(rt: &HostRuntime) -> Result<Vec<String>, LineFault> {
+fn given_words<R: Env + AllocGlobal>(rt: &R) -> Result<Vec<String>, LineFault> {
     match env::args(rt) {
         Ok(words) => Ok(words.collect(rt.alloc())?),
         Err(error) if error.kind() == io::ErrorKind::OutOfMemory => Err(LineFault::NoMemory),
@@ -48,7 +54,10 @@ fn given_words(rt: &HostRuntime) -> Result<Vec<String>, LineFault> {
 }
 
 // Help is what was asked for, and goes to the standard output. A mistake goes to the standard error.
-fn answer_fault(rt: &HostRuntime, fault: LineFault) -> Result<Status, RunStop> {
+fn answer_fault<R: Print + Eprint + AllocGlobal>(
+    rt: &R,
+    fault: LineFault,
+) -> Result<Status, RunStop> {
     match fault {
         LineFault::NoMemory => Err(RunStop::NoMemory),
         LineFault::BadWords(error) => {
@@ -64,13 +73,20 @@ fn answer_fault(rt: &HostRuntime, fault: LineFault) -> Result<Status, RunStop> {
     }
 }
 
-fn do_job(rt: &HostRuntime, job: Job<'_>) -> Result<Status, RunStop> {
+fn do_job<R: Files + Input + Print + AllocGlobal + Threads + Wait + Sync>(
+    rt: &R,
+    job: Job<'_>,
+) -> Result<Status, RunStop> {
     let mut out = Gathered::new(rt.alloc(), io::writer(rt))?;
     let ended = job_output(rt, job, &mut out);
     out.end(ended)
 }
 
-fn job_output<W: Write>(rt: &HostRuntime, job: Job<'_>, out: &mut W) -> Result<Status, RunStop> {
+fn job_output<R: Files + Input + AllocGlobal + Threads + Wait + Sync, W: Write>(
+    rt: &R,
+    job: Job<'_>,
+    out: &mut W,
+) -> Result<Status, RunStop> {
     match job {
         Job::Joined => replay_joined(rt.alloc(), &mut rt.reader(), out),
         Job::Replay(paths) => {
