@@ -1,7 +1,7 @@
 # Needs `rt`, the command of the Rattle kit, make and python3, which rt needs too: nothing else, but for
 # `make bench`.
 
-.PHONY: run build test mutants gate-times reading-list bench
+.PHONY: run build install examples test mutants gate-times reading-list bench
 
 # Builds the program and replays one whole reset wave on the line of nodes 1, 2, 3.
 run: build
@@ -10,6 +10,15 @@ run: build
 # Leaves the proved program at build/reset-service.
 build:
 	@tools/build
+
+# Puts the proved program into PREFIX/bin: make install PREFIX=$HOME/.local
+PREFIX ?= /usr/local
+install: build
+	install -D -m 755 build/reset-service "$(DESTDIR)$(PREFIX)/bin/reset-service"
+
+# Runs the examples alone on the built program, in seconds.
+examples: build
+	@tests/examples build/reset-service
 
 # Everything that decides: the gate `rt ci`, and then the examples and the words on the program that
 # it has built.
