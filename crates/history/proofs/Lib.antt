@@ -16,4 +16,5 @@ mod SoundStretches
 mod TrueReports
 mod ReportOrder
 pub mod FirstRefused
+mod Verified
 mod Verdicts
