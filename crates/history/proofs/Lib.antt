@@ -6,6 +6,7 @@ mod SegmentTexts
 mod Plays
 pub mod HistoryLines
 mod HistoryReadings
+mod LineCuts
 mod ReadLines
 mod ShortLines
 mod KeptNetworks

@@ -1,7 +1,7 @@
 // The lines of a history, as they come.
 
 ghost use Rattle.std.specs.Prelude.{◌≡◌, ◌≢◌, ◌++◌, ◌∷◌, [], ℕ, ◌+◌, ◌≤◌, List, length, if◌then◌else◌, IfErr, IfOk};
-ghost use Rattle.std.specs.Prelude.{OnOk, Ok, Err, IfSome, false};
+ghost use Rattle.std.specs.Prelude.{OnOk, Ok, Err, IfNone, IfSome, false};
 ghost use Rattle.std.specs.Io.KnownBytes.{Consumes, IsAtEnd};
 ghost use Rattle.history.specs.declared.entry.Entry.{Entry};
 ghost use Rattle.action_tables.specs.Cuts.{HasNo};
@@ -11,7 +11,7 @@ use crate::book::MAX_ENTRIES;
 use crate::entry::Entry;
 use crate::read::{read_entry, read_version};
 use crate::text::BookFault;
-use action_tables::cut;
+use memchr::memchr;
 use std::alloc::{AllocError, Global};
 use std::io::Read;
 
@@ -86,7 +86,7 @@ impl Reading {
         ensures device { IfErr result (λ f. f ≢ BookFault.ReadFailed) }
     {
         let mut rest = bytes;
-        while let Some((line, after)) = cut(rest, b'\n') {
+        while let Some((line, after)) = cut_line(rest) {
             self.end_line(alloc, line)?;
             rest = after;
         }
@@ -185,6 +185,7 @@ impl Lines {
     ghost use Rattle.history.specs.Reading.{GoesOn, IsFaulty};
 
     // Takes the next line, without its line feed.
+    #[inline(always)]
     fn take(&mut self, alloc: Global, line: &[u8]) -> Result<(), BookFault>
         ensures ok { OnOk result ((before : List Entry) (text : List ℕ) → GoesOn self.old before [] text
             → GoesOn self.new before [] (text ++ ended line.now)) }
@@ -224,5 +225,17 @@ impl Lines {
         } else {
             BookFault::BadLine(1)
         }
+    }
+}
+
+// The first line of some bytes and what follows its line feed, or `None` where they have no line feed.
+fn cut_line(bytes: &[u8]) -> Option<(&[u8], &[u8])>
+    ensures found { IfSome result (λ parts. bytes.now ≡ parts.0.now ++ 10 ∷ parts.1.now) }
+    ensures first { IfSome result (λ parts. HasNo 10 parts.0.now) }
+    ensures none { IfNone result (HasNo 10 bytes.now) }
+{
+    match memchr(b'\n', bytes) {
+        Some(end) => Some((&bytes[..end], &bytes[end + 1..])),
+        None => None,
     }
 }

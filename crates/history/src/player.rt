@@ -45,6 +45,7 @@ impl<P: Application> Player<P> {
     }
 
     // Does the event, which is entered at this place.
+    #[inline(always)]
     pub fn enter_step(
         &mut self,
         alloc: Global,
@@ -100,7 +101,8 @@ impl<P: Application> Player<P> {
     }
 
     // Plays an entry, which has this place.
-    pub fn enter(&mut self, alloc: Global, place: usize, entry: &Entry) -> Result<(), VerifyFault>
+    #[inline(always)]
+    fn enter(&mut self, alloc: Global, place: usize, entry: &Entry) -> Result<(), VerifyFault>
         ensures played { OnOk result ((c : Configuration P.Local) (es : List Entry)
             → HasPlayed P.app P.from_text c es self.old
             → place ≡ length es + 1 → HasPlayed P.app P.from_text c (es ++ entry.now ∷ []) self.new) }
