@@ -6,6 +6,7 @@ mod SegmentTexts
 mod Plays
 pub mod HistoryLines
 mod HistoryReadings
+mod LineCuts
 mod ReadLines
 mod ShortLines
 mod KeptNetworks
@@ -16,4 +17,5 @@ mod SoundStretches
 mod TrueReports
 mod ReportOrder
 pub mod FirstRefused
+mod Verified
 mod Verdicts

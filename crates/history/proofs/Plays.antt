@@ -177,32 +177,45 @@ module _ {L : Type 0} (app : App L) (from_text : List ℕ → Option L) where
             ∙ append-nil (reports_from app from_text c [] es));
       }
 
-  -- one entry more of a list was played
-  pub played_more : (c left : Configuration L) (es : List Entry) (i : ℕ) (x : Entry) (t : Openings) (rs : List
+  -- one entry more of a list was played, after others
+  pub played_more : (c left : Configuration L) (before es : List Entry) (i : ℕ) (x : Entry) (t : Openings) (rs : List
       Report) → i < length es → x ≡ slice_index_or es i x
-      → IsPlayed app from_text c (take i es ++ x ∷ []) left t rs → IsPlayed app from_text c (take (i + 1) es) left t rs
-  played_more c left es i x t rs short is played =
-      let taken : take (i + 1) es ≡ take i es ++ x ∷ [] = ap (λ k. take k es) (add-one i) ∙ take-suc es i x short
-      ∙ ap (λ e. take i es ++ e ∷ []) (sym is) in
+      → IsPlayed app from_text c ((before ++ take i es) ++ x ∷ []) left t rs
+      → IsPlayed app from_text c (before ++ take (i + 1) es) left t rs
+  played_more c left before es i x t rs short is played =
+      let taken : before ++ take (i + 1) es ≡ (before ++ take i es) ++ x ∷ [] =
+      ap (λ l. before ++ l)
+      (ap (λ k. take k es) (add-one i) ∙ take-suc es i x short ∙ ap (λ e. take i es ++ e ∷ []) (sym is))
+      ∙ sym (append_assoc before (take i es) (x ∷ [])) in
       rw taken played
 
   -- an entry of a list that is refused after those before it
-  pub first_refused : (c left : Configuration L) (es : List Entry) (i : ℕ) (x : Entry) (f : VerifyFault) (place_of at
-      : ℕ) → i < length es → x ≡ slice_index_or es i x
-      → replayed app from_text c (take i es) ≡ Some left → (f ≢ NoMemory → (f ≡ NotEnabledAt place_of)
-      × (entered app from_text left x ≡ None)) → place_of ≡ i + 1
-      → f ≡ NotEnabledAt at → IsFirstRefused app from_text c es at
-  first_refused c left es i x f place_of at short is played refused here fault =
+  pub first_refused : (c left : Configuration L) (before es : List Entry) (i : ℕ) (x : Entry) (f : VerifyFault)
+      (place_of at : ℕ) → i < length es → x ≡ slice_index_or es i x
+      → replayed app from_text c (before ++ take i es) ≡ Some left → (f ≢ NoMemory → (f ≡ NotEnabledAt place_of)
+      × (entered app from_text left x ≡ None)) → place_of ≡ length before + i + 1
+      → f ≡ NotEnabledAt at → IsFirstRefused app from_text c (before ++ es) at
+  first_refused c left before es i x f place_of at short is played refused here fault =
       let why = refused (λ none. apart at (sym fault ∙ none)) in
       record {
-        before = take i es;
+        before = before ++ take i es;
         entry = x;
         rest = drop (suc i) es;
         left = left;
-        split = split_at es i x short ∙ ap (λ e. take i es ++ e ∷ drop (suc i) es) (sym is);
+        split =
+            ap (λ l. before ++ l) (split_at es i x short ∙ ap (λ e. take i es ++ e ∷ drop (suc i) es) (sym is))
+            ∙ sym (append_assoc before (take i es) (x ∷ drop (suc i) es));
         allowed = played;
         refused = why.1;
-        place = omega (arith, here, one at place_of (sym fault ∙ why.0), length-take i es, short);
+        place =
+            omega (
+              arith,
+              here,
+              one at place_of (sym fault ∙ why.0),
+              length-take i es,
+              length-append before (take i es),
+              short,
+            );
       }
     where
       apart : (n : ℕ) → NotEnabledAt n ≡ NoMemory → ⊥

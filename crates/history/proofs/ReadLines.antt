@@ -17,8 +17,8 @@ use Rattle.fault_inject.specs.declared.fault.Fault.{Fault}
 use Rattle.fault_inject.proofs.FaultLines.{one_fault}
 use Rattle.history.specs.declared.entry.Entry.{Entry}
 use Rattle.history.specs.declared.entry.Entry.TheVariants.{Step, Disturbed}
-use Rattle.history.specs.declared.read.Lines.{Lines}
-use Rattle.history.specs.declared.read.Reading.{Reading}
+use Rattle.history.specs.declared.lines.Lines.{Lines}
+use Rattle.history.specs.declared.lines.Reading.{Reading}
 use Rattle.history.specs.declared.text.BookFault.{BookFault}
 use Rattle.history.specs.declared.text.BookFault.TheVariants.{BadLine, BadVersion, TooLong, NoMemory, ReadFailed}
 use Rattle.history.specs.HistoryText.{Begins, BeginsWith, HasLine, IsPrintable, IsReadAs, ended, entries_text}
@@ -69,8 +69,8 @@ goes_on true es line bytes text b = record {
 goes_on false es line bytes text is = (is.0, ap (λ t. t ++ bytes) is.1)
 
 -- the number of the next line
-abbrev pub next_line : Bool → List Entry → ℕ
-next_line begun es = if begun then length es + 2 else 1
+abbrev pub next_line : Bool → ℕ → ℕ
+next_line begun count = if begun then count + 2 else 1
 
 is_some : (xs ys : List ℕ) → 0 < length xs → xs ++ ys ≢ []
 is_some xs ys some is = omega (arith, some, length-append xs ys, ap length is)
@@ -78,45 +78,46 @@ is_some xs ys some is = omega (arith, some, length-append xs ys, ap length is)
 -- a text can't go on so, where what comes after its whole lines begins with no line
 bad_next : (begun : Bool) (es : List Entry) (line text : List ℕ) → IsSoFar begun es line text → 0 < length line
     → IsStuck line
-    → ((v : ℕ) → v < 2 ^ 32 → BeginsWith line (version_line v) → ⊥) → IsReadAs text (Err (BadLine (next_line begun es)))
+    → ((v : ℕ) → v < 2 ^ 32 → BeginsWith line (version_line v) → ⊥) → IsReadAs text (Err (BadLine (next_line begun (length es))))
 bad_next true es line text b some stuck none =
     IsReadAs.bad_line es line b (λ is. omega (arith, some, ap length is)) stuck
 bad_next false es line text is some stuck none =
     IsReadAs.no_version (λ v small begins. none v small (subst (λ t. BeginsWith t (version_line v)) is.1 begins))
 
 -- the line goes on
-pub has_more : (r : Reading) (new : Vec ℕ Global) (bytes text : List ℕ) → HasRead r text → HasNo 10 bytes
-    → new.items ≡ r.line.items ++ bytes
-    → length bytes + length r.line.items ≤ 256 → HasRead (record { lines = r.lines; line = new }) (text ++ bytes)
-has_more r new bytes text read plain is short = record {
-  lines = subst (λ line. GoesOn r.lines line (text ++ bytes)) (sym is)
-      (goes_on r.lines.begun r.lines.entries.items r.line.items bytes text read.lines);
+pub has_more : (r : Reading) (new : Vec ℕ Global) (before : List Entry) (bytes text : List ℕ) → HasRead r before text
+    → HasNo 10 bytes → new.items ≡ r.line.items ++ bytes → length bytes + length r.line.items ≤ 256
+    → HasRead (record { lines = r.lines; line = new }) before (text ++ bytes)
+has_more r new before bytes text read plain is short = record {
+  lines = record {
+    counted = read.lines.counted;
+    so_far =
+        let es = before ++ r.lines.entries.items in
+        subst (λ line. IsSoFar r.lines.begun es line (text ++ bytes)) (sym is)
+        (goes_on r.lines.begun es r.line.items bytes text read.lines.so_far);
+  };
   plain = subst (HasNo 10) (sym is) (HasNo-append 10 r.line.items bytes read.plain plain);
   short = omega (arith, ap length is, length-append r.line.items bytes, short);
 }
 
 -- the whole lines of a text, before the line that goes on
-pub record WholeLines (lines : Lines) (line text : List ℕ) : Type 0 where
+pub record WholeLines (lines : Lines) (before : List Entry) (line text : List ℕ) : Type 0 where
   pub whole : List ℕ
-  pub so : GoesOn lines [] whole
+  pub on : GoesOn lines before [] whole
   pub cut : text ≡ whole ++ line
 
-pub whole_lines : (lines : Lines) (line text : List ℕ) → GoesOn lines line text → WholeLines lines line text
-whole_lines lines line text so = of lines.begun refl
+pub whole_lines : (lines : Lines) (before : List Entry) (line text : List ℕ) → GoesOn lines before line text
+    → WholeLines lines before line text
+whole_lines lines before line text on = of lines.begun (before ++ lines.entries.items) on.so_far (λ whole so_far cut.
+    record { whole = whole; on = record { counted = on.counted; so_far = so_far }; cut = cut })
   where
-    of : (begun : Bool) → lines.begun ≡ begun → WholeLines lines line text
-    of true is =
-        let b = subst (λ b. IsSoFar b lines.entries.items line text) is so in
-        let before : Begins (history_text lines.entries.items) lines.entries.items [] =
-        record { lines = b.lines; few = b.few; spelled = sym (append-nil (history_text lines.entries.items)) } in
-        record {
-          whole = history_text lines.entries.items;
-          so = subst (λ b. IsSoFar b lines.entries.items [] (history_text lines.entries.items)) (sym is) before;
-          cut = b.spelled;
-        }
-    of false is =
-        let b = subst (λ b. IsSoFar b lines.entries.items line text) is so in
-        record { whole = []; so = subst (λ b. IsSoFar b lines.entries.items [] []) (sym is) (b.0, refl); cut = b.1 }
+    of : (begun : Bool) (es : List Entry) → IsSoFar begun es line text
+        → ((whole : List ℕ) → IsSoFar begun es [] whole → text ≡ whole ++ line → WholeLines lines before line text)
+        → WholeLines lines before line text
+    of true es b k =
+        k (history_text es)
+        (record { lines = b.lines; few = b.few; spelled = sym (append-nil (history_text es)) }) b.spelled
+    of false es b k = k [] (b.0, refl) b.1
 
 -- the line ends
 pub ended_at : (whole line text bytes : List ℕ) → text ++ bytes ≡ whole ++ line
@@ -154,7 +155,7 @@ faulty_more text done rest line after bytes fault cut found faulty more =
 -- a line of over 256 bytes
 pub bad_long : (begun : Bool) (es : List Entry) (line bytes text : List ℕ) → IsSoFar begun es line text → HasNo 10 line
     → HasNo 10 bytes
-    → 256 < length bytes + length line → IsFaulty (text ++ bytes) (BadLine (next_line begun es))
+    → 256 < length bytes + length line → IsFaulty (text ++ bytes) (BadLine (next_line begun (length es)))
 bad_long begun es line bytes text so plain plain' long more =
     let all : HasNo 10 (line ++ bytes) = HasNo-append 10 line bytes plain plain' in
     let size = length-append line bytes in
@@ -178,7 +179,7 @@ bad_long begun es line bytes text so plain plain' long more =
 -- a text that ends in a line without its line feed, or before its first
 pub bad_end : (begun : Bool) (es : List Entry) (line text : List ℕ) → IsSoFar begun es line text → HasNo 10 line
     → (begun ≡ true → line ≢ [])
-    → IsReadAs text (Err (BadLine (next_line begun es)))
+    → IsReadAs text (Err (BadLine (next_line begun (length es))))
 bad_end true es line text b plain some =
     IsReadAs.bad_line es line b (some refl) (λ entry has begins. no_whole line (entry_line entry) plain begins)
 bad_end false es line text is plain some =
@@ -246,6 +247,19 @@ one_more true es entry line text is b some has same = record {
         ap (λ t. ended (entry_line e) ++ t) (texts es entry)
         ∙ sym (append_assoc (ended (entry_line e)) (entries_text es) (ended (entry_line entry)))
 
+-- the entry is kept and counted
+pub one_kept : (begun : Bool) (count : ℕ) (before es new : List Entry) (entry : Entry) (line text : List ℕ)
+    → begun ≡ true → count ≡ length (before ++ es) → IsSoFar begun (before ++ es) [] text → count ≢ 1000000
+    → HasLine entry → line ≡ entry_line entry → new ≡ es ++ entry ∷ []
+    → (count + 1 ≡ length (before ++ new)) × IsSoFar begun (before ++ new) [] (text ++ ended line)
+one_kept begun count before es new entry line text is counted so_far some has same kept =
+    let more : before ++ new ≡ (before ++ es) ++ entry ∷ [] =
+    ap (λ l. before ++ l) kept ∙ sym (append_assoc before es (entry ∷ [])) in (
+      omega (arith, counted, ap length more, length-append (before ++ es) (entry ∷ [])),
+      subst (λ l. IsSoFar begun l [] (text ++ ended line)) (sym more)
+          (one_more begun (before ++ es) entry line text is so_far (λ full. some (counted ∙ full)) has same),
+    )
+
 -- the text goes on with a whole line
 with_line : (es : List Entry) (line text more : List ℕ) → Begins text es []
     → Begins ((text ++ ended line) ++ more) es (ended line ++ more)
@@ -255,7 +269,7 @@ with_line es line text more b =
 pub no_entry : (begun : Bool) (es : List Entry) (line text : List ℕ) → begun ≡ true → IsSoFar begun es [] text
     → HasNo 10 line
     → ((entry : Entry) → HasLine entry → line ≡ entry_line entry → ⊥)
-    → IsFaulty (text ++ ended line) (BadLine (next_line begun es))
+    → IsFaulty (text ++ ended line) (BadLine (next_line begun (length es)))
 no_entry false es line text is b plain none = absurd (true≢false (sym is))
 no_entry true es line text is b plain none = λ more.
     IsReadAs.bad_line es (ended line ++ more) (with_line es line text more b)
@@ -287,36 +301,44 @@ is_unprintable line g fits spelled not f fits' printable is =
 
 -- ---- what a reader gives
 
-pub all_given : (a b : Option (List ℕ)) (given : List ℕ) (r : Result (List Entry) BookFault) → Consumes a b given
-    → IsAtEnd b → IsReadAs given r
-    → IfSome a (λ text. IsReadAs text r)
-all_given None b given r consumed end read = tt
-all_given (Some x) None given r consumed end read = absurd consumed
-all_given (Some x) (Some y) given r consumed end read =
-    subst (λ text. IsReadAs text r) (sym (consumed ∙ ap (λ t. given ++ t) end ∙ append-nil given)) read
-
-pub some_given : (a b : Option (List ℕ)) (given : List ℕ) (fault : BookFault) → Consumes a b given
-    → IsFaulty given fault
-    → IfSome a (λ text. IsReadAs text (Err fault))
-some_given None b given fault consumed faulty = tt
-some_given (Some x) None given fault consumed faulty = absurd consumed
-some_given (Some x) (Some y) given fault consumed faulty =
-    subst (λ text. IsReadAs text (Err fault)) (sym consumed) (faulty y)
-
 -- all was given
-pub end_ok : (a b : Option (List ℕ)) (given : List ℕ) (reading : Reading) (r : Result (Vec Entry Global) BookFault)
-    → Consumes a b given → IsAtEnd b
-    → HasRead reading given
-    → IfOk r (λ entries. (text : List ℕ) → HasRead reading text → IsReadAs text (Ok entries.items))
-    → IfOk r (λ entries. IfSome a (λ text. IsReadAs text (Ok entries.items)))
-end_ok a b given reading (Ok entries) consumed end read ended =
-    all_given a b given (Ok entries.items) consumed end (ended given read)
-end_ok a b given reading (Err fault) consumed end read ended = tt
+pub all_given : (Is : List ℕ → Type 0) (a b : Option (List ℕ)) (given : List ℕ) → Consumes a b given → IsAtEnd b
+    → Is given → IfSome a Is
+all_given Is None b given consumed end read = tt
+all_given Is (Some x) None given consumed end read = absurd consumed
+all_given Is (Some x) (Some y) given consumed end read =
+    subst Is (sym (consumed ∙ ap (λ t. given ++ t) end ∙ append-nil given)) read
 
-pub end_err : (a b : Option (List ℕ)) (given : List ℕ) (reading : Reading) (r : Result (Vec Entry Global) BookFault)
-    → Consumes a b given → IsAtEnd b
-    → HasRead reading given → IfErr r (λ fault. (text : List ℕ) → HasRead reading text → IsReadAs text (Err fault))
+-- what was given is a fault however it goes on
+pub some_given : (a b : Option (List ℕ)) (text given : List ℕ) (fault : BookFault) → Consumes a b given
+    → IsFaulty (text ++ given) fault
+    → IfSome a (λ rest. IsReadAs (text ++ rest) (Err fault))
+some_given None b text given fault consumed faulty = tt
+some_given (Some x) None text given fault consumed faulty = absurd consumed
+some_given (Some x) (Some y) text given fault consumed faulty =
+    subst (λ t. IsReadAs t (Err fault))
+    (append_assoc text given y ∙ ap (λ t. text ++ t) (sym consumed)) (faulty y)
+
+-- so it is of what was given before
+pub fault_given : (a b : Option (List ℕ)) (given : List ℕ) (fault : BookFault) → Consumes a b given
+    → IfSome b (λ rest. IsReadAs (given ++ rest) (Err fault)) → IfSome a (λ text. IsReadAs text (Err fault))
+fault_given None b given fault consumed read = tt
+fault_given (Some x) None given fault consumed read = absurd consumed
+fault_given (Some x) (Some y) given fault consumed read = subst (λ t. IsReadAs t (Err fault)) (sym consumed) read
+
+-- all entries of what was given are kept
+pub kept_ok : (a b : Option (List ℕ)) (given : List ℕ) (reading : Reading) (r : Result (Vec Entry Global) BookFault)
+    → Consumes a b given → IsAtEnd b → HasRead reading [] given
+    → IfOk r (λ entries. (text : List ℕ) → HasRead reading [] text → IsReadAs text (Ok entries.items))
+    → IfOk r (λ entries. IfSome a (λ text. IsReadAs text (Ok entries.items)))
+kept_ok a b given reading (Ok entries) consumed end read kept =
+    all_given (λ text. IsReadAs text (Ok entries.items)) a b given consumed end (kept given read)
+kept_ok a b given reading (Err fault) consumed end read kept = tt
+
+pub kept_err : (a b : Option (List ℕ)) (given : List ℕ) (reading : Reading) (r : Result (Vec Entry Global) BookFault)
+    → Consumes a b given → IsAtEnd b → HasRead reading [] given
+    → IfErr r (λ fault. (text : List ℕ) → HasRead reading [] text → IsReadAs text (Err fault))
     → IfErr r (λ fault. fault ≢ NoMemory → fault ≢ ReadFailed → IfSome a (λ text. IsReadAs text (Err fault)))
-end_err a b given reading (Ok entries) consumed end read ended = tt
-end_err a b given reading (Err fault) consumed end read ended =
-    λ memory device. all_given a b given (Err fault) consumed end (ended given read)
+kept_err a b given reading (Ok entries) consumed end read kept = tt
+kept_err a b given reading (Err fault) consumed end read kept =
+    λ memory device. all_given (λ text. IsReadAs text (Err fault)) a b given consumed end (kept given read)

@@ -1,6 +1,6 @@
 -- What is kept while entries are played: where the latest openings are, and what holds of it.
 use Rattle.std.specs.Prelude.{◌≡◌, ℕ, ◌≤◌, ◌==◌, nat_lt, position, slice_index_or, if◌then◌else◌, List, [], ◌∷◌}
-use Rattle.std.specs.Prelude.{length, Option, Some, None}
+use Rattle.std.specs.Prelude.{length, Option, Some, None, ⊤}
 use Rattle.std.specs.Option.{option_and_then}
 use Rattle.app_interface.specs.Application.{App}
 use Rattle.reset_model.specs.declared.event.Event.{Event}
@@ -9,8 +9,11 @@ use Rattle.reset_model.specs.Configuration.{Configuration}
 use Rattle.history.specs.declared.entry.Entry.{Entry}
 use Rattle.history.specs.declared.entry.Report.{Report}
 use Rattle.history.specs.declared.openings.Openings.{Openings}
+use Rattle.history.specs.declared.entry.VerifyFault.{VerifyFault}
+use Rattle.history.specs.declared.entry.VerifyFault.TheVariants.{NotEnabledAt, NoMemory}
 use Rattle.history.specs.declared.player.Player.{Player}
-use Rattle.history.specs.Entries.{replayed}
+use Rattle.history.specs.declared.verifier.Verifier.{Verifier}
+use Rattle.history.specs.Entries.{IsFirstRefused, replayed}
 use Rattle.history.specs.Reports.{latest_opening, reports_of}
 
 -- the position that a table has at the index, 0 past its end
@@ -57,3 +60,15 @@ pub record IsPlayed {L : Type 0} (app : App L) (from_text : List ℕ → Option 
 abbrev pub HasPlayed : {P L : Type 0} → App L → (List ℕ → Option L) → Configuration L → List Entry → Player P L
     → Type 0
 HasPlayed app from_text c es p = IsPlayed app from_text c es p.config p.openings p.reports.items
+
+-- what a verifier keeps is that of these entries, up to the first fault: what its player keeps, or which of them is the
+-- first that isn't allowed where it stands
+abbrev pub IsPlayedTo : {P L : Type 0} → App L → (List ℕ → Option L) → Configuration L → List Entry → Player P L
+    → Option VerifyFault → Type 0
+IsPlayedTo app from_text c es p None = HasPlayed app from_text c es p
+IsPlayedTo app from_text c es p (Some (NotEnabledAt position)) = IsFirstRefused app from_text c es position
+IsPlayedTo app from_text c es p (Some NoMemory) = ⊤
+
+abbrev pub HasVerified : {P L : Type 0} → App L → (List ℕ → Option L) → Configuration L → List Entry → Verifier P L
+    → Type 0
+HasVerified app from_text c es v = IsPlayedTo app from_text c es v.player v.fault

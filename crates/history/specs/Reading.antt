@@ -2,8 +2,8 @@
 use Rattle.std.specs.Prelude.{◌≡◌, ◌≢◌, ℕ, ◌<◌, ◌≤◌, ◌^◌, Bool, true, false, List, [], ◌++◌, length, Err}
 use Rattle.action_tables.specs.Cuts.{HasNo}
 use Rattle.history.specs.declared.entry.Entry.{Entry}
-use Rattle.history.specs.declared.read.Lines.{Lines}
-use Rattle.history.specs.declared.read.Reading.{Reading}
+use Rattle.history.specs.declared.lines.Lines.{Lines}
+use Rattle.history.specs.declared.lines.Reading.{Reading}
 use Rattle.history.specs.declared.text.BookFault.{BookFault}
 use Rattle.history.specs.declared.text.BookFault.TheVariants.{BadLine, BadVersion}
 use Rattle.history.specs.HistoryText.{Begins, IsReadAs, version_line}
@@ -13,13 +13,15 @@ abbrev pub IsSoFar : Bool → List Entry → List ℕ → List ℕ → Type 0
 IsSoFar true es line text = Begins text es line
 IsSoFar false es line text = (es ≡ []) × (text ≡ line)
 
--- the text is these lines, and then goes on with this
-abbrev pub GoesOn : Lines → List ℕ → List ℕ → Type 0
-GoesOn lines line text = IsSoFar lines.begun lines.entries.items line text
+-- the entries of the lines, those before which were taken already, were counted, and the text is the lines, and then
+-- goes on with this
+pub record GoesOn (lines : Lines) (before : List Entry) (line text : List ℕ) : Type 0 where
+  pub counted : lines.count ≡ length (before ++ lines.entries.items)
+  pub so_far : IsSoFar lines.begun (before ++ lines.entries.items) line text
 
 -- the text was read, and ends in a line that goes on
-pub record HasRead (r : Reading) (text : List ℕ) : Type 0 where
-  pub lines : GoesOn r.lines r.line.items text
+pub record HasRead (r : Reading) (before : List Entry) (text : List ℕ) : Type 0 where
+  pub lines : GoesOn r.lines before r.line.items text
   pub plain : HasNo 10 r.line.items
   pub short : length r.line.items ≤ 256
 

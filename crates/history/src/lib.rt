@@ -5,6 +5,7 @@
 mod book;
 mod entry;
 mod line;
+mod lines;
 mod log;
 mod openings;
 mod player;
@@ -15,6 +16,7 @@ mod segments;
 mod stretches;
 mod text;
 mod verification;
+mod verifier;
 
 pub use book::{Book, MAX_ENTRIES};
 pub use entry::{Entry, Receipt, Report, Summary, VerifyFault};

@@ -1,6 +1,6 @@
 // A configuration that entries happen to, with what they report.
 
-ghost use Rattle.std.specs.Prelude.{◌≡◌, ◌≢◌, ℕ, ◌+◌, ◌<◌, ◌≤◌, ◌==◌, ◌++◌, ◌∷◌, [], List, length, position};
+ghost use Rattle.std.specs.Prelude.{◌≡◌, ◌≢◌, ℕ, ◌+◌, ◌<◌, ◌≤◌, ◌==◌, ◌^◌, ◌++◌, ◌∷◌, [], List, length, position};
 ghost use Rattle.std.specs.Prelude.{if◌then◌else◌, OnOk, OnErr, IfOk, IfErr, MatchResult, Ok, Err, Some, None};
 ghost use Rattle.std.specs.Vec.{vec_len, vec_capacity};
 ghost use Rattle.reset_model.specs.Configuration.{Configuration};
@@ -11,7 +11,7 @@ ghost use Rattle.reset_model.specs.Sound.{IsSound};
 ghost use Rattle.reset_model.specs.SoundSteps.{IsSoundStep};
 ghost use Rattle.history.specs.declared.entry.Entry.{Entry};
 ghost use Rattle.history.specs.declared.entry.Entry.TheVariants.{Step, Disturbed};
-ghost use Rattle.history.specs.Entries.{entered};
+ghost use Rattle.history.specs.Entries.{IsFirstRefused, entered};
 ghost use Rattle.history.specs.Played.{HasPlayed, IsWithin, opened_by, told, told_of};
 ghost use Rattle.history.specs.Reports.{reported};
 ghost use Rattle.reset_model.specs.Steps.{event_node};
@@ -45,6 +45,7 @@ impl<P: Application> Player<P> {
     }
 
     // Does the event, which is entered at this place.
+    #[inline(always)]
     pub fn enter_step(
         &mut self,
         alloc: Global,
@@ -100,7 +101,8 @@ impl<P: Application> Player<P> {
     }
 
     // Plays an entry, which has this place.
-    pub fn enter(&mut self, alloc: Global, place: usize, entry: &Entry) -> Result<(), VerifyFault>
+    #[inline(always)]
+    fn enter(&mut self, alloc: Global, place: usize, entry: &Entry) -> Result<(), VerifyFault>
         ensures played { OnOk result ((c : Configuration P.Local) (es : List Entry)
             → HasPlayed P.app P.from_text c es self.old
             → place ≡ length es + 1 → HasPlayed P.app P.from_text c (es ++ entry.now ∷ []) self.new) }
@@ -119,6 +121,32 @@ impl<P: Application> Player<P> {
                 Err(_) => Err(VerifyFault::NotEnabledAt(place)),
             },
         }
+    }
+
+    // Plays the entries in turn, after so many others, up to the first that isn't allowed where it stands.
+    pub fn play(
+        &mut self,
+        alloc: Global,
+        before: usize,
+        entries: &[Entry],
+    ) -> Result<(), VerifyFault>
+        requires { before + length entries.now < 2 ^ 64 }
+        ensures played { OnOk result ((c : Configuration P.Local) (es : List Entry)
+            → HasPlayed P.app P.from_text c es self.old
+            → before ≡ length es → HasPlayed P.app P.from_text c (es ++ entries.now) self.new) }
+        ensures err { IfErr result (λ f. (c : Configuration P.Local) (es : List Entry) (position : ℕ)
+            → HasPlayed P.app P.from_text c es self.old → before ≡ length es → f ≡ VerifyFault.NotEnabledAt position
+            → IsFirstRefused P.app P.from_text c (es ++ entries.now) position) }
+    {
+        let mut position = before;
+        for entry in entries {
+            position += 1;
+            match self.enter(alloc, position, entry) {
+                Ok(()) => {}
+                Err(fault) => return Err(fault),
+            }
+        }
+        Ok(())
     }
 
     // Does what the plan says, where its node sees what it was made on, and enters it at this place.

@@ -1,18 +1,22 @@
 // Whether entries are a history.
 
-ghost use Rattle.std.specs.Prelude.{◌≡◌, length, IfOk, IfErr, IfSome, IsSome, List, Some, Result, ℕ};
+ghost use Rattle.std.specs.Prelude.{◌≡◌, [], length, IfOk, IfErr, IfSome, IsSome, List, Some, Result, ℕ};
 ghost use Rattle.reset_model.specs.Configuration.{Configuration};
 ghost use Rattle.history.specs.declared.entry.Report.{Report};
 ghost use Rattle.history.specs.declared.entry.Summary.{Summary};
 ghost use Rattle.history.specs.declared.verification.ReaderFault.{ReaderFault};
+ghost use Rattle.history.specs.declared.entry.Entry.{Entry};
 ghost use Rattle.history.specs.Entries.{IsFirstRefused, replayed};
+ghost use Rattle.history.specs.Played.{HasVerified};
+ghost use Rattle.history.specs.Reading.{HasRead};
 ghost use Rattle.history.specs.Reports.{reports_of};
 ghost use Rattle.history.specs.Verdict.{IsVerdict, verdict_of};
 
 use crate::entry::{Entry, Summary, VerifyFault};
+use crate::lines::Reading;
 use crate::player::Player;
-use crate::read::read_book;
 use crate::text::BookFault;
+use crate::verifier::Verifier;
 use app_interface::Application;
 use reset_machine::Config;
 use std::alloc::Global;
@@ -35,8 +39,9 @@ pub fn one_verdict_a_text<P: Application>()
         → verdict_of r ≡ Some v → verdict_of s ≡ Some w → v ≡ w }
 {}
 
-/// Reads a history to its end, and then plays its entries from the opening, and tells what they come to. A
-/// fault of the text comes before an entry that isn't allowed, wherever the two stand.
+/// Reads a history to its end, plays its entries as they are read, from the opening on, and tells what they come
+/// to. A fault of the text comes before an entry that isn't allowed, wherever the two stand: so after such an
+/// entry it reads on, and plays no more. It keeps the entries of one read at a time, of at most 4,096 bytes.
 pub fn verify_reader<P: Application, R: Read>(
     alloc: Global,
     opening: Config<P>,
@@ -44,11 +49,35 @@ pub fn verify_reader<P: Application, R: Read>(
 ) -> Result<Summary, ReaderFault>
     ensures { IfSome (R.remaining reader.old) (λ text. IsVerdict P.app P.from_text opening text result) }
 {
-    let entries = match read_book(alloc, reader) {
-        Ok(entries) => entries,
+    let mut verifier = Verifier::new(alloc, opening);
+    let mut reading = Reading::new(alloc);
+    let mut count = 0;
+    // No reader gives so much: a bound, so that the reading is seen to end.
+    for _ in 0..u64::MAX {
+        match reading.read_on(alloc, reader) {
+            Ok(true) => {}
+            Ok(false) => return verdict(verifier, &reading),
+            Err(fault) => return Err(ReaderFault::Text(fault)),
+        }
+        verifier.take(alloc, count, reading.entries());
+        count = reading.count();
+        reading.forget();
+    }
+    Err(ReaderFault::Text(BookFault::ReadFailed))
+}
+
+// What the text comes to that ends here, all of whose entries were taken.
+fn verdict<P: Application>(verifier: Verifier<P>, reading: &Reading) -> Result<Summary, ReaderFault>
+    requires { reading.now.lines.entries.items ≡ [] }
+    ensures { (c : Configuration P.Local) (es : List Entry) (text : List ℕ)
+        → HasVerified P.app P.from_text c es verifier → HasRead reading.now es text
+        → IsVerdict P.app P.from_text c text result }
+{
+    let count = match reading.end() {
+        Ok(count) => count,
         Err(fault) => return Err(ReaderFault::Text(fault)),
     };
-    match verify(alloc, opening, &entries) {
+    match verifier.summary(count) {
         Ok(summary) => Ok(summary),
         Err(fault) => Err(ReaderFault::Entries(fault)),
     }
@@ -68,16 +97,11 @@ pub fn verify<P: Application>(
         → IsFirstRefused P.app P.from_text opening entries.now position) }
 {
     let mut player = Player::new(alloc, opening);
-    let mut place = 0;
-    for entry in entries {
-        place += 1;
-        match player.enter(alloc, place, entry) {
-            Ok(()) => {}
-            Err(fault) => return Err(fault),
-        }
+    match player.play(alloc, 0, entries) {
+        Ok(()) => Ok(Summary {
+            entries: entries.len(),
+            reports: player.reports,
+        }),
+        Err(fault) => Err(fault),
     }
-    Ok(Summary {
-        entries: place,
-        reports: player.reports,
-    })
 }

@@ -1,47 +1,40 @@
-use Rattle.std.proofs.Common.{◌<◌, ◌≡◌, ◌++◌, take, length, arith, ap, ◌∙◌, subst, append-nil, sym}
-use Rattle.std.proofs.lemmas.Result.{err_from_is_err_and}
+use Rattle.std.proofs.Common.{[], ◌++◌, Ok, ap}
 use Rattle.std.proofs.KnownBytes.{Consumes-trans}
-use Rattle.history.specs.Reading.{HasRead}
-use Rattle.history.proofs.ReadLines.{end_ok, end_err, some_given}
+use Rattle.history.proofs.ReadLines.{fault_given, kept_err, kept_ok}
 use Rattle.history.proofs.read.read_book.Goals as goal
 
-pub returns-then-count-eq0-clause-ok : goal.returns-then-count-eq0-clause-ok
-returns-then-count-eq0-clause-ok g c =
-    let (given, consumed, read, size) = c.loop.invariant in
-    let bytes = take c.in-Ok.count c.read.new.buf in
-    let none : given ++ bytes ≡ given =
-    ap (λ n. given ++ take n c.read.new.buf) c.if-count-eq0.true ∙ append-nil given in
-    let some : 0 < length c.read.new.buf = omega (arith, size, c.read.auto.buf) in
-    end_ok (g.R.Read.remaining c.args.reader.now) (g.R.Read.remaining c.read.new.self) (given ++ bytes) c.loop.reading
-    c.end.result
-    (Consumes-trans (g.R.Read.remaining c.args.reader.now) (g.R.Read.remaining c.loop.reader)
-    (g.R.Read.remaining c.read.new.self) given bytes consumed c.in-Ok.ensures.bytes.0)
-    (c.in-Ok.ensures.bytes.1 c.if-count-eq0.true some)
-    (subst (HasRead c.loop.reading) (sym none) read) c.end.ensures.ok
+pub returns-in-Ok-false-clause-ok : goal.returns-in-Ok-false-clause-ok
+returns-in-Ok-false-clause-ok g c =
+    let (given, consumed, read) = c.loop.invariant in
+    let (last, gave, on) = c.in-Ok-false.ensures.ok in
+    let start = g.R.Read.remaining c.args.reader.now in
+    let now = g.R.Read.remaining c.read_on.new.reader in
+    kept_ok start now (given ++ last) c.read_on.new.self c.into_entries.result
+    (Consumes-trans start (g.R.Read.remaining c.loop.reader) now given last consumed gave)
+    (c.in-Ok-false.ensures.end (ap Ok c.in-Ok-false.field-0-test)).0 (on [] given read) c.into_entries.ensures.ok
 
-pub returns-then-count-eq0-clause-err : goal.returns-then-count-eq0-clause-err
-returns-then-count-eq0-clause-err g c =
-    let (given, consumed, read, size) = c.loop.invariant in
-    let bytes = take c.in-Ok.count c.read.new.buf in
-    let none : given ++ bytes ≡ given =
-    ap (λ n. given ++ take n c.read.new.buf) c.if-count-eq0.true ∙ append-nil given in
-    let some : 0 < length c.read.new.buf = omega (arith, size, c.read.auto.buf) in
-    end_err (g.R.Read.remaining c.args.reader.now) (g.R.Read.remaining c.read.new.self) (given ++ bytes) c.loop.reading
-    c.end.result
-    (Consumes-trans (g.R.Read.remaining c.args.reader.now) (g.R.Read.remaining c.loop.reader)
-    (g.R.Read.remaining c.read.new.self) given bytes consumed c.in-Ok.ensures.bytes.0)
-    (c.in-Ok.ensures.bytes.1 c.if-count-eq0.true some)
-    (subst (HasRead c.loop.reading) (sym none) read) c.end.ensures.err
+pub returns-in-Ok-false-clause-err : goal.returns-in-Ok-false-clause-err
+returns-in-Ok-false-clause-err g c =
+    let (given, consumed, read) = c.loop.invariant in
+    let (last, gave, on) = c.in-Ok-false.ensures.ok in
+    let start = g.R.Read.remaining c.args.reader.now in
+    let now = g.R.Read.remaining c.read_on.new.reader in
+    kept_err start now (given ++ last) c.read_on.new.self c.into_entries.result
+    (Consumes-trans start (g.R.Read.remaining c.loop.reader) now given last consumed gave)
+    (c.in-Ok-false.ensures.end (ap Ok c.in-Ok-false.field-0-test)).0 (on [] given read) c.into_entries.ensures.err
 
-pub returns-in_err-feed-clause-err : goal.returns-in_err-feed-clause-err
-returns-in_err-feed-clause-err g c =
-    let (given, consumed, read, size) = c.loop.invariant in
-    let bytes = take c.in-Ok.count c.read.new.buf in
-    let p = err_from_is_err_and c.from_residual.result c.from_residual.ensures.1 in
-    rw (p.1, p.2)
-    (λ memory device.
-    some_given (g.R.Read.remaining c.args.reader.now) (g.R.Read.remaining c.read.new.self) (given ++ bytes)
-    c.in_err-feed.field-0.0
-    (Consumes-trans (g.R.Read.remaining c.args.reader.now) (g.R.Read.remaining c.loop.reader)
-    (g.R.Read.remaining c.read.new.self) given bytes consumed c.in-Ok.ensures.bytes.0)
-    (c.in_err-feed.ensures.err memory given read))
+pub returns-in-Err-clause-err : goal.returns-in-Err-clause-err
+returns-in-Err-clause-err g c memory device =
+    let (given, consumed, read) = c.loop.invariant in
+    fault_given (g.R.Read.remaining c.args.reader.now) (g.R.Read.remaining c.loop.reader) given c.in-Err.fault consumed
+    (c.in-Err.ensures.err memory device [] given read)
+
+pub loop-preserved : goal.loop-preserved
+loop-preserved g c =
+    let (given, consumed, read) = c.loop.invariant in
+    let (last, gave, on) = c.in-Ok-true.ensures.ok in (
+      given ++ last,
+      Consumes-trans (g.R.Read.remaining c.args.reader.now) (g.R.Read.remaining c.loop.reader)
+          (g.R.Read.remaining c.read_on.new.reader) given last consumed gave,
+      on [] given read,
+    )

@@ -1,0 +1,33 @@
+use Rattle.std.proofs.Common.{arith, length, take, ◌≡◌, ◌+◌, ◌++◌}
+use Rattle.std.proofs.lemmas.List.{length-append, length-take}
+use Rattle.history.proofs.Plays.{first_refused, played_more}
+use Rattle.history.proofs.player.Player.play.Goals as goal
+
+pub returns-in-Err-clause-err : goal.returns-in-Err-clause-err
+returns-in-Err-clause-err g c start es at played here fault =
+    let loop = c.loop-entry in
+    first_refused g.P.Application.app g.P.Application.from_text start loop.self.config es c.args.entries.now
+    loop.entry-index _ c.in-Err.fault (loop.position + 1) at
+    c.loop-entry-test.true c.entry-item.is (loop.invariant.0 start es played here).replay c.in-Err.ensures.err
+    (omega (arith, loop.invariant.1, here)) fault
+
+pub loop-entry-preserved : goal.loop-entry-preserved
+loop-entry-preserved g c =
+    let loop = c.loop-entry in
+    let entries = c.args.entries.now in (
+      λ start es played here.
+          let at : loop.position + 1 ≡ length (es ++ take loop.entry-index entries) + 1 = omega (
+            arith,
+            loop.invariant.1,
+            here,
+            length-append es (take loop.entry-index entries),
+            length-take loop.entry-index entries,
+            c.loop-entry-test.true,
+          ) in
+          played_more g.P.Application.app g.P.Application.from_text start c.enter.new.self.config es entries
+          loop.entry-index _ c.enter.new.self.openings
+          c.enter.new.self.reports.items c.loop-entry-test.true c.entry-item.is
+          (c.in-Ok.ensures.played start (es ++ take loop.entry-index entries)
+          (loop.invariant.0 start es played here) at),
+      omega (arith, loop.invariant.1),
+    )

@@ -1,0 +1,14 @@
+-- What the reader gave was read, and its entries were played and are kept no longer.
+use Rattle.std.proofs.Common.{◌≡◌, ℕ, List, [], length}
+use Rattle.std.specs.Io.KnownBytes.{Consumes}
+use Rattle.history.specs.declared.entry.Entry.{Entry}
+use Rattle.history.specs.Played.{HasVerified}
+use Rattle.history.specs.Reading.{HasRead}
+use Rattle.history.proofs.verification.verify_reader.Given as goal
+
+abbrev pub invariant-loop : goal.invariant-loop
+invariant-loop g l =
+    (given : List ℕ) × (es : List Entry)
+    × Consumes (g.R.Read.remaining l.fn.reader) (g.R.Read.remaining l.reader) given
+    × HasRead l.reading es given × (l.reading.lines.entries.items ≡ [])
+    × HasVerified g.P.Application.app g.P.Application.from_text l.fn.opening es l.verifier × (l.count ≡ length es)

@@ -1,0 +1,241 @@
+// The lines of a history, as they come.
+
+ghost use Rattle.std.specs.Prelude.{◌≡◌, ◌≢◌, ◌++◌, ◌∷◌, [], ℕ, ◌+◌, ◌≤◌, List, length, if◌then◌else◌, IfErr, IfOk};
+ghost use Rattle.std.specs.Prelude.{OnOk, Ok, Err, IfNone, IfSome, false};
+ghost use Rattle.std.specs.Io.KnownBytes.{Consumes, IsAtEnd};
+ghost use Rattle.history.specs.declared.entry.Entry.{Entry};
+ghost use Rattle.action_tables.specs.Cuts.{HasNo};
+ghost use Rattle.history.specs.HistoryText.{IsReadAs, ended};
+
+use crate::book::MAX_ENTRIES;
+use crate::entry::Entry;
+use crate::read::{read_entry, read_version};
+use crate::text::BookFault;
+use memchr::memchr;
+use std::alloc::{AllocError, Global};
+use std::io::Read;
+
+// The most bytes that are asked of a reader at once.
+const CHUNK: usize = 4096;
+
+/// The most bytes of a line.
+pub const MAX_LINE: usize = 256;
+
+// What was read: whole lines, and the beginning of a line that goes on.
+#[derive(Drop)]
+pub struct Reading {
+    lines: Lines,
+    line: Vec<u8>,
+}
+
+// Whole lines of a history: whether the first was read, how many entries there were, and those that are kept.
+#[derive(Drop)]
+struct Lines {
+    begun: bool,
+    count: usize,
+    entries: Vec<Entry>,
+    ghost few: { count ≤ 1000000 },
+}
+
+impl Reading {
+    ghost use Rattle.history.specs.Reading.{HasRead, IsFaulty};
+
+    // Nothing was read.
+    pub fn new(alloc: Global) -> Reading
+        ensures read { HasRead result [] [] }
+        ensures none { result.lines.entries.items ≡ [] }
+    {
+        Reading {
+            lines: Lines {
+                begun: false,
+                count: 0,
+                entries: Vec::new(alloc),
+            },
+            line: Vec::new(alloc),
+        }
+    }
+
+    // Reads what the reader gives at once, and tells whether it gave anything.
+    pub fn read_on<R: Read>(&mut self, alloc: Global, reader: &mut R) -> Result<bool, BookFault>
+        ensures ok { IfOk result (λ _. (given : List ℕ)
+            × Consumes (R.remaining reader.old) (R.remaining reader.new) given
+            × ((before : List Entry) (text : List ℕ) → HasRead self.old before text
+            → HasRead self.new before (text ++ given))) }
+        ensures end { result ≡ Ok false → IsAtEnd (R.remaining reader.new) × (self.new ≡ self.old) }
+        ensures err { IfErr result (λ f. f ≢ BookFault.NoMemory → f ≢ BookFault.ReadFailed
+            → (before : List Entry) (text : List ℕ) → HasRead self.old before text
+            → IfSome (R.remaining reader.old) (λ rest. IsReadAs (text ++ rest) (Err f))) }
+    {
+        let mut chunk = [0; CHUNK];
+        let Ok(count) = reader.read(&mut chunk) else {
+            return Err(BookFault::ReadFailed);
+        };
+        if count == 0 {
+            return Ok(false);
+        }
+        self.feed(alloc, &chunk[..count])?;
+        Ok(true)
+    }
+
+    // Reads on.
+    fn feed(&mut self, alloc: Global, bytes: &[u8]) -> Result<(), BookFault>
+        ensures ok { OnOk result ((before : List Entry) (text : List ℕ) → HasRead self.old before text
+            → HasRead self.new before (text ++ bytes.now)) }
+        ensures err { IfErr result (λ f. f ≢ BookFault.NoMemory → (before : List Entry) (text : List ℕ) → HasRead self.old before text
+            → IsFaulty (text ++ bytes.now) f) }
+        ensures device { IfErr result (λ f. f ≢ BookFault.ReadFailed) }
+    {
+        let mut rest = bytes;
+        while let Some((line, after)) = cut_line(rest) {
+            self.end_line(alloc, line)?;
+            rest = after;
+        }
+        self.go_on(rest)
+    }
+
+    // The line ends with these bytes and a line feed. A line that came in one piece isn't copied.
+    fn end_line(&mut self, alloc: Global, bytes: &[u8]) -> Result<(), BookFault>
+        ensures ok { OnOk result ((before : List Entry) (text : List ℕ) → HasNo 10 bytes.now → HasRead self.old before text
+            → HasRead self.new before (text ++ ended bytes.now)) }
+        ensures err { IfErr result
+            (λ f. f ≢ BookFault.NoMemory → (before : List Entry) (text : List ℕ) → HasNo 10 bytes.now → HasRead self.old before text
+            → IsFaulty (text ++ ended bytes.now) f) }
+        ensures device { IfErr result (λ f. f ≢ BookFault.ReadFailed) }
+    {
+        if self.line.is_empty() {
+            return self.lines.take(alloc, bytes);
+        }
+        self.go_on(bytes)?;
+        self.lines.take(alloc, &self.line)?;
+        self.line.clear();
+        Ok(())
+    }
+
+    // The line goes on with these bytes.
+    fn go_on(&mut self, bytes: &[u8]) -> Result<(), BookFault>
+        ensures ok { OnOk result
+            ((before : List Entry) (text : List ℕ) → HasNo 10 bytes.now → HasRead self.old before text
+            → HasRead self.new before (text ++ bytes.now)) }
+        ensures lines { self.new.lines ≡ self.old.lines }
+        ensures err { IfErr result
+            (λ f. f ≢ BookFault.NoMemory → (before : List Entry) (text : List ℕ) → HasNo 10 bytes.now → HasRead self.old before text
+            → IsFaulty (text ++ bytes.now) f) }
+        ensures device { IfErr result (λ f. f ≢ BookFault.ReadFailed) }
+    {
+        if bytes.len() + self.line.len() > MAX_LINE {
+            return Err(self.lines.bad_line());
+        }
+        match self.line.extend_from_slice(bytes) {
+            Ok(()) => Ok(()),
+            Err(_) => Err(BookFault::NoMemory),
+        }
+    }
+
+    // How many entries the text has that ends here.
+    pub fn end(&self) -> Result<usize, BookFault>
+        ensures ok { IfOk result (λ count. (before : List Entry) (text : List ℕ) → HasRead self.now before text
+            → IsReadAs text (Ok (before ++ self.now.lines.entries.items))
+            × (count ≡ length (before ++ self.now.lines.entries.items))) }
+        ensures err { IfErr result (λ f. (before : List Entry) (text : List ℕ) → HasRead self.now before text
+            → IsReadAs text (Err f)) }
+    {
+        if !self.lines.begun || !self.line.is_empty() {
+            return Err(self.lines.bad_line());
+        }
+        Ok(self.lines.count)
+    }
+
+    // How many entries there were.
+    pub fn count(&self) -> usize
+        ensures { result ≡ self.now.lines.count }
+    {
+        self.lines.count
+    }
+
+    // The entries that are kept.
+    pub fn entries(&self) -> &[Entry]
+        ensures { result.now ≡ self.now.lines.entries.items }
+    {
+        &self.lines.entries
+    }
+
+    // Keeps them no longer.
+    pub fn forget(&mut self)
+        ensures none { self.new.lines.entries.items ≡ [] }
+        ensures read { (before : List Entry) (text : List ℕ) → HasRead self.old before text
+            → HasRead self.new (before ++ self.old.lines.entries.items) text }
+    {
+        self.lines.entries.clear();
+    }
+
+    // The entries of the text that ends here, of which all are kept.
+    pub fn into_entries(self) -> Result<Vec<Entry>, BookFault>
+        ensures ok { IfOk result (λ entries. (text : List ℕ) → HasRead self [] text
+            → IsReadAs text (Ok entries.items)) }
+        ensures err { IfErr result (λ f. (text : List ℕ) → HasRead self [] text → IsReadAs text (Err f)) }
+    {
+        match self.end() {
+            Ok(_) => Ok(self.lines.entries),
+            Err(fault) => Err(fault),
+        }
+    }
+}
+
+impl Lines {
+    ghost use Rattle.history.specs.Reading.{GoesOn, IsFaulty};
+
+    // Takes the next line, without its line feed.
+    #[inline(always)]
+    fn take(&mut self, alloc: Global, line: &[u8]) -> Result<(), BookFault>
+        ensures ok { OnOk result ((before : List Entry) (text : List ℕ) → GoesOn self.old before [] text
+            → GoesOn self.new before [] (text ++ ended line.now)) }
+        ensures err { IfErr result
+            (λ f. f ≢ BookFault.NoMemory → (before : List Entry) (text : List ℕ) → HasNo 10 line.now → GoesOn self.old before [] text
+            → IsFaulty (text ++ ended line.now) f) }
+        ensures device { IfErr result (λ f. f ≢ BookFault.ReadFailed) }
+    {
+        if !self.begun {
+            read_version(line)?;
+            self.begun = true;
+            return Ok(());
+        }
+        let entry = match read_entry(alloc, line) {
+            Ok(Some(entry)) => entry,
+            Ok(None) => return Err(self.bad_line()),
+            Err(AllocError) => return Err(BookFault::NoMemory),
+        };
+        if self.count == MAX_ENTRIES {
+            return Err(BookFault::TooLong);
+        }
+        match self.entries.push(entry) {
+            Ok(()) => {
+                self.count += 1;
+                Ok(())
+            }
+            Err(_) => Err(BookFault::NoMemory),
+        }
+    }
+
+    // That the next line is bad.
+    fn bad_line(&self) -> BookFault
+        ensures { result ≡ BookFault.BadLine (if self.now.begun then self.now.count + 2 else 1) }
+    {
+        if self.begun {
+            BookFault::BadLine(self.count + 2)
+        } else {
+            BookFault::BadLine(1)
+        }
+    }
+}
+
+// The first line of some bytes and what follows its line feed, or `None` where they have no line feed.
+fn cut_line(bytes: &[u8]) -> Option<(&[u8], &[u8])>
+    ensures found { IfSome result (λ parts. bytes.now ≡ parts.0.now ++ 10 ∷ parts.1.now) }
+    ensures first { IfSome result (λ parts. HasNo 10 parts.0.now) }
+    ensures none { IfNone result (HasNo 10 bytes.now) }
+{
+    match memchr(b'\n', bytes) {
+        Some(end) => Some((&bytes[..end], &bytes[end + 1..])),
+        None => None,
+    }
+}
