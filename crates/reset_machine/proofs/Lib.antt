@@ -8,3 +8,8 @@ pub mod StepClauses
 pub mod CaseChoices
 pub mod StepShadows
 pub mod NearSeen
+pub mod Standings
+pub mod Locality
+pub mod ReadyLists
+pub mod Doubting
+pub mod Writing

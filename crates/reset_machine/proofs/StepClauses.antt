@@ -1,13 +1,11 @@
 -- What the outcome of a step says of its answer.
-use Rattle.std.proofs.Common.{◌≡◌, ◌≢◌, ℕ, ◌==◌, Bool, true, false, cond, ◌+◌, ◌<◌, List, [], ◌∷◌, ◌++◌, length}
-use Rattle.std.proofs.Common.{slice_get, slice_index, slice_set, slice_index_or, map, take, position, add-one, Option}
-use Rattle.std.proofs.Common.{Some, IfSome, Result, Ok, Err, IfOk, IfErr, MatchResult, refl, sym, ap, ap₂, ◌∙◌}
-use Rattle.std.proofs.lemmas.List.{get_or-map, map-append}
-use Rattle.std.proofs.lemmas.List.Quantifiers.{position-Some}
+use Rattle.std.proofs.Common.{◌≡◌, ◌≢◌, ℕ, false, ◌+◌, ◌<◌, List, [], ◌∷◌, ◌++◌, length}
+use Rattle.std.proofs.Common.{slice_get, slice_index, map, take, add-one, Option}
+use Rattle.std.proofs.Common.{IfSome, Result, Ok, Err, IfOk, IfErr, MatchResult, refl, sym, ap, ap₂, ◌∙◌}
+use Rattle.std.proofs.lemmas.List.{map-append}
 use Rattle.std.proofs.lemmas.Option.{slice_get-get_or}
 use Rattle.app_interface.specs.Application.{App}
-use Rattle.topology.specs.Graph.{Graph, IsConnected, IsGraph, node_bound}
-use Rattle.wave_layer.specs.declared.regs.WaveRegs.{WaveRegs}
+use Rattle.topology.specs.Graph.{IsConnected, IsGraph, node_bound}
 use Rattle.wave_layer.specs.declared.regs.WaveMove.{WaveMove}
 use Rattle.reset_model.specs.declared.event.Event.{Event}
 use Rattle.reset_model.specs.declared.event.Event.TheVariants.{Claim, Follow, Adopt, Request, Relay, Open, Join, Finish}
@@ -17,17 +15,15 @@ use Rattle.reset_model.specs.declared.step.Reply.{Reply}
 use Rattle.reset_model.specs.declared.step.Reply.TheVariants.{Complete}
 use Rattle.reset_model.specs.declared.step.StepRefusal.{StepRefusal}
 use Rattle.reset_model.specs.declared.step.StepRefusal.TheVariants.{NoMemory}
-use Rattle.reset_model.specs.Configuration.{Configuration, IsShaped, put_at, start_list, tree_of, wave_of, with_locals}
-use Rattle.reset_model.specs.Configuration.{with_wave}
+use Rattle.reset_model.specs.Configuration.{Configuration, IsShaped, tree_of, wave_of}
 use Rattle.reset_model.specs.LocalSteps.{planned_of}
 use Rattle.reset_model.specs.MachineSteps.{IsStep, IsRefused}
-use Rattle.reset_model.specs.Outcome.{act_outcome, after_fired, fired_reply, restarted, row_outcome}
+use Rattle.reset_model.specs.Outcome.{act_outcome, after_fired, fired_reply, row_outcome}
 use Rattle.reset_model.specs.Planned.{outcome_of}
 use Rattle.reset_model.specs.Sound.{IsComplete, IsSound, Repairs}
 use Rattle.reset_model.specs.Steps.{event_node, is_act, reply_of}
 use Rattle.reset_model.proofs.ConfigurationSteps.{outcome_is_step, outcome_is_refused, outcome-rows, put_wave_outcome}
 use Rattle.reset_model.proofs.ViewedOutcomes.{outcome-is}
-use Rattle.reset_model.proofs.Places.{id_at-position, put_at-position}
 use Rattle.reset_machine.proofs.RunLists.{take_more}
 use Rattle.reset_model.proofs.SoundConfigurations.{step_complete, step_quiet, step_sound, same_value}
 
@@ -108,15 +104,6 @@ module _ {L : Type 0} (app : App L) (c c' : Configuration L) (e : Event) where
 
 -- ---- start states
 
--- the start state at a place is that of the id
-pub start_at : {L : Type 0} (app : App L) (g : Graph) (starts : List L) (ix at : ℕ) (x d : L)
-    → starts ≡ start_list app g → position (λ i. i == at) g.ids ≡ Some ix → x ≡ slice_index_or starts ix d
-    → x ≡ app.start g at
-start_at app g starts ix at x d is found read =
-    let short = (position-Some (λ i. i == at) g.ids ix 0 found).0 in
-    read ∙ ap (λ xs. slice_index_or xs ix d) is ∙ get_or-map (app.start g) g.ids ix 0 d short
-    ∙ ap (app.start g) (id_at-position g.ids ix at found)
-
 -- one node more has its start state
 pub start_more : {L : Type 0} (f : ℕ → L) (ids : List ℕ) (i : ℕ) (before after : List L) (x : L) → i < length ids
     → x ≡ f (slice_index ids i) → after ≡ before ++ x ∷ [] → before ≡ map f (take i ids)
@@ -130,32 +117,3 @@ start_more {L} f ids i before after x short is pushed so_far =
 pub start_is : {L : Type 0} (f : ℕ → L) (ids : List ℕ) (i : ℕ) (x : L) → i < length ids
     → IfSome (slice_get ids i) (λ id. x ≡ f id) → x ≡ f (slice_index ids i)
 start_is f ids i x short h = rw (slice_get-get_or ids i 0 short) at h
-
--- ---- what is written
-
--- what is written at a place is what the row leaves at its id
-pub wave_written : {L : Type 0} (app : App L) (c : Configuration L) (at ix : ℕ) (regs : WaveRegs) (b : Bool)
-    (locals : List L) → length c.waves ≡ length c.graph.ids → position (λ i. i == at) c.graph.ids ≡ Some ix
-    → locals ≡ restarted app c at b
-    → record { graph = c.graph; trees = c.trees; waves = slice_set c.waves ix regs; locals = locals }
-    ≡ with_wave (with_locals c (restarted app c at b)) at regs
-wave_written {L} app c at ix regs b locals same found is =
-    let after : List WaveRegs → List L → Configuration L =
-    λ ws ls. record { graph = c.graph; trees = c.trees; waves = ws; locals = ls } in
-    ap (λ ws. after ws locals) (sym (put_at-position c.graph.ids c.waves ix at regs same found))
-    ∙ ap (after (put_at c.graph.ids c.waves at regs)) is
-
--- a copy of the start state is put where the row restarts
-pub restarted_at : {L : Type 0} (app : App L) (c : Configuration L) (starts : List L) (at ix : ℕ) (b : Bool)
-    (x start : L) → b ≡ true → length c.locals ≡ length c.graph.ids → position (λ i. i == at) c.graph.ids ≡ Some ix
-    → starts ≡ start_list app c.graph → x ≡ slice_index_or starts ix x → start ≡ x
-    → slice_set c.locals ix start ≡ restarted app c at b
-restarted_at app c starts at ix b x start restarts same found is read copied =
-    sym (put_at-position c.graph.ids c.locals ix at start same found)
-    ∙ ap (put_at c.graph.ids c.locals at) (copied ∙ start_at app c.graph starts ix at x x is found read)
-    ∙ ap (λ d. cond d (put_at c.graph.ids c.locals at (app.start c.graph at)) c.locals) (sym restarts)
-
-pub not_restarted : {L : Type 0} (app : App L) (c : Configuration L) (at : ℕ) (b : Bool) → b ≡ false
-    → c.locals ≡ restarted app c at b
-not_restarted app c at b stays =
-    ap (λ d. cond d (put_at c.graph.ids c.locals at (app.start c.graph at)) c.locals) (sym stays)

@@ -8,7 +8,7 @@ ghost use Rattle.reset_model.specs.Actions.{acted_of, first_apart, reads_near};
 ghost use Rattle.reset_model.specs.Configuration.{local_of, wave_of};
 ghost use Rattle.reset_machine.specs.Place.{fitted_at, near_ids};
 
-use crate::config::Config;
+use crate::nodes::Nodes;
 use crate::place::Place;
 use app_interface::{Application, Here, Reads, Seen};
 use reset_model::{Choice, StepRefusal, misfit, on_clock, reads_near};
@@ -17,17 +17,17 @@ use std::alloc::{AllocError, Global};
 /// The index of the node and the local state that the action leaves it, or the first refusal.
 pub fn acted<P: Application>(
     alloc: Global,
-    config: &Config<P>,
+    nodes: &Nodes<P>,
     at: u32,
     choice: Choice,
 ) -> Result<(usize, P::Local), StepRefusal>
-    ensures place { IfOk result (λ p. position (λ i. i == at) config.now.graph.ids ≡ Some p.0) }
-    ensures exact { let c = config.now in
+    ensures place { IfOk result (λ p. position (λ i. i == at) nodes.now.graph.ids ≡ Some p.0) }
+    ensures exact { let c = nodes.now in
         let act = acted_of P.app c.graph (node_bound c.graph) (wave_of c) (local_of P.app c)
         at choice.case choice.with in
         MatchResult result (λ p. act ≡ Ok p.1) (λ f. f ≢ StepRefusal.NoMemory → act ≡ Err f) }
 {
-    let Some(place) = Place::of(config, at) else {
+    let Some(place) = Place::of(nodes, at) else {
         return Err(StepRefusal::StrangeNode);
     };
     if let Err(refusal) = place.named(choice.with) {

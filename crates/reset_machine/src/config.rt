@@ -1,17 +1,21 @@
 // Configurations, and what they tell.
 
 ghost use Rattle.std.specs.Prelude.{◌≡◌, ◌≢◌, ◌↔◌, IsTrue, ℕ, ◌<◌, true, ◌==◌, position, Some, IfOk, IfErr, IfSome};
+ghost use Rattle.std.specs.Prelude.{length, slice_index};
 ghost use Rattle.std.specs.Prelude.{IfNone, OnOk, OnErr, MatchResult, Ok, Err};
 ghost use Rattle.topology.specs.Graph.{IsConnected, IsGraph, IsNode, greatest, node_bound};
-ghost use Rattle.reset_model.specs.Configuration.{IsShaped, start_list};
+ghost use Rattle.reset_model.specs.Configuration.{IsShaped};
 ghost use Rattle.reset_model.specs.Outcome.{after_fired, fired_reply};
 ghost use Rattle.reset_model.specs.declared.plan.Fired.TheVariants.{Wave};
 
 use crate::action::acted;
-use crate::enabled::{Enabled, enabled_at, ready_ids};
+use crate::enabled::{Enabled, enabled_at};
 use crate::node_view::{is_of, read_view};
+use crate::nodes::Nodes;
 use crate::place::Place;
 use crate::plan::planned;
+use crate::ready::{ready_ids, settle_all};
+use crate::ready_set::ReadySet;
 use app_interface::Application;
 use reset_model::plan::{Effect, Fired};
 use reset_model::{
@@ -21,24 +25,21 @@ use reset_model::{
 use std::alloc::{AllocError, AllocFailed, Global};
 use std::marker::Model;
 use topology::Topology;
-use tree_layer::{TreeRegs, boot_tree};
-use wave_layer::{WaveMove, WaveRegs, boot_wave};
+use tree_layer::TreeRegs;
+use wave_layer::{WaveMove, WaveRegs};
 
 /// A configuration of the service: a topology, and of each node its tree registers, its wave
 /// registers, and the local state and the declared start state of the application `P`.
 #[derive(Drop)]
 pub struct Config<P: Application> {
-    topology: Topology,
-    trees: Vec<TreeRegs>,
-    waves: Vec<WaveRegs>,
-    locals: Vec<P::Local>,
-    // What an open or a join puts into the local state.
-    starts: Vec<P::Local>,
+    nodes: Nodes<P>,
+    // Which nodes have something to do, as far as it is known. A write puts its node and the neighbours
+    // into doubt, and the next one who asks tests those alone.
+    standing: ReadySet,
 }
 
 impl<P: Application> Model for Config<P> {
-    ghost use Rattle.std.specs.Prelude.{◌≡◌};
-    ghost use Rattle.reset_model.specs.Configuration.{Configuration, IsShaped, start_list};
+    ghost use Rattle.reset_model.specs.Configuration.{Configuration};
 
     ghost Value = { Configuration P.Local };
 
@@ -47,20 +48,12 @@ impl<P: Application> Model for Config<P> {
 
     ghost coded = { Prim.hlevel (codes, graph_code) };
 
-    ghost view = { λ c. record {
-      graph = c.topology;
-      trees = c.trees.items;
-      waves = c.waves.items;
-      locals = c.locals.items;
-    } };
+    // A contract doesn't see what is known of the nodes: it is true of the configuration.
+    ghost view = { λ c. c.nodes };
 
-    // A contract doesn't see the start states: the application and the graph give them.
-    ghost invariant = { λ c. IsShaped (record {
-      graph = c.topology;
-      trees = c.trees.items;
-      waves = c.waves.items;
-      locals = c.locals.items;
-    }) × (c.starts.items ≡ start_list P.app c.topology) };
+    ghost use Rattle.reset_machine.specs.Known.{IsKnown};
+
+    ghost invariant = { λ c. IsKnown P.app c.nodes c.standing };
 }
 
 impl<P: Application> Config<P> {
@@ -90,30 +83,13 @@ impl<P: Application> Config<P> {
         ensures sound { IfOk result IsSound }
         ensures value_returned { IfErr result (λ e. e.value ≡ topology) }
     {
-        let trees = match boot_tree(alloc, &topology) {
-            Ok(trees) => trees,
-            Err(AllocError) => return Err(AllocFailed { value: topology }),
-        };
-        let waves = match boot_wave(alloc, topology.len()) {
-            Ok(waves) => waves,
-            Err(AllocError) => return Err(AllocFailed { value: topology }),
-        };
-        let locals = match start_all::<P>(alloc, &topology) {
-            Ok(locals) => locals,
-            Err(AllocError) => return Err(AllocFailed { value: topology }),
-        };
-        let starts = match start_all::<P>(alloc, &topology) {
-            Ok(starts) => starts,
-            Err(AllocError) => return Err(AllocFailed { value: topology }),
-        };
         topology.is_graph();
-        Ok(Config {
-            topology,
-            trees,
-            waves,
-            locals,
-            starts,
-        })
+        let standing = match ReadySet::new(alloc, topology.len()) {
+            Ok(standing) => standing,
+            Err(AllocError) => return Err(AllocFailed { value: topology }),
+        };
+        let nodes = Nodes::boot(alloc, topology)?;
+        Ok(Config { nodes, standing })
     }
 
     /// Does what the event says at its node, or names the first refusal. A refused event changes
@@ -150,9 +126,9 @@ impl<P: Application> Config<P> {
             (λ reply. act_outcome P.app self.old at choice.case choice.with ≡ Ok (self.new, reply))
             (λ f. f ≢ StepRefusal.NoMemory → act_outcome P.app self.old at choice.case choice.with ≡ Err f) }
     {
-        match acted(alloc, self, at, choice) {
+        match acted(alloc, &self.nodes, at, choice) {
             Ok((ix, after)) => {
-                self.locals[ix] = after;
+                self.set_local(ix, after);
                 Ok(Reply::Applied)
             }
             Err(refusal) => Err(refusal),
@@ -165,42 +141,72 @@ impl<P: Application> Config<P> {
         ensures outcome { MatchResult result (λ reply. row_outcome P.app self.old event ≡ Ok (self.new, reply))
             (λ f. f ≢ StepRefusal.NoMemory → row_outcome P.app self.old event ≡ Err f) }
     {
-        match planned(alloc, self, event) {
+        match planned(alloc, &self.nodes, event) {
             Ok((ix, effect)) => match effect {
                 Fired::Tree(after) => {
-                    self.trees[ix] = after;
+                    self.set_tree(ix, after);
                     Ok(Reply::Applied)
                 }
-                Fired::Wave(fired) => self.write_wave(alloc, event.node(), ix, fired),
+                Fired::Wave(fired) => self.write_wave(alloc, ix, fired),
             },
             Err(refusal) => Err(refusal),
         }
     }
 
-    // Writes what a row of the wave table leaves at the node with this id and index. The start state
-    // is copied before the first change, since there may be no memory for it.
+    // Writes what a row of the wave table leaves at the node with this index. The start state is copied
+    // before the first change, since there may be no memory for it.
     fn write_wave(
         &mut self,
         alloc: Global,
-        at: u32,
         ix: usize,
         fired: WaveMove,
     ) -> Result<Reply, StepRefusal>
-        requires place { position (λ i. i == at) self.old.graph.ids ≡ Some ix }
-        ensures ok { IfOk result
+        requires { ix < length self.old.graph.ids }
+        ensures ok { let at = slice_index self.old.graph.ids ix in IfOk result
             (λ reply. (reply ≡ fired_reply (Wave fired)) × (self.new ≡ after_fired P.app self.old at (Wave fired))) }
         ensures memory { IfErr result (λ f. f ≡ StepRefusal.NoMemory) }
         ensures kept { OnErr result (self.new ≡ self.old) }
     {
         if fired.restarts {
-            let start = match P::copy(alloc, &self.starts[ix]) {
+            let start = match P::copy(alloc, &self.nodes.starts()[ix]) {
                 Ok(start) => start,
                 Err(AllocError) => return Err(StepRefusal::NoMemory),
             };
-            self.locals[ix] = start;
+            self.set_local(ix, start);
         }
-        self.waves[ix] = fired.regs;
+        self.set_wave(ix, fired.regs);
         Ok(reply_to(fired))
+    }
+
+    // Puts tree registers at the node with this index. As with each write, nothing is known of the node
+    // and of its neighbours from now on.
+    fn set_tree(&mut self, index: usize, regs: TreeRegs)
+        requires { index < length self.old.graph.ids }
+        ensures { self.new ≡ with_tree self.old (slice_index self.old.graph.ids index) regs }
+    {
+        self.nodes.is_graph();
+        self.standing.doubt_around(self.nodes.topology(), index);
+        self.nodes.set_tree(index, regs);
+    }
+
+    // Puts wave registers at the node with this index.
+    fn set_wave(&mut self, index: usize, regs: WaveRegs)
+        requires { index < length self.old.graph.ids }
+        ensures { self.new ≡ with_wave self.old (slice_index self.old.graph.ids index) regs }
+    {
+        self.nodes.is_graph();
+        self.standing.doubt_around(self.nodes.topology(), index);
+        self.nodes.set_wave(index, regs);
+    }
+
+    // Puts a local state at the node with this index.
+    fn set_local(&mut self, index: usize, local: P::Local)
+        requires { index < length self.old.graph.ids }
+        ensures { self.new ≡ with_local self.old (slice_index self.old.graph.ids index) local }
+    {
+        self.nodes.is_graph();
+        self.standing.doubt_around(self.nodes.topology(), index);
+        self.nodes.set_local(index, local);
     }
 
     /// Its topology is a connected graph, and each node has its registers and its local state.
@@ -209,7 +215,7 @@ impl<P: Application> Config<P> {
         ensures connected { IsConnected self.now.graph }
         ensures shaped { IsShaped self.now }
     {
-        self.topology.is_graph();
+        self.nodes.is_graph();
     }
 
     /// Does what the events say, in turn, and tells how each was answered. A refused event changes
@@ -257,15 +263,9 @@ impl<P: Application> Config<P> {
     pub fn copy(&self, alloc: Global) -> Result<Config<P>, AllocError>
         ensures { IfOk result (λ copy. copy ≡ self.now) }
     {
-        let trees = &self.trees;
-        let waves = &self.waves;
-        Ok(Config {
-            topology: self.topology.copy(alloc)?,
-            trees: trees.to_vec(alloc)?,
-            waves: waves.to_vec(alloc)?,
-            locals: copy_all::<P>(alloc, &self.locals)?,
-            starts: copy_all::<P>(alloc, &self.starts)?,
-        })
+        let standing = ReadySet::new(alloc, self.nodes.topology().len())?;
+        let nodes = self.nodes.copy(alloc)?;
+        Ok(Config { nodes, standing })
     }
 
     /// Puts tree registers at the node with this identifier, whatever they are, or refuses a
@@ -275,9 +275,9 @@ impl<P: Application> Config<P> {
         ensures err { IfErr result (λ f. (f ≡ StepRefusal.StrangeNode) × (IsNode self.old.graph at → ⊥)) }
         ensures kept { OnErr result (self.new ≡ self.old) }
     {
-        match self.topology.index_of(at) {
+        match self.nodes.topology().index_of(at) {
             Some(ix) => {
-                self.trees[ix] = regs;
+                self.set_tree(ix, regs);
                 Ok(())
             }
             None => Err(StepRefusal::StrangeNode),
@@ -291,9 +291,9 @@ impl<P: Application> Config<P> {
         ensures err { IfErr result (λ f. (f ≡ StepRefusal.StrangeNode) × (IsNode self.old.graph at → ⊥)) }
         ensures kept { OnErr result (self.new ≡ self.old) }
     {
-        match self.topology.index_of(at) {
+        match self.nodes.topology().index_of(at) {
             Some(ix) => {
-                self.waves[ix] = regs;
+                self.set_wave(ix, regs);
                 Ok(())
             }
             None => Err(StepRefusal::StrangeNode),
@@ -307,9 +307,9 @@ impl<P: Application> Config<P> {
         ensures err { IfErr result (λ f. (f ≡ (StepRefusal.StrangeNode, local)) × (IsNode self.old.graph at → ⊥)) }
         ensures kept { OnErr result (self.new ≡ self.old) }
     {
-        match self.topology.index_of(at) {
+        match self.nodes.topology().index_of(at) {
             Some(ix) => {
-                self.locals[ix] = local;
+                self.set_local(ix, local);
                 Ok(())
             }
             None => Err((StepRefusal::StrangeNode, local)),
@@ -329,12 +329,8 @@ impl<P: Application> Config<P> {
         ensures value_returned { IfErr result (λ e. e.value ≡ topology) }
         ensures kept { OnErr result (self.new ≡ self.old) }
     {
-        let starts = match start_all::<P>(alloc, &topology) {
-            Ok(starts) => starts,
-            Err(AllocError) => return Err(AllocFailed { value: topology }),
-        };
-        self.topology = topology;
-        self.starts = starts;
+        self.nodes.set_topology(alloc, topology)?;
+        self.standing.doubt_all();
         Ok(())
     }
 
@@ -344,7 +340,7 @@ impl<P: Application> Config<P> {
         ensures err { IfErr result
             (λ f. f ≢ StepRefusal.NoMemory → (f ≡ StepRefusal.StrangeNode) × (IsNode self.now.graph at → ⊥)) }
     {
-        match Place::of(self, at) {
+        match Place::of(&self.nodes, at) {
             Some(place) => Ok(read_view(alloc, &place)?),
             None => Err(StepRefusal::StrangeNode),
         }
@@ -363,7 +359,7 @@ impl<P: Application> Config<P> {
         ensures seen { IfSome result (λ _. IsSeen P.app self.now view.now) }
         ensures unseen { IfNone result (IsSeen P.app self.now view.now → ⊥) }
     {
-        let place = Place::of(self, view.id())?;
+        let place = Place::of(&self.nodes, view.id())?;
         if is_of(view, &place) {
             Some(place.index())
         } else {
@@ -389,25 +385,24 @@ impl<P: Application> Config<P> {
         let Some(ix) = self.index_seeing(plan.seen_view()) else {
             return Err(plan);
         };
-        let at = plan.seen_view().id();
         let reply = plan.reply();
-        self.write(at, ix, plan.into_effect());
+        self.write(ix, plan.into_effect());
         Ok(reply)
     }
 
-    // Writes what is done at the node with this id and index.
-    fn write(&mut self, at: u32, ix: usize, effect: Effect<P::Local>)
-        requires place { position (λ i. i == at) self.old.graph.ids ≡ Some ix }
-        ensures { self.new ≡ after_effect self.old at effect }
+    // Writes what is done at the node with this index.
+    fn write(&mut self, ix: usize, effect: Effect<P::Local>)
+        requires { ix < length self.old.graph.ids }
+        ensures { self.new ≡ after_effect self.old (slice_index self.old.graph.ids ix) effect }
     {
         match effect {
-            Effect::Tree(after) => self.trees[ix] = after,
-            Effect::Wave(after, None) => self.waves[ix] = after,
+            Effect::Tree(after) => self.set_tree(ix, after),
+            Effect::Wave(after, None) => self.set_wave(ix, after),
             Effect::Wave(after, Some(restarted)) => {
-                self.locals[ix] = restarted;
-                self.waves[ix] = after;
+                self.set_local(ix, restarted);
+                self.set_wave(ix, after);
             }
-            Effect::Local(after) => self.locals[ix] = after,
+            Effect::Local(after) => self.set_local(ix, after),
         }
     }
 
@@ -418,25 +413,29 @@ impl<P: Application> Config<P> {
         ensures err { IfErr result
             (λ f. f ≢ StepRefusal.NoMemory → (f ≡ StepRefusal.StrangeNode) × (IsNode self.now.graph at → ⊥)) }
     {
-        match Place::of(self, at) {
+        match Place::of(&self.nodes, at) {
             Some(place) => Ok(enabled_at(alloc, &place)?),
             None => Err(StepRefusal::StrangeNode),
         }
     }
 
     /// The identifiers of the nodes at which a case is enabled, or a row other than the request, row 1
-    /// of the wave table, ascending.
-    pub fn ready(&self, alloc: Global) -> Result<Vec<u32>, AllocError>
-        ensures { IfOk result (λ ids. ids.items ≡ ready_of P.app self.now) }
+    /// of the wave table, ascending. It changes no node.
+    pub fn ready(&mut self, alloc: Global) -> Result<Vec<u32>, AllocError>
+        ensures ok { IfOk result (λ ids. ids.items ≡ ready_of P.app self.old) }
+        ensures kept { self.new ≡ self.old }
     {
-        ready_ids(alloc, self)
+        self.nodes.is_graph();
+        settle_all(alloc, &self.nodes, &mut self.standing)?;
+        self.standing.is_standing();
+        ready_ids(alloc, self.nodes.topology(), self.standing.ready())
     }
 
     /// The topology.
     pub fn topology(&self) -> &Topology
         ensures { result.now ≡ self.now.graph }
     {
-        &self.topology
+        self.nodes.topology()
     }
 
     /// The tree registers of all nodes, in the order of their identifiers.
@@ -444,7 +443,7 @@ impl<P: Application> Config<P> {
         ensures value { result.now ≡ self.now.trees }
         ensures shaped { IsShaped self.now }
     {
-        &self.trees
+        self.nodes.trees()
     }
 
     /// The wave registers of all nodes, in the order of their identifiers.
@@ -452,7 +451,7 @@ impl<P: Application> Config<P> {
         ensures value { result.now ≡ self.now.waves }
         ensures shaped { IsShaped self.now }
     {
-        &self.waves
+        self.nodes.waves()
     }
 
     /// The local states of all nodes, in the order of their identifiers.
@@ -460,14 +459,7 @@ impl<P: Application> Config<P> {
         ensures value { result.now ≡ self.now.locals }
         ensures shaped { IsShaped self.now }
     {
-        &self.locals
-    }
-
-    /// The nodes' start states, in the order of the ids.
-    pub(crate) fn starts(&self) -> &[P::Local]
-        ensures { result.now ≡ start_list P.app self.now.graph }
-    {
-        &self.starts
+        self.nodes.locals()
     }
 
     /// The tree registers of the node with this identifier. None where there is no such node.
@@ -475,8 +467,8 @@ impl<P: Application> Config<P> {
         ensures found { IfSome result (λ regs. IsNode self.now.graph id × (regs ≡ tree_of self.now id)) }
         ensures none { IfNone result (IsNode self.now.graph id → ⊥) }
     {
-        let trees = &self.trees;
-        match self.topology.index_of(id) {
+        let trees = self.nodes.trees();
+        match self.nodes.topology().index_of(id) {
             Some(ix) => Some(trees[ix]),
             None => None,
         }
@@ -487,8 +479,8 @@ impl<P: Application> Config<P> {
         ensures found { IfSome result (λ regs. IsNode self.now.graph id × (regs ≡ wave_of self.now id)) }
         ensures none { IfNone result (IsNode self.now.graph id → ⊥) }
     {
-        let waves = &self.waves;
-        match self.topology.index_of(id) {
+        let waves = self.nodes.waves();
+        match self.nodes.topology().index_of(id) {
             Some(ix) => Some(waves[ix]),
             None => None,
         }
@@ -499,8 +491,8 @@ impl<P: Application> Config<P> {
         ensures found { IfSome result (λ local. IsNode self.now.graph id × (local.now ≡ local_of P.app self.now id)) }
         ensures none { IfNone result (IsNode self.now.graph id → ⊥) }
     {
-        let locals = &self.locals;
-        match self.topology.index_of(id) {
+        let locals = self.nodes.locals();
+        match self.nodes.topology().index_of(id) {
             Some(ix) => Some(&locals[ix]),
             None => None,
         }
@@ -526,33 +518,8 @@ impl<P: Application> Config<P> {
     pub fn newest_session(&self) -> u32
         ensures { result ≡ (wave_of self.now (greatest self.now.graph)).session }
     {
-        let waves = &self.waves;
-        self.topology.is_graph();
-        waves[self.topology.len() - 1].session
+        let waves = self.nodes.waves();
+        self.nodes.is_graph();
+        waves[waves.len() - 1].session
     }
-}
-
-// The declared start states, in the order of the ids.
-fn start_all<P: Application>(
-    alloc: Global,
-    topology: &Topology,
-) -> Result<Vec<P::Local>, AllocError>
-    ensures { IfOk result (λ starts. starts.items ≡ start_list P.app topology.now) }
-{
-    let mut starts = Vec::new(alloc);
-    for index in 0..topology.len() {
-        starts.push(P::on_start(alloc, topology, index)?)?;
-    }
-    Ok(starts)
-}
-
-// A copy of each local state.
-fn copy_all<P: Application>(alloc: Global, locals: &[P::Local]) -> Result<Vec<P::Local>, AllocError>
-    ensures { IfOk result (λ copies. copies.items ≡ locals.now) }
-{
-    let mut copies = Vec::new(alloc);
-    for local in locals {
-        copies.push(P::copy(alloc, local)?)?;
-    }
-    Ok(copies)
 }

@@ -1,4 +1,4 @@
-// The enabled rows and cases of a node, and the nodes that have something to do.
+// The enabled rows and cases of a node, and whether it has something to do.
 
 ghost use Rattle.std.specs.Prelude.{◌≡◌, if◌then◌else◌, map, Some, IfOk, is_ok};
 ghost use Rattle.std.specs.List.{list_any};
@@ -8,13 +8,12 @@ ghost use Rattle.action_tables.specs.Table.{enabled_of};
 ghost use Rattle.topology.specs.Graph.{node_bound};
 ghost use Rattle.reset_model.specs.Configuration.{local_of, wave_of};
 ghost use Rattle.reset_machine.specs.Enabled.{enabled_acts, enabled_rows, enabled_trees, enabled_waves};
-ghost use Rattle.reset_machine.specs.Enabled.{has_work, is_taken, ready_of};
+ghost use Rattle.reset_machine.specs.Enabled.{has_work, is_ready, is_taken};
 ghost use Rattle.reset_machine.specs.Place.{fitted_at, near_ids};
 ghost use Rattle.tree_layer.specs.TreeTable.{IsView, tree_table};
 ghost use Rattle.wave_layer.specs.WaveTable.{wave_table};
 
 use crate::action::is_taken;
-use crate::config::Config;
 use crate::place::Place;
 use crate::view::{father_seen, read_children, read_near_trees};
 use action_tables::CaseSet;
@@ -169,22 +168,19 @@ fn is_taken_toward<P: Application>(
     Ok(false)
 }
 
-/// The ids of the nodes at which a case is enabled, or a row other than the request, ascending.
-pub fn ready_ids<P: Application>(alloc: Global, config: &Config<P>) -> Result<Vec<u32>, AllocError>
-    ensures { IfOk result (λ ids. ids.items ≡ ready_of P.app config.now) }
+/// Whether a case is enabled at the node, or a row other than the request. Its neighbours and children
+/// are read into the vectors: the room of one node serves the next.
+pub fn is_ready<P: Application>(
+    alloc: Global,
+    place: &Place<'_, P>,
+    near: &mut Vec<(u32, TreeRegs)>,
+    children: &mut Vec<(u32, WaveRegs)>,
+) -> Result<bool, AllocError>
+    ensures { IfOk result (λ ready. ready ≡ is_ready P.app place.now.config place.now.id) }
 {
-    let mut near = Vec::new(alloc);
-    let mut children = Vec::new(alloc);
-    let mut ready = Vec::new(alloc);
-    for ix in 0..config.topology().len() {
-        let place = Place::at(config, ix);
-        let tree = enabled_trees(&place, &mut near)?;
-        let wave = enabled_waves(&place, &mut children)?;
-        let act = enabled_acts(alloc, &place)?;
-        let enabled = Enabled { tree, wave, act };
-        if enabled.is_ready() {
-            ready.push(place.id())?;
-        }
-    }
-    Ok(ready)
+    let tree = enabled_trees(place, near)?;
+    let wave = enabled_waves(place, children)?;
+    let act = enabled_acts(alloc, place)?;
+    let enabled = Enabled { tree, wave, act };
+    Ok(enabled.is_ready())
 }

@@ -7,8 +7,11 @@ mod config;
 mod enabled;
 mod narrow;
 mod node_view;
+mod nodes;
 mod place;
 mod plan;
+mod ready;
+mod ready_set;
 mod view;
 
 pub use config::Config;

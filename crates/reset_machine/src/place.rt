@@ -6,7 +6,7 @@ ghost use Rattle.topology.specs.Graph.{IsGraph, IsNode, are_linked, node_bound};
 ghost use Rattle.reset_model.specs.Configuration.{IsShaped, local_of, tree_of, wave_of};
 ghost use Rattle.reset_model.specs.LocalSteps.{is_neighbour};
 
-use crate::config::Config;
+use crate::nodes::Nodes;
 use app_interface::Application;
 use reset_model::StepRefusal;
 use std::marker::Model;
@@ -18,7 +18,7 @@ use wave_layer::WaveRegs;
 /// all that happens there reads the configuration from here.
 #[derive(Drop)]
 pub struct Place<'a, P: Application> {
-    config: &'a Config<P>,
+    nodes: &'a Nodes<P>,
     id: u32,
     index: usize,
 }
@@ -33,36 +33,36 @@ impl<'a, P: Application> Model for Place<'a, P> {
 
     ghost coded = { Prim.hlevel (codes, graph_code) };
 
-    ghost view = { λ p. record { config = p.config.now; id = p.id; index = p.index } };
+    ghost view = { λ p. record { config = p.nodes.now; id = p.id; index = p.index } };
 
-    ghost invariant = { λ p. IsPlace (record { config = p.config.now; id = p.id; index = p.index }) };
+    ghost invariant = { λ p. IsPlace (record { config = p.nodes.now; id = p.id; index = p.index }) };
 }
 
 impl<'a, P: Application> Place<'a, P> {
     ghost use Rattle.reset_machine.specs.Place.{IsNamed, IsNear, IsPlace, near_ids};
 
     /// The node with this identifier. None where there is no such node.
-    pub fn of(config: &'a Config<P>, id: u32) -> Option<Place<'a, P>>
-        ensures found { IfSome result (λ place. (place.config ≡ config.now) × (place.id ≡ id)) }
-        ensures node { IfSome result (λ _. IsNode config.now.graph id) }
-        ensures none { IfNone result (IsNode config.now.graph id → ⊥) }
+    pub fn of(nodes: &'a Nodes<P>, id: u32) -> Option<Place<'a, P>>
+        ensures found { IfSome result (λ place. (place.config ≡ nodes.now) × (place.id ≡ id)) }
+        ensures node { IfSome result (λ _. IsNode nodes.now.graph id) }
+        ensures none { IfNone result (IsNode nodes.now.graph id → ⊥) }
     {
-        match config.topology().index_of(id) {
-            Some(index) => Some(Place { config, id, index }),
+        match nodes.topology().index_of(id) {
+            Some(index) => Some(Place { nodes, id, index }),
             None => None,
         }
     }
 
     /// The node at this index.
-    pub fn at(config: &'a Config<P>, index: usize) -> Place<'a, P>
-        requires { index < length config.now.graph.ids }
-        ensures config { result.config ≡ config.now }
-        ensures id { result.id ≡ slice_index config.now.graph.ids index }
+    pub fn at(nodes: &'a Nodes<P>, index: usize) -> Place<'a, P>
+        requires { index < length nodes.now.graph.ids }
+        ensures config { result.config ≡ nodes.now }
+        ensures id { result.id ≡ slice_index nodes.now.graph.ids index }
         ensures index { result.index ≡ index }
     {
-        config.is_graph();
-        let id = config.topology().ids()[index];
-        Place { config, id, index }
+        nodes.is_graph();
+        let id = nodes.topology().ids()[index];
+        Place { nodes, id, index }
     }
 
     /// What each place is.
@@ -71,14 +71,14 @@ impl<'a, P: Application> Place<'a, P> {
         ensures shaped { IsShaped self.now.config }
         ensures place { IsPlace self.now }
     {
-        self.config.is_graph();
+        self.nodes.is_graph();
     }
 
     /// The topology.
     pub fn topology(&self) -> &'a Topology
         ensures { result.now ≡ self.now.config.graph }
     {
-        self.config.topology()
+        self.nodes.topology()
     }
 
     /// The node's identifier.
@@ -101,7 +101,7 @@ impl<'a, P: Application> Place<'a, P> {
         ensures bound { result ≡ node_bound self.now.config.graph }
         ensures positive { 0 < result }
     {
-        let topology = self.config.topology();
+        let topology = self.nodes.topology();
         topology.is_graph();
         topology.len() as u32
     }
@@ -110,28 +110,28 @@ impl<'a, P: Application> Place<'a, P> {
     pub fn tree(&self) -> TreeRegs
         ensures { result ≡ tree_of self.now.config self.now.id }
     {
-        self.config.trees()[self.index]
+        self.nodes.trees()[self.index]
     }
 
     /// The node's wave registers.
     pub fn wave(&self) -> WaveRegs
         ensures { result ≡ wave_of self.now.config self.now.id }
     {
-        self.config.waves()[self.index]
+        self.nodes.waves()[self.index]
     }
 
     /// The node's local state.
     pub fn local(&self) -> &'a P::Local
         ensures { result.now ≡ local_of P.app self.now.config self.now.id }
     {
-        &self.config.locals()[self.index]
+        &self.nodes.locals()[self.index]
     }
 
     /// The local state that the node restarts with.
     pub fn start(&self) -> &'a P::Local
         ensures { result.now ≡ P.app.start self.now.config.graph self.now.id }
     {
-        &self.config.starts()[self.index]
+        &self.nodes.starts()[self.index]
     }
 
     /// The indexes of the node's neighbours, ascending.
@@ -139,7 +139,7 @@ impl<'a, P: Application> Place<'a, P> {
         ensures ids { map (λ n. slice_index self.now.config.graph.ids n) result.now ≡ near_ids self.now }
         ensures within { All (λ n. n < length self.now.config.graph.ids) result.now }
     {
-        self.config.topology().neighbours(self.index)
+        self.nodes.topology().neighbours(self.index)
     }
 
     /// The index of the neighbour with this identifier. None where it isn't a neighbour's.
@@ -147,7 +147,7 @@ impl<'a, P: Application> Place<'a, P> {
         ensures found { IfSome result (IsNear self.now id) }
         ensures none { IfNone result (are_linked self.now.config.graph self.now.id id ≡ false) }
     {
-        self.config.topology().neighbour_at(self.index, id)
+        self.nodes.topology().neighbour_at(self.index, id)
     }
 
     /// The index of the neighbour that is named, if one is. A stranger is refused.
@@ -171,7 +171,7 @@ impl<'a, P: Application> Place<'a, P> {
         requires { index < length self.now.config.graph.ids }
         ensures { result ≡ slice_index self.now.config.graph.ids index }
     {
-        self.config.topology().ids()[index]
+        self.nodes.topology().ids()[index]
     }
 
     /// The tree registers at this index.
@@ -179,8 +179,8 @@ impl<'a, P: Application> Place<'a, P> {
         requires { index < length self.now.config.graph.ids }
         ensures { result ≡ tree_of self.now.config (slice_index self.now.config.graph.ids index) }
     {
-        self.config.is_graph();
-        self.config.trees()[index]
+        self.nodes.is_graph();
+        self.nodes.trees()[index]
     }
 
     /// The wave registers at this index.
@@ -188,8 +188,8 @@ impl<'a, P: Application> Place<'a, P> {
         requires { index < length self.now.config.graph.ids }
         ensures { result ≡ wave_of self.now.config (slice_index self.now.config.graph.ids index) }
     {
-        self.config.is_graph();
-        self.config.waves()[index]
+        self.nodes.is_graph();
+        self.nodes.waves()[index]
     }
 
     /// The local state at this index.
@@ -197,7 +197,7 @@ impl<'a, P: Application> Place<'a, P> {
         requires { index < length self.now.config.graph.ids }
         ensures { result.now ≡ local_of P.app self.now.config (slice_index self.now.config.graph.ids index) }
     {
-        self.config.is_graph();
-        &self.config.locals()[index]
+        self.nodes.is_graph();
+        &self.nodes.locals()[index]
     }
 }

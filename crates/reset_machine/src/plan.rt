@@ -7,8 +7,8 @@ ghost use Rattle.reset_model.specs.LocalSteps.{planned_of};
 ghost use Rattle.reset_machine.specs.Place.{IsNamed, answer_at};
 ghost use Rattle.reset_model.specs.Steps.{event_node, is_of_tree, named_node};
 
-use crate::config::Config;
 use crate::narrow::{child_looked_at, narrow_view};
+use crate::nodes::Nodes;
 use crate::place::Place;
 use crate::view::{read_near_trees, tree_view};
 use app_interface::Application;
@@ -20,15 +20,15 @@ use std::alloc::Global;
 /// that the event names are looked up here, and nowhere else.
 pub fn planned<P: Application>(
     alloc: Global,
-    config: &Config<P>,
+    nodes: &Nodes<P>,
     event: Event,
 ) -> Result<(usize, Fired), StepRefusal>
-    ensures place { IfOk result (λ p. position (λ i. i == event_node event) config.now.graph.ids ≡ Some p.0) }
-    ensures exact { let c = config.now in
+    ensures place { IfOk result (λ p. position (λ i. i == event_node event) nodes.now.graph.ids ≡ Some p.0) }
+    ensures exact { let c = nodes.now in
         let plan = planned_of c.graph (node_bound c.graph) (tree_of c) (wave_of c) event in
         MatchResult result (λ p. plan ≡ Ok p.1) (λ f. f ≢ StepRefusal.NoMemory → plan ≡ Err f) }
 {
-    let Some(place) = Place::of(config, event.node()) else {
+    let Some(place) = Place::of(nodes, event.node()) else {
         return Err(StepRefusal::StrangeNode);
     };
     let named = match place.named(event.named()) {

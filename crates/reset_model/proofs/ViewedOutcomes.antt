@@ -65,7 +65,7 @@ module _ {L : Type 0} (app : App L) (c : Configuration L) where
 
   -- ---- what is seen of a layer
 
-  tree_view-is : (i : ℕ) → tree_view (view_of app c i) ≡ maps.tree_view_of c.graph (node_bound c.graph) (tree_of c) i
+  pub tree_view-is : (i : ℕ) → tree_view (view_of app c i) ≡ maps.tree_view_of c.graph (node_bound c.graph) (tree_of c) i
   tree_view-is i =
       ap (λ near. record { id = i; bound = c.graph.bound; own = tree_of c i; near = near })
       (map-map (λ (n : Neighbour L). (n.id, n.tree)) (near_of app c) (neighbours_of c.graph i))
@@ -100,7 +100,7 @@ module _ {L : Type 0} (app : App L) (c : Configuration L) where
         ap near_waves (filter-map (λ (n : Neighbour L). n.tree.father == i) (near_of app c) (neighbours_of c.graph i))
         ∙ waves-is (children_of c.graph (tree_of c) i)
 
-    wave_view-is : (i : ℕ) → wave_view (view_of app c i) ≡ maps.view_of c.graph (tree_of c) (wave_of c) i
+    pub wave_view-is : (i : ℕ) → wave_view (view_of app c i) ≡ maps.view_of c.graph (tree_of c) (wave_of c) i
     wave_view-is i = ap₂ (λ f cs. record { own = wave_of c i; father = f; children = cs }) (father-is i) (children-is i)
 
     rows-is : (e : Event)
@@ -111,7 +111,7 @@ module _ {L : Type 0} (app : App L) (c : Configuration L) where
 
     -- ---- what an action reads
 
-    case-is : (i case : ℕ) (with : Option ℕ)
+    pub case-is : (i case : ℕ) (with : Option ℕ)
         → case_taken app (view_of app c i) case with ≡ fitted_of app c.graph (node_bound c.graph) (wave_of c)
         (local_of app c) i case with
     case-is i case with =

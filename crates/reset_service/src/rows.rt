@@ -58,19 +58,20 @@ fn put_enabled<W: Write>(out: &mut W, id: u32, rows: Enabled) -> Result<(), Writ
     )
 }
 
-/// Writes the ids of the nodes that have something to do. Want of memory writes nothing.
+/// Writes the ids of the nodes that have something to do, and changes none. Want of memory writes nothing.
 pub fn answer_ready<P: Application, W: Write>(
     alloc: Global,
-    config: &Config<P>,
+    config: &mut Config<P>,
     out: &mut W,
 ) -> Result<(), RunStop>
     ensures ok { OnOk result
         (Appends (W.contents out.old) (W.contents out.new)
-        (ready_line (meaning_of P.app P.text P.from_text P.names) config.now)) }
+        (ready_line (meaning_of P.app P.text P.from_text P.names) config.old)) }
     ensures err { OnErr result
         (AppendsFront (W.contents out.old) (W.contents out.new)
-        (ready_line (meaning_of P.app P.text P.from_text P.names) config.now)) }
+        (ready_line (meaning_of P.app P.text P.from_text P.names) config.old)) }
     ensures stop { IfErr result IsOutputStop }
+    ensures kept { config.new ≡ config.old }
 {
     match config.ready(alloc) {
         Ok(ids) => Ok(put_ready(out, &ids)?),

@@ -6,7 +6,7 @@ use Rattle.reset_machine.proofs.action.acted.Goals as goal
 
 pub returns-in_default-clause-exact : goal.returns-in_default-clause-exact
 returns-in_default-clause-exact g c = λ _.
-    let config = c.args.config.now in
+    let config = c.args.nodes.now in
     let app = g.P.Application.app in
     acted_of-strange_node app config.graph (node_bound config.graph) (wave_of config) (local_of app config) c.args.at
     c.args.choice.case c.args.choice.with (no_node config.graph.ids c.args.at c.in_default.ensures.none)

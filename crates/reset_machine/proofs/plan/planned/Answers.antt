@@ -7,7 +7,7 @@ use Rattle.reset_machine.proofs.plan.planned.Goals as goal
 
 pub returns-in_default-clause-exact : goal.returns-in_default-clause-exact
 returns-in_default-clause-exact g c = λ _.
-    let config = c.args.config.now in
+    let config = c.args.nodes.now in
     let none = rw c.node.ensures at c.in_default.ensures.none in
     planned_of-strange_node config.graph (node_bound config.graph) (tree_of config) (wave_of config) c.args.event
     (no_node config.graph.ids _ none)
@@ -15,13 +15,13 @@ returns-in_default-clause-exact g c = λ _.
 pub returns-in-Ok-answer-clause-exact : goal.returns-in-Ok-answer-clause-exact
 returns-in-Ok-answer-clause-exact g c =
     let found = c.in-Some.ensures.found in
-    planned_at c.args.config.now _ c.args.event _ _ found.0 (found.1 ∙ c.node.ensures) c.named.ensures
+    planned_at c.args.nodes.now _ c.args.event _ _ found.0 (found.1 ∙ c.node.ensures) c.named.ensures
     (rw c.node.ensures at c.in-Some.ensures.node) c.in-Ok.ensures.near
     ∙ c.in-Ok-answer.ensures.exact
 
 pub returns-in-Err-answer-clause-exact : goal.returns-in-Err-answer-clause-exact
 returns-in-Err-answer-clause-exact g c = λ other.
     let found = c.in-Some.ensures.found in
-    planned_at c.args.config.now _ c.args.event _ _ found.0 (found.1 ∙ c.node.ensures) c.named.ensures
+    planned_at c.args.nodes.now _ c.args.event _ _ found.0 (found.1 ∙ c.node.ensures) c.named.ensures
     (rw c.node.ensures at c.in-Some.ensures.node) c.in-Ok.ensures.near
     ∙ c.in-Err-answer.ensures.exact other

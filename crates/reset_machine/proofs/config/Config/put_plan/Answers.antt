@@ -1,23 +1,19 @@
-use Rattle.std.proofs.Common.{◌==◌, [], ◌∷◌, position, Ok, sym, subst, ap, ap₂, ◌∙◌}
+use Rattle.std.proofs.Common.{[], ◌∷◌, Ok, sym, subst, ap, ap₂, ◌∙◌}
 use Rattle.reset_model.specs.declared.step.Done.TheVariants.{Did}
 use Rattle.reset_model.specs.Planned.{after_effect}
 use Rattle.reset_model.specs.View.{IsSeen}
 use Rattle.reset_model.proofs.Deciding.{put-planned}
 use Rattle.reset_machine.proofs.StepClauses.{answer_step}
 use Rattle.reset_machine.proofs.StepShadows.{sound_step}
+use Rattle.reset_machine.proofs.Writing.{at_id}
 use Rattle.reset_machine.proofs.config.Config.put_plan.Goals as goal
-
-pub write-requires-clause-place : goal.write-requires-clause-place
-write-requires-clause-place g c = λ κs within.
-    let same = c.id-at.ensures ∙ ap (λ v. v.id) (c.seen_view-2.ensures ∙ sym c.seen_view.ensures) in
-    ap (λ k. position (λ i. i == k) c.args.self.now.graph.ids) same ∙ c.in-Some.ensures.place
 
 pub returns-clause-ok : goal.returns-clause-ok
 returns-clause-ok g c =
     let app = g.P.Application.app in
     let now = c.args.self.now in
     let seen = subst (IsSeen app now) c.seen_view.ensures c.in-Some.ensures.seen in
-    let at = c.id-at.ensures ∙ ap (λ v. v.id) c.seen_view-2.ensures in
+    let at = at_id now now _ _ c.in-Some.ensures.place ∙ ap (λ v. v.id) c.seen_view.ensures in
     let written = c.write.ensures ∙ ap (λ i. after_effect now i c.into_effect.result) at in
     let is =
     put-planned app now c.args.plan.view c.args.plan.event c.into_effect.result c.args.plan.reply seen
@@ -32,7 +28,7 @@ returns-clause-outcome g c =
     let app = g.P.Application.app in
     let now = c.args.self.now in
     let seen = subst (IsSeen app now) c.seen_view.ensures c.in-Some.ensures.seen in
-    let at = c.id-at.ensures ∙ ap (λ v. v.id) c.seen_view-2.ensures in
+    let at = at_id now now _ _ c.in-Some.ensures.place ∙ ap (λ v. v.id) c.seen_view.ensures in
     let written = c.write.ensures ∙ ap (λ i. after_effect now i c.into_effect.result) at in
     put-planned app now c.args.plan.view c.args.plan.event c.into_effect.result c.args.plan.reply seen
     c.into_effect.ensures ∙ ap₂ (λ d r. Ok (d, r)) (sym written) (sym c.reply-reply.ensures)
@@ -47,7 +43,7 @@ returns-clause-lawful g c =
     let whole = c.is_graph.ensures.connected in
     let shaped = c.is_graph.ensures.shaped in
     let seen = subst (IsSeen app now) c.seen_view.ensures c.in-Some.ensures.seen in
-    let at = c.id-at.ensures ∙ ap (λ v. v.id) c.seen_view-2.ensures in
+    let at = at_id now now _ _ c.in-Some.ensures.place ∙ ap (λ v. v.id) c.seen_view.ensures in
     let written = c.write.ensures ∙ ap (λ i. after_effect now i c.into_effect.result) at in
     let is =
     put-planned app now c.args.plan.view e c.into_effect.result c.args.plan.reply seen c.into_effect.ensures

@@ -1,16 +1,18 @@
 use Rattle.std.proofs.Common.{sym}
-use Rattle.reset_model.proofs.Places.{read_at-position, position-Contains, Contains-position}
+use Rattle.reset_model.proofs.Places.{value_at-position, position-Contains, Contains-position}
 use Rattle.reset_machine.proofs.config.Config.tree_at.Goals as goal
 
 pub returns-in-None-clause-none : goal.returns-in-None-clause-none
 returns-in-None-clause-none g c =
-    rw (← c.self.view_is) (λ node. position-Contains c.self.inside.topology.ids c.args.id node (sym c.in-None.ensures))
+    let missing = rw (c.topology.ensures, c.self.view_is) at (sym c.in-None.ensures) in
+    λ node. position-Contains c.args.self.now.graph.ids c.args.id node missing
 
 pub returns-in-Some-clause-found : goal.returns-in-Some-clause-found
 returns-in-Some-clause-found g c =
-    let found = sym c.in-Some.ensures in
-    rw (← c.self.view_is) (
+    let now = c.self.inside.nodes in
+    let found = rw c.topology.ensures at (sym c.in-Some.ensures) in
+    rw (c.trees-trees.ensures.value, ← c.self.view_is) (
       Contains-position _ _ _ found,
-      read_at-position (record { root = 0; father = 0; dist = 0 }) _ _ _ _ _
-          c.self.invariant.0.trees found c.index.ensures,
+      sym (value_at-position (record { root = 0; father = 0; dist = 0 }) now.graph.ids now.trees _ c.args.id
+          c.trees-trees.ensures.shaped.trees found),
     )

@@ -1,29 +1,25 @@
-use Rattle.reset_model.specs.Configuration.{Configuration}
-use Rattle.reset_machine.proofs.StepClauses.{not_restarted, restarted_at, wave_written}
+use Rattle.std.proofs.Common.{◌∙◌}
+use Rattle.reset_machine.proofs.Writing.{kept_wave, restarted_wave, start_at}
 use Rattle.reset_machine.proofs.config.Config.write_wave.Goals.{then-fired+in-Ok, else-fired}
 use Rattle.reset_machine.proofs.config.Config.write_wave.Goals as goal
 
 pub returns-clause-ok : goal.returns-clause-ok
 returns-clause-ok g c =
-    let i = c.self.inside in
     let app = g.P.Application.app in
-    let now : Configuration _ =
-    record { graph = i.topology; trees = i.trees.items; waves = i.waves.items; locals = i.locals.items } in
-    let shaped = c.self.invariant.0 in
-    let found = rw (← c.self.view_is) at c.requires.place in
+    let now = c.args.self.now in
+    let fired = c.args.fired in
     elim c.if-fired.branch [
       | then-fired+in-Ok w ↦
-          rw (← c.self.view_is, w.self-inside-is) (
+          let starts = rw w.self.view_is at w.starts.ensures in
+          let start = start_at app now c.args.ix w.starts.result.now _ starts c.requires
+          w.index-starts-ix.is in (
             c.reply_to.ensures,
-            wave_written app now c.args.at c.args.ix c.args.fired.regs c.args.fired.restarts _ shaped.waves found
-                (restarted_at app now i.starts.items c.args.at c.args.ix c.args.fired.restarts w.index.result.now
-                w.in-Ok.start w.if-fired.true shaped.locals found c.self.invariant.1 w.index.ensures
-                w.in-Ok.ensures),
+            restarted_wave app now c.args.ix c.if-fired.self c.set_wave.new.self fired.regs fired.restarts w.in-Ok.start
+                w.if-fired.true (w.in-Ok.ensures ∙ start) (w.self-is ∙ w.set_local.ensures) c.set_wave.ensures,
           )
-      | else-fired w ↦
-          rw (← c.self.view_is, w.self-inside-is) (
-            c.reply_to.ensures,
-            wave_written app now c.args.at c.args.ix c.args.fired.regs c.args.fired.restarts _ shaped.waves found
-                (not_restarted app now c.args.at c.args.fired.restarts w.if-fired.false),
-          )
+      | else-fired w ↦ (
+        c.reply_to.ensures,
+        kept_wave app now c.args.ix c.set_wave.new.self fired.regs fired.restarts w.if-fired.false
+            (rw w.self-is at c.set_wave.ensures),
+      )
     ]

@@ -4,7 +4,7 @@ use Rattle.reset_machine.proofs.place.Place.local.Goals as goal
 pub returns : goal.returns
 returns g c =
     let place = c.self.inside in
-    let now = place.config.now in
+    let now = place.nodes.now in
     let read = rw c.locals.ensures.value at c.index-locals-self.is in
     rw (← c.self.view_is)
     (read_at-position (g.P.Application.app.start now.graph place.id) now.graph.ids now.locals place.index place.id _

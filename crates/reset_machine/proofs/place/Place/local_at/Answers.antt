@@ -4,7 +4,7 @@ use Rattle.reset_machine.proofs.place.Place.local_at.Goals as goal
 
 pub returns : goal.returns
 returns g c =
-    let now = c.self.inside.config.now in
+    let now = c.self.inside.nodes.now in
     let ids = now.graph.ids in
     let short = rw (← c.self.view_is) at c.requires in
     let read = rw c.locals.ensures.value at c.index-locals-index.is in

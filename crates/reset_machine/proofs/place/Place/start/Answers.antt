@@ -7,7 +7,7 @@ use Rattle.reset_machine.proofs.place.Place.start.Goals as goal
 pub returns : goal.returns
 returns g c =
     let place = c.self.inside in
-    let graph = place.config.now.graph in
+    let graph = place.nodes.now.graph in
     let start = g.P.Application.app.start graph in
     let read = rw c.starts.ensures at c.index-starts-self.is in
     rw (← c.self.view_is)

@@ -5,7 +5,7 @@ use Rattle.reset_machine.proofs.place.Place.tree.Goals as goal
 pub returns : goal.returns
 returns g c =
     let place = c.self.inside in
-    let now = place.config.now in
+    let now = place.nodes.now in
     rw (← c.self.view_is, c.trees.ensures.value)
     (sym (value_at-position (record { root = 0; father = 0; dist = 0 }) now.graph.ids now.trees place.index place.id
     c.trees.ensures.shaped.trees c.self.invariant))

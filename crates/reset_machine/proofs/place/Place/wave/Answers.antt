@@ -6,7 +6,7 @@ use Rattle.reset_machine.proofs.place.Place.wave.Goals as goal
 pub returns : goal.returns
 returns g c =
     let place = c.self.inside in
-    let now = place.config.now in
+    let now = place.nodes.now in
     rw (← c.self.view_is, c.waves.ensures.value)
     (sym (value_at-position (record { phase = Normal; session = 0 }) now.graph.ids now.waves place.index place.id
     c.waves.ensures.shaped.waves c.self.invariant))

@@ -1,5 +1,5 @@
 use Rattle.std.proofs.Common.{◌≡◌, map, take}
-use Rattle.reset_machine.proofs.config.start_all.Given as goal
+use Rattle.reset_machine.proofs.nodes.start_all.Given as goal
 
 -- the nodes before the index have their start states
 abbrev pub invariant-loop-index : goal.invariant-loop-index

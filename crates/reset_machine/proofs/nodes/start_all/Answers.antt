@@ -1,6 +1,6 @@
 use Rattle.std.proofs.Common.{◌<◌, length, arith}
 use Rattle.reset_machine.proofs.StepClauses.{start_is, start_more}
-use Rattle.reset_machine.proofs.config.start_all.Goals as goal
+use Rattle.reset_machine.proofs.nodes.start_all.Goals as goal
 
 pub loop-index-preserved : goal.loop-index-preserved
 loop-index-preserved g c =

@@ -1,0 +1,161 @@
+-- Whether a node has something to do turns on what the node sees alone.
+use Rattle.std.proofs.Common.{◌≡◌, ◌≢◌, ℕ, Bool, true, false, cond, List, [], ◌∷◌, filter, map, slice_index, is_ok}
+use Rattle.std.proofs.Common.{length, ⊎_elim, refl, sym, ap, ap₂, subst, ◌∙◌, arith}
+use Rattle.std.specs.List.{list_any}
+use Rattle.std.proofs.lemmas.Bool.{false≢true}
+use Rattle.std.proofs.lemmas.List.Elements.{filter_agree}
+use Rattle.action_tables.specs.Numbers.{all_cases}
+use Rattle.action_tables.specs.Table.{enabled_of}
+use Rattle.app_interface.specs.Application.{App}
+use Rattle.topology.specs.Graph.{Graph, IsGraph, are_linked, neighbours_of, node_bound}
+use Rattle.tree_layer.specs.TreeTable.{tree_table}
+use Rattle.tree_layer.specs.declared.regs.TreeRegs.{TreeRegs}
+use Rattle.wave_layer.specs.WaveTable.{wave_table}
+use Rattle.wave_layer.specs.declared.regs.WaveRegs.{WaveRegs}
+use Rattle.wave_layer.specs.declared.regs.Phase.TheVariants.{Normal}
+use Rattle.reset_model.specs.Configuration.{Configuration, local_of, tree_of, wave_of, with_local, with_tree, with_wave}
+use Rattle.reset_model.specs.Planned.{case_taken}
+use Rattle.reset_model.specs.View.{NodeView, near_of, tree_view, view_of, wave_view}
+use Rattle.reset_model.proofs.Places.{value_at-put_at_other}
+use Rattle.reset_model.proofs.ViewedOutcomes.{case-is, tree_view-is, wave_view-is}
+use Rattle.reset_machine.specs.Enabled.{choices, has_work, is_ready, is_taken}
+use Rattle.reset_machine.specs.Known.{IsKnown}
+use Rattle.reset_machine.specs.ReadySet.{DoubtsAll, DoubtsAround, Settles, Standing, last_in_doubt}
+use Rattle.reset_machine.proofs.NearSeen.{same_neighbour, same_view}
+
+-- ---- what a node sees
+
+-- two maps that agree where the test passes make the same of what passes
+map_agree : {X : Type 0} (f f' : ℕ → X) (p : ℕ → Bool) (xs : List ℕ) → ((k : ℕ) → p k ≡ true → f k ≡ f' k)
+    → map f (filter p xs) ≡ map f' (filter p xs)
+map_agree f f' p [] same = refl
+map_agree {X} f f' p (x ∷ xs) same = at (p x) refl (map_agree f f' p xs same)
+  where
+    at : (b : Bool) → p x ≡ b → map f (filter p xs) ≡ map f' (filter p xs)
+        → map f (cond b (x ∷ filter p xs) (filter p xs)) ≡ map f' (cond b (x ∷ filter p xs) (filter p xs))
+    at true passes rest = let one : X → List X → List X = λ y ys. y ∷ ys in ap₂ one (same x passes) rest
+    at false fails rest = rest
+
+-- but for the node i, d has what c has
+pub record AgreesBut {L : Type 0} (app : App L) (c d : Configuration L) (i : ℕ) : Type 0 where
+  pub graph : d.graph ≡ c.graph
+  pub tree : (k : ℕ) → k ≢ i → tree_of d k ≡ tree_of c k
+  pub wave : (k : ℕ) → k ≢ i → wave_of d k ≡ wave_of c k
+  pub local : (k : ℕ) → k ≢ i → local_of app d k ≡ local_of app c k
+
+module _ {L : Type 0} (app : App L) where
+  -- whether there is something to do, by what is seen
+  abbrev seen_ready : Graph → NodeView L → Bool
+  seen_ready g v =
+      let t = tree_view v in
+      let w = wave_view v in
+      has_work (enabled_of (tree_table t t.near)) (enabled_of (wave_table w w.children))
+      (filter (λ case. list_any (λ with. is_ok (case_taken app v case with)) (choices g v.id (app.reads case)))
+      all_cases)
+
+  is_ready-seen : (c : Configuration L) (i : ℕ) → IsGraph c.graph
+      → is_ready app c i ≡ seen_ready c.graph (view_of app c i)
+  is_ready-seen c i graph =
+      let taken = is_taken app c.graph (node_bound c.graph) (wave_of c) (local_of app c) i in
+      let acts =
+      filter_agree taken
+      (λ case. list_any (λ with. is_ok (case_taken app (view_of app c i) case with))
+      (choices c.graph i (app.reads case)))
+      (λ case. λ j. list_any (λ with. is_ok (sym (case-is app c graph i case with) j))
+      (choices c.graph i (app.reads case)))
+      all_cases in
+      ap₂ (λ ts ws. has_work ts ws (filter taken all_cases))
+      (ap (λ t. enabled_of (tree_table t t.near)) (sym (tree_view-is app c i)))
+      (ap (λ w. enabled_of (wave_table w w.children)) (sym (wave_view-is app c graph i)))
+      ∙ ap (λ ns. has_work (enabled_of (let t = tree_view (view_of app c i) in tree_table t t.near))
+      (enabled_of (let w = wave_view (view_of app c i) in wave_table w w.children)) ns) acts
+
+  module _ (c d : Configuration L) (i : ℕ) (agrees : AgreesBut app c d i) where
+    -- a node that is neither i nor a neighbour of i sees the same
+    same_seen : (j : ℕ) → j ≢ i → are_linked c.graph j i ≡ false → view_of app d j ≡ view_of app c j
+    same_seen j other stranger =
+        same_view j j d.graph.bound c.graph.bound (tree_of d j) (tree_of c j) (wave_of d j) (wave_of c j)
+        (local_of app d j) (local_of app c j) (app.start d.graph j) (app.start c.graph j) _ _ refl
+        (ap (λ (g : Graph). g.bound) agrees.graph) (agrees.tree j other) (agrees.wave j other) (agrees.local j other)
+        (ap (λ g. app.start g j) agrees.graph)
+        (ap (λ g. map (near_of app d) (neighbours_of g j)) agrees.graph
+        ∙ map_agree (near_of app d) (near_of app c) (are_linked c.graph j) c.graph.ids
+        (λ k linked. let apart : k ≢ i = λ same.
+        false≢true (sym stranger ∙ ap (are_linked c.graph j) (sym same) ∙ linked) in
+        same_neighbour k k (tree_of d k) (tree_of c k) (wave_of d k) (wave_of c k) (local_of app d k) (local_of app c k)
+        refl (agrees.tree k apart) (agrees.wave k apart) (agrees.local k apart)))
+
+    pub same_readiness : IsGraph c.graph → (j : ℕ) → j ≢ i → are_linked c.graph j i ≡ false
+        → is_ready app d j ≡ is_ready app c j
+    same_readiness graph j other stranger =
+        is_ready-seen d j (subst IsGraph (sym agrees.graph) graph)
+        ∙ ap₂ seen_ready agrees.graph (same_seen j other stranger) ∙ sym (is_ready-seen c j graph)
+
+  -- ---- what is known, after a write
+
+  module _ (c : Configuration L) (s t : Standing) (n : ℕ) (graph : IsGraph c.graph) (known : IsKnown app c s)
+      (doubts : DoubtsAround c.graph s n t) where
+    abbrev at : ℕ
+    at = slice_index c.graph.ids n
+
+    known_but : (d : Configuration L) → d.graph ≡ c.graph → AgreesBut app c d at → IsKnown app d t
+    known_but d same agrees = record {
+      count = doubts.count ∙ known.count ∙ ap (λ (g : Graph). length g.ids) (sym same);
+      ready = λ m is. let before = doubts.ready m is in
+          ap (λ (g : Graph). is_ready app d (slice_index g.ids m)) same
+          ∙ same_readiness c d at agrees graph (slice_index c.graph.ids m) before.1.0 before.1.1
+          ∙ known.ready m before.0;
+      idle = λ m is. let before = doubts.idle m is in
+          ap (λ (g : Graph). is_ready app d (slice_index g.ids m)) same
+          ∙ same_readiness c d at agrees graph (slice_index c.graph.ids m) before.1.0 before.1.1
+          ∙ known.idle m before.0;
+    }
+
+    pub known_tree : (regs : TreeRegs) → IsKnown app (with_tree c at regs) t
+    known_tree regs = known_but (with_tree c at regs) refl (record {
+      graph = refl;
+      tree =
+          λ k other. value_at-put_at_other (record { root = 0; father = 0; dist = 0 }) c.graph.ids c.trees at k regs
+          other;
+      wave = λ k other. refl;
+      local = λ k other. refl;
+    })
+
+    pub known_wave : (regs : WaveRegs) → IsKnown app (with_wave c at regs) t
+    known_wave regs = known_but (with_wave c at regs) refl (record {
+      graph = refl;
+      tree = λ k other. refl;
+      wave =
+          λ k other. value_at-put_at_other (record { phase = Normal; session = 0 }) c.graph.ids c.waves at k regs other;
+      local = λ k other. refl;
+    })
+
+    pub known_local : (local : L) → IsKnown app (with_local c at local) t
+    known_local local = known_but (with_local c at local) refl (record {
+      graph = refl;
+      tree = λ k other. refl;
+      wave = λ k other. refl;
+      local = λ k other. value_at-put_at_other (app.start c.graph k) c.graph.ids c.locals at k local other;
+    })
+
+  -- of all nodes in doubt nothing is known
+  pub known_none : (c : Configuration L) (s : Standing) → length s.nodes ≡ length c.graph.ids → DoubtsAll s
+      → IsKnown app c s
+  known_none c s count doubts = record {
+    count = count;
+    ready = λ n is. absurd (omega (arith, is.1, doubts.0));
+    idle = λ n is. absurd (omega (arith, is.1, is.2, doubts.1));
+  }
+
+  -- a node in doubt is known by its test
+  pub known_settled : (c : Configuration L) (s t : Standing) (b : Bool) (n : ℕ) → n ≡ last_in_doubt s
+      → b ≡ is_ready app c (slice_index c.graph.ids n) → IsKnown app c s → Settles s b t → IsKnown app c t
+  known_settled c s t b n last tested known settles = record {
+    count = settles.count ∙ known.count;
+    ready = λ m is. ⊎_elim (known.ready m)
+        (λ new. ap (λ k. is_ready app c (slice_index c.graph.ids k)) (new.0 ∙ sym last) ∙ sym tested ∙ new.1)
+        (settles.ready m is);
+    idle = λ m is. ⊎_elim (known.idle m)
+        (λ new. ap (λ k. is_ready app c (slice_index c.graph.ids k)) (new.0 ∙ sym last) ∙ sym tested ∙ new.1)
+        (settles.idle m is);
+  }

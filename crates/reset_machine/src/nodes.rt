@@ -1,0 +1,221 @@
+// What a configuration keeps of its nodes.
+
+ghost use Rattle.std.specs.Prelude.{◌≡◌, ◌<◌, IfErr, IfOk, OnErr, OnOk, length, slice_index};
+ghost use Rattle.topology.specs.Graph.{IsConnected, IsGraph};
+ghost use Rattle.reset_model.specs.Configuration.{IsShaped, start_list};
+
+use app_interface::Application;
+use std::alloc::{AllocError, AllocFailed, Global};
+use std::marker::Model;
+use topology::Topology;
+use tree_layer::{TreeRegs, boot_tree};
+use wave_layer::{WaveRegs, boot_wave};
+
+/// A topology, and of each node its tree registers, its wave registers, and the local state and the
+/// declared start state of the application `P`.
+#[derive(Drop)]
+pub struct Nodes<P: Application> {
+    topology: Topology,
+    trees: Vec<TreeRegs>,
+    waves: Vec<WaveRegs>,
+    locals: Vec<P::Local>,
+    // What an open or a join puts into the local state.
+    starts: Vec<P::Local>,
+}
+
+impl<P: Application> Model for Nodes<P> {
+    ghost use Rattle.std.specs.Prelude.{◌≡◌};
+    ghost use Rattle.reset_model.specs.Configuration.{Configuration, IsShaped, start_list};
+
+    ghost Value = { Configuration P.Local };
+
+    ghost use Rattle.std.specs.Coded.{codes};
+    ghost use Rattle.topology.specs.Graph.{graph_code};
+
+    ghost coded = { Prim.hlevel (codes, graph_code) };
+
+    ghost view = { λ c. record {
+      graph = c.topology;
+      trees = c.trees.items;
+      waves = c.waves.items;
+      locals = c.locals.items;
+    } };
+
+    // A contract doesn't see the start states: the application and the graph give them.
+    ghost invariant = { λ c. IsShaped (record {
+      graph = c.topology;
+      trees = c.trees.items;
+      waves = c.waves.items;
+      locals = c.locals.items;
+    }) × (c.starts.items ≡ start_list P.app c.topology) };
+}
+
+impl<P: Application> Nodes<P> {
+    ghost use Rattle.reset_model.specs.Configuration.{with_graph, with_local, with_tree, with_wave};
+    ghost use Rattle.reset_model.specs.Outcome.{IsBoot};
+
+    /// The nodes as they are booted. Where memory is wanting the topology comes back.
+    pub fn boot(alloc: Global, topology: Topology) -> Result<Nodes<P>, AllocFailed<Topology>>
+        ensures ok { IfOk result (IsBoot P.app topology) }
+        ensures value_returned { IfErr result (λ e. e.value ≡ topology) }
+    {
+        let trees = match boot_tree(alloc, &topology) {
+            Ok(trees) => trees,
+            Err(AllocError) => return Err(AllocFailed { value: topology }),
+        };
+        let waves = match boot_wave(alloc, topology.len()) {
+            Ok(waves) => waves,
+            Err(AllocError) => return Err(AllocFailed { value: topology }),
+        };
+        let locals = match start_all::<P>(alloc, &topology) {
+            Ok(locals) => locals,
+            Err(AllocError) => return Err(AllocFailed { value: topology }),
+        };
+        let starts = match start_all::<P>(alloc, &topology) {
+            Ok(starts) => starts,
+            Err(AllocError) => return Err(AllocFailed { value: topology }),
+        };
+        Ok(Nodes {
+            topology,
+            trees,
+            waves,
+            locals,
+            starts,
+        })
+    }
+
+    /// The same nodes once more.
+    pub fn copy(&self, alloc: Global) -> Result<Nodes<P>, AllocError>
+        ensures { IfOk result (λ copy. copy ≡ self.now) }
+    {
+        let trees = &self.trees;
+        let waves = &self.waves;
+        Ok(Nodes {
+            topology: self.topology.copy(alloc)?,
+            trees: trees.to_vec(alloc)?,
+            waves: waves.to_vec(alloc)?,
+            locals: copy_all::<P>(alloc, &self.locals)?,
+            starts: copy_all::<P>(alloc, &self.starts)?,
+        })
+    }
+
+    /// Their topology is a connected graph, and each node has its registers and its local state.
+    pub fn is_graph(&self)
+        ensures graph { IsGraph self.now.graph }
+        ensures connected { IsConnected self.now.graph }
+        ensures shaped { IsShaped self.now }
+    {
+        self.topology.is_graph();
+    }
+
+    /// Puts tree registers at the node with this index.
+    pub fn set_tree(&mut self, index: usize, regs: TreeRegs)
+        requires { index < length self.old.graph.ids }
+        ensures { self.new ≡ with_tree self.old (slice_index self.old.graph.ids index) regs }
+    {
+        self.topology.is_graph();
+        self.trees[index] = regs;
+    }
+
+    /// Puts wave registers at the node with this index.
+    pub fn set_wave(&mut self, index: usize, regs: WaveRegs)
+        requires { index < length self.old.graph.ids }
+        ensures { self.new ≡ with_wave self.old (slice_index self.old.graph.ids index) regs }
+    {
+        self.topology.is_graph();
+        self.waves[index] = regs;
+    }
+
+    /// Puts a local state at the node with this index.
+    pub fn set_local(&mut self, index: usize, local: P::Local)
+        requires { index < length self.old.graph.ids }
+        ensures { self.new ≡ with_local self.old (slice_index self.old.graph.ids index) local }
+    {
+        self.topology.is_graph();
+        self.locals[index] = local;
+    }
+
+    /// Puts a topology of the same nodes, with its start states. Where memory is wanting the topology
+    /// comes back.
+    pub fn set_topology(
+        &mut self,
+        alloc: Global,
+        topology: Topology,
+    ) -> Result<(), AllocFailed<Topology>>
+        requires { topology.ids ≡ self.old.graph.ids }
+        ensures ok { OnOk result (self.new ≡ with_graph self.old topology) }
+        ensures value_returned { IfErr result (λ e. e.value ≡ topology) }
+        ensures kept { OnErr result (self.new ≡ self.old) }
+    {
+        let starts = match start_all::<P>(alloc, &topology) {
+            Ok(starts) => starts,
+            Err(AllocError) => return Err(AllocFailed { value: topology }),
+        };
+        self.topology = topology;
+        self.starts = starts;
+        Ok(())
+    }
+
+    /// The topology.
+    pub fn topology(&self) -> &Topology
+        ensures { result.now ≡ self.now.graph }
+    {
+        &self.topology
+    }
+
+    /// The tree registers of all nodes, in the order of their identifiers.
+    pub fn trees(&self) -> &[TreeRegs]
+        ensures value { result.now ≡ self.now.trees }
+        ensures shaped { IsShaped self.now }
+    {
+        &self.trees
+    }
+
+    /// The wave registers of all nodes, in the order of their identifiers.
+    pub fn waves(&self) -> &[WaveRegs]
+        ensures value { result.now ≡ self.now.waves }
+        ensures shaped { IsShaped self.now }
+    {
+        &self.waves
+    }
+
+    /// The local states of all nodes, in the order of their identifiers.
+    pub fn locals(&self) -> &[P::Local]
+        ensures value { result.now ≡ self.now.locals }
+        ensures shaped { IsShaped self.now }
+    {
+        &self.locals
+    }
+
+    /// The nodes' start states, in the order of the ids.
+    pub fn starts(&self) -> &[P::Local]
+        ensures { result.now ≡ start_list P.app self.now.graph }
+    {
+        &self.starts
+    }
+}
+
+// The declared start states, in the order of the ids.
+fn start_all<P: Application>(
+    alloc: Global,
+    topology: &Topology,
+) -> Result<Vec<P::Local>, AllocError>
+    ensures { IfOk result (λ starts. starts.items ≡ start_list P.app topology.now) }
+{
+    let mut starts = Vec::new(alloc);
+    for index in 0..topology.len() {
+        starts.push(P::on_start(alloc, topology, index)?)?;
+    }
+    Ok(starts)
+}
+
+// A copy of each local state.
+fn copy_all<P: Application>(alloc: Global, locals: &[P::Local]) -> Result<Vec<P::Local>, AllocError>
+    ensures { IfOk result (λ copies. copies.items ≡ locals.now) }
+{
+    let mut copies = Vec::new(alloc);
+    for local in locals {
+        copies.push(P::copy(alloc, local)?)?;
+    }
+    Ok(copies)
+}
