@@ -77,8 +77,8 @@ is_some xs ys some is = omega (arith, some, length-append xs ys, ap length is)
 
 -- a text can't go on so, where what comes after its whole lines begins with no line
 bad_next : (begun : Bool) (es : List Entry) (line text : List ℕ) → IsSoFar begun es line text → 0 < length line
-    → IsStuck line
-    → ((v : ℕ) → v < 2 ^ 32 → BeginsWith line (version_line v) → ⊥) → IsReadAs text (Err (BadLine (next_line begun (length es))))
+    → IsStuck line → ((v : ℕ) → v < 2 ^ 32 → BeginsWith line (version_line v) → ⊥)
+    → IsReadAs text (Err (BadLine (next_line begun (length es))))
 bad_next true es line text b some stuck none =
     IsReadAs.bad_line es line b (λ is. omega (arith, some, ap length is)) stuck
 bad_next false es line text is some stuck none =

@@ -81,8 +81,8 @@ impl Reading {
     fn feed(&mut self, alloc: Global, bytes: &[u8]) -> Result<(), BookFault>
         ensures ok { OnOk result ((before : List Entry) (text : List ℕ) → HasRead self.old before text
             → HasRead self.new before (text ++ bytes.now)) }
-        ensures err { IfErr result (λ f. f ≢ BookFault.NoMemory → (before : List Entry) (text : List ℕ) → HasRead self.old before text
-            → IsFaulty (text ++ bytes.now) f) }
+        ensures err { IfErr result (λ f. f ≢ BookFault.NoMemory
+            → (before : List Entry) (text : List ℕ) → HasRead self.old before text → IsFaulty (text ++ bytes.now) f) }
         ensures device { IfErr result (λ f. f ≢ BookFault.ReadFailed) }
     {
         let mut rest = bytes;
@@ -95,10 +95,12 @@ impl Reading {
 
     // The line ends with these bytes and a line feed. A line that came in one piece isn't copied.
     fn end_line(&mut self, alloc: Global, bytes: &[u8]) -> Result<(), BookFault>
-        ensures ok { OnOk result ((before : List Entry) (text : List ℕ) → HasNo 10 bytes.now → HasRead self.old before text
+        ensures ok { OnOk result
+            ((before : List Entry) (text : List ℕ) → HasNo 10 bytes.now → HasRead self.old before text
             → HasRead self.new before (text ++ ended bytes.now)) }
         ensures err { IfErr result
-            (λ f. f ≢ BookFault.NoMemory → (before : List Entry) (text : List ℕ) → HasNo 10 bytes.now → HasRead self.old before text
+            (λ f. f ≢ BookFault.NoMemory
+            → (before : List Entry) (text : List ℕ) → HasNo 10 bytes.now → HasRead self.old before text
             → IsFaulty (text ++ ended bytes.now) f) }
         ensures device { IfErr result (λ f. f ≢ BookFault.ReadFailed) }
     {
@@ -118,7 +120,8 @@ impl Reading {
             → HasRead self.new before (text ++ bytes.now)) }
         ensures lines { self.new.lines ≡ self.old.lines }
         ensures err { IfErr result
-            (λ f. f ≢ BookFault.NoMemory → (before : List Entry) (text : List ℕ) → HasNo 10 bytes.now → HasRead self.old before text
+            (λ f. f ≢ BookFault.NoMemory
+            → (before : List Entry) (text : List ℕ) → HasNo 10 bytes.now → HasRead self.old before text
             → IsFaulty (text ++ bytes.now) f) }
         ensures device { IfErr result (λ f. f ≢ BookFault.ReadFailed) }
     {
@@ -190,7 +193,8 @@ impl Lines {
         ensures ok { OnOk result ((before : List Entry) (text : List ℕ) → GoesOn self.old before [] text
             → GoesOn self.new before [] (text ++ ended line.now)) }
         ensures err { IfErr result
-            (λ f. f ≢ BookFault.NoMemory → (before : List Entry) (text : List ℕ) → HasNo 10 line.now → GoesOn self.old before [] text
+            (λ f. f ≢ BookFault.NoMemory
+            → (before : List Entry) (text : List ℕ) → HasNo 10 line.now → GoesOn self.old before [] text
             → IsFaulty (text ++ ended line.now) f) }
         ensures device { IfErr result (λ f. f ≢ BookFault.ReadFailed) }
     {

@@ -65,7 +65,8 @@ module _ {L : Type 0} (app : App L) (c : Configuration L) where
 
   -- ---- what is seen of a layer
 
-  pub tree_view-is : (i : ℕ) → tree_view (view_of app c i) ≡ maps.tree_view_of c.graph (node_bound c.graph) (tree_of c) i
+  pub tree_view-is : (i : ℕ)
+      → tree_view (view_of app c i) ≡ maps.tree_view_of c.graph (node_bound c.graph) (tree_of c) i
   tree_view-is i =
       ap (λ near. record { id = i; bound = c.graph.bound; own = tree_of c i; near = near })
       (map-map (λ (n : Neighbour L). (n.id, n.tree)) (near_of app c) (neighbours_of c.graph i))
