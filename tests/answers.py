@@ -1,0 +1,299 @@
+"""What the program answers to its texts, told apart from it: topologies, scripts, histories and joined texts, from
+docs/formats.md alone. Each answer is the bytes of standard output and the status.
+
+TOML is read by Python's `tomllib`, of version 1.0, with the differences that docs/formats.md names. What only 1.1 has
+is told apart where that is easy (`\\e` and `\\xHH`); where it isn't, and where `tomllib` refuses what it needn't,
+`Unsure` is raised, and the text is nobody's test.
+"""
+import datetime
+import re
+import tomllib
+
+from model import APPLICATIONS, MOST, MOST_ID, MOST_LINKS, PHASES, Network, Refused, distances, graph_of, number
+
+LIMIT = 1_048_576
+MOST_NODES = 1024
+LONGEST = 256
+MOST_ENTRIES = 1_000_000
+DEEPEST = 80
+KEYS = ("nodes", "links", "app")
+
+
+class Unsure(Exception):
+    """A text of which this reader doesn't know what TOML 1.1 says."""
+
+
+class Fault(Exception):
+    """What is wrong with a text."""
+
+
+# ---- topologies
+
+def with_old_escapes(text):
+    """The text with what TOML 1.1 has beside 1.0 in strings spelled as 1.0 has it."""
+    def spelled(found):
+        word = found[1]
+        return {"e": r"\u001b"}.get(word, rf"\u00{word[1:]}" if word[0] == "x" else found[0])
+    return re.sub(r"\\(x[0-9A-Fa-f]{2}|e|.)", spelled, text, flags=re.DOTALL)
+
+
+def is_unsure(text):
+    """Whether `tomllib` may refuse a text that is a TOML document: an inline table over several lines or with a comma
+    at its end, a time without seconds or with a leap second, the year 0."""
+    return "{" in text or re.search(r"\d\d:\d\d", text) or re.search(r"\b0000-", text)
+
+
+def parts_of(value):
+    return list(value.values()) if isinstance(value, dict) else value if isinstance(value, list) else []
+
+
+def numbers_in(value):
+    return [value] if isinstance(value, int) else [it for part in parts_of(value) for it in numbers_in(part)]
+
+
+def depth(value):
+    """How deep a value is nested, or DEEPEST + 1 where it is deeper than that."""
+    edge, deep = [value], 0
+    while edge and deep <= DEEPEST:
+        edge = [part for it in edge for part in parts_of(it)]
+        deep += bool(edge)
+    return deep
+
+
+def document(text):
+    """The top level of a TOML document."""
+    try:
+        read = text.removeprefix(b"\xef\xbb\xbf").decode()
+    except UnicodeDecodeError:
+        raise Fault("NotToml") from None
+    try:
+        table = tomllib.loads(with_old_escapes(read))
+    except (ValueError, RecursionError):
+        if is_unsure(read):
+            raise Unsure from None
+        raise Fault("NotToml") from None
+    if not all(-(1 << 63) <= it < 1 << 63 for it in numbers_in(table)):
+        raise Fault("NotToml")
+    if depth(table) > DEEPEST // 2:
+        raise Unsure
+    return table
+
+
+def is_small(value):
+    return type(value) is int and 0 <= value <= MOST
+
+
+def is_link(value):
+    return isinstance(value, list) and len(value) == 2 and all(map(is_small, value))
+
+
+def values_of(table):
+    """The three values, of their kinds."""
+    if not all(key in table for key in KEYS):
+        raise Fault("MissingKey")
+    if len(table) > len(KEYS):
+        raise Fault("UnknownKey")
+    nodes, links, app = (table[key] for key in KEYS)
+    kinds = [
+        isinstance(nodes, list) and all(map(is_small, nodes)),
+        isinstance(links, list) and all(map(is_link, links)),
+        isinstance(app, str),
+    ]
+    if not all(kinds):
+        raise Fault("WrongKind")
+    if app not in APPLICATIONS:
+        raise Fault("UnknownApp")
+    return nodes, links, app
+
+
+def twice(items):
+    """The first of the items that came before."""
+    seen = set()
+    return next((it for it in items if it in seen or seen.add(it)), None)
+
+
+def faults_of(nodes, links):
+    """What the lists of a topology may have wrong, in order: each with the first item that has it, or None."""
+    yield "NoNodes", None if nodes else ()
+    yield "TooManyNodes", () if len(nodes) > MOST_NODES else None
+    yield "BadId", next(((i,) for i in nodes if not 1 <= i <= MOST_ID), None)
+    again = twice(nodes)
+    yield "TwiceNode", None if again is None else (again,)
+    yield "TooManyLinks", () if len(links) > MOST_LINKS else None
+    there = set(nodes)
+    yield "StrangeNode", next(((i,) for link in links for i in link if i not in there), None)
+    yield "SelfLink", next(((i,) for i, j in links if i == j), None)
+    yield "TwiceLink", twice([tuple(sorted(link)) for link in links])
+    reached = distances(graph_of(nodes, links), min(nodes))
+    yield "Disconnected", min(((i,) for i in nodes if i not in reached), default=None)
+
+
+def booted(text):
+    """The network that a topology text describes."""
+    if len(text) > LIMIT:
+        raise Fault("TextTooLong")
+    nodes, links, app = values_of(document(text))
+    for name, item in faults_of(nodes, links):
+        if item is not None:
+            raise Fault(" ".join(map(str, (name, *item))))
+    return Network(graph_of(nodes, links), app)
+
+
+# ---- lines
+
+SHAPES = """
+claim N
+follow N
+adopt N N
+request N
+relay N N
+open N
+join N
+finish N
+mend N
+act N CASE
+act N CASE N
+fault tree N N N N
+fault wave N PHASE N
+fault local N TEXT
+fault down N N
+fault up N N
+draw N
+show
+show N
+newest
+enabled N
+ready
+check
+check N
+alarm N
+watch N
+"""
+KINDS = {
+    "N": lambda word: number(word) is not None,
+    "PHASE": lambda word: word in PHASES,
+    "TEXT": lambda word: word != "",
+    "CASE": lambda word: number(word, 255) is not None or re.match("[A-Za-z]", word) is not None,
+}
+BY_WORD = {}
+for shape in SHAPES.split("\n")[1:-1]:
+    BY_WORD.setdefault(shape.split(" ")[0], []).append(shape.split(" "))
+ENTRIES = {"claim", "follow", "adopt", "request", "relay", "open", "join", "finish", "mend", "act", "fault"}
+
+
+def has_shape(words, shape):
+    pairs = zip(words, shape)
+    return len(words) == len(shape) and all(KINDS[it](word) if it in KINDS else word == it for word, it in pairs)
+
+
+def words_of_line(line):
+    """The words of a line that is a command, or None."""
+    if len(line) > LONGEST or not all(32 <= it <= 126 for it in line):
+        return None
+    words = line.decode().split(" ")
+    return words if any(has_shape(words, shape) for shape in BY_WORD.get(words[0], [])) else None
+
+
+def entry_of_line(line):
+    """The same of a line that is an entry of a history."""
+    words = words_of_line(line)
+    if words is None or words[0] not in ENTRIES or words[0] == "act" and number(words[2]) is None:
+        return None
+    return words
+
+
+# ---- scripts
+
+def run_script(network, script):
+    """What a script writes, a list of lines, and whether its last one is a bad line."""
+    told = []
+    lines = script.split(b"\n")
+    for n, line in enumerate(lines[:-1] if lines[-1] == b"" else lines, 1):
+        if line == b"" or line[0] == ord("#") and len(line) <= LONGEST:
+            continue
+        words = words_of_line(line)
+        if words is None:
+            return [*told, f"bad line {n}"], True
+        told += network.answer(words)
+    return told, False
+
+
+def output(lines, status):
+    return "".join(f"{it}\n" for it in lines).encode(), status
+
+
+def replay(topology, script, checked=False):
+    try:
+        network = booted(topology)
+    except Fault as fault:
+        return output([f"bad topology {fault}"], 2)
+    if len(script) > LIMIT:
+        return output(["bad script TooLong"], 2)
+    told, bad = run_script(network, script)
+    if bad:
+        return output(told, 2)
+    faults = network.ask_check() if checked else []
+    return output(told + faults, 1 if len(faults) > 1 else 0)
+
+
+def check(topology, script):
+    return replay(topology, script, True)
+
+
+def joined(text):
+    """The answer to a joined text."""
+    if len(text) > LIMIT:
+        return output(["bad script TooLong"], 2)
+    found = re.search(rb"^---(\n|\Z)", text, re.MULTILINE)
+    front, behind = (text[:found.start()], text[found.end():]) if found else (text, b"")
+    return replay(front, behind)
+
+
+# ---- histories
+
+def entries_of(text):
+    """The entries of a history, each its words."""
+    first, feed, rest = text.partition(b"\n")
+    word, _, version = first.decode("latin-1").partition(" ")
+    if not feed or word != "reset-history" or number(version) is None:
+        raise Fault("BadLine 1")
+    if version != "1":
+        raise Fault("BadVersion")
+    *lines, unended = rest.split(b"\n")
+    entries = []
+    for n, line in enumerate(lines, 2):
+        entries.append(entry_of_line(line))
+        if entries[-1] is None:
+            raise Fault(f"BadLine {n}")
+        if len(entries) > MOST_ENTRIES:
+            raise Fault("TooLong")
+    if unended:
+        raise Fault(f"BadLine {len(lines) + 2}")
+    return entries
+
+
+def verified(network, entries):
+    opened, told = {}, []
+    for at, words in enumerate(entries, 1):
+        answer, = network.answer(words)
+        if answer.startswith("refused"):
+            return output([f"not enabled at {at}"], 1)
+        if words[0] == "fault":
+            opened.clear()
+        if words[0] == "open":
+            opened[words[1]] = at
+        if answer.startswith("complete"):
+            told.append(f"report {answer.split(' ')[1]} opened {opened.get(words[1], '-')} finished {at}")
+    return output([*told, f"verified {len(entries)} entries {len(told)} reports"], 0)
+
+
+def verify(topology, history):
+    try:
+        network = booted(topology)
+    except Fault as fault:
+        return output([f"bad topology {fault}"], 2)
+    try:
+        entries = entries_of(history)
+    except Fault as fault:
+        return output([f"bad history {fault}"], 2)
+    return verified(network, entries)

@@ -1,0 +1,524 @@
+"""A network of nodes, told apart from the program: the tables, the applications, the faults and the checker of
+docs/formats.md and docs/model.md in plain Python, for any registers. `Network.answer` is what a script's command
+writes.
+"""
+PHASES = ("normal", "initiate", "reset")
+MOST_LINKS = 8192
+MOST_ID = 65535
+MOST = 4294967295
+WORD = 1 << 64  # how many values a word of the generator's state has
+
+
+class Refused(Exception):
+    """A command that changes nothing, with the name of the reason."""
+
+
+# ---- numbers, as a line or a local state spells them
+
+def number(word, most=MOST):
+    """The number of a decimal spelling without leading zeros, or None."""
+    if not (word.isascii() and word.isdigit()) or word != "0" and word[0] == "0" or len(word) > 10:
+        return None
+    return int(word) if int(word) <= most else None
+
+
+def identifier(word):
+    return number(word, MOST_ID) or None
+
+
+def ascending(items):
+    return all(a < b for a, b in zip(items, items[1:]))
+
+
+def set_of(rows):
+    return ",".join(map(str, sorted(rows))) or "-"
+
+
+def least(rows):
+    return next((row for row, holds in rows if holds), None)
+
+
+# ---- the applications: for each case its name and whom it reads; `next` is None where the case isn't enabled
+
+class Idle:
+    cases = []
+
+    def start(self, i, greatest):
+        return ()
+
+    def failing(self, i, own, j, other):
+        return []
+
+    def text(self, local):
+        return "-"
+
+    def read(self, text):
+        return () if text == "-" else None
+
+
+class Token:
+    cases = [("pass", "toward"), ("take", "one")]
+
+    def start(self, i, greatest):
+        return i == greatest, frozenset(), frozenset()
+
+    def next(self, case, i, bound, near, own, seen):
+        hold, given, taken = own
+        if case == 1:
+            return (False, given ^ {near}, taken) if hold else None
+        if hold or (i in seen[near][1]) == (near in taken):
+            return None
+        return True, given, taken ^ {near}
+
+    def failing(self, i, own, j, other):
+        coming, going = (i in other[1]) != (j in own[2]), (j in own[1]) != (i in other[2])
+        return [
+            (1, own[0] and other[0]),
+            (2, (own[0] or other[0]) and (coming or going)),
+            (3, coming and going),
+        ]
+
+    def text(self, local):
+        return "/".join(["hold" if local[0] else "free", set_of(local[1]), set_of(local[2])])
+
+    def read(self, text):
+        words = text.split("/")
+        if len(words) != 3 or words[0] not in ("hold", "free"):
+            return None
+        given, taken = ([] if it == "-" else [identifier(word) for word in it.split(",")] for it in words[1:])
+        if None in given + taken or not ascending(given) or not ascending(taken):
+            return None
+        return words[0] == "hold", frozenset(given), frozenset(taken)
+
+
+class Mutex:
+    cases = [("enter", "all"), ("leave", "alone")]
+
+    def start(self, i, greatest):
+        return False, 0
+
+    def turn(self, i, bit, j, other):
+        """Whether the turn of the link of i and j is i's."""
+        return (bit == other) == (i < j)
+
+    def next(self, case, i, bound, near, own, seen):
+        inside, bit = own
+        if case == 2:
+            return (False, 1 - bit) if inside else None
+        turns = all(self.turn(i, bit, j, other) for j, (_, other) in seen.items())
+        return (True, bit) if not inside and turns else None
+
+    def failing(self, i, own, j, other):
+        return [(1, own[0] and other[0]), (2, own[0] and not self.turn(i, own[1], j, other[1]))]
+
+    def text(self, local):
+        return f"{'in' if local[0] else 'out'}/{local[1]}"
+
+    def read(self, text):
+        return {"in/0": (True, 0), "in/1": (True, 1), "out/0": (False, 0), "out/1": (False, 1)}.get(text)
+
+
+class Routes:
+    cases = [("pull", "one")]
+
+    def start(self, i, greatest):
+        return {i: (0, i)}
+
+    def next(self, case, i, bound, near, own, seen):
+        offers = {d: h + 1 for d, (h, _) in seen[near].items() if h + 1 < bound}
+        better = {d: (h, near) for d, h in offers.items() if d not in own or own[d][0] > h}
+        return {**own, **better} if better else None
+
+    def failing(self, i, own, j, other):
+        ways = [(d, h) for d, (h, n) in own.items() if n == j and h > 0]
+        return [
+            (1, any(d not in other for d, _ in ways)),
+            (2, any(d in other and other[d][0] > h - 1 for d, h in ways)),
+        ]
+
+    def text(self, local):
+        return ",".join(f"{d}:{h}:{n}" for d, (h, n) in sorted(local.items())) or "-"
+
+    def read(self, text):
+        entries = [] if text == "-" else [it.split(":") for it in text.split(",")]
+        if any(len(it) != 3 for it in entries):
+            return None
+        entries = [(identifier(d), number(h), identifier(n)) for d, h, n in entries]
+        if any(None in it for it in entries) or not ascending([it[0] for it in entries]):
+            return None
+        return {d: (h, n) for d, h, n in entries}
+
+
+APPLICATIONS = {"idle": Idle(), "token": Token(), "mutex": Mutex(), "routes": Routes()}
+
+
+# ---- graphs: a map from each node, ascending, to the list of its neighbours, ascending
+
+def graph_of(nodes, links):
+    near = {i: set() for i in sorted(nodes)}
+    for i, j in links:
+        near[i].add(j)
+        near[j].add(i)
+    return {i: sorted(it) for i, it in near.items()}
+
+
+def distances(graph, root):
+    found, edge = {root: 0}, [root]
+    for i in edge:
+        for j in graph[i]:
+            if j not in found:
+                found[j] = found[i] + 1
+                edge.append(j)
+    return found
+
+
+# ---- the generator of `draw`: PCG32 (XSH RR 64/32), made from a seed as rand's `seed_from_u64` makes it
+
+FACTOR = 6364136223846793005
+
+
+def rotated(state):
+    word, by = ((state >> 18 ^ state) >> 27) & MOST, state >> 59
+    return (word >> by | word << (32 - by)) & MOST
+
+
+def words_of(seed, count):
+    """The first words of the generator that a seed makes."""
+    state, made = seed, []
+    for _ in range(4):
+        state = (state * FACTOR + 11634580027462260723) % WORD
+        made.append(rotated(state))
+    state, step = made[0] | made[1] << 32, (made[2] | made[3] << 32) | 1
+    state = ((state + step) * FACTOR + step) % WORD
+    told = []
+    for _ in range(count):
+        told.append(rotated(state))
+        state = (state * FACTOR + step) % WORD
+    return told
+
+
+# ---- the network
+
+EVENT_ROWS = {"request": {1}, "relay": {2}, "open": {3}, "join": {4, 5}, "finish": {6, 7}, "mend": {8, 9, 10, 11}}
+TREE_ROWS = {"claim": {1, 2, 3, 4}, "follow": {5, 6}, "adopt": {7, 8}}
+
+
+class Network:
+    """The configuration that is booted on a graph, and what commands make of it."""
+
+    def __init__(self, graph, app):
+        self.graph, self.app, self.bound = dict(graph), APPLICATIONS[app], len(graph)
+        self.greatest = max(graph)
+        far = distances(graph, self.greatest)
+        father = {i: min((j for j in graph[i] if far[j] < far[i]), default=i) for i in graph}
+        self.tree = {i: (self.greatest, father[i], far[i]) for i in graph}
+        self.wave = {i: ("normal", 0) for i in graph}
+        self.local = {i: self.start(i) for i in graph}
+
+    def start(self, i):
+        return self.app.start(i, self.greatest)
+
+    def children(self, i):
+        return [j for j in self.graph[i] if self.tree[j][1] == i]
+
+    # -- the tree table
+
+    def own_rows(self, i):
+        """Rows 1 to 4, each with whether its guard holds."""
+        root, father, dist = self.tree[i]
+        return [
+            (1, root < i),
+            (2, father == i and (root != i or dist != 0)),
+            (3, father != i and father not in self.graph[i]),
+            (4, dist >= self.bound),
+        ]
+
+    def link_rows(self, i, j):
+        """Rows 5 to 8 toward a neighbour."""
+        (root, father, dist), (other, _, away) = self.tree[i], self.tree[j]
+        behind, offers = father == j and dist < self.bound, away < self.bound
+        return [
+            (5, behind and root != other),
+            (6, behind and root == other and dist != away + 1),
+            (7, offers and root < other),
+            (8, offers and root == other and away + 1 < dist),
+        ]
+
+    def tree_rows(self, i):
+        rows = self.own_rows(i) + [it for j in self.graph[i] for it in self.link_rows(i, j)]
+        return {row for row, holds in rows if holds}
+
+    def change_tree(self, word, i, j):
+        rows = self.tree_rows(i) if j is None else {row for row, holds in self.link_rows(i, j) if holds}
+        if not rows & TREE_ROWS[word]:
+            raise Refused("NotEnabled")
+        root, father, _ = self.tree[i]
+        if word == "claim":
+            self.tree[i] = (i, i, 0)
+        elif word == "follow":
+            root, _, away = self.tree[father]
+            self.tree[i] = (root, father, min(away + 1, self.bound))
+        else:
+            root, _, away = self.tree[j]
+            self.tree[i] = (root, j, away + 1)
+        return "applied"
+
+    # -- the wave table
+
+    def mend_rows(self, i, j):
+        """Rows 8 to 11 toward a neighbour, where it is the father."""
+        (phase, session), (above, newer) = self.wave[i], self.wave[j]
+        own, up = phase == "reset", above == "reset"
+        if self.tree[i][1] != j:
+            return []
+        return [
+            (8, not up and own),
+            (9, not up and not own and session != newer),
+            (10, up and own and session != newer),
+            (11, up and not own and newer not in (session, session + 1)),
+        ]
+
+    def wave_rows(self, i):
+        (phase, session), father = self.wave[i], self.tree[i][1]
+        below = [self.wave[c] for c in self.children(i)]
+        done = all(it[0] != "reset" and it[1] == session for it in below)
+        joins, mends = False, []
+        if father in self.graph[i]:
+            above, newer = self.wave[father]
+            joins, mends = above == "reset" and newer == session + 1, self.mend_rows(i, father)
+        rows = [
+            (1, phase == "normal"),
+            (2, phase == "normal" and any(it[0] == "initiate" for it in below)),
+            (3, father == i and phase == "initiate"),
+            (4, joins and phase == "normal"),
+            (5, joins and phase == "initiate"),
+            (6, father != i and phase == "reset" and done),
+            (7, father == i and phase == "reset" and done),
+            *mends,
+        ]
+        return {row for row, holds in rows if holds}
+
+    def change_wave(self, word, i, child):
+        asked = child is None or child in self.children(i) and self.wave[child][0] == "initiate"
+        if not asked or not self.wave_rows(i) & EVENT_ROWS[word]:
+            raise Refused("NotEnabled")
+        (_, session), father = self.wave[i], self.tree[i][1]
+        if word in ("request", "relay"):
+            self.wave[i] = ("initiate", session)
+        elif word == "finish":
+            self.wave[i] = ("normal", session)
+            return f"complete {session}" if father == i else "applied"
+        elif word == "mend":
+            self.wave[i] = self.wave[father]
+        else:
+            if word == "open" and session == MOST:
+                raise Refused("SessionsSpent")
+            self.wave[i], self.local[i] = ("reset", session + 1), self.start(i)
+        return "applied"
+
+    # -- the application's table
+
+    def case_number(self, word):
+        names = [name for name, _ in self.app.cases]
+        return int(word) if word.isdigit() else names.index(word) + 1 if word in names else 0
+
+    def wants_neighbour(self, case):
+        return self.app.cases[case - 1][1] in ("toward", "one")
+
+    def after(self, i, case, near):
+        """The local state after a case, or the refusal of it."""
+        read = {"all": self.graph[i], "one": [near]}.get(self.app.cases[case - 1][1], [])
+        for j in read:
+            if self.wave[j][1] != self.wave[i][1]:
+                raise Refused(f"Disagrees {j}")
+        local = self.app.next(case, i, self.bound, near, self.local[i], {j: self.local[j] for j in read})
+        if local is None:
+            raise Refused("NotEnabled")
+        return local
+
+    def act(self, i, case, near):
+        if not 1 <= case <= len(self.app.cases):
+            raise Refused("NoSuchCase")
+        if self.wants_neighbour(case) and near is None:
+            raise Refused("WantsNeighbour")
+        if not self.wants_neighbour(case) and near is not None:
+            raise Refused("TakesNoNeighbour")
+        self.local[i] = self.after(i, case, near)
+        return "applied"
+
+    def can(self, i, case, near):
+        try:
+            self.after(i, case, near)
+            return True
+        except Refused:
+            return False
+
+    def act_rows(self, i):
+        rows = range(1, len(self.app.cases) + 1)
+        choices = {case: self.graph[i] if self.wants_neighbour(case) else [None] for case in rows}
+        return {case for case in rows if any(self.can(i, case, near) for near in choices[case])}
+
+    # -- events
+
+    def event(self, word, i, case, other):
+        if i not in self.graph:
+            raise Refused("StrangeNode")
+        if other is not None and other not in self.graph[i]:
+            raise Refused("StrangeNeighbour")
+        if word == "act":
+            return self.act(i, self.case_number(case), other)
+        return self.change_tree(word, i, other) if word in TREE_ROWS else self.change_wave(word, i, other)
+
+    # -- faults
+
+    def disturb(self, kind, words):
+        put = {"tree": self.put_tree, "wave": self.put_wave, "local": self.put_local, "down": self.cut, "up": self.link}
+        put[kind](*words)
+        return "disturbed"
+
+    def has(self, *ids):
+        if not all(i in self.graph for i in ids):
+            raise Refused("StrangeNode")
+
+    def put_tree(self, i, root, father, dist):
+        self.has(int(i))
+        if not all(1 <= int(it) <= MOST_ID for it in (root, father)):
+            raise Refused("BadValue")
+        self.tree[int(i)] = (int(root), int(father), int(dist))
+
+    def put_wave(self, i, phase, session):
+        self.has(int(i))
+        self.wave[int(i)] = (phase, int(session))
+
+    def put_local(self, i, text):
+        self.has(int(i))
+        local = self.app.read(text) if len(text) <= 200 else None
+        if local is None:
+            raise Refused("BadLocal")
+        self.local[int(i)] = local
+
+    def links(self):
+        return {(i, j) for i in self.graph for j in self.graph[i] if i < j}
+
+    def cut(self, a, b):
+        a, b = sorted((int(a), int(b)))
+        self.has(a, b)
+        links = self.links()
+        if (a, b) not in links:
+            raise Refused("NoSuchLink")
+        graph = graph_of(self.graph, links - {(a, b)})
+        if len(distances(graph, a)) < len(graph):
+            raise Refused("WouldDisconnect")
+        self.graph = graph
+
+    def link(self, a, b):
+        a, b = sorted((int(a), int(b)))
+        self.has(a, b)
+        if a == b:
+            raise Refused("BadValue")
+        links = self.links()
+        if (a, b) in links:
+            raise Refused("LinkIsThere")
+        if len(links) == MOST_LINKS:
+            raise Refused("BadValue")
+        self.graph = graph_of(self.graph, links | {(a, b)})
+
+    def drawn(self, seed):
+        """The fault that a seed draws, as a line."""
+        kind, *words = words_of(seed, 5)
+        ids = list(self.graph)
+        nodes = [ids[it % len(ids)] for it in words]
+        if kind % 4 == 0:
+            return f"fault tree {nodes[0]} {nodes[1]} {nodes[2]} {words[3] % (len(ids) + 1)}"
+        if kind % 4 == 1:
+            return f"fault wave {nodes[0]} {PHASES[words[1] % 3]} {words[2] % 8}"
+        return f"fault {'down' if kind % 4 == 2 else 'up'} {nodes[0]} {nodes[1]}"
+
+    # -- what can be seen
+
+    def joined(self, i):
+        return self.wave[i][1] == self.wave[self.greatest][1]
+
+    def show(self, i):
+        (root, father, dist), (phase, session) = self.tree[i], self.wave[i]
+        return f"node {i} tree {root} {father} {dist} wave {phase} {session} local {self.app.text(self.local[i])}"
+
+    def newest(self, i):
+        return f"newest {i} {self.app.text(self.local[i]) if self.joined(i) else 'unjoined'}"
+
+    def enabled(self, i):
+        sets = map(set_of, (self.tree_rows(i), self.wave_rows(i), self.act_rows(i)))
+        return "enabled {} tree {} wave {} act {}".format(i, *sets)
+
+    def is_ready(self, i):
+        return bool(self.tree_rows(i) or self.wave_rows(i) - {1} or self.act_rows(i))
+
+    def app_row(self, i, j):
+        together = self.wave[i][1] == self.wave[j][1]
+        return least(self.app.failing(i, self.local[i], j, self.local[j])) if together else None
+
+    def faults(self, i):
+        """Those at node i: the other end, the table and the row."""
+        told = [(i, "tree", least(self.own_rows(i)))]
+        for j in self.graph[i]:
+            told.append((j, "tree", least(self.link_rows(i, j))))
+            told.append((j, "wave", least(self.mend_rows(i, j))))
+            told.append((j, "app", self.app_row(i, j)))
+        return [it for it in told if it[2]]
+
+    # -- commands
+
+    def answer(self, words):
+        """What the words of a good line write, a list of lines."""
+        word, *rest = words
+        if word == "draw":
+            line = self.drawn(int(rest[0]))
+            return [f"drawn {line}", *self.answer(line.split(" "))]
+        if word in QUESTIONS:
+            ids = [int(it) for it in rest]
+            if not all(i in self.graph for i in ids):
+                return ["refused StrangeNode"]
+            return QUESTIONS[word](self, *ids)
+        try:
+            if word == "fault":
+                return [self.disturb(rest[0], rest[1:])]
+            case = rest.pop(1) if word == "act" else None
+            return [self.event(word, int(rest[0]), case, int(rest[1]) if len(rest) > 1 else None)]
+        except Refused as refused:
+            return [f"refused {refused}"]
+
+    def ask_show(self, *ids):
+        return [self.show(i) for i in ids or self.graph]
+
+    def ask_newest(self):
+        return [self.newest(i) for i in self.graph]
+
+    def ask_enabled(self, i):
+        return [self.enabled(i)]
+
+    def ask_ready(self):
+        ids = [str(i) for i in self.graph if self.is_ready(i)]
+        return [" ".join(["ready", *(ids or ["-"])])]
+
+    def ask_check(self, *ids):
+        told = [f"link {i} {j} {family} {row}" for i in ids or self.graph for j, family, row in self.faults(i)]
+        return [*told, f"faults {len(told)}"]
+
+    def ask_alarm(self, i):
+        alarms = [f"alarm {i} {j} {row}" for j, family, row in self.faults(i) if family == "app"]
+        return alarms[:1] or ["quiet"]
+
+    def ask_watch(self, i):
+        told = self.ask_alarm(i)
+        return told if told == ["quiet"] else [*told, *self.answer(["request", str(i)])]
+
+
+QUESTIONS = {
+    "show": Network.ask_show,
+    "newest": Network.ask_newest,
+    "enabled": Network.ask_enabled,
+    "ready": Network.ask_ready,
+    "check": Network.ask_check,
+    "alarm": Network.ask_alarm,
+    "watch": Network.ask_watch,
+}
