@@ -1,0 +1,148 @@
+// Books, history texts, and what verifying them tells.
+
+use crate::networks::{booted, line, opened, whole_reset};
+use crate::page::Picture;
+use app_interface::Idle;
+use app_token::Token;
+use fault_inject::Fault;
+use history::{
+    ApplyRefusal, AtFault, Book, BookFault, BookRefusal, DisturbRefusal, Entry, ReaderFault,
+    VerifyFault, read_book, verify, verify_reader,
+};
+use reset_machine::{Config, Event, Reply, StepRefusal};
+use std::alloc::Global;
+use std::process::Abort;
+use wave_layer::{Phase, WaveRegs};
+
+const HISTORY: &[u8] = b"reset-history 1\nrequest 1\nrelay 2 1\n";
+
+const REFUSED: &[u8] = b"reset-history 1\nrequest 3\nopen 3\njoin 1\n";
+
+// Takes the step, though memory is refused once; then the book is as before.
+fn enter(rt: &impl Abort, alloc: Global, book: &mut Book<Token>, event: Event) {
+    let before = Picture::of(rt, book.config());
+    let (len, reports) = (book.len(), book.reports().len());
+    let receipt = again!(rt; book.step(alloc, event), BookRefusal::NoMemory,
+        Picture::of(rt, book.config()).is(&before) && book.len() == len && book.reports().len() == reports);
+    match receipt {
+        Ok(receipt) => assert!(rt; receipt.event == event && receipt.position == book.len()),
+        Err(_) => panic!(rt; "a step of a whole reset"),
+    }
+}
+
+#[test]
+fn a_book_keeps_a_whole_reset(rt: HostRuntime) {
+    let mut book = opened::<Token>(&rt, rt.alloc());
+    for event in whole_reset() {
+        enter(&rt, rt.alloc(), &mut book, event);
+    }
+    assert_eq!(rt; book.len(), 9);
+    assert_eq!(rt; book.reports().len(), 1);
+    let at = again!(&rt; book.config_at(rt.alloc(), 4), AtFault::NoMemory, book.len() == 9);
+    match at {
+        Ok(config) => assert_eq!(rt; config.newest_session(), 1),
+        Err(_) => panic!(rt; "a position of the book"),
+    }
+}
+
+#[test]
+fn a_fault_is_entered(rt: HostRuntime) {
+    let mut book = opened::<Token>(&rt, rt.alloc());
+    let regs = WaveRegs {
+        phase: Phase::Reset,
+        session: 0,
+    };
+    let back = match book.disturb(rt.alloc(), Fault::SetWave { at: 1, regs }) {
+        Ok(position) => {
+            assert_eq!(rt; position, 1);
+            return;
+        }
+        Err((refusal, fault)) => {
+            assert_eq!(rt; refusal, DisturbRefusal::NoMemory);
+            fault
+        }
+    };
+    assert_eq!(rt; book.len(), 0);
+    assert!(rt; back == Fault::SetWave { at: 1, regs });
+    assert!(rt; book.disturb(rt.alloc(), back) == Ok(1));
+}
+
+#[test]
+fn a_plan_is_applied(rt: HostRuntime) {
+    let mut book = opened::<Idle>(&rt, rt.alloc());
+    let request = Event::Request { at: 3 };
+    let view = again!(&rt; book.config().view(rt.alloc(), 3), StepRefusal::NoMemory, true);
+    let view = view.ok().expect(&rt, "a node");
+    let plan = again!(&rt; view.plan(rt.alloc(), request), StepRefusal::NoMemory, true);
+    let plan = plan.ok().expect(&rt, "a plan");
+    let back = match book.apply(rt.alloc(), plan) {
+        Ok(receipt) => {
+            assert_eq!(rt; receipt.reply, Reply::Applied);
+            return;
+        }
+        Err((refusal, plan)) => {
+            assert!(rt; matches!(refusal, ApplyRefusal::NoMemory));
+            plan
+        }
+    };
+    assert_eq!(rt; book.len(), 0);
+    assert_eq!(rt; back.event(), request);
+    assert!(rt; book.apply(rt.alloc(), back).is_ok());
+    assert_eq!(rt; book.len(), 1);
+}
+
+fn entries(rt: &impl Abort, alloc: Global, text: &[u8]) -> Vec<Entry> {
+    let (mut first, mut second) = (text, text);
+    let read = match read_book(alloc, &mut first) {
+        Err(BookFault::NoMemory) => read_book(alloc, &mut second),
+        answer => answer,
+    };
+    match read {
+        Ok(entries) => entries,
+        Err(_) => panic!(rt; "a history"),
+    }
+}
+
+fn opening(rt: &impl Abort, alloc: Global) -> Config<Idle> {
+    booted(rt, alloc, line(rt, alloc))
+}
+
+#[test]
+fn entries_are_verified(rt: HostRuntime) {
+    let good = entries(&rt, rt.alloc(), HISTORY);
+    let first = opening(&rt, rt.alloc());
+    let second = opening(&rt, rt.alloc());
+    let summary = match verify(rt.alloc(), first, &good) {
+        Err(VerifyFault::NoMemory) => verify(rt.alloc(), second, &good),
+        answer => answer,
+    };
+    match summary {
+        Ok(summary) => assert!(rt; summary.entries == 2 && summary.reports.is_empty()),
+        Err(_) => panic!(rt; "entries that are allowed"),
+    }
+}
+
+#[test]
+fn a_text_is_verified(rt: HostRuntime) {
+    for (text, refused) in [(HISTORY, None), (REFUSED, Some(3))] {
+        let (mut first, mut second) = (text, text);
+        let one = opening(&rt, rt.alloc());
+        let two = opening(&rt, rt.alloc());
+        let told = match verify_reader(rt.alloc(), one, &mut first) {
+            Err(ReaderFault::Text(BookFault::NoMemory)) => {
+                verify_reader(rt.alloc(), two, &mut second)
+            }
+            Err(ReaderFault::Entries(VerifyFault::NoMemory)) => {
+                verify_reader(rt.alloc(), two, &mut second)
+            }
+            answer => answer,
+        };
+        match (told, refused) {
+            (Ok(summary), None) => assert_eq!(rt; summary.entries, 2),
+            (Err(fault), Some(at)) => {
+                assert_eq!(rt; fault, ReaderFault::Entries(VerifyFault::NotEnabledAt(at)));
+            }
+            _ => panic!(rt; "the text's own answer"),
+        }
+    }
+}

@@ -1,0 +1,35 @@
+//! Tests of calls to which memory is refused once: what a call was given is then as before, and the call again
+//! answers as it should. `tests/refused-memory` refuses each allocation of each test in turn; with ample memory
+//! none is refused.
+#![tactic(auto)]
+
+// The answer of the call. Where memory was refused, what is said to be kept has to hold, and it is called again.
+#[cfg(test)]
+macro_rules! again {
+    ($rt:expr; $call:expr, $refused:pat, $kept:expr) => {
+        match $call {
+            Err($refused) => {
+                assert!($rt; $kept);
+                $call
+            }
+            answer => answer,
+        }
+    };
+}
+
+#[cfg(test)]
+mod books;
+#[cfg(test)]
+mod faults;
+#[cfg(test)]
+mod machine;
+#[cfg(test)]
+mod networks;
+#[cfg(test)]
+mod page;
+#[cfg(test)]
+mod seats;
+#[cfg(test)]
+mod texts;
+#[cfg(test)]
+mod topologies;

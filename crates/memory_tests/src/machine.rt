@@ -1,0 +1,151 @@
+// Steps, questions, plans and runs of a configuration.
+
+use crate::networks::{booted, line, whole_reset};
+use crate::page::Picture;
+use app_interface::{Application, Idle, LocalFault};
+use app_routes::Routes;
+use app_token::Token;
+use reset_machine::{Config, Done, Event, Plan, Reply, StepRefusal, View};
+use std::alloc::{AllocError, Global};
+use std::process::Abort;
+
+// The node 3 hands its token on to node 2, which takes it.
+fn handing_on() -> [Event; 2] {
+    [
+        Event::Act {
+            at: 3,
+            case: 1,
+            with: Some(2),
+        },
+        Event::Act {
+            at: 2,
+            case: 2,
+            with: Some(3),
+        },
+    ]
+}
+
+// Takes the step, though memory is refused once; then the configuration is as before.
+fn step<P: Application>(
+    rt: &impl Abort,
+    alloc: Global,
+    config: &mut Config<P>,
+    event: Event,
+) -> Result<Reply, StepRefusal> {
+    let before = Picture::of(rt, config);
+    again!(rt; config.step(alloc, event), StepRefusal::NoMemory, Picture::of(rt, config).is(&before))
+}
+
+#[test]
+fn steps_are_taken(rt: HostRuntime) {
+    let mut config: Config<Token> = booted(&rt, rt.alloc(), line(&rt, rt.alloc()));
+    for event in handing_on() {
+        assert_eq!(rt;
+            step(&rt, rt.alloc(), &mut config, event),
+            Ok(Reply::Applied)
+        );
+    }
+    let [.., last] = whole_reset();
+    for event in whole_reset() {
+        let reply = if event == last {
+            Reply::Complete(1)
+        } else {
+            Reply::Applied
+        };
+        assert_eq!(rt; step(&rt, rt.alloc(), &mut config, event), Ok(reply));
+    }
+}
+
+#[test]
+fn a_refusal_is_told(rt: HostRuntime) {
+    let mut config: Config<Token> = booted(&rt, rt.alloc(), line(&rt, rt.alloc()));
+    let [_, take] = handing_on();
+    let refused = step(&rt, rt.alloc(), &mut config, take);
+    assert_eq!(rt; refused, Err(StepRefusal::NotEnabled));
+}
+
+#[test]
+fn questions_are_answered(rt: HostRuntime) {
+    let mut config: Config<Token> = booted(&rt, rt.alloc(), line(&rt, rt.alloc()));
+    let before = Picture::of(&rt, &config);
+    let enabled = again!(&rt; config.enabled(rt.alloc(), 3), StepRefusal::NoMemory,
+        Picture::of(&rt, &config).is(&before));
+    match enabled {
+        Ok(rows) => assert!(rt; rows.act.has(1) && rows.wave.has(1) && rows.tree.count() == 0),
+        Err(_) => panic!(rt; "a node"),
+    }
+    let ready =
+        again!(&rt; config.ready(rt.alloc()), AllocError, Picture::of(&rt, &config).is(&before));
+    let ready = ready.expect(&rt, "memory is refused once");
+    assert_eq!(rt; ready.as_slice(), [3].as_slice());
+    assert!(rt; Picture::of(&rt, &config).is(&before));
+}
+
+#[test]
+fn a_local_state_is_read(rt: HostRuntime) {
+    let text = b"1:0:1,3:2:2".as_slice();
+    let read = again!(&rt; Routes::read_local(rt.alloc(), text), LocalFault::NoMemory, true);
+    let read = read.ok().expect(&rt, "a local state");
+    let copy = again!(&rt; Routes::copy(rt.alloc(), &read), AllocError, true);
+    let copy = copy.ok().expect(&rt, "memory is refused once");
+    assert!(rt; Routes::same(&read, &copy));
+    let bad =
+        again!(&rt; Routes::read_local(rt.alloc(), b"3:2:2,1:0:1".as_slice()), LocalFault::NoMemory, true);
+    assert!(rt; matches!(bad, Err(LocalFault::BadLocal)));
+}
+
+fn seen<P: Application>(rt: &impl Abort, alloc: Global, config: &Config<P>, at: u32) -> View<P> {
+    let before = Picture::of(rt, config);
+    let view =
+        again!(rt; config.view(alloc, at), StepRefusal::NoMemory, Picture::of(rt, config).is(&before));
+    match view {
+        Ok(view) => view,
+        Err(_) => panic!(rt; "a node"),
+    }
+}
+
+fn planned<P: Application>(
+    rt: &impl Abort,
+    alloc: Global,
+    view: &View<P>,
+    event: Event,
+) -> Plan<P> {
+    match again!(rt; view.plan(alloc, event), StepRefusal::NoMemory, true) {
+        Ok(plan) => plan,
+        Err(_) => panic!(rt; "a plan"),
+    }
+}
+
+#[test]
+fn a_plan_is_made_and_put(rt: HostRuntime) {
+    let mut config: Config<Token> = booted(&rt, rt.alloc(), line(&rt, rt.alloc()));
+    let view = seen(&rt, rt.alloc(), &config, 3);
+    let [pass, _] = handing_on();
+    let plan = planned(&rt, rt.alloc(), &view, pass);
+    assert!(rt; plan.seen_view().same(&view));
+    match config.put_plan(plan) {
+        Ok(reply) => assert_eq!(rt; reply, Reply::Applied),
+        Err(_) => panic!(rt; "node 3 sees the same"),
+    }
+}
+
+// How the events of a whole reset are answered where each is tried once more.
+fn attempted(rt: &impl Abort, done: &[Done]) {
+    assert_eq!(rt; done.len(), 9);
+    assert!(rt; done.last() == Some(&Done::Did(Reply::Complete(1))));
+}
+
+#[test]
+fn a_run_is_made_beside_a_copy(rt: HostRuntime) {
+    let mut config: Config<Idle> = booted(&rt, rt.alloc(), line(&rt, rt.alloc()));
+    let before = Picture::of(&rt, &config);
+    let copy =
+        again!(&rt; config.copy(rt.alloc()), AllocError, Picture::of(&rt, &config).is(&before));
+    let copy = copy.ok().expect(&rt, "memory is refused once");
+    // No step of `idle` asks for memory, so want of it is the answers' alone, and nothing was done.
+    let done =
+        again!(&rt; config.run(rt.alloc(), &whole_reset()), AllocError, Picture::of(&rt, &config).is(&before));
+    attempted(&rt, &done.expect(&rt, "memory is refused once"));
+    assert_eq!(rt; config.newest_session(), 1);
+    assert!(rt; Picture::of(&rt, &copy).is(&before));
+}

@@ -1,0 +1,62 @@
+// Networks for the tests, made although memory is refused once.
+
+use app_interface::Application;
+use history::{Book, MAX_ENTRIES};
+use reset_machine::{Config, Event};
+use std::alloc::Global;
+use std::process::Abort;
+use topology::{TopoFault, Topology};
+
+/// The line of the nodes 1, 2 and 3.
+pub(crate) fn line(rt: &impl Abort, alloc: Global) -> Topology {
+    built(rt, alloc, &[(1, 2), (2, 3)])
+}
+
+/// The triangle of the nodes 1, 2 and 3.
+pub(crate) fn triangle(rt: &impl Abort, alloc: Global) -> Topology {
+    built(rt, alloc, &[(1, 2), (2, 3), (1, 3)])
+}
+
+fn built(rt: &impl Abort, alloc: Global, links: &[(u32, u32)]) -> Topology {
+    again!(rt; Topology::build(alloc, &[1, 2, 3], links), TopoFault::NoMemory, true).expect(
+        rt, "a graph",
+    )
+}
+
+/// The topology, booted. Where memory is refused it comes back.
+pub(crate) fn booted<P: Application>(
+    rt: &impl Abort,
+    alloc: Global,
+    topology: Topology,
+) -> Config<P> {
+    let links = topology.link_count();
+    let back = match Config::<P>::boot(alloc, topology) {
+        Ok(config) => return config,
+        Err(refused) => refused.value,
+    };
+    assert_eq!(rt; back.link_count(), links);
+    match Config::<P>::boot(alloc, back) {
+        Ok(config) => config,
+        Err(_) => panic!(rt; "memory is refused once"),
+    }
+}
+
+/// A book that opens with the booted line.
+pub(crate) fn opened<P: Application>(rt: &impl Abort, alloc: Global) -> Book<P> {
+    Book::open_book(alloc, booted::<P>(rt, alloc, line(rt, alloc)), MAX_ENTRIES)
+}
+
+/// The steps of one whole reset of the line.
+pub(crate) fn whole_reset() -> [Event; 9] {
+    [
+        Event::Request { at: 1 },
+        Event::Relay { at: 2, child: 1 },
+        Event::Relay { at: 3, child: 2 },
+        Event::Open { at: 3 },
+        Event::Join { at: 2 },
+        Event::Join { at: 1 },
+        Event::Finish { at: 1 },
+        Event::Finish { at: 2 },
+        Event::Finish { at: 3 },
+    ]
+}

@@ -1,0 +1,206 @@
+// A sharing of a book, its seats, and what is done at them.
+
+ghost use Rattle.std.specs.Prelude.{◌≡◌, ◌+◌, length};
+
+use crate::networks::{booted, line, opened};
+use app_interface::Idle;
+use app_token::Token;
+use history::{ApplyRefusal, Book, BookRefusal, Entry, Receipt};
+use node_threads::{
+    CloseFault, CommitRefusal, Gate, LookRefusal, Outcome, Round, RunCause, Seat, SeatRefusal,
+    ShareFault, Shared, close, next_event, run_nodes, select, share,
+};
+use reset_machine::{Config, Event, Plan, StepRefusal, View};
+use std::alloc::{AllocError, Global};
+use std::marker::Brand;
+use std::process::Abort;
+use std::sync::Wait;
+use std::sync::ledger::Blank;
+use std::thread::Threads;
+
+// A gate that does nothing.
+#[derive(Clone, Copy)]
+struct Still;
+
+impl Gate for Still {
+    fn planned(&self, _node: u32) {}
+
+    fn committed(&self, _node: u32) {}
+}
+
+// Shares the booted line and plays a part of a reset at its seats.
+fn play<R: Wait + Abort>(rt: &R, alloc: Global) {
+    let book = opened::<Idle>(rt, alloc);
+    let nodes = book.config().topology().len();
+    let blank = Blank::new(nodes as u64 + 1);
+    play_round::<Brand, R>(rt, alloc, blank, book)
+}
+
+fn play_round<L: Round, R: Wait + Abort>(rt: &R, alloc: Global, blank: Blank, book: Book<Idle>)
+    requires name { blank.name ≡ L.name }
+    requires parts { blank.parts ≡ L.parts }
+    requires one_more { L.parts ≡ L.seats + 1 }
+    requires mark { length book.entries ≡ L.mark }
+    requires nodes { length book.config.graph.ids ≡ L.seats }
+{
+    match share::<L, Idle>(alloc, blank, book) {
+        Ok((shared, seats)) => reset_begins(rt, alloc, shared, seats),
+        Err((fault, blank, book)) => {
+            assert_eq!(rt; fault, ShareFault::NoMemory);
+            assert_eq!(rt; book.len(), 0);
+            match share::<L, Idle>(alloc, blank, book) {
+                Ok((shared, seats)) => reset_begins(rt, alloc, shared, seats),
+                Err(_) => panic!(rt; "memory is refused once"),
+            }
+        }
+    }
+}
+
+fn seen<L: Round, R: Wait + Abort>(
+    rt: &R,
+    alloc: Global,
+    shared: &Shared<L, Idle>,
+    seat: &Seat<L>,
+) -> View<Idle> {
+    match again!(rt; shared.look(rt, alloc, seat), LookRefusal::NoMemory, true) {
+        Ok(view) => view,
+        Err(_) => panic!(rt; "a node"),
+    }
+}
+
+// What the seat's node would do first, as it sees its neighbourhood now.
+fn first_plan<L: Round, R: Wait + Abort>(
+    rt: &R,
+    alloc: Global,
+    shared: &Shared<L, Idle>,
+    seat: &Seat<L>,
+) -> Plan<Idle> {
+    let view = seen(rt, alloc, shared, seat);
+    let event = match again!(rt; next_event(alloc, &view), AllocError, true) {
+        Ok(Some(event)) => event,
+        _ => panic!(rt; "something to do"),
+    };
+    match again!(rt; view.plan(alloc, event), StepRefusal::NoMemory, true) {
+        Ok(plan) => plan,
+        Err(_) => panic!(rt; "a plan"),
+    }
+}
+
+// Commits what the seat's node would do first, though memory is refused once; then the plan comes back.
+fn commit<L: Round, R: Wait + Abort>(
+    rt: &R,
+    alloc: Global,
+    shared: &Shared<L, Idle>,
+    seat: &mut Seat<L>,
+) -> Receipt {
+    let plan = first_plan(rt, alloc, shared, seat);
+    let receipts = seat.receipts().len();
+    let back = match shared.commit(rt, alloc, seat, plan) {
+        Ok(receipt) => return receipt,
+        Err((refusal, back)) => {
+            assert!(rt; matches!(refusal, CommitRefusal::Refused(ApplyRefusal::NoMemory)));
+            back
+        }
+    };
+    assert_eq!(rt; seat.receipts().len(), receipts);
+    match shared.commit(rt, alloc, seat, back) {
+        Ok(receipt) => receipt,
+        Err(_) => panic!(rt; "memory is refused once"),
+    }
+}
+
+// Node 1 asks, node 2 passes the request on, node 3 asks by itself.
+fn reset_begins<L: Round, R: Wait + Abort>(
+    rt: &R,
+    alloc: Global,
+    shared: Shared<L, Idle>,
+    mut seats: Vec<Seat<L>>,
+) {
+    for seat in seats.iter_mut() {
+        let node = seat.node();
+        let receipt = match node {
+            1 => {
+                let refused = SeatRefusal::Refused(BookRefusal::NoMemory);
+                match select(rt, alloc, &shared, seat) {
+                    Err(refusal) => {
+                        assert_eq!(rt; refusal, refused);
+                        assert!(rt; seat.receipts().is_empty());
+                        select(rt, alloc, &shared, seat)
+                    }
+                    answer => answer,
+                }
+            }
+            2 => Ok(commit(rt, alloc, &shared, seat)),
+            _ => {
+                let request = Event::Request { at: node };
+                match shared.step(rt, alloc, seat, request) {
+                    Err(SeatRefusal::Refused(BookRefusal::NoMemory)) => {
+                        assert!(rt; seat.receipts().is_empty());
+                        shared.step(rt, alloc, seat, request)
+                    }
+                    answer => answer,
+                }
+            }
+        };
+        match receipt {
+            Ok(receipt) => assert!(rt; receipt.event.node() == node),
+            Err(_) => panic!(rt; "a step that is allowed"),
+        }
+    }
+    closes(rt, alloc, shared, seats);
+}
+
+fn closes<L: Round>(rt: &impl Abort, alloc: Global, shared: Shared<L, Idle>, seats: Vec<Seat<L>>) {
+    let (shared, seats) = match close(alloc, shared, seats) {
+        Ok(outcome) => return told(rt, &outcome),
+        Err((fault, shared, seats)) => {
+            assert_eq!(rt; fault, CloseFault::NoMemory);
+            (shared, seats)
+        }
+    };
+    match close(alloc, shared, seats) {
+        Ok(outcome) => told(rt, &outcome),
+        Err(_) => panic!(rt; "memory is refused once"),
+    }
+}
+
+fn told(rt: &impl Abort, outcome: &Outcome<Idle>) {
+    assert_eq!(rt; outcome.book.len(), 3);
+    assert_eq!(rt; outcome.seats.len(), 3);
+    assert!(rt; outcome.seats.iter().all(|list| list.receipts.len() == 1));
+}
+
+#[test]
+fn a_sharing_is_played_and_closed(rt: HostRuntime) {
+    play(&rt, rt.alloc());
+}
+
+// Takes the book's entries once more, from the booted line on.
+fn replayed(rt: &impl Abort, alloc: Global, book: &Book<Token>) {
+    let mut config: Config<Token> = booted(rt, alloc, line(rt, alloc));
+    for position in 1..=book.len() {
+        match book.entry(position) {
+            Some(Entry::Step(event)) => {
+                let reply = again!(rt; config.step(alloc, *event), StepRefusal::NoMemory, true);
+                assert!(rt; reply.is_ok());
+            }
+            _ => panic!(rt; "threads take steps alone"),
+        }
+    }
+}
+
+fn run<R: Threads + Wait + Sync + Abort>(rt: &R, alloc: Global) {
+    let book = opened::<Token>(rt, alloc);
+    match run_nodes(rt, alloc, &Still, book, 20, Some(1)) {
+        Ok(outcome) => replayed(rt, alloc, &outcome.book),
+        Err(fault) => {
+            assert!(rt; fault.cause == RunCause::NoMemory || fault.cause == RunCause::NoThread);
+            replayed(rt, alloc, &fault.book);
+        }
+    }
+}
+
+#[test]
+fn a_run_ends_or_hands_its_book_back(rt: HostRuntime) {
+    run(&rt, rt.alloc());
+}
