@@ -56,7 +56,11 @@ impl Read for Endless {
     }
 }
 
-// Gives the first line of a history, and then `join 1` for ever, a line at a read.
+// Entries of which the first is refused after the boot.
+const JOINS: &[u8] =
+    b"join 1\njoin 1\njoin 1\njoin 1\njoin 1\njoin 1\njoin 1\njoin 1\njoin 1\njoin 1\njoin 1\n";
+
+// Gives the first line of a history, and then these entries for ever.
 #[derive(Drop)]
 struct Joins {
     begun: bool,
@@ -64,14 +68,14 @@ struct Joins {
 
 impl Read for Joins {
     fn read(&mut self, buf: &mut [u8]) -> io::Result<usize> {
-        let line = if self.begun {
-            b"join 1\n".as_slice()
+        let text = if self.begun {
+            JOINS
         } else {
             b"reset-history 1\n".as_slice()
         };
         self.begun = true;
-        let count = buf.len().min(line.len());
-        buf[..count].copy_from_slice(&line[..count]);
+        let count = buf.len().min(text.len());
+        buf[..count].copy_from_slice(&text[..count]);
         Ok(count)
     }
 }
@@ -249,6 +253,10 @@ fn faults_of_the_text_come_before_a_refused_entry(rt: HostRuntime) {
     // The entry is read by the fourth read, and refused.
     let failed = Err(ReaderFault::Text(BookFault::ReadFailed));
     assert_eq!(rt; verdict_of_pieces(&rt, rt.alloc(), bad, 5), failed);
+}
+
+#[test]
+fn too_many_entries_are_told_before_a_refused_one(rt: HostRuntime) {
     let too_long = Err(ReaderFault::Text(BookFault::TooLong));
     assert_eq!(rt;
         verdict(&rt, rt.alloc(), &mut Joins { begun: false }),
