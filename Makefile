@@ -1,7 +1,7 @@
 # Needs `rt`, the command of the Rattle kit, make and python3, which rt needs too: nothing else, but for
 # `make bench`.
 
-.PHONY: run build install examples test mutants gate-times reading-list bench
+.PHONY: run build install examples test mutants gate-times reading-list bench fuzz soak
 
 # Builds the program and replays one whole reset wave on the line of nodes 1, 2, 3.
 run: build
@@ -44,3 +44,11 @@ reading-list:
 # valgrind and GNU time beside.
 bench: build
 	@bash bench/run build/reset-service
+
+# Compares the program with a second one, written in Python, on random texts: make fuzz N=100000 SEED=s JOBS=2
+fuzz: build
+	@tests/fuzz build/reset-service $(or $(N),100000) $(or $(SEED),reset) $(JOBS)
+
+# Runs 64 node threads for long, three times, and verifies what they keep: make soak TURNS=100000
+soak: build
+	@tests/soak build/reset-service $(TURNS)

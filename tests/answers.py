@@ -60,6 +60,14 @@ def depth(value):
     return deep
 
 
+def finite(word):
+    """The float of a spelling, which isn't one where its number is too great for 64 bits."""
+    number = float(word)
+    if abs(number) == float("inf") and "inf" not in word:
+        raise ValueError
+    return number
+
+
 def document(text):
     """The top level of a TOML document."""
     try:
@@ -67,7 +75,7 @@ def document(text):
     except UnicodeDecodeError:
         raise Fault("NotToml") from None
     try:
-        table = tomllib.loads(with_old_escapes(read))
+        table = tomllib.loads(with_old_escapes(read), parse_float=finite)
     except (ValueError, RecursionError):
         if is_unsure(read):
             raise Unsure from None
