@@ -34,11 +34,11 @@ impl Page {
 
 impl Write for Page {
     fn write(&mut self, buf: &[u8]) -> io::Result<usize> {
-        let mut count = 0usize;
-        for (byte, room) in buf.iter().zip(self.bytes.iter_mut().skip(self.taken)) {
-            *room = *byte;
-            count = count.saturating_add(1);
-        }
+        let Some(room) = self.bytes.get_mut(self.taken..) else {
+            return Ok(0);
+        };
+        let count = buf.len().min(room.len());
+        room[..count].copy_from_slice(&buf[..count]);
         self.taken = self.taken.saturating_add(count);
         Ok(count)
     }
