@@ -56,6 +56,30 @@ impl Read for Endless {
     }
 }
 
+// Entries of which the first is refused after the boot.
+const JOINS: &[u8] =
+    b"join 1\njoin 1\njoin 1\njoin 1\njoin 1\njoin 1\njoin 1\njoin 1\njoin 1\njoin 1\njoin 1\n";
+
+// Gives the first line of a history, and then these entries for ever.
+#[derive(Drop)]
+struct Joins {
+    begun: bool,
+}
+
+impl Read for Joins {
+    fn read(&mut self, buf: &mut [u8]) -> io::Result<usize> {
+        let text = if self.begun {
+            JOINS
+        } else {
+            b"reset-history 1\n".as_slice()
+        };
+        self.begun = true;
+        let count = buf.len().min(text.len());
+        buf[..count].copy_from_slice(&text[..count]);
+        Ok(count)
+    }
+}
+
 // Why a text is no history.
 fn fault_of(rt: &impl Abort, alloc: Global, text: &[u8]) -> BookFault {
     let mut rest = text;
@@ -193,4 +217,49 @@ fn each_failed_read_of_a_verification_is_told(rt: HostRuntime) {
         assert_eq!(rt; verdict(&rt, rt.alloc(), &mut failing), failed);
         assert_eq!(rt; failing.reads, stop);
     }
+}
+
+// The same, of a text that comes piece by piece.
+fn verdict_of_pieces(
+    rt: &impl Abort,
+    alloc: Global,
+    text: &[u8],
+    stop: usize,
+) -> Result<(usize, usize), ReaderFault> {
+    let mut pieces = Failing {
+        rest: text,
+        stop,
+        reads: 0,
+    };
+    verdict(rt, alloc, &mut pieces)
+}
+
+#[test]
+fn verifies_piece_by_piece(rt: HostRuntime) {
+    let whole = verdict_of_pieces(&rt, rt.alloc(), WHOLE_RESET, 0);
+    assert_eq!(rt; whole, Ok((9, 1)));
+    let early = b"reset-history 1\nrequest 3\nopen 3\njoin 1\njoin 1\n".as_slice();
+    let refused = Err(ReaderFault::Entries(VerifyFault::NotEnabledAt(3)));
+    assert_eq!(rt; verdict_of_pieces(&rt, rt.alloc(), early, 0), refused);
+}
+
+#[test]
+fn faults_of_the_text_come_before_a_refused_entry(rt: HostRuntime) {
+    let bad = b"reset-history 1\njoin 1\nrequest 1\nrequest 01\n".as_slice();
+    let bad_line = Err(ReaderFault::Text(BookFault::BadLine(4)));
+    assert_eq!(rt; verdict_of_pieces(&rt, rt.alloc(), bad, 0), bad_line);
+    let cut = b"reset-history 1\njoin 1\nrequest 1\nrequest 1".as_slice();
+    assert_eq!(rt; verdict_of_pieces(&rt, rt.alloc(), cut, 0), bad_line);
+    // The entry is read by the fourth read, and refused.
+    let failed = Err(ReaderFault::Text(BookFault::ReadFailed));
+    assert_eq!(rt; verdict_of_pieces(&rt, rt.alloc(), bad, 5), failed);
+}
+
+#[test]
+fn too_many_entries_are_told_before_a_refused_one(rt: HostRuntime) {
+    let too_long = Err(ReaderFault::Text(BookFault::TooLong));
+    assert_eq!(rt;
+        verdict(&rt, rt.alloc(), &mut Joins { begun: false }),
+        too_long
+    );
 }
