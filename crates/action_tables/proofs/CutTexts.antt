@@ -39,8 +39,8 @@ has_no_before byte (x ∷ xs) (suc i) h = (
       (λ k lt. h (suc k) (omega arith)),
 )
 
-pub placed_front : (byte : ℕ) (xs : List ℕ) (i : ℕ) → Some i ≡ position (λ b. b == byte) xs → HasNo byte (take i xs)
-placed_front byte xs i at = has_no_before byte xs i (position-Some (λ b. b == byte) xs i 0 (sym at)).2
+pub placed_prefix : (byte : ℕ) (xs : List ℕ) (i : ℕ) → Some i ≡ position (λ b. b == byte) xs → HasNo byte (take i xs)
+placed_prefix byte xs i at = has_no_before byte xs i (position-Some (λ b. b == byte) xs i 0 (sym at)).2
 
 pub placed_whole : (byte : ℕ) (xs : List ℕ) (i : ℕ) → Some i ≡ position (λ b. b == byte) xs
     → xs ≡ take i xs ++ byte ∷ drop (i + 1) xs

@@ -1,6 +1,6 @@
 pub mod Pieces
 pub mod TableTexts
-pub mod Fronts
+pub mod Prefixes
 pub mod NumberSets
 pub mod EnabledSets
 pub mod ListTexts

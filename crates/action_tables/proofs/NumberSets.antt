@@ -44,22 +44,22 @@ pub insert-more : (n x : ℕ) (xs : List ℕ) → x < n → insert_key nat_cmp (
 insert-more n x xs h =
     ap (λ o. match_ordering o (n ∷ x ∷ xs) (x ∷ xs) (x ∷ insert_key nat_cmp xs n)) (sym (nat_cmp_is n x Greater h))
 
--- a number below all of a list goes to its front
-insert_front : (p : ℕ → Bool) (n a k : ℕ) → n < a
+-- a number below all of a list goes to its beginning
+insert_prefix : (p : ℕ → Bool) (n a k : ℕ) → n < a
     → insert_key nat_cmp (filter p (range_with_len a k)) n ≡ n ∷ filter p (range_with_len a k)
-insert_front p n a zero h = refl
-insert_front p n a (suc k) h =
+insert_prefix p n a zero h = refl
+insert_prefix p n a (suc k) h =
     let rest = filter p (range_with_len (a + 1) k) in
     elim (p a) as (λ b. insert_key nat_cmp (cond b (a ∷ rest) rest) n ≡ n ∷ cond b (a ∷ rest) rest) [
       | true ↦ insert-less n a rest h
-      | false ↦ insert_front p n (a + 1) k (omega arith)
+      | false ↦ insert_prefix p n (a + 1) k (omega arith)
     ]
 
 -- a, then the kept numbers of rest, where a is n
 insert_here : (b : Bool) (n a : ℕ) (rest : List ℕ) → a ≡ n → insert_key nat_cmp rest n ≡ n ∷ rest
     → a ∷ rest ≡ insert_key nat_cmp (cond b (a ∷ rest) rest) n
-insert_here true n a rest is front = sym (insert-same n a rest (sym is))
-insert_here false n a rest is front = ap (λ x. x ∷ rest) is ∙ sym front
+insert_here true n a rest is prefix = sym (insert-same n a rest (sym is))
+insert_here false n a rest is prefix = ap (λ x. x ∷ rest) is ∙ sym prefix
 
 -- the same where a is below n
 insert_later : (b : Bool) (n a : ℕ) (rest : List ℕ) → a < n
@@ -82,7 +82,7 @@ inserted p q n a (suc k) same at pos low high =
     filter_alike q p (range_with_len (a + 1) k)
     (above (λ m. q m ≡ p m) (a + 1) k (λ m later. same m (omega arith) (λ e. absurd (omega arith)))) in
     ap (λ b. cond b (a ∷ keep) keep) (ap q is ∙ at) ∙ ap (λ (l : List ℕ). a ∷ l) tail
-    ∙ insert_here (p a) n a rest is (insert_front p n (a + 1) k below))
+    ∙ insert_here (p a) n a rest is (insert_prefix p n (a + 1) k below))
     (λ other.
     let ne : a ≢ n = other.1 in
     let under : a < n = omega arith in

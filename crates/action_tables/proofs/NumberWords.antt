@@ -1,10 +1,14 @@
 -- The words that spell numbers: digits, of which the first is no zero where more follow.
-use Rattle.std.proofs.Common.{◌≡◌, ℕ, zero, suc, ◌+◌, ◌*◌, ◌<◌, ◌≤◌, ◌^◌, ◌⊎◌, inl, inr, List, [], ◌∷◌, Option, Some}
-use Rattle.std.proofs.Common.{None, IfSome, IfNone, refl, sym, ap, ◌∙◌, subst, arith, rules, length, get_or}
+use Rattle.std.proofs.Common.{◌≡◌, ℕ, zero, suc, ◌+◌, ◌*◌, ◌-◌, ◌<◌, ◌≤◌, ◌^◌, ◌⊎◌, inl, inr, List, [], ◌∷◌}
+use Rattle.std.proofs.Common.{refl, sym, ap, ◌∙◌, subst, arith, rules, length, get_or, take, drop}
+use Rattle.std.proofs.Common.{add-one, pow-suc}
+use Rattle.std.proofs.lemmas.List.{take_all}
 use Rattle.std.specs.Char.{digit_value}
 use Rattle.std.specs.Fmt.{decimal}
 use Rattle.std.specs.Str.Parse.{AllDigits, digits_value, digits_value_after}
+use Rattle.std.proofs.Math.Nat.{one-le-pow}
 use Rattle.std.proofs.lemmas.Fmt.{decimal_is_IsNumeral, decimal_digit, decimal-digits_value, first_decimal}
+use Rattle.std.proofs.lemmas.Fmt.{length-decimal-le}
 use Rattle.std.proofs.lemmas.Str.Parse.{IsNumeralModel, numerals_by_value, tells_digits}
 
 -- a word is empty, or has a zero before its digits
@@ -22,18 +26,6 @@ decimal_short (suc n) h e long = omega (arith, first_decimal (suc n) (search rul
 pub decimal_plain : (n : ℕ) → n < 2 ^ 32 → IsEmptyOrPadded (decimal n) → ⊥
 decimal_plain n h (inl none) = omega (arith, none, (decimal_is_IsNumeral n (omega arith)).0.0)
 decimal_plain n h (inr zeros) = decimal_short n (omega arith) zeros.0 zeros.1
-
--- digits behind a number make it no smaller
-pub after-le : (n : ℕ) (digits : List ℕ) → n ≤ digits_value_after 10 n digits
-after-le n [] = omega arith
-after-le n (c ∷ cs) = omega (arith, after-le (n * 10 + digit_value c) cs)
-
--- a next digit that makes the number too large makes the whole so
-pub too_large : (n : ℕ) (rest : List ℕ) → 1 ≤ length rest
-    → (digit_value (get_or rest 0 0) < 10 → 2 ^ 32 ≤ n * 10 + digit_value (get_or rest 0 0))
-    → AllDigits 10 rest → 2 ^ 32 ≤ digits_value_after 10 n rest
-too_large n [] some large digits = absurd (omega (arith, some))
-too_large n (c ∷ cs) some large digits = omega (arith, large digits.0, after-le (n * 10 + digit_value c) cs)
 
 positive : (n : ℕ) → (n ≡ 0 → ⊥) → 0 < n
 positive zero some = absurd (some refl)
@@ -57,15 +49,50 @@ read_only w large n small is =
     let numeral = decimal_is_IsNumeral n (omega arith) in
     omega (arith, large (subst (AllDigits 10) (sym is) numeral.0.1), ap (digits_value 10) is, numeral.1)
 
--- what is read of digits is the number that the word spells
-pub found_number : (w : List ℕ) (r : Option ℕ) → (IsEmptyOrPadded w → ⊥)
-    → IfSome r (λ n. AllDigits 10 w × (n ≡ digits_value 10 w)) → IfSome r (λ n. n < 2 ^ 32)
-    → IfSome r (λ n. w ≡ decimal n)
-found_number w (Some n) plain found small =
+-- what is read of digits is the number that the word spells, where it has 32 bits
+pub found_number : (w : List ℕ) (n : ℕ) → (IsEmptyOrPadded w → ⊥) → AllDigits 10 w × (n ≡ digits_value 10 w)
+    → n < 2 ^ 32 → w ≡ decimal n
+found_number w n plain found small =
     read_found w plain found.0 (omega (arith, found.1, small)) ∙ ap decimal (sym found.1)
-found_number w None plain found small = tt
 
-pub only_number : (w : List ℕ) (r : Option ℕ) → IfNone r (AllDigits 10 w → 2 ^ 32 ≤ digits_value 10 w)
-    → IfNone r ((n : ℕ) → n < 2 ^ 32 → w ≡ decimal n → ⊥)
-only_number w (Some n) large = tt
-only_number w None large = read_only w large
+pub only_number : (w : List ℕ) (n : ℕ) → n ≡ digits_value 10 w → 2 ^ 32 ≤ n
+    → (m : ℕ) → m < 2 ^ 32 → w ≡ decimal m → ⊥
+only_number w n is large = read_only w (λ digits. omega (arith, is, large))
+
+-- no such number has more digits
+pub too_long : (w : List ℕ) → 10 < length w → (n : ℕ) → n < 2 ^ 32 → w ≡ decimal n → ⊥
+too_long w long n small is =
+    omega (arith, long, ap length is, length-decimal-le 10 n (omega arith) (omega (arith, small)) (omega (arith, small)))
+
+-- nor bytes that aren't digits
+pub no_digits : (w : List ℕ) → (AllDigits 10 w → ⊥) → (n : ℕ) → n < 2 ^ 32 → w ≡ decimal n → ⊥
+no_digits w other = read_only w (λ digits. absurd (other digits))
+
+-- ---- the number of few digits, one after another
+
+-- the value is that of the digits before what is left, and smaller than so many digits can tell
+abbrev pub IsValueUpTo : List ℕ → List ℕ → ℕ → Type 0
+IsValueUpTo digits left value =
+    (AllDigits 10 digits → AllDigits 10 left) × (AllDigits 10 left → AllDigits 10 digits)
+    × (digits_value_after 10 value left ≡ digits_value 10 digits) × (length left ≤ 10)
+    × (value < 10 ^ (10 - length left))
+
+pub value_of_none : (digits : List ℕ) → length digits ≤ 10 → IsValueUpTo digits digits 0
+value_of_none digits few = (λ h. h, λ h. h, refl, few, one-le-pow (10 - length digits) 10 (omega arith))
+
+pub value_of_next : (digits left : List ℕ) (value digit : ℕ) → IsValueUpTo digits left value → 1 ≤ length left
+    → digit ≡ digit_value (get_or left 0 0) → digit < 10
+    → IsValueUpTo digits (take (length left - 1) (drop 1 left)) (value * 10 + digit)
+value_of_next digits [] value digit up some is small = absurd (omega (arith, some))
+value_of_next digits (c ∷ cs) value digit (to, from, same, few, below) some is small =
+    let P : List ℕ → Type 0 = λ left. IsValueUpTo digits left (value * 10 + digit) in
+    let one_more : 10 - length cs ≡ (10 - length (c ∷ cs)) + 1 = omega (arith, few) in
+    let power : 10 ^ (10 - length cs) ≡ 10 ^ (10 - length (c ∷ cs)) * 10 =
+    ap (λ k. 10 ^ k) (one_more ∙ add-one _) ∙ pow-suc 10 (10 - length (c ∷ cs)) in
+    subst P (sym (take_all (length (c ∷ cs) - 1) cs (omega arith))) (
+      (λ all. (to all).1),
+      (λ all. from (omega (arith, is, small), all)),
+      ap (λ d. digits_value_after 10 (value * 10 + d) cs) is ∙ same,
+      omega (arith, few),
+      omega (arith, power, below, small),
+    )

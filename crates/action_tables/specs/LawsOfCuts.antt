@@ -18,7 +18,7 @@ has_byte byte (x ∷ xs) ys none = has_byte byte xs ys none.1
 
 -- a text is cut at its first such byte in one way
 pub record SameCut (xs xs' ys ys' : List ℕ) : Type 0 where
-  pub front : xs ≡ xs'
+  pub prefix : xs ≡ xs'
   pub back : ys ≡ ys'
 
 first_of : (x y : ℕ) (xs ys : List ℕ) → ◌≡◌ {A = List ℕ} (x ∷ xs) (y ∷ ys) → x ≡ y
@@ -29,13 +29,13 @@ rest_of x y xs ys e = cc
 
 pub same_cut : (byte : ℕ) (xs xs' ys ys' : List ℕ) → HasNo byte xs → HasNo byte xs'
     → xs ++ byte ∷ ys ≡ xs' ++ byte ∷ ys' → SameCut xs xs' ys ys'
-same_cut byte [] [] ys ys' none none' e = record { front = refl; back = rest_of byte byte ys ys' e }
+same_cut byte [] [] ys ys' none none' e = record { prefix = refl; back = rest_of byte byte ys ys' e }
 same_cut byte [] (x ∷ xs') ys ys' none none' e = absurd (none'.0 (sym (first_of byte x ys (xs' ++ byte ∷ ys') e)))
 same_cut byte (x ∷ xs) [] ys ys' none none' e = absurd (none.0 (first_of x byte (xs ++ byte ∷ ys) ys' e))
 same_cut byte (x ∷ xs) (x' ∷ xs') ys ys' none none' e =
     let first : x ≡ x' = first_of x x' (xs ++ byte ∷ ys) (xs' ++ byte ∷ ys') e in
     let cut = same_cut byte xs xs' ys ys' none.1 none'.1 (rest_of x x' (xs ++ byte ∷ ys) (xs' ++ byte ∷ ys') e) in
-    record { front = ap (λ l. x ∷ l) cut.front ∙ ap (λ c. c ∷ xs') first; back = cut.back }
+    record { prefix = ap (λ l. x ∷ l) cut.prefix ∙ ap (λ c. c ∷ xs') first; back = cut.back }
 
 -- three texts that a text in three parts is made of
 pub record SameParts (xs xs' ys ys' zs zs' : List ℕ) : Type 0 where
@@ -59,7 +59,7 @@ module _ (byte : ℕ) (xs ys zs text first rest : List ℕ) (none : HasNo byte x
         → SameParts xs first ys second zs third
     same_parts second third none-ys cut' none-second =
         let at_second = same_cut byte ys second zs third none-ys none-second (at_first.back ∙ cut') in
-        record { first = at_first.front; second = at_second.front; third = at_second.back }
+        record { first = at_first.prefix; second = at_second.prefix; third = at_second.back }
 
 no_such_digit : (byte : ℕ) (ds : List ℕ) → (IsInRange 48 57 byte → ⊥) → AllDigits 10 ds → HasNo byte ds
 no_such_digit byte [] other h = tt

@@ -90,7 +90,7 @@ impl CaseSet {
 
     /// The set holds those of 1 to 16 that it has, ascending: to ask [`CaseSet::has`] of each in turn
     /// is to go over it.
-    pub fn is_listed(self)
+    pub fn lemma_is_listed(self)
         ensures { self ≡ filter (λ case. is_among case self) all_cases }
     {
         let _bits = self.bits;

@@ -4,6 +4,10 @@ ghost use Rattle.std.specs.Prelude.{slice_index};
 ghost use Rattle.std.specs.Char.{digit_value};
 ghost use Rattle.std.specs.Fmt.{decimal};
 ghost use Rattle.std.specs.Str.Parse.{AllDigits, digits_value};
+ghost use Rattle.action_tables.specs.declared.number.TheConstants.{MAX_DIGITS};
+
+// The most digits of a number of 32 bits.
+const MAX_DIGITS: usize = 10;
 
 /// The number that a word spells: decimal digits, without leading zeros, at most 4294967295.
 pub fn read_number(word: &[u8]) -> Option<u32>
@@ -11,10 +15,17 @@ pub fn read_number(word: &[u8]) -> Option<u32>
     ensures small { IfSome result (λ n. n < 2 ^ 32) }
     ensures only { IfNone result ((n : ℕ) → n < 2 ^ 32 → word.now ≡ decimal n → ⊥) }
 {
+    if word.len() > MAX_DIGITS {
+        return None;
+    }
     if is_empty_or_padded(word) {
         return None;
     }
-    value_of(word)
+    let value = value_of(word)?;
+    if value > u64::from(u32::MAX) {
+        return None;
+    }
+    Some(value as u32)
 }
 
 // Whether a word is empty, or has a zero before its digits.
@@ -24,28 +35,27 @@ fn is_empty_or_padded(word: &[u8]) -> bool
     matches!(word, [] | [b'0', _, ..])
 }
 
-// The number that digits write. `parse` takes a text, would look at each byte twice, and takes a sign.
-fn value_of(digits: &[u8]) -> Option<u32>
+// The number that so few digits write that it has 64 bits, which isn't asked digit by digit. `parse` takes a text,
+// would look at each byte twice, and takes a sign.
+fn value_of(digits: &[u8]) -> Option<u64>
+    requires { length digits.now ≤ MAX_DIGITS }
     ensures found { IfSome result (λ n. AllDigits 10 digits.now × (n ≡ digits_value 10 digits.now)) }
-    ensures small { IfSome result (λ n. n < 2 ^ 32) }
-    ensures only { IfNone result (AllDigits 10 digits.now → 2 ^ 32 ≤ digits_value 10 digits.now) }
+    ensures only { IfNone result (AllDigits 10 digits.now → ⊥) }
 {
     let mut value = 0;
     let mut rest = digits;
     while let [byte, after @ ..] = rest {
-        value = with_digit(value, *byte)?;
+        value = value * 10 + digit_of(*byte)?;
         rest = after;
     }
     Some(value)
 }
 
-// The number that has this digit behind the digits of another.
-fn with_digit(value: u32, byte: u8) -> Option<u32>
-    ensures found { IfSome result (λ n. (digit_value byte < 10) × (n ≡ value * 10 + digit_value byte)) }
-    ensures only { IfNone result (digit_value byte < 10 → 2 ^ 32 ≤ value * 10 + digit_value byte) }
+// The digit that a byte is.
+fn digit_of(byte: u8) -> Option<u64>
+    ensures found { IfSome result (λ digit. (digit ≡ digit_value byte) × (digit < 10)) }
+    ensures only { IfNone result (digit_value byte < 10 → ⊥) }
 {
-    if !byte.is_ascii_digit() {
-        return None;
-    }
-    value.checked_mul(10)?.checked_add(u32::from(byte - b'0'))
+    let digit = u64::from(byte).wrapping_sub(u64::from(b'0'));
+    if digit < 10 { Some(digit) } else { None }
 }

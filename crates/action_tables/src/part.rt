@@ -3,7 +3,7 @@ ghost use Rattle.std.specs.Prelude.{OnOk, OnErr};
 ghost use Rattle.std.specs.Io.KnownBytes.{Appends};
 ghost use Rattle.std.specs.List.{flat_map};
 ghost use Rattle.action_tables.specs.RowText.{case_above, part_text, set_text};
-ghost use Rattle.action_tables.specs.Written.{AppendsFront};
+ghost use Rattle.action_tables.specs.Written.{AppendsPrefix};
 
 use crate::case_set::CaseSet;
 use crate::put::{WriteFault, put_bytes, put_number};
@@ -26,7 +26,8 @@ pub enum Part<'t> {
 /// Writes the parts, one after the other.
 pub fn put_parts<W: Write>(out: &mut W, parts: &[Part<'_>]) -> Result<(), WriteFault>
     ensures ok { OnOk result (Appends (W.contents out.old) (W.contents out.new) (flat_map part_text parts.now)) }
-    ensures err { OnErr result (AppendsFront (W.contents out.old) (W.contents out.new) (flat_map part_text parts.now)) }
+    ensures err { OnErr result
+        (AppendsPrefix (W.contents out.old) (W.contents out.new) (flat_map part_text parts.now)) }
 {
     for part in parts {
         put_part(out, part)?;
@@ -36,7 +37,7 @@ pub fn put_parts<W: Write>(out: &mut W, parts: &[Part<'_>]) -> Result<(), WriteF
 
 fn put_part<W: Write>(out: &mut W, part: &Part<'_>) -> Result<(), WriteFault>
     ensures ok { OnOk result (Appends (W.contents out.old) (W.contents out.new) (part_text part.now)) }
-    ensures err { OnErr result (AppendsFront (W.contents out.old) (W.contents out.new) (part_text part.now)) }
+    ensures err { OnErr result (AppendsPrefix (W.contents out.old) (W.contents out.new) (part_text part.now)) }
 {
     match *part {
         Part::Text(text) => put_bytes(out, text),
@@ -48,9 +49,9 @@ fn put_part<W: Write>(out: &mut W, part: &Part<'_>) -> Result<(), WriteFault>
 // Writes the numbers of a set, or a dash where there is none.
 fn put_set<W: Write>(out: &mut W, set: CaseSet) -> Result<(), WriteFault>
     ensures ok { OnOk result (Appends (W.contents out.old) (W.contents out.new) (set_text set)) }
-    ensures err { OnErr result (AppendsFront (W.contents out.old) (W.contents out.new) (set_text set)) }
+    ensures err { OnErr result (AppendsPrefix (W.contents out.old) (W.contents out.new) (set_text set)) }
 {
-    set.is_listed();
+    set.lemma_is_listed();
     match set.first() {
         None => put_bytes(out, b"-"),
         Some(first) => {
@@ -70,7 +71,7 @@ fn put_cases_above<W: Write>(
     ensures ok { OnOk result
         (Appends (W.contents out.old) (W.contents out.new) (flat_map (case_above set number) cases.now)) }
     ensures err { OnErr result
-        (AppendsFront (W.contents out.old) (W.contents out.new) (flat_map (case_above set number) cases.now)) }
+        (AppendsPrefix (W.contents out.old) (W.contents out.new) (flat_map (case_above set number) cases.now)) }
 {
     for case in cases {
         put_case_above(out, set, number, *case)?;
@@ -86,7 +87,7 @@ fn put_case_above<W: Write>(
     case: u8,
 ) -> Result<(), WriteFault>
     ensures ok { OnOk result (Appends (W.contents out.old) (W.contents out.new) (case_above set number case)) }
-    ensures err { OnErr result (AppendsFront (W.contents out.old) (W.contents out.new) (case_above set number case)) }
+    ensures err { OnErr result (AppendsPrefix (W.contents out.old) (W.contents out.new) (case_above set number case)) }
 {
     if set.has(case) && case > number {
         put_bytes(out, b",")?;

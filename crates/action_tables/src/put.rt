@@ -2,7 +2,7 @@
 ghost use Rattle.std.specs.Prelude.{◌≡◌, [], IsOk, OnOk, OnErr, Some, codes};
 ghost use Rattle.std.specs.Fmt.{decimal};
 ghost use Rattle.std.specs.Io.KnownBytes.{Appends};
-ghost use Rattle.action_tables.specs.Written.{AppendsFront};
+ghost use Rattle.action_tables.specs.Written.{AppendsPrefix};
 
 use itoa::Buffer;
 use std::error::Error;
@@ -29,7 +29,7 @@ impl Error for WriteFault {}
 /// nothing is tried again, so that no byte is written twice or out of its turn.
 pub fn put_bytes<W: Write>(out: &mut W, bytes: &[u8]) -> Result<(), WriteFault>
     ensures ok { OnOk result (Appends (W.contents out.old) (W.contents out.new) bytes.now) }
-    ensures err { OnErr result (AppendsFront (W.contents out.old) (W.contents out.new) bytes.now) }
+    ensures err { OnErr result (AppendsPrefix (W.contents out.old) (W.contents out.new) bytes.now) }
     ensures none { bytes.now ≡ [] → IsOk result }
 {
     let mut rest = bytes;
@@ -45,7 +45,7 @@ pub fn put_bytes<W: Write>(out: &mut W, bytes: &[u8]) -> Result<(), WriteFault>
 /// Writes the number in decimal digits, without leading zeros.
 pub fn put_number<W: Write>(out: &mut W, number: u64) -> Result<(), WriteFault>
     ensures ok { OnOk result (Appends (W.contents out.old) (W.contents out.new) (decimal number)) }
-    ensures err { OnErr result (AppendsFront (W.contents out.old) (W.contents out.new) (decimal number)) }
+    ensures err { OnErr result (AppendsPrefix (W.contents out.old) (W.contents out.new) (decimal number)) }
 {
     let mut buffer = Buffer::new();
     put_bytes(out, buffer.format(number).as_bytes())

@@ -1,7 +1,7 @@
 // The rows of a table in print.
 ghost use Rattle.std.specs.Prelude.{OnOk, OnErr, map};
 ghost use Rattle.std.specs.Io.KnownBytes.{Appends};
-ghost use Rattle.action_tables.specs.Written.{AppendsFront};
+ghost use Rattle.action_tables.specs.Written.{AppendsPrefix};
 ghost use Rattle.action_tables.specs.RowText.{as_printed};
 ghost use Rattle.action_tables.specs.Table.{row_line, table_text, title_line};
 
@@ -27,7 +27,7 @@ pub fn print_rows<W: Write>(
     ensures ok { OnOk result
         (Appends (W.contents out.old) (W.contents out.new) (table_text title.now (map as_printed rows.now))) }
     ensures err { OnErr result
-        (AppendsFront (W.contents out.old) (W.contents out.new) (table_text title.now (map as_printed rows.now))) }
+        (AppendsPrefix (W.contents out.old) (W.contents out.new) (table_text title.now (map as_printed rows.now))) }
 {
     print_title(title, out)?;
     for row in rows {
@@ -38,7 +38,7 @@ pub fn print_rows<W: Write>(
 
 fn print_title<W: Write>(title: &str, out: &mut W) -> Result<(), WriteFault>
     ensures ok { OnOk result (Appends (W.contents out.old) (W.contents out.new) (title_line title.now)) }
-    ensures err { OnErr result (AppendsFront (W.contents out.old) (W.contents out.new) (title_line title.now)) }
+    ensures err { OnErr result (AppendsPrefix (W.contents out.old) (W.contents out.new) (title_line title.now)) }
 {
     put_parts(
         out,
@@ -53,7 +53,7 @@ fn print_title<W: Write>(title: &str, out: &mut W) -> Result<(), WriteFault>
 fn print_row<W: Write>(row: &CaseRow<'_>, out: &mut W) -> Result<(), WriteFault>
     ensures ok { OnOk result (Appends (W.contents out.old) (W.contents out.new) (row_line (as_printed row.now))) }
     ensures err { OnErr result
-        (AppendsFront (W.contents out.old) (W.contents out.new) (row_line (as_printed row.now))) }
+        (AppendsPrefix (W.contents out.old) (W.contents out.new) (row_line (as_printed row.now))) }
 {
     put_parts(
         out,

@@ -15,24 +15,24 @@ keeps_all p (y ∷ xs) x passes =
     rw (passes 0 (omega arith)) (ap (λ l. y ∷ l) (keeps_all p xs x (λ k lt. passes (suc k) (omega arith))))
 
 -- what passes up to a place and nowhere from it on
-pub keeps_front : {X : Type 0} (p : X → Bool) (xs : List X) (i : ℕ) (x : X) → i ≤ length xs
+pub keeps_prefix : {X : Type 0} (p : X → Bool) (xs : List X) (i : ℕ) (x : X) → i ≤ length xs
     → ((k : ℕ) → k < i → p (get_or xs k x) ≡ true) →
     ((k : ℕ) → i ≤ k → k < length xs → p (get_or xs k x) ≡ false) → filter p xs ≡ take i xs
-keeps_front p xs zero x le front back = keeps_none p xs x (λ k lt. back k (omega arith) lt)
-keeps_front p [] (suc i) x le front back = absurd (omega arith)
-keeps_front p (y ∷ xs) (suc i) x le front back =
-    rw (front 0 (omega arith))
+keeps_prefix p xs zero x le prefix back = keeps_none p xs x (λ k lt. back k (omega arith) lt)
+keeps_prefix p [] (suc i) x le prefix back = absurd (omega arith)
+keeps_prefix p (y ∷ xs) (suc i) x le prefix back =
+    rw (prefix 0 (omega arith))
     (ap (λ l. y ∷ l)
-    (keeps_front p xs i x (omega arith) (λ k lt. front (suc k) (omega arith))
+    (keeps_prefix p xs i x (omega arith) (λ k lt. prefix (suc k) (omega arith))
     (λ k ge lt. back (suc k) (omega arith) (omega arith))))
 
 -- what passes from a place on and nowhere before it
 pub keeps_back : {X : Type 0} (p : X → Bool) (xs : List X) (i : ℕ) (x : X) → i ≤ length xs
     → ((k : ℕ) → k < i → p (get_or xs k x) ≡ false) →
     ((k : ℕ) → i ≤ k → k < length xs → p (get_or xs k x) ≡ true) → filter p xs ≡ drop i xs
-keeps_back p xs zero x le front back = keeps_all p xs x (λ k lt. back k (omega arith) lt)
-keeps_back p [] (suc i) x le front back = absurd (omega arith)
-keeps_back p (y ∷ xs) (suc i) x le front back =
-    rw (front 0 (omega arith))
-    (keeps_back p xs i x (omega arith) (λ k lt. front (suc k) (omega arith))
+keeps_back p xs zero x le prefix back = keeps_all p xs x (λ k lt. back k (omega arith) lt)
+keeps_back p [] (suc i) x le prefix back = absurd (omega arith)
+keeps_back p (y ∷ xs) (suc i) x le prefix back =
+    rw (prefix 0 (omega arith))
+    (keeps_back p xs i x (omega arith) (λ k lt. prefix (suc k) (omega arith))
     (λ k ge lt. back (suc k) (omega arith) (omega arith)))

@@ -1,4 +1,4 @@
--- Ascending numbers with one more at their end, and the fronts of lists.
+-- Ascending numbers with one more at their end, and the prefixes of lists.
 use Rattle.std.proofs.Common.{◌≡◌, ℕ, ◌+◌, ◌-◌, zero, suc, List, [], ◌∷◌, ◌++◌, All, length, length-append, get_or, ap}
 use Rattle.std.proofs.Common.{◌∙◌, subst, arith, ⊎_elim}
 use Rattle.std.specs.List.Sorted.{IsStrictlyIncreasing}
@@ -36,9 +36,9 @@ ends_below ns n up some =
     ap (λ k. get_or (ns ++ n ∷ []) k 0) after ∙ get_or-append_seam ns n [] 0 in
     omega (arith, last, next, up (length ns - 1) (omega (arith, after, long)))
 
--- the front of ascending numbers ascends
-pub front_rises : (xs ys : List ℕ) → IsStrictlyIncreasing (xs ++ ys) → IsStrictlyIncreasing xs
-front_rises xs ys up k lt =
+-- the prefix of ascending numbers ascends
+pub prefix_rises : (xs ys : List ℕ) → IsStrictlyIncreasing (xs ++ ys) → IsStrictlyIncreasing xs
+prefix_rises xs ys up k lt =
     let long : length (xs ++ ys) ≡ length xs + length ys = length-append xs ys in
     omega (
       arith,
@@ -50,8 +50,8 @@ front_rises xs ys up k lt =
 
 -- ---- what holds of each item
 
-pub front_all : {X : Type 0} (P : X → Type 0) (xs ys : List X) → All P (xs ++ ys) → All P xs
-front_all P xs ys all k d lt =
+pub prefix_all : {X : Type 0} (P : X → Type 0) (xs ys : List X) → All P (xs ++ ys) → All P xs
+prefix_all P xs ys all k d lt =
     let long : length (xs ++ ys) ≡ length xs + length ys = length-append xs ys in
     subst P (get_or_append_left xs ys d k lt) (all k d (omega (arith, lt, long)))
 

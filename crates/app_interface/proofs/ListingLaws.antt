@@ -1,5 +1,5 @@
 -- The texts of lists whose items have texts of their own: a list's text determines the list, and is read
--- from its front.
+-- from its prefix.
 use Rattle.std.proofs.Common.{◌≡◌, ◌≢◌, ℕ, ◌<◌, List, [], ◌∷◌, ◌++◌, All, map, length, refl, sym, ap, ap₂, ◌∙◌, subst}
 use Rattle.std.proofs.Common.{arith, append_assoc}
 use Rattle.std.specs.List.{AllByRecursion, join_with_byte}
@@ -15,10 +15,10 @@ pub record Spells {X : Type 0} (IsItem : X → Type 0) (text : X → List ℕ) :
   pub high : (byte : ℕ) (x : X) → byte < 48 → IsItem x → HasNo byte (text x)
   pub one : (x y : X) → IsItem x → IsItem y → text x ≡ text y → x ≡ y
 
--- lists of items whose fronts are such lists
-pub record HasFronts {X : Type 0} (IsItem : X → Type 0) (Are : List X → Type 0) : Type 0 where
+-- lists of items whose prefixes are such lists
+pub record HasPrefixes {X : Type 0} (IsItem : X → Type 0) (Are : List X → Type 0) : Type 0 where
   pub each : (xs : List X) → Are xs → All IsItem xs
-  pub front : (xs ys : List X) → Are (xs ++ ys) → Are xs
+  pub prefix : (xs ys : List X) → Are (xs ++ ys) → Are xs
 
 -- the items' texts, a comma after each
 abbrev pub with_commas : {X : Type 0} → (X → List ℕ) → List X → List ℕ
@@ -96,7 +96,7 @@ module _ {X : Type 0} {IsItem : X → Type 0} {text : X → List ℕ} (spells : 
   same_joined (a ∷ c ∷ xs) (b ∷ d ∷ ys) all all' some some' e =
       let cut : SameCut (text a) (text b) (joined (c ∷ xs)) (joined (d ∷ ys)) =
       same_cut 44 (text a) (text b) (joined (c ∷ xs)) (joined (d ∷ ys)) (no_comma a all.0) (no_comma b all'.0) e in
-      ap₂ (λ x xs. x ∷ xs) (spells.one a b all.0 all'.0 cut.front)
+      ap₂ (λ x xs. x ∷ xs) (spells.one a b all.0 all'.0 cut.prefix)
       (same_joined (c ∷ xs) (d ∷ ys) all.1 all'.1 (omega arith) (omega arith) cut.back)
 
   -- a dash is the text of no list of some items
@@ -141,7 +141,7 @@ module _ {X : Type 0} {IsItem : X → Type 0} {text : X → List ℕ} (spells : 
       record {
         head = on.head;
         tail = on.tail;
-        whole = ap₂ (λ h t. h ∷ t) (spells.one y x all'.0 all.0 cut.front) on.whole;
+        whole = ap₂ (λ h t. h ∷ t) (spells.one y x all'.0 all.0 cut.prefix) on.whole;
         spelled = on.spelled;
       }
 
@@ -149,7 +149,7 @@ module _ {X : Type 0} {IsItem : X → Type 0} {text : X → List ℕ} (spells : 
       → joined (head ∷ tail) ≡ piece ++ 44 ∷ more → text head ≡ piece
   next_head head [] piece more is none e = absurd (has_byte 44 piece more (subst (HasNo 44) e (no_comma head is)))
   next_head head (t ∷ ts) piece more is none e =
-      (same_cut 44 (text head) piece (joined (t ∷ ts)) more (no_comma head is) none e).front
+      (same_cut 44 (text head) piece (joined (t ∷ ts)) more (no_comma head is) none e).prefix
 
   last_head : (head : X) (tail : List X) (piece : List ℕ) → HasNo 44 piece → joined (head ∷ tail) ≡ piece
       → text head ≡ piece
@@ -158,19 +158,19 @@ module _ {X : Type 0} {IsItem : X → Type 0} {text : X → List ℕ} (spells : 
       absurd (has_byte 44 (text head) (joined (t ∷ ts)) (subst (HasNo 44) (sym e) none))
 
   -- no list is spelled where the next piece spells no item that goes on
-  module _ {Are : List X → Type 0} (fronts : HasFronts IsItem Are) (whole : List ℕ) (xs : List X) (are : Are xs)
+  module _ {Are : List X → Type 0} (prefixes : HasPrefixes IsItem Are) (whole : List ℕ) (xs : List X) (are : Are xs)
       (no_dash : whole ≢ 45 ∷ []) where
     going : (list : List X) (rest : List ℕ) → whole ≡ with_commas text xs ++ rest → Are list
         → list_text text list ≡ whole → GoesOn list xs rest
     going [] rest e are' is = absurd (no_dash (sym is))
     going (y ∷ ys) rest e are' is =
-        goes_on xs (y ∷ ys) rest (recursion_from_All IsItem xs (fronts.each xs are))
-        (recursion_from_All IsItem (y ∷ ys) (fronts.each (y ∷ ys) are')) (omega arith) (is ∙ e)
+        goes_on xs (y ∷ ys) rest (recursion_from_All IsItem xs (prefixes.each xs are))
+        (recursion_from_All IsItem (y ∷ ys) (prefixes.each (y ∷ ys) are')) (omega arith) (is ∙ e)
 
     -- the items that were read and the next one are such a list
     with_next : (list : List X) (rest : List ℕ) → Are list → (on : GoesOn list xs rest) → Are (xs ++ on.head ∷ [])
     with_next list rest are' on =
-        fronts.front (xs ++ on.head ∷ []) on.tail
+        prefixes.prefix (xs ++ on.head ∷ []) on.tail
         (subst Are (on.whole ∙ sym (append_assoc xs (on.head ∷ []) on.tail)) are')
 
     pub bad_next : (piece more : List ℕ) → whole ≡ with_commas text xs ++ (piece ++ 44 ∷ more) → HasNo 44 piece
@@ -180,7 +180,7 @@ module _ {X : Type 0} {IsItem : X → Type 0} {text : X → List ℕ} (spells : 
         let on = going list (piece ++ 44 ∷ more) e are' is in
         let all = with_next list (piece ++ 44 ∷ more) are' on in
         refused on.head
-        (sym (next_head on.head on.tail piece more (item_at_seam IsItem xs on.head [] (fronts.each _ all)) none
+        (sym (next_head on.head on.tail piece more (item_at_seam IsItem xs on.head [] (prefixes.each _ all)) none
         on.spelled)) all
 
     pub bad_last : (piece : List ℕ) → whole ≡ with_commas text xs ++ piece → HasNo 44 piece → NoNext Are text xs piece

@@ -2,7 +2,7 @@
 ghost use Rattle.std.specs.Prelude.{◌≡◌, ℕ, ◌≤◌, ◌↔◌, List, Option, None, Some, Err, IsTrue, IfOk, IfSome, OnOk, OnErr};
 ghost use Rattle.std.specs.Prelude.{is_some, length, option_map, slice_get};
 ghost use Rattle.std.specs.Io.KnownBytes.{Appends};
-ghost use Rattle.action_tables.specs.Written.{AppendsFront};
+ghost use Rattle.action_tables.specs.Written.{AppendsPrefix};
 ghost use Rattle.app_interface.specs.Application.{App};
 ghost use Rattle.app_interface.specs.Cases.{AreCases};
 ghost use Rattle.app_interface.specs.Invariant.{IsQuiet, Keeps};
@@ -100,7 +100,7 @@ pub trait Application: Send + Sync {
     /// Writes the text of a local state.
     fn show<W: Write>(local: &Self::Local, out: &mut W) -> Result<(), WriteFault>
         ensures ok { OnOk result (Appends (W.contents out.old) (W.contents out.new) (text local.now)) }
-        ensures err { OnErr result (AppendsFront (W.contents out.old) (W.contents out.new) (text local.now)) };
+        ensures err { OnErr result (AppendsPrefix (W.contents out.old) (W.contents out.new) (text local.now)) };
 
     /// The local state with this text, `BadLocal` where there is none.
     fn read_local(alloc: Global, bytes: &[u8]) -> Result<Self::Local, LocalFault>

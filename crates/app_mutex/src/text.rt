@@ -1,7 +1,7 @@
 // The text of a local state: writing and reading it.
 ghost use Rattle.std.specs.Prelude.{◌≡◌, ◌≢◌, Err, IfOk, OnErr, OnOk};
 ghost use Rattle.std.specs.Io.KnownBytes.{Appends};
-ghost use Rattle.action_tables.specs.Written.{AppendsFront};
+ghost use Rattle.action_tables.specs.Written.{AppendsPrefix};
 ghost use Rattle.app_mutex.specs.LocalText.{local_text};
 ghost use Rattle.app_mutex.specs.declared.local.MutexLocal.{MutexLocal};
 
@@ -13,7 +13,7 @@ use std::io::Write;
 /// Writes `in` or `out`, and after a slash the bit.
 pub fn show<W: Write>(local: MutexLocal, out: &mut W) -> Result<(), WriteFault>
     ensures ok { OnOk result (Appends (W.contents out.old) (W.contents out.new) (local_text local)) }
-    ensures err { OnErr result (AppendsFront (W.contents out.old) (W.contents out.new) (local_text local)) }
+    ensures err { OnErr result (AppendsPrefix (W.contents out.old) (W.contents out.new) (local_text local)) }
 {
     put_bytes(out, text_of(local))
 }

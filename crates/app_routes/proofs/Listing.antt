@@ -4,8 +4,8 @@ use Rattle.std.specs.List.Sorted.{IsStrictlyIncreasing}
 use Rattle.std.proofs.lemmas.List.{map-append}
 use Rattle.std.proofs.lemmas.List.Elements.{All-append}
 use Rattle.app_interface.specs.Listing.{EndsBelow}
-use Rattle.app_interface.proofs.ListingLaws.{HasFronts}
-use Rattle.app_interface.proofs.ListEnds.{all_one, ends_below, front_all, front_rises, rises_push}
+use Rattle.app_interface.proofs.ListingLaws.{HasPrefixes}
+use Rattle.app_interface.proofs.ListEnds.{all_one, ends_below, prefix_all, prefix_rises, rises_push}
 use Rattle.app_routes.specs.Entries.{AreRoutes, IsEntry}
 use Rattle.app_routes.specs.declared.entry.Entry.{Entry}
 
@@ -28,13 +28,13 @@ routes_end_below es e are =
     ends_below (destinations es) e.destination
     (subst IsStrictlyIncreasing (map-append (λ f. f.destination) es (e ∷ [])) are.ascending)
 
-pub routes_fronts : HasFronts IsEntry AreRoutes
-routes_fronts = record {
+pub routes_prefixes : HasPrefixes IsEntry AreRoutes
+routes_prefixes = record {
   each = λ es are. are.are_entries;
-  front = λ es more are. record {
+  prefix = λ es more are. record {
     ascending =
-        front_rises (destinations es) (destinations more)
+        prefix_rises (destinations es) (destinations more)
         (subst IsStrictlyIncreasing (map-append (λ f. f.destination) es more) are.ascending);
-    are_entries = front_all IsEntry es more are.are_entries;
+    are_entries = prefix_all IsEntry es more are.are_entries;
   };
 }

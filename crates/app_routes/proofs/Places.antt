@@ -12,7 +12,7 @@ use Rattle.std.proofs.lemmas.Bool.{cases_eq, cases_lt}
 use Rattle.std.proofs.lemmas.List.{get_or-map, length-map, take-set, drop-set, drop_all, take_all, append-nil}
 use Rattle.std.proofs.lemmas.List.Elements.{All-append, All-filter}
 use Rattle.topology.proofs.Ascending.{rises}
-use Rattle.app_interface.proofs.KeptByPlace.{keeps_back, keeps_front}
+use Rattle.app_interface.proofs.KeptByPlace.{keeps_back, keeps_prefix}
 use Rattle.app_interface.proofs.ListEnds.{all_one}
 use Rattle.app_routes.specs.Entries.{AreRoutes, IsAscending, IsEntry, IsPlaceOf, route_of, set_route}
 use Rattle.app_routes.specs.LawsOfEntries.{find_first, find_none, set_ascends}
@@ -47,7 +47,7 @@ ranks_up a b x le = at (nat_cmp a x) (nat_cmp b x) (ranks a x) (ranks b x)
 
 -- ---- a list after a write
 
--- a list after a write is its front, what was written, and its back
+-- a list after a write is its prefix, what was written, and its back
 set_split : {X : Type 0} (xs : List X) (i : ℕ) (y : X) → i < length xs → set xs i y ≡ take i xs ++ y ∷ drop (i + 1) xs
 set_split xs i y lt = sym (take-append-drop i (set xs i y)) ∙ ap₂ (λ a b. a ++ b) (take-set xs i y) (drop-set xs i y lt)
 
@@ -126,7 +126,7 @@ module _ (es : List Entry) (up : IsAscending es) where
     pub put_at : IsPlaceOf es e.destination (Ok i) → set es i e ≡ set_route es e
     put_at place =
         let low : filter (λ f. ltb f.destination e.destination) es ≡ take i es =
-        keeps_front (λ f. ltb f.destination e.destination) es i e (omega (arith, place.0))
+        keeps_prefix (λ f. ltb f.destination e.destination) es i e (omega (arith, place.0))
         (λ k less. lt-ltb _ _ (omega (arith, in_order k i e less place.0, place.1 e)))
         (λ k ge lt. le-ltb _ _ (omega (arith, in_weak_order i k e ge lt, place.1 e))) in
         let high : filter (λ f. ltb e.destination f.destination) es ≡ drop (i + 1) es =
@@ -139,7 +139,7 @@ module _ (es : List Entry) (up : IsAscending es) where
     pub put_in : IsPlaceOf es e.destination (Err i) → insert es i e ≡ set_route es e
     put_in place =
         let low : filter (λ f. ltb f.destination e.destination) es ≡ take i es =
-        keeps_front (λ f. ltb f.destination e.destination) es i e place.0
+        keeps_prefix (λ f. ltb f.destination e.destination) es i e place.0
         (λ k less. lt-ltb _ _ (place.1 k e (omega arith) less))
         (λ k ge lt. le-ltb _ _ (omega (arith, place.2 k e ge lt))) in
         let high : filter (λ f. ltb e.destination f.destination) es ≡ drop i es =

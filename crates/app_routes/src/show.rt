@@ -1,7 +1,7 @@
 // Writing the text of a local state.
 ghost use Rattle.std.specs.Prelude.{OnErr, OnOk};
 ghost use Rattle.std.specs.Io.KnownBytes.{Appends};
-ghost use Rattle.action_tables.specs.Written.{AppendsFront};
+ghost use Rattle.action_tables.specs.Written.{AppendsPrefix};
 ghost use Rattle.app_routes.specs.LocalText.{entry_text, routes_text};
 
 use crate::entry::Entry;
@@ -12,7 +12,7 @@ use std::io::Write;
 /// Writes each entry as `DESTINATION:HOPS:NEXT`, joined by commas, or `-` where there is none.
 pub fn show<W: Write>(local: &RoutesLocal, out: &mut W) -> Result<(), WriteFault>
     ensures ok { OnOk result (Appends (W.contents out.old) (W.contents out.new) (routes_text local.now)) }
-    ensures err { OnErr result (AppendsFront (W.contents out.old) (W.contents out.new) (routes_text local.now)) }
+    ensures err { OnErr result (AppendsPrefix (W.contents out.old) (W.contents out.new) (routes_text local.now)) }
 {
     put_list(out, local.entries())
 }

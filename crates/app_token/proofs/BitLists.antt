@@ -9,7 +9,7 @@ use Rattle.std.proofs.lemmas.List.Kept.{IsStrictlyIncreasing-filter}
 use Rattle.topology.specs.Id.{IsId}
 use Rattle.topology.proofs.Ascending.{finds, member_by_search, index_once}
 use Rattle.topology.proofs.Inserting.{inserted}
-use Rattle.app_interface.proofs.KeptByPlace.{keeps_all, keeps_back, keeps_front}
+use Rattle.app_interface.proofs.KeptByPlace.{keeps_all, keeps_back, keeps_prefix}
 use Rattle.app_interface.proofs.ListEnds.{all_one}
 use Rattle.app_token.specs.Bits.{IsBits, bit_of, toggled, without_id}
 
@@ -50,7 +50,7 @@ module _ (xs : List ℕ) (x : ℕ) (are : IsBits xs) where
       let place = finds xs x are.ascending (Err i) h in
       let absent : false ≡ bit_of xs x = member_by_search xs x are.ascending (Err i) h in
       let lesser : filter (λ y. ltb y x) xs ≡ take i xs =
-      keeps_front (λ y. ltb y x) xs i 0 place.0 (λ k lt. lt-ltb _ _ (place.1 k lt))
+      keeps_prefix (λ y. ltb y x) xs i 0 place.0 (λ k lt. lt-ltb _ _ (place.1 k lt))
       (λ k ge lt. le-ltb _ _ (omega (arith, place.2 k ge lt))) in
       let greater : filter (λ y. ltb x y) xs ≡ drop i xs =
       keeps_back (λ y. ltb x y) xs i 0 place.0 (λ k lt. le-ltb _ _ (omega (arith, place.1 k lt)))

@@ -45,7 +45,7 @@ impl TokenLocal {
     }
 
     /// Both lists ascend.
-    pub(crate) fn is_local(&self)
+    pub(crate) fn lemma_is_local(&self)
         ensures given { IsBits self.now.given }
         ensures taken { IsBits self.now.taken }
     {

@@ -2,7 +2,7 @@
 ghost use Rattle.std.specs.Prelude.{◌∷◌, OnErr, OnOk};
 ghost use Rattle.std.specs.Io.KnownBytes.{Appends};
 ghost use Rattle.action_tables.specs.RowText.{set_text};
-ghost use Rattle.action_tables.specs.Written.{AppendsFront};
+ghost use Rattle.action_tables.specs.Written.{AppendsPrefix};
 ghost use Rattle.app_token.specs.LocalText.{hold_text, local_text};
 
 use crate::local::TokenLocal;
@@ -13,7 +13,7 @@ use std::io::Write;
 /// whose taken bit is one.
 pub fn show<W: Write>(local: &TokenLocal, out: &mut W) -> Result<(), WriteFault>
     ensures ok { OnOk result (Appends (W.contents out.old) (W.contents out.new) (local_text local.now)) }
-    ensures err { OnErr result (AppendsFront (W.contents out.old) (W.contents out.new) (local_text local.now)) }
+    ensures err { OnErr result (AppendsPrefix (W.contents out.old) (W.contents out.new) (local_text local.now)) }
 {
     put_hold(out, local.hold)?;
     put_slash_ids(out, local.given.ids())?;
@@ -23,7 +23,7 @@ pub fn show<W: Write>(local: &TokenLocal, out: &mut W) -> Result<(), WriteFault>
 // Writes whether the token is held.
 fn put_hold<W: Write>(out: &mut W, hold: bool) -> Result<(), WriteFault>
     ensures ok { OnOk result (Appends (W.contents out.old) (W.contents out.new) (hold_text hold)) }
-    ensures err { OnErr result (AppendsFront (W.contents out.old) (W.contents out.new) (hold_text hold)) }
+    ensures err { OnErr result (AppendsPrefix (W.contents out.old) (W.contents out.new) (hold_text hold)) }
 {
     if hold {
         put_bytes(out, b"hold")
@@ -35,7 +35,7 @@ fn put_hold<W: Write>(out: &mut W, hold: bool) -> Result<(), WriteFault>
 // Writes a slash and the identifiers.
 fn put_slash_ids<W: Write>(out: &mut W, ids: &[u32]) -> Result<(), WriteFault>
     ensures ok { OnOk result (Appends (W.contents out.old) (W.contents out.new) (47 ∷ set_text ids.now)) }
-    ensures err { OnErr result (AppendsFront (W.contents out.old) (W.contents out.new) (47 ∷ set_text ids.now)) }
+    ensures err { OnErr result (AppendsPrefix (W.contents out.old) (W.contents out.new) (47 ∷ set_text ids.now)) }
 {
     put_bytes(out, b"/")?;
     put_list(out, ids)

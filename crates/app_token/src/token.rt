@@ -117,6 +117,6 @@ impl Application for Token {
     }
 
     fn known(local: &TokenLocal) {
-        local.is_local();
+        local.lemma_is_local();
     }
 }

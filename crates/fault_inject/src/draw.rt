@@ -38,7 +38,7 @@ fn next_words(random: &mut Lcg64Xsh32) -> (u32, u32, u32, u32, u32)
 fn drawn_fault(topology: &Topology, words: (u32, u32, u32, u32, u32)) -> Fault
     ensures { result ≡ drawn_fault topology.now.ids words }
 {
-    topology.is_graph();
+    topology.lemma_is_graph();
     let ids = topology.ids();
     let (first, second, third, fourth, fifth) = words;
     match first % 4 {

@@ -136,7 +136,7 @@ fn link_down<P: Application>(
     connected_is_tested();
     match config.topology().without_link(alloc, a, b) {
         Ok(changed) => {
-            changed.is_graph();
+            changed.lemma_is_graph();
             put_changed(alloc, config, changed)
         }
         Err(TopoFault::StrangeNode(_)) => Err(FaultRefusal::StrangeNode),

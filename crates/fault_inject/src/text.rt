@@ -4,7 +4,7 @@ ghost use Rattle.std.specs.Prelude.{◌≡◌, ℕ, ◌<◌, ◌^◌, ◌↔◌,
 ghost use Rattle.std.specs.Prelude.{IfNone, IfOk, IfSome, IsTrue, OnErr, OnOk};
 ghost use Rattle.std.specs.Fmt.{decimal};
 ghost use Rattle.std.specs.Io.KnownBytes.{Appends};
-ghost use Rattle.action_tables.specs.Written.{AppendsFront};
+ghost use Rattle.action_tables.specs.Written.{AppendsPrefix};
 ghost use Rattle.reset_model.specs.Words.{words_of};
 ghost use Rattle.fault_inject.specs.declared.fault.Fault.{Fault};
 ghost use Rattle.fault_inject.specs.declared.fault.Fault.TheVariants.{SetTree, SetWave};
@@ -172,7 +172,7 @@ fn phase_named(word: &[u8]) -> Option<Phase>
 /// as it stands: where it isn't one word, the line is no fault's that could be read.
 pub fn write_fault<W: Write>(fault: &Fault, out: &mut W) -> Result<(), WriteFault>
     ensures ok { OnOk result (Appends (W.contents out.old) (W.contents out.new) (fault_line fault.now)) }
-    ensures err { OnErr result (AppendsFront (W.contents out.old) (W.contents out.new) (fault_line fault.now)) }
+    ensures err { OnErr result (AppendsPrefix (W.contents out.old) (W.contents out.new) (fault_line fault.now)) }
 {
     match fault {
         Fault::SetTree { at, regs } => put_tree(out, *at, *regs),
@@ -186,7 +186,8 @@ pub fn write_fault<W: Write>(fault: &Fault, out: &mut W) -> Result<(), WriteFaul
 // Writes the fault of a node and its tree registers.
 fn put_tree<W: Write>(out: &mut W, at: u32, regs: TreeRegs) -> Result<(), WriteFault>
     ensures ok { OnOk result (Appends (W.contents out.old) (W.contents out.new) (fault_line (SetTree at regs))) }
-    ensures err { OnErr result (AppendsFront (W.contents out.old) (W.contents out.new) (fault_line (SetTree at regs))) }
+    ensures err { OnErr result
+        (AppendsPrefix (W.contents out.old) (W.contents out.new) (fault_line (SetTree at regs))) }
 {
     put_parts(
         out,
@@ -206,7 +207,8 @@ fn put_tree<W: Write>(out: &mut W, at: u32, regs: TreeRegs) -> Result<(), WriteF
 // Writes the fault of a node and its wave registers.
 fn put_wave<W: Write>(out: &mut W, at: u32, regs: WaveRegs) -> Result<(), WriteFault>
     ensures ok { OnOk result (Appends (W.contents out.old) (W.contents out.new) (fault_line (SetWave at regs))) }
-    ensures err { OnErr result (AppendsFront (W.contents out.old) (W.contents out.new) (fault_line (SetWave at regs))) }
+    ensures err { OnErr result
+        (AppendsPrefix (W.contents out.old) (W.contents out.new) (fault_line (SetWave at regs))) }
 {
     put_parts(
         out,
@@ -225,7 +227,7 @@ fn put_wave<W: Write>(out: &mut W, at: u32, regs: WaveRegs) -> Result<(), WriteF
 fn put_local<W: Write>(out: &mut W, at: u32, text: &[u8]) -> Result<(), WriteFault>
     ensures ok { OnOk result (Appends (W.contents out.old) (W.contents out.new)
         (codes "fault local " ++ (decimal at ++ (32 ∷ text.now)))) }
-    ensures err { OnErr result (AppendsFront (W.contents out.old) (W.contents out.new)
+    ensures err { OnErr result (AppendsPrefix (W.contents out.old) (W.contents out.new)
         (codes "fault local " ++ (decimal at ++ (32 ∷ text.now)))) }
 {
     put_parts(
@@ -243,7 +245,7 @@ fn put_local<W: Write>(out: &mut W, at: u32, text: &[u8]) -> Result<(), WriteFau
 fn put_link<W: Write>(out: &mut W, command: &[u8], a: u32, b: u32) -> Result<(), WriteFault>
     ensures ok { OnOk result (Appends (W.contents out.old) (W.contents out.new)
         (command.now ++ (decimal a ++ (32 ∷ decimal b)))) }
-    ensures err { OnErr result (AppendsFront (W.contents out.old) (W.contents out.new)
+    ensures err { OnErr result (AppendsPrefix (W.contents out.old) (W.contents out.new)
         (command.now ++ (decimal a ++ (32 ∷ decimal b)))) }
 {
     put_parts(

@@ -51,7 +51,7 @@ same_version text rest es v small is (rest', begins) =
     same_ended (version_line v) (version_line 1) rest' first.0 (version_plain v small)
     (version_plain 1 (omega arith)) (sym begins ∙ first.1) in
     decimal_injective v 1 (omega (arith, small)) (omega arith)
-    (append_cancel_left (codes "reset-history ") (decimal v) (decimal 1) same.front)
+    (append_cancel_left (codes "reset-history ") (decimal v) (decimal 1) same.prefix)
 
 -- ---- entries
 
@@ -84,7 +84,7 @@ same_first a b es es' rest rest' has has' is =
     (entry_plain a has.fits) (entry_plain b has'.fits)
     (sym (append_assoc (ended (entry_line a)) (entries_text es) rest) ∙ is
     ∙ append_assoc (ended (entry_line b)) (entries_text es') rest') in
-    (one_entry a b has.fits has'.fits same.front, same.back)
+    (one_entry a b has.fits has'.fits same.prefix, same.back)
 
 same_begin : (es es' : List Entry) (rest rest' : List ℕ) → AllByRecursion HasLine es → AllByRecursion HasLine es'
     → IsStuck rest → IsStuck rest'

@@ -24,9 +24,9 @@ has_no_before byte (x ∷ xs) (suc i) h = (
 pub uncut : (byte : ℕ) (xs : List ℕ) → Nowhere (Passes (is_byte byte) xs) 0 (length xs) → HasNo byte xs
 uncut byte xs nowhere = has_no byte xs (λ k inside. nowhere k (omega arith) inside)
 
-pub cut_front : (byte : ℕ) (xs : List ℕ) (i : ℕ) → NoneBefore (Passes (is_byte byte) xs) 0 (length xs) i
+pub cut_prefix : (byte : ℕ) (xs : List ℕ) (i : ℕ) → NoneBefore (Passes (is_byte byte) xs) 0 (length xs) i
     → HasNo byte (take i xs)
-cut_front byte xs i first = has_no_before byte xs i (λ k less. first.before k (omega arith) less)
+cut_prefix byte xs i first = has_no_before byte xs i (λ k less. first.before k (omega arith) less)
 
 pub cut_whole : (byte : ℕ) (xs : List ℕ) (i : ℕ) → i < length xs → (get_or xs i 0 == byte) ≡ true
     → xs ≡ take i xs ++ byte ∷ drop (i + 1) xs

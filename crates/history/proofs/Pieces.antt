@@ -103,9 +103,9 @@ module _ {A : Type 0} where
       )
 
   -- what stands in a piece before an index
-  pub piece_front : (xs piece : List A) (index : ℕ) → piece ≡ take 1024 (drop (index / 1024 * 1024) xs)
+  pub piece_prefix : (xs piece : List A) (index : ℕ) → piece ≡ take 1024 (drop (index / 1024 * 1024) xs)
       → take (index % 1024) piece ≡ take (index % 1024) (drop (index / 1024 * 1024) xs)
-  piece_front xs piece index is =
+  piece_prefix xs piece index is =
       ap (take (index % 1024)) is ∙ take-take (index % 1024) 1024 (drop (index / 1024 * 1024) xs) (omega arith)
 
   -- one piece more

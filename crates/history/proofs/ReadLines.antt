@@ -55,7 +55,7 @@ begins_late line long more plain short (rest, is) =
 -- a whole line that begins a text is its first
 begins_same : (line line' more : List ℕ) → HasNo 10 line → HasNo 10 line' → BeginsWith (ended line ++ more) line'
     → line ≡ line'
-begins_same line line' more plain plain' (rest, is) = (same_ended line line' more rest plain plain' is).front
+begins_same line line' more plain plain' (rest, is) = (same_ended line line' more rest plain plain' is).prefix
 
 -- ---- what goes on
 

@@ -20,14 +20,14 @@ module _ {L : Type 0} (app : App L) (from_text : List ℕ → Option L) where
       [ None ↦ λ none. cc | Some a ↦ λ rest. replayed_append a d xs ys rest ] is
 
   -- what is allowed after entries that are allowed before others
-  allowed_front : (c : Configuration L) (xs ys : List Entry) → IsSome (replayed app from_text c (xs ++ ys))
+  allowed_prefix : (c : Configuration L) (xs ys : List Entry) → IsSome (replayed app from_text c (xs ++ ys))
       → IsSome (replayed app from_text c xs)
   unfolding replayed
-  allowed_front c [] ys some = refl
-  allowed_front c (x ∷ xs) ys some =
+  allowed_prefix c [] ys some = refl
+  allowed_prefix c (x ∷ xs) ys some =
       elim (entered app from_text c x) as (λ o. IsSome (option_and_then (λ after. replayed app from_text after (xs
       ++ ys)) o) → IsSome (option_and_then (λ after. replayed app from_text after xs) o))
-      [ None ↦ λ none. none | Some a ↦ λ rest. allowed_front a xs ys rest ] some
+      [ None ↦ λ none. none | Some a ↦ λ rest. allowed_prefix a xs ys rest ] some
 
   -- some of the entries after the first m are allowed where those leave d
   pub allowed_between : (c d : Configuration L) (es : List Entry) (m n : ℕ) → IsSome (replayed app from_text c es)
@@ -36,7 +36,7 @@ module _ {L : Type 0} (app : App L) (from_text : List ℕ → Option L) where
       let split = ap (replayed app from_text c) (sym (take-append-drop m es))
       ∙ replayed_append c d (take m es) (drop m es) here in
       let after : IsSome (replayed app from_text d (drop m es)) = subst (λ o. IsSome o) split some in
-      allowed_front d (take n (drop m es)) (drop n (drop m es))
+      allowed_prefix d (take n (drop m es)) (drop n (drop m es))
       (subst (λ xs. IsSome (replayed app from_text d xs)) (sym (take-append-drop n (drop m es))) after)
 
   -- what the first entries leave, by what the first m of them leave

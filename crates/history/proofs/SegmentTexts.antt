@@ -4,8 +4,8 @@ use Rattle.std.proofs.KnownBytes.{Appends-trans}
 use Rattle.std.proofs.lemmas.Grind.{flat_map-append}
 use Rattle.std.proofs.lemmas.List.{take-append-drop}
 use Rattle.std.specs.Io.KnownBytes.{Appends}
-use Rattle.action_tables.specs.Written.{AppendsFront}
-use Rattle.action_tables.proofs.Fronts.{AppendsFront-first, AppendsFront-then}
+use Rattle.action_tables.specs.Written.{AppendsPrefix}
+use Rattle.action_tables.proofs.Prefixes.{AppendsPrefix-first, AppendsPrefix-then}
 use Rattle.history.specs.declared.entry.Entry.{Entry}
 use Rattle.history.specs.HistoryText.{ended, entries_text, entry_line}
 use Rattle.history.proofs.Pieces.{pieces_next}
@@ -30,13 +30,13 @@ writes_next a b c es k so_far next =
     (Appends-trans a b c (entries_text (take (k * 1024) es)) (entries_text (take 1024 (drop (k * 1024) es))) so_far
     next)
 
-pub writes_front : (a b c : Option (List ℕ)) (es : List Entry) (k : ℕ)
+pub writes_prefix : (a b c : Option (List ℕ)) (es : List Entry) (k : ℕ)
     → Appends a b (entries_text (take (k * 1024) es))
-    → AppendsFront b c (entries_text (take 1024 (drop (k * 1024) es))) → AppendsFront a c (entries_text es)
-writes_front a b c es k so_far front =
+    → AppendsPrefix b c (entries_text (take 1024 (drop (k * 1024) es))) → AppendsPrefix a c (entries_text es)
+writes_prefix a b c es k so_far prefix =
     let upto = (k + 1) * 1024 in
-    let here = AppendsFront-then a b c (entries_text (take (k * 1024) es)) (entries_text (take 1024 (drop (k * 1024)
-    es))) so_far front in
-    subst (AppendsFront a c) (sym (text_cut es upto))
-    (AppendsFront-first a c (entries_text (take upto es)) (entries_text (drop upto es))
-    (subst (AppendsFront a c) (sym (text_next es k)) here))
+    let here = AppendsPrefix-then a b c (entries_text (take (k * 1024) es)) (entries_text (take 1024 (drop (k * 1024)
+    es))) so_far prefix in
+    subst (AppendsPrefix a c) (sym (text_cut es upto))
+    (AppendsPrefix-first a c (entries_text (take upto es)) (entries_text (drop upto es))
+    (subst (AppendsPrefix a c) (sym (text_next es k)) here))

@@ -26,12 +26,12 @@ use Rattle.history.proofs.KeptNetworks.{IsNetwork, replayed_network}
 -- of two splits of one list, what stands between the first place and the second
 record IsBetween {X : Type 0} (before xs first ys : List X) : Type 0 where
   between : List X
-  front : first ≡ before ++ between
+  prefix : first ≡ before ++ between
   back : xs ≡ between ++ ys
 
 is_between : {X : Type 0} (before xs first ys : List X) → before ++ xs ≡ first ++ ys → length before ≤ length first
     → IsBetween before xs first ys
-is_between [] xs first ys is short = record { between = first; front = refl; back = is }
+is_between [] xs first ys is short = record { between = first; prefix = refl; back = is }
 is_between (b ∷ before) xs [] ys is short = absurd (omega (arith, short))
 is_between (b ∷ before) xs (f ∷ first) ys is short =
     let same : b ≡ f = cc in
@@ -39,7 +39,7 @@ is_between (b ∷ before) xs (f ∷ first) ys is short =
     let more = is_between before xs first ys rests (omega (arith, short)) in
     record {
       between = more.between;
-      front = ap₂ (λ z zs. z ∷ zs) (sym same) more.front;
+      prefix = ap₂ (λ z zs. z ∷ zs) (sym same) more.prefix;
       back = more.back;
     }
 
@@ -153,10 +153,10 @@ module _ {L : Type 0} (app : App L) (from_text : List ℕ → Option L) where
     sound_place first more here splits reached low high =
         let between = is_between s.before (steps s.events ++ s.rest) first more (sym is.split ∙ splits) low in
         let long : length first ≡ length s.before + length between.between =
-        ap length between.front ∙ length-append s.before between.between in
+        ap length between.prefix ∙ length-append s.before between.between in
         let inside = first_steps s.events s.rest between.between more between.back (omega (arith, long, high)) in
         let entries : first ≡ s.before ++ steps inside.0 =
-        between.front ∙ ap (λ xs. s.before ++ xs) inside.1 in
+        between.prefix ∙ ap (λ xs. s.before ++ xs) inside.1 in
         let on = replayed_on s.before (steps inside.0) opening s.here here is.begins
         (ap (λ xs. replayed app from_text opening xs) (sym entries) ∙ reached) in
         let done = all_done inside.0 s.here here on in

@@ -4,7 +4,7 @@ ghost use Rattle.std.specs.Prelude.{◌≡◌, ◌≢◌, ℕ, ◌+◌, ◌≤�
 ghost use Rattle.std.specs.Prelude.{◌<◌, ◌↔◌, take, Some, MatchResult};
 
 use crate::entry::{Entry, Receipt, Report};
-use crate::line::{fault_has_line, step_has_line};
+use crate::line::{lemma_fault_has_line, lemma_step_has_line};
 use crate::log::Log;
 use crate::player::Player;
 use crate::refusal::{
@@ -98,7 +98,7 @@ impl<P: Application> Book<P> {
         let position = count + 1;
         match self.player.enter_step(alloc, position, event) {
             Ok(reply) => {
-                step_has_line(event);
+                lemma_step_has_line(event);
                 self.log.push(Entry::Step(event));
                 Ok(Receipt {
                     position,
@@ -143,7 +143,7 @@ impl<P: Application> Book<P> {
         let position = count + 1;
         match self.player.enter_fault(alloc, position, &fault) {
             Ok(()) => {
-                fault_has_line::<P>(&fault);
+                lemma_fault_has_line::<P>(&fault);
                 self.log.push(Entry::Disturbed(fault));
                 Ok(position)
             }
@@ -199,7 +199,7 @@ impl<P: Application> Book<P> {
         let event = plan.event();
         match self.player.enter_plan(position, plan) {
             Ok(reply) => {
-                step_has_line(event);
+                lemma_step_has_line(event);
                 self.log.push(Entry::Step(event));
                 Ok(Receipt {
                     position,
@@ -237,7 +237,7 @@ impl<P: Application> Book<P> {
 
     /// Its configuration is what its entries leave from its opening, which are within its limit, and which a
     /// history may have.
-    pub fn is_book(&self)
+    pub fn lemma_is_book(&self)
         ensures { IsBook P.app P.from_text self.now }
     {
         let _ = &self.player;

@@ -2,7 +2,7 @@
 
 ghost use Rattle.std.specs.Prelude.{◌≡◌, ◌≢◌, ◌++◌, ℕ, List, IfErr, IfOk, IfSome, OnErr, OnOk, Result, Ok, Err};
 ghost use Rattle.std.specs.Io.KnownBytes.{Appends};
-ghost use Rattle.action_tables.specs.Written.{AppendsFront};
+ghost use Rattle.action_tables.specs.Written.{AppendsPrefix};
 ghost use Rattle.history.specs.declared.entry.Entry.{Entry};
 ghost use Rattle.history.specs.Book.{BookView, IsBook};
 ghost use Rattle.history.specs.Segments.{IsSegmented, entries_of};
@@ -48,7 +48,7 @@ pub fn books_read_back<P: Application>()
 pub fn write_book<P: Application, W: Write>(book: &Book<P>, out: &mut W) -> Result<(), WriteFault>
     ensures ok { OnOk result (Appends (W.contents out.old) (W.contents out.new) (history_text book.now.entries)) }
     ensures err { OnErr result
-        (AppendsFront (W.contents out.old) (W.contents out.new) (history_text book.now.entries)) }
+        (AppendsPrefix (W.contents out.old) (W.contents out.new) (history_text book.now.entries)) }
 {
     write_segments(book.segments(), out)
 }
@@ -59,7 +59,7 @@ fn write_segments<W: Write>(segments: &Segments, out: &mut W) -> Result<(), Writ
     ensures ok { OnOk result
         (Appends (W.contents out.old) (W.contents out.new) (history_text (entries_of segments.now))) }
     ensures err { OnErr result
-        (AppendsFront (W.contents out.old) (W.contents out.new) (history_text (entries_of segments.now))) }
+        (AppendsPrefix (W.contents out.old) (W.contents out.new) (history_text (entries_of segments.now))) }
 {
     put_bytes(out, b"reset-history 1\n")?;
     put_segments(out, segments)
@@ -71,7 +71,7 @@ fn put_segments<W: Write>(out: &mut W, segments: &Segments) -> Result<(), WriteF
     ensures ok { OnOk result
         (Appends (W.contents out.old) (W.contents out.new) (entries_text (entries_of segments.now))) }
     ensures err { OnErr result
-        (AppendsFront (W.contents out.old) (W.contents out.new) (entries_text (entries_of segments.now))) }
+        (AppendsPrefix (W.contents out.old) (W.contents out.new) (entries_text (entries_of segments.now))) }
 {
     for index in 0..segments.len().div_ceil(SEGMENT) {
         put_entries(out, segments.segment(index))?;
@@ -82,7 +82,7 @@ fn put_segments<W: Write>(out: &mut W, segments: &Segments) -> Result<(), WriteF
 // Writes the lines of entries.
 fn put_entries<W: Write>(out: &mut W, entries: &[Entry]) -> Result<(), WriteFault>
     ensures ok { OnOk result (Appends (W.contents out.old) (W.contents out.new) (entries_text entries.now)) }
-    ensures err { OnErr result (AppendsFront (W.contents out.old) (W.contents out.new) (entries_text entries.now)) }
+    ensures err { OnErr result (AppendsPrefix (W.contents out.old) (W.contents out.new) (entries_text entries.now)) }
 {
     for entry in entries {
         put_entry(out, entry)?;
@@ -93,7 +93,8 @@ fn put_entries<W: Write>(out: &mut W, entries: &[Entry]) -> Result<(), WriteFaul
 // Writes the line of an entry, with its line feed.
 fn put_entry<W: Write>(out: &mut W, entry: &Entry) -> Result<(), WriteFault>
     ensures ok { OnOk result (Appends (W.contents out.old) (W.contents out.new) (ended (entry_line entry.now))) }
-    ensures err { OnErr result (AppendsFront (W.contents out.old) (W.contents out.new) (ended (entry_line entry.now))) }
+    ensures err { OnErr result
+        (AppendsPrefix (W.contents out.old) (W.contents out.new) (ended (entry_line entry.now))) }
 {
     put_command(out, entry)?;
     put_bytes(out, b"\n")
@@ -102,7 +103,7 @@ fn put_entry<W: Write>(out: &mut W, entry: &Entry) -> Result<(), WriteFault>
 // Writes the command that makes an entry happen.
 fn put_command<W: Write>(out: &mut W, entry: &Entry) -> Result<(), WriteFault>
     ensures ok { OnOk result (Appends (W.contents out.old) (W.contents out.new) (entry_line entry.now)) }
-    ensures err { OnErr result (AppendsFront (W.contents out.old) (W.contents out.new) (entry_line entry.now)) }
+    ensures err { OnErr result (AppendsPrefix (W.contents out.old) (W.contents out.new) (entry_line entry.now)) }
 {
     match entry {
         Entry::Step(event) => write_event(event, out),

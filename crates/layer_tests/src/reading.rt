@@ -16,7 +16,7 @@ fn holds_its_cases(rt: HostRuntime) {
     }
     assert_eq!(rt; CaseSet::empty().first(), None);
     assert_eq!(rt; set, CaseSet::empty().with(3).with(5).with(16));
-    set.is_listed();
+    set.lemma_is_listed();
 }
 
 #[test]

@@ -105,7 +105,7 @@ fn bound_of<P: Application>(config: &Config<P>) -> u32
     ensures some { 0 < result }
 {
     let topology = config.topology();
-    topology.is_graph();
+    topology.lemma_is_graph();
     topology.len() as u32
 }
 
@@ -132,7 +132,7 @@ fn own_row<P: Application>(config: &Config<P>, index: usize, own: &End<'_, P>) -
     ensures { result ≡ own_row config.now (slice_index config.now.graph.ids index) }
 {
     let topology = config.topology();
-    config.is_graph();
+    config.lemma_is_graph();
     let k = bound_of(config);
     let father = own.tree.father;
     match topology.neighbour_at(index, father) {
@@ -155,7 +155,7 @@ fn add_links<P: Application>(
         (found.new.items ≡ found.old.items ++ flat_map (link_faults P.app config.now.graph.bound own.now)
         (map (near_of P.app config.now) (neighbours_of config.now.graph (slice_index config.now.graph.ids index)))) }
 {
-    config.is_graph();
+    config.lemma_is_graph();
     let k = bound_of(config);
     for near in config.topology().neighbours(index) {
         if !is_quiet(k, &*own, &end_at(config, *near)) {

@@ -31,7 +31,7 @@ pub(crate) fn end_at<'a, P: Application>(config: &'a Config<P>, index: usize) ->
     requires { index < length config.now.graph.ids }
     ensures { result ≡ near_of P.app config.now (slice_index config.now.graph.ids index) }
 {
-    config.is_graph();
+    config.lemma_is_graph();
     End {
         id: config.topology().ids()[index],
         tree: config.trees()[index],

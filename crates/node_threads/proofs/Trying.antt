@@ -5,7 +5,7 @@ use Rattle.std.specs.List.{flat_map, range_with_len}
 use Rattle.std.specs.Option.{option_or}
 use Rattle.std.proofs.lemmas.List.Concat.{flat_map-cons}
 use Rattle.std.proofs.lemmas.List.Folds.{find-append}
-use Rattle.reset_machine.proofs.CaseChoices.{cases_end, cases_from}
+use Rattle.reset_machine.proofs.CaseArguments.{cases_end, cases_from}
 
 -- the next one, and what is left after it
 pub left_next : {X Y : Type 0} (F : List X → Y) (xs : List X) (i : ℕ) (d : X) (all : Y) → i < length xs

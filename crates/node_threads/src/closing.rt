@@ -69,7 +69,7 @@ pub fn close<L: Round, P: Application>(
 {
     let Shared { locked, last, cut } = shared;
     let locked = locked.into_inner();
-    locked.is_locked();
+    locked.lemma_is_locked();
     match locked.close_in(alloc, &seats) {
         Ok(()) => {}
         Err(fault) => {
@@ -178,7 +178,7 @@ fn receipts_after<P: Application>(
 ) -> Result<Vec<Receipt>, AllocError>
     ensures { IfOk result (λ told. told.items ≡ receipts_after P.app P.from_text book.now mark) }
 {
-    book.is_book();
+    book.lemma_is_book();
     let reports = book.reports();
     let mut told = Vec::new(alloc);
     let mut next = 0;
@@ -252,14 +252,14 @@ fn gathered<L: Round, P: Application>(
     ensures closed { IsClosed P.app P.from_text result.book L.mark result.seats.items }
     ensures lists { result.seats.items ≡ map list_of seats.items }
 {
-    cut.one_more();
-    locked.is_locked();
+    cut.lemma_one_more();
+    locked.lemma_is_locked();
     let Locked {
         book,
         mark: _,
         mut tally,
     } = locked;
-    book.config().is_graph();
+    book.config().lemma_is_graph();
     let mut all = last;
     for seat in seats {
         let Seat {

@@ -34,11 +34,11 @@ pub struct Locked<L: Round, P: Application> {
 impl<L: Round, P: Application> Locked<L, P> {
     /// What holds of it: its book is one, with the round's mark and as many nodes as the round has seats;
     /// its ledger's total is the number of entries after the mark, and none of these is a fault.
-    pub fn is_locked(&self)
+    pub fn lemma_is_locked(&self)
         ensures mark { self.now.mark ≡ L.mark }
         ensures locked { IsLocked P.app P.from_text self.now.book L.mark self.now.tally.total L.seats }
     {
-        self.book.is_book();
+        self.book.lemma_is_book();
     }
 
     /// What the seat's node sees now.

@@ -34,7 +34,7 @@ impl<L: Round> Cut<L> {
         Cut { of: PhantomData }
     }
 
-    pub(crate) fn one_more(&self)
+    pub(crate) fn lemma_one_more(&self)
         ensures { L.parts ≡ L.seats + 1 }
     {}
 }

@@ -5,7 +5,7 @@ pub mod NarrowViews
 pub mod RunLists
 pub mod Readiness
 pub mod StepClauses
-pub mod CaseChoices
+pub mod CaseArguments
 pub mod StepShadows
 pub mod NearSeen
 pub mod Standings

@@ -18,7 +18,7 @@ use Rattle.reset_model.specs.Planned.{case_taken}
 use Rattle.reset_model.specs.View.{NodeView, near_of, tree_view, view_of, wave_view}
 use Rattle.reset_model.proofs.Places.{value_at-put_at_other}
 use Rattle.reset_model.proofs.ViewedOutcomes.{case-is, tree_view-is, wave_view-is}
-use Rattle.reset_machine.specs.Enabled.{choices, has_work, is_ready, is_taken}
+use Rattle.reset_machine.specs.Enabled.{arguments_of, has_work, is_ready, is_taken}
 use Rattle.reset_machine.specs.Known.{IsKnown}
 use Rattle.reset_machine.specs.ReadySet.{DoubtsAll, DoubtsAround, Settles, Standing, last_in_doubt}
 use Rattle.reset_machine.proofs.NearSeen.{same_neighbour, same_view}
@@ -50,7 +50,7 @@ module _ {L : Type 0} (app : App L) where
       let t = tree_view v in
       let w = wave_view v in
       has_work (enabled_of (tree_table t t.near)) (enabled_of (wave_table w w.children))
-      (filter (λ case. list_any (λ with. is_ok (case_taken app v case with)) (choices g v.id (app.reads case)))
+      (filter (λ case. list_any (λ with. is_ok (case_taken app v case with)) (arguments_of g v.id (app.reads case)))
       all_cases)
 
   is_ready-seen : (c : Configuration L) (i : ℕ) → IsGraph c.graph
@@ -60,9 +60,9 @@ module _ {L : Type 0} (app : App L) where
       let acts =
       filter_agree taken
       (λ case. list_any (λ with. is_ok (case_taken app (view_of app c i) case with))
-      (choices c.graph i (app.reads case)))
+      (arguments_of c.graph i (app.reads case)))
       (λ case. λ j. list_any (λ with. is_ok (sym (case-is app c graph i case with) j))
-      (choices c.graph i (app.reads case)))
+      (arguments_of c.graph i (app.reads case)))
       all_cases in
       ap₂ (λ ts ws. has_work ts ws (filter taken all_cases))
       (ap (λ t. enabled_of (tree_table t t.near)) (sym (tree_view-is app c i)))

@@ -126,7 +126,7 @@ module _ (s : Standing) (h : IsStanding s) where
       all = swapped_all place r nodes place_low r_low swapped;
     }
 
-  -- a node that was known as idle goes to the front of the idle ones, which is one place later now
+  -- a node that was known as idle goes to the prefix of the idle ones, which is one place later now
   module _ (place n : ℕ) (nodes : List ℕ) (in_part : s.idle ≤ place) (place_low : place < count)
       (at : slice_index s.nodes place ≡ n) (swapped : nodes ≡ swap s.nodes place s.idle) where
     idle_low : s.idle < count

@@ -11,7 +11,7 @@ use Rattle.tree_layer.specs.TreeTable.{tree_table}
 use Rattle.wave_layer.specs.WaveTable.{wave_table}
 use Rattle.wave_layer.specs.declared.regs.WaveRegs.{WaveRegs}
 use Rattle.reset_machine.specs.declared.enabled.Enabled.{Enabled}
-use Rattle.reset_model.specs.Actions.{fitted_of}
+use Rattle.reset_model.specs.Actions.{case_outcome_of}
 use Rattle.reset_model.specs.Configuration.{Configuration, tree_of, wave_of, local_of}
 use Rattle.reset_model.specs.LocalSteps.{tree_view_of, view_of}
 
@@ -30,17 +30,17 @@ abbrev pub enabled_waves : {L : Type 0} → Configuration L → ℕ → List ℕ
 enabled_waves c i = let v = view_of c.graph (tree_of c) (wave_of c) i in enabled_of (wave_table v v.children)
 
 -- the choices of a neighbour that fit what a case reads
-abbrev pub choices : Graph → ℕ → Option Reads → List (Option ℕ)
-choices g i None = []
-choices g i (Some Alone) = None ∷ []
-choices g i (Some Toward) = map Some (neighbours_of g i)
-choices g i (Some One) = map Some (neighbours_of g i)
-choices g i (Some All) = None ∷ []
+abbrev pub arguments_of : Graph → ℕ → Option Reads → List (Option ℕ)
+arguments_of g i None = []
+arguments_of g i (Some Alone) = None ∷ []
+arguments_of g i (Some Toward) = map Some (neighbours_of g i)
+arguments_of g i (Some One) = map Some (neighbours_of g i)
+arguments_of g i (Some All) = None ∷ []
 
 -- the case is taken at i with some choice: no node that it reads disagrees, and it is enabled
 abbrev pub is_taken : {L : Type 0} → App L → Graph → ℕ → (ℕ → WaveRegs) → (ℕ → L) → ℕ → ℕ → Bool
 is_taken app g K w l i case =
-    list_any (λ with. is_ok (fitted_of app g K w l i case with)) (choices g i (app.reads case))
+    list_any (λ with. is_ok (case_outcome_of app g K w l i case with)) (arguments_of g i (app.reads case))
 
 -- the numbers of the cases of the application that are enabled at i
 abbrev pub enabled_acts : {L : Type 0} → App L → Configuration L → ℕ → List ℕ

@@ -7,7 +7,7 @@ use Rattle.wave_layer.specs.WaveTable as wave
 use Rattle.reset_model.specs.declared.event.Event.{Event}
 use Rattle.reset_model.specs.declared.plan.Fired.{Fired}
 use Rattle.reset_model.specs.declared.step.StepRefusal.{StepRefusal}
-use Rattle.reset_model.specs.Actions.{fitted_of}
+use Rattle.reset_model.specs.Actions.{case_outcome_of}
 use Rattle.reset_model.specs.Configuration.{Configuration, local_of, tree_of, wave_of}
 use Rattle.reset_model.specs.LocalSteps.{answer_of, tree_view_of, view_of}
 
@@ -47,6 +47,7 @@ abbrev pub answer_at : {L : Type 0} → NodePlace L → Event → Result Fired S
 answer_at p e = answer_of p.config.graph (node_bound p.config.graph) (tree_of p.config) (wave_of p.config) e
 
 -- what a case of the application does at the node, with this choice of a neighbour
-abbrev pub fitted_at : {L : Type 0} → App L → NodePlace L → ℕ → Option ℕ → Result L StepRefusal
-fitted_at app p case with =
-    fitted_of app p.config.graph (node_bound p.config.graph) (wave_of p.config) (local_of app p.config) p.id case with
+abbrev pub case_outcome_at : {L : Type 0} → App L → NodePlace L → ℕ → Option ℕ → Result L StepRefusal
+case_outcome_at app p case with =
+    case_outcome_of app p.config.graph (node_bound p.config.graph) (wave_of p.config) (local_of app p.config)
+    p.id case with

@@ -6,12 +6,12 @@ ghost use Rattle.app_interface.specs.Views.{seen_values};
 ghost use Rattle.topology.specs.Graph.{node_bound};
 ghost use Rattle.reset_model.specs.Actions.{acted_of, first_apart, reads_near};
 ghost use Rattle.reset_model.specs.Configuration.{local_of, wave_of};
-ghost use Rattle.reset_machine.specs.Place.{fitted_at, near_ids};
+ghost use Rattle.reset_machine.specs.Place.{case_outcome_at, near_ids};
 
 use crate::nodes::Nodes;
 use crate::place::Place;
 use app_interface::{Application, Here, Reads, Seen};
-use reset_model::{Choice, StepRefusal, misfit, on_clock, reads_near};
+use reset_model::{Arguments, StepRefusal, misfit, on_clock, reads_near};
 use std::alloc::{AllocError, Global};
 
 /// The index of the node and the local state that the action leaves it, or the first refusal.
@@ -19,21 +19,21 @@ pub fn acted<P: Application>(
     alloc: Global,
     nodes: &Nodes<P>,
     at: u32,
-    choice: Choice,
+    arguments: Arguments,
 ) -> Result<(usize, P::Local), StepRefusal>
     ensures place { IfOk result (λ p. position (λ i. i == at) nodes.now.graph.ids ≡ Some p.0) }
     ensures exact { let c = nodes.now in
         let act = acted_of P.app c.graph (node_bound c.graph) (wave_of c) (local_of P.app c)
-        at choice.case choice.with in
+        at arguments.case arguments.with in
         MatchResult result (λ p. act ≡ Ok p.1) (λ f. f ≢ StepRefusal.NoMemory → act ≡ Err f) }
 {
     let Some(place) = Place::of(nodes, at) else {
         return Err(StepRefusal::StrangeNode);
     };
-    if let Err(refusal) = place.named(choice.with) {
+    if let Err(refusal) = place.named(arguments.with) {
         return Err(refusal);
     }
-    match fitted(alloc, &place, choice) {
+    match case_outcome(alloc, &place, arguments) {
         Ok(local) => Ok((place.index(), local)),
         Err(refusal) => Err(refusal),
     }
@@ -41,45 +41,52 @@ pub fn acted<P: Application>(
 
 /// The local state that the action leaves the node, or the first refusal, where the neighbour that is
 /// named, if any, is one.
-pub fn fitted<P: Application>(
+pub fn case_outcome<P: Application>(
     alloc: Global,
     place: &Place<'_, P>,
-    choice: Choice,
+    arguments: Arguments,
 ) -> Result<P::Local, StepRefusal>
-    ensures exact { MatchResult result (λ local. fitted_at P.app place.now choice.case choice.with ≡ Ok local)
-        (λ f. f ≢ StepRefusal.NoMemory → fitted_at P.app place.now choice.case choice.with ≡ Err f) }
+    ensures exact { MatchResult result
+        (λ local. case_outcome_at P.app place.now arguments.case arguments.with ≡ Ok local)
+        (λ f. f ≢ StepRefusal.NoMemory → case_outcome_at P.app place.now arguments.case arguments.with ≡ Err f) }
 {
-    let reads = P::reads(choice.case);
-    if let Some(refusal) = misfit(reads, choice.with) {
+    let reads = P::reads(arguments.case);
+    if let Some(refusal) = misfit(reads, arguments.with) {
         return Err(refusal);
     }
-    if let Some(near) = first_apart(place, reads, choice.with) {
+    if let Some(near) = first_apart(place, reads, arguments.with) {
         return Err(StepRefusal::Disagrees(near));
     }
-    let seen = match seen(alloc, place, reads, choice.with) {
+    let seen = match seen(alloc, place, reads, arguments.with) {
         Ok(seen) => seen,
         Err(AllocError) => return Err(StepRefusal::NoMemory),
     };
-    on_clock::<P>(alloc, here(place), choice, place.local(), &seen)
+    on_clock::<P>(alloc, here(place), arguments, place.local(), &seen)
 }
 
 /// Whether the action of the node isn't refused, where the neighbour that is named, if any, is one.
 pub fn is_taken<P: Application>(
     alloc: Global,
     place: &Place<'_, P>,
-    choice: Choice,
+    arguments: Arguments,
 ) -> Result<bool, AllocError>
-    ensures { IfOk result (λ taken. taken ≡ is_ok (fitted_at P.app place.now choice.case choice.with)) }
+    ensures { IfOk result (λ taken. taken ≡ is_ok (case_outcome_at P.app place.now arguments.case arguments.with)) }
 {
-    let reads = P::reads(choice.case);
-    if misfit(reads, choice.with).is_some() {
+    let reads = P::reads(arguments.case);
+    if misfit(reads, arguments.with).is_some() {
         return Ok(false);
     }
-    if first_apart(place, reads, choice.with).is_some() {
+    if first_apart(place, reads, arguments.with).is_some() {
         return Ok(false);
     }
-    let seen = seen(alloc, place, reads, choice.with)?;
-    Ok(P::can(here(place), choice.case, choice.with, place.local(), &seen))
+    let seen = seen(alloc, place, reads, arguments.with)?;
+    Ok(P::can(
+        here(place),
+        arguments.case,
+        arguments.with,
+        place.local(),
+        &seen,
+    ))
 }
 
 // The node, with the bound K.

@@ -19,7 +19,7 @@ use crate::ready_set::ReadySet;
 use app_interface::Application;
 use reset_model::plan::{Effect, Fired};
 use reset_model::{
-    Choice, Done, Event, Plan, Reply, StepRefusal, View, completions, invariants, refinement,
+    Arguments, Done, Event, Plan, Reply, StepRefusal, View, completions, invariants, refinement,
     reply_to,
 };
 use std::alloc::{AllocError, AllocFailed, Global};
@@ -83,7 +83,7 @@ impl<P: Application> Config<P> {
         ensures sound { IfOk result IsSound }
         ensures value_returned { IfErr result (λ e. e.value ≡ topology) }
     {
-        topology.is_graph();
+        topology.lemma_is_graph();
         let standing = match ReadySet::new(alloc, topology.len()) {
             Ok(standing) => standing,
             Err(AllocError) => return Err(AllocFailed { value: topology }),
@@ -111,22 +111,22 @@ impl<P: Application> Config<P> {
         ensures outcome { MatchResult result (λ reply. outcome_of P.app self.old event ≡ Ok (self.new, reply))
             (λ f. f ≢ StepRefusal.NoMemory → outcome_of P.app self.old event ≡ Err f) }
     {
-        self.is_graph();
+        self.lemma_is_graph();
         invariants::<P>();
         match event {
-            Event::Act { at, case, with } => self.act(alloc, at, Choice { case, with }),
+            Event::Act { at, case, with } => self.act(alloc, at, Arguments { case, with }),
             _ => self.fire(alloc, event),
         }
     }
 
     // Takes a case of the application.
-    fn act(&mut self, alloc: Global, at: u32, choice: Choice) -> Result<Reply, StepRefusal>
+    fn act(&mut self, alloc: Global, at: u32, arguments: Arguments) -> Result<Reply, StepRefusal>
         ensures kept { OnErr result (self.new ≡ self.old) }
         ensures outcome { MatchResult result
-            (λ reply. act_outcome P.app self.old at choice.case choice.with ≡ Ok (self.new, reply))
-            (λ f. f ≢ StepRefusal.NoMemory → act_outcome P.app self.old at choice.case choice.with ≡ Err f) }
+            (λ reply. act_outcome P.app self.old at arguments.case arguments.with ≡ Ok (self.new, reply))
+            (λ f. f ≢ StepRefusal.NoMemory → act_outcome P.app self.old at arguments.case arguments.with ≡ Err f) }
     {
-        match acted(alloc, &self.nodes, at, choice) {
+        match acted(alloc, &self.nodes, at, arguments) {
             Ok((ix, after)) => {
                 self.set_local(ix, after);
                 Ok(Reply::Applied)
@@ -184,7 +184,7 @@ impl<P: Application> Config<P> {
         requires { index < length self.old.graph.ids }
         ensures { self.new ≡ with_tree self.old (slice_index self.old.graph.ids index) regs }
     {
-        self.nodes.is_graph();
+        self.nodes.lemma_is_graph();
         self.standing.doubt_around(self.nodes.topology(), index);
         self.nodes.set_tree(index, regs);
     }
@@ -194,7 +194,7 @@ impl<P: Application> Config<P> {
         requires { index < length self.old.graph.ids }
         ensures { self.new ≡ with_wave self.old (slice_index self.old.graph.ids index) regs }
     {
-        self.nodes.is_graph();
+        self.nodes.lemma_is_graph();
         self.standing.doubt_around(self.nodes.topology(), index);
         self.nodes.set_wave(index, regs);
     }
@@ -204,18 +204,18 @@ impl<P: Application> Config<P> {
         requires { index < length self.old.graph.ids }
         ensures { self.new ≡ with_local self.old (slice_index self.old.graph.ids index) local }
     {
-        self.nodes.is_graph();
+        self.nodes.lemma_is_graph();
         self.standing.doubt_around(self.nodes.topology(), index);
         self.nodes.set_local(index, local);
     }
 
     /// Its topology is a connected graph, and each node has its registers and its local state.
-    pub fn is_graph(&self)
+    pub fn lemma_is_graph(&self)
         ensures graph { IsGraph self.now.graph }
         ensures connected { IsConnected self.now.graph }
         ensures shaped { IsShaped self.now }
     {
-        self.nodes.is_graph();
+        self.nodes.lemma_is_graph();
     }
 
     /// Does what the events say, in turn, and tells how each was answered. A refused event changes
@@ -228,7 +228,7 @@ impl<P: Application> Config<P> {
         ensures lawful { IfOk result
             (λ answers. IsSound self.old → IsSoundRun P.app P.Inv self.old events.now answers.items self.new) }
     {
-        self.is_graph();
+        self.lemma_is_graph();
         completions::<P>();
         refinement::<P>();
         invariants::<P>();
@@ -380,7 +380,7 @@ impl<P: Application> Config<P> {
             (λ reply. IsSound self.old → IsSoundStep P.app P.Inv self.old plan.event reply self.new) }
         ensures outcome { IfOk result (λ reply. outcome_of P.app self.old plan.event ≡ Ok (self.new, reply)) }
     {
-        self.is_graph();
+        self.lemma_is_graph();
         invariants::<P>();
         let Some(ix) = self.index_seeing(plan.seen_view()) else {
             return Err(plan);
@@ -425,9 +425,9 @@ impl<P: Application> Config<P> {
         ensures ok { IfOk result (λ ids. ids.items ≡ ready_of P.app self.old) }
         ensures kept { self.new ≡ self.old }
     {
-        self.nodes.is_graph();
+        self.nodes.lemma_is_graph();
         settle_all(alloc, &self.nodes, &mut self.standing)?;
-        self.standing.is_standing();
+        self.standing.lemma_is_standing();
         ready_ids(alloc, self.nodes.topology(), self.standing.ready())
     }
 
@@ -519,7 +519,7 @@ impl<P: Application> Config<P> {
         ensures { result ≡ (wave_of self.now (greatest self.now.graph)).session }
     {
         let waves = self.nodes.waves();
-        self.nodes.is_graph();
+        self.nodes.lemma_is_graph();
         waves[waves.len() - 1].session
     }
 }

@@ -9,7 +9,7 @@ ghost use Rattle.topology.specs.Graph.{node_bound};
 ghost use Rattle.reset_model.specs.Configuration.{local_of, wave_of};
 ghost use Rattle.reset_machine.specs.Enabled.{enabled_acts, enabled_rows, enabled_trees, enabled_waves};
 ghost use Rattle.reset_machine.specs.Enabled.{has_work, is_ready, is_taken};
-ghost use Rattle.reset_machine.specs.Place.{fitted_at, near_ids};
+ghost use Rattle.reset_machine.specs.Place.{case_outcome_at, near_ids};
 ghost use Rattle.tree_layer.specs.TreeTable.{IsView, tree_table};
 ghost use Rattle.wave_layer.specs.WaveTable.{wave_table};
 
@@ -18,7 +18,7 @@ use crate::place::Place;
 use crate::view::{father_seen, read_children, read_near_trees};
 use action_tables::CaseSet;
 use app_interface::{Application, Reads};
-use reset_model::Choice;
+use reset_model::Arguments;
 use std::alloc::{AllocError, Global};
 use tree_layer::{TreeRegs, TreeView, tree_enabled};
 use wave_layer::{FatherSeen, WaveRegs, WaveView, wave_enabled};
@@ -45,7 +45,7 @@ impl Enabled {
     fn is_ready(self) -> bool
         ensures { result ≡ has_work self.tree self.wave self.act }
     {
-        self.wave.is_listed();
+        self.wave.lemma_is_listed();
         self.tree.count() > 0
             || self.wave.count() > count_of(self.wave, REQUEST)
             || self.act.count() > 0
@@ -79,7 +79,7 @@ fn enabled_trees<P: Application>(
 ) -> Result<CaseSet, AllocError>
     ensures { IfOk result (λ rows. rows ≡ enabled_trees place.now.config place.now.id) }
 {
-    place.is_place();
+    place.lemma_is_place();
     read_near_trees(place, near)?;
     Ok(tree_rows(place.id(), place.bound(), place.tree(), near))
 }
@@ -104,7 +104,7 @@ fn enabled_waves<P: Application>(
 ) -> Result<CaseSet, AllocError>
     ensures { IfOk result (λ rows. rows ≡ enabled_waves place.now.config place.now.id) }
 {
-    place.is_place();
+    place.lemma_is_place();
     read_children(place, children)?;
     Ok(wave_rows(place.wave(), father_seen(place), children))
 }
@@ -145,7 +145,7 @@ fn is_enabled<P: Application>(
 {
     match P::reads(case) {
         None => Ok(false),
-        Some(Reads::Alone | Reads::All) => is_taken(alloc, place, Choice { case, with: None }),
+        Some(Reads::Alone | Reads::All) => is_taken(alloc, place, Arguments { case, with: None }),
         Some(Reads::Toward | Reads::One) => is_taken_toward(alloc, place, case),
     }
 }
@@ -157,11 +157,11 @@ fn is_taken_toward<P: Application>(
     case: u8,
 ) -> Result<bool, AllocError>
     ensures { IfOk result (λ taken. taken
-        ≡ list_any (λ with. is_ok (fitted_at P.app place.now case with)) (map Some (near_ids place.now))) }
+        ≡ list_any (λ with. is_ok (case_outcome_at P.app place.now case with)) (map Some (near_ids place.now))) }
 {
     for near in place.neighbours() {
         let with = Some(place.id_at(*near));
-        if is_taken(alloc, place, Choice { case, with })? {
+        if is_taken(alloc, place, Arguments { case, with })? {
             return Ok(true);
         }
     }

@@ -16,7 +16,7 @@ pub(crate) fn read_view<P: Application>(
 ) -> Result<View<P>, AllocError>
     ensures { IfOk result (λ view. view ≡ view_of P.app place.now.config place.now.id) }
 {
-    place.is_place();
+    place.lemma_is_place();
     let local = P::copy(alloc, place.local())?;
     let start = P::on_start(alloc, place.topology(), place.index())?;
     let near = read_near::<P>(alloc, place)?;

@@ -100,12 +100,12 @@ impl<P: Application> Nodes<P> {
     }
 
     /// Their topology is a connected graph, and each node has its registers and its local state.
-    pub fn is_graph(&self)
+    pub fn lemma_is_graph(&self)
         ensures graph { IsGraph self.now.graph }
         ensures connected { IsConnected self.now.graph }
         ensures shaped { IsShaped self.now }
     {
-        self.topology.is_graph();
+        self.topology.lemma_is_graph();
     }
 
     /// Puts tree registers at the node with this index.
@@ -113,7 +113,7 @@ impl<P: Application> Nodes<P> {
         requires { index < length self.old.graph.ids }
         ensures { self.new ≡ with_tree self.old (slice_index self.old.graph.ids index) regs }
     {
-        self.topology.is_graph();
+        self.topology.lemma_is_graph();
         self.trees[index] = regs;
     }
 
@@ -122,7 +122,7 @@ impl<P: Application> Nodes<P> {
         requires { index < length self.old.graph.ids }
         ensures { self.new ≡ with_wave self.old (slice_index self.old.graph.ids index) regs }
     {
-        self.topology.is_graph();
+        self.topology.lemma_is_graph();
         self.waves[index] = regs;
     }
 
@@ -131,7 +131,7 @@ impl<P: Application> Nodes<P> {
         requires { index < length self.old.graph.ids }
         ensures { self.new ≡ with_local self.old (slice_index self.old.graph.ids index) local }
     {
-        self.topology.is_graph();
+        self.topology.lemma_is_graph();
         self.locals[index] = local;
     }
 

@@ -60,18 +60,18 @@ impl<'a, P: Application> Place<'a, P> {
         ensures id { result.id ≡ slice_index nodes.now.graph.ids index }
         ensures index { result.index ≡ index }
     {
-        nodes.is_graph();
+        nodes.lemma_is_graph();
         let id = nodes.topology().ids()[index];
         Place { nodes, id, index }
     }
 
     /// What each place is.
-    pub fn is_place(&self)
+    pub fn lemma_is_place(&self)
         ensures graph { IsGraph self.now.config.graph }
         ensures shaped { IsShaped self.now.config }
         ensures place { IsPlace self.now }
     {
-        self.nodes.is_graph();
+        self.nodes.lemma_is_graph();
     }
 
     /// The topology.
@@ -102,7 +102,7 @@ impl<'a, P: Application> Place<'a, P> {
         ensures positive { 0 < result }
     {
         let topology = self.nodes.topology();
-        topology.is_graph();
+        topology.lemma_is_graph();
         topology.len() as u32
     }
 
@@ -179,7 +179,7 @@ impl<'a, P: Application> Place<'a, P> {
         requires { index < length self.now.config.graph.ids }
         ensures { result ≡ tree_of self.now.config (slice_index self.now.config.graph.ids index) }
     {
-        self.nodes.is_graph();
+        self.nodes.lemma_is_graph();
         self.nodes.trees()[index]
     }
 
@@ -188,7 +188,7 @@ impl<'a, P: Application> Place<'a, P> {
         requires { index < length self.now.config.graph.ids }
         ensures { result ≡ wave_of self.now.config (slice_index self.now.config.graph.ids index) }
     {
-        self.nodes.is_graph();
+        self.nodes.lemma_is_graph();
         self.nodes.waves()[index]
     }
 
@@ -197,7 +197,7 @@ impl<'a, P: Application> Place<'a, P> {
         requires { index < length self.now.config.graph.ids }
         ensures { result.now ≡ local_of P.app self.now.config (slice_index self.now.config.graph.ids index) }
     {
-        self.nodes.is_graph();
+        self.nodes.lemma_is_graph();
         &self.nodes.locals()[index]
     }
 }

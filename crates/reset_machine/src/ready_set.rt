@@ -55,7 +55,7 @@ impl ReadySet {
     }
 
     /// What each set is.
-    pub fn is_standing(&self)
+    pub fn lemma_is_standing(&self)
         ensures { IsStanding self.now }
     {
         let _ = &self.nodes;
@@ -95,8 +95,8 @@ impl ReadySet {
         requires count { length self.old.nodes ≡ length topology.now.ids }
         ensures { DoubtsAround topology.now self.old node self.new }
     {
-        topology.is_graph();
-        self.is_standing();
+        topology.lemma_is_graph();
+        self.lemma_is_standing();
         if self.doubts_all() {
             return;
         }

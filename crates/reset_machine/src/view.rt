@@ -33,7 +33,7 @@ pub fn tree_view<'a, P: Application>(
     requires { near.now ≡ map (λ j. (j, tree_of place.now.config j)) (near_ids place.now) }
     ensures { result ≡ tree_seen place.now }
 {
-    place.is_place();
+    place.lemma_is_place();
     match TreeView::new(place.id(), place.bound(), place.tree(), near) {
         Some(view) => view,
         None => unreachable!(),

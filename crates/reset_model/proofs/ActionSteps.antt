@@ -15,7 +15,7 @@ use Rattle.wave_layer.specs.declared.regs.WaveRegs.{WaveRegs}
 use Rattle.reset_model.specs.declared.step.StepRefusal.{StepRefusal}
 use Rattle.reset_model.specs.Actions.{AllAgree, IsFirstApart, ActRefused, strange_node, strange_neighbour, no_such_case}
 use Rattle.reset_model.specs.Actions.{wants_neighbour, takes_no_neighbour, disagrees, not_enabled, misfit, reads_near}
-use Rattle.reset_model.specs.Actions.{first_apart, judged, fitted_of, acted_of}
+use Rattle.reset_model.specs.Actions.{first_apart, judged, case_outcome_of, acted_of}
 use Rattle.reset_model.specs.declared.event.Event.TheVariants.{Act}
 use Rattle.reset_model.specs.LocalSteps.{is_neighbour}
 use Rattle.reset_model.specs.Steps.{IsNamed}
@@ -166,8 +166,8 @@ module _ {L : Type 0} (app : App L) (g : Graph) (graph : IsGraph g) (K : ℕ) (w
   judge node fits None found (Some new) next = record { node = node; fits = fits; agree = agree_is found; next = next }
   judge node fits None found None next = not_enabled node fits (agree_is found) next
 
-  fitted : IsNamed g (Act i case with) → IsActed app g K w l i case with (fitted_of app g K w l i case with)
-  fitted aimed = at (misfit (app.reads case) with) refl (fitting app g K w l i case (app.reads case) with aimed)
+  outcome : IsNamed g (Act i case with) → IsActed app g K w l i case with (case_outcome_of app g K w l i case with)
+  outcome aimed = at (misfit (app.reads case) with) refl (fitting app g K w l i case (app.reads case) with aimed)
     where
       near : List ℕ
       near = filter (reads_near (app.reads case) with) (neighbours_of g i)
@@ -205,4 +205,4 @@ module _ {L : Type 0} (app : App L) (g : Graph) (graph : IsGraph g) (K : ℕ) (w
           let other = stranger with near in
           rw (node, near) (strange_neighbour other.0 (Contains-has g.ids i node) other.1 other.2)
       at true true node near =
-          rw (node, near) (fitted (record { node = Contains-has g.ids i node; neighbour = neighbour with near }))
+          rw (node, near) (outcome (record { node = Contains-has g.ids i node; neighbour = neighbour with near }))

@@ -6,10 +6,12 @@ use Rattle.std.proofs.Common.{IfSome}
 use Rattle.std.specs.Fmt.{decimal}
 use Rattle.std.specs.Io.KnownBytes.{Appends}
 use Rattle.std.proofs.lemmas.Fmt.{decimal_injective}
-use Rattle.action_tables.specs.Written.{AppendsFront}
-use Rattle.action_tables.proofs.Fronts.{AppendsFront-first, AppendsFront-then}
+use Rattle.action_tables.specs.Written.{AppendsPrefix}
+use Rattle.action_tables.proofs.Prefixes.{AppendsPrefix-first, AppendsPrefix-then}
+use Rattle.reset_model.specs.EventCommands.{command_of}
 use Rattle.reset_model.specs.EventText.{event_words, event_line, neighbour_words, Fits}
 use Rattle.reset_model.specs.Words.{words_of}
+use Rattle.reset_model.specs.declared.event_kind.EventKind.{EventKind}
 use Rattle.reset_model.specs.declared.event.Event.{Event}
 use Rattle.reset_model.specs.declared.event.Event.TheVariants.{Claim, Follow, Adopt, Request, Relay, Open, Join, Finish}
 use Rattle.reset_model.specs.declared.event.Event.TheVariants.{Mend, Act}
@@ -92,6 +94,45 @@ same_words e f p q h = absurd (omega (arith, ap first_bytes h, ap length h))
 
 pub one_event : (e f : Event) → Fits e → Fits f → event_line e ≡ event_line f → e ≡ f
 one_event e f p q h = same_words e f p q (sym (words_of-event_line e p) ∙ ap words_of h ∙ words_of-event_line f q)
+
+-- ---- the command that a line begins with
+
+pub words_of-command : (kind : EventKind) (rest : List ℕ)
+    → words_of (command_of kind ++ 32 ∷ rest) ≡ command_of kind ∷ words_of rest
+words_of-command EventKind.Claim rest = refl
+words_of-command EventKind.Follow rest = refl
+words_of-command EventKind.Adopt rest = refl
+words_of-command EventKind.Request rest = refl
+words_of-command EventKind.Relay rest = refl
+words_of-command EventKind.Open rest = refl
+words_of-command EventKind.Join rest = refl
+words_of-command EventKind.Finish rest = refl
+words_of-command EventKind.Mend rest = refl
+words_of-command EventKind.Act rest = refl
+
+pub begun : (line : List ℕ) (kind : EventKind) (rest : List ℕ) → line ≡ command_of kind ++ 32 ∷ rest
+    → words_of line ≡ command_of kind ∷ words_of rest
+begun line kind rest is = ap words_of is ∙ words_of-command kind rest
+
+-- the line of an event begins with the command of its kind
+begins : (e : Event) → (kind : EventKind) × (rest : List ℕ) × (event_line e ≡ command_of kind ++ 32 ∷ rest)
+begins (Claim at) = (EventKind.Claim, decimal at, refl)
+begins (Follow at) = (EventKind.Follow, decimal at, refl)
+begins (Adopt at from) = (EventKind.Adopt, decimal at ++ 32 ∷ decimal from, refl)
+begins (Request at) = (EventKind.Request, decimal at, refl)
+begins (Relay at child) = (EventKind.Relay, decimal at ++ 32 ∷ decimal child, refl)
+begins (Open at) = (EventKind.Open, decimal at, refl)
+begins (Join at) = (EventKind.Join, decimal at, refl)
+begins (Finish at) = (EventKind.Finish, decimal at, refl)
+begins (Mend at) = (EventKind.Mend, decimal at, refl)
+begins (Act at case None) = (EventKind.Act, decimal at ++ 32 ∷ decimal case, refl)
+begins (Act at case (Some j)) = (EventKind.Act, decimal at ++ (32 ∷ (decimal case ++ (32 ∷ decimal j))), refl)
+
+-- so a line that begins with none is no event's
+pub none_begins : (line : List ℕ)
+    → ((kind : EventKind) (rest : List ℕ) → line ≡ command_of kind ++ 32 ∷ rest → ⊥)
+    → (e : Event) → Fits e → line ≡ event_line e → ⊥
+none_begins line none e fits is = let (kind, rest, same) = begins e in none kind rest (is ∙ same)
 
 -- ---- the words of a line that was cut at its first space, and again
 
@@ -182,19 +223,19 @@ act_line at case b with j k same is near =
 
 -- what is written of a text that an action's line begins with is written of the line
 pub act_begun : (x y : Option (List ℕ)) (at case b : ℕ) (with : Option ℕ) → b ≡ case
-    → AppendsFront x y ((codes "act" ++ (32 ∷ decimal at)) ++ (32 ∷ decimal b))
-    → AppendsFront x y (event_line (Act at case with))
+    → AppendsPrefix x y ((codes "act" ++ (32 ∷ decimal at)) ++ (32 ∷ decimal b))
+    → AppendsPrefix x y (event_line (Act at case with))
 act_begun x y at case b None same h = rw (← same) h
 act_begun x y at case b (Some j) same h =
-    let P : List ℕ → Type 0 = λ l. AppendsFront x y l in
+    let P : List ℕ → Type 0 = λ l. AppendsPrefix x y l in
     subst P (sym (act_line at case b (Some j) j j same refl refl))
-    (AppendsFront-first x y ((codes "act" ++ (32 ∷ decimal at)) ++ (32 ∷ decimal b)) (32 ∷ decimal j) h)
+    (AppendsPrefix-first x y ((codes "act" ++ (32 ∷ decimal at)) ++ (32 ∷ decimal b)) (32 ∷ decimal j) h)
 
 -- so is what is written of the neighbour after that text
 pub act_ended : (x y z : Option (List ℕ)) (at case b : ℕ) (with : Option ℕ) (j k : ℕ) → b ≡ case → with ≡ Some j → k ≡ j
-    → Appends x y ((codes "act" ++ (32 ∷ decimal at)) ++ (32 ∷ decimal b)) → AppendsFront y z (32 ∷ decimal k)
-    → AppendsFront x z (event_line (Act at case with))
+    → Appends x y ((codes "act" ++ (32 ∷ decimal at)) ++ (32 ∷ decimal b)) → AppendsPrefix y z (32 ∷ decimal k)
+    → AppendsPrefix x z (event_line (Act at case with))
 act_ended x y z at case b with j k same is near first h =
-    let P : List ℕ → Type 0 = λ l. AppendsFront x z l in
+    let P : List ℕ → Type 0 = λ l. AppendsPrefix x z l in
     subst P (sym (act_line at case b with j k same is near))
-    (AppendsFront-then x y z ((codes "act" ++ (32 ∷ decimal at)) ++ (32 ∷ decimal b)) (32 ∷ decimal k) first h)
+    (AppendsPrefix-then x y z ((codes "act" ++ (32 ∷ decimal at)) ++ (32 ∷ decimal b)) (32 ∷ decimal k) first h)

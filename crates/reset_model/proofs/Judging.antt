@@ -12,7 +12,7 @@ use Rattle.topology.specs.Graph.{Graph, neighbours_of}
 use Rattle.wave_layer.specs.declared.regs.WaveRegs.{WaveRegs}
 use Rattle.reset_model.specs.declared.step.StepRefusal.{StepRefusal}
 use Rattle.reset_model.specs.declared.step.StepRefusal.TheVariants.{StrangeNode, StrangeNeighbour, NotEnabled, NoMemory}
-use Rattle.reset_model.specs.Actions.{misfit, reads_near, first_apart, judged, fitted_of, acted_of}
+use Rattle.reset_model.specs.Actions.{misfit, reads_near, first_apart, judged, case_outcome_of, acted_of}
 use Rattle.reset_model.specs.Configuration.{value_at}
 use Rattle.reset_model.specs.LocalSteps.{is_neighbour}
 use Rattle.reset_model.proofs.Places.{value_at-place}
@@ -94,9 +94,9 @@ judged-ends taken (Err f) next is refused =
     λ other. is ∙ ap (judged None None) (refused other).1 ∙ ap (λ e. Err e) (sym (refused other).0)
 
 -- whether the case is taken is whether it leaves a state
-pub taken-next : {L : Type 0} (fitted : Result L StepRefusal) (taken : Bool) (n : Option L) → taken ≡ is_some n
-    → fitted ≡ judged None None n → taken ≡ is_ok fitted
-taken-next {L} fitted taken n can is = can ∙ told n ∙ ap is_ok (sym is)
+pub taken-next : {L : Type 0} (outcome : Result L StepRefusal) (taken : Bool) (n : Option L) → taken ≡ is_some n
+    → outcome ≡ judged None None n → taken ≡ is_ok outcome
+taken-next {L} outcome taken n can is = can ∙ told n ∙ ap is_ok (sym is)
   where
     told : (n : Option L) → is_some n ≡ is_ok (judged None None n)
     told None = refl
@@ -105,12 +105,12 @@ taken-next {L} fitted taken n can is = can ∙ told n ∙ ap is_ok (sym is)
 module _ {L : Type 0} (app : App L) (g : Graph) (K : ℕ) (w : ℕ → WaveRegs) (l : ℕ → L) (i case : ℕ) (with : Option ℕ)
   where
     -- the choice fits and no neighbour that is read is apart: what the case does, seen from its parts
-    pub fitted-next : (r : Option Reads) (here k : ℕ) (own : L) (s : List (ℕ × L)) (n : Option L) → r ≡ app.reads case
+    pub outcome-next : (r : Option Reads) (here k : ℕ) (own : L) (s : List (ℕ × L)) (n : Option L) → r ≡ app.reads case
         → None ≡ misfit r with → None ≡ first_apart w i (filter (reads_near r with) (neighbours_of g i))
         → here ≡ i → k ≡ K → own ≡ l i → s ≡ map (λ j. (j, l j)) (filter (reads_near r with) (neighbours_of g i))
-        → app.next here k case with own s ≡ n → fitted_of app g K w l i case with ≡ judged None None n
-    fitted-next r here k own s n reads fits agree same_id same_bound same_own same_seen next =
-        ap (λ o. fitted_with o) (sym reads)
+        → app.next here k case with own s ≡ n → case_outcome_of app g K w l i case with ≡ judged None None n
+    outcome-next r here k own s n reads fits agree same_id same_bound same_own same_seen next =
+        ap (λ o. outcome_with o) (sym reads)
         ∙ ap (λ f. judged f (first_apart w i (read_by r))
         (app.next i K case with (l i) (map (λ j. (j, l j)) (read_by r)))) (sym fits)
         ∙ ap (λ o. judged None o (app.next i K case with (l i) (map (λ j. (j, l j)) (read_by r)))) (sym agree)
@@ -122,8 +122,8 @@ module _ {L : Type 0} (app : App L) (g : Graph) (K : ℕ) (w : ℕ → WaveRegs)
         read_by : Option Reads → List ℕ
         read_by o = filter (reads_near o with) (neighbours_of g i)
 
-        fitted_with : Option Reads → Result L StepRefusal
-        fitted_with o =
+        outcome_with : Option Reads → Result L StepRefusal
+        outcome_with o =
             judged (misfit o with) (first_apart w i (read_by o))
             (app.next i K case with (l i) (map (λ j. (j, l j)) (read_by o)))
 
@@ -131,18 +131,18 @@ module _ {L : Type 0} (app : App L) (g : Graph) (K : ℕ) (w : ℕ → WaveRegs)
         → acted_of app g K w l i case with ≡ Err StrangeNode
     acted_of-strange_node none =
         ap (λ b. cond (not b) (Err StrangeNode)
-        (cond (not (is_neighbour g i with)) (Err StrangeNeighbour) (fitted_of app g K w l i case with))) none
+        (cond (not (is_neighbour g i with)) (Err StrangeNeighbour) (case_outcome_of app g K w l i case with))) none
 
     pub acted_of-strange_neighbour : list_any (λ k. k == i) g.ids ≡ true → is_neighbour g i with ≡ false
         → acted_of app g K w l i case with ≡ Err StrangeNeighbour
     acted_of-strange_neighbour node stranger =
         ap (λ b. cond (not b) (Err StrangeNode)
-        (cond (not (is_neighbour g i with)) (Err StrangeNeighbour) (fitted_of app g K w l i case with))) node
-        ∙ ap (λ b. cond (not b) (Err StrangeNeighbour) (fitted_of app g K w l i case with)) stranger
+        (cond (not (is_neighbour g i with)) (Err StrangeNeighbour) (case_outcome_of app g K w l i case with))) node
+        ∙ ap (λ b. cond (not b) (Err StrangeNeighbour) (case_outcome_of app g K w l i case with)) stranger
 
-    pub acted_of-fitted : list_any (λ k. k == i) g.ids ≡ true → is_neighbour g i with ≡ true
-        → acted_of app g K w l i case with ≡ fitted_of app g K w l i case with
-    acted_of-fitted node neighbour =
+    pub acted_of-outcome : list_any (λ k. k == i) g.ids ≡ true → is_neighbour g i with ≡ true
+        → acted_of app g K w l i case with ≡ case_outcome_of app g K w l i case with
+    acted_of-outcome node neighbour =
         ap (λ b. cond (not b) (Err StrangeNode)
-        (cond (not (is_neighbour g i with)) (Err StrangeNeighbour) (fitted_of app g K w l i case with))) node
-        ∙ ap (λ b. cond (not b) (Err StrangeNeighbour) (fitted_of app g K w l i case with)) neighbour
+        (cond (not (is_neighbour g i with)) (Err StrangeNeighbour) (case_outcome_of app g K w l i case with))) node
+        ∙ ap (λ b. cond (not b) (Err StrangeNeighbour) (case_outcome_of app g K w l i case with)) neighbour

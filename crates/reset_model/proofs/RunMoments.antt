@@ -113,14 +113,14 @@ module _ {L : Type 0} (app : App L) where
       let first : moment e reply run.0 ≡ b = cc in
       let others : moments app run.0 es ds ≡ before ++ m ∷ rest = cc in
       let s = split es ds run.0 c' before m rest run.2 others in
-      let Front : Configuration L → Type 0 = λ k. moment e reply k ∷ moments app k s.done s.told ≡ b ∷ before in
-      let front : Front run.0 = let so_far = s.moments_before in cc in
+      let Prefix : Configuration L → Type 0 = λ k. moment e reply k ∷ moments app k s.done s.told ≡ b ∷ before in
+      let prefix : Prefix run.0 = let so_far = s.moments_before in cc in
       record {
         done = e ∷ s.done;
         told = Did reply ∷ s.told;
         here = s.here;
         run = (run.0, run.1, s.run);
-        moments_before = subst Front (sym left) front;
+        moments_before = subst Prefix (sym left) prefix;
         step = s.step;
         todo = s.todo;
         to_tell = s.to_tell;

@@ -21,7 +21,7 @@ use Rattle.reset_model.specs.declared.plan.Fired.TheVariants.{Tree, Wave}
 use Rattle.reset_model.specs.declared.plan.Seen.TheVariants as layer
 use Rattle.reset_model.specs.declared.step.StepRefusal.{StepRefusal}
 use Rattle.reset_model.specs.declared.step.StepRefusal.TheVariants.{StrangeNode, StrangeNeighbour}
-use Rattle.reset_model.specs.Actions.{fitted_of, first_apart, judged, misfit, reads_near}
+use Rattle.reset_model.specs.Actions.{case_outcome_of, first_apart, judged, misfit, reads_near}
 use Rattle.reset_model.specs.Configuration.{Configuration, tree_of, wave_of, local_of}
 use Rattle.reset_model.specs.LocalSteps.{answer_of, cases_of, children_of, father_seen, first_answer, is_neighbour}
 use Rattle.reset_model.specs.LocalSteps.{planned_of}
@@ -113,7 +113,7 @@ module _ {L : Type 0} (app : App L) (c : Configuration L) where
     -- ---- what an action reads
 
     pub case-is : (i case : ℕ) (with : Option ℕ)
-        → case_taken app (view_of app c i) case with ≡ fitted_of app c.graph (node_bound c.graph) (wave_of c)
+        → case_taken app (view_of app c i) case with ≡ case_outcome_of app c.graph (node_bound c.graph) (wave_of c)
         (local_of app c) i case with
     case-is i case with =
         let p : ℕ → Bool = reads_near (app.reads case) with in
@@ -212,4 +212,5 @@ module _ {L : Type 0} (app : App L) (c : Configuration L) where
         at_node (Act i case with)
         ∙ ap (λ r. cond (not there) (Err StrangeNode)
         (cond (not near) (Err StrangeNeighbour) (written c i (case_planned r)))) (case-is i case with)
-        ∙ acted-ends i there near (fitted_of app c.graph (node_bound c.graph) (wave_of c) (local_of app c) i case with)
+        ∙ acted-ends i there near
+        (case_outcome_of app c.graph (node_bound c.graph) (wave_of c) (local_of app c) i case with)

@@ -90,9 +90,9 @@ judged None None (Some new) = Ok new
 judged None None None = Err NotEnabled
 
 -- what the case at i does with this choice, where i is a node and the choice a neighbour
-abbrev pub fitted_of : {L : Type 0} → App L → Graph → ℕ → (ℕ → WaveRegs) → (ℕ → L) → ℕ → ℕ → Option ℕ
+abbrev pub case_outcome_of : {L : Type 0} → App L → Graph → ℕ → (ℕ → WaveRegs) → (ℕ → L) → ℕ → ℕ → Option ℕ
     → Result L StepRefusal
-fitted_of app g K w l i case with =
+case_outcome_of app g K w l i case with =
     let read : List ℕ = filter (reads_near (app.reads case) with) (neighbours_of g i) in
     judged (misfit (app.reads case) with) (first_apart w i read)
     (app.next i K case with (l i) (map (λ j. (j, l j)) read))
@@ -103,4 +103,4 @@ abbrev pub acted_of : {L : Type 0} → App L → Graph → ℕ → (ℕ → Wave
 acted_of app g K w l i case with =
     if not (list_any (λ k. k == i) g.ids) then Err StrangeNode
     else (if not (is_neighbour g i with) then Err StrangeNeighbour
-    else fitted_of app g K w l i case with)
+    else case_outcome_of app g K w l i case with)

@@ -5,6 +5,7 @@ pub mod Actions
 pub mod MachineSteps
 pub mod Outcome
 pub mod Words
+pub mod EventCommands
 pub mod EventText
 pub mod Runs
 pub mod WavePicture

@@ -10,7 +10,7 @@ use std::alloc::Global;
 
 /// A case of the application, and the neighbour that is named with it.
 #[derive(Clone, Copy)]
-pub struct Choice {
+pub struct Arguments {
     pub case: u8,
     pub with: Option<u32>,
 }
@@ -19,16 +19,16 @@ pub struct Choice {
 pub fn on_clock<P: Application>(
     alloc: Global,
     here: Here,
-    choice: Choice,
+    arguments: Arguments,
     own: &P::Local,
     seen: &[Seen<'_, P::Local>],
 ) -> Result<P::Local, StepRefusal>
     ensures exact { MatchResult result
-        (λ local. P.app.next here.id here.k choice.case choice.with own.now (seen_values seen.now) ≡ Some local)
+        (λ local. P.app.next here.id here.k arguments.case arguments.with own.now (seen_values seen.now) ≡ Some local)
         (λ f. f ≢ StepRefusal.NoMemory → (f ≡ StepRefusal.NotEnabled)
-        × (P.app.next here.id here.k choice.case choice.with own.now (seen_values seen.now) ≡ None)) }
+        × (P.app.next here.id here.k arguments.case arguments.with own.now (seen_values seen.now) ≡ None)) }
 {
-    match P::on_clock(alloc, here, choice.case, choice.with, own, seen) {
+    match P::on_clock(alloc, here, arguments.case, arguments.with, own, seen) {
         Ok(local) => Ok(local),
         Err(ClockRefusal::NotEnabled) => Err(StepRefusal::NotEnabled),
         Err(ClockRefusal::NoMemory) => Err(StepRefusal::NoMemory),

@@ -8,7 +8,7 @@ ghost use Rattle.reset_model.specs.Planned.{case_taken, planned, row_fired, row_
 ghost use Rattle.reset_model.specs.Steps.{is_of_tree};
 ghost use Rattle.reset_model.specs.View.{children_of, father_of, near_trees, near_waves};
 
-use crate::action::{Choice, misfit, on_clock, reads_near};
+use crate::action::{Arguments, misfit, on_clock, reads_near};
 use crate::event::Event;
 use crate::node_view::{Near, View};
 use crate::plan::{Effect, Fired, Seen, first_answer};
@@ -35,7 +35,7 @@ pub fn decided<P: Application>(
     }
     match event {
         Event::Act { case, with, .. } => {
-            let local = case_taken(alloc, view, Choice { case, with })?;
+            let local = case_taken(alloc, view, Arguments { case, with })?;
             Ok((Effect::Local(local), Reply::Applied))
         }
         _ => row_planned(alloc, view, event),
@@ -197,25 +197,25 @@ fn father<P: Application>(view: &View<P>) -> FatherSeen
 fn case_taken<P: Application>(
     alloc: Global,
     view: &View<P>,
-    choice: Choice,
+    arguments: Arguments,
 ) -> Result<P::Local, StepRefusal>
-    ensures exact { MatchResult result (λ local. case_taken P.app view.now choice.case choice.with ≡ Ok local)
-        (λ f. f ≢ StepRefusal.NoMemory → case_taken P.app view.now choice.case choice.with ≡ Err f) }
+    ensures exact { MatchResult result (λ local. case_taken P.app view.now arguments.case arguments.with ≡ Ok local)
+        (λ f. f ≢ StepRefusal.NoMemory → case_taken P.app view.now arguments.case arguments.with ≡ Err f) }
 {
-    let reads = P::reads(choice.case);
-    if let Some(refusal) = misfit(reads, choice.with) {
+    let reads = P::reads(arguments.case);
+    if let Some(refusal) = misfit(reads, arguments.with) {
         return Err(refusal);
     }
     let near = view.neighbours();
-    if let Some(id) = first_apart(near, view.wave().session, reads, choice.with) {
+    if let Some(id) = first_apart(near, view.wave().session, reads, arguments.with) {
         return Err(StepRefusal::Disagrees(id));
     }
-    let seen = read(alloc, near, reads, choice.with)?;
+    let seen = read(alloc, near, reads, arguments.with)?;
     let here = Here {
         id: view.id(),
         k: view.k(),
     };
-    on_clock::<P>(alloc, here, choice, view.local(), &seen)
+    on_clock::<P>(alloc, here, arguments, view.local(), &seen)
 }
 
 // The first neighbour that is read and is in another session than this.

@@ -5,6 +5,7 @@
 mod action;
 mod decide;
 mod event;
+mod event_kind;
 mod laws;
 mod node_view;
 pub mod plan;
@@ -13,7 +14,7 @@ mod step;
 mod text;
 mod view_plan;
 
-pub use action::{Choice, misfit, on_clock, reads_near};
+pub use action::{Arguments, misfit, on_clock, reads_near};
 pub use event::Event;
 pub use laws::{
     completions_are_true, mends_rest, no_step_is_refused, one_boot, outcomes_are_steps,
@@ -22,7 +23,5 @@ pub use laws::{
 pub use node_view::{Near, View};
 pub use run_laws::{completions, invariants, joins_once, refinement, runs_stay_sound};
 pub use step::{Done, Reply, StepRefusal, reply_to};
-pub use text::{
-    event_of, one_event_a_line, read_event, split_word, word_and_neighbour, write_event,
-};
+pub use text::{one_event_a_line, read_event, split_word, word_and_neighbour, write_event};
 pub use view_plan::Plan;

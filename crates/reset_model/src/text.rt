@@ -3,13 +3,15 @@ ghost use Rattle.std.specs.Prelude.{◌≡◌, ℕ, ◌<◌, ◌≤◌, ◌^◌,
 ghost use Rattle.std.specs.Prelude.{OnErr};
 ghost use Rattle.std.specs.Fmt.{decimal};
 ghost use Rattle.std.specs.Io.KnownBytes.{Appends};
+ghost use Rattle.reset_model.specs.EventCommands.{command_of};
 ghost use Rattle.reset_model.specs.EventText.{event_line, event_words, neighbour_words, Fits};
 ghost use Rattle.reset_model.specs.Words.{words_of};
-ghost use Rattle.action_tables.specs.Written.{AppendsFront};
+ghost use Rattle.action_tables.specs.Written.{AppendsPrefix};
 ghost use Rattle.reset_model.specs.declared.event.Event.{Event};
 ghost use Rattle.reset_model.specs.declared.event.Event.TheVariants.{Act};
 
 use crate::event::Event;
+use crate::event_kind::{EventKind, cut_kind};
 use action_tables::{WriteFault, cut, put_bytes, put_number, read_number};
 use std::io::Write;
 
@@ -33,48 +35,47 @@ pub fn read_event(line: &[u8]) -> Option<Event>
     ensures fits { IfSome result Fits }
     ensures only { IfNone result ((e : Event) → Fits e → line.now ≡ event_line e → ⊥) }
 {
-    let (command, rest) = split_word(line)?;
-    event_of(command, rest)
+    let (kind, rest) = cut_kind(line)?;
+    event_of(kind, rest)
 }
 
-/// The event of a line that was cut at its first space, into a command and what follows it.
-pub fn event_of(command: &[u8], rest: &[u8]) -> Option<Event>
-    ensures found { IfSome result (λ e. command.now ∷ words_of rest.now ≡ event_words e) }
+// The event of this kind whose numbers stand in what follows its command.
+fn event_of(kind: EventKind, rest: &[u8]) -> Option<Event>
+    ensures found { IfSome result (λ e. command_of kind ∷ words_of rest.now ≡ event_words e) }
     ensures fits { IfSome result Fits }
-    ensures only { IfNone result ((e : Event) → Fits e → command.now ∷ words_of rest.now ≡ event_words e → ⊥) }
+    ensures only { IfNone result ((e : Event) → Fits e → command_of kind ∷ words_of rest.now ≡ event_words e → ⊥) }
 {
-    match command {
-        b"claim" => Some(Event::Claim {
+    match kind {
+        EventKind::Claim => Some(Event::Claim {
             at: read_number(rest)?,
         }),
-        b"follow" => Some(Event::Follow {
+        EventKind::Follow => Some(Event::Follow {
             at: read_number(rest)?,
         }),
-        b"adopt" => {
+        EventKind::Adopt => {
             let (at, from) = two_numbers(rest)?;
             Some(Event::Adopt { at, from })
         }
-        b"request" => Some(Event::Request {
+        EventKind::Request => Some(Event::Request {
             at: read_number(rest)?,
         }),
-        b"relay" => {
+        EventKind::Relay => {
             let (at, child) = two_numbers(rest)?;
             Some(Event::Relay { at, child })
         }
-        b"open" => Some(Event::Open {
+        EventKind::Open => Some(Event::Open {
             at: read_number(rest)?,
         }),
-        b"join" => Some(Event::Join {
+        EventKind::Join => Some(Event::Join {
             at: read_number(rest)?,
         }),
-        b"finish" => Some(Event::Finish {
+        EventKind::Finish => Some(Event::Finish {
             at: read_number(rest)?,
         }),
-        b"mend" => Some(Event::Mend {
+        EventKind::Mend => Some(Event::Mend {
             at: read_number(rest)?,
         }),
-        b"act" => action_of(rest),
-        _ => None,
+        EventKind::Act => action_of(rest),
     }
 }
 
@@ -132,7 +133,7 @@ fn act(at: u32, case: u32, with: Option<u32>) -> Option<Event>
 /// Writes the line that stands for the event, without a line feed.
 pub fn write_event<W: Write>(event: &Event, out: &mut W) -> Result<(), WriteFault>
     ensures ok { OnOk result (Appends (W.contents out.old) (W.contents out.new) (event_line event.now)) }
-    ensures err { OnErr result (AppendsFront (W.contents out.old) (W.contents out.new) (event_line event.now)) }
+    ensures err { OnErr result (AppendsPrefix (W.contents out.old) (W.contents out.new) (event_line event.now)) }
 {
     match *event {
         Event::Claim { at } => put_command(out, b"claim", at),
@@ -152,7 +153,7 @@ pub fn write_event<W: Write>(event: &Event, out: &mut W) -> Result<(), WriteFaul
 fn put_act<W: Write>(out: &mut W, at: u32, case: u8, with: Option<u32>) -> Result<(), WriteFault>
     ensures ok { OnOk result (Appends (W.contents out.old) (W.contents out.new) (event_line (Act at case with))) }
     ensures err { OnErr result
-        (AppendsFront (W.contents out.old) (W.contents out.new) (event_line (Act at case with))) }
+        (AppendsPrefix (W.contents out.old) (W.contents out.new) (event_line (Act at case with))) }
 {
     put_command_of_two(out, b"act", at, u32::from(case))?;
     if let Some(near) = with {
@@ -173,7 +174,7 @@ fn put_command_of_two<W: Write>(
         (Appends (W.contents out.old) (W.contents out.new)
         ((command.now ++ (32 ∷ decimal at)) ++ (32 ∷ decimal other))) }
     ensures err { OnErr result
-        (AppendsFront (W.contents out.old) (W.contents out.new)
+        (AppendsPrefix (W.contents out.old) (W.contents out.new)
         ((command.now ++ (32 ∷ decimal at)) ++ (32 ∷ decimal other))) }
 {
     put_command(out, command, at)?;
@@ -185,7 +186,7 @@ fn put_command_of_two<W: Write>(
 fn put_command<W: Write>(out: &mut W, command: &[u8], at: u32) -> Result<(), WriteFault>
     ensures ok { OnOk result (Appends (W.contents out.old) (W.contents out.new) (command.now ++ (32 ∷ decimal at))) }
     ensures err { OnErr result
-        (AppendsFront (W.contents out.old) (W.contents out.new) (command.now ++ (32 ∷ decimal at))) }
+        (AppendsPrefix (W.contents out.old) (W.contents out.new) (command.now ++ (32 ∷ decimal at))) }
 {
     put_bytes(out, command)?;
     put_bytes(out, b" ")?;

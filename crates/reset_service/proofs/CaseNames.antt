@@ -12,7 +12,7 @@ use Rattle.std.specs.Str.Parse.{AllDigits}
 use Rattle.reset_model.specs.EventText.{neighbour_words, Fits}
 use Rattle.reset_model.specs.Words.{words_of}
 use Rattle.reset_model.specs.declared.event.Event.TheVariants.{Act}
-use Rattle.reset_machine.proofs.CaseChoices.{cases_from, cases_end, all_from_1}
+use Rattle.reset_machine.proofs.CaseArguments.{cases_from, cases_end, all_from_1}
 use Rattle.reset_model.proofs.EventLines.{action_small, action_words, cut_twice, same_number, words_of-decimal}
 use Rattle.reset_model.proofs.WordLines.{line-words, words_of-word, words_of-more, IsWord, IsWord-decimal}
 use Rattle.reset_service.proofs.CommandLines.{no_fault}

@@ -54,40 +54,40 @@ ok_or_err r x e a b = let same : Ok x ≡ Err e = sym a ∙ b in absurd (cc)
 -- ---- how a joined text is cut
 
 -- before the first separator stands one list of lines, and behind it one
-one_front : (xs ys after behind : List (List ℕ)) → HasNoSeparator xs → HasNoSeparator ys
+one_prefix : (xs ys after behind : List (List ℕ)) → HasNoSeparator xs → HasNoSeparator ys
     → xs ++ separator ∷ after ≡ ys ++ separator ∷ behind
     → (xs ≡ ys) × (after ≡ behind)
-one_front [] [] after behind none nor is = let same : separator ∷ after ≡ separator ∷ behind = is in (refl, cc)
-one_front [] (y ∷ ys) after behind none nor is =
+one_prefix [] [] after behind none nor is = let same : separator ∷ after ≡ separator ∷ behind = is in (refl, cc)
+one_prefix [] (y ∷ ys) after behind none nor is =
     let same : separator ∷ after ≡ y ∷ ys ++ separator ∷ behind = is in let first : y ≡ separator =
     cc in absurd (nor 0 [] (omega arith) first)
-one_front (x ∷ xs) [] after behind none nor is =
+one_prefix (x ∷ xs) [] after behind none nor is =
     let same : x ∷ xs ++ separator ∷ after ≡ separator ∷ behind = is in let first : x ≡ separator =
     cc in absurd (none 0 [] (omega arith) first)
-one_front (x ∷ xs) (y ∷ ys) after behind none nor is =
+one_prefix (x ∷ xs) (y ∷ ys) after behind none nor is =
     let same : x ∷ xs ++ separator ∷ after ≡ y ∷ ys ++ separator ∷ behind = is in
     let first : x ≡ y = cc in
     let rest : xs ++ separator ∷ after ≡ ys ++ separator ∷ behind = cc in
     let both =
-    one_front xs ys after behind (λ k d low. none (suc k) d (omega (arith, low)))
+    one_prefix xs ys after behind (λ k d low. none (suc k) d (omega (arith, low)))
     (λ k d low. nor (suc k) d (omega (arith, low))) rest in
     (ap₂ (λ l ls. l ∷ ls) first both.0, both.1)
 
 -- a list with a separator has one
-has_separator : (lines front rest : List (List ℕ)) → lines ≡ front ++ separator ∷ rest → HasNoSeparator lines → ⊥
-has_separator lines front rest is none =
+has_separator : (lines prefix rest : List (List ℕ)) → lines ≡ prefix ++ separator ∷ rest → HasNoSeparator lines → ⊥
+has_separator lines prefix rest is none =
     All-contains (λ line. line ≢ separator) lines separator none
     (subst (λ ls. Contains ls separator) (sym is)
-    (Contains-append_right front (separator ∷ rest) separator (0, omega arith, refl))) refl
+    (Contains-append_right prefix (separator ∷ rest) separator (0, omega arith, refl))) refl
 
 one_cut : (joined t t' s s' : List ℕ) → IsCut joined t s → IsCut joined t' s' → (t ≡ t') × (s ≡ s')
-one_cut joined t t' s s' (at_separator front rest is none t_is s_is) (at_separator fore after is' none' t'_is s'_is) =
-    let same = one_front front fore rest after none none' (sym is ∙ is') in
+one_cut joined t t' s s' (at_separator prefix rest is none t_is s_is) (at_separator fore after is' none' t'_is s'_is) =
+    let same = one_prefix prefix fore rest after none none' (sym is ∙ is') in
     (t_is ∙ ap (flat_map ended) same.0 ∙ sym t'_is, s_is ∙ ap (join_with_byte 10) same.1 ∙ sym s'_is)
-one_cut joined t t' s s' (at_separator front rest is none t_is s_is) (topology_alone whole t'_is s'_is) =
-    absurd (has_separator (lines_of joined) front rest is whole)
-one_cut joined t t' s s' (topology_alone whole t_is s_is) (at_separator front rest is none t'_is s'_is) =
-    absurd (has_separator (lines_of joined) front rest is whole)
+one_cut joined t t' s s' (at_separator prefix rest is none t_is s_is) (topology_alone whole t'_is s'_is) =
+    absurd (has_separator (lines_of joined) prefix rest is whole)
+one_cut joined t t' s s' (topology_alone whole t_is s_is) (at_separator prefix rest is none t'_is s'_is) =
+    absurd (has_separator (lines_of joined) prefix rest is whole)
 one_cut joined t t' s s' (topology_alone whole t_is s_is) (topology_alone whole' t'_is s'_is) =
     (t_is ∙ sym t'_is, s_is ∙ sym s'_is)
 

@@ -5,14 +5,14 @@ use Rattle.std.proofs.Common.{le-ltb, Bool, if◌then◌else◌}
 use Rattle.std.specs.Prelude.{IsErrAnd}
 use Rattle.std.specs.Io.KnownBytes.{Appends}
 use Rattle.std.proofs.KnownBytes.{Appends-trans, Keeps-refl}
-use Rattle.action_tables.specs.Written.{AppendsFront}
-use Rattle.action_tables.proofs.Fronts.{AppendsFront-first, AppendsFront-then}
+use Rattle.action_tables.specs.Written.{AppendsPrefix}
+use Rattle.action_tables.proofs.Prefixes.{AppendsPrefix-first, AppendsPrefix-then}
 use Rattle.reset_model.specs.Configuration.{Configuration}
 use Rattle.reset_service.specs.Lines.{lines_of}
 use Rattle.reset_service.specs.Meaning.{Meaning}
 use Rattle.reset_service.specs.Script.{line_of}
 use Rattle.reset_service.specs.Output.{answer_to, answers, ending, if_good, output_for, script_output, told_after}
-use Rattle.reset_service.specs.Output.{too_long_text, Answer, Leaves, HasFront}
+use Rattle.reset_service.specs.Output.{too_long_text, Answer, Leaves, HasPrefix}
 use Rattle.reset_service.specs.declared.status.Status.{Status}
 use Rattle.reset_service.specs.declared.status.Status.TheVariants.{Good, FaultsFound, NotEnabled, BadInput}
 use Rattle.reset_service.specs.declared.status.Purpose.{Purpose}
@@ -71,13 +71,13 @@ last_answer c text FaultsFound a is = refl
 last_answer c text NotEnabled a is = refl
 last_answer c text BadInput a is = refl
 
--- what was written at first is a front of the whole
-front_of : {L : Type 0} (done : List ℕ) (a rest : Answer L) (s : Status)
+-- what was written at first is a prefix of the whole
+prefix_of : {L : Type 0} (done : List ℕ) (a rest : Answer L) (s : Status)
     → (tail : List ℕ) × (done ++ (if_good s (told_after a.text rest) a).text ≡ (done ++ a.text) ++ tail)
-front_of done a rest Good = (rest.text, sym (append_assoc done a.text rest.text))
-front_of done a rest FaultsFound = ([], sym (append-nil (done ++ a.text)))
-front_of done a rest NotEnabled = ([], sym (append-nil (done ++ a.text)))
-front_of done a rest BadInput = ([], sym (append-nil (done ++ a.text)))
+prefix_of done a rest Good = (rest.text, sym (append_assoc done a.text rest.text))
+prefix_of done a rest FaultsFound = ([], sym (append-nil (done ++ a.text)))
+prefix_of done a rest NotEnabled = ([], sym (append-nil (done ++ a.text)))
+prefix_of done a rest BadInput = ([], sym (append-nil (done ++ a.text)))
 
 -- ---- the lines that are left, after `done` was written
 
@@ -120,7 +120,7 @@ left_last {L = L} m all done c n lines line p q =
 
 -- ---- what is left by a stop
 
-pub leaves_stop : (O : Output → Type 0) (a b : Option (List ℕ)) (s : RunStop) → IsOutputStop s → HasFront O a b
+pub leaves_stop : (O : Output → Type 0) (a b : Option (List ℕ)) (s : RunStop) → IsOutputStop s → HasPrefix O a b
     → Leaves O a b (Err s)
 leaves_stop O a b ReadFailed other h = absurd other
 leaves_stop O a b WriteFailed other h = h
@@ -129,24 +129,24 @@ leaves_stop O a b ThreadFailed other h = absurd other
 leaves_stop O a b NotClosed other h = absurd other
 
 -- an answer failed, after `done`
-front_whole : (all : Output) (a b d : Option (List ℕ)) (done text tail : List ℕ) → all.0 ≡ (done ++ text) ++ tail
-    → Appends a b done → AppendsFront b d text → AppendsFront a d all.0
-front_whole all a b d done text tail e p q =
-    let P : List ℕ → Type 0 = λ l. AppendsFront a d l in
-    subst P (sym e) (AppendsFront-first a d (done ++ text) tail (AppendsFront-then a b d done text p q))
+prefix_whole : (all : Output) (a b d : Option (List ℕ)) (done text tail : List ℕ) → all.0 ≡ (done ++ text) ++ tail
+    → Appends a b done → AppendsPrefix b d text → AppendsPrefix a d all.0
+prefix_whole all a b d done text tail e p q =
+    let P : List ℕ → Type 0 = λ l. AppendsPrefix a d l in
+    subst P (sym e) (AppendsPrefix-first a d (done ++ text) tail (AppendsPrefix-then a b d done text p q))
 
 pub left_stop : {L : Type 0} (m : Meaning L) (all : Answer L) (a b d : Option (List ℕ)) (done : List ℕ)
     (c : Configuration L) (n : ℕ) (lines later : List (List ℕ)) (line : List ℕ) (s : RunStop)
     → all ≡ told_after done (answers m c n lines) → lines ≡ line ∷ later → Appends a b done
-    → AppendsFront b d (answer_to m c n (line_of m.names line)).text → IsOutputStop s
+    → AppendsPrefix b d (answer_to m c n (line_of m.names line)).text → IsOutputStop s
     → Leaves (λ o. o ≡ output_of all) a d (Err s)
 left_stop {L = L} m all a b d done c n lines later line s p q before here other =
     let x = answer_to m c n (line_of m.names line) in
-    let tail = front_of done x (answers m x.config (n + 1) later) x.status in
+    let tail = prefix_of done x (answers m x.config (n + 1) later) x.status in
     leaves_stop (λ o. o ≡ output_of all) a d s other (
       output_of all,
       refl,
-      front_whole (output_of all) a b d done x.text tail.0
+      prefix_whole (output_of all) a b d done x.text tail.0
           (ap (λ (y : Answer L). y.text) (one_more m all done c n lines later line p q) ∙ tail.1) before here,
     )
 
@@ -168,7 +168,7 @@ pub left_result : {L : Type 0} (m : Meaning L) (all : Answer L) (a b d : Option 
     (λ s. (s ≡ (answer_to m c n (line_of m.names line)).status)
     × (c' ≡ (answer_to m c n (line_of m.names line)).config)
     × Appends b d (answer_to m c n (line_of m.names line)).text)
-    → OnErr r (AppendsFront b d (answer_to m c n (line_of m.names line)).text) → IfErr r IsOutputStop
+    → OnErr r (AppendsPrefix b d (answer_to m c n (line_of m.names line)).text) → IfErr r IsOutputStop
     → Leaves (λ o. o ≡ output_of all) a d r
 left_result {L = L} m all a b d done c c' n lines line (Ok s) p q before ok err other =
     left_ended all (answer_to m c n (line_of m.names line)) a b d done s (left_last m all done c n lines line p q) ok.0
@@ -191,18 +191,18 @@ last_config {L = L} m all b d done c c' n lines line (Err s) p q ok = tt
 
 -- ---- what follows the last line
 
--- the answers are a front of the output
-pub front_for : {L : Type 0} (m : Meaning L) (why : Purpose) (a : Answer L) (old new : Option (List ℕ)) (s : RunStop)
+-- the answers are a prefix of the output
+pub prefix_for : {L : Type 0} (m : Meaning L) (why : Purpose) (a : Answer L) (old new : Option (List ℕ)) (s : RunStop)
     → Leaves (λ o. o ≡ output_of a) old new (Err s) → Leaves (λ o. o ≡ output_for m why a) old new (Err s)
-front_for m why a old new s = go s
+prefix_for m why a old new s = go s
   where
-    more_of : HasFront (λ o. o ≡ output_of a) old new → HasFront (λ o. o ≡ output_for m why a) old new
-    more_of (o, is, front) =
-        let P : List ℕ → Type 0 = λ l. AppendsFront old new l in (
+    more_of : HasPrefix (λ o. o ≡ output_of a) old new → HasPrefix (λ o. o ≡ output_for m why a) old new
+    more_of (o, is, prefix) =
+        let P : List ℕ → Type 0 = λ l. AppendsPrefix old new l in (
           output_for m why a,
           refl,
-          AppendsFront-first old new a.text (ending m why a.config a.status).0
-              (subst P (ap (λ (x : Output). x.0) is) front),
+          AppendsPrefix-first old new a.text (ending m why a.config a.status).0
+              (subst P (ap (λ (x : Output). x.0) is) prefix),
         )
 
     go : (s : RunStop) → Leaves (λ o. o ≡ output_of a) old new (Err s)
@@ -219,7 +219,7 @@ pub ended_run : {L : Type 0} (m : Meaning L) (why : Purpose) (a : Answer L) (c :
     (old mid new : Option (List ℕ)) (answered : Status) (r : Result Status RunStop)
     → Leaves (λ o. o ≡ output_of a) old mid (Ok answered) → c ≡ a.config
     → IfOk r (λ s. (s ≡ (ending m why c answered).1) × Appends mid new (ending m why c answered).0)
-    → OnErr r (AppendsFront mid new (ending m why c answered).0) → IfErr r IsOutputStop
+    → OnErr r (AppendsPrefix mid new (ending m why c answered).0) → IfErr r IsOutputStop
     → Leaves (λ o. o ≡ output_for m why a) old new r
 ended_run {L = L} m why a c old mid new answered r (written, is, wrote) same = go r
   where
@@ -234,7 +234,7 @@ ended_run {L = L} m why a c old mid new answered r (written, is, wrote) same = g
 
     go : (r : Result Status RunStop)
         → IfOk r (λ s. (s ≡ (ending m why c answered).1) × Appends mid new (ending m why c answered).0)
-        → OnErr r (AppendsFront mid new (ending m why c answered).0) → IfErr r IsOutputStop
+        → OnErr r (AppendsPrefix mid new (ending m why c answered).0) → IfErr r IsOutputStop
         → Leaves (λ o. o ≡ output_for m why a) old new r
     go (Ok s) ok err other =
         let P : List ℕ → Type 0 = λ l. Appends mid new l in (
@@ -243,11 +243,11 @@ ended_run {L = L} m why a c old mid new answered r (written, is, wrote) same = g
           Appends-trans old mid new a.text last.0 before (subst P (ap (λ (o : Output). o.0) last_is) ok.1),
         )
     go (Err s) ok err other =
-        let P : List ℕ → Type 0 = λ l. AppendsFront mid new l in
+        let P : List ℕ → Type 0 = λ l. AppendsPrefix mid new l in
         leaves_stop (λ o. o ≡ output_for m why a) old new s other (
           output_for m why a,
           refl,
-          AppendsFront-then old mid new a.text last.0 before
+          AppendsPrefix-then old mid new a.text last.0 before
               (subst P (ap (λ (o : Output). o.0) last_is) err),
         )
 
@@ -264,7 +264,7 @@ short_output {L = L} m why c script old new r short left =
 
 -- writing failed
 pub leaves_fault : (O : Output → Type 0) (a b : Option (List ℕ)) (r : Result Status RunStop)
-    → IsErrAnd r (λ s. s ≡ WriteFailed) → HasFront O a b → Leaves O a b r
+    → IsErrAnd r (λ s. s ≡ WriteFailed) → HasPrefix O a b → Leaves O a b r
 leaves_fault O a b (Ok s) is h = absurd is
 leaves_fault O a b (Err ReadFailed) is h = absurd (cc)
 leaves_fault O a b (Err WriteFailed) is h = h

@@ -84,30 +84,30 @@ first_line text line rest h =
 
 -- ---- the lines that were passed, and those that are left
 
-pub passed_lines : (all rest after line : List ℕ) (front : List (List ℕ)) → lines_of all ≡ front ++ lines_of rest
+pub passed_lines : (all rest after line : List ℕ) (prefix : List (List ℕ)) → lines_of all ≡ prefix ++ lines_of rest
     → lines_of rest ≡ line ∷ lines_of after
-    → lines_of all ≡ (front ++ (line ∷ [])) ++ lines_of after
-passed_lines all rest after line front p q =
-    p ∙ ap (λ ls. front ++ ls) q ∙ sym (append_assoc front (line ∷ []) (lines_of after))
+    → lines_of all ≡ (prefix ++ (line ∷ [])) ++ lines_of after
+passed_lines all rest after line prefix p q =
+    p ∙ ap (λ ls. prefix ++ ls) q ∙ sym (append_assoc prefix (line ∷ []) (lines_of after))
 
-pub passed_text : (all rest after line : List ℕ) (front : List (List ℕ)) → all ≡ flat_map ended front ++ rest
+pub passed_text : (all rest after line : List ℕ) (prefix : List (List ℕ)) → all ≡ flat_map ended prefix ++ rest
     → lines_of rest ≡ line ∷ lines_of after
-    → all ≡ flat_map ended (front ++ (line ∷ [])) ++ after
-passed_text all rest after line front p q =
-    p ∙ ap (λ l. flat_map ended front ++ l) (first_line rest line after q)
-    ∙ sym (append_assoc (flat_map ended front) (ended line) after)
+    → all ≡ flat_map ended (prefix ++ (line ∷ [])) ++ after
+passed_text all rest after line prefix p q =
+    p ∙ ap (λ l. flat_map ended prefix ++ l) (first_line rest line after q)
+    ∙ sym (append_assoc (flat_map ended prefix) (ended line) after)
     ∙ ap (λ l. l ++ after)
-    (sym (flat_map-append ended front (line ∷ []) ∙ ap (λ l. flat_map ended front ++ l) (append-nil (ended line))))
+    (sym (flat_map-append ended prefix (line ∷ []) ∙ ap (λ l. flat_map ended prefix ++ l) (append-nil (ended line))))
 
-pub text_before : (all front rest : List ℕ) → all ≡ front ++ rest → take (length all - length rest) all ≡ front
-text_before all front rest h =
-    let count : length (front ++ rest) - length rest ≡ length front = omega (arith, length-append front rest) in
-    rw h (rw count (take-append_seam front rest))
+pub text_before : (all prefix rest : List ℕ) → all ≡ prefix ++ rest → take (length all - length rest) all ≡ prefix
+text_before all prefix rest h =
+    let count : length (prefix ++ rest) - length rest ≡ length prefix = omega (arith, length-append prefix rest) in
+    rw h (rw count (take-append_seam prefix rest))
 
 -- ---- separators
 
-pub no_separator_more : (front : List (List ℕ)) (line : List ℕ) → HasNoSeparator front → line ≢ separator
-    → HasNoSeparator (front ++ (line ∷ []))
-no_separator_more front line h here =
-    All-append (λ l. l ≢ separator) front (line ∷ []) h
+pub no_separator_more : (prefix : List (List ℕ)) (line : List ℕ) → HasNoSeparator prefix → line ≢ separator
+    → HasNoSeparator (prefix ++ (line ∷ []))
+no_separator_more prefix line h here =
+    All-append (λ l. l ≢ separator) prefix (line ∷ []) h
     (All-cons (λ l. l ≢ separator) line [] here (All-nil (λ l. l ≢ separator)))

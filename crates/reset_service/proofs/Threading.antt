@@ -5,7 +5,7 @@ use Rattle.std.specs.Prelude.{IsErrAnd}
 use Rattle.std.specs.List.{list_all}
 use Rattle.std.specs.Io.KnownBytes.{Appends, Keeps}
 use Rattle.std.proofs.KnownBytes.{Keeps-refl}
-use Rattle.action_tables.specs.Written.{AppendsFront}
+use Rattle.action_tables.specs.Written.{AppendsPrefix}
 use Rattle.topology.specs.Graph.{Graph}
 use Rattle.topology.specs.TopologyText.{IsReadFault}
 use Rattle.topology.specs.declared.text.AppName.{AppName}
@@ -118,26 +118,26 @@ module _ (O : List ℕ → Output → Type 0) where
   both_kept a b ThreadFailed is = (Keeps-refl a, Keeps-refl b)
   both_kept a b NotClosed is = (Keeps-refl a, Keeps-refl b)
 
-  -- a front of the history
+  -- a prefix of the history
   pub cut_history : (told : Told) (a d b : Option (List ℕ)) (r : Result Status RunStop)
       → IsErrAnd r (λ s. s ≡ WriteFailed) → O (told_history told) (told_output told)
-      → AppendsFront a d (told_history told) → LeavesBoth O a d b b r
-  cut_history told a d b (Ok s) is o front = absurd is
-  cut_history told a d b (Err ReadFailed) is o front = absurd (cc)
-  cut_history told a d b (Err WriteFailed) is o front =
-      (told_history told, told_output told, o, inl (front, Keeps-refl b))
-  cut_history told a d b (Err NoMemory) is o front = absurd (cc)
-  cut_history told a d b (Err ThreadFailed) is o front = absurd (cc)
-  cut_history told a d b (Err NotClosed) is o front = absurd (cc)
+      → AppendsPrefix a d (told_history told) → LeavesBoth O a d b b r
+  cut_history told a d b (Ok s) is o prefix = absurd is
+  cut_history told a d b (Err ReadFailed) is o prefix = absurd (cc)
+  cut_history told a d b (Err WriteFailed) is o prefix =
+      (told_history told, told_output told, o, inl (prefix, Keeps-refl b))
+  cut_history told a d b (Err NoMemory) is o prefix = absurd (cc)
+  cut_history told a d b (Err ThreadFailed) is o prefix = absurd (cc)
+  cut_history told a d b (Err NotClosed) is o prefix = absurd (cc)
 
-  -- the history, and a front of the line
+  -- the history, and a prefix of the line
   pub cut_line : (told : Told) (a d b e : Option (List ℕ)) (r : Result Status RunStop)
       → IsErrAnd r (λ s. s ≡ WriteFailed) → O (told_history told) (told_output told)
-      → Appends a d (told_history told) → AppendsFront b e (told_output told).0 → LeavesBoth O a d b e r
-  cut_line told a d b e (Ok s) is o wrote front = absurd is
-  cut_line told a d b e (Err ReadFailed) is o wrote front = absurd (cc)
-  cut_line told a d b e (Err WriteFailed) is o wrote front =
-      (told_history told, told_output told, o, inr (wrote, front))
-  cut_line told a d b e (Err NoMemory) is o wrote front = absurd (cc)
-  cut_line told a d b e (Err ThreadFailed) is o wrote front = absurd (cc)
-  cut_line told a d b e (Err NotClosed) is o wrote front = absurd (cc)
+      → Appends a d (told_history told) → AppendsPrefix b e (told_output told).0 → LeavesBoth O a d b e r
+  cut_line told a d b e (Ok s) is o wrote prefix = absurd is
+  cut_line told a d b e (Err ReadFailed) is o wrote prefix = absurd (cc)
+  cut_line told a d b e (Err WriteFailed) is o wrote prefix =
+      (told_history told, told_output told, o, inr (wrote, prefix))
+  cut_line told a d b e (Err NoMemory) is o wrote prefix = absurd (cc)
+  cut_line told a d b e (Err ThreadFailed) is o wrote prefix = absurd (cc)
+  cut_line told a d b e (Err NotClosed) is o wrote prefix = absurd (cc)

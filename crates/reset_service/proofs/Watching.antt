@@ -3,8 +3,8 @@ use Rattle.std.proofs.Common.{◌≡◌, ◌++◌, ℕ, List, ap, sym, subst, �
 use Rattle.std.proofs.Common.{OnOk, OnErr}
 use Rattle.std.specs.Io.KnownBytes.{Appends}
 use Rattle.std.proofs.KnownBytes.{Appends-trans}
-use Rattle.action_tables.specs.Written.{AppendsFront}
-use Rattle.action_tables.proofs.Fronts.{AppendsFront-first, AppendsFront-then}
+use Rattle.action_tables.specs.Written.{AppendsPrefix}
+use Rattle.action_tables.proofs.Prefixes.{AppendsPrefix-first, AppendsPrefix-then}
 use Rattle.link_predicates.specs.Faults.{alarm_of}
 use Rattle.link_predicates.specs.declared.fault.LinkFault.{LinkFault}
 use Rattle.reset_model.specs.Configuration.{Configuration}
@@ -23,10 +23,11 @@ module _ {L : Type 0} (m : Meaning L) (c : Configuration L) (i : ℕ) (told : Op
   config_is = ap (λ (w : Configuration L × List ℕ). w.0) (watched-is m c i told is)
 
   -- its alarm is written first
-  pub watched_front : (a b : Option (List ℕ)) → AppendsFront a b (alarm_text told) → AppendsFront a b (watched m c i).1
-  watched_front a b front =
-      let P : List ℕ → Type 0 = λ t. AppendsFront a b t in
-      subst P (sym text_is) (AppendsFront-first a b (alarm_text told) (after_alarm m c i told).1 front)
+  pub watched_prefix : (a b : Option (List ℕ)) → AppendsPrefix a b (alarm_text told)
+      → AppendsPrefix a b (watched m c i).1
+  watched_prefix a b prefix =
+      let P : List ℕ → Type 0 = λ t. AppendsPrefix a b t in
+      subst P (sym text_is) (AppendsPrefix-first a b (alarm_text told) (after_alarm m c i told).1 prefix)
 
   -- nothing follows where it has none
   pub quiet_watched : (a b : Option (List ℕ)) → told ≡ None → Appends a b (alarm_text told)
@@ -57,9 +58,9 @@ module _ {L : Type 0} (m : Meaning L) (c : Configuration L) (i : ℕ) (told : Op
     asked_ok after (Err e) ok = tt
 
     pub asked_err : {E : Type 0} (r : Result (Unit {0}) E)
-        → OnErr r (AppendsFront b d (stepped c (outcome_of m.app c (Request i))).1)
-        → OnErr r (AppendsFront a d (watched m c i).1)
+        → OnErr r (AppendsPrefix b d (stepped c (outcome_of m.app c (Request i))).1)
+        → OnErr r (AppendsPrefix a d (watched m c i).1)
     asked_err (Ok x) err = tt
     asked_err (Err e) err =
         let P : List ℕ → Type 0 =
-        λ t. AppendsFront a d t in subst P (sym asked_text) (AppendsFront-then a b d (alarm_text told) _ wrote err)
+        λ t. AppendsPrefix a d t in subst P (sym asked_text) (AppendsPrefix-then a b d (alarm_text told) _ wrote err)

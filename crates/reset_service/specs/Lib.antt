@@ -7,7 +7,7 @@ pub mod Parts
 pub mod Lines
 pub mod Words
 pub mod Tables
-pub mod Gathering
+pub mod Buffering
 pub mod StopText
 pub mod Stops
 pub mod Stretches

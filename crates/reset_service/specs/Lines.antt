@@ -19,8 +19,8 @@ HasNoSeparator lines = All (λ line. line ≢ separator) lines
 
 -- a joined text is the lines of a topology, the first separator, and the lines of a script; or it is a topology alone
 pub data IsCut (joined topology script : List ℕ) : Type 0 where
-  at_separator : (front rest : List (List ℕ)) → lines_of joined ≡ front ++ separator ∷ rest → HasNoSeparator front
-      → topology ≡ flat_map ended front → script ≡ join_with_byte 10 rest → IsCut joined topology script
+  at_separator : (prefix rest : List (List ℕ)) → lines_of joined ≡ prefix ++ separator ∷ rest → HasNoSeparator prefix
+      → topology ≡ flat_map ended prefix → script ≡ join_with_byte 10 rest → IsCut joined topology script
   topology_alone : HasNoSeparator (lines_of joined) → topology ≡ joined → script ≡ [] → IsCut joined topology script
 
 -- the text is what a reader had, up to the limit, where it tells its bytes

@@ -45,7 +45,7 @@ use Rattle.link_predicates.specs.declared.fault.LinkFault.{LinkFault}
 use Rattle.reset_machine.specs.declared.enabled.Enabled.{Enabled}
 use Rattle.action_tables.specs.Numbers.{is_among}
 use Rattle.action_tables.specs.RowText.{set_text}
-use Rattle.action_tables.specs.Written.{AppendsFront}
+use Rattle.action_tables.specs.Written.{AppendsPrefix}
 use Rattle.history.specs.HistoryText.{ended}
 use Rattle.reset_service.specs.Lines.{lines_of, IsCut}
 use Rattle.reset_service.specs.Meaning.{Meaning, idle_meaning, token_meaning, mutex_meaning, routes_meaning}
@@ -347,15 +347,15 @@ pub data IsJoinedOutput (joined : List ℕ) (output : List ℕ × Status) : Type
 
 -- ---- what a run leaves
 
--- a front of an output was written
-abbrev pub HasFront : (List ℕ × Status → Type 0) → Option (List ℕ) → Option (List ℕ) → Type 0
-HasFront O old new = (output : List ℕ × Status) × O output × AppendsFront old new output.0
+-- a prefix of an output was written
+abbrev pub HasPrefix : (List ℕ × Status → Type 0) → Option (List ℕ) → Option (List ℕ) → Type 0
+HasPrefix O old new = (output : List ℕ × Status) × O output × AppendsPrefix old new output.0
 
 -- the run wrote an output and answers its status, or it was cut short
 abbrev pub Leaves : (List ℕ × Status → Type 0) → Option (List ℕ) → Option (List ℕ) → Result Status RunStop → Type 0
 Leaves O old new (Ok status) = (written : List ℕ) × O (written, status) × Appends old new written
 Leaves O old new (Err ReadFailed) = Keeps old new
-Leaves O old new (Err WriteFailed) = HasFront O old new
-Leaves O old new (Err stop.NoMemory) = Keeps old new ⊎ HasFront O old new
+Leaves O old new (Err WriteFailed) = HasPrefix O old new
+Leaves O old new (Err stop.NoMemory) = Keeps old new ⊎ HasPrefix O old new
 Leaves O old new (Err stop.ThreadFailed) = ⊥
 Leaves O old new (Err stop.NotClosed) = ⊥

@@ -3,7 +3,7 @@ use Rattle.std.specs.Prelude.{◌≡◌, ◌⊎◌, ◌<◌, ◌≤◌, ℕ, Lis
 use Rattle.std.specs.Fmt.{decimal}
 use Rattle.std.specs.List.{concat}
 use Rattle.std.specs.Io.KnownBytes.{Appends, Keeps}
-use Rattle.action_tables.specs.Written.{AppendsFront}
+use Rattle.action_tables.specs.Written.{AppendsPrefix}
 use Rattle.app_mutex.specs.Turns.{HoldsTurns}
 use Rattle.app_routes.specs.Ways.{HasRoutes}
 use Rattle.app_token.specs.OneToken.{HasOneToken}
@@ -79,7 +79,8 @@ pub record IsThreaded (topology history : List ℕ) (output : List ℕ × Status
 abbrev pub IsCutShort : (old new : Option (List ℕ)) → (before after : Option (List ℕ)) → (history written : List ℕ)
     → Type 0
 IsCutShort old new before after history written =
-    (AppendsFront old new history × Keeps before after) ⊎ (Appends old new history × AppendsFront before after written)
+    (AppendsPrefix old new history × Keeps before after)
+    ⊎ (Appends old new history × AppendsPrefix before after written)
 
 -- of a history that went to one writer and an output that went to the other. Only a writer cuts a run short in the
 -- middle: after any other stop nothing was written

@@ -2,7 +2,7 @@
 
 ghost use Rattle.std.specs.Prelude.{◌≡◌, ℕ, [], ◌∷◌, ◌++◌, codes, List, Err, IfErr, OnOk, OnErr};
 ghost use Rattle.std.specs.Io.KnownBytes.{Appends, Keeps};
-ghost use Rattle.action_tables.specs.Written.{AppendsFront};
+ghost use Rattle.action_tables.specs.Written.{AppendsPrefix};
 ghost use Rattle.reset_model.specs.Planned.{outcome_of};
 ghost use Rattle.reset_service.specs.Meaning.{meaning_of};
 ghost use Rattle.reset_service.specs.Output.{answered, stepped, bad_line_text, bad_topology_text, graph_fault_text};
@@ -25,7 +25,7 @@ use topology::{ReadFault, TopoFault};
 /// Writes what the fault of a topology text is answered with.
 pub fn put_topology_fault<W: Write>(out: &mut W, fault: ReadFault) -> Result<(), WriteFault>
     ensures ok { OnOk result (Appends (W.contents out.old) (W.contents out.new) (bad_topology_text fault)) }
-    ensures err { OnErr result (AppendsFront (W.contents out.old) (W.contents out.new) (bad_topology_text fault)) }
+    ensures err { OnErr result (AppendsPrefix (W.contents out.old) (W.contents out.new) (bad_topology_text fault)) }
 {
     match fault {
         ReadFault::TextTooLong => put_bytes(out, b"bad topology TextTooLong\n"),
@@ -41,7 +41,7 @@ pub fn put_topology_fault<W: Write>(out: &mut W, fault: ReadFault) -> Result<(),
 
 fn put_graph_fault<W: Write>(out: &mut W, fault: TopoFault) -> Result<(), WriteFault>
     ensures ok { OnOk result (Appends (W.contents out.old) (W.contents out.new) (graph_fault_text fault)) }
-    ensures err { OnErr result (AppendsFront (W.contents out.old) (W.contents out.new) (graph_fault_text fault)) }
+    ensures err { OnErr result (AppendsPrefix (W.contents out.old) (W.contents out.new) (graph_fault_text fault)) }
 {
     match fault {
         TopoFault::NoNodes => put_bytes(out, b"bad topology NoNodes\n"),
@@ -62,7 +62,7 @@ fn put_graph_fault<W: Write>(out: &mut W, fault: TopoFault) -> Result<(), WriteF
 // Writes a line that ends with the two identifiers of a link.
 fn put_link_fault<W: Write>(out: &mut W, text: &[u8], a: u32, b: u32) -> Result<(), WriteFault>
     ensures ok { OnOk result (Appends (W.contents out.old) (W.contents out.new) (numbered_twice text.now a b)) }
-    ensures err { OnErr result (AppendsFront (W.contents out.old) (W.contents out.new) (numbered_twice text.now a b)) }
+    ensures err { OnErr result (AppendsPrefix (W.contents out.old) (W.contents out.new) (numbered_twice text.now a b)) }
 {
     let first = Part::Number(u64::from(a));
     let second = Part::Number(u64::from(b));
@@ -81,7 +81,7 @@ fn put_link_fault<W: Write>(out: &mut W, text: &[u8], a: u32, b: u32) -> Result<
 // Writes a line that ends with an identifier.
 fn put_node_fault<W: Write>(out: &mut W, text: &[u8], id: u32) -> Result<(), WriteFault>
     ensures ok { OnOk result (Appends (W.contents out.old) (W.contents out.new) (numbered text.now id)) }
-    ensures err { OnErr result (AppendsFront (W.contents out.old) (W.contents out.new) (numbered text.now id)) }
+    ensures err { OnErr result (AppendsPrefix (W.contents out.old) (W.contents out.new) (numbered text.now id)) }
 {
     put_numbered(out, text, u64::from(id))
 }
@@ -89,7 +89,7 @@ fn put_node_fault<W: Write>(out: &mut W, text: &[u8], id: u32) -> Result<(), Wri
 /// Writes a line that ends with a number.
 pub fn put_numbered<W: Write>(out: &mut W, text: &[u8], number: u64) -> Result<(), WriteFault>
     ensures ok { OnOk result (Appends (W.contents out.old) (W.contents out.new) (numbered text.now number)) }
-    ensures err { OnErr result (AppendsFront (W.contents out.old) (W.contents out.new) (numbered text.now number)) }
+    ensures err { OnErr result (AppendsPrefix (W.contents out.old) (W.contents out.new) (numbered text.now number)) }
 {
     put_parts(
         out,
@@ -100,7 +100,7 @@ pub fn put_numbered<W: Write>(out: &mut W, text: &[u8], number: u64) -> Result<(
 /// Writes what a script that is too long is answered with.
 pub fn put_too_long<W: Write>(out: &mut W) -> Result<(), WriteFault>
     ensures ok { OnOk result (Appends (W.contents out.old) (W.contents out.new) too_long_text) }
-    ensures err { OnErr result (AppendsFront (W.contents out.old) (W.contents out.new) too_long_text) }
+    ensures err { OnErr result (AppendsPrefix (W.contents out.old) (W.contents out.new) too_long_text) }
 {
     put_bytes(out, b"bad script TooLong\n")
 }
@@ -108,7 +108,7 @@ pub fn put_too_long<W: Write>(out: &mut W) -> Result<(), WriteFault>
 /// Writes what a bad line is answered with.
 pub fn put_bad_line<W: Write>(out: &mut W, number: u64) -> Result<(), WriteFault>
     ensures ok { OnOk result (Appends (W.contents out.old) (W.contents out.new) (bad_line_text number)) }
-    ensures err { OnErr result (AppendsFront (W.contents out.old) (W.contents out.new) (bad_line_text number)) }
+    ensures err { OnErr result (AppendsPrefix (W.contents out.old) (W.contents out.new) (bad_line_text number)) }
 {
     put_numbered(out, b"bad line ", number)
 }
@@ -125,7 +125,7 @@ pub fn answer<P: Application, W: Write>(
         × Appends (W.contents out.old) (W.contents out.new)
         (answered (meaning_of P.app P.text P.from_text P.names) config.old command).1) }
     ensures err { OnErr result
-        (AppendsFront (W.contents out.old) (W.contents out.new)
+        (AppendsPrefix (W.contents out.old) (W.contents out.new)
         (answered (meaning_of P.app P.text P.from_text P.names) config.old command).1) }
     ensures stop { IfErr result IsOutputStop }
     ensures memory { result ≡ Err RunStop.NoMemory → config.new ≡ config.old }
@@ -161,7 +161,7 @@ pub fn answer_step<P: Application, W: Write>(
         × Appends (W.contents out.old) (W.contents out.new)
         (stepped config.old (outcome_of P.app config.old event)).1) }
     ensures err { OnErr result
-        (AppendsFront (W.contents out.old) (W.contents out.new)
+        (AppendsPrefix (W.contents out.old) (W.contents out.new)
         (stepped config.old (outcome_of P.app config.old event)).1) }
     ensures stop { IfErr result IsOutputStop }
     ensures memory { result ≡ Err RunStop.NoMemory
@@ -178,7 +178,7 @@ pub fn answer_step<P: Application, W: Write>(
 
 fn put_reply<W: Write>(out: &mut W, reply: Reply) -> Result<(), WriteFault>
     ensures ok { OnOk result (Appends (W.contents out.old) (W.contents out.new) (reply_text reply)) }
-    ensures err { OnErr result (AppendsFront (W.contents out.old) (W.contents out.new) (reply_text reply)) }
+    ensures err { OnErr result (AppendsPrefix (W.contents out.old) (W.contents out.new) (reply_text reply)) }
 {
     match reply {
         Reply::Applied => put_bytes(out, b"applied\n"),
@@ -189,7 +189,7 @@ fn put_reply<W: Write>(out: &mut W, reply: Reply) -> Result<(), WriteFault>
 /// Writes what a refusal is answered with.
 pub fn put_refusal<W: Write>(out: &mut W, refusal: StepRefusal) -> Result<(), WriteFault>
     ensures ok { OnOk result (Appends (W.contents out.old) (W.contents out.new) (refusal_text refusal)) }
-    ensures err { OnErr result (AppendsFront (W.contents out.old) (W.contents out.new) (refusal_text refusal)) }
+    ensures err { OnErr result (AppendsPrefix (W.contents out.old) (W.contents out.new) (refusal_text refusal)) }
 {
     match refusal {
         StepRefusal::StrangeNode => put_bytes(out, b"refused StrangeNode\n"),

@@ -4,7 +4,7 @@ ghost use Rattle.std.specs.Prelude.{◌≡◌, ◌++◌, codes, length, Err, IfE
 ghost use Rattle.std.specs.List.{flat_map};
 ghost use Rattle.std.specs.Io.KnownBytes.{Appends};
 ghost use Rattle.topology.specs.Graph.{IsNode};
-ghost use Rattle.action_tables.specs.Written.{AppendsFront};
+ghost use Rattle.action_tables.specs.Written.{AppendsPrefix};
 ghost use Rattle.reset_service.specs.Meaning.{meaning_of};
 ghost use Rattle.reset_service.specs.Output.{alarm_line, alarm_text, answered, at_node, fault_line, faults_lines};
 ghost use Rattle.reset_service.specs.Output.{faults_status, faults_text, found_status, node_faults_lines, watched};
@@ -32,7 +32,7 @@ pub fn answer_check<P: Application, W: Write>(
         (faults_lines (meaning_of P.app P.text P.from_text P.names) config.now)) }
     ensures status { IfOk result
         (λ status. status ≡ faults_status (meaning_of P.app P.text P.from_text P.names) config.now) }
-    ensures err { OnErr result (AppendsFront (W.contents out.old) (W.contents out.new)
+    ensures err { OnErr result (AppendsPrefix (W.contents out.old) (W.contents out.new)
         (faults_lines (meaning_of P.app P.text P.from_text P.names) config.now)) }
     ensures stop { IfErr result IsOutputStop }
 {
@@ -64,7 +64,7 @@ pub fn answer_check_node<P: Application, W: Write>(
 ) -> Result<(), RunStop>
     ensures ok { OnOk result (Appends (W.contents out.old) (W.contents out.new)
         (at_node config.now at (node_faults_lines (meaning_of P.app P.text P.from_text P.names) config.now at))) }
-    ensures err { OnErr result (AppendsFront (W.contents out.old) (W.contents out.new)
+    ensures err { OnErr result (AppendsPrefix (W.contents out.old) (W.contents out.new)
         (at_node config.now at (node_faults_lines (meaning_of P.app P.text P.from_text P.names) config.now at))) }
     ensures stop { IfErr result IsOutputStop }
 {
@@ -83,7 +83,7 @@ pub fn answer_alarm<P: Application, W: Write>(
 ) -> Result<(), WriteFault>
     ensures ok { OnOk result (Appends (W.contents out.old) (W.contents out.new)
         (at_node config.now at (alarm_line (meaning_of P.app P.text P.from_text P.names) config.now at))) }
-    ensures err { OnErr result (AppendsFront (W.contents out.old) (W.contents out.new)
+    ensures err { OnErr result (AppendsPrefix (W.contents out.old) (W.contents out.new)
         (at_node config.now at (alarm_line (meaning_of P.app P.text P.from_text P.names) config.now at))) }
 {
     if is_node(config, at) {
@@ -105,7 +105,7 @@ pub fn answer_watch<P: Application, W: Write>(
         ((config.new ≡ (answered (meaning_of P.app P.text P.from_text P.names) config.old (Watch at)).0)
         × Appends (W.contents out.old) (W.contents out.new)
         (answered (meaning_of P.app P.text P.from_text P.names) config.old (Watch at)).1) }
-    ensures err { OnErr result (AppendsFront (W.contents out.old) (W.contents out.new)
+    ensures err { OnErr result (AppendsPrefix (W.contents out.old) (W.contents out.new)
         (answered (meaning_of P.app P.text P.from_text P.names) config.old (Watch at)).1) }
     ensures stop { IfErr result IsOutputStop }
     ensures memory { result ≡ Err RunStop.NoMemory → config.new ≡ config.old }
@@ -128,7 +128,7 @@ fn watch_node<P: Application, W: Write>(
     ensures ok { OnOk result ((config.new ≡ (watched (meaning_of P.app P.text P.from_text P.names) config.old at).0)
         × Appends (W.contents out.old) (W.contents out.new)
         (watched (meaning_of P.app P.text P.from_text P.names) config.old at).1) }
-    ensures err { OnErr result (AppendsFront (W.contents out.old) (W.contents out.new)
+    ensures err { OnErr result (AppendsPrefix (W.contents out.old) (W.contents out.new)
         (watched (meaning_of P.app P.text P.from_text P.names) config.old at).1) }
     ensures stop { IfErr result IsOutputStop }
     ensures memory { result ≡ Err RunStop.NoMemory → config.new ≡ config.old }
@@ -144,7 +144,7 @@ fn watch_node<P: Application, W: Write>(
 // Writes the line of an alarm, or that there is none.
 fn put_alarm<W: Write>(out: &mut W, told: Option<LinkFault>) -> Result<(), WriteFault>
     ensures ok { OnOk result (Appends (W.contents out.old) (W.contents out.new) (alarm_text told)) }
-    ensures err { OnErr result (AppendsFront (W.contents out.old) (W.contents out.new) (alarm_text told)) }
+    ensures err { OnErr result (AppendsPrefix (W.contents out.old) (W.contents out.new) (alarm_text told)) }
 {
     let Some(fault) = told else {
         return put_bytes(out, b"quiet\n");
@@ -166,7 +166,7 @@ fn put_alarm<W: Write>(out: &mut W, told: Option<LinkFault>) -> Result<(), Write
 // Writes the lines of faults, and their number.
 fn put_faults<W: Write>(out: &mut W, faults: &[LinkFault]) -> Result<(), WriteFault>
     ensures ok { OnOk result (Appends (W.contents out.old) (W.contents out.new) (faults_text faults.now)) }
-    ensures err { OnErr result (AppendsFront (W.contents out.old) (W.contents out.new) (faults_text faults.now)) }
+    ensures err { OnErr result (AppendsPrefix (W.contents out.old) (W.contents out.new) (faults_text faults.now)) }
 {
     put_fault_lines(out, faults)?;
     put_numbered(out, b"faults ", faults.len() as u64)
@@ -175,7 +175,7 @@ fn put_faults<W: Write>(out: &mut W, faults: &[LinkFault]) -> Result<(), WriteFa
 fn put_fault_lines<W: Write>(out: &mut W, faults: &[LinkFault]) -> Result<(), WriteFault>
     ensures ok { OnOk result (Appends (W.contents out.old) (W.contents out.new) (flat_map fault_line faults.now)) }
     ensures err { OnErr result
-        (AppendsFront (W.contents out.old) (W.contents out.new) (flat_map fault_line faults.now)) }
+        (AppendsPrefix (W.contents out.old) (W.contents out.new) (flat_map fault_line faults.now)) }
 {
     for fault in faults {
         put_fault(out, *fault)?;
@@ -185,7 +185,7 @@ fn put_fault_lines<W: Write>(out: &mut W, faults: &[LinkFault]) -> Result<(), Wr
 
 fn put_fault<W: Write>(out: &mut W, fault: LinkFault) -> Result<(), WriteFault>
     ensures ok { OnOk result (Appends (W.contents out.old) (W.contents out.new) (fault_line fault)) }
-    ensures err { OnErr result (AppendsFront (W.contents out.old) (W.contents out.new) (fault_line fault)) }
+    ensures err { OnErr result (AppendsPrefix (W.contents out.old) (W.contents out.new) (fault_line fault)) }
 {
     put_parts(
         out,

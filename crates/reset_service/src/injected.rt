@@ -2,7 +2,7 @@
 
 ghost use Rattle.std.specs.Prelude.{◌≡◌, ◌++◌, codes, Err, IfErr, OnErr, OnOk};
 ghost use Rattle.std.specs.Io.KnownBytes.{Appends};
-ghost use Rattle.action_tables.specs.Written.{AppendsFront};
+ghost use Rattle.action_tables.specs.Written.{AppendsPrefix};
 ghost use Rattle.fault_inject.specs.Effects.{injected};
 ghost use Rattle.reset_service.specs.Meaning.{meaning_of};
 ghost use Rattle.reset_service.specs.Output.{answered, disturbed, drawn, drawn_text, fault_refusal_text};
@@ -30,7 +30,7 @@ pub fn answer_fault<P: Application, W: Write>(
     ensures ok { OnOk result ((config.new ≡ (disturbed config.old (injected P.from_text config.old fault.now)).0)
         × Appends (W.contents out.old) (W.contents out.new)
         (disturbed config.old (injected P.from_text config.old fault.now)).1) }
-    ensures err { OnErr result (AppendsFront (W.contents out.old) (W.contents out.new)
+    ensures err { OnErr result (AppendsPrefix (W.contents out.old) (W.contents out.new)
         (disturbed config.old (injected P.from_text config.old fault.now)).1) }
     ensures stop { IfErr result IsOutputStop }
     ensures memory { result ≡ Err RunStop.NoMemory → config.new ≡ config.old }
@@ -53,7 +53,7 @@ pub fn answer_draw<P: Application, W: Write>(
         ((config.new ≡ (answered (meaning_of P.app P.text P.from_text P.names) config.old (Draw seed)).0)
         × Appends (W.contents out.old) (W.contents out.new)
         (answered (meaning_of P.app P.text P.from_text P.names) config.old (Draw seed)).1) }
-    ensures err { OnErr result (AppendsFront (W.contents out.old) (W.contents out.new)
+    ensures err { OnErr result (AppendsPrefix (W.contents out.old) (W.contents out.new)
         (answered (meaning_of P.app P.text P.from_text P.names) config.old (Draw seed)).1) }
     ensures stop { IfErr result IsOutputStop }
     ensures memory { result ≡ Err RunStop.NoMemory → config.new ≡ config.old }
@@ -74,7 +74,7 @@ fn drawn<P: Application>(config: &Config<P>, seed: u32) -> Fault
 // Writes the line of a fault that was drawn.
 fn put_drawn<W: Write>(out: &mut W, fault: &Fault) -> Result<(), WriteFault>
     ensures ok { OnOk result (Appends (W.contents out.old) (W.contents out.new) (drawn_text fault.now)) }
-    ensures err { OnErr result (AppendsFront (W.contents out.old) (W.contents out.new) (drawn_text fault.now)) }
+    ensures err { OnErr result (AppendsPrefix (W.contents out.old) (W.contents out.new) (drawn_text fault.now)) }
 {
     put_bytes(out, b"drawn ")?;
     write_fault(fault, out)?;
@@ -84,7 +84,7 @@ fn put_drawn<W: Write>(out: &mut W, fault: &Fault) -> Result<(), WriteFault>
 // Writes what a refused fault is answered with.
 fn put_fault_refusal<W: Write>(out: &mut W, refusal: FaultRefusal) -> Result<(), WriteFault>
     ensures ok { OnOk result (Appends (W.contents out.old) (W.contents out.new) (fault_refusal_text refusal)) }
-    ensures err { OnErr result (AppendsFront (W.contents out.old) (W.contents out.new) (fault_refusal_text refusal)) }
+    ensures err { OnErr result (AppendsPrefix (W.contents out.old) (W.contents out.new) (fault_refusal_text refusal)) }
 {
     match refusal {
         FaultRefusal::StrangeNode => put_bytes(out, b"refused StrangeNode\n"),

@@ -6,9 +6,9 @@
 #![tactic(auto)]
 
 mod answer;
+mod buffered_output;
 mod commands;
 mod faults;
-mod gather;
 mod injected;
 mod input;
 mod laws;
@@ -24,7 +24,7 @@ mod threaded;
 mod verified;
 mod words;
 
-pub use gather::Gathered;
+pub use buffered_output::BufferedOutput;
 pub use input::{READ_LIMIT, read_text};
 pub use laws::{
     booted_invariants_hold, kept_histories_are_runs, one_joined_output, one_output,

@@ -3,7 +3,7 @@
 ghost use Rattle.std.specs.Prelude.{◌≡◌, ◌≢◌, ℕ, ◌≤◌, List, length, IfOk, IfErr, OnErr, OnOk};
 ghost use Rattle.std.specs.Io.KnownBytes.{Appends};
 ghost use Rattle.topology.specs.TopologyText.{IsReadFault};
-ghost use Rattle.action_tables.specs.Written.{AppendsFront};
+ghost use Rattle.action_tables.specs.Written.{AppendsPrefix};
 ghost use Rattle.reset_service.specs.Lines.{lines_of, IsReadFrom};
 ghost use Rattle.reset_service.specs.Meaning.{meaning_of};
 ghost use Rattle.reset_service.specs.Script.{line_of};
@@ -220,7 +220,7 @@ fn end_run<P: Application, W: Write>(
     ensures ok { IfOk result
         (λ status. let last = ending (meaning_of P.app P.text P.from_text P.names) purpose config.now answered in
         (status ≡ last.1) × Appends (W.contents out.old) (W.contents out.new) last.0) }
-    ensures err { OnErr result (AppendsFront (W.contents out.old) (W.contents out.new)
+    ensures err { OnErr result (AppendsPrefix (W.contents out.old) (W.contents out.new)
         (ending (meaning_of P.app P.text P.from_text P.names) purpose config.now answered).0) }
     ensures stop { IfErr result IsOutputStop }
 {
@@ -273,7 +273,7 @@ fn answer_line<P: Application, W: Write>(
         (line_of P.names line.now) in
         (status ≡ a.status) × (config.new ≡ a.config) × Appends (W.contents out.old) (W.contents out.new) a.text) }
     ensures err { OnErr result
-        (AppendsFront (W.contents out.old) (W.contents out.new)
+        (AppendsPrefix (W.contents out.old) (W.contents out.new)
         (answer_to (meaning_of P.app P.text P.from_text P.names) config.old number (line_of P.names line.now)).text) }
     ensures stop { IfErr result IsOutputStop }
 {
@@ -299,7 +299,7 @@ fn answer_any_line<P: Application, W: Write>(
         (line_of P.names line.now) in
         (status ≡ a.status) × (config.new ≡ a.config) × Appends (W.contents out.old) (W.contents out.new) a.text) }
     ensures err { OnErr result
-        (AppendsFront (W.contents out.old) (W.contents out.new)
+        (AppendsPrefix (W.contents out.old) (W.contents out.new)
         (answer_to (meaning_of P.app P.text P.from_text P.names) config.old number (line_of P.names line.now)).text) }
     ensures stop { IfErr result IsOutputStop }
 {

@@ -3,7 +3,7 @@
 ghost use Rattle.std.specs.Prelude.{◌≡◌, ◌++◌, codes, IfErr, OnOk, OnErr};
 ghost use Rattle.std.specs.List.{flat_map};
 ghost use Rattle.std.specs.Io.KnownBytes.{Appends};
-ghost use Rattle.action_tables.specs.Written.{AppendsFront};
+ghost use Rattle.action_tables.specs.Written.{AppendsPrefix};
 ghost use Rattle.reset_service.specs.Meaning.{meaning_of};
 ghost use Rattle.reset_service.specs.Output.{at_node, enabled_line, enabled_text, ready_line, ready_text, spaced};
 ghost use Rattle.reset_service.specs.Stops.{IsOutputStop};
@@ -27,7 +27,7 @@ pub fn answer_enabled<P: Application, W: Write>(
         (Appends (W.contents out.old) (W.contents out.new)
         (at_node config.now at (enabled_line (meaning_of P.app P.text P.from_text P.names) config.now at))) }
     ensures err { OnErr result
-        (AppendsFront (W.contents out.old) (W.contents out.new)
+        (AppendsPrefix (W.contents out.old) (W.contents out.new)
         (at_node config.now at (enabled_line (meaning_of P.app P.text P.from_text P.names) config.now at))) }
     ensures stop { IfErr result IsOutputStop }
 {
@@ -40,7 +40,7 @@ pub fn answer_enabled<P: Application, W: Write>(
 
 fn put_enabled<W: Write>(out: &mut W, id: u32, rows: Enabled) -> Result<(), WriteFault>
     ensures ok { OnOk result (Appends (W.contents out.old) (W.contents out.new) (enabled_text id rows)) }
-    ensures err { OnErr result (AppendsFront (W.contents out.old) (W.contents out.new) (enabled_text id rows)) }
+    ensures err { OnErr result (AppendsPrefix (W.contents out.old) (W.contents out.new) (enabled_text id rows)) }
 {
     put_parts(
         out,
@@ -68,7 +68,7 @@ pub fn answer_ready<P: Application, W: Write>(
         (Appends (W.contents out.old) (W.contents out.new)
         (ready_line (meaning_of P.app P.text P.from_text P.names) config.old)) }
     ensures err { OnErr result
-        (AppendsFront (W.contents out.old) (W.contents out.new)
+        (AppendsPrefix (W.contents out.old) (W.contents out.new)
         (ready_line (meaning_of P.app P.text P.from_text P.names) config.old)) }
     ensures stop { IfErr result IsOutputStop }
     ensures kept { config.new ≡ config.old }
@@ -81,7 +81,7 @@ pub fn answer_ready<P: Application, W: Write>(
 
 fn put_ready<W: Write>(out: &mut W, ids: &[u32]) -> Result<(), WriteFault>
     ensures ok { OnOk result (Appends (W.contents out.old) (W.contents out.new) (ready_text ids.now)) }
-    ensures err { OnErr result (AppendsFront (W.contents out.old) (W.contents out.new) (ready_text ids.now)) }
+    ensures err { OnErr result (AppendsPrefix (W.contents out.old) (W.contents out.new) (ready_text ids.now)) }
 {
     if ids.is_empty() {
         return put_bytes(out, b"ready -\n");
@@ -94,7 +94,7 @@ fn put_ready<W: Write>(out: &mut W, ids: &[u32]) -> Result<(), WriteFault>
 // Writes the ids, each after a space.
 fn put_ids<W: Write>(out: &mut W, ids: &[u32]) -> Result<(), WriteFault>
     ensures ok { OnOk result (Appends (W.contents out.old) (W.contents out.new) (flat_map spaced ids.now)) }
-    ensures err { OnErr result (AppendsFront (W.contents out.old) (W.contents out.new) (flat_map spaced ids.now)) }
+    ensures err { OnErr result (AppendsPrefix (W.contents out.old) (W.contents out.new) (flat_map spaced ids.now)) }
 {
     for id in ids {
         put_id(out, *id)?;
@@ -104,7 +104,7 @@ fn put_ids<W: Write>(out: &mut W, ids: &[u32]) -> Result<(), WriteFault>
 
 fn put_id<W: Write>(out: &mut W, id: u32) -> Result<(), WriteFault>
     ensures ok { OnOk result (Appends (W.contents out.old) (W.contents out.new) (spaced id)) }
-    ensures err { OnErr result (AppendsFront (W.contents out.old) (W.contents out.new) (spaced id)) }
+    ensures err { OnErr result (AppendsPrefix (W.contents out.old) (W.contents out.new) (spaced id)) }
 {
     put_parts(out, &[Part::Text(b" "), Part::Number(u64::from(id))])
 }

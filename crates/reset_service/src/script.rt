@@ -19,7 +19,7 @@ use action_tables::read_number;
 use app_interface::Application;
 use fault_inject::{Fault, read_fault};
 use history::{is_graphic, is_printable};
-use reset_machine::{Event, event_of, split_word, word_and_neighbour};
+use reset_machine::{Event, read_event, split_word, word_and_neighbour};
 use std::alloc::{AllocError, Global};
 
 /// The most bytes of a line, without its line feed.
@@ -189,9 +189,12 @@ fn by_first_word(line: &[u8]) -> Option<Command>
     ensures fits { IfSome result IsPlain }
     ensures only { IfNone result ((command : Command) → IsPlain command → line.now ≡ command_line command → ⊥) }
 {
+    if let Some(event) = read_event(line) {
+        return Some(Command::Step(event));
+    }
     match split_word(line) {
         None => by_one_word(line),
-        Some((word, rest)) => by_more_words(word, rest),
+        Some((word, rest)) => question_of(word, rest),
     }
 }
 
@@ -207,19 +210,6 @@ fn by_one_word(word: &[u8]) -> Option<Command>
         b"ready" => Some(Command::Ready),
         b"check" => Some(Command::Check),
         _ => None,
-    }
-}
-
-// The command of a word and of what follows the space after it.
-fn by_more_words(word: &[u8], rest: &[u8]) -> Option<Command>
-    ensures found { IfSome result (λ command. word.now ∷ words_of rest.now ≡ command_words command) }
-    ensures fits { IfSome result IsPlain }
-    ensures only { IfNone result
-        ((command : Command) → IsPlain command → word.now ∷ words_of rest.now ≡ command_words command → ⊥) }
-{
-    match event_of(word, rest) {
-        Some(event) => Some(Command::Step(event)),
-        None => question_of(word, rest),
     }
 }
 

@@ -3,7 +3,7 @@
 ghost use Rattle.std.specs.Prelude.{◌≡◌, IfSome, IfNone, OnOk, OnErr};
 ghost use Rattle.std.specs.List.{flat_map};
 ghost use Rattle.std.specs.Io.KnownBytes.{Appends};
-ghost use Rattle.action_tables.specs.Written.{AppendsFront};
+ghost use Rattle.action_tables.specs.Written.{AppendsPrefix};
 ghost use Rattle.topology.specs.Graph.{IsNode};
 ghost use Rattle.reset_model.specs.Configuration.{local_of, tree_of, wave_of};
 ghost use Rattle.history.specs.HistoryText.{ended};
@@ -24,7 +24,7 @@ pub fn show_all<P: Application, W: Write>(config: &Config<P>, out: &mut W) -> Re
         (Appends (W.contents out.old) (W.contents out.new)
         (flat_map (shown (meaning_of P.app P.text P.from_text P.names) config.now) config.now.graph.ids)) }
     ensures err { OnErr result
-        (AppendsFront (W.contents out.old) (W.contents out.new)
+        (AppendsPrefix (W.contents out.old) (W.contents out.new)
         (flat_map (shown (meaning_of P.app P.text P.from_text P.names) config.now) config.now.graph.ids)) }
 {
     for id in config.topology().ids() {
@@ -43,7 +43,7 @@ pub fn show_node<P: Application, W: Write>(
         (Appends (W.contents out.old) (W.contents out.new)
         (at_node config.now id (shown (meaning_of P.app P.text P.from_text P.names) config.now id))) }
     ensures err { OnErr result
-        (AppendsFront (W.contents out.old) (W.contents out.new)
+        (AppendsPrefix (W.contents out.old) (W.contents out.new)
         (at_node config.now id (shown (meaning_of P.app P.text P.from_text P.names) config.now id))) }
 {
     match node_at(config, id) {
@@ -76,7 +76,7 @@ fn put_head<W: Write>(
     wave: WaveRegs,
 ) -> Result<(), WriteFault>
     ensures ok { OnOk result (Appends (W.contents out.old) (W.contents out.new) (node_head id tree wave)) }
-    ensures err { OnErr result (AppendsFront (W.contents out.old) (W.contents out.new) (node_head id tree wave)) }
+    ensures err { OnErr result (AppendsPrefix (W.contents out.old) (W.contents out.new) (node_head id tree wave)) }
 {
     put_parts(
         out,
@@ -101,7 +101,7 @@ fn put_head<W: Write>(
 // Writes the text of a local state and ends the line.
 fn put_local<P: Application, W: Write>(local: &P::Local, out: &mut W) -> Result<(), WriteFault>
     ensures ok { OnOk result (Appends (W.contents out.old) (W.contents out.new) (ended (P.text local.now))) }
-    ensures err { OnErr result (AppendsFront (W.contents out.old) (W.contents out.new) (ended (P.text local.now))) }
+    ensures err { OnErr result (AppendsPrefix (W.contents out.old) (W.contents out.new) (ended (P.text local.now))) }
 {
     P::show(local, out)?;
     put_bytes(out, b"\n")
@@ -116,7 +116,7 @@ pub fn show_newest<P: Application, W: Write>(
         (Appends (W.contents out.old) (W.contents out.new)
         (flat_map (newest_line (meaning_of P.app P.text P.from_text P.names) config.now) config.now.graph.ids)) }
     ensures err { OnErr result
-        (AppendsFront (W.contents out.old) (W.contents out.new)
+        (AppendsPrefix (W.contents out.old) (W.contents out.new)
         (flat_map (newest_line (meaning_of P.app P.text P.from_text P.names) config.now) config.now.graph.ids)) }
 {
     for id in config.topology().ids() {
@@ -136,7 +136,7 @@ fn newest_of<P: Application, W: Write>(
         (Appends (W.contents out.old) (W.contents out.new)
         (newest_line (meaning_of P.app P.text P.from_text P.names) config.now id)) }
     ensures err { OnErr result
-        (AppendsFront (W.contents out.old) (W.contents out.new)
+        (AppendsPrefix (W.contents out.old) (W.contents out.new)
         (newest_line (meaning_of P.app P.text P.from_text P.names) config.now id)) }
 {
     put_newest_head(out, id)?;
@@ -149,7 +149,7 @@ fn newest_of<P: Application, W: Write>(
 // Writes what stands before a local state in the newest session.
 fn put_newest_head<W: Write>(out: &mut W, id: u32) -> Result<(), WriteFault>
     ensures ok { OnOk result (Appends (W.contents out.old) (W.contents out.new) (newest_head id)) }
-    ensures err { OnErr result (AppendsFront (W.contents out.old) (W.contents out.new) (newest_head id)) }
+    ensures err { OnErr result (AppendsPrefix (W.contents out.old) (W.contents out.new) (newest_head id)) }
 {
     put_parts(
         out,

@@ -36,9 +36,9 @@ pub(crate) enum Purpose {
 pub enum RunStop {
     /// The reader failed. Nothing was written.
     ReadFailed,
-    /// The writer failed. What it took until then is a front of the output.
+    /// The writer failed. What it took until then is a prefix of the output.
     WriteFailed,
-    /// A growth was refused. What was written until then is a front of the output.
+    /// A growth was refused. What was written until then is a prefix of the output.
     NoMemory,
     /// A thread could not be started. Nothing was written.
     ThreadFailed,

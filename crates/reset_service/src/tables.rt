@@ -3,7 +3,7 @@
 ghost use Rattle.std.specs.Prelude.{◌≡◌, ◌≢◌, IfErr, OnOk, OnErr};
 ghost use Rattle.std.specs.Io.KnownBytes.{Appends};
 ghost use Rattle.std.specs.List.{flat_map};
-ghost use Rattle.action_tables.specs.Written.{AppendsFront};
+ghost use Rattle.action_tables.specs.Written.{AppendsPrefix};
 ghost use Rattle.reset_service.specs.Output.{Leaves};
 ghost use Rattle.reset_service.specs.Tables.{Standpoint, tables_text, titled_rows_text};
 ghost use Rattle.reset_service.specs.declared.status.Status.TheVariants.{Good};
@@ -53,7 +53,7 @@ fn print_all<W: Write>(tables: &[TitledRows<'_>], out: &mut W) -> Result<(), Wri
     ensures ok { OnOk result
         (Appends (W.contents out.old) (W.contents out.new) (flat_map titled_rows_text tables.now)) }
     ensures err { OnErr result
-        (AppendsFront (W.contents out.old) (W.contents out.new) (flat_map titled_rows_text tables.now)) }
+        (AppendsPrefix (W.contents out.old) (W.contents out.new) (flat_map titled_rows_text tables.now)) }
 {
     for TitledRows(title, rows) in tables {
         print_rows(title, rows, out)?;

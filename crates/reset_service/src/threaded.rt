@@ -4,7 +4,7 @@ ghost use Rattle.std.specs.Prelude.{◌≡◌, ◌≢◌, ◌+◌, ◌≤◌, �
 ghost use Rattle.std.specs.Prelude.{OnOk};
 ghost use Rattle.std.specs.List.{list_all};
 ghost use Rattle.std.specs.Io.KnownBytes.{Appends, Keeps};
-ghost use Rattle.action_tables.specs.Written.{AppendsFront};
+ghost use Rattle.action_tables.specs.Written.{AppendsPrefix};
 ghost use Rattle.topology.specs.Graph.{IsNode};
 ghost use Rattle.node_threads.specs.Locked.{is_step};
 ghost use Rattle.history.specs.HistoryText.{IsReadAs, history_text};
@@ -153,7 +153,7 @@ fn run_from<P: Application, R: Threads + Wait + Sync>(
     ensures unkept { IfOk result (λ told. (told_output told).1 ≡ Status.BadInput → told_history told ≡ []) }
     ensures stop { IfErr result IsRunStop }
 {
-    opening.topology().is_graph();
+    opening.topology().lemma_is_graph();
     let least = opening.topology().ids()[0];
     let book = Book::open_book(alloc, opening.copy(alloc)?, MAX_ENTRIES);
     match run_nodes(rt, alloc, &NoGate, book, turns, Some(least)) {
@@ -208,7 +208,7 @@ fn text_of<P: Application>(alloc: Global, book: &Book<P>) -> Result<Vec<u8>, Run
     ensures read { IfOk result (λ text. IsReadAs text.items (Ok book.now.entries)) }
     ensures stop { IfErr result IsRunStop }
 {
-    book.is_book();
+    book.lemma_is_book();
     books_read_back::<P>();
     let mut text = Vec::new(alloc);
     match write_book(book, &mut text) {
@@ -235,7 +235,7 @@ fn stop_of(fault: ReaderFault) -> RunStop
 fn put_history<H: Write>(history: &mut H, told: &Told) -> Result<(), WriteFault>
     ensures ok { OnOk result (Appends (H.contents history.old) (H.contents history.new) (told_history told.now)) }
     ensures err { OnErr result
-        (AppendsFront (H.contents history.old) (H.contents history.new) (told_history told.now)) }
+        (AppendsPrefix (H.contents history.old) (H.contents history.new) (told_history told.now)) }
 {
     match told {
         Told::Kept(kept) => put_bytes(history, &kept.history),
@@ -246,7 +246,7 @@ fn put_history<H: Write>(history: &mut H, told: &Told) -> Result<(), WriteFault>
 // Writes the line of a run.
 fn put_told<W: Write>(out: &mut W, told: &Told) -> Result<(), WriteFault>
     ensures ok { OnOk result (Appends (W.contents out.old) (W.contents out.new) (told_output told.now).0) }
-    ensures err { OnErr result (AppendsFront (W.contents out.old) (W.contents out.new) (told_output told.now).0) }
+    ensures err { OnErr result (AppendsPrefix (W.contents out.old) (W.contents out.new) (told_output told.now).0) }
 {
     match told {
         Told::BadTopology(fault) => put_topology_fault(out, *fault),
@@ -263,7 +263,7 @@ fn put_counts<W: Write>(
 ) -> Result<(), WriteFault>
     ensures ok { OnOk result (Appends (W.contents out.old) (W.contents out.new) (threads_line nodes entries reports)) }
     ensures err { OnErr result
-        (AppendsFront (W.contents out.old) (W.contents out.new) (threads_line nodes entries reports)) }
+        (AppendsPrefix (W.contents out.old) (W.contents out.new) (threads_line nodes entries reports)) }
 {
     put_parts(
         out,

@@ -4,7 +4,7 @@ ghost use Rattle.std.specs.Prelude.{◌≡◌, ◌+◌, ◌≤◌, ◌++◌, len
 ghost use Rattle.std.specs.List.{flat_map};
 ghost use Rattle.std.specs.Io.KnownBytes.{Appends, Keeps};
 ghost use Rattle.topology.specs.TopologyText.{IsReadFault};
-ghost use Rattle.action_tables.specs.Written.{AppendsFront};
+ghost use Rattle.action_tables.specs.Written.{AppendsPrefix};
 ghost use Rattle.reset_service.specs.Meaning.{meaning_of};
 ghost use Rattle.reset_service.specs.Output.{Leaves};
 ghost use Rattle.reset_service.specs.Verified.{bad_history_text, counts_line, not_enabled_text, position_text};
@@ -146,7 +146,7 @@ fn answer_summary<W: Write>(summary: &Summary, out: &mut W) -> Result<Status, Ru
 // Writes what a text that is no history is answered with.
 fn put_history_fault<W: Write>(out: &mut W, fault: BookFault) -> Result<(), WriteFault>
     ensures ok { OnOk result (Appends (W.contents out.old) (W.contents out.new) (bad_history_text fault)) }
-    ensures err { OnErr result (AppendsFront (W.contents out.old) (W.contents out.new) (bad_history_text fault)) }
+    ensures err { OnErr result (AppendsPrefix (W.contents out.old) (W.contents out.new) (bad_history_text fault)) }
 {
     match fault {
         BookFault::BadLine(number) => put_numbered(out, b"bad history BadLine ", number as u64),
@@ -160,7 +160,7 @@ fn put_history_fault<W: Write>(out: &mut W, fault: BookFault) -> Result<(), Writ
 // Writes what a history is answered with whose first refused entry has this position.
 fn put_not_enabled<W: Write>(out: &mut W, position: usize) -> Result<(), WriteFault>
     ensures ok { OnOk result (Appends (W.contents out.old) (W.contents out.new) (not_enabled_text position)) }
-    ensures err { OnErr result (AppendsFront (W.contents out.old) (W.contents out.new) (not_enabled_text position)) }
+    ensures err { OnErr result (AppendsPrefix (W.contents out.old) (W.contents out.new) (not_enabled_text position)) }
 {
     put_numbered(out, b"not enabled at ", position as u64)
 }
@@ -169,7 +169,7 @@ fn put_not_enabled<W: Write>(out: &mut W, position: usize) -> Result<(), WriteFa
 fn put_summary<W: Write>(out: &mut W, entries: usize, reports: &[Report]) -> Result<(), WriteFault>
     ensures ok { OnOk result (Appends (W.contents out.old) (W.contents out.new) (verified_text entries reports.now)) }
     ensures err { OnErr result
-        (AppendsFront (W.contents out.old) (W.contents out.new) (verified_text entries reports.now)) }
+        (AppendsPrefix (W.contents out.old) (W.contents out.new) (verified_text entries reports.now)) }
 {
     put_reports(out, reports)?;
     put_counts(out, entries, reports.len())
@@ -177,7 +177,7 @@ fn put_summary<W: Write>(out: &mut W, entries: usize, reports: &[Report]) -> Res
 
 fn put_counts<W: Write>(out: &mut W, entries: usize, reports: usize) -> Result<(), WriteFault>
     ensures ok { OnOk result (Appends (W.contents out.old) (W.contents out.new) (counts_line entries reports)) }
-    ensures err { OnErr result (AppendsFront (W.contents out.old) (W.contents out.new) (counts_line entries reports)) }
+    ensures err { OnErr result (AppendsPrefix (W.contents out.old) (W.contents out.new) (counts_line entries reports)) }
 {
     put_parts(
         out,
@@ -194,7 +194,7 @@ fn put_counts<W: Write>(out: &mut W, entries: usize, reports: usize) -> Result<(
 fn put_reports<W: Write>(out: &mut W, reports: &[Report]) -> Result<(), WriteFault>
     ensures ok { OnOk result (Appends (W.contents out.old) (W.contents out.new) (flat_map report_line reports.now)) }
     ensures err { OnErr result
-        (AppendsFront (W.contents out.old) (W.contents out.new) (flat_map report_line reports.now)) }
+        (AppendsPrefix (W.contents out.old) (W.contents out.new) (flat_map report_line reports.now)) }
 {
     for report in reports {
         put_report(out, *report)?;
@@ -204,7 +204,7 @@ fn put_reports<W: Write>(out: &mut W, reports: &[Report]) -> Result<(), WriteFau
 
 fn put_report<W: Write>(out: &mut W, report: Report) -> Result<(), WriteFault>
     ensures ok { OnOk result (Appends (W.contents out.old) (W.contents out.new) (report_line report)) }
-    ensures err { OnErr result (AppendsFront (W.contents out.old) (W.contents out.new) (report_line report)) }
+    ensures err { OnErr result (AppendsPrefix (W.contents out.old) (W.contents out.new) (report_line report)) }
 {
     let line = line_of_report(report);
     put_bytes(out, line.as_slice())

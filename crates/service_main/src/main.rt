@@ -11,7 +11,7 @@ use crate::files::{create_file, open_file, read_file};
 use crate::status::exit_code;
 use action_tables::put_bytes;
 use reset_service::{
-    Gathered, Job, LineFault, Paths, RunStop, Status, check_text, no_text, print_tables,
+    BufferedOutput, Job, LineFault, Paths, RunStop, Status, check_text, no_text, print_tables,
     read_words, replay, replay_joined, threads_text, verify_text,
 };
 use std::env::Env;
@@ -66,7 +66,7 @@ fn answer_fault<R: Print + Eprint + AllocGlobal>(
                 return Ok(Status::BadInput);
             }
             let help = format!(in rt.alloc(); "{error}")?;
-            let mut out = Gathered::new(rt.alloc(), io::writer(rt))?;
+            let mut out = BufferedOutput::new(rt.alloc(), io::writer(rt))?;
             put_bytes(&mut out, help.as_bytes())?;
             out.end(Ok(Status::Good))
         }
@@ -77,7 +77,7 @@ fn do_job<R: Files + Input + Print + AllocGlobal + Threads + Wait + Sync>(
     rt: &R,
     job: Job<'_>,
 ) -> Result<Status, RunStop> {
-    let mut out = Gathered::new(rt.alloc(), io::writer(rt))?;
+    let mut out = BufferedOutput::new(rt.alloc(), io::writer(rt))?;
     let ended = job_output(rt, job, &mut out);
     out.end(ended)
 }

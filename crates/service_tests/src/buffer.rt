@@ -1,8 +1,8 @@
-// The buffer between a run and its output: what it has handed on, and how it ends.
+// The buffer between a run and its output: what it has flushed, and how it ends.
 
 use crate::devices::Stopping;
 use action_tables::put_bytes;
-use reset_service::{Gathered, RunStop, Status};
+use reset_service::{BufferedOutput, RunStop, Status};
 use std::alloc::Global;
 use std::test::Fail;
 
@@ -16,7 +16,7 @@ fn ended(
     zero: bool,
     run: Result<Status, RunStop>,
 ) -> Result<Result<Status, RunStop>, Fail> {
-    let mut out = Gathered::new(alloc, Stopping::new(alloc, 3000, stop, zero))?;
+    let mut out = BufferedOutput::new(alloc, Stopping::new(alloc, 3000, stop, zero))?;
     for _ in 0..1000 {
         if put_bytes(&mut out, PIECE).is_err() {
             return Ok(out.end(Err(RunStop::WriteFailed)));

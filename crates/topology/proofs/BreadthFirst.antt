@@ -39,7 +39,7 @@ module _ (n mark : ℕ) (old before : List ℕ) (room : mark + unmarked n old �
     pub queue_more : QueuesMarked n mark old (set now i mark) before (reached ++ i ∷ [])
     queue_more = record {
       longer = omega (arith, length_push reached i, queued.longer);
-      front = λ p p_in. get_or_append_left reached (i ∷ []) 0 p (omega (arith, queued.longer)) ∙ queued.front p p_in;
+      prefix = λ p p_in. get_or_append_left reached (i ∷ []) 0 p (omega (arith, queued.longer)) ∙ queued.prefix p p_in;
       behind = grind (arith, common_steps, was_free, queued.behind);
       found = λ k was marked.
           ⊎_elim
@@ -139,7 +139,7 @@ module _ (n : ℕ) (rows : List (List ℕ)) (are : AreRows n rows) (start place 
   places p p_in = record {
     split = ⊎_elim
         (λ low.
-        let same : get_or after p 0 ≡ get_or before p 0 = queues.front p low in
+        let same : get_or after p 0 ≡ get_or before p 0 = queues.prefix p low in
         let was = queued.below p low in
         inl (
           low,
@@ -196,7 +196,7 @@ module _ (n : ℕ) (rows : List (List ℕ)) (are : AreRows n rows) (start place 
   new_closed p j p_low p_in near =
       ⊎_elim
       (λ same.
-      let at : get_or after p 0 ≡ index = ap (λ k. get_or after k 0) same ∙ queues.front place place_in in
+      let at : get_or after p 0 ≡ index = ap (λ k. get_or after k 0) same ∙ queues.prefix place place_in in
       let c = closed_here j (subst (λ i. near_has rows i j ≡ true) at near) in
       (c.0, omega (arith, c.1, here, ap (λ k. get_or new (get_or after k 0) 0) same)))
       (λ other. ⊎_elim
@@ -221,7 +221,7 @@ module _ (n : ℕ) (rows : List (List ℕ)) (are : AreRows n rows) (start place 
     found = λ k k_in less.
         ⊎_elim
         (λ was. let at = queued.found k k_in was.0
-        in (at.0, omega (arith, at.1, queues.longer), queues.front at.0 at.1 ∙ at.2))
+        in (at.0, omega (arith, at.1, queues.longer), queues.prefix at.0 at.1 ∙ at.2))
         (λ other. queues.found k other.0 (λ e. absurd (omega arith)))
         (cases k k_in).split;
     rising = new_rising;

@@ -14,14 +14,14 @@ pub split_at : {X : Type 0} (xs : List X) (k : ℕ) (d : X) → k < length xs
 split_at xs k d within = sym (take-append-drop k xs) ∙ ap (λ ys. take k xs ++ ys) (drop_more xs k d within)
 
 module _ {X : Type 0} (P : X → Type 0) where
-  pub first_at : (xs front rest : List X) (x : X) → xs ≡ front ++ x ∷ rest → All (λ y. P y → ⊥) front → P x
+  pub first_at : (xs prefix rest : List X) (x : X) → xs ≡ prefix ++ x ∷ rest → All (λ y. P y → ⊥) prefix → P x
       → IsFirst P xs x
-  first_at xs front rest x whole none here =
+  first_at xs prefix rest x whole none here =
       record {
-        front = front;
+        prefix = prefix;
         rest = rest;
         whole = whole;
-        before = λ y y_in. All-contains (λ z. P z → ⊥) front y none y_in;
+        before = λ y y_in. All-contains (λ z. P z → ⊥) prefix y none y_in;
         here = here;
       }
 
@@ -30,13 +30,13 @@ module _ {X : Type 0} (P : X → Type 0) where
   no_first xs x none first =
       All-contains (λ z. P z → ⊥) xs x none
       (subst (λ ys. Contains ys x) (sym first.whole)
-      (Contains-append_right first.front (x ∷ first.rest) x (0, omega arith, refl))) first.here
+      (Contains-append_right first.prefix (x ∷ first.rest) x (0, omega arith, refl))) first.here
 
 pub first_weaker : {X : Type 0} (P Q : X → Type 0) → ((x : X) → P x → Q x) → ((x : X) → Q x → P x)
     → (xs : List X) (x : X) → IsFirst P xs x → IsFirst Q xs x
 first_weaker P Q to from xs x f =
     record {
-      front = f.front;
+      prefix = f.prefix;
       rest = f.rest;
       whole = f.whole;
       before = λ y y_in q. f.before y y_in (from y q);
@@ -53,22 +53,23 @@ all_passed P xs i past all = subst (All P) (take_all i xs past) all
 pub no_repeat : {X : Type 0} (xs : List X) → AllPairs (λ x y. x ≢ y) xs → (x : X) → IsRepeated xs x → ⊥
 no_repeat xs apart x r =
     let k = r.earlier.0 in
-    let long : length xs ≡ length r.front + suc (length r.rest) =
-    ap length r.whole ∙ length-append r.front (x ∷ r.rest) in
+    let long : length xs ≡ length r.prefix + suc (length r.rest) =
+    ap length r.whole ∙ length-append r.prefix (x ∷ r.rest) in
     let first : get_or xs k x ≡ x =
-    ap (λ ys. get_or ys k x) r.whole ∙ get_or_append_left r.front (x ∷ r.rest) x k r.earlier.1 ∙ r.earlier.2 in
-    let second : get_or xs (length r.front) x ≡ x =
-    ap (λ ys. get_or ys (length r.front) x) r.whole ∙ get_or_at r.front x r.rest x (length r.front) refl in
-    apart k (length r.front) x r.earlier.1 (omega arith) (first ∙ sym second)
+    ap (λ ys. get_or ys k x) r.whole ∙ get_or_append_left r.prefix (x ∷ r.rest) x k r.earlier.1 ∙ r.earlier.2 in
+    let second : get_or xs (length r.prefix) x ≡ x =
+    ap (λ ys. get_or ys (length r.prefix) x) r.whole ∙ get_or_at r.prefix x r.rest x (length r.prefix) refl in
+    apart k (length r.prefix) x r.earlier.1 (omega arith) (first ∙ sym second)
 
-pub first_repeat_at : {X : Type 0} (xs front rest : List X) (x : X) → xs ≡ front ++ x ∷ rest
-    → AllPairs (λ y z. y ≢ z) front → Contains front x → IsFirstRepeat xs x
-first_repeat_at xs front rest x whole apart earlier =
-    record { front = front; rest = rest; whole = whole; earlier = earlier; distinct = λ y r. no_repeat front apart y r }
+pub first_repeat_at : {X : Type 0} (xs prefix rest : List X) (x : X) → xs ≡ prefix ++ x ∷ rest
+    → AllPairs (λ y z. y ≢ z) prefix → Contains prefix x → IsFirstRepeat xs x
+first_repeat_at xs prefix rest x whole apart earlier =
+    record
+    { prefix = prefix; rest = rest; whole = whole; earlier = earlier; distinct = λ y r. no_repeat prefix apart y r }
 
 pub no_first_repeat : {X : Type 0} (xs : List X) → AllPairs (λ x y. x ≢ y) xs → (x : X) → IsFirstRepeat xs x → ⊥
 no_first_repeat xs apart x r =
-    no_repeat xs apart x (record { front = r.front; rest = r.rest; whole = r.whole; earlier = r.earlier })
+    no_repeat xs apart x (record { prefix = r.prefix; rest = r.rest; whole = r.whole; earlier = r.earlier })
 
 -- one item more, which is not among those before
 pub apart_push : {X : Type 0} (xs : List X) (x : X) → AllPairs (λ y z. y ≢ z) xs → (Contains xs x → ⊥)

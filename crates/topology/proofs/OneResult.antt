@@ -91,64 +91,66 @@ one_graph nodes links g h of_g of_h =
 -- ---- one first item
 
 module _ {X : Type 0} (xs : List X) where
-  module _ (front rest : List X) (x : X) (whole : xs ≡ front ++ x ∷ rest) where
+  module _ (prefix rest : List X) (x : X) (whole : xs ≡ prefix ++ x ∷ rest) where
     -- the item behind a part of the list, and the part
-    item_at : get_or xs (length front) x ≡ x
-    item_at = ap (λ ys. get_or ys (length front) x) whole ∙ get_or_at front x rest x (length front) refl
+    item_at : get_or xs (length prefix) x ≡ x
+    item_at = ap (λ ys. get_or ys (length prefix) x) whole ∙ get_or_at prefix x rest x (length prefix) refl
 
-    part_is : take (length front) xs ≡ front
-    part_is = ap (take (length front)) whole ∙ take-append_seam front (x ∷ rest)
+    part_is : take (length prefix) xs ≡ prefix
+    part_is = ap (take (length prefix)) whole ∙ take-append_seam prefix (x ∷ rest)
 
-    within : length front < length xs
-    within = omega (arith, ap length whole, length-append front (x ∷ rest))
+    within : length prefix < length xs
+    within = omega (arith, ap length whole, length-append prefix (x ∷ rest))
 
-  module _ (front rest : List X) (x : X) (whole : xs ≡ front ++ x ∷ rest) (behind more : List X) (y : X)
+  module _ (prefix rest : List X) (x : X) (whole : xs ≡ prefix ++ x ∷ rest) (behind more : List X) (y : X)
       (other : xs ≡ behind ++ y ∷ more) where
     -- the item of a shorter part stands in the longer one
-    item_in : length front < length behind → get_or behind (length front) x ≡ x
+    item_in : length prefix < length behind → get_or behind (length prefix) x ≡ x
     item_in less =
-        sym (get_or_append_left behind (y ∷ more) x (length front) less)
-        ∙ ap (λ ys. get_or ys (length front) x) (sym other) ∙ item_at front rest x whole
+        sym (get_or_append_left behind (y ∷ more) x (length prefix) less)
+        ∙ ap (λ ys. get_or ys (length prefix) x) (sym other) ∙ item_at prefix rest x whole
 
-    part_in : length front < length behind → front ≡ take (length front) behind
+    part_in : length prefix < length behind → prefix ≡ take (length prefix) behind
     part_in less =
-        sym (part_is front rest x whole) ∙ ap (take (length front)) other
-        ∙ take-append-le (length front) behind (y ∷ more) (omega (arith, less))
+        sym (part_is prefix rest x whole) ∙ ap (take (length prefix)) other
+        ∙ take-append-le (length prefix) behind (y ∷ more) (omega (arith, less))
 
     -- two parts of which neither is the longer one end at one item
-    one_item : (length front < length behind → ⊥) → (length behind < length front → ⊥) → x ≡ y
+    one_item : (length prefix < length behind → ⊥) → (length behind < length prefix → ⊥) → x ≡ y
     one_item not_less not_more =
         ⊎_elim
         (λ same.
-        sym (item_at front rest x whole) ∙ get_or_default xs (length front) x y (within front rest x whole)
+        sym (item_at prefix rest x whole) ∙ get_or_default xs (length prefix) x y (within prefix rest x whole)
         ∙ ap (λ k. get_or xs k y) same
         ∙ item_at behind more y other)
         (λ apart. ⊎_elim (λ less. absurd (not_less less)) (λ longer. absurd (not_more longer)) apart)
-        (cases_order (length front) (length behind))
+        (cases_order (length prefix) (length behind))
 
   pub one_first : (P : X → Type 0) (x y : X) → IsFirst P xs x → IsFirst P xs y → x ≡ y
   one_first P x y a b =
-      one_item a.front a.rest x a.whole b.front b.rest y b.whole
-      (λ less. b.before x (length a.front, less, item_in a.front a.rest x a.whole b.front b.rest y b.whole less) a.here)
-      (λ less. a.before y (length b.front, less, item_in b.front b.rest y b.whole a.front a.rest x a.whole less) b.here)
+      one_item a.prefix a.rest x a.whole b.prefix b.rest y b.whole
+      (λ less. b.before x
+      (length a.prefix, less, item_in a.prefix a.rest x a.whole b.prefix b.rest y b.whole less) a.here)
+      (λ less. a.before y
+      (length b.prefix, less, item_in b.prefix b.rest y b.whole a.prefix a.rest x a.whole less) b.here)
 
-  repeats_in : (x y : X) (a : IsFirstRepeat xs x) (b : IsFirstRepeat xs y) → length a.front < length b.front
-      → IsRepeated b.front x
+  repeats_in : (x y : X) (a : IsFirstRepeat xs x) (b : IsFirstRepeat xs y) → length a.prefix < length b.prefix
+      → IsRepeated b.prefix x
   repeats_in x y a b less =
-      let k = length a.front in
+      let k = length a.prefix in
       record {
-        front = take k b.front;
-        rest = drop (k + 1) b.front;
-        whole = split_at b.front k x less
-            ∙ ap (λ z. take k b.front ++ z ∷ drop (k + 1) b.front)
-            (item_in a.front a.rest x a.whole b.front b.rest y b.whole less);
+        prefix = take k b.prefix;
+        rest = drop (k + 1) b.prefix;
+        whole = split_at b.prefix k x less
+            ∙ ap (λ z. take k b.prefix ++ z ∷ drop (k + 1) b.prefix)
+            (item_in a.prefix a.rest x a.whole b.prefix b.rest y b.whole less);
         earlier =
-            subst (λ ys. Contains ys x) (part_in a.front a.rest x a.whole b.front b.rest y b.whole less) a.earlier;
+            subst (λ ys. Contains ys x) (part_in a.prefix a.rest x a.whole b.prefix b.rest y b.whole less) a.earlier;
       }
 
   pub one_first_repeat : (x y : X) → IsFirstRepeat xs x → IsFirstRepeat xs y → x ≡ y
   one_first_repeat x y a b =
-      one_item a.front a.rest x a.whole b.front b.rest y b.whole
+      one_item a.prefix a.rest x a.whole b.prefix b.rest y b.whole
       (λ less. b.distinct x (repeats_in x y a b less)) (λ less. a.distinct y (repeats_in y x b a less))
 
 -- ---- one first fault

@@ -10,26 +10,26 @@ use Rattle.topology.specs.declared.fault.TopoFault.TheVariants.{NoMemory, NoSuch
 
 -- x is the first of the list that meets P
 pub record IsFirst {X : Type 0} (P : X → Type 0) (xs : List X) (x : X) : Type 0 where
-  pub front : List X
+  pub prefix : List X
   pub rest : List X
-  pub whole : xs ≡ front ++ x ∷ rest
-  pub before : (y : X) → Contains front y → P y → ⊥
+  pub whole : xs ≡ prefix ++ x ∷ rest
+  pub before : (y : X) → Contains prefix y → P y → ⊥
   pub here : P x
 
 -- an x of the list repeats an earlier one
 pub record IsRepeated {X : Type 0} (xs : List X) (x : X) : Type 0 where
-  pub front : List X
+  pub prefix : List X
   pub rest : List X
-  pub whole : xs ≡ front ++ x ∷ rest
-  pub earlier : Contains front x
+  pub whole : xs ≡ prefix ++ x ∷ rest
+  pub earlier : Contains prefix x
 
 -- and nothing before it repeats an earlier one
 pub record IsFirstRepeat {X : Type 0} (xs : List X) (x : X) : Type 0 where
-  pub front : List X
+  pub prefix : List X
   pub rest : List X
-  pub whole : xs ≡ front ++ x ∷ rest
-  pub earlier : Contains front x
-  pub distinct : (y : X) → IsRepeated front y → ⊥
+  pub whole : xs ≡ prefix ++ x ∷ rest
+  pub earlier : Contains prefix x
+  pub distinct : (y : X) → IsRepeated prefix y → ⊥
 
 -- the graph has exactly these nodes and links, and the bound K is the number of its nodes
 pub record IsGraphOf (nodes : List ℕ) (links : List (ℕ × ℕ)) (g : Graph) : Type 0 where

@@ -17,7 +17,7 @@ pub record MarksRow (n : ℕ) (row : List ℕ) (mark : ℕ) (old new : List ℕ)
 -- behind the indexes that were reached before stand those that got this mark, and no more
 pub record QueuesMarked (n mark : ℕ) (old new before after : List ℕ) : Type 0 where
   pub longer : length before ≤ length after
-  pub front : (p : ℕ) → p < length before → slice_index after p ≡ slice_index before p
+  pub prefix : (p : ℕ) → p < length before → slice_index after p ≡ slice_index before p
   pub behind : (p : ℕ) → length before ≤ p → p < length after →
       (slice_index old (slice_index after p) ≡ n) × (slice_index new (slice_index after p) ≡ mark)
   pub found : (k : ℕ) → slice_index old k ≡ n → slice_index new k ≢ n

@@ -37,7 +37,7 @@ impl Ids {
     }
 
     /// What they are: one to `MAX_NODES` identifiers, which ascend.
-    pub fn are_ids(&self)
+    pub fn lemma_are_ids(&self)
         ensures { AreIds self.now }
     {
         let _ = &self.ascending;

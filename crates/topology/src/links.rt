@@ -68,7 +68,7 @@ fn link_all(ids: &Ids, links: &[(u32, u32)], near: &mut [Vec<usize>]) -> Result<
     ensures err { IfErr result (λ f. f ≢ TopoFault.NoMemory → (p : ℕ × ℕ)
         × (f ≡ TopoFault.TwiceLink p.0 p.1) × IsFirstRepeat (ordered_links links.now) p) }
 {
-    ids.are_ids();
+    ids.lemma_are_ids();
     for (a, b) in links {
         let i = index_among(ids, *a);
         let j = index_among(ids, *b);
@@ -106,7 +106,7 @@ pub fn checked_rows(
     ensures err { IfErr result (λ f. f ≢ TopoFault.NoMemory → (nodes : List ℕ)
         → AreSorted nodes ids.now → IsFirstFault nodes links.now f) }
 {
-    ids.are_ids();
+    ids.lemma_are_ids();
     if links.len() > MAX_LINKS {
         return Err(TopoFault::TooManyLinks);
     }

@@ -57,7 +57,7 @@ impl Topology {
     }
 
     /// What each topology is: a connected graph of at most `MAX_NODES` nodes.
-    pub fn is_graph(&self)
+    pub fn lemma_is_graph(&self)
         ensures graph { IsGraph self.now }
         ensures bound { self.now.bound ≡ length self.now.ids }
         ensures connected { IsConnected self.now }
@@ -78,7 +78,7 @@ impl Topology {
     pub fn id_at(&self, index: usize) -> Option<NodeId>
         ensures { result ≡ slice_get self.now.ids index }
     {
-        self.is_graph();
+        self.lemma_is_graph();
         let ids = self.ids();
         match ids.get(index) {
             Some(id) => NodeId::new(*id),
@@ -136,7 +136,7 @@ impl Topology {
     pub fn greatest(&self) -> NodeId
         ensures { result ≡ greatest self.now }
     {
-        self.is_graph();
+        self.lemma_is_graph();
         let ids = self.ids();
         NodeId::new(ids[ids.len() - 1]).unwrap()
     }

@@ -14,7 +14,7 @@ use topology::Topology;
 pub fn boot_tree(alloc: Global, topology: &Topology) -> Result<Vec<TreeRegs>, AllocError>
     ensures { IfOk result (λ trees. AreBooted topology.now trees.items) }
 {
-    topology.is_graph();
+    topology.lemma_is_graph();
     let distances = topology.distances_from(alloc, topology.len() - 1)?;
     let mut trees = Vec::with_capacity(alloc, topology.len())?;
     for ix in 0..topology.len() {
@@ -29,7 +29,7 @@ fn regs_at(topology: &Topology, distances: &[usize], ix: usize) -> TreeRegs
     requires distances { AreDistances topology.now (greatest topology.now) distances.now }
     ensures { IsBooted topology.now (slice_index topology.now.ids ix) result }
 {
-    topology.is_graph();
+    topology.lemma_is_graph();
     let root = topology.greatest().get();
     let dist = distances[ix];
     let father = match nearer_among(topology.neighbours(ix), distances, dist) {

@@ -1,6 +1,6 @@
 use Rattle.std.proofs.Common.{sym, ◌∙◌}
 use Rattle.std.proofs.lemmas.List.{take_rest}
-use Rattle.action_tables.proofs.CutTexts.{unplaced, placed_front, placed_whole}
+use Rattle.action_tables.proofs.CutTexts.{unplaced, placed_prefix, placed_whole}
 use Rattle.action_tables.proofs.cutting.cut.Goals as goal
 
 pub returns-in_err-place-clause-none : goal.returns-in_err-place-clause-none
@@ -14,4 +14,4 @@ returns-clause-found c =
 
 pub returns-clause-first : goal.returns-clause-first
 returns-clause-first c =
-    placed_front c.args.byte c.args.text.now c.in_ok-place.place (sym c.in_ok-place.was ∙ c.place_of.ensures)
+    placed_prefix c.args.byte c.args.text.now c.in_ok-place.place (sym c.in_ok-place.was ∙ c.place_of.ensures)

@@ -1,7 +1,7 @@
 use Rattle.std.proofs.Common.{◌∷◌, ◌++◌, ◌-◌, length, take, drop, sym, ap, ◌∙◌}
 use Rattle.std.specs.List.{flat_map}
 use Rattle.action_tables.specs.Lists.{list_text}
-use Rattle.action_tables.proofs.Fronts.{OnErr-then, OnOk-then}
+use Rattle.action_tables.proofs.Prefixes.{OnErr-then, OnOk-then}
 use Rattle.action_tables.proofs.ListTexts.{list_text-some}
 use Rattle.action_tables.proofs.list.put_list.Goals as goal
 

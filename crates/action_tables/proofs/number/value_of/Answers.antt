@@ -1,14 +1,10 @@
-use Rattle.std.proofs.Common.{arith}
-use Rattle.action_tables.proofs.NumberWords.{too_large}
+use Rattle.action_tables.proofs.NumberWords.{value_of_next, value_of_none}
 use Rattle.action_tables.proofs.number.value_of.Goals as goal
 
-pub returns-in_err-value-clause-only : goal.returns-in_err-value-clause-only
-returns-in_err-value-clause-only c =
-    let (to, from, same, small) = c.loop-rest.invariant in
-    rw c.from_residual.ensures
-    (λ digits. omega (
-      arith,
-      same,
-      too_large c.loop-rest.value c.loop-rest.rest.now c.in-len1-up.len_at_least c.in_err-value.ensures.only
-          (to digits),
-    ))
+pub loop-rest-init : goal.loop-rest-init
+loop-rest-init c = value_of_none c.args.digits.now c.requires
+
+pub loop-rest-preserved : goal.loop-rest-preserved
+loop-rest-preserved c =
+    value_of_next c.args.digits.now c.loop-rest.rest.now c.loop-rest.value c.in_ok-value.field-0
+    c.loop-rest.invariant c.in-len1-up.len_at_least c.in_ok-value.ensures.found.0 c.in_ok-value.ensures.found.1

@@ -5,8 +5,8 @@ use Rattle.action_tables.proofs.put.put_bytes.Given as goal
 
 abbrev pub invariant-loop-rest : goal.invariant-loop-rest
 invariant-loop-rest g l =
-    (front : List ℕ) × (l.initial.rest ≡ front ++ l.rest)
-    × Appends (g.W.Write.contents l.initial.out) (g.W.Write.contents l.out) front
+    (prefix : List ℕ) × (l.initial.rest ≡ prefix ++ l.rest)
+    × Appends (g.W.Write.contents l.initial.out) (g.W.Write.contents l.out) prefix
 
 abbrev pub decreases-loop-rest : goal.decreases-loop-rest
 decreases-loop-rest g l = length l.rest

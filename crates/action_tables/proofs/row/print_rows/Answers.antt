@@ -1,5 +1,5 @@
 use Rattle.std.proofs.Common.{arith}
-use Rattle.action_tables.proofs.Fronts.{OnErr-always}
+use Rattle.action_tables.proofs.Prefixes.{OnErr-always}
 use Rattle.action_tables.proofs.Pieces.{Appends-piece}
 use Rattle.action_tables.proofs.TableTexts.{line_of, table_text-no_title, table_text-no_row, table_text-whole}
 use Rattle.action_tables.proofs.row.print_rows.Goals as goal

@@ -1,14 +1,14 @@
 use Rattle.std.proofs.Common.{◌∷◌, []}
 use Rattle.std.proofs.lemmas.Result.{on_err_weaker}
 use Rattle.action_tables.specs.RowText.{set_text}
-use Rattle.action_tables.proofs.Fronts.{AppendsFront-first, AppendsFront-then, OnErr-always}
+use Rattle.action_tables.proofs.Prefixes.{AppendsPrefix-first, AppendsPrefix-then, OnErr-always}
 use Rattle.app_token.proofs.show.put_slash_ids.Goals as goal
 
 pub returns-in_err-put_bytes-clause-err : goal.returns-in_err-put_bytes-clause-err
 returns-in_err-put_bytes-clause-err g c =
-    OnErr-always _ _ (AppendsFront-first _ _ (47 ∷ []) (set_text c.args.ids.now) c.in_err-put_bytes.ensures.err)
+    OnErr-always _ _ (AppendsPrefix-first _ _ (47 ∷ []) (set_text c.args.ids.now) c.in_err-put_bytes.ensures.err)
 
 pub returns-clause-err : goal.returns-clause-err
 returns-clause-err g c =
-    on_err_weaker _ (AppendsFront-then _ _ _ (47 ∷ []) (set_text c.args.ids.now) c.in_ok-put_bytes.ensures.ok)
+    on_err_weaker _ (AppendsPrefix-then _ _ _ (47 ∷ []) (set_text c.args.ids.now) c.in_ok-put_bytes.ensures.ok)
     c.put_list.ensures.err

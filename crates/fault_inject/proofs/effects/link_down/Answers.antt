@@ -11,7 +11,7 @@ returns-in-Ok-clause-outcome g c =
     put_or_not from_text now c.args.a c.args.b (LinkDown c.args.a c.args.b) _ _ _ c.put_changed.ensures.ok
     c.put_changed.ensures.err
     (down_put from_text now c.args.a c.args.b _ _ _ c.topology.ensures c.in-Ok.ensures.sound c.in-Ok.ensures.ok
-    ((c.connected_is_tested.ensures _ c.is_graph.ensures.graph).1 c.is_graph.ensures.connected))
+    ((c.connected_is_tested.ensures _ c.lemma_is_graph.ensures.graph).1 c.lemma_is_graph.ensures.connected))
 
 pub returns-in-Err-StrangeNode-clause-outcome : goal.returns-in-Err-StrangeNode-clause-outcome
 returns-in-Err-StrangeNode-clause-outcome g c =

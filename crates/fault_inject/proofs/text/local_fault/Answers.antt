@@ -1,5 +1,5 @@
 use Rattle.std.proofs.Common.{◌≡◌, ◌∙◌, rules, sym, true≢false}
-use Rattle.action_tables.proofs.Fronts.{OnErr-always}
+use Rattle.action_tables.proofs.Prefixes.{OnErr-always}
 use Rattle.fault_inject.specs.FaultText.{IsOneWord}
 use Rattle.fault_inject.proofs.FaultLines.{local_asked, local_found, no_local}
 use Rattle.fault_inject.proofs.text.local_fault.Goals as goal

@@ -17,7 +17,7 @@ returns-then-ne-clause-err c = (
       (printed_word (codes "reset-history") refl) (sym c.in-Some.ensures.found ∙ is) in
       true≢false
       ((rw c.as_slice.ensures at c.if-ne.ensures)
-      ∙ ap not ((bytes_eq-Decides c.in-Some.word.now (codes "reset-history")).1 same.front)),
+      ∙ ap not ((bytes_eq-Decides c.in-Some.word.now (codes "reset-history")).1 same.prefix)),
 )
 
 pub returns-in-Some-eq1-clause-ok : goal.returns-in-Some-eq1-clause-ok

@@ -1,11 +1,11 @@
 use Rattle.std.proofs.Common.{[], ◌∷◌, refl}
-use Rattle.action_tables.proofs.Fronts.{AppendsFront-first, OnErr-always, OnErr-then}
+use Rattle.action_tables.proofs.Prefixes.{AppendsPrefix-first, OnErr-always, OnErr-then}
 use Rattle.history.specs.HistoryText.{ended, entry_line}
 use Rattle.history.proofs.text.put_entry.Goals as goal
 
 pub returns-in_err-put_command-clause-err : goal.returns-in_err-put_command-clause-err
 returns-in_err-put_command-clause-err g c =
-    OnErr-always _ _ (AppendsFront-first _ _ (entry_line c.args.entry.now) (10 ∷ []) c.in_err-put_command.ensures.err)
+    OnErr-always _ _ (AppendsPrefix-first _ _ (entry_line c.args.entry.now) (10 ∷ []) c.in_err-put_command.ensures.err)
 
 pub returns-clause-err : goal.returns-clause-err
 returns-clause-err g c =

@@ -1,10 +1,10 @@
 use Rattle.std.proofs.Common.{subst}
 use Rattle.std.specs.Io.KnownBytes.{Appends}
-use Rattle.action_tables.specs.Written.{AppendsFront}
-use Rattle.action_tables.proofs.Fronts.{OnErr-always}
+use Rattle.action_tables.specs.Written.{AppendsPrefix}
+use Rattle.action_tables.proofs.Prefixes.{OnErr-always}
 use Rattle.history.specs.HistoryText.{entries_text}
 use Rattle.history.specs.Segments.{entries_of}
-use Rattle.history.proofs.SegmentTexts.{writes_front, writes_next}
+use Rattle.history.proofs.SegmentTexts.{writes_prefix, writes_next}
 use Rattle.history.proofs.text.put_segments.Goals as goal
 
 pub returns-in_err-put_entries-clause-err : goal.returns-in_err-put_entries-clause-err
@@ -12,10 +12,10 @@ returns-in_err-put_entries-clause-err g c =
     let before = g.W.Write.contents c.args.out.now in
     let here = g.W.Write.contents c.loop-index.out in
     let after = g.W.Write.contents c.put_entries.new.out in
-    let front = subst (λ es. AppendsFront here after (entries_text es)) c.segment.ensures
+    let prefix = subst (λ es. AppendsPrefix here after (entries_text es)) c.segment.ensures
     c.in_err-put_entries.ensures.err in
     OnErr-always _ _
-    (writes_front before here after (entries_of c.args.segments.now) c.loop-index.index c.loop-index.invariant front)
+    (writes_prefix before here after (entries_of c.args.segments.now) c.loop-index.index c.loop-index.invariant prefix)
 
 pub loop-index-preserved : goal.loop-index-preserved
 loop-index-preserved g c =

@@ -1,5 +1,5 @@
 use Rattle.std.proofs.Common.{refl}
-use Rattle.action_tables.proofs.Fronts.{AppendsFront-first, OnErr-always, OnErr-then, OnOk-then}
+use Rattle.action_tables.proofs.Prefixes.{AppendsPrefix-first, OnErr-always, OnErr-then, OnOk-then}
 use Rattle.history.specs.Segments.{entries_of}
 use Rattle.history.specs.HistoryText.{ended, entries_text, first_line, history_text}
 use Rattle.history.proofs.text.write_segments.Goals as goal
@@ -7,7 +7,7 @@ use Rattle.history.proofs.text.write_segments.Goals as goal
 pub returns-in_err-put_bytes-clause-err : goal.returns-in_err-put_bytes-clause-err
 returns-in_err-put_bytes-clause-err g c =
     let es = entries_of c.args.segments.now in
-    OnErr-always _ _ (AppendsFront-first _ _ (ended first_line) (entries_text es) c.in_err-put_bytes.ensures.err)
+    OnErr-always _ _ (AppendsPrefix-first _ _ (ended first_line) (entries_text es) c.in_err-put_bytes.ensures.err)
 
 pub returns-clause-err : goal.returns-clause-err
 returns-clause-err g c =

@@ -1,7 +1,7 @@
 use Rattle.std.proofs.Common.{◌≡◌, ℕ, ◌++◌, Global, Vec, append-nil, flat_map, map, slice_index, subst, sym, take_all}
 use Rattle.std.proofs.Common.{ap, ◌∙◌}
 use Rattle.topology.specs.Graph.{Graph, AreLinked, are_linked, neighbours_of}
-use Rattle.reset_machine.proofs.CaseChoices.{near_passes}
+use Rattle.reset_machine.proofs.CaseArguments.{near_passes}
 use Rattle.reset_machine.proofs.NearSeen.{at_indexes}
 use Rattle.reset_model.specs.View.{Neighbour, near_of}
 use Rattle.link_predicates.specs.Faults.{link_faults}
@@ -25,7 +25,7 @@ add_link-requires-clause-others g c = λ κs within same.
     let own : j ≡ i =
     sym (ap (λ (n : Neighbour g.row.P-Local.Denot). n.id) c.end_at-then-not-is_quiet.ensures) ∙ same
     ∙ ap (λ (n : Neighbour g.row.P-Local.Denot). n.id) c.requires.there in
-    c.is_graph.ensures.graph.irreflexive i (subst P own linked)
+    c.lemma_is_graph.ensures.graph.irreflexive i (subst P own linked)
 
 pub loop-near-preserved : goal.loop-near-preserved
 loop-near-preserved g c =

@@ -8,7 +8,7 @@ returns-in-Some g c =
     let Linked : Graph → Type 0 = λ h. are_linked h (slice_index h.ids c.args.index) c.own.inside.tree.father ≡ true in
     let up = c.own.inside.tree in
     sym (c.is_settled.ensures c.if-is_settled.true up)
-    ∙ father_row g.P.Application.app c.args.config.now c.is_graph.ensures.graph _ _ _
+    ∙ father_row g.P.Application.app c.args.config.now c.lemma_is_graph.ensures.graph _ _ _
     (c.own.view_is ∙ c.requires.there) c.bound_of-k.ensures.value up
     (subst Linked c.topology-topology.ensures c.in-Some.ensures.found.1)
 
@@ -16,7 +16,7 @@ pub returns-in-Some-2 : goal.returns-in-Some-2
 returns-in-Some-2 g c =
     let Linked : Graph → Type 0 = λ h. are_linked h (slice_index h.ids c.args.index) c.own.inside.tree.father ≡ true in
     c.own_row.ensures
-    ∙ father_row g.P.Application.app c.args.config.now c.is_graph.ensures.graph _ _ _
+    ∙ father_row g.P.Application.app c.args.config.now c.lemma_is_graph.ensures.graph _ _ _
     (c.own.view_is ∙ c.requires.there) c.bound_of-k.ensures.value _
     (subst Linked c.topology-topology.ensures c.in-Some-2.ensures.found.1)
 
@@ -24,6 +24,6 @@ pub returns-in-None : goal.returns-in-None
 returns-in-None g c =
     let Stray : Graph → Type 0 = λ h. are_linked h (slice_index h.ids c.args.index) c.own.inside.tree.father ≡ false in
     c.own_row-in-None.ensures
-    ∙ stray_row g.P.Application.app c.args.config.now c.is_graph.ensures.graph _ _ _
+    ∙ stray_row g.P.Application.app c.args.config.now c.lemma_is_graph.ensures.graph _ _ _
     (c.own.view_is ∙ c.requires.there) c.bound_of-k.ensures.value
     (subst Stray c.topology-topology.ensures c.in-None.ensures.none)

@@ -11,8 +11,8 @@ returns g c =
     let config = c.args.config.now in
     let ids = config.graph.ids in
     let index = c.args.index in
-    let up = c.is_graph.ensures.graph.ascending in
-    let shaped = c.is_graph.ensures.shaped in
+    let up = c.lemma_is_graph.ensures.graph.ascending in
+    let shaped = c.lemma_is_graph.ensures.shaped in
     let id = ap (λ l. slice_index l index) (c.ids.ensures ∙ ap (λ (graph : Graph). graph.ids) c.topology.ensures) in
     let t = value_at-place (record { root = 0; father = 0; dist = 0 }) ids config.trees index up shaped.trees c.requires
     ∙ ap (λ trees. slice_index_or trees index (record { root = 0; father = 0; dist = 0 })) (sym c.trees.ensures.value)

@@ -1,7 +1,7 @@
 use Rattle.std.proofs.Common.{◌∷◌, Some, None, map, find, ap, ap₂, sym, ◌∙◌, arith}
 use Rattle.std.specs.List.{flat_map}
 use Rattle.reset_model.specs.declared.event.Event.TheVariants.{Act}
-use Rattle.reset_machine.proofs.CaseChoices.{all_from_1}
+use Rattle.reset_machine.proofs.CaseArguments.{all_from_1}
 use Rattle.node_threads.specs.Choice.{case_events, is_allowed}
 use Rattle.node_threads.proofs.Trying.{case_next, cases_done, first_none, first_some}
 use Rattle.node_threads.proofs.choice.action.Goals as goal

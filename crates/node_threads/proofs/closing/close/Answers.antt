@@ -10,8 +10,8 @@ returns-in-Err-clause-err g c =
     record {
       book = l.book;
       total = l.tally.total;
-      locked = c.is_locked.ensures.locked;
-      why = subst (λ m. IsUnclosed app from_text l.book m c.args.seats.items c.in-Err.fault) c.is_locked.ensures.mark
+      locked = c.lemma_is_locked.ensures.locked;
+      why = subst (λ m. IsUnclosed app from_text l.book m c.args.seats.items c.in-Err.fault) c.lemma_is_locked.ensures.mark
           (subst (λ seats. IsUnclosed app from_text l.book l.mark seats c.in-Err.fault) c.deref.ensures.value
           c.in-Err.ensures.err);
     }
@@ -19,4 +19,4 @@ returns-in-Err-clause-err g c =
 pub returns-in-Err-with_capacity-clause-err : goal.returns-in-Err-with_capacity-clause-err
 returns-in-Err-with_capacity-clause-err g c =
     let l = c.into_inner-locked.result in
-    record { book = l.book; total = l.tally.total; locked = c.is_locked.ensures.locked; why = tt }
+    record { book = l.book; total = l.tally.total; locked = c.lemma_is_locked.ensures.locked; why = tt }

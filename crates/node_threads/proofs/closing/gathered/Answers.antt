@@ -12,7 +12,7 @@ loop-seat-init g c =
     let none = c.requires.room.0 in
     let gives = c.into_iter-seat-iterator.ensures.into_iter_gives in (
       gathered_first _ _ _ _ _ c.requires.last.0 c.requires.last.1 none gives.0,
-      omega (arith, c.requires.last.0, c.one_more.ensures),
+      omega (arith, c.requires.last.0, c.lemma_one_more.ensures),
       omega (arith, gives.1, ap length none, c.args.seats.ok.0),
       c.requires.room.1,
     )
@@ -49,12 +49,12 @@ returns-clause-closed g c =
     let seats = c.args.seats.items in
     let same : length l.lists.items ≡ length seats = omega (arith, c.in-None.ensures.steps.0, l.invariant.2) in
     closes app from_text b g.L.Round.mark g.L.Round.seats c.args.locked.tally.total l.all.parts l.all.amount
-    g.L.Ledger.parts seats l.lists.items c.is_locked.ensures.locked
+    g.L.Ledger.parts seats l.lists.items c.lemma_is_locked.ensures.locked
     (subst (λ (k : Configuration g.row.P-Local.Denot). IsStrictlyIncreasing k.graph.ids) c.config.ensures
-    c.is_graph.ensures.graph.ascending)
-    (subst (λ m. AreSeatLists app from_text b m (map list_of seats)) c.is_locked.ensures.mark c.requires.seats)
+    c.lemma_is_graph.ensures.graph.ascending)
+    (subst (λ m. AreSeatLists app from_text b m (map list_of seats)) c.lemma_is_locked.ensures.mark c.requires.seats)
     (gathered_all _ _ _ _ _ same l.invariant.0) l.invariant.0.has_parts l.invariant.0.counts l.invariant.1
-    c.one_more.ensures c.audit.ensures.whole
+    c.lemma_one_more.ensures c.audit.ensures.whole
 
 pub returns-clause-lists : goal.returns-clause-lists
 returns-clause-lists g c =

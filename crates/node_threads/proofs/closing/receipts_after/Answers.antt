@@ -16,7 +16,7 @@ loop-index-init g c =
           b.entries)) c.new-told.ensures.items
           ∙ ap (filter (λ r. nat_lt c.args.mark r.position)) (ap (λ rs. receipts_told rs 0 b.entries)
           c.reports-reports.ensures
-          ∙ told_receipts app from_text b.opening b.config [] b.entries 0 refl c.is_book.ensures.replay);
+          ∙ told_receipts app from_text b.opening b.config [] b.entries 0 refl c.lemma_is_book.ensures.replay);
       within = omega arith;
     }
 

@@ -2,7 +2,7 @@ use Rattle.std.proofs.Common.{sym, ◌∙◌, arith}
 use Rattle.topology.specs.Graph.{node_bound}
 use Rattle.reset_model.specs.Configuration.{local_of, wave_of}
 use Rattle.reset_machine.specs.Enabled.{is_taken}
-use Rattle.reset_machine.proofs.CaseChoices.{taken_first, taken_more, taken_same, taken_all}
+use Rattle.reset_machine.proofs.CaseArguments.{taken_first, taken_more, taken_same, taken_all}
 use Rattle.reset_machine.proofs.enabled.enabled_acts.Goals.{then-branch, else-branch}
 use Rattle.reset_machine.proofs.enabled.enabled_acts.Goals as goal
 

@@ -1,7 +1,7 @@
 use Rattle.topology.specs.Graph.{node_bound}
 use Rattle.reset_model.specs.Configuration.{local_of, wave_of}
 use Rattle.reset_machine.specs.Enabled.{is_taken}
-use Rattle.reset_machine.proofs.CaseChoices.{AreTaken}
+use Rattle.reset_machine.proofs.CaseArguments.{AreTaken}
 use Rattle.reset_machine.proofs.enabled.enabled_acts.Given as goal
 
 -- of the cases before this one those that are taken are in the set

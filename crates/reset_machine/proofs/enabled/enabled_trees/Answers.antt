@@ -12,5 +12,5 @@ tree_rows-requires g c =
     let near = c.deref.ensures.value ∙ c.in_ok-read_near_trees.ensures in
     rw c.id.ensures
     (subst P (sym near)
-    (near_is_view place.config.graph c.bound.result (tree_of place.config) place.id c.is_place.ensures.graph
+    (near_is_view place.config.graph c.bound.result (tree_of place.config) place.id c.lemma_is_place.ensures.graph
     c.bound.ensures.positive))

@@ -12,4 +12,4 @@ wave_rows-requires g c =
     let Ascend : List (ℕ × WaveRegs) → Type 0 = λ cs. IsStrictlyIncreasing (map (λ c. c.0) cs) in
     let children = c.deref.ensures.value ∙ c.in_ok-read_children.ensures in
     subst Ascend (sym children)
-    (children_ascend config.graph (tree_of config) (wave_of config) place.id c.is_place.ensures.graph.ascending)
+    (children_ascend config.graph (tree_of config) (wave_of config) place.id c.lemma_is_place.ensures.graph.ascending)

@@ -22,7 +22,7 @@ new-requires-after_bounds g c = λ κs within.
     (neighbours_of config.graph place.id) in
     rw c.id.ensures
     (subst P (sym near)
-    (near_is_view config.graph c.bound.result (tree_of config) place.id c.is_place.ensures.graph
+    (near_is_view config.graph c.bound.result (tree_of config) place.id c.lemma_is_place.ensures.graph
     c.bound.ensures.positive))
 
 pub returns : goal.returns
@@ -30,11 +30,11 @@ returns g c =
     let place = c.args.place.now in
     let graph = place.config.graph in
     let start = g.P.Application.app.start graph in
-    let short = (position-Some (λ i. i == place.id) graph.ids place.index 0 c.is_place.ensures.place).0 in
+    let short = (position-Some (λ i. i == place.id) graph.ids place.index 0 c.lemma_is_place.ensures.place).0 in
     let started = rw (c.topology.ensures, c.index.ensures.index) at c.in_ok-start.ensures in
     c.new.ensures
     ∙ same_view _ _ _ _ _ _ _ _ _ _ _ _ _ _ c.id.ensures c.bound.ensures.bound c.tree.ensures c.wave.ensures
     (c.in_ok-local.ensures ∙ c.local.ensures)
     (start_is start graph.ids place.index _ short started
-    ∙ ap start (id_at-position graph.ids place.index place.id c.is_place.ensures.place))
+    ∙ ap start (id_at-position graph.ids place.index place.id c.lemma_is_place.ensures.place))
     c.in_ok-near.ensures

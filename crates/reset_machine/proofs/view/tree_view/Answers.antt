@@ -14,7 +14,7 @@ unreachable-requires g c =
     let P : List (ℕ × TreeRegs) → Type 0 = λ near. IsView place.id c.bound.result near in
     let is_view =
     subst P (sym c.requires)
-    (near_is_view place.config.graph c.bound.result (tree_of place.config) place.id c.is_place.ensures.graph
+    (near_is_view place.config.graph c.bound.result (tree_of place.config) place.id c.lemma_is_place.ensures.graph
     c.bound.ensures.positive) in
     none_is_no_some c.in-None.is (c.new.ensures.made.1 (rw c.id.ensures is_view))
 

@@ -9,7 +9,8 @@ returns g c =
     let app = g.P.Application.app in
     let v = c.args.view.now in
     let next =
-    case_taken-next app v c.args.choice.case c.args.choice.with c.reads-reads.result c.neighbours-near.result.now _
+    case_taken-next app v c.args.arguments.case c.args.arguments.with c.reads-reads.result
+    c.neighbours-near.result.now _
     _ _ _ _
     c.reads-reads.ensures c.neighbours-near.ensures.value (ap (λ r. r.session) c.wave.ensures) c.id.ensures c.k.ensures
     c.local.ensures

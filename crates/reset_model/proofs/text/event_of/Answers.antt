@@ -1,125 +1,82 @@
 use Rattle.std.specs.Prelude.{codes}
-use Rattle.std.proofs.Common.{◌≡◌, arith, refl, rules}
-use Rattle.std.proofs.lemmas.Slice.Eq.{text_from_reads}
-use Rattle.reset_model.proofs.EventLines.{both_found, one_found, one_only}
+use Rattle.std.proofs.Common.{ap, refl, rules}
+use Rattle.reset_model.specs.EventCommands.{command_of}
+use Rattle.reset_model.proofs.EventLines.{one_found, one_only}
 use Rattle.reset_model.proofs.text.event_of.Goals as goal
 
-pub returns-in_err-read_number-in-open-clause-only : goal.returns-in_err-read_number-in-open-clause-only
-returns-in_err-read_number-in-open-clause-only c =
-    let is : c.args.command.now ≡ codes "open" =
-    text_from_reads c.args.command.now (codes "open") (omega arith)
-    (omega arith, (omega arith, (omega arith, (omega arith, tt)))) in
+pub returns-in_err-read_number-in-Claim-clause-only : goal.returns-in_err-read_number-in-Claim-clause-only
+returns-in_err-read_number-in-Claim-clause-only c =
     rw c.from_residual.ensures
-    (one_only c.args.command.now c.args.rest.now (codes "open") refl is c.in_err-read_number-in-open.ensures.only)
+    (one_only (command_of c.args.kind) c.args.rest.now (codes "claim") refl (ap command_of c.in-Claim.is)
+    c.in_err-read_number-in-Claim.ensures.only)
 
-pub returns-in_ok-read_number-in-open-clause-found : goal.returns-in_ok-read_number-in-open-clause-found
-returns-in_ok-read_number-in-open-clause-found c =
-    one_found c.args.command.now c.args.rest.now (codes "open") c.in_ok-read_number-in-open.field-0
-    (text_from_reads c.args.command.now (codes "open") (omega arith)
-    (omega arith, (omega arith, (omega arith, (omega arith, tt))))) c.in_ok-read_number-in-open.ensures.found
-    (search rules)
+pub returns-in_ok-read_number-in-Claim-clause-found : goal.returns-in_ok-read_number-in-Claim-clause-found
+returns-in_ok-read_number-in-Claim-clause-found c =
+    one_found (command_of c.args.kind) c.args.rest.now (codes "claim") c.in_ok-read_number-in-Claim.field-0
+    (ap command_of c.in-Claim.is) c.in_ok-read_number-in-Claim.ensures.found (search rules)
 
-pub returns-in_err-read_number-in-join-clause-only : goal.returns-in_err-read_number-in-join-clause-only
-returns-in_err-read_number-in-join-clause-only c =
-    let is : c.args.command.now ≡ codes "join" =
-    text_from_reads c.args.command.now (codes "join") (omega arith)
-    (omega arith, (omega arith, (omega arith, (omega arith, tt)))) in
-    rw c.from_residual-in_err-read_number-in-join.ensures
-    (one_only c.args.command.now c.args.rest.now (codes "join") refl is c.in_err-read_number-in-join.ensures.only)
+pub returns-in_err-read_number-in-Follow-clause-only : goal.returns-in_err-read_number-in-Follow-clause-only
+returns-in_err-read_number-in-Follow-clause-only c =
+    rw c.from_residual-in_err-read_number-in-Follow.ensures
+    (one_only (command_of c.args.kind) c.args.rest.now (codes "follow") refl (ap command_of c.in-Follow.is)
+    c.in_err-read_number-in-Follow.ensures.only)
 
-pub returns-in_ok-read_number-in-join-clause-found : goal.returns-in_ok-read_number-in-join-clause-found
-returns-in_ok-read_number-in-join-clause-found c =
-    one_found c.args.command.now c.args.rest.now (codes "join") c.in_ok-read_number-in-join.field-0
-    (text_from_reads c.args.command.now (codes "join") (omega arith)
-    (omega arith, (omega arith, (omega arith, (omega arith, tt))))) c.in_ok-read_number-in-join.ensures.found
-    (search rules)
+pub returns-in_ok-read_number-in-Follow-clause-found : goal.returns-in_ok-read_number-in-Follow-clause-found
+returns-in_ok-read_number-in-Follow-clause-found c =
+    one_found (command_of c.args.kind) c.args.rest.now (codes "follow") c.in_ok-read_number-in-Follow.field-0
+    (ap command_of c.in-Follow.is) c.in_ok-read_number-in-Follow.ensures.found (search rules)
 
-pub returns-in_err-read_number-in-mend-clause-only : goal.returns-in_err-read_number-in-mend-clause-only
-returns-in_err-read_number-in-mend-clause-only c =
-    let is : c.args.command.now ≡ codes "mend" =
-    text_from_reads c.args.command.now (codes "mend") (omega arith)
-    (omega arith, (omega arith, (omega arith, (omega arith, tt)))) in
-    rw c.from_residual-in_err-read_number-in-mend.ensures
-    (one_only c.args.command.now c.args.rest.now (codes "mend") refl is c.in_err-read_number-in-mend.ensures.only)
+pub returns-in_err-read_number-in-Request-clause-only : goal.returns-in_err-read_number-in-Request-clause-only
+returns-in_err-read_number-in-Request-clause-only c =
+    rw c.from_residual-in_err-read_number-in-Request.ensures
+    (one_only (command_of c.args.kind) c.args.rest.now (codes "request") refl (ap command_of c.in-Request.is)
+    c.in_err-read_number-in-Request.ensures.only)
 
-pub returns-in_ok-read_number-in-mend-clause-found : goal.returns-in_ok-read_number-in-mend-clause-found
-returns-in_ok-read_number-in-mend-clause-found c =
-    one_found c.args.command.now c.args.rest.now (codes "mend") c.in_ok-read_number-in-mend.field-0
-    (text_from_reads c.args.command.now (codes "mend") (omega arith)
-    (omega arith, (omega arith, (omega arith, (omega arith, tt))))) c.in_ok-read_number-in-mend.ensures.found
-    (search rules)
+pub returns-in_ok-read_number-in-Request-clause-found : goal.returns-in_ok-read_number-in-Request-clause-found
+returns-in_ok-read_number-in-Request-clause-found c =
+    one_found (command_of c.args.kind) c.args.rest.now (codes "request") c.in_ok-read_number-in-Request.field-0
+    (ap command_of c.in-Request.is) c.in_ok-read_number-in-Request.ensures.found (search rules)
 
-pub returns-in_err-read_number-in-claim-clause-only : goal.returns-in_err-read_number-in-claim-clause-only
-returns-in_err-read_number-in-claim-clause-only c =
-    let is : c.args.command.now ≡ codes "claim" =
-    text_from_reads c.args.command.now (codes "claim") (omega arith)
-    (omega arith, (omega arith, (omega arith, (omega arith, (omega arith, tt))))) in
-    rw c.from_residual-in_err-read_number-in-claim.ensures
-    (one_only c.args.command.now c.args.rest.now (codes "claim") refl is c.in_err-read_number-in-claim.ensures.only)
+pub returns-in_err-read_number-in-Open-clause-only : goal.returns-in_err-read_number-in-Open-clause-only
+returns-in_err-read_number-in-Open-clause-only c =
+    rw c.from_residual-in_err-read_number-in-Open.ensures
+    (one_only (command_of c.args.kind) c.args.rest.now (codes "open") refl (ap command_of c.in-Open.is)
+    c.in_err-read_number-in-Open.ensures.only)
 
-pub returns-in_ok-read_number-in-claim-clause-found : goal.returns-in_ok-read_number-in-claim-clause-found
-returns-in_ok-read_number-in-claim-clause-found c =
-    one_found c.args.command.now c.args.rest.now (codes "claim") c.in_ok-read_number-in-claim.field-0
-    (text_from_reads c.args.command.now (codes "claim") (omega arith)
-    (omega arith, (omega arith, (omega arith, (omega arith, (omega arith, tt))))))
-    c.in_ok-read_number-in-claim.ensures.found (search rules)
+pub returns-in_ok-read_number-in-Open-clause-found : goal.returns-in_ok-read_number-in-Open-clause-found
+returns-in_ok-read_number-in-Open-clause-found c =
+    one_found (command_of c.args.kind) c.args.rest.now (codes "open") c.in_ok-read_number-in-Open.field-0
+    (ap command_of c.in-Open.is) c.in_ok-read_number-in-Open.ensures.found (search rules)
 
-pub returns-in_err-read_number-in-follow-clause-only : goal.returns-in_err-read_number-in-follow-clause-only
-returns-in_err-read_number-in-follow-clause-only c =
-    let is : c.args.command.now ≡ codes "follow" =
-    text_from_reads c.args.command.now (codes "follow") (omega arith)
-    (omega arith, (omega arith, (omega arith, (omega arith, (omega arith, (omega arith, tt)))))) in
-    rw c.from_residual-in_err-read_number-in-follow.ensures
-    (one_only c.args.command.now c.args.rest.now (codes "follow") refl is
-    c.in_err-read_number-in-follow.ensures.only)
+pub returns-in_err-read_number-in-Join-clause-only : goal.returns-in_err-read_number-in-Join-clause-only
+returns-in_err-read_number-in-Join-clause-only c =
+    rw c.from_residual-in_err-read_number-in-Join.ensures
+    (one_only (command_of c.args.kind) c.args.rest.now (codes "join") refl (ap command_of c.in-Join.is)
+    c.in_err-read_number-in-Join.ensures.only)
 
-pub returns-in_ok-read_number-in-follow-clause-found : goal.returns-in_ok-read_number-in-follow-clause-found
-returns-in_ok-read_number-in-follow-clause-found c =
-    one_found c.args.command.now c.args.rest.now (codes "follow") c.in_ok-read_number-in-follow.field-0
-    (text_from_reads c.args.command.now (codes "follow") (omega arith)
-    (omega arith, (omega arith, (omega arith, (omega arith, (omega arith, (omega arith, tt)))))))
-    c.in_ok-read_number-in-follow.ensures.found (search rules)
+pub returns-in_ok-read_number-in-Join-clause-found : goal.returns-in_ok-read_number-in-Join-clause-found
+returns-in_ok-read_number-in-Join-clause-found c =
+    one_found (command_of c.args.kind) c.args.rest.now (codes "join") c.in_ok-read_number-in-Join.field-0
+    (ap command_of c.in-Join.is) c.in_ok-read_number-in-Join.ensures.found (search rules)
 
-pub returns-in_err-read_number-in-finish-clause-only : goal.returns-in_err-read_number-in-finish-clause-only
-returns-in_err-read_number-in-finish-clause-only c =
-    let is : c.args.command.now ≡ codes "finish" =
-    text_from_reads c.args.command.now (codes "finish") (omega arith)
-    (omega arith, (omega arith, (omega arith, (omega arith, (omega arith, (omega arith, tt)))))) in
-    rw c.from_residual-in_err-read_number-in-finish.ensures
-    (one_only c.args.command.now c.args.rest.now (codes "finish") refl is
-    c.in_err-read_number-in-finish.ensures.only)
+pub returns-in_err-read_number-in-Finish-clause-only : goal.returns-in_err-read_number-in-Finish-clause-only
+returns-in_err-read_number-in-Finish-clause-only c =
+    rw c.from_residual-in_err-read_number-in-Finish.ensures
+    (one_only (command_of c.args.kind) c.args.rest.now (codes "finish") refl (ap command_of c.in-Finish.is)
+    c.in_err-read_number-in-Finish.ensures.only)
 
-pub returns-in_ok-read_number-in-finish-clause-found : goal.returns-in_ok-read_number-in-finish-clause-found
-returns-in_ok-read_number-in-finish-clause-found c =
-    one_found c.args.command.now c.args.rest.now (codes "finish") c.in_ok-read_number-in-finish.field-0
-    (text_from_reads c.args.command.now (codes "finish") (omega arith)
-    (omega arith, (omega arith, (omega arith, (omega arith, (omega arith, (omega arith, tt)))))))
-    c.in_ok-read_number-in-finish.ensures.found (search rules)
+pub returns-in_ok-read_number-in-Finish-clause-found : goal.returns-in_ok-read_number-in-Finish-clause-found
+returns-in_ok-read_number-in-Finish-clause-found c =
+    one_found (command_of c.args.kind) c.args.rest.now (codes "finish") c.in_ok-read_number-in-Finish.field-0
+    (ap command_of c.in-Finish.is) c.in_ok-read_number-in-Finish.ensures.found (search rules)
 
-pub returns-in_err-read_number-in-request-clause-only : goal.returns-in_err-read_number-in-request-clause-only
-returns-in_err-read_number-in-request-clause-only c =
-    let is : c.args.command.now ≡ codes "request" =
-    text_from_reads c.args.command.now (codes "request") (omega arith)
-    (omega arith, (omega arith, (omega arith, (omega arith, (omega arith, (omega arith, (omega arith, tt))))))) in
-    rw c.from_residual-in_err-read_number-in-request.ensures
-    (one_only c.args.command.now c.args.rest.now (codes "request") refl is
-    c.in_err-read_number-in-request.ensures.only)
+pub returns-in_err-read_number-in-Mend-clause-only : goal.returns-in_err-read_number-in-Mend-clause-only
+returns-in_err-read_number-in-Mend-clause-only c =
+    rw c.from_residual-in_err-read_number-in-Mend.ensures
+    (one_only (command_of c.args.kind) c.args.rest.now (codes "mend") refl (ap command_of c.in-Mend.is)
+    c.in_err-read_number-in-Mend.ensures.only)
 
-pub returns-in_ok-read_number-in-request-clause-found : goal.returns-in_ok-read_number-in-request-clause-found
-returns-in_ok-read_number-in-request-clause-found c =
-    one_found c.args.command.now c.args.rest.now (codes "request") c.in_ok-read_number-in-request.field-0
-    (text_from_reads c.args.command.now (codes "request") (omega arith)
-    (omega arith, (omega arith, (omega arith, (omega arith, (omega arith, (omega arith, (omega arith, tt))))))))
-    c.in_ok-read_number-in-request.ensures.found (search rules)
-
-pub returns-in_ok-at-in-adopt-clause-found : goal.returns-in_ok-at-in-adopt-clause-found
-returns-in_ok-at-in-adopt-clause-found c =
-    both_found c.args.command.now c.args.rest.now (codes "adopt") _
-    (text_from_reads c.args.command.now (codes "adopt") (omega arith)
-    (omega arith, (omega arith, (omega arith, (omega arith, (omega arith, tt)))))) c.in_ok-at-in-adopt.ensures.found
-
-pub returns-in_ok-at-in-relay-clause-found : goal.returns-in_ok-at-in-relay-clause-found
-returns-in_ok-at-in-relay-clause-found c =
-    both_found c.args.command.now c.args.rest.now (codes "relay") _
-    (text_from_reads c.args.command.now (codes "relay") (omega arith)
-    (omega arith, (omega arith, (omega arith, (omega arith, (omega arith, tt)))))) c.in_ok-at-in-relay.ensures.found
+pub returns-in_ok-read_number-in-Mend-clause-found : goal.returns-in_ok-read_number-in-Mend-clause-found
+returns-in_ok-read_number-in-Mend-clause-found c =
+    one_found (command_of c.args.kind) c.args.rest.now (codes "mend") c.in_ok-read_number-in-Mend.field-0
+    (ap command_of c.in-Mend.is) c.in_ok-read_number-in-Mend.ensures.found (search rules)

@@ -1,7 +1,7 @@
 use Rattle.std.proofs.Common.{ℕ, List, sym, subst, ◌∙◌}
 use Rattle.std.specs.Prelude.{OnErr, OnOk}
 use Rattle.std.specs.Io.KnownBytes.{Appends}
-use Rattle.action_tables.specs.Written.{AppendsFront}
+use Rattle.action_tables.specs.Written.{AppendsPrefix}
 use Rattle.reset_service.specs.Meaning.{meaning_of}
 use Rattle.reset_service.proofs.Nodes.{alarm_node}
 use Rattle.reset_service.proofs.faults.answer_alarm.Goals as goal
@@ -25,5 +25,5 @@ returns-then-is_node-clause-err g c =
     c.alarm.ensures.found c.alarm.ensures.none in
     let P : List ℕ → Type 0 =
     λ t. OnErr c.put_alarm.result
-    (AppendsFront (g.W.Write.contents c.args.out.now) (g.W.Write.contents c.put_alarm.new.out) t) in
+    (AppendsPrefix (g.W.Write.contents c.args.out.now) (g.W.Write.contents c.put_alarm.new.out) t) in
     subst P (sym text) c.put_alarm.ensures.err

@@ -1,7 +1,7 @@
 use Rattle.std.proofs.Common.{◌≢◌, ℕ, List, subst, sym, ◌∙◌, rules}
 use Rattle.std.specs.Io.KnownBytes.{Appends}
-use Rattle.action_tables.specs.Written.{AppendsFront}
-use Rattle.action_tables.proofs.Fronts.{OnErr-always}
+use Rattle.action_tables.specs.Written.{AppendsPrefix}
+use Rattle.action_tables.proofs.Prefixes.{OnErr-always}
 use Rattle.reset_model.specs.declared.step.StepRefusal.TheVariants.{NoMemory}
 use Rattle.reset_service.specs.Meaning.{meaning_of}
 use Rattle.reset_service.specs.Output.{node_faults_lines}
@@ -15,7 +15,7 @@ returns-in_err-put_faults-in-Ok-clause-err g c =
     faults_node m c.args.config.now c.args.at c.deref.result.now c.in-Ok.ensures.ok.0
     (c.deref.ensures.value ∙ c.in-Ok.ensures.ok.1) in
     let P : List ℕ → Type 0 =
-    λ t. AppendsFront (g.W.Write.contents c.args.out.now) (g.W.Write.contents c.put_faults.new.out) t in
+    λ t. AppendsPrefix (g.W.Write.contents c.args.out.now) (g.W.Write.contents c.put_faults.new.out) t in
     OnErr-always _ _ (subst P (sym text) c.in_err-put_faults-in-Ok.ensures.err)
 
 pub returns-in_ok-put_faults-in-Ok-clause-ok : goal.returns-in_ok-put_faults-in-Ok-clause-ok
@@ -36,7 +36,7 @@ returns-in_err-put_refusal-in-Err g c =
     told_refused c.args.config.now c.args.at (node_faults_lines m c.args.config.now c.args.at) c.in-Err.refusal
     c.in-Err.ensures.err memory in
     let P : List ℕ → Type 0 =
-    λ t. AppendsFront (g.W.Write.contents c.args.out.now) (g.W.Write.contents c.put_refusal.new.out) t in
+    λ t. AppendsPrefix (g.W.Write.contents c.args.out.now) (g.W.Write.contents c.put_refusal.new.out) t in
     record {
       ok = search rules;
       err = OnErr-always _ _ (subst P (sym text) c.in_err-put_refusal-in-Err.ensures.err);

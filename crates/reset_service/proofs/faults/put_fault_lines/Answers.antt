@@ -1,11 +1,11 @@
 use Rattle.std.proofs.Common.{arith}
-use Rattle.action_tables.proofs.Fronts.{OnErr-always}
-use Rattle.action_tables.proofs.Pieces.{AppendsFront-piece}
+use Rattle.action_tables.proofs.Prefixes.{OnErr-always}
+use Rattle.action_tables.proofs.Pieces.{AppendsPrefix-piece}
 use Rattle.reset_service.specs.Output.{fault_line}
 use Rattle.reset_service.proofs.faults.put_fault_lines.Goals as goal
 
 pub returns-in_err-put_fault-clause-err : goal.returns-in_err-put_fault-clause-err
 returns-in_err-put_fault-clause-err g c =
     OnErr-always _ _
-    (AppendsFront-piece _ _ _ fault_line c.args.faults.now c.loop-fault.fault-index _ (omega arith)
+    (AppendsPrefix-piece _ _ _ fault_line c.args.faults.now c.loop-fault.fault-index _ (omega arith)
     c.loop-fault.invariant c.in_err-put_fault.ensures.err)

@@ -1,14 +1,14 @@
 use Rattle.std.specs.Prelude.{codes}
 use Rattle.std.proofs.Common.{length, refl}
 use Rattle.std.specs.List.{flat_map}
-use Rattle.action_tables.proofs.Fronts.{AppendsFront-first, OnErr-always, OnErr-then}
+use Rattle.action_tables.proofs.Prefixes.{AppendsPrefix-first, OnErr-always, OnErr-then}
 use Rattle.reset_service.specs.Output.{fault_line, faults_text, numbered}
 use Rattle.reset_service.proofs.faults.put_faults.Goals as goal
 
 pub returns-in_err-put_fault_lines-clause-err : goal.returns-in_err-put_fault_lines-clause-err
 returns-in_err-put_fault_lines-clause-err g c =
     OnErr-always _ _
-    (AppendsFront-first _ _ (flat_map fault_line c.args.faults.now)
+    (AppendsPrefix-first _ _ (flat_map fault_line c.args.faults.now)
     (numbered (codes "faults ") (length c.args.faults.now)) c.in_err-put_fault_lines.ensures.err)
 
 pub returns-clause-err : goal.returns-clause-err

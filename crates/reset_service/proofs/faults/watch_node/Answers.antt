@@ -1,7 +1,7 @@
-use Rattle.action_tables.proofs.Fronts.{OnErr-always}
+use Rattle.action_tables.proofs.Prefixes.{OnErr-always}
 use Rattle.reset_service.specs.Meaning.{meaning_of}
 use Rattle.reset_service.proofs.Nodes.{told_alarm}
-use Rattle.reset_service.proofs.Watching.{asked_err, asked_ok, quiet_watched, watched_front}
+use Rattle.reset_service.proofs.Watching.{asked_err, asked_ok, quiet_watched, watched_prefix}
 use Rattle.reset_service.proofs.faults.watch_node.Goals as goal
 
 pub returns-in_err-put_alarm-clause-err : goal.returns-in_err-put_alarm-clause-err
@@ -11,7 +11,7 @@ returns-in_err-put_alarm-clause-err g c =
     told_alarm m.app c.args.config.now c.args.at c.alarm-told.result c.requires c.alarm-told.ensures.found
     c.alarm-told.ensures.none in
     OnErr-always _ _
-    (watched_front m c.args.config.now c.args.at c.alarm-told.result is _ _ c.in_err-put_alarm.ensures.err)
+    (watched_prefix m c.args.config.now c.args.at c.alarm-told.result is _ _ c.in_err-put_alarm.ensures.err)
 
 pub returns-in-None-clause-ok : goal.returns-in-None-clause-ok
 returns-in-None-clause-ok g c =

@@ -1,13 +1,13 @@
-use Rattle.action_tables.proofs.Fronts.{OnErr-always}
+use Rattle.action_tables.proofs.Prefixes.{OnErr-always}
 use Rattle.reset_service.specs.Meaning.{meaning_of}
-use Rattle.reset_service.proofs.Disturbing.{drawn_err, drawn_front}
+use Rattle.reset_service.proofs.Disturbing.{drawn_err, drawn_prefix}
 use Rattle.reset_service.proofs.injected.answer_draw.Goals as goal
 
 pub returns-in_err-put_drawn-clause-err : goal.returns-in_err-put_drawn-clause-err
 returns-in_err-put_drawn-clause-err g c =
     let m = meaning_of g.P.Application.app g.P.Application.text g.P.Application.from_text g.P.Application.names in
     OnErr-always _ _
-    (drawn_front m c.args.config.now c.drawn-fault.result _ c.drawn-fault.ensures _ _
+    (drawn_prefix m c.args.config.now c.drawn-fault.result _ c.drawn-fault.ensures _ _
     c.in_err-put_drawn.ensures.err)
 
 pub returns-clause-err : goal.returns-clause-err

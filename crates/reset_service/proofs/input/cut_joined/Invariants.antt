@@ -7,8 +7,8 @@ use Rattle.reset_service.proofs.input.cut_joined.Given as goal
 
 abbrev pub invariant-loop-line : goal.invariant-loop-line
 invariant-loop-line l =
-    (front : List (List ℕ)) × (lines_of l.joined ≡ front ++ lines_of l.rest)
-    × (l.joined ≡ flat_map ended front ++ l.rest) × HasNoSeparator front
+    (prefix : List (List ℕ)) × (lines_of l.joined ≡ prefix ++ lines_of l.rest)
+    × (l.joined ≡ flat_map ended prefix ++ l.rest) × HasNoSeparator prefix
 
 abbrev pub decreases-loop-line : goal.decreases-loop-line
 decreases-loop-line l = length l.rest

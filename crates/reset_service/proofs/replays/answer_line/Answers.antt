@@ -1,5 +1,5 @@
 use Rattle.std.proofs.Common.{refl}
-use Rattle.action_tables.proofs.Fronts.{OnErr-always}
+use Rattle.action_tables.proofs.Prefixes.{OnErr-always}
 use Rattle.reset_service.proofs.CommandOf.{event_asked}
 use Rattle.reset_service.proofs.replays.answer_line.Goals as goal
 

@@ -2,7 +2,7 @@ use Rattle.std.proofs.Common.{Err}
 use Rattle.reset_service.specs.Lines.{lines_of}
 use Rattle.reset_service.specs.Meaning.{meaning_of}
 use Rattle.reset_service.specs.Output.{answers}
-use Rattle.reset_service.proofs.Runs.{ended_run, front_for, short_output}
+use Rattle.reset_service.proofs.Runs.{ended_run, prefix_for, short_output}
 use Rattle.reset_service.proofs.replays.run_script.Goals as goal
 
 pub returns-in-Ok-clause-leaves : goal.returns-in-Ok-clause-leaves
@@ -19,5 +19,5 @@ returns-clause-leaves g c =
     short_output m c.args.purpose c.args.config c.args.script.now (g.W.Write.contents c.args.out.now)
     (g.W.Write.contents c.answer_lines.new.out)
     (Err c.in-Err.stop) c.if-script-gt-MAX_TEXT.false
-    (front_for m c.args.purpose (answers m c.args.config 1 (lines_of c.args.script.now)) _ _ c.in-Err.stop
+    (prefix_for m c.args.purpose (answers m c.args.config 1 (lines_of c.args.script.now)) _ _ c.in-Err.stop
     c.in-Err.ensures.leaves)

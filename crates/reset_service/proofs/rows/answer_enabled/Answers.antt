@@ -1,7 +1,7 @@
 use Rattle.std.proofs.Common.{◌≢◌, ℕ, List, subst, sym, rules}
 use Rattle.std.specs.Io.KnownBytes.{Appends}
-use Rattle.action_tables.specs.Written.{AppendsFront}
-use Rattle.action_tables.proofs.Fronts.{OnErr-always}
+use Rattle.action_tables.specs.Written.{AppendsPrefix}
+use Rattle.action_tables.proofs.Prefixes.{OnErr-always}
 use Rattle.reset_model.specs.declared.step.StepRefusal.TheVariants.{NoMemory}
 use Rattle.reset_service.specs.Meaning.{meaning_of}
 use Rattle.reset_service.specs.Output.{enabled_line}
@@ -13,7 +13,7 @@ returns-in_err-put_enabled-in-Ok-clause-err g c =
     let m = meaning_of g.P.Application.app g.P.Application.text g.P.Application.from_text g.P.Application.names in
     let text = enabled_node m c.args.config.now c.args.at c.in-Ok.rows c.in-Ok.ensures.ok.0 c.in-Ok.ensures.ok.1 in
     let P : List ℕ → Type 0 =
-    λ t. AppendsFront (g.W.Write.contents c.args.out.now) (g.W.Write.contents c.put_enabled.new.out) t in
+    λ t. AppendsPrefix (g.W.Write.contents c.args.out.now) (g.W.Write.contents c.put_enabled.new.out) t in
     OnErr-always _ _ (subst P (sym text) c.in_err-put_enabled-in-Ok.ensures.err)
 
 pub returns-in_ok-put_enabled-in-Ok-clause-ok : goal.returns-in_ok-put_enabled-in-Ok-clause-ok
@@ -32,7 +32,7 @@ returns-in_err-put_refusal-in-Err g c =
     told_refused c.args.config.now c.args.at (enabled_line m c.args.config.now c.args.at) c.in-Err.refusal
     c.in-Err.ensures.err memory in
     let P : List ℕ → Type 0 =
-    λ t. AppendsFront (g.W.Write.contents c.args.out.now) (g.W.Write.contents c.put_refusal.new.out) t in
+    λ t. AppendsPrefix (g.W.Write.contents c.args.out.now) (g.W.Write.contents c.put_refusal.new.out) t in
     record {
       ok = search rules;
       err = OnErr-always _ _ (subst P (sym text) c.in_err-put_refusal-in-Err.ensures.err);

@@ -1,11 +1,11 @@
 use Rattle.std.proofs.Common.{arith}
-use Rattle.action_tables.proofs.Fronts.{OnErr-always}
-use Rattle.action_tables.proofs.Pieces.{AppendsFront-piece}
+use Rattle.action_tables.proofs.Prefixes.{OnErr-always}
+use Rattle.action_tables.proofs.Pieces.{AppendsPrefix-piece}
 use Rattle.reset_service.specs.Output.{spaced}
 use Rattle.reset_service.proofs.rows.put_ids.Goals as goal
 
 pub returns-in_err-put_id-clause-err : goal.returns-in_err-put_id-clause-err
 returns-in_err-put_id-clause-err g c =
     OnErr-always _ _
-    (AppendsFront-piece _ _ _ spaced c.args.ids.now c.loop-id.id-index _ (omega arith) c.loop-id.invariant
+    (AppendsPrefix-piece _ _ _ spaced c.args.ids.now c.loop-id.id-index _ (omega arith) c.loop-id.invariant
     c.in_err-put_id.ensures.err)

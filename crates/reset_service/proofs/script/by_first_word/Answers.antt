@@ -1,6 +1,7 @@
-use Rattle.reset_model.proofs.WordLines.{line_found, no_line_found}
+use Rattle.reset_model.specs.EventText.{event_words}
+use Rattle.reset_model.proofs.WordLines.{line-words, line_found, no_line_found}
 use Rattle.reset_service.specs.Script.{command_words}
-use Rattle.reset_service.proofs.CommandLines.{words_of-plain_line}
+use Rattle.reset_service.proofs.CommandLines.{no_command, words_of-plain_line}
 use Rattle.reset_service.proofs.script.by_first_word.Goals as goal
 
 pub returns-in-None-clause-found : goal.returns-in-None-clause-found
@@ -12,11 +13,14 @@ returns-in-None-clause-only c =
     no_line_found command_words words_of-plain_line c.args.line.now _ c.by_one_word.result c.in-None.ensures.only
     c.by_one_word.ensures.only
 
-pub returns-in-Some-clause-found : goal.returns-in-Some-clause-found
-returns-in-Some-clause-found c =
-    line_found command_words c.args.line.now _ _ c.in-Some.ensures.found c.by_more_words.ensures.found
+pub returns-in-Some-2-clause-found : goal.returns-in-Some-2-clause-found
+returns-in-Some-2-clause-found c =
+    line_found command_words c.args.line.now _ _ c.in-Some.ensures.found c.question_of.ensures.found
 
-pub returns-in-Some-clause-only : goal.returns-in-Some-clause-only
-returns-in-Some-clause-only c =
+pub returns-in-Some-2-clause-only : goal.returns-in-Some-2-clause-only
+returns-in-Some-2-clause-only c =
     no_line_found command_words words_of-plain_line c.args.line.now _ _ c.in-Some.ensures.found
-    c.by_more_words.ensures.only
+    (no_command c.in-Some.word.now c.in-Some.rest.now _
+    (λ e fits is. c.in_default.ensures.only e fits
+    (line-words c.args.line.now (event_words e) (c.in-Some.ensures.found ∙ is)))
+    c.question_of.ensures.only)

@@ -1,6 +1,6 @@
 use Rattle.std.specs.Prelude.{codes}
 use Rattle.std.proofs.Common.{if◌then◌else◌, sym}
-use Rattle.action_tables.proofs.Fronts.{AppendsFront-first, OnErr-always, OnErr-then, OnOk-then}
+use Rattle.action_tables.proofs.Prefixes.{AppendsPrefix-first, OnErr-always, OnErr-then, OnOk-then}
 use Rattle.reset_model.specs.Configuration.{local_of}
 use Rattle.history.specs.HistoryText.{ended}
 use Rattle.reset_service.specs.Meaning.{meaning_of}
@@ -17,7 +17,7 @@ returns-in_err-put_newest_head-clause-err g c =
     let local =
     ended (if has_joined config.graph (wave_of config) c.args.id then m.text (local_of m.app config c.args.id) else
     codes "unjoined") in
-    OnErr-always _ _ (AppendsFront-first _ _ (newest_head c.args.id) local c.in_err-put_newest_head.ensures.err)
+    OnErr-always _ _ (AppendsPrefix-first _ _ (newest_head c.args.id) local c.in_err-put_newest_head.ensures.err)
 
 pub returns-in-Some-clause-ok : goal.returns-in-Some-clause-ok
 returns-in-Some-clause-ok g c =

@@ -1,13 +1,13 @@
 use Rattle.std.specs.Prelude.{codes}
 use Rattle.std.proofs.Common.{refl}
-use Rattle.action_tables.proofs.Fronts.{AppendsFront-first, OnErr-always, OnErr-then}
+use Rattle.action_tables.proofs.Prefixes.{AppendsPrefix-first, OnErr-always, OnErr-then}
 use Rattle.history.specs.HistoryText.{ended}
 use Rattle.reset_service.proofs.show.put_local.Goals as goal
 
 pub returns-in_err-show-clause-err : goal.returns-in_err-show-clause-err
 returns-in_err-show-clause-err g c =
     OnErr-always _ _
-    (AppendsFront-first _ _ (g.P.Application.text c.args.local.now) (codes "\n") c.in_err-show.ensures.err)
+    (AppendsPrefix-first _ _ (g.P.Application.text c.args.local.now) (codes "\n") c.in_err-show.ensures.err)
 
 pub returns-clause-err : goal.returns-clause-err
 returns-clause-err g c =

@@ -1,8 +1,8 @@
 use Rattle.std.proofs.Common.{◌≡◌, ◌<◌, ◌∙◌, ap, subst, List, ℕ, length, get_or}
 use Rattle.topology.specs.Graph.{Graph}
-use Rattle.action_tables.specs.Written.{AppendsFront}
-use Rattle.action_tables.proofs.Fronts.{OnErr-always}
-use Rattle.action_tables.proofs.Pieces.{AppendsFront-piece}
+use Rattle.action_tables.specs.Written.{AppendsPrefix}
+use Rattle.action_tables.proofs.Prefixes.{OnErr-always}
+use Rattle.action_tables.proofs.Pieces.{AppendsPrefix-piece}
 use Rattle.reset_service.specs.Meaning.{meaning_of}
 use Rattle.reset_service.specs.Output.{at_node, shown}
 use Rattle.reset_service.proofs.Nodes.{told_at}
@@ -17,12 +17,12 @@ returns-in_err-show_node-clause-err g c =
     c.ids-id-items.ensures ∙ ap (λ (t : Graph). t.ids) c.topology.ensures in
     let inside : i < length config.graph.ids = subst (λ (ids : List ℕ). i < length ids) items c.loop-id-test.true in
     let P : List ℕ → Type 0 =
-    λ ids. AppendsFront (g.W.Write.contents c.loop-id.out) (g.W.Write.contents c.show_node.new.out)
+    λ ids. AppendsPrefix (g.W.Write.contents c.loop-id.out) (g.W.Write.contents c.show_node.new.out)
     (at_node config (get_or ids i 0) (shown m config (get_or ids i 0))) in
     let Q : List ℕ → Type 0 =
-    λ t. AppendsFront (g.W.Write.contents c.loop-id.out) (g.W.Write.contents c.show_node.new.out) t in
+    λ t. AppendsPrefix (g.W.Write.contents c.loop-id.out) (g.W.Write.contents c.show_node.new.out) t in
     OnErr-always _ _
-    (AppendsFront-piece (g.W.Write.contents c.args.out.now) (g.W.Write.contents c.loop-id.out)
+    (AppendsPrefix-piece (g.W.Write.contents c.args.out.now) (g.W.Write.contents c.loop-id.out)
     (g.W.Write.contents c.show_node.new.out) (shown m config) config.graph.ids i 0 inside
     c.loop-id.invariant
     (subst Q (told_at config (shown m config) i inside) (subst P items c.in_err-show_node.ensures.err)))

@@ -1,9 +1,9 @@
 use Rattle.std.proofs.Common.{◌≡◌, ◌<◌, ◌∙◌, ap, subst, List, ℕ, length, get_or}
 use Rattle.std.specs.Io.KnownBytes.{Appends}
 use Rattle.topology.specs.Graph.{Graph}
-use Rattle.action_tables.specs.Written.{AppendsFront}
-use Rattle.action_tables.proofs.Fronts.{OnErr-always}
-use Rattle.action_tables.proofs.Pieces.{Appends-piece, AppendsFront-piece}
+use Rattle.action_tables.specs.Written.{AppendsPrefix}
+use Rattle.action_tables.proofs.Prefixes.{OnErr-always}
+use Rattle.action_tables.proofs.Pieces.{Appends-piece, AppendsPrefix-piece}
 use Rattle.reset_service.specs.Meaning.{meaning_of}
 use Rattle.reset_service.specs.Output.{newest_line}
 use Rattle.reset_service.proofs.show.show_newest.Goals as goal
@@ -17,10 +17,10 @@ returns-in_err-newest_of-clause-err g c =
     c.ids-id-items.ensures ∙ ap (λ (t : Graph). t.ids) c.topology.ensures in
     let inside : i < length config.graph.ids = subst (λ (ids : List ℕ). i < length ids) items c.loop-id-test.true in
     let P : List ℕ → Type 0 =
-    λ ids. AppendsFront (g.W.Write.contents c.loop-id.out) (g.W.Write.contents c.newest_of.new.out)
+    λ ids. AppendsPrefix (g.W.Write.contents c.loop-id.out) (g.W.Write.contents c.newest_of.new.out)
     (newest_line m config (get_or ids i 0)) in
     OnErr-always _ _
-    (AppendsFront-piece (g.W.Write.contents c.args.out.now) (g.W.Write.contents c.loop-id.out)
+    (AppendsPrefix-piece (g.W.Write.contents c.args.out.now) (g.W.Write.contents c.loop-id.out)
     (g.W.Write.contents c.newest_of.new.out) (newest_line m config) config.graph.ids i 0 inside
     c.loop-id.invariant (subst P items c.in_err-newest_of.ensures.err))
 

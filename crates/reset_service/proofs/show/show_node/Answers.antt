@@ -1,6 +1,6 @@
 use Rattle.std.proofs.Common.{List, ℕ, subst, sym}
-use Rattle.action_tables.specs.Written.{AppendsFront}
-use Rattle.action_tables.proofs.Fronts.{AppendsFront-first, OnErr-always, OnErr-then}
+use Rattle.action_tables.specs.Written.{AppendsPrefix}
+use Rattle.action_tables.proofs.Prefixes.{AppendsPrefix-first, OnErr-always, OnErr-then}
 use Rattle.history.specs.HistoryText.{ended}
 use Rattle.reset_service.specs.Meaning.{meaning_of}
 use Rattle.reset_service.specs.Output.{node_head, shown}
@@ -17,8 +17,8 @@ returns-in_err-put_head-in-Some-clause-err g c =
     shown_node m c.args.config.now c.args.id c.in-Some.tree c.in-Some.wave c.in-Some.local.now at.0 at.1 at.2 at.3
     in
     let P : List ℕ → Type 0 =
-    λ t. AppendsFront (g.W.Write.contents c.args.out.now) (g.W.Write.contents c.put_head.new.out) t in
-    OnErr-always _ _ (subst P (sym is) (AppendsFront-first _ _ head local c.in_err-put_head-in-Some.ensures.err))
+    λ t. AppendsPrefix (g.W.Write.contents c.args.out.now) (g.W.Write.contents c.put_head.new.out) t in
+    OnErr-always _ _ (subst P (sym is) (AppendsPrefix-first _ _ head local c.in_err-put_head-in-Some.ensures.err))
 
 pub returns-in_ok-put_head-in-Some-clause-err : goal.returns-in_ok-put_head-in-Some-clause-err
 returns-in_ok-put_head-in-Some-clause-err g c =

@@ -1,13 +1,13 @@
 use Rattle.std.proofs.Common.{length, refl}
 use Rattle.std.specs.List.{flat_map}
-use Rattle.action_tables.proofs.Fronts.{AppendsFront-first, OnErr-always, OnErr-then}
+use Rattle.action_tables.proofs.Prefixes.{AppendsPrefix-first, OnErr-always, OnErr-then}
 use Rattle.reset_service.specs.Verified.{counts_line, report_line, verified_text}
 use Rattle.reset_service.proofs.verified.put_summary.Goals as goal
 
 pub returns-in_err-put_reports-clause-err : goal.returns-in_err-put_reports-clause-err
 returns-in_err-put_reports-clause-err g c =
     OnErr-always _ _
-    (AppendsFront-first _ _ (flat_map report_line c.args.reports.now)
+    (AppendsPrefix-first _ _ (flat_map report_line c.args.reports.now)
     (counts_line c.args.entries (length c.args.reports.now)) c.in_err-put_reports.ensures.err)
 
 pub returns-clause-err : goal.returns-clause-err

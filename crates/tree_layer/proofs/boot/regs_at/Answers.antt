@@ -8,8 +8,8 @@ use Rattle.tree_layer.proofs.boot.regs_at.Goals as goal
 pub returns : goal.returns
 returns c =
     let g = c.args.topology.now in
-    let graph = c.is_graph.ensures.graph in
-    let connected = c.is_graph.ensures.connected in
+    let graph = c.lemma_is_graph.ensures.graph in
+    let connected = c.lemma_is_graph.ensures.connected in
     let near = c.neighbours.result.now in
     let root : c.get-root.result ≡ greatest g = c.get-root.ensures.number ∙ c.greatest.ensures in
     elim c.match-nearer_among.branch [

@@ -17,7 +17,7 @@ invariant_of-self-in-Ok-enter_plan g c =
     let before = c.self.invariant in
     let kept = ap length c.make_room.ensures.same in
     let roomy = c.make_room-2.ensures.played book.log.opening.value es before.0 in
-    let line = rw c.event-event.ensures at c.step_has_line.ensures in
+    let line = rw c.event-event.ensures at c.lemma_step_has_line.ensures in
     let more : entries_of c.push.new.self.segments ≡ es ++ Step c.args.plan.event ∷ [] =
     c.push.ensures.entries
     ∙ ap (λ l. l ++ Step c.event-event.result ∷ []) c.make_room.ensures.same

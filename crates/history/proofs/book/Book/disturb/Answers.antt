@@ -12,7 +12,8 @@ invariant_of-self-in-Ok g c =
     let es = entries_of book.log.segments in
     let before = c.self.invariant in
     let kept = ap length c.make_room.ensures.same in
-    let line = c.fault_has_line.ensures book.player.config c.enter_fault.new.self.config c.in-Ok.ensures.outcome in
+    let line =
+    c.lemma_fault_has_line.ensures book.player.config c.enter_fault.new.self.config c.in-Ok.ensures.outcome in
     let more : entries_of c.push.new.self.segments ≡ es ++ Disturbed c.args.fault ∷ [] =
     c.push.ensures.entries ∙ ap (λ l. l ++ Disturbed c.args.fault ∷ []) c.make_room.ensures.same in
     let opening : c.push.new.self.opening.value ≡ book.log.opening.value =

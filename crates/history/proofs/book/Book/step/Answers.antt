@@ -19,6 +19,6 @@ invariant_of-self-in-Ok g c =
       rw (more, opening) (c.in-Ok.ensures.played book.log.opening.value es before.0 (omega (arith, kept))),
       rw more (omega (arith, length_push es (Step c.args.event))),
       before.2,
-      rw more (All-push HasLine es (Step c.args.event) before.3 c.step_has_line.ensures),
+      rw more (All-push HasLine es (Step c.args.event) before.3 c.lemma_step_has_line.ensures),
       c.push.ensures.log,
     )

@@ -3,7 +3,7 @@ use Rattle.std.proofs.lemmas.List.{length-take-le}
 use Rattle.history.specs.Entries.{replayed}
 use Rattle.history.specs.Segments.{entries_of}
 use Rattle.history.proofs.Checkpoints.{checkpoint_before, same_end}
-use Rattle.history.proofs.Pieces.{piece_front, piece_long}
+use Rattle.history.proofs.Pieces.{piece_prefix, piece_long}
 use Rattle.history.proofs.Replays.{allowed_between, replayed_between}
 use Rattle.history.proofs.log.Log.config_before.Goals as goal
 
@@ -24,8 +24,8 @@ replay-requires-after_bounds g c κs within =
     let here = c.in_ok-checkpoint.checkpoint in
     let at = checkpoint_before app from_text log.opening.value c.index.result.now es log.checkpoints.items index
     c.requires.log.checkpoints c.requires.inside c.index.ensures in
-    let front = piece_front es c.segment.result.now index c.segment.ensures in
-    subst (λ xs. IsSome (replayed app from_text here xs)) (sym front)
+    let prefix = piece_prefix es c.segment.result.now index c.segment.ensures in
+    subst (λ xs. IsSome (replayed app from_text here xs)) (sym prefix)
     (allowed_between app from_text log.opening.value here es from (index % 1024) c.requires.run
     (at ∙ ap (λ d. Some d) (sym c.in_ok-checkpoint.ensures)))
 
@@ -40,7 +40,7 @@ returns g c =
     let here = c.in_ok-checkpoint.checkpoint in
     let at = checkpoint_before app from_text log.opening.value c.index.result.now es log.checkpoints.items index
     c.requires.log.checkpoints c.requires.inside c.index.ensures in
-    let front = piece_front es c.segment.result.now index c.segment.ensures in
+    let prefix = piece_prefix es c.segment.result.now index c.segment.ensures in
     let whole = replayed_between app from_text log.opening.value here es from (index % 1024) index
     (at ∙ ap (λ d. Some d) (sym c.in_ok-checkpoint.ensures)) (omega arith) in
-    same_end _ _ c.replay.result (whole ∙ ap (replayed app from_text here) (sym front)) c.replay.ensures
+    same_end _ _ c.replay.result (whole ∙ ap (replayed app from_text here) (sym prefix)) c.replay.ensures

@@ -5,5 +5,5 @@ pub returns-in-Ok-clause-outcome : goal.returns-in-Ok-clause-outcome
 returns-in-Ok-clause-outcome g c =
     let place = rw c.self.view_is at c.in-Ok.ensures.place in
     let exact = rw c.self.view_is at c.in-Ok.ensures.exact in
-    local_outcome c.args.self.now c.set_local.new.self c.args.at _ place g.P.Application.app c.args.choice.case
-    c.args.choice.with _ exact c.set_local.ensures
+    local_outcome c.args.self.now c.set_local.new.self c.args.at _ place g.P.Application.app c.args.arguments.case
+    c.args.arguments.with _ exact c.set_local.ensures

@@ -5,7 +5,7 @@ use Rattle.reset_machine.proofs.config.Config.boot.Goals as goal
 
 pub returns-clause-tree_picture : goal.returns-clause-tree_picture
 returns-clause-tree_picture g c =
-    boot_tree_picture g.P.Application.app c.args.topology c.in_ok-nodes.nodes c.is_graph.ensures.graph
+    boot_tree_picture g.P.Application.app c.args.topology c.in_ok-nodes.nodes c.lemma_is_graph.ensures.graph
     c.in_ok-nodes.ensures.ok
 
 pub returns-clause-wave_picture : goal.returns-clause-wave_picture
@@ -17,7 +17,7 @@ returns-clause-sound g c =
     let app = g.P.Application.app in
     let nodes = c.in_ok-nodes.nodes in
     let same = sym c.in_ok-nodes.ensures.ok.graph in
-    pictures_sound nodes (subst IsGraph same c.is_graph.ensures.graph)
-    (subst IsConnected same c.is_graph.ensures.connected)
-    (boot_tree_picture app c.args.topology nodes c.is_graph.ensures.graph c.in_ok-nodes.ensures.ok)
+    pictures_sound nodes (subst IsGraph same c.lemma_is_graph.ensures.graph)
+    (subst IsConnected same c.lemma_is_graph.ensures.connected)
+    (boot_tree_picture app c.args.topology nodes c.lemma_is_graph.ensures.graph c.in_ok-nodes.ensures.ok)
     (boot_wave_picture app c.args.topology nodes c.in_ok-nodes.ensures.ok)

@@ -18,7 +18,8 @@ returns-clause-ok g c =
     let is =
     put-planned app now c.args.plan.view c.args.plan.event c.into_effect.result c.args.plan.reply seen
     c.into_effect.ensures ∙ ap₂ (λ d r. Ok (d, r)) (sym written) (sym c.reply-reply.ensures) in (
-      answer_step app now c.write.new.self c.args.plan.event c.is_graph.ensures.graph c.is_graph.ensures.shaped
+      answer_step app now c.write.new.self c.args.plan.event c.lemma_is_graph.ensures.graph
+          c.lemma_is_graph.ensures.shaped
           (Ok c.reply-reply.result) is,
       c.reply-reply.ensures,
     )
@@ -39,9 +40,9 @@ returns-clause-lawful g c =
     let now = c.args.self.now in
     let new = c.write.new.self in
     let e = c.args.plan.event in
-    let graph = c.is_graph.ensures.graph in
-    let whole = c.is_graph.ensures.connected in
-    let shaped = c.is_graph.ensures.shaped in
+    let graph = c.lemma_is_graph.ensures.graph in
+    let whole = c.lemma_is_graph.ensures.connected in
+    let shaped = c.lemma_is_graph.ensures.shaped in
     let seen = subst (IsSeen app now) c.seen_view.ensures c.in-Some.ensures.seen in
     let at = at_id now now _ _ c.in-Some.ensures.place ∙ ap (λ v. v.id) c.seen_view.ensures in
     let written = c.write.ensures ∙ ap (λ i. after_effect now i c.into_effect.result) at in

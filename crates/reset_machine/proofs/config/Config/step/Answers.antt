@@ -13,9 +13,9 @@ returns-in-Act g c =
     let new = c.act.new.self in
     let e = c.args.event in
     let r = c.act.result in
-    let graph = c.is_graph.ensures.graph in
-    let whole = c.is_graph.ensures.connected in
-    let shaped = c.is_graph.ensures.shaped in
+    let graph = c.lemma_is_graph.ensures.graph in
+    let whole = c.lemma_is_graph.ensures.connected in
+    let shaped = c.lemma_is_graph.ensures.shaped in
     let is =
     act_is_outcome app now new e graph c.in-Act.at c.in-Act.case c.in-Act.with c.in-Act.is r c.act.ensures.outcome
     in
@@ -40,9 +40,9 @@ returns-in_default g c =
     let new = c.fire.new.self in
     let e = c.args.event in
     let r = c.fire.result in
-    let graph = c.is_graph.ensures.graph in
-    let whole = c.is_graph.ensures.connected in
-    let shaped = c.is_graph.ensures.shaped in
+    let graph = c.lemma_is_graph.ensures.graph in
+    let whole = c.lemma_is_graph.ensures.connected in
+    let shaped = c.lemma_is_graph.ensures.shaped in
     let is = row_is_outcome app now new e graph (no_act e c.in_default.not-Act) r c.fire.ensures.outcome in
     record {
       ok = answer_step app now new e graph shaped r is;

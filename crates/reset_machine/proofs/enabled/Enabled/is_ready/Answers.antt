@@ -1,7 +1,7 @@
 use Rattle.std.proofs.Common.{◌≡◌, ◌||◌, ◌∙◌, sym, ap, nat_lt, cond, length, arith}
 use Rattle.std.proofs.lemmas.Bool.{lt-ltb, le-ltb}
 use Rattle.action_tables.specs.Numbers.{is_among}
-use Rattle.reset_machine.proofs.CaseChoices.{or_left, or_right}
+use Rattle.reset_machine.proofs.CaseArguments.{or_left, or_right}
 use Rattle.reset_machine.proofs.Readiness.{work_counted, or_true, or_false}
 use Rattle.reset_machine.proofs.enabled.Enabled.is_ready.Goals.{then-count-gt0, else-count-gt0}
 use Rattle.reset_machine.proofs.enabled.Enabled.is_ready.Goals as goal
@@ -22,7 +22,7 @@ returns-then-count-count_of c =
           ∙ or_false trees waves none
     ] in
     or_left c.if-count-gt0.value trees waves (nat_lt 0 (length rows.act)) counted c.if-count-count_of.true
-    ∙ sym (work_counted rows.tree rows.wave rows.act (λ n. is_among n rows.wave) c.is_listed.ensures)
+    ∙ sym (work_counted rows.tree rows.wave rows.act (λ n. is_among n rows.wave) c.lemma_is_listed.ensures)
 
 pub returns-else-count-count_of : goal.returns-else-count-count_of
 returns-else-count-count_of c =
@@ -41,4 +41,4 @@ returns-else-count-count_of c =
     ] in
     ap (nat_lt 0) c.count-else-count-count_of.ensures
     ∙ or_right c.if-count-gt0.value trees waves (nat_lt 0 (length rows.act)) counted c.if-count-count_of.false
-    ∙ sym (work_counted rows.tree rows.wave rows.act (λ n. is_among n rows.wave) c.is_listed.ensures)
+    ∙ sym (work_counted rows.tree rows.wave rows.act (λ n. is_among n rows.wave) c.lemma_is_listed.ensures)

@@ -11,5 +11,5 @@ returns g c =
     λ xs. record { graph = i.topology; trees = i.trees.items; waves = i.waves.items; locals = xs } in
     rw (← c.self.view_is)
     (ap with (sym
-    (put_at-index i.topology.ids i.locals.items c.args.index c.args.local c.is_graph.ensures.graph.ascending
+    (put_at-index i.topology.ids i.locals.items c.args.index c.args.local c.lemma_is_graph.ensures.graph.ascending
     c.self.invariant.0.locals low)))

@@ -12,5 +12,5 @@ returns g c =
     λ xs. record { graph = i.topology; trees = xs; waves = i.waves.items; locals = i.locals.items } in
     rw (← c.self.view_is)
     (ap with (sym
-    (put_at-index i.topology.ids i.trees.items c.args.index c.args.regs c.is_graph.ensures.graph.ascending
+    (put_at-index i.topology.ids i.trees.items c.args.index c.args.regs c.lemma_is_graph.ensures.graph.ascending
     c.self.invariant.0.trees low)))

@@ -10,4 +10,4 @@ returns g c =
     let read = rw c.locals.ensures.value at c.index-locals-index.is in
     rw (← c.self.view_is)
     (sym (read_at-place (g.P.Application.app.start now.graph (slice_index ids c.args.index)) ids now.locals
-    c.args.index _ c.is_graph.ensures.graph.ascending c.locals.ensures.shaped.locals short read))
+    c.args.index _ c.lemma_is_graph.ensures.graph.ascending c.locals.ensures.shaped.locals short read))

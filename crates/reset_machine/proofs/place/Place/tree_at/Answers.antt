@@ -8,4 +8,4 @@ returns g c =
     let short = rw (← c.self.view_is) at c.requires in
     rw (← c.self.view_is, c.trees.ensures.value)
     (sym (value_at-place (record { root = 0; father = 0; dist = 0 }) now.graph.ids now.trees c.args.index
-    c.is_graph.ensures.graph.ascending c.trees.ensures.shaped.trees short))
+    c.lemma_is_graph.ensures.graph.ascending c.trees.ensures.shaped.trees short))

@@ -9,4 +9,4 @@ returns g c =
     let short = rw (← c.self.view_is) at c.requires in
     rw (← c.self.view_is, c.waves.ensures.value)
     (sym (value_at-place (record { phase = Normal; session = 0 }) now.graph.ids now.waves c.args.index
-    c.is_graph.ensures.graph.ascending c.waves.ensures.shaped.waves short))
+    c.lemma_is_graph.ensures.graph.ascending c.waves.ensures.shaped.waves short))

@@ -19,6 +19,6 @@ returns c =
     take_all c.loop-near.near-index near (omega (arith, c.loop-near-test.false)) in
     let doubts = subst (λ (ns : List ℕ). DoubtsEach c.args.self.now (c.args.node ∷ ns) c.loop-near.self) all
     c.loop-near.invariant in
-    doubts_around c.args.topology.now c.args.self.now c.loop-near.self c.args.node c.is_graph.ensures.graph
-    c.is_standing.ensures c.requires.node c.requires.count near c.neighbours-near-items.ensures.ids
+    doubts_around c.args.topology.now c.args.self.now c.loop-near.self c.args.node c.lemma_is_graph.ensures.graph
+    c.lemma_is_standing.ensures c.requires.node c.requires.count near c.neighbours-near-items.ensures.ids
     c.neighbours-near-items.ensures.within doubts
