@@ -62,7 +62,8 @@ only_number w n is large = read_only w (λ digits. omega (arith, is, large))
 -- no such number has more digits
 pub too_long : (w : List ℕ) → 10 < length w → (n : ℕ) → n < 2 ^ 32 → w ≡ decimal n → ⊥
 too_long w long n small is =
-    omega (arith, long, ap length is, length-decimal-le 10 n (omega arith) (omega (arith, small)) (omega (arith, small)))
+    let short = length-decimal-le 10 n (omega arith) (omega (arith, small)) (omega (arith, small)) in
+    omega (arith, long, ap length is, short)
 
 -- nor bytes that aren't digits
 pub no_digits : (w : List ℕ) → (AllDigits 10 w → ⊥) → (n : ℕ) → n < 2 ^ 32 → w ≡ decimal n → ⊥

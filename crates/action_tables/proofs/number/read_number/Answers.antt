@@ -1,5 +1,6 @@
 use Rattle.std.proofs.Common.{arith, subst}
-use Rattle.action_tables.proofs.NumberWords.{IsEmptyOrPadded, decimal_plain, found_number, no_digits, only_number, too_long}
+use Rattle.action_tables.proofs.NumberWords.{IsEmptyOrPadded, decimal_plain, found_number, no_digits, only_number}
+use Rattle.action_tables.proofs.NumberWords.{too_long}
 use Rattle.action_tables.proofs.number.read_number.Goals as goal
 
 pub returns-then-word-gt-MAX_DIGITS-clause-only : goal.returns-then-word-gt-MAX_DIGITS-clause-only

@@ -36,7 +36,8 @@ returns-then-not-branch-clause-err c =
     let earlier : Contains (ordered_links (take k links)) (min l.0 l.1, max l.0 l.1) =
     subst₂ (λ a b. Contains (ordered_links (take k links)) (min a b, max a b)) c.index_among-i.ensures.value
     c.index_among-j.ensures.value
-    (link_repeated ids c.lemma_are_ids.ensures.ascending (take k links) (rows_of c.loop-a.near) (rows_of c.link.new.near)
+    (link_repeated ids c.lemma_are_ids.ensures.ascending
+    (take k links) (rows_of c.loop-a.near) (rows_of c.link.new.near)
     c.loop-a.invariant i j c.index_among-i.ensures.within c.index_among-j.ensures.within put) in
     let repeat : IsFirstRepeat (ordered_links links) (min l.0 l.1, max l.0 l.1) =
     first_repeat_at (ordered_links links) (ordered_links (take k links)) (ordered_links (drop (k + 1) links))
