@@ -44,6 +44,7 @@ reading-list:
 # valgrind and GNU time beside.
 bench: build
 	@bash bench/run build/reset-service
+	@bash bench/run-book
 
 # Compares the program with a second one, written in Python, on random texts: make fuzz N=100000 SEED=s JOBS=2
 fuzz: build
