@@ -1,3 +1,4 @@
+use Rattle.std.proofs.Common.{◌∙◌}
 use Rattle.reset_model.specs.EventText.{event_words}
 use Rattle.reset_model.proofs.WordLines.{line-words, line_found, no_line_found}
 use Rattle.reset_service.specs.Script.{command_words}
@@ -13,14 +14,14 @@ returns-in-None-clause-only c =
     no_line_found command_words words_of-plain_line c.args.line.now _ c.by_one_word.result c.in-None.ensures.only
     c.by_one_word.ensures.only
 
-pub returns-in-Some-2-clause-found : goal.returns-in-Some-2-clause-found
-returns-in-Some-2-clause-found c =
-    line_found command_words c.args.line.now _ _ c.in-Some.ensures.found c.question_of.ensures.found
+pub returns-in-Some-split_word-clause-found : goal.returns-in-Some-split_word-clause-found
+returns-in-Some-split_word-clause-found c =
+    line_found command_words c.args.line.now _ _ c.in-Some-split_word.ensures.found c.question_of.ensures.found
 
-pub returns-in-Some-2-clause-only : goal.returns-in-Some-2-clause-only
-returns-in-Some-2-clause-only c =
-    no_line_found command_words words_of-plain_line c.args.line.now _ _ c.in-Some.ensures.found
-    (no_command c.in-Some.word.now c.in-Some.rest.now _
+pub returns-in-Some-split_word-clause-only : goal.returns-in-Some-split_word-clause-only
+returns-in-Some-split_word-clause-only c =
+    no_line_found command_words words_of-plain_line c.args.line.now _ _ c.in-Some-split_word.ensures.found
+    (no_command c.in-Some-split_word.word.now c.in-Some-split_word.rest.now _
     (λ e fits is. c.in_default.ensures.only e fits
-    (line-words c.args.line.now (event_words e) (c.in-Some.ensures.found ∙ is)))
+    (line-words c.args.line.now (event_words e) (c.in-Some-split_word.ensures.found ∙ is)))
     c.question_of.ensures.only)
