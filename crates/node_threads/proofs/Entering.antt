@@ -1,6 +1,6 @@
 -- What a step of a book leaves: the same graph, one entry more, and a receipt of it.
 use Rattle.std.proofs.Common.{◌≡◌, ℕ, ◌+◌, ◌≤◌, ◌==◌, Bool, true, false, not, cond, List, [], ◌∷◌, ◌++◌, length, drop}
-use Rattle.std.proofs.Common.{Some, None, Result, Ok, Err, IfOk, MatchResult, refl, subst}
+use Rattle.std.proofs.Common.{Option, Some, None, Result, Ok, Err, IfOk, IfErr, OnOk, MatchResult, refl, subst}
 use Rattle.std.proofs.lemmas.List.{drop-append-le}
 use Rattle.std.proofs.lemmas.List.Folds.{list_all-append}
 use Rattle.std.specs.List.{list_all, list_any}
@@ -20,7 +20,7 @@ use Rattle.history.specs.declared.entry.Receipt.{Receipt}
 use Rattle.history.specs.declared.refusal.BookRefusal.{BookRefusal}
 use Rattle.history.specs.declared.refusal.BookRefusal.TheVariants.{BookFull}
 use Rattle.history.specs.Book.{BookView, book_outcome, booked, is_full, with_entry}
-use Rattle.node_threads.specs.Locked.{is_step}
+use Rattle.node_threads.specs.Locked.{IsLocked, WasLocked, is_step}
 
 -- ---- the graph stays
 
@@ -100,3 +100,19 @@ steps_more mark es e within steps =
 pub if_ok : {X E : Type 0} (r : Result X E) (P Q : X → Type 0) → ((x : X) → P x → Q x) → IfOk r P → IfOk r Q
 if_ok (Ok x) P Q tells is = tells x is
 if_ok (Err f) P Q tells is = tt
+
+pub if_err : {X E : Type 0} (r : Result X E) (P Q : E → Type 0) → ((f : E) → P f → Q f) → IfErr r P → IfErr r Q
+if_err (Ok x) P Q tells is = tt
+if_err (Err f) P Q tells is = tells f is
+
+pub if_ok_on : {X E : Type 0} (r : Result X E) (N : Type 0) (P Q : X → Type 0) → ((x : X) → N → P x → Q x)
+    → OnOk r N → IfOk r P → IfOk r Q
+if_ok_on (Ok x) N P Q tells on is = tells x on is
+if_ok_on (Err f) N P Q tells on is = tt
+
+-- ---- what held under the lock
+
+module _ {L : Type 0} (app : App L) (from_text : List ℕ → Option L) (b : BookView L) (mark total seats : ℕ)
+    (locked : IsLocked app from_text b mark total seats) where
+  pub was_locked : (Q : BookView L → Type 0) → Q b → WasLocked app from_text mark seats Q
+  was_locked Q such = record { book = b; total = total; locked = locked; such = such }

@@ -1,5 +1,5 @@
 -- What lies under the lock of a sharing, and why a change of it is refused.
-use Rattle.std.specs.Prelude.{◌≡◌, ◌≢◌, ℕ, ◌+◌, Bool, true, false, List, length, drop, Option, Err}
+use Rattle.std.specs.Prelude.{◌≡◌, ◌≢◌, ℕ, ◌+◌, Bool, true, false, List, length, drop, Option, Ok, Err}
 use Rattle.std.specs.List.{list_all}
 use Rattle.app_interface.specs.Application.{App}
 use Rattle.reset_model.specs.declared.event.Event.{Event}
@@ -7,6 +7,7 @@ use Rattle.reset_model.specs.Planned.{NodePlan}
 use Rattle.reset_model.specs.Steps.{event_node}
 use Rattle.history.specs.declared.entry.Entry.{Entry}
 use Rattle.history.specs.declared.entry.Entry.TheVariants.{Step, Disturbed}
+use Rattle.history.specs.declared.entry.Receipt.{Receipt}
 use Rattle.history.specs.declared.refusal.BookRefusal.TheVariants.{NoMemory}
 use Rattle.history.specs.Book.{BookView, IsBook, IsUnapplied, booked}
 use Rattle.node_threads.specs.declared.refusal.CommitRefusal.{CommitRefusal}
@@ -26,6 +27,20 @@ pub record IsLocked {L : Type 0} (app : App L) (from_text : List ℕ → Option 
   pub nodes : length b.config.graph.ids ≡ seats
   pub counted : mark + total ≡ length b.entries
   pub steps : list_all is_step (drop mark b.entries) ≡ true
+
+-- some book that lay under the lock at a moment of the call is such a book. Which one it was no caller knows, since
+-- other threads change it
+pub record WasLocked {L : Type 0} (app : App L) (from_text : List ℕ → Option L) (mark seats : ℕ)
+    (Q : BookView L → Type 0) : Type 0 where
+  pub book : BookView L
+  pub total : ℕ
+  pub locked : IsLocked app from_text book mark total seats
+  pub such : Q book
+
+-- the book does the event, and this is the receipt
+pub record IsBooked {L : Type 0} (app : App L) (b : BookView L) (e : Event) (receipt : Receipt) : Type 0 where
+  pub after : BookView L
+  pub done : booked app b e ≡ Ok (after, receipt)
 
 -- the plan is one of the node i: it was made on what i sees, for an event of i
 pub record IsPlanOf {L : Type 0} (i : ℕ) (p : NodePlan L) : Type 0 where

@@ -1,6 +1,7 @@
 // A thread for each node.
 
-ghost use Rattle.std.specs.Prelude.{◌≡◌, ◌≢◌, ◌+◌, ◌<◌, ◌≤◌, IfErr, IfOk, OnOk, Some, false, length, ℕ};
+ghost use Rattle.std.specs.Prelude.{◌≡◌, ◌≢◌, ◌+◌, ◌<◌, ◌≤◌, IfErr, IfOk, IfSome, IsTrue, MatchOption, OnOk, false};
+ghost use Rattle.std.specs.Prelude.{length};
 ghost use denote.Param.{param};
 ghost use denote.Param.Send.{IsSync};
 ghost use Rattle.topology.specs.Graph.{IsNode};
@@ -74,9 +75,12 @@ pub fn run_nodes<P: Application, G: Gate + Sync, R: Threads + Wait + Sync>(
     requires { turns ≤ 100000 }
     ensures closed { IfOk result (λ o. IsClosed P.app P.from_text o.book (length book.entries) o.seats.items) }
     ensures few { OnOk result (length book.config.graph.ids ≤ 64) }
+    ensures there { OnOk result (IfSome selected (λ i. IsNode book.config.graph i)) }
     ensures strange { IfErr result (λ e. e.cause ≡ RunCause.StrangeNode
-        → (i : ℕ) → selected ≡ Some i → IsNode book.config.graph i → ⊥) }
+        → MatchOption selected ⊥ (λ i. IsNode book.config.graph i → ⊥)) }
     ensures many { IfErr result (λ e. e.cause ≡ RunCause.TooManyForThreads → 64 < length book.config.graph.ids) }
+    ensures back { IfErr result (λ e. (e.cause ≡ RunCause.StrangeNode → e.book ≡ book)
+        × (e.cause ≡ RunCause.TooManyForThreads → e.book ≡ book)) }
 {
     if !is_there(&book, selected) {
         let cause = RunCause::StrangeNode;
@@ -93,7 +97,8 @@ pub fn run_nodes<P: Application, G: Gate + Sync, R: Threads + Wait + Sync>(
 
 // Whether the selected node, if there is one, is a node of the book.
 fn is_there<P: Application>(book: &Book<P>, selected: Option<u32>) -> bool
-    ensures { result ≡ false → (i : ℕ) → selected ≡ Some i → IsNode book.now.config.graph i → ⊥ }
+    ensures there { IsTrue result → IfSome selected (λ i. IsNode book.now.config.graph i) }
+    ensures strange { result ≡ false → MatchOption selected ⊥ (λ i. IsNode book.now.config.graph i → ⊥) }
 {
     match selected {
         Some(node) => book.config().tree_at(node).is_some(),
@@ -118,6 +123,7 @@ fn run_round<L: Round + Send + Sync, P: Application, G: Gate + Sync, R: Threads 
     ensures closed { IfOk result (λ o. IsClosed P.app P.from_text o.book L.mark o.seats.items) }
     ensures strange { IfErr result (λ e. e.cause ≢ RunCause.StrangeNode) }
     ensures many { IfErr result (λ e. e.cause ≡ RunCause.TooManyForThreads → 64 < L.seats) }
+    ensures back { IfErr result (λ e. e.cause ≡ RunCause.TooManyForThreads → e.book ≡ book) }
 {
     let (shared, seats) = match share::<L, P>(alloc, blank, book) {
         Ok(both) => both,

@@ -2,9 +2,11 @@
 
 ghost use Rattle.std.specs.Prelude.{◌≡◌, ◌≢◌, ◌↔◌, ◌+◌, ◌<◌, ◌≤◌, Err, IfOk, IfErr, OnOk, OnErr, [], length, map};
 ghost use Rattle.std.specs.Vec.{vec_capacity};
+ghost use Rattle.topology.specs.Graph.{IsNode};
 ghost use Rattle.reset_model.specs.Steps.{event_node};
+ghost use Rattle.reset_model.specs.View.{IsSeen, view_of};
 ghost use Rattle.reset_model.specs.declared.event.Event.TheVariants.{Request};
-ghost use Rattle.node_threads.specs.Locked.{IsPlanOf};
+ghost use Rattle.node_threads.specs.Locked.{IsBooked, IsPlanOf, IsUncommitted, IsUndone, WasLocked};
 ghost use Rattle.node_threads.specs.Seats.{empty_seat, with_receipt};
 
 use crate::locked::Locked;
@@ -111,9 +113,15 @@ impl<L: Round, P: Application> Shared<L, P> {
         alloc: Global,
         seat: &Seat<L>,
     ) -> Result<View<P>, LookRefusal>
-        ensures { IfOk result (λ view. view.id ≡ seat.now.node) }
+        ensures node { IfOk result (λ view. view.id ≡ seat.now.node) }
+        ensures ok { IfOk result (λ view. WasLocked P.app P.from_text L.mark L.seats (λ b.
+            IsNode b.config.graph seat.now.node × (view ≡ view_of P.app b.config seat.now.node))) }
+        ensures err { IfErr result (λ f. f ≢ LookRefusal.NoMemory
+            → WasLocked P.app P.from_text L.mark L.seats (λ b. IsNode b.config.graph seat.now.node → ⊥)) }
     {
-        self.locked.lock(rt).look_in(alloc, seat)
+        let locked = self.locked.lock(rt);
+        locked.lemma_is_locked();
+        locked.look_in(alloc, seat)
     }
 
     /// Commits the plan, which the seat gets a receipt for, or the plan comes back with the first refusal. A
@@ -132,8 +140,14 @@ impl<L: Round, P: Application> Shared<L, P> {
         ensures stale { IfErr result (λ e. (now : _) → e.0 ≡ CommitRefusal.Refused (ApplyRefusal.Stale now)
             → (now.id ≡ seat.old.node) × (plan.view ≢ now)) }
         ensures kept { IfErr result (λ e. (seat.new ≡ seat.old) × (e.1 ≡ plan)) }
+        ensures ok { IfOk result (λ receipt. WasLocked P.app P.from_text L.mark L.seats (λ b.
+            IsSeen P.app b.config plan.view × IsBooked P.app b plan.event receipt)) }
+        ensures err { IfErr result (λ e. WasLocked P.app P.from_text L.mark L.seats (λ b.
+            IsUncommitted P.app b seat.old.node plan e.0)) }
     {
-        self.locked.lock(rt).commit_in(alloc, seat, plan)
+        let mut locked = self.locked.lock(rt);
+        locked.lemma_is_locked();
+        locked.commit_in(alloc, seat, plan)
     }
 
     /// Does the event, which the seat gets a receipt for, or names the first refusal. A refused event changes
@@ -150,8 +164,14 @@ impl<L: Round, P: Application> Shared<L, P> {
         ensures seat { IfOk result (λ receipt. seat.new ≡ with_receipt seat.old receipt) }
         ensures not_yours { result ≡ Err SeatRefusal.NotYours ↔ event_node event ≢ seat.old.node }
         ensures kept { OnErr result (seat.new ≡ seat.old) }
+        ensures ok { IfOk result (λ receipt. WasLocked P.app P.from_text L.mark L.seats (λ b.
+            IsBooked P.app b event receipt)) }
+        ensures err { IfErr result (λ f. WasLocked P.app P.from_text L.mark L.seats (λ b.
+            IsUndone P.app b seat.old.node event f)) }
     {
-        self.locked.lock(rt).step_in(alloc, seat, event)
+        let mut locked = self.locked.lock(rt);
+        locked.lemma_is_locked();
+        locked.step_in(alloc, seat, event)
     }
 }
 
@@ -166,6 +186,10 @@ pub fn select<L: Round, P: Application, R: Wait>(
     ensures seat { IfOk result (λ receipt. seat.new ≡ with_receipt seat.old receipt) }
     ensures yours { result ≢ Err SeatRefusal.NotYours }
     ensures kept { OnErr result (seat.new ≡ seat.old) }
+    ensures ok { IfOk result (λ receipt. WasLocked P.app P.from_text L.mark L.seats (λ b.
+        IsBooked P.app b (Request seat.old.node) receipt)) }
+    ensures err { IfErr result (λ f. WasLocked P.app P.from_text L.mark L.seats (λ b.
+        IsUndone P.app b seat.old.node (Request seat.old.node) f)) }
 {
     let at = seat.node();
     shared.step(rt, alloc, seat, Event::Request { at })

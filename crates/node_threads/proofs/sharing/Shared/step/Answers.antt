@@ -1,7 +1,27 @@
-use Rattle.node_threads.proofs.Entering.{booked_entered, if_ok}
+use Rattle.std.proofs.Common.{sym, subst, ◌∙◌}
+use Rattle.node_threads.specs.Locked.{IsLocked}
+use Rattle.node_threads.proofs.Entering.{booked_entered, if_err, if_ok, was_locked}
 use Rattle.node_threads.proofs.sharing.Shared.step.Goals as goal
 
 pub returns-clause-told : goal.returns-clause-told
 returns-clause-told g c =
     if_ok c.step_in.result _ _ (λ receipt done. (booked_entered g.P.Application.app _ c.args.event _ receipt
     done.0).event) c.step_in.ensures.ok
+
+pub returns-clause-ok : goal.returns-clause-ok
+returns-clause-ok g c =
+    let locked =
+    subst (λ l. IsLocked g.P.Application.app g.P.Application.from_text l.book g.L.Round.mark l.tally.total
+    g.L.Round.seats) (c.deref.ensures ∙ sym c.deref_mut.ensures.value) c.lemma_is_locked.ensures.locked in
+    if_ok c.step_in.result _ _ (λ receipt is. was_locked _ _ _ _ _ _ locked _ (record {
+      after = c.step_in.new.self.book;
+      done = is.0;
+    }))
+    c.step_in.ensures.ok
+
+pub returns-clause-err : goal.returns-clause-err
+returns-clause-err g c =
+    let locked =
+    subst (λ l. IsLocked g.P.Application.app g.P.Application.from_text l.book g.L.Round.mark l.tally.total
+    g.L.Round.seats) (c.deref.ensures ∙ sym c.deref_mut.ensures.value) c.lemma_is_locked.ensures.locked in
+    if_err c.step_in.result _ _ (λ f is. was_locked _ _ _ _ _ _ locked _ is) c.step_in.ensures.err
