@@ -12,7 +12,8 @@ returns-in-Err-clause-err g c =
       total = l.tally.total;
       locked = c.lemma_is_locked.ensures.locked;
       why =
-          subst (λ m. IsUnclosed app from_text l.book m c.args.seats.items c.in-Err.fault) c.lemma_is_locked.ensures.mark
+          subst (λ m. IsUnclosed app from_text l.book m c.args.seats.items c.in-Err.fault)
+          c.lemma_is_locked.ensures.mark
           (subst (λ seats. IsUnclosed app from_text l.book l.mark seats c.in-Err.fault) c.deref.ensures.value
           c.in-Err.ensures.err);
     }
