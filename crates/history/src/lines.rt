@@ -15,8 +15,8 @@ use memchr::memchr;
 use std::alloc::{AllocError, Global};
 use std::io::Read;
 
-// The most bytes that are asked of a reader at once.
-const CHUNK: usize = 4096;
+/// The most bytes that are asked of a reader at once.
+pub const CHUNK: usize = 4096;
 
 /// The most bytes of a line.
 pub const MAX_LINE: usize = 256;
@@ -55,8 +55,15 @@ impl Reading {
         }
     }
 
-    // Reads what the reader gives at once, and tells whether it gave anything.
-    pub fn read_on<R: Read>(&mut self, alloc: Global, reader: &mut R) -> Result<bool, BookFault>
+    // Reads what the reader gives at once, and tells whether it gave anything. The room for it is the caller's, so
+    // that it is made once.
+    #[inline(always)]
+    pub fn read_on<R: Read>(
+        &mut self,
+        alloc: Global,
+        reader: &mut R,
+        room: &mut [u8; CHUNK],
+    ) -> Result<bool, BookFault>
         ensures ok { IfOk result (λ _. (given : List ℕ)
             × Consumes (R.remaining reader.old) (R.remaining reader.new) given
             × ((before : List Entry) (text : List ℕ) → HasRead self.old before text
@@ -66,14 +73,13 @@ impl Reading {
             → (before : List Entry) (text : List ℕ) → HasRead self.old before text
             → IfSome (R.remaining reader.old) (λ rest. IsReadAs (text ++ rest) (Err f))) }
     {
-        let mut chunk = [0; CHUNK];
-        let Ok(count) = reader.read(&mut chunk) else {
+        let Ok(count) = reader.read(room) else {
             return Err(BookFault::ReadFailed);
         };
         if count == 0 {
             return Ok(false);
         }
-        self.feed(alloc, &chunk[..count])?;
+        self.feed(alloc, &room[..count])?;
         Ok(true)
     }
 

@@ -26,6 +26,7 @@ impl Openings {
     }
 
     // Makes room for that many nodes.
+    #[inline(always)]
     pub fn make_room(&mut self, nodes: usize) -> Result<(), AllocError>
         ensures room { OnOk result (nodes ≤ length self.new.positions.items) }
         ensures same { (k : ℕ) → told self.new k ≡ told self.old k }

@@ -176,6 +176,7 @@ impl<P: Application> Player<P> {
     }
 
     // Makes room for what an entry reports.
+    #[inline(always)]
     pub fn make_room(&mut self) -> Result<(), AllocError>
         ensures same { self.new.config ≡ self.old.config }
         ensures openings { OnOk result (length self.old.config.graph.ids ≤ length self.new.openings.positions.items) }
@@ -188,6 +189,7 @@ impl<P: Application> Player<P> {
     }
 
     // Keeps that an event was answered so, at this position.
+    #[inline(always)]
     fn note(&mut self, place: usize, event: Event, reply: Reply)
         requires openings { length self.old.config.graph.ids ≤ length self.old.openings.positions.items }
         requires reports { vec_len self.old.reports < vec_capacity self.old.reports }
@@ -207,6 +209,7 @@ impl<P: Application> Player<P> {
     }
 
     // Keeps the report of a reply.
+    #[inline(always)]
     fn report(&mut self, place: usize, event: Event, reply: Reply)
         requires { vec_len self.old.reports < vec_capacity self.old.reports }
         ensures same { self.new.config ≡ self.old.config }

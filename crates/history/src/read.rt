@@ -9,7 +9,7 @@ ghost use Rattle.history.specs.HistoryText.{HasLine, IsPrintable, IsReadAs, entr
 ghost use Rattle.history.specs.Reading.{IsBadVersion};
 
 use crate::entry::Entry;
-use crate::lines::{MAX_LINE, Reading};
+use crate::lines::{CHUNK, MAX_LINE, Reading};
 use crate::text::BookFault;
 use action_tables::{cut, read_number};
 use fault_inject::{Fault, read_fault};
@@ -24,9 +24,10 @@ pub fn read_book<R: Read>(alloc: Global, reader: &mut R) -> Result<Vec<Entry>, B
         → IfSome (R.remaining reader.old) (λ text. IsReadAs text (Err f))) }
 {
     let mut reading = Reading::new(alloc);
+    let mut room = [0; CHUNK];
     // No reader gives so much: a bound, so that the reading is seen to end.
     for _ in 0..u64::MAX {
-        match reading.read_on(alloc, reader) {
+        match reading.read_on(alloc, reader, &mut room) {
             Ok(true) => {}
             Ok(false) => return reading.into_entries(),
             Err(fault) => return Err(fault),
@@ -54,6 +55,7 @@ pub fn read_version(line: &[u8]) -> Result<(), BookFault>
 }
 
 // The entry of a line.
+#[inline(always)]
 pub fn read_entry(alloc: Global, line: &[u8]) -> Result<Option<Entry>, AllocError>
     ensures found { IfOk result (λ read. IfSome read (λ entry. HasLine entry × (line.now ≡ entry_line entry))) }
     ensures only { IfOk result

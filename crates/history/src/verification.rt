@@ -13,7 +13,7 @@ ghost use Rattle.history.specs.Reports.{reports_of};
 ghost use Rattle.history.specs.Verdict.{IsVerdict, verdict_of};
 
 use crate::entry::{Entry, Summary, VerifyFault};
-use crate::lines::Reading;
+use crate::lines::{CHUNK, Reading};
 use crate::player::Player;
 use crate::text::BookFault;
 use crate::verifier::Verifier;
@@ -52,9 +52,10 @@ pub fn verify_reader<P: Application, R: Read>(
     let mut verifier = Verifier::new(alloc, opening);
     let mut reading = Reading::new(alloc);
     let mut count = 0;
+    let mut room = [0; CHUNK];
     // No reader gives so much: a bound, so that the reading is seen to end.
     for _ in 0..u64::MAX {
-        match reading.read_on(alloc, reader) {
+        match reading.read_on(alloc, reader, &mut room) {
             Ok(true) => {}
             Ok(false) => return verdict(verifier, &reading),
             Err(fault) => return Err(ReaderFault::Text(fault)),
