@@ -2,7 +2,6 @@
 
 ghost use Rattle.std.specs.Prelude.{◌≡◌, ◌+◌, ◌≤◌, length, take};
 
-use crate::choice::next_event;
 use crate::refusal::{CommitRefusal, LookRefusal};
 use crate::round::Round;
 use crate::seat::Seat;

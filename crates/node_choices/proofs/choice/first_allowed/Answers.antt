@@ -1,8 +1,8 @@
 use Rattle.std.proofs.Common.{◌∙◌, sym, find}
 use Rattle.reset_model.specs.declared.event.Event.TheVariants.{Claim}
-use Rattle.node_threads.specs.Choice.{is_allowed}
-use Rattle.node_threads.proofs.Trying.{left_next, tried_false, tried_true}
-use Rattle.node_threads.proofs.choice.first_allowed.Goals as goal
+use Rattle.node_choices.specs.Choice.{is_allowed}
+use Rattle.node_choices.proofs.Trying.{left_next, tried_false, tried_true}
+use Rattle.node_choices.proofs.choice.first_allowed.Goals as goal
 
 pub returns-then-branch : goal.returns-then-branch
 returns-then-branch g c =

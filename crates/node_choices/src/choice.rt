@@ -1,13 +1,13 @@
-// What a node does by itself.
+// What a node does by itself, and all that may happen at it.
 
-ghost use Rattle.std.specs.Prelude.{◌≡◌, ◌==◌, ◌∷◌, IfOk, None, Some, filter, find, map};
+ghost use Rattle.std.specs.Prelude.{◌≡◌, ◌++◌, IfOk, OnOk, filter, find};
 ghost use Rattle.std.specs.List.{flat_map};
 ghost use Rattle.action_tables.specs.Numbers.{all_cases};
-ghost use Rattle.reset_model.specs.declared.event.Event.TheVariants.{Act, Adopt, Relay};
-ghost use Rattle.node_threads.specs.Choice.{case_events, is_allowed, next_of};
+ghost use Rattle.node_choices.specs.Choice.{allowed_events, case_events, is_allowed, next_of};
 
+use crate::events::{adoptions, case_events, relays};
 use app_interface::Application;
-use reset_machine::{Event, Near, StepRefusal, View};
+use reset_machine::{Event, StepRefusal, View};
 use std::alloc::{AllocError, Global};
 
 // No application has more cases.
@@ -45,6 +45,32 @@ pub fn next_event<P: Application>(
     action(alloc, view)
 }
 
+/// All events that the view allows, in the order of [`next_event`], with the request after `Open`. It takes no lock.
+pub fn allowed_events<P: Application>(
+    alloc: Global,
+    view: &View<P>,
+) -> Result<Vec<Event>, AllocError>
+    ensures { IfOk result (λ events. events.items ≡ allowed_events P.app view.now) }
+{
+    let at = view.id();
+    let near = view.neighbours();
+    let mut allowed = Vec::new(alloc);
+    let own_first = [Event::Claim { at }, Event::Follow { at }];
+    add_allowed(alloc, view, &own_first, &mut allowed)?;
+    add_allowed(alloc, view, &adoptions(alloc, at, near)?, &mut allowed)?;
+    let own_next = [
+        Event::Mend { at },
+        Event::Join { at },
+        Event::Finish { at },
+        Event::Open { at },
+        Event::Request { at },
+    ];
+    add_allowed(alloc, view, &own_next, &mut allowed)?;
+    add_allowed(alloc, view, &relays(alloc, at, near)?, &mut allowed)?;
+    add_actions(alloc, view, &mut allowed)?;
+    Ok(allowed)
+}
+
 // Whether the view allows the event.
 fn is_allowed<P: Application>(
     alloc: Global,
@@ -76,65 +102,22 @@ fn first_allowed<P: Application>(
     Ok(None)
 }
 
-// The adoptions of each neighbour.
-fn adoptions<P: Application>(
+// Adds those of the events that the view allows.
+fn add_allowed<P: Application>(
     alloc: Global,
-    at: u32,
-    near: &[Near<P>],
-) -> Result<Vec<Event>, AllocError>
-    ensures { IfOk result (λ events. events.items ≡ map (λ n. Adopt at n.id) near.now) }
+    view: &View<P>,
+    events: &[Event],
+    allowed: &mut Vec<Event>,
+) -> Result<(), AllocError>
+    ensures { OnOk result
+        (allowed.new.items ≡ allowed.old.items ++ filter (is_allowed P.app view.now) events.now) }
 {
-    let mut events = Vec::new(alloc);
-    for other in near {
-        events.push(Event::Adopt { at, from: other.id })?;
-    }
-    Ok(events)
-}
-
-// The relays of each child's request.
-fn relays<P: Application>(
-    alloc: Global,
-    at: u32,
-    near: &[Near<P>],
-) -> Result<Vec<Event>, AllocError>
-    ensures { IfOk result (λ events. events.items
-        ≡ map (λ n. Relay at n.id) (filter (λ n. n.tree.father == at) near.now)) }
-{
-    let mut events = Vec::new(alloc);
-    for other in near {
-        if other.tree.father == at {
-            events.push(Event::Relay {
-                at,
-                child: other.id,
-            })?;
+    for event in events {
+        if is_allowed(alloc, view, *event)? {
+            allowed.push(*event)?;
         }
     }
-    Ok(events)
-}
-
-// The case by itself, and then toward each neighbour.
-fn case_events<P: Application>(
-    alloc: Global,
-    at: u32,
-    case: u8,
-    near: &[Near<P>],
-) -> Result<Vec<Event>, AllocError>
-    ensures { IfOk result (λ events. events.items ≡ Act at case None ∷ map (λ n. Act at case (Some n.id)) near.now) }
-{
-    let mut events = Vec::new(alloc);
-    events.push(Event::Act {
-        at,
-        case,
-        with: None,
-    })?;
-    for other in near {
-        events.push(Event::Act {
-            at,
-            case,
-            with: Some(other.id),
-        })?;
-    }
-    Ok(events)
+    Ok(())
 }
 
 // The first way in which the node may take a case of the application.
@@ -149,4 +132,20 @@ fn action<P: Application>(alloc: Global, view: &View<P>) -> Result<Option<Event>
         }
     }
     Ok(None)
+}
+
+// Adds the ways in which the node may take a case of the application.
+fn add_actions<P: Application>(
+    alloc: Global,
+    view: &View<P>,
+    allowed: &mut Vec<Event>,
+) -> Result<(), AllocError>
+    ensures { OnOk result (allowed.new.items
+        ≡ allowed.old.items ++ filter (is_allowed P.app view.now) (flat_map (case_events view.now) all_cases)) }
+{
+    for case in 1..=MOST_CASES {
+        let events = case_events(alloc, view.id(), case, view.neighbours())?;
+        add_allowed(alloc, view, &events, allowed)?;
+    }
+    Ok(())
 }

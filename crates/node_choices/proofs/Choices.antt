@@ -5,10 +5,11 @@ use Rattle.std.specs.List.{flat_map}
 use Rattle.action_tables.specs.Numbers.{all_cases}
 use Rattle.app_interface.specs.Application.{App}
 use Rattle.reset_model.specs.declared.event.Event.{Event}
-use Rattle.reset_model.specs.declared.event.Event.TheVariants.{Claim, Follow, Adopt, Relay, Open, Join, Finish, Mend}
+use Rattle.reset_model.specs.declared.event.Event.TheVariants.{Claim, Follow, Adopt, Request, Relay, Open, Join}
+use Rattle.reset_model.specs.declared.event.Event.TheVariants.{Finish, Mend}
 use Rattle.reset_model.specs.View.{Neighbour, NodeView}
-use Rattle.node_threads.specs.Choice.{case_events, is_allowed, next_of}
-use Rattle.node_threads.proofs.Trying.{first_none, two_lists}
+use Rattle.node_choices.specs.Choice.{case_events, is_allowed, next_of}
+use Rattle.node_choices.proofs.Trying.{first_none, two_lists}
 
 -- the parts of the choices of the node i with these neighbours
 abbrev pub own_first : ℕ → List Event
@@ -19,6 +20,9 @@ adoptions i near = map (λ n. Adopt i n.id) near
 
 abbrev pub own_next : ℕ → List Event
 own_next i = Mend i ∷ Join i ∷ Finish i ∷ Open i ∷ []
+
+abbrev pub own_asked : ℕ → List Event
+own_asked i = Mend i ∷ Join i ∷ Finish i ∷ Open i ∷ Request i ∷ []
 
 abbrev pub relays : {L : Type 0} → ℕ → List (Neighbour L) → List Event
 relays i near = map (λ n. Relay i n.id) (filter (λ n. n.tree.father == i) near)

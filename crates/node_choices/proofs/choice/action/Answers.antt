@@ -2,9 +2,9 @@ use Rattle.std.proofs.Common.{◌∷◌, Some, None, map, find, ap, ap₂, sym, 
 use Rattle.std.specs.List.{flat_map}
 use Rattle.reset_model.specs.declared.event.Event.TheVariants.{Act}
 use Rattle.reset_machine.proofs.CaseArguments.{all_from_1}
-use Rattle.node_threads.specs.Choice.{case_events, is_allowed}
-use Rattle.node_threads.proofs.Trying.{case_next, cases_done, first_none, first_some}
-use Rattle.node_threads.proofs.choice.action.Goals as goal
+use Rattle.node_choices.specs.Choice.{case_events, is_allowed}
+use Rattle.node_choices.proofs.Trying.{case_next, cases_done, first_none, first_some}
+use Rattle.node_choices.proofs.choice.action.Goals as goal
 
 pub loop-case-init : goal.loop-case-init
 loop-case-init g c =

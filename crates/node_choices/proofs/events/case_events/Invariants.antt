@@ -1,6 +1,6 @@
 use Rattle.std.proofs.Common.{◌≡◌, ◌∷◌, Some, None, map, take}
 use Rattle.reset_model.specs.declared.event.Event.TheVariants.{Act}
-use Rattle.node_threads.proofs.choice.case_events.Given as goal
+use Rattle.node_choices.proofs.events.case_events.Given as goal
 
 abbrev pub invariant-loop-other : goal.invariant-loop-other
 invariant-loop-other g l =

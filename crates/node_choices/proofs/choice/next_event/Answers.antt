@@ -1,10 +1,9 @@
 use Rattle.std.proofs.Common.{◌≡◌, ◌++◌, None, ◌∙◌}
-use Rattle.node_threads.specs.Choice.{is_allowed, next_of}
-use Rattle.node_threads.proofs.Entering.{if_ok}
-use Rattle.node_threads.proofs.Choices.{actions, adoptions, own_first, own_next, relays, tried, tried_near, tried_own}
-use Rattle.node_threads.proofs.Choices.{from_actions, from_adoptions, from_own_next, from_relays}
-use Rattle.node_threads.proofs.Trying.{first_some, two_lists}
-use Rattle.node_threads.proofs.choice.next_event.Goals as goal
+use Rattle.node_choices.specs.Choice.{is_allowed, next_of}
+use Rattle.node_choices.proofs.Choices.{actions, adoptions, own_first, own_next, relays, tried, tried_near, tried_own}
+use Rattle.node_choices.proofs.Choices.{from_actions, from_adoptions, from_own_next, from_relays}
+use Rattle.node_choices.proofs.Trying.{first_some, if_ok, two_lists}
+use Rattle.node_choices.proofs.choice.next_event.Goals as goal
 
 pub returns-in-Some-2 : goal.returns-in-Some-2
 returns-in-Some-2 g c =

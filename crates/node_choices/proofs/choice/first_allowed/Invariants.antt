@@ -1,7 +1,7 @@
 -- What is left to try gives what all give.
 use Rattle.std.proofs.Common.{◌≡◌, drop, find}
-use Rattle.node_threads.specs.Choice.{is_allowed}
-use Rattle.node_threads.proofs.choice.first_allowed.Given as goal
+use Rattle.node_choices.specs.Choice.{is_allowed}
+use Rattle.node_choices.proofs.choice.first_allowed.Given as goal
 
 abbrev pub invariant-loop-event : goal.invariant-loop-event
 invariant-loop-event g l =

@@ -1,6 +1,6 @@
 use Rattle.std.proofs.Common.{◌≡◌, ◌==◌, filter, map, take}
 use Rattle.reset_model.specs.declared.event.Event.TheVariants.{Relay}
-use Rattle.node_threads.proofs.choice.relays.Given as goal
+use Rattle.node_choices.proofs.events.relays.Given as goal
 
 abbrev pub invariant-loop-other : goal.invariant-loop-other
 invariant-loop-other g l =
