@@ -8,6 +8,7 @@ use crate::seat::Seat;
 use crate::sharing::Shared;
 use app_interface::Application;
 use history::ApplyRefusal;
+use node_choices::next_event;
 use reset_machine::{StepRefusal, View};
 use std::alloc::{AllocError, Global};
 use std::sync::Wait;

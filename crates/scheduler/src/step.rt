@@ -80,11 +80,7 @@ fn event_step<P: Application>(
 }
 
 // Does the event, unless it is refused.
-fn happen<P: Application>(
-    alloc: Global,
-    book: &mut Book<P>,
-    event: Event,
-) -> Result<(), AllocError>
+fn happen<P: Application>(alloc: Global, book: &mut Book<P>, event: Event) -> Result<(), AllocError>
     ensures ok { OnOk result (book.new ≡ after_event P.app book.old (Some event)) }
     ensures kept { OnErr result (book.new ≡ book.old) }
 {
