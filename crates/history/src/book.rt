@@ -60,6 +60,7 @@ impl<P: Application> Book<P> {
     ghost use Rattle.reset_model.specs.SoundSteps.{IsSoundStep};
     ghost use Rattle.fault_inject.specs.Effects.{injected};
     ghost use Rattle.reset_model.specs.Planned.{outcome_of};
+    ghost use Rattle.reset_machine.specs.Enabled.{ready_of};
     ghost use Rattle.history.specs.Book.{IsBook, IsUnapplied, booked, disturbed_book, entry_at};
     ghost use Rattle.history.specs.Entries.{replayed};
     ghost use Rattle.history.specs.Reports.{reports_of};
@@ -280,6 +281,15 @@ impl<P: Application> Book<P> {
         ensures { result.now ≡ self.now.config }
     {
         &self.player.config
+    }
+
+    /// The identifiers of the nodes of its configuration that have something to do, ascending: what
+    /// `Config::ready` answers. It changes nothing, want of memory included.
+    pub fn ready(&mut self, alloc: Global) -> Result<Vec<u32>, AllocError>
+        ensures ok { IfOk result (λ ids. ids.items ≡ ready_of P.app self.old.config) }
+        ensures kept { self.new ≡ self.old }
+    {
+        self.player.config.ready(alloc)
     }
 
     /// The configuration after its first entries: that of the opening at position 0, and its own at

@@ -1,6 +1,4 @@
 mod Entering
-mod Trying
-mod Choices
 mod Telling
 mod Comparing
 mod Gathering

@@ -3,7 +3,7 @@ use Rattle.std.proofs.Common.{◌≡◌, ℕ, ◌+◌, ◌<◌, ◌≤◌, ◌==
 use Rattle.std.proofs.Common.{Some, None, Ok, Err, if◌then◌else◌, drop, filter, get_or, refl, ap, ap₂, sym, ◌∙◌, arith}
 use Rattle.std.proofs.Common.{append_assoc, append-nil, nat_lt, slice_get, ◌≢◌, ◌-◌, ◌⊎◌, inl, inr}
 use Rattle.std.proofs.lemmas.List.Elements.{filter-append}
-use Rattle.node_threads.proofs.Trying.{left_next}
+use Rattle.node_choices.proofs.Trying.{left_next}
 use Rattle.std.specs.Option.{option_and_then, option_map_or}
 use Rattle.std.proofs.lemmas.Bool.{eq-eqb}
 use Rattle.std.proofs.lemmas.Bool.Decides.{eqb_tells}

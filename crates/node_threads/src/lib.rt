@@ -2,7 +2,6 @@
 //! that what the threads were told is what the book has.
 #![tactic(auto)]
 
-mod choice;
 mod closing;
 mod locked;
 mod refusal;
@@ -12,9 +11,9 @@ mod seat;
 mod sharing;
 mod turns;
 
-pub use choice::next_event;
 pub use closing::{CloseFault, Outcome, SeatList, close};
 pub use locked::Locked;
+pub use node_choices::next_event;
 pub use refusal::{CommitRefusal, LookRefusal, SeatRefusal, ShareFault};
 pub use round::Round;
 pub use run::{RunCause, RunFault, run_nodes};

@@ -2,13 +2,13 @@
 
 ghost use Rattle.std.specs.Prelude.{◌≡◌, ◌+◌, ◌≤◌, length, take};
 
-use crate::choice::next_event;
 use crate::refusal::{CommitRefusal, LookRefusal};
 use crate::round::Round;
 use crate::seat::Seat;
 use crate::sharing::Shared;
 use app_interface::Application;
 use history::ApplyRefusal;
+use node_choices::next_event;
 use reset_machine::{StepRefusal, View};
 use std::alloc::{AllocError, Global};
 use std::sync::Wait;

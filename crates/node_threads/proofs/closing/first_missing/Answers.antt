@@ -1,6 +1,6 @@
 use Rattle.std.proofs.Common.{not, sym, ap, ◌∙◌}
 use Rattle.node_threads.specs.Closed.{first_missing}
-use Rattle.node_threads.proofs.Trying.{left_next, tried_false}
+use Rattle.node_choices.proofs.Trying.{left_next, tried_false}
 use Rattle.node_threads.proofs.closing.first_missing.Goals as goal
 
 pub loop-id-preserved : goal.loop-id-preserved

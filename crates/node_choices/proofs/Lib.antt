@@ -1,0 +1,2 @@
+pub mod Trying
+mod Choices

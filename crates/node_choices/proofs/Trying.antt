@@ -1,0 +1,98 @@
+-- Trying the elements of a list in turn, where what is left to try gives what all give.
+use Rattle.std.proofs.Common.{◌≡◌, ℕ, suc, ◌+◌, ◌-◌, ◌<◌, ◌≤◌, Bool, true, false, cond, List, [], ◌∷◌, ◌++◌}
+use Rattle.std.proofs.Common.{Option, Some, None, Result, Ok, Err, IfOk, filter, find, length, drop, drop-cons, get_or, add-one, append_assoc, append-nil, sym, ap, ◌∙◌, arith}
+use Rattle.std.specs.List.{flat_map, range_with_len}
+use Rattle.std.specs.Option.{option_or}
+use Rattle.std.proofs.lemmas.List.Concat.{flat_map-cons}
+use Rattle.std.proofs.lemmas.List.Elements.{filter-append}
+use Rattle.std.proofs.lemmas.List.Folds.{find-append}
+use Rattle.reset_machine.proofs.CaseArguments.{cases_end, cases_from}
+
+-- the next one, and what is left after it
+pub left_next : {X Y : Type 0} (F : List X → Y) (xs : List X) (i : ℕ) (d : X) (all : Y) → i < length xs
+    → F (drop i xs) ≡ all → F (get_or xs i d ∷ drop (i + 1) xs) ≡ all
+left_next F xs i d all short so_far =
+    let split : drop i xs ≡ get_or xs i d ∷ drop (i + 1) xs =
+    drop-cons xs i d short ∙ ap (λ k. get_or xs i d ∷ drop k xs) (sym (add-one i)) in
+    sym (ap F split) ∙ so_far
+
+-- it passes, or it doesn't
+pub tried_true : {Y : Type 0} (b : Bool) (x rest all : Y) → b ≡ true → cond b x rest ≡ all → x ≡ all
+tried_true true x rest all is so_far = so_far
+tried_true false x rest all is so_far = absurd (cc)
+
+pub tried_false : {Y : Type 0} (b : Bool) (x rest all : Y) → b ≡ false → cond b x rest ≡ all → rest ≡ all
+tried_false true x rest all is so_far = absurd (cc)
+tried_false false x rest all is so_far = so_far
+
+-- ---- lists one after the other
+
+pub first_some : {Y : Type 0} (o rest all : Option Y) (y : Y) → o ≡ Some y → option_or o rest ≡ all → Some y ≡ all
+first_some None rest all y is so_far = absurd (cc)
+first_some (Some x) rest all y is so_far = sym is ∙ so_far
+
+pub first_none : {Y : Type 0} (o rest all : Option Y) → o ≡ None → option_or o rest ≡ all → rest ≡ all
+first_none None rest all is so_far = so_far
+first_none (Some x) rest all is so_far = absurd (cc)
+
+-- what the view allows of one list, or else of the next
+pub two_lists : {Y : Type 0} (p : Y → Bool) (xs ys : List Y) (all : Option Y) → find p (xs ++ ys) ≡ all
+    → option_or (find p xs) (find p ys) ≡ all
+two_lists p xs ys all so_far = sym (find-append p xs ys) ∙ so_far
+
+-- ---- the cases from n on
+
+cases_next : (n : ℕ) → n ≤ 16 → cases_from n ≡ n ∷ cases_from (n + 1)
+unfolding cases_from
+cases_next n low =
+    let more : 17 - n ≡ suc (17 - (n + 1)) = omega arith in
+    ap (λ k. range_with_len n k) more
+
+flat_cases : {Y : Type 0} (f : ℕ → List Y) (n : ℕ) → n ≤ 16
+    → flat_map f (cases_from n) ≡ f n ++ flat_map f (cases_from (n + 1))
+flat_cases f n low = ap (flat_map f) (cases_next n low) ∙ flat_map-cons f n (cases_from (n + 1))
+
+pub case_next : {Y : Type 0} (p : Y → Bool) (f : ℕ → List Y) (n : ℕ) (all : Option Y) → n ≤ 16
+    → find p (flat_map f (cases_from n)) ≡ all
+    → option_or (find p (f n)) (find p (flat_map f (cases_from (n + 1)))) ≡ all
+case_next p f n all low so_far =
+    two_lists p (f n) (flat_map f (cases_from (n + 1))) all (sym (ap (find p) (flat_cases f n low)) ∙ so_far)
+
+pub cases_done : {Y : Type 0} (p : Y → Bool) (f : ℕ → List Y) (n : ℕ) (all : Option Y) → 16 < n
+    → find p (flat_map f (cases_from n)) ≡ all → None ≡ all
+cases_done p f n all high so_far = sym (ap (λ ns. find p (flat_map f ns)) (cases_end n high)) ∙ so_far
+
+-- what passes of a case more was added
+pub case_added : {Y : Type 0} (p : Y → Bool) (f : ℕ → List Y) (n : ℕ) (before more all : List Y) → n ≤ 16
+    → more ≡ before ++ filter p (f n) → before ++ filter p (flat_map f (cases_from n)) ≡ all
+    → more ++ filter p (flat_map f (cases_from (n + 1))) ≡ all
+case_added p f n before more all low is so_far =
+    let here = filter p (f n) in
+    let later = flat_map f (cases_from (n + 1)) in
+    let split : filter p (flat_map f (cases_from n)) ≡ here ++ filter p later =
+    ap (filter p) (flat_cases f n low) ∙ filter-append p (f n) later in
+    ap (λ l. l ++ filter p later) is ∙ append_assoc before here (filter p later)
+    ∙ ap (λ l. before ++ l) (sym split) ∙ so_far
+
+pub cases_added : {Y : Type 0} (p : Y → Bool) (f : ℕ → List Y) (n : ℕ) (before all : List Y) → 16 < n
+    → before ++ filter p (flat_map f (cases_from n)) ≡ all → before ≡ all
+cases_added p f n before all high so_far =
+    sym (append-nil before) ∙ ap (λ ns. before ++ filter p (flat_map f ns)) (sym (cases_end n high)) ∙ so_far
+
+-- what passes of five lists was added, of one after the other
+pub all_added : {Y : Type 0} (p : Y → Bool) (a b c d e none r1 r2 r3 r4 all : List Y) → none ≡ []
+    → r1 ≡ none ++ filter p a → r2 ≡ r1 ++ filter p b → r3 ≡ r2 ++ filter p c → r4 ≡ r3 ++ filter p d
+    → all ≡ r4 ++ filter p e → all ≡ filter p (a ++ b ++ c ++ d ++ e)
+all_added p a b c d e none r1 r2 r3 r4 all empty first second third fourth fifth =
+    let one : r1 ≡ filter p a = first ∙ ap (λ l. l ++ filter p a) empty in
+    let two : r2 ≡ filter p (a ++ b) = second ∙ ap (λ l. l ++ filter p b) one ∙ sym (filter-append p a b) in
+    let three : r3 ≡ filter p (a ++ b ++ c) =
+    third ∙ ap (λ l. l ++ filter p c) two ∙ sym (filter-append p (a ++ b) c) in
+    let four : r4 ≡ filter p (a ++ b ++ c ++ d) =
+    fourth ∙ ap (λ l. l ++ filter p d) three ∙ sym (filter-append p (a ++ b ++ c) d) in
+    fifth ∙ ap (λ l. l ++ filter p e) four ∙ sym (filter-append p (a ++ b ++ c ++ d) e)
+
+-- and what was done tells more
+pub if_ok : {X E : Type 0} (r : Result X E) (P Q : X → Type 0) → ((x : X) → P x → Q x) → IfOk r P → IfOk r Q
+if_ok (Ok x) P Q tells is = tells x is
+if_ok (Err f) P Q tells is = tt

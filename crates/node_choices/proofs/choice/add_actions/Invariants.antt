@@ -1,0 +1,13 @@
+-- What was added, and what is left to add, are all that is to be added.
+use Rattle.std.proofs.Common.{◌≡◌, ◌++◌, filter}
+use Rattle.std.specs.List.{flat_map}
+use Rattle.action_tables.specs.Numbers.{all_cases}
+use Rattle.reset_machine.proofs.CaseArguments.{cases_from}
+use Rattle.node_choices.specs.Choice.{case_events, is_allowed}
+use Rattle.node_choices.proofs.choice.add_actions.Given as goal
+
+abbrev pub invariant-loop-case : goal.invariant-loop-case
+invariant-loop-case g l =
+    let test = is_allowed g.P.Application.app l.view in
+    l.allowed.items ++ filter test (flat_map (case_events l.view) (cases_from l.case))
+    ≡ l.initial.allowed.items ++ filter test (flat_map (case_events l.view) all_cases)

@@ -1,0 +1,8 @@
+//! What a node of the distributed reset service might do: its events in a fixed order, and which of them what it
+//! sees allows. Node threads take the first, a scheduler draws among all.
+#![tactic(auto)]
+
+mod choice;
+mod events;
+
+pub use choice::{allowed_events, next_event};

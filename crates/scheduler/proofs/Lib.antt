@@ -1,0 +1,2 @@
+mod EnabledEvents
+mod Steps
