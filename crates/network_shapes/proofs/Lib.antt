@@ -1,0 +1,6 @@
+mod Ranges
+mod Widths
+mod Lesser
+mod Linked
+mod Tables
+mod Shaped
