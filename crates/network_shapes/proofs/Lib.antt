@@ -4,3 +4,4 @@ mod Lesser
 mod Linked
 mod Tables
 mod Shaped
+mod Connected
