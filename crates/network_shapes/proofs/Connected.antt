@@ -1,6 +1,7 @@
 -- The network of a shape is a topology.
 use Rattle.std.proofs.Common.{◌≡◌, ◌≢◌, ℕ, zero, suc, ◌+◌, ◌<◌, ◌≤◌, List, [], ◌∷◌, ◌++◌, length, get_or, All}
-use Rattle.std.proofs.Common.{AllPairs, Contains, refl, sym, ap, subst, ◌∙◌, arith, inl, inr, ⊎_elim, ◌⊎◌, map, Bool, true, false}
+use Rattle.std.proofs.Common.{AllPairs, Contains, refl, sym, ap, subst, ◌∙◌, arith, inl, inr, ⊎_elim, ◌⊎◌, map}
+use Rattle.std.proofs.Common.{Bool, true, false}
 use Rattle.std.specs.FinSet as set
 use Rattle.std.specs.Ordering.{eq_by_cmp}
 use Rattle.std.proofs.lemmas.Bool.{cases_lt}
@@ -101,7 +102,8 @@ module _ (shape : Shape) (count seed : ℕ) (some : 0 < count) (few : count ≤ 
       let once : AllPairs (λ l m. l ≢ m) (ordered_links links) =
       subst (AllPairs (λ l m. l ≢ m)) (sym (ordered_links-upward count links up)) (apart shape count seed some) in
       let different : All (λ l. l.0 ≢ l.1) links =
-      All-weaker (IsUpward count) (λ (l : ℕ × ℕ). l.0 ≢ l.1) (λ l is same. absurd (omega (arith, is.upward))) links up in
+      All-weaker (IsUpward count) (λ (l : ℕ × ℕ). l.0 ≢ l.1) (λ l is same. absurd (omega (arith, is.upward))) links
+      up in
       clean_all nodes links
       (clean_once nodes links
       (clean_apart nodes links

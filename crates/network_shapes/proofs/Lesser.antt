@@ -1,11 +1,11 @@
 -- Each node of a shape but the first is linked with one or two lesser nodes.
-use Rattle.std.proofs.Common.{◌≡◌, ℕ, zero, suc, ◌+◌, ◌-◌, ◌*◌, ◌%◌, ◌<◌, ◌≤◌, ◌==◌, Bool, true, false, min, max, nat_lt}
-use Rattle.std.proofs.Common.{if◌then◌else◌, List, [], ◌∷◌, ◌++◌, nat_le, Some, refl, arith, unwrap_or}
+use Rattle.std.proofs.Common.{◌≡◌, ℕ, zero, suc, ◌+◌, ◌-◌, ◌*◌, ◌%◌, ◌<◌, ◌≤◌, ◌==◌, Bool, true, false, min, max}
+use Rattle.std.proofs.Common.{nat_lt, if◌then◌else◌, List, [], ◌∷◌, ◌++◌, nat_le, Some, refl, arith, unwrap_or}
 use Rattle.std.specs.List.{find, range_with_len}
 use Rattle.std.proofs.Math.Nat.{mod-eq_of_lt}
 use Rattle.std.proofs.lemmas.Bool.{eqb-true, eqb-false, ltb-true, ltb-false, le-ltb, ne_eqb}
 use Rattle.std.proofs.lemmas.Nat.{mod_below}
-use Rattle.network_shapes.specs.Shapes.{both, drawn_below, grid_width, lesser_nodes, word_at}
+use Rattle.network_shapes.specs.Shapes.{both, drawn_below, grid_neighbours, grid_width, lesser_nodes, word_at}
 use Rattle.network_shapes.specs.declared.shape.Shape.{Shape}
 use Rattle.network_shapes.specs.declared.shape.Shape.TheVariants.{Ring, Path, Star, Grid, Tree, Random}
 
@@ -45,9 +45,7 @@ grid_lesser node width wide two false true is_below is_first =
 grid_lesser node width wide two false false is_below is_first = (omega arith, omega arith)
 
 -- the first row: no node is above it
-pub first_row : (node width : ℕ) → 2 ≤ node → node ≤ width
-    → (node - 1) ∷ []
-    ≡ (if nat_lt width node then (node - width) ∷ [] else []) ++ (if (node - 1) % width == 0 then [] else (node - 1) ∷ [])
+pub first_row : (node width : ℕ) → 2 ≤ node → node ≤ width → (node - 1) ∷ [] ≡ grid_neighbours width node
 first_row node width two few =
     let same : (node - 1) % width ≡ node - 1 = mod-eq_of_lt (let less : node - 1 < width = omega arith in less) in
     let some : (node - 1) % width ≡ 0 → ⊥ = λ none. absurd (omega arith) in

@@ -3,5 +3,8 @@ mod Widths
 mod Lesser
 mod Linked
 mod Tables
+mod Written
+mod Lengths
+mod Printed
 mod Shaped
 mod Connected

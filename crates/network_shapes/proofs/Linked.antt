@@ -42,11 +42,14 @@ links_to-apart : (node : ℕ) (js : List ℕ) (ls : List (ℕ × ℕ)) → AreLe
 links_to-apart node [] ls are before apart = absurd are
 links_to-apart node (a ∷ []) ls are before apart =
     apart_push ls (a, node) apart
-    (λ twice. let less : node < node = All-contains (λ (l : ℕ × ℕ). l.1 < node) ls (a, node) before twice in absurd (omega arith))
+    (λ twice.
+    let less : node < node = All-contains (λ (l : ℕ × ℕ). l.1 < node) ls (a, node) before twice in
+    absurd (omega arith))
 links_to-apart node (a ∷ b ∷ []) ls are before apart =
     let once : (x : ℕ) → Contains ls (x, node) → ⊥ =
     λ x twice.
-    let less : node < node = All-contains (λ (l : ℕ × ℕ). l.1 < node) ls (x, node) before twice in absurd (omega arith) in
+    let less : node < node = All-contains (λ (l : ℕ × ℕ). l.1 < node) ls (x, node) before twice in
+    absurd (omega arith) in
     subst (AllPairs (λ l m. l ≢ m)) (append_assoc ls ((a, node) ∷ []) ((b, node) ∷ []))
     (apart_push (ls ++ (a, node) ∷ []) (b, node) (apart_push ls (a, node) apart (once a))
     (λ twice.
@@ -99,7 +102,8 @@ module _ (f : ℕ → List ℕ) (count : ℕ) (lesser : (node : ℕ) → 2 ≤ n
   links_of-few (suc n) few =
       let next : length (links_of (suc n)) ≡ length (links_of n) + length (links_to (n + 2) (f (n + 2))) =
       ap length (links_of-next n) ∙ length-append (links_of n) (links_to (n + 2) (f (n + 2))) in
-      omega (arith, links_of-few n (omega arith), next, links_to-few (n + 2) (f (n + 2)) (lesser (n + 2) (omega arith) (omega arith)))
+      let last = links_to-few (n + 2) (f (n + 2)) (lesser (n + 2) (omega arith) (omega arith)) in
+      omega (arith, links_of-few n (omega arith), next, last)
 
   pub links_of-apart : (n : ℕ) → n < count → AllPairs (λ l m. l ≢ m) (links_of n)
   links_of-apart zero few = λ i j d less within. absurd (omega arith)
@@ -115,7 +119,8 @@ module _ (f : ℕ → List ℕ) (count : ℕ) (lesser : (node : ℕ) → 2 ≤ n
       → (j : ℕ) × (0 < j) × (j < node) × Contains (links_of n) (j, node)
   has_lesser n node few two within = first (f node) refl (lesser node two (omega arith))
     where
-      among : (a : ℕ) (js : List ℕ) → f node ≡ js → Contains (links_to node js) (a, node) → Contains (links_of n) (a, node)
+      among : (a : ℕ) (js : List ℕ) → f node ≡ js → Contains (links_to node js) (a, node)
+          → Contains (links_of n) (a, node)
       among a js is here =
           Contains-range (λ i. links_to i (f i)) 2 n node (a, node) two (omega arith)
           (subst (λ is. Contains (links_to node is) (a, node)) (sym is) here)

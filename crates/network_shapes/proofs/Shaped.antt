@@ -1,5 +1,5 @@
 -- What the descriptions of the shapes have.
-use Rattle.std.proofs.Common.{◌≡◌, ◌≢◌, ℕ, ◌+◌, ◌-◌, ◌*◌, ◌<◌, ◌≤◌, ◌^◌, List, length, All, AllPairs, Contains}
+use Rattle.std.proofs.Common.{◌≡◌, ◌≢◌, ℕ, ◌+◌, ◌-◌, ◌*◌, ◌<◌, ◌≤◌, List, length, All, AllPairs, Contains}
 use Rattle.std.proofs.Common.{subst, arith}
 use Rattle.std.proofs.lemmas.List.Elements.{All-weaker}
 use Rattle.network_shapes.specs.Shapes.{lesser_nodes, node_numbers, shape_links}
@@ -7,8 +7,9 @@ use Rattle.network_shapes.specs.declared.shape.Shape.{Shape}
 use Rattle.network_shapes.proofs.Lesser.{lesser_nodes-are}
 use Rattle.network_shapes.proofs.Linked.{IsUpward, has_lesser, links_of-apart, links_of-few, links_of-upward}
 use Rattle.network_shapes.proofs.Ranges.{number_at}
+use Rattle.network_shapes.proofs.Tables.{IsSmall, IsSmallLink}
 
-pub node_numbers-small : (count : ℕ) → count ≤ 1024 → All (λ n. n < 2 ^ 32) (node_numbers count)
+pub node_numbers-small : (count : ℕ) → count ≤ 1024 → All IsSmall (node_numbers count)
 node_numbers-small count few k d within =
     let at = number_at count k d within in
     omega (arith, at.0, at.1)
@@ -35,7 +36,7 @@ module _ (shape : Shape) (count seed : ℕ) (some : 0 < count) where
   lesser_link node two within =
       has_lesser lesser count (lesser_nodes-are shape count seed) (count - 1) node (omega arith) two (omega arith)
 
-  pub shape_links-small : count ≤ 1024 → All (λ l. (l.0 < 2 ^ 32) × (l.1 < 2 ^ 32)) (shape_links shape count seed)
+  pub shape_links-small : count ≤ 1024 → All IsSmallLink (shape_links shape count seed)
   shape_links-small few =
-      All-weaker (IsUpward count) (λ (l : ℕ × ℕ). (l.0 < 2 ^ 32) × (l.1 < 2 ^ 32))
+      All-weaker (IsUpward count) IsSmallLink
       (λ l is. (omega (arith, is.upward, is.within), omega (arith, is.within))) (shape_links shape count seed) upward

@@ -1,2 +1,2 @@
 pub mod Shapes
-pub mod Printed
+pub mod TopologyTable

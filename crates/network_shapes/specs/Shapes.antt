@@ -1,6 +1,6 @@
 -- The networks of the standard shapes.
-use Rattle.std.specs.Prelude.{ℕ, ◌+◌, ◌-◌, ◌*◌, ◌/◌, ◌%◌, ◌==◌, nat_lt, nat_le, min, max, if◌then◌else◌, List, [], ◌∷◌, ◌++◌}
-use Rattle.std.specs.Prelude.{map, flat_map, find, unwrap_or}
+use Rattle.std.specs.Prelude.{ℕ, ◌+◌, ◌-◌, ◌*◌, ◌/◌, ◌%◌, ◌==◌, nat_lt, nat_le, min, max, if◌then◌else◌, List, []}
+use Rattle.std.specs.Prelude.{◌∷◌, ◌++◌, map, flat_map, find, unwrap_or}
 use Rattle.std.specs.List.{range_with_len}
 use Rattle.rand_core.specs.Pcg32Seed.{pcg32_seed}
 use Rattle.rand_pcg.specs.Lcg.{advance}
@@ -30,18 +30,25 @@ drawn_below node word = 1 + word % (node - 1)
 abbrev pub both : ℕ → ℕ → List ℕ
 both a b = if a == b then a ∷ [] else min a b ∷ max a b ∷ []
 
+-- the node above and the node before, in a grid with rows of this width
+abbrev pub grid_neighbours : ℕ → ℕ → List ℕ
+grid_neighbours width node =
+    (if nat_lt width node then (node - width) ∷ [] else [])
+    ++ (if (node - 1) % width == 0 then [] else (node - 1) ∷ [])
+
+-- the lesser nodes that the two words of a node draw: words 0 and 1 are those of node 2
+abbrev pub drawn_nodes : ℕ → ℕ → List ℕ
+drawn_nodes seed node =
+    both (drawn_below node (word_at seed (2 * (node - 2)))) (drawn_below node (word_at seed (2 * (node - 2) + 1)))
+
 -- the lesser nodes, ascending, that a node from 2 to count is linked with
 abbrev pub lesser_nodes : Shape → ℕ → ℕ → ℕ → List ℕ
 lesser_nodes Ring count seed node = if node == count then both 1 (node - 1) else (node - 1) ∷ []
 lesser_nodes Path count seed node = (node - 1) ∷ []
 lesser_nodes Star count seed node = 1 ∷ []
-lesser_nodes Grid count seed node =
-    let width = grid_width count in
-    (if nat_lt width node then (node - width) ∷ [] else [])
-    ++ (if (node - 1) % width == 0 then [] else (node - 1) ∷ [])
+lesser_nodes Grid count seed node = grid_neighbours (grid_width count) node
 lesser_nodes Tree count seed node = node / 2 ∷ []
-lesser_nodes Random count seed node =
-    both (drawn_below node (word_at seed (2 * (node - 2)))) (drawn_below node (word_at seed (2 * (node - 2) + 1)))
+lesser_nodes Random count seed node = drawn_nodes seed node
 
 -- the links of a node with these others, which are named first
 abbrev pub links_to : ℕ → List ℕ → List (ℕ × ℕ)

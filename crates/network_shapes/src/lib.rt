@@ -9,4 +9,4 @@ mod text;
 
 pub use laws::shapes_are_topologies;
 pub use shape::Shape;
-pub use text::{ShapeFault, shape_text};
+pub use text::shape_text;

@@ -1,10 +1,9 @@
 // The links of the standard shapes.
 
-ghost use Rattle.std.specs.Prelude.{◌≡◌, ◌+◌, ◌-◌, ◌*◌, ◌%◌, ◌<◌, ◌≤◌, ◌∷◌, ◌++◌, ◌==◌, [], IfOk, OnOk, nat_lt};
-ghost use Rattle.std.specs.Prelude.{if◌then◌else◌};
+ghost use Rattle.std.specs.Prelude.{◌≡◌, ◌<◌, ◌≤◌, ◌∷◌, ◌++◌, IfOk, OnOk};
 ghost use Rattle.std.specs.Option.{option_to_list};
-ghost use Rattle.network_shapes.specs.Shapes.{both, drawn_below, grid_width, lesser_nodes, links_to, node_numbers};
-ghost use Rattle.network_shapes.specs.Shapes.{shape_links, word_at};
+ghost use Rattle.network_shapes.specs.Shapes.{both, drawn_nodes, grid_neighbours, grid_width, lesser_nodes};
+ghost use Rattle.network_shapes.specs.Shapes.{links_to, node_numbers, shape_links, word_at};
 
 use crate::shape::Shape;
 use rand_core::SeedableRng;
@@ -81,9 +80,7 @@ fn lesser_nodes(shape: Shape, count: u32, seed: u32, node: u32) -> (u32, Option<
 fn grid_neighbours(width: u32, node: u32) -> (u32, Option<u32>)
     requires wide { 0 < width }
     requires from_two { 2 ≤ node }
-    ensures { result.0 ∷ option_to_list result.1
-        ≡ (if nat_lt width node then (node - width) ∷ [] else [])
-        ++ (if (node - 1) % width == 0 then [] else (node - 1) ∷ []) }
+    ensures { result.0 ∷ option_to_list result.1 ≡ grid_neighbours width node }
 {
     if node <= width {
         (node - 1, None)
@@ -109,8 +106,7 @@ fn grid_width(count: u32) -> u32
 fn drawn_nodes(seed: u32, node: u32) -> (u32, Option<u32>)
     requires from_two { 2 ≤ node }
     requires few { node ≤ 1024 }
-    ensures { result.0 ∷ option_to_list result.1
-        ≡ both (drawn_below node (word_at seed (2 * (node - 2)))) (drawn_below node (word_at seed (2 * (node - 2) + 1))) }
+    ensures { result.0 ∷ option_to_list result.1 ≡ drawn_nodes seed node }
 {
     let index = 2 * (node - 2);
     let first = 1 + word_at(seed, index) % (node - 1);
