@@ -1,0 +1,193 @@
+-- The network of a shape is a topology.
+use Rattle.std.proofs.Common.{◌≡◌, ◌≢◌, ℕ, zero, suc, ◌+◌, ◌<◌, ◌≤◌, List, [], ◌∷◌, ◌++◌, length, get_or, All}
+use Rattle.std.proofs.Common.{AllPairs, Contains, refl, sym, ap, subst, ◌∙◌, arith, inl, inr, ⊎_elim, ◌⊎◌, map}
+use Rattle.std.proofs.Common.{Bool, true, false}
+use Rattle.std.specs.FinSet as set
+use Rattle.std.specs.Ordering.{eq_by_cmp}
+use Rattle.std.proofs.lemmas.Bool.{cases_lt}
+use Rattle.std.proofs.lemmas.List.{get_or-map, get_or_default, length-map}
+use Rattle.std.proofs.lemmas.List.Elements.{All-contains, All-weaker, Contains-append_cases, Contains-append_left}
+use Rattle.std.proofs.lemmas.List.Elements.{Contains-append_right}
+use Rattle.std.proofs.lemmas.List.Folds.{Any-from_list_any, list_any-from_Any}
+use Rattle.std.proofs.lemmas.List.FromFn.{length-range_with_len}
+use Rattle.topology.specs.Faults.{HasFault, IsCutOff, IsGraphOf, IsTopologyOf, ordered_links}
+use Rattle.topology.specs.Graph.{Graph, AreLinked, IsGraph, IsNode, IsReached, are_linked, pair_cmp}
+use Rattle.topology.specs.Id.{IsId}
+use Rattle.topology.specs.declared.fault.TopoFault.{TopoFault}
+use Rattle.topology.proofs.FaultOrder.{clean_all, clean_apart, clean_distinct, clean_few, clean_ids, clean_known}
+use Rattle.topology.proofs.FaultOrder.{clean_links, clean_once, clean_some}
+use Rattle.topology.proofs.RowLemmas.{pair_itself, pair_total, same_pair}
+use Rattle.topology.proofs.Walks.{reached_back, walk_on}
+use Rattle.network_shapes.specs.Shapes.{node_numbers, shape_links}
+use Rattle.network_shapes.specs.declared.shape.Shape.{Shape}
+use Rattle.network_shapes.proofs.Linked.{IsUpward, ends_of-upward, ordered_links-upward}
+use Rattle.network_shapes.proofs.Ranges.{has_number, number_at}
+use Rattle.network_shapes.proofs.Shaped.{apart, few_links, lesser_link, upward}
+
+node_numbers-ids : (count : ℕ) → count ≤ 1024 → All IsId (node_numbers count)
+node_numbers-ids count few k d within =
+    let at = number_at count k d within in
+    record { positive = omega (arith, at.0); small = omega (arith, at.0, at.1) }
+
+node_numbers-apart : (count : ℕ) → AllPairs (λ x y. x ≢ y) (node_numbers count)
+node_numbers-apart count i j d less within same =
+    let first = number_at count i d (omega arith) in
+    let second = number_at count j d within in
+    absurd (omega (arith, first.0, second.0))
+
+-- a link from the other end
+abbrev turned : ℕ × ℕ → ℕ × ℕ
+turned l = (l.1, l.0)
+
+turned_there : (ls : List (ℕ × ℕ)) (l : ℕ × ℕ) → Contains ls l → Contains (map turned ls) (turned l)
+turned_there ls l at = (
+  at.0,
+  omega (arith, at.1, length-map ls turned),
+  get_or-map turned ls at.0 l (turned l) at.1 ∙ ap turned at.2,
+)
+
+turned_back : (ls : List (ℕ × ℕ)) (l : ℕ × ℕ) → Contains (map turned ls) l → Contains ls (turned l)
+turned_back ls l at =
+    let low : at.0 < length ls = omega (arith, at.1, length-map ls turned) in
+    (at.0, low, ap turned (sym (get_or-map turned ls at.0 (turned l) l low) ∙ at.2))
+
+-- two tests that tell each other
+same_tests : (s t : Bool) → (s ≡ true → t ≡ true) → (t ≡ true → s ≡ true) → s ≡ t
+same_tests true t to from = sym (to refl)
+same_tests false true to from = from refl
+same_tests false false to from = refl
+
+module _ (shape : Shape) (count seed : ℕ) (some : 0 < count) (few : count ≤ 1024) where
+  abbrev nodes : List ℕ
+  nodes = node_numbers count
+
+  abbrev links : List (ℕ × ℕ)
+  links = shape_links shape count seed
+
+  module _ (g : Graph) (of : IsGraphOf nodes links g) where
+    -- by way of lesser and lesser nodes, each node is reached from node 1
+    from_one : (bound node : ℕ) → node < bound → 0 < node → node ≤ count → IsReached g 1 node
+    from_one zero node less positive within = absurd (omega arith)
+    from_one (suc bound) node less positive within =
+        ⊎_elim
+        (λ more.
+        let near = lesser_link shape count seed some node more within in
+        let j : ℕ = near.0 in
+        let before = from_one bound j (omega (arith, near.2)) near.1 (omega (arith, near.2)) in
+        let linked = (of.same_links j node).1 (inl near.3) in
+        (before.0 ++ node ∷ [], walk_on g 1 j node before.0 (node ∷ []) before.1 (linked, refl)))
+        (λ one. let same : 1 ≡ node = omega arith in ([], same))
+        (cases_lt 1 node)
+
+    number_of_node : (n : ℕ) → IsNode g n → (0 < n) × (n ≤ count)
+    number_of_node n node =
+        let at = (of.same_nodes n).0 node in
+        let number = number_at count at.0 n at.1 in
+        (omega (arith, at.2, number.0), omega (arith, at.2, number.0, number.1))
+
+    no_cut_off : (n : ℕ) → IsCutOff g n → ⊥
+    no_cut_off n cut =
+        let first : ℕ = get_or g.ids 0 0 in
+        let first_in : IsNode g first = (0, of.as_graph.some, get_or_default g.ids 0 first 0 of.as_graph.some) in
+        let low = number_of_node first first_in in
+        let high = number_of_node n cut.node in
+        let back = reached_back g of.as_graph 1 first (from_one (first + 1) first (omega arith) low.0 low.1) in
+        let there = from_one (n + 1) n (omega arith) high.0 high.1 in
+        cut.cut_off (back.0 ++ there.0, walk_on g first 1 n back.0 there.0 back.1 there.1)
+
+  sound : (f : TopoFault) → HasFault nodes links f → ⊥
+  sound =
+      let count_of : length nodes ≡ count = length-range_with_len 1 count in
+      let up = upward shape count seed some in
+      let once : AllPairs (λ l m. l ≢ m) (ordered_links links) =
+      subst (AllPairs (λ l m. l ≢ m)) (sym (ordered_links-upward count links up)) (apart shape count seed some) in
+      let different : All (λ l. l.0 ≢ l.1) links =
+      All-weaker (IsUpward count) (λ (l : ℕ × ℕ). l.0 ≢ l.1) (λ l is same. absurd (omega (arith, is.upward))) links
+      up in
+      clean_all nodes links
+      (clean_once nodes links
+      (clean_apart nodes links
+      (clean_known nodes links
+      (clean_links nodes links
+      (clean_distinct nodes links
+      (clean_ids nodes links
+      (clean_few nodes links (clean_some nodes links (λ none. absurd (omega (arith, ap length none)))) (omega arith))
+      (node_numbers-ids count few))
+      (node_numbers-apart count))
+      (omega (arith, few_links shape count seed some)))
+      (ends_of-upward count links up))
+      different)
+      once)
+      (λ n has. no_cut_off has.0 has.1 n has.2)
+
+  -- ---- the graph
+
+  -- each link in both directions
+  abbrev pairs : List (ℕ × ℕ)
+  pairs = links ++ map turned links
+
+  abbrev graph : Graph
+  graph = record { ids = nodes; bound = count; links = set.from_list pairs }
+
+  linked_from : (a b : ℕ) → AreLinked graph a b → Contains links (a, b) ⊎ Contains links (b, a)
+  linked_from a b linked =
+      let at =
+      Any-from_list_any (eq_by_cmp pair_cmp (a, b)) pairs
+      (sym (set.contains-from_list pair_total pairs (a, b)) ∙ linked) in
+      let p : ℕ × ℕ = at.1 in
+      let same : (a, b) ≡ p = same_pair (a, b) p at.4 in
+      let there : Contains pairs (a, b) = subst (Contains pairs) (sym same) (at.0, at.2, at.3) in
+      ⊎_elim (λ here. inl here) (λ back. inr (turned_back links (a, b) back))
+      (Contains-append_cases links (map turned links) (a, b) there)
+
+  linked_by : (a b : ℕ) → Contains pairs (a, b) → AreLinked graph a b
+  linked_by a b there =
+      set.contains-from_list pair_total pairs (a, b)
+      ∙ list_any-from_Any (eq_by_cmp pair_cmp (a, b)) pairs (there.0, (a, b), there.1, there.2, pair_itself (a, b))
+
+  linked_to : (a b : ℕ) → Contains links (a, b) ⊎ Contains links (b, a) → AreLinked graph a b
+  linked_to a b at =
+      linked_by a b
+      (⊎_elim (λ here. Contains-append_left links (map turned links) (a, b) here)
+      (λ back. Contains-append_right links (map turned links) (a, b) (turned_there links (b, a) back)) at)
+
+  other_way : (a b : ℕ) → AreLinked graph a b → AreLinked graph b a
+  other_way a b linked = linked_to b a (⊎_elim (λ here. inr here) (λ back. inl back) (linked_from a b linked))
+
+  upward_link : (a b : ℕ) → Contains links (a, b) → IsUpward count (a, b)
+  upward_link a b at = All-contains (IsUpward count) links (a, b) (upward shape count seed some) at
+
+  as_graph : IsGraph graph
+  as_graph = record {
+    some = omega (arith, length-range_with_len 1 count);
+    bounded = omega (arith, length-range_with_len 1 count);
+    ascending = λ k within.
+        let here = number_at count k 0 (omega arith) in
+        let next = number_at count (k + 1) 0 within in
+        omega (arith, here.0, next.0);
+    symmetric = λ a b. same_tests (are_linked graph a b) (are_linked graph b a) (other_way a b) (other_way b a);
+    irreflexive = λ a linked.
+        ⊎_elim (λ at. let up = upward_link a a at in absurd (omega (arith, up.upward)))
+        (λ at. let up = upward_link a a at in absurd (omega (arith, up.upward))) (linked_from a a linked);
+    ends = λ a b linked.
+        ⊎_elim
+        (λ at. let up = upward_link a b at in has_number count a up.some (omega (arith, up.upward, up.within)))
+        (λ at. let up = upward_link b a at in has_number count a (omega (arith, up.upward)) up.within)
+        (linked_from a b linked);
+  }
+
+  pub topology : IsTopologyOf nodes links graph
+  topology = record {
+    sound = sound;
+    exact = record {
+      as_graph = as_graph;
+      bound = sym (length-range_with_len 1 count);
+      same_nodes = λ i. (λ at. at, λ at. at);
+      same_links = λ a b. (linked_from a b, linked_to a b);
+    };
+  }
+
+-- the network of each shape is a topology
+pub shape_topology : (shape : Shape) (count seed : ℕ) → 0 < count → count ≤ 1024
+    → (g : Graph) × IsTopologyOf (node_numbers count) (shape_links shape count seed) g
+shape_topology shape count seed some few = (graph shape count seed some few, topology shape count seed some few)

@@ -1,0 +1,10 @@
+mod Ranges
+mod Widths
+mod Lesser
+mod Linked
+mod Tables
+mod Written
+mod Lengths
+mod Printed
+mod Shaped
+mod Connected

@@ -1,0 +1,5 @@
+use Rattle.network_shapes.proofs.Connected.{shape_topology}
+use Rattle.network_shapes.proofs.laws.shapes_are_topologies.Goals as goal
+
+pub returns : goal.returns
+returns c = shape_topology

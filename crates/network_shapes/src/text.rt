@@ -1,0 +1,55 @@
+//! The topology texts of the standard shapes.
+
+ghost use Rattle.std.specs.Prelude.{◌≡◌, ◌<◌, ◌≤◌, IfOk, Some, false, string_bytes, true};
+ghost use Rattle.toml.specs.Data.{members_depth, members_have_valid_dates};
+ghost use Rattle.toml.specs.Parse.{parse_document};
+ghost use Rattle.toml.specs.Text.{IsDocumentText};
+ghost use Rattle.toml.specs.View.{table_view};
+ghost use Rattle.topology.specs.TopologyText.{description_of};
+ghost use Rattle.network_shapes.specs.Shapes.{shape_description};
+ghost use Rattle.network_shapes.specs.TopologyTable.{description_text};
+
+use crate::links::{node_numbers, shape_links};
+use crate::shape::Shape;
+use crate::table::description_table;
+use std::alloc::{AllocError, Global};
+use toml::Table;
+use topology::AppName;
+
+/// The topology text of a shape with the nodes 1 to `count`, from 1 to 1,024 of them. `seed` matters
+/// to `Shape::Random` alone. `read_topology` accepts the text, unless memory is wanting there
+/// (`shapes_are_topologies`).
+pub fn shape_text(
+    alloc: Global,
+    shape: Shape,
+    count: u32,
+    seed: u32,
+    app: AppName,
+) -> Result<String, AllocError>
+    requires some { 0 < count }
+    requires few { count ≤ 1024 }
+    ensures text { IfOk result (λ text. string_bytes text ≡ description_text (shape_description shape count seed app)) }
+    ensures described { IfOk result
+        (λ text. description_of (string_bytes text) ≡ Ok (shape_description shape count seed app)) }
+{
+    let nodes = node_numbers(alloc, count)?;
+    let links = shape_links(alloc, shape, count, seed)?;
+    let table = description_table(alloc, &nodes, &links, app)?;
+    printed(alloc, &table)
+}
+
+// A table with no date that isn't one, as a text.
+fn printed(alloc: Global, table: &Table) -> Result<String, AllocError>
+    requires { members_have_valid_dates (table_view table.now) ≡ true }
+    ensures text { IfOk result (λ text. IsDocumentText false (table_view table.now) (string_bytes text)) }
+    ensures reads_back { IfOk result (λ text. members_depth (table_view table.now) ≤ 80
+        → parse_document (string_bytes text) ≡ Some (table_view table.now)) }
+{
+    match toml::table_to_string(alloc, table) {
+        Ok(text) => Ok(text),
+        Err(error) => {
+            prove!(matches!(&error, toml::ser::Error::OutOfMemory));
+            Err(AllocError)
+        }
+    }
+}
