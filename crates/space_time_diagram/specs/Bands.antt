@@ -40,9 +40,9 @@ band lane count place i regs = record {
   regs = regs;
 }
 
--- the bands of the opening, one a node
-abbrev pub opening_bands : {L : Type 0} → Configuration L → ℕ → List Band
-opening_bands c count = map (λ i. band (lane_of c) count 0 i (wave_of c i)) c.graph.ids
+-- the band of a node in the opening
+abbrev pub opening_band : {L : Type 0} → Configuration L → ℕ → ℕ → Band
+opening_band c count i = band (lane_of c) count 0 i (wave_of c i)
 
 -- the bands of entries from c on, the first of which has this position: each begins one at its node, with the
 -- registers that it leaves there
@@ -56,15 +56,19 @@ bands_from app from_text lane count c place (e ∷ es) =
 -- the bands of a picture, in the order in which they are painted: each covers what an earlier one has below it
 abbrev pub bands_of : {L : Type 0} → App L → (List ℕ → Option L) → Configuration L → List Entry → List Band
 bands_of app from_text c es =
-    opening_bands c (length es) ++ bands_from app from_text (lane_of c) (length es) c 1 es
+    map (opening_band c (length es)) c.graph.ids ++ bands_from app from_text (lane_of c) (length es) c 1 es
 
--- a band: the session as a wide pale rectangle in one of six colours, and the phase as a narrow one before it
-abbrev pub band_text : Band → List ℕ
-band_text b = concat (codes "<g transform='translate(" ∷ decimal b.x ∷ codes " " ∷ decimal b.y ∷ codes ")'><title>node "
-    ∷ decimal b.node ∷ codes ": " ∷ phase_name b.regs.phase ∷ codes ", session " ∷ decimal b.regs.session
+-- a band, whose phase has this name: the session as a wide pale rectangle in one of six colours, and the phase as a
+-- narrow one before it
+unfoldable pub phase_band_text : Band → List ℕ → List ℕ
+phase_band_text b phase = concat (codes "<g transform='translate(" ∷ decimal b.x ∷ codes " " ∷ decimal b.y
+    ∷ codes ")'><title>node " ∷ decimal b.node ∷ codes ": " ∷ phase ∷ codes ", session " ∷ decimal b.regs.session
     ∷ codes "</title><rect class='s" ∷ decimal (b.regs.session % 6) ∷ codes "' x='-26' width='52' height='"
-    ∷ decimal b.height ∷ codes "'/><rect class='" ∷ phase_name b.regs.phase ∷ codes "' x='-5' width='10' height='"
-    ∷ decimal b.height ∷ codes "'/></g>\n" ∷ [])
+    ∷ decimal b.height ∷ codes "'/><rect class='" ∷ phase ∷ codes "' x='-5' width='10' height='" ∷ decimal b.height
+    ∷ codes "'/></g>\n" ∷ [])
+
+abbrev pub band_text : Band → List ℕ
+band_text b = phase_band_text b (phase_name b.regs.phase)
 
 -- the bands of a picture
 abbrev pub bands_text : List Band → List ℕ

@@ -5,26 +5,29 @@ use Rattle.std.specs.List.{concat, flat_map}
 use Rattle.history.specs.declared.entry.Report.{Report}
 use Rattle.space_time_diagram.specs.Page.{right_end, row_y}
 
--- where a completion stands, and its words to be read there: its session and the position at which it was told, and
--- that of the opening, where it is known
-abbrev pub completion_title : ℕ → Option ℕ → ℕ → List ℕ
-completion_title session (Some opened) finished =
-    concat (codes "<g class='completion' transform='translate(0 " ∷ decimal (row_y finished) ∷ codes ")'><title>session "
-    ∷ decimal session ∷ codes ": opened at " ∷ decimal opened ∷ codes ", complete at " ∷ decimal finished
-    ∷ codes "</title>" ∷ [])
-completion_title session None finished =
-    concat (codes "<g class='completion' transform='translate(0 " ∷ decimal (row_y finished) ∷ codes ")'><title>session "
-    ∷ decimal session ∷ codes ": complete at " ∷ decimal finished ∷ codes "</title>" ∷ [])
+-- the words of a completion, to be read at its line: its session, the position at which it was told, and that of the
+-- opening where it is known
+unfoldable pub completion_words : ℕ → Option ℕ → ℕ → List ℕ
+completion_words session (Some opened) finished =
+    concat (codes "<title>session " ∷ decimal session ∷ codes ": opened at " ∷ decimal opened ∷ codes ", complete at "
+    ∷ decimal finished ∷ codes "</title>" ∷ [])
+completion_words session None finished =
+    concat (codes "<title>session " ∷ decimal session ∷ codes ": complete at " ∷ decimal finished ∷ codes "</title>" ∷ [])
 
--- its line across all lanes, with the session at the right end
-abbrev pub completion_line : ℕ → ℕ → List ℕ
-completion_line lanes session =
-    concat (codes "<path d='M44 0H" ∷ decimal (right_end lanes) ∷ codes "'/><text dx='6' dy='4' x='"
-    ∷ decimal (right_end lanes) ∷ codes "'>session " ∷ decimal session ∷ codes " complete</text></g>\n" ∷ [])
+-- the tag of a completion, whose row is at y
+unfoldable pub completion_tag : ℕ → List ℕ
+completion_tag y = concat (codes "<g class='completion' transform='translate(0 " ∷ decimal y ∷ codes ")'>" ∷ [])
+
+-- its line across all lanes to x, with the session at the right end
+unfoldable pub completion_line : ℕ → ℕ → List ℕ
+completion_line x session =
+    concat (codes "<path d='M44 0H" ∷ decimal x ∷ codes "'/><text dx='6' dy='4' x='" ∷ decimal x ∷ codes "'>session "
+    ∷ decimal session ∷ codes " complete</text></g>\n" ∷ [])
 
 -- where a session was told complete
 abbrev pub completion : ℕ → Report → List ℕ
-completion lanes r = completion_title r.number r.opened r.finished ++ completion_line lanes r.number
+completion lanes r = completion_tag (row_y r.finished)
+    ++ (completion_words r.number r.opened r.finished ++ completion_line (right_end lanes) r.number)
 
 -- those of all reports
 abbrev pub completions : ℕ → List Report → List ℕ

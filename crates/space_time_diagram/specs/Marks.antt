@@ -38,14 +38,18 @@ abbrev pub entry_kind : Entry → List ℕ
 entry_kind (Step e) = event_kind e
 entry_kind (Disturbed f) = codes "fault"
 
--- the mark of the entry at a position, on the lane of its node, with its line to be read there, and its position at
--- the left
-abbrev pub mark : (ℕ → ℕ) → ℕ → Entry → List ℕ
-mark lane place e = concat (codes "<g class='mark " ∷ entry_kind e ∷ codes "' transform='translate("
-    ∷ decimal (lane_x (lane (entry_node e))) ∷ codes " " ∷ decimal (row_y place) ∷ codes ")'><title>"
-    ∷ decimal place ∷ codes ": " ∷ escaped (entry_line e) ∷ codes "</title><use href='#" ∷ entry_kind e
-    ∷ codes "'/></g>\n<text class='place' x='36' y='" ∷ decimal (row_y place) ∷ codes "'>" ∷ decimal place
+-- a mark at x and y, of this kind, with the line of its entry to be read there, and the position of the entry at the
+-- left
+unfoldable pub mark_text : List ℕ → ℕ → ℕ → ℕ → List ℕ → List ℕ
+mark_text kind x y place line = concat (codes "<g class='mark " ∷ kind ∷ codes "' transform='translate(" ∷ decimal x
+    ∷ codes " " ∷ decimal y ∷ codes ")'><title>" ∷ decimal place ∷ codes ": " ∷ line ∷ codes "</title><use href='#"
+    ∷ kind ∷ codes "'/></g>\n<text class='place' x='36' y='" ∷ decimal y ∷ codes "'>" ∷ decimal place
     ∷ codes "</text>\n" ∷ [])
+
+-- the mark of the entry at a position, on the lane of its node
+abbrev pub mark : (ℕ → ℕ) → ℕ → Entry → List ℕ
+mark lane place e =
+    mark_text (entry_kind e) (lane_x (lane (entry_node e))) (row_y place) place (escaped (entry_line e))
 
 -- the marks of entries, the first of which has this position
 unfoldable pub marks_from : (ℕ → ℕ) → ℕ → List Entry → List ℕ

@@ -1,12 +1,12 @@
 // The bands: what the wave registers of a node are, from the entry that left them on.
 
-ghost use Rattle.std.specs.Prelude.{◌≡◌, ◌≤◌, IfOk, IsSome, OnErr, OnOk, length};
+ghost use Rattle.std.specs.Prelude.{◌≡◌, ◌≤◌, IfOk, IsSome, OnErr, OnOk, length, map};
 ghost use Rattle.std.specs.Io.KnownBytes.{Appends};
 ghost use Rattle.action_tables.specs.Written.{AppendsPrefix};
 ghost use Rattle.reset_model.specs.Configuration.{wave_of};
 ghost use Rattle.history.specs.Entries.{replayed};
 ghost use Rattle.space_time_diagram.specs.Bands.{band, band_text, bands_of, bands_text, entry_node, fault_node};
-ghost use Rattle.space_time_diagram.specs.Bands.{opening_bands};
+ghost use Rattle.space_time_diagram.specs.Bands.{opening_band, phase_band_text};
 ghost use Rattle.space_time_diagram.specs.Lanes.{lane_of};
 
 use crate::lane::{lane_of, wave_at};
@@ -63,7 +63,7 @@ pub fn bands_of<P: Application>(
     requires run { IsSome (replayed P.app P.from_text opening.now entries.now) }
     ensures { IfOk result (λ bands. bands.items ≡ bands_of P.app P.from_text opening.now entries.now) }
 {
-    let mut bands = opening_bands(alloc, opening, entries.len())?;
+    let mut bands = opening_bands(alloc, opening, opening.topology().ids(), entries.len())?;
     let mut config = opening.copy(alloc)?;
     let mut place = 0;
     for entry in entries {
@@ -74,18 +74,19 @@ pub fn bands_of<P: Application>(
     Ok(bands)
 }
 
-// The bands of the opening, one a node.
+// The bands of these nodes in the opening.
 fn opening_bands<P: Application>(
     alloc: Global,
     opening: &Config<P>,
+    ids: &[u32],
     count: usize,
 ) -> Result<Vec<Band>, AllocError>
     requires lanes { length opening.now.graph.ids ≤ MAX_LANES }
     requires marks { count ≤ MAX_MARKS }
-    ensures { IfOk result (λ bands. bands.items ≡ opening_bands opening.now count) }
+    ensures { IfOk result (λ bands. bands.items ≡ map (opening_band opening.now count) ids.now) }
 {
     let mut bands = Vec::new(alloc);
-    for id in opening.topology().ids() {
+    for id in ids {
         bands.push(band_at(opening, opening, count, 0, *id))?;
     }
     Ok(bands)
@@ -129,7 +130,17 @@ fn put_band<W: Write>(out: &mut W, band: Band) -> Result<(), WriteFault>
     ensures ok { OnOk result (Appends (W.contents out.old) (W.contents out.new) (band_text band)) }
     ensures err { OnErr result (AppendsPrefix (W.contents out.old) (W.contents out.new) (band_text band)) }
 {
-    let phase = band.regs.phase.name().as_bytes();
+    put_band_of_phase(out, band, band.regs.phase.name().as_bytes())
+}
+
+// Writes a band, whose phase has this name.
+#[tactic(auto, unfolding(crate::specs::Bands::phase_band_text))]
+fn put_band_of_phase<W: Write>(out: &mut W, band: Band, phase: &[u8]) -> Result<(), WriteFault>
+    ensures ok { OnOk result (Appends (W.contents out.old) (W.contents out.new) (phase_band_text band phase.now)) }
+    ensures err { OnErr result
+        (AppendsPrefix (W.contents out.old) (W.contents out.new) (phase_band_text band phase.now)) }
+{
+    let session = band.regs.session as u64;
     put_parts(
         out,
         &[
@@ -138,13 +149,13 @@ fn put_band<W: Write>(out: &mut W, band: Band) -> Result<(), WriteFault>
             Part::Text(b" "),
             Part::Number(band.y),
             Part::Text(b")'><title>node "),
-            Part::Number(u64::from(band.node)),
+            Part::Number(band.node as u64),
             Part::Text(b": "),
             Part::Text(phase),
             Part::Text(b", session "),
-            Part::Number(u64::from(band.regs.session)),
+            Part::Number(session),
             Part::Text(b"</title><rect class='s"),
-            Part::Number(u64::from(band.regs.session % 6)),
+            Part::Number(session % 6),
             Part::Text(b"' x='-26' width='52' height='"),
             Part::Number(band.height),
             Part::Text(b"'/><rect class='"),

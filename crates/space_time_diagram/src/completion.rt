@@ -1,9 +1,10 @@
 // The lines of completions.
 
-ghost use Rattle.std.specs.Prelude.{◌≡◌, ◌≤◌, All, OnErr, OnOk};
+ghost use Rattle.std.specs.Prelude.{◌≡◌, ◌≤◌, ◌++◌, All, OnErr, OnOk};
 ghost use Rattle.std.specs.Io.KnownBytes.{Appends};
 ghost use Rattle.action_tables.specs.Written.{AppendsPrefix};
-ghost use Rattle.space_time_diagram.specs.Completions.{completion, completion_line, completion_title, completions};
+ghost use Rattle.space_time_diagram.specs.Completions.{completion, completion_line, completion_tag, completion_words};
+ghost use Rattle.space_time_diagram.specs.Completions.{completions};
 
 use crate::page::{MAX_LANES, MAX_MARKS, right_end, row_y};
 use action_tables::{Part, WriteFault, put_parts};
@@ -35,30 +36,60 @@ fn put_completion<W: Write>(out: &mut W, lanes: usize, report: Report) -> Result
     ensures ok { OnOk result (Appends (W.contents out.old) (W.contents out.new) (completion lanes report)) }
     ensures err { OnErr result (AppendsPrefix (W.contents out.old) (W.contents out.new) (completion lanes report)) }
 {
-    put_title(out, report)?;
-    put_line(out, lanes, report.number)
+    put_tag(out, row_y(report.finished))?;
+    put_words_and_line(out, right_end(lanes), report)
 }
 
-// Writes where a completion stands, and its words.
-fn put_title<W: Write>(out: &mut W, report: Report) -> Result<(), WriteFault>
-    requires { report.finished ≤ MAX_MARKS }
-    ensures ok { OnOk result
-        (Appends (W.contents out.old) (W.contents out.new)
-        (completion_title report.number report.opened report.finished)) }
-    ensures err { OnErr result
-        (AppendsPrefix (W.contents out.old) (W.contents out.new)
-        (completion_title report.number report.opened report.finished)) }
+// Writes the tag of a completion, whose row is at y.
+#[tactic(auto, unfolding(crate::specs::Completions::completion_tag))]
+fn put_tag<W: Write>(out: &mut W, y: u64) -> Result<(), WriteFault>
+    ensures ok { OnOk result (Appends (W.contents out.old) (W.contents out.new) (completion_tag y)) }
+    ensures err { OnErr result (AppendsPrefix (W.contents out.old) (W.contents out.new) (completion_tag y)) }
 {
-    let y = row_y(report.finished);
-    let session = u64::from(report.number);
-    let finished = report.finished as u64;
-    match report.opened {
+    put_parts(
+        out,
+        &[
+            Part::Text(b"<g class='completion' transform='translate(0 "),
+            Part::Number(y),
+            Part::Text(b")'>"),
+        ],
+    )
+}
+
+// Writes the words of a completion and its line to x.
+fn put_words_and_line<W: Write>(out: &mut W, x: u64, report: Report) -> Result<(), WriteFault>
+    ensures ok { OnOk result (Appends (W.contents out.old) (W.contents out.new)
+        (completion_words report.number report.opened report.finished ++ completion_line x report.number)) }
+    ensures err { OnErr result (AppendsPrefix (W.contents out.old) (W.contents out.new)
+        (completion_words report.number report.opened report.finished ++ completion_line x report.number)) }
+{
+    put_words(
+        out,
+        report.number as u64,
+        report.opened,
+        report.finished as u64,
+    )?;
+    put_line(out, x, report.number as u64)
+}
+
+// Writes the words of a completion, to be read at its line.
+#[tactic(auto, unfolding(crate::specs::Completions::completion_words))]
+fn put_words<W: Write>(
+    out: &mut W,
+    session: u64,
+    opened: Option<usize>,
+    finished: u64,
+) -> Result<(), WriteFault>
+    ensures ok { OnOk result
+        (Appends (W.contents out.old) (W.contents out.new) (completion_words session opened finished)) }
+    ensures err { OnErr result
+        (AppendsPrefix (W.contents out.old) (W.contents out.new) (completion_words session opened finished)) }
+{
+    match opened {
         Some(opened) => put_parts(
             out,
             &[
-                Part::Text(b"<g class='completion' transform='translate(0 "),
-                Part::Number(y),
-                Part::Text(b")'><title>session "),
+                Part::Text(b"<title>session "),
                 Part::Number(session),
                 Part::Text(b": opened at "),
                 Part::Number(opened as u64),
@@ -70,9 +101,7 @@ fn put_title<W: Write>(out: &mut W, report: Report) -> Result<(), WriteFault>
         None => put_parts(
             out,
             &[
-                Part::Text(b"<g class='completion' transform='translate(0 "),
-                Part::Number(y),
-                Part::Text(b")'><title>session "),
+                Part::Text(b"<title>session "),
                 Part::Number(session),
                 Part::Text(b": complete at "),
                 Part::Number(finished),
@@ -82,14 +111,12 @@ fn put_title<W: Write>(out: &mut W, report: Report) -> Result<(), WriteFault>
     }
 }
 
-// Writes the line of a completion across so many lanes, with its session at the right end.
-fn put_line<W: Write>(out: &mut W, lanes: usize, session: u32) -> Result<(), WriteFault>
-    requires { lanes ≤ MAX_LANES }
-    ensures ok { OnOk result (Appends (W.contents out.old) (W.contents out.new) (completion_line lanes session)) }
-    ensures err { OnErr result
-        (AppendsPrefix (W.contents out.old) (W.contents out.new) (completion_line lanes session)) }
+// Writes the line of a completion to x, with its session at the right end.
+#[tactic(auto, unfolding(crate::specs::Completions::completion_line))]
+fn put_line<W: Write>(out: &mut W, x: u64, session: u64) -> Result<(), WriteFault>
+    ensures ok { OnOk result (Appends (W.contents out.old) (W.contents out.new) (completion_line x session)) }
+    ensures err { OnErr result (AppendsPrefix (W.contents out.old) (W.contents out.new) (completion_line x session)) }
 {
-    let x = right_end(lanes);
     put_parts(
         out,
         &[
@@ -98,7 +125,7 @@ fn put_line<W: Write>(out: &mut W, lanes: usize, session: u32) -> Result<(), Wri
             Part::Text(b"'/><text dx='6' dy='4' x='"),
             Part::Number(x),
             Part::Text(b"'>session "),
-            Part::Number(u64::from(session)),
+            Part::Number(session),
             Part::Text(b" complete</text></g>\n"),
         ],
     )

@@ -73,7 +73,7 @@ pub fn put_diagram<P: Application, W: Write>(
     put_first_tag(out, lanes, entries.len())?;
     put_style(out)?;
     put_shapes(out)?;
-    put_headings(opening, out)?;
+    put_headings(out, opening, opening.topology().ids())?;
     put_bands(out, &bands)?;
     put_marks(alloc, opening, entries, out)?;
     put_completions(out, lanes, reports)?;

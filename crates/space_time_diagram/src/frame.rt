@@ -3,8 +3,8 @@
 ghost use Rattle.std.specs.Prelude.{◌≡◌, ◌≤◌, OnErr, OnOk, length};
 ghost use Rattle.std.specs.Io.KnownBytes.{Appends};
 ghost use Rattle.action_tables.specs.Written.{AppendsPrefix};
-ghost use Rattle.space_time_diagram.specs.Frame.{first_tag, lane_heading, lane_headings, legend, legend_items};
-ghost use Rattle.space_time_diagram.specs.Frame.{legend_tag, shapes, style};
+ghost use Rattle.space_time_diagram.specs.Frame.{first_tag, first_tag_text, heading_text, lane_heading, lane_headings};
+ghost use Rattle.space_time_diagram.specs.Frame.{legend, legend_items, legend_tag, shapes, style};
 ghost use Rattle.space_time_diagram.specs.Lanes.{lane_of};
 
 use crate::lane::lane_of;
@@ -21,8 +21,29 @@ pub fn put_first_tag<W: Write>(out: &mut W, lanes: usize, count: usize) -> Resul
     ensures ok { OnOk result (Appends (W.contents out.old) (W.contents out.new) (first_tag lanes count)) }
     ensures err { OnErr result (AppendsPrefix (W.contents out.old) (W.contents out.new) (first_tag lanes count)) }
 {
-    let width = page_width(lanes);
-    let height = page_height(count);
+    put_first_tag_text(
+        out,
+        page_width(lanes),
+        page_height(count),
+        lanes as u64,
+        count as u64,
+    )
+}
+
+// Writes the first tag, with the size of the page and what is on it.
+#[tactic(auto, unfolding(crate::specs::Frame::first_tag_text))]
+fn put_first_tag_text<W: Write>(
+    out: &mut W,
+    width: u64,
+    height: u64,
+    lanes: u64,
+    count: u64,
+) -> Result<(), WriteFault>
+    ensures ok { OnOk result
+        (Appends (W.contents out.old) (W.contents out.new) (first_tag_text width height lanes count)) }
+    ensures err { OnErr result
+        (AppendsPrefix (W.contents out.old) (W.contents out.new) (first_tag_text width height lanes count)) }
+{
     put_parts(
         out,
         &[
@@ -35,15 +56,16 @@ pub fn put_first_tag<W: Write>(out: &mut W, lanes: usize, count: usize) -> Resul
             Part::Text(b"' height='"),
             Part::Number(height),
             Part::Text(b"' role='img' aria-label='Space-time diagram of "),
-            Part::Number(count as u64),
+            Part::Number(count),
             Part::Text(b" entries on "),
-            Part::Number(lanes as u64),
+            Part::Number(lanes),
             Part::Text(b" nodes'>\n"),
         ],
     )
 }
 
 // Writes the colours, for light and for dark.
+#[tactic(auto, unfolding(crate::specs::Frame::style))]
 pub fn put_style<W: Write>(out: &mut W) -> Result<(), WriteFault>
     ensures ok { OnOk result (Appends (W.contents out.old) (W.contents out.new) style) }
     ensures err { OnErr result (AppendsPrefix (W.contents out.old) (W.contents out.new) style) }
@@ -52,6 +74,7 @@ pub fn put_style<W: Write>(out: &mut W) -> Result<(), WriteFault>
 }
 
 // Writes the forms of the marks, by their kinds.
+#[tactic(auto, unfolding(crate::specs::Frame::shapes))]
 pub fn put_shapes<W: Write>(out: &mut W) -> Result<(), WriteFault>
     ensures ok { OnOk result (Appends (W.contents out.old) (W.contents out.new) shapes) }
     ensures err { OnErr result (AppendsPrefix (W.contents out.old) (W.contents out.new) shapes) }
@@ -61,37 +84,50 @@ pub fn put_shapes<W: Write>(out: &mut W) -> Result<(), WriteFault>
 
 // Writes the identifiers of the nodes above their lanes.
 pub fn put_headings<P: Application, W: Write>(
-    opening: &Config<P>,
     out: &mut W,
+    opening: &Config<P>,
+    ids: &[u32],
 ) -> Result<(), WriteFault>
     requires { length opening.now.graph.ids ≤ MAX_LANES }
     ensures ok { OnOk result
-        (Appends (W.contents out.old) (W.contents out.new)
-        (lane_headings (lane_of opening.now) opening.now.graph.ids)) }
+        (Appends (W.contents out.old) (W.contents out.new) (lane_headings (lane_of opening.now) ids.now)) }
     ensures err { OnErr result
-        (AppendsPrefix (W.contents out.old) (W.contents out.new)
-        (lane_headings (lane_of opening.now) opening.now.graph.ids)) }
+        (AppendsPrefix (W.contents out.old) (W.contents out.new) (lane_headings (lane_of opening.now) ids.now)) }
 {
-    for id in opening.topology().ids() {
-        put_heading(out, lane_of(opening, *id), *id)?;
+    for id in ids {
+        put_lane_heading(out, opening, *id)?;
     }
     Ok(())
 }
 
 // Writes the identifier of a node above its lane.
-fn put_heading<W: Write>(out: &mut W, lane: usize, id: u32) -> Result<(), WriteFault>
-    requires { lane ≤ MAX_LANES }
-    ensures ok { OnOk result (Appends (W.contents out.old) (W.contents out.new) (lane_heading (λ _. lane) id)) }
+fn put_lane_heading<P: Application, W: Write>(
+    out: &mut W,
+    opening: &Config<P>,
+    id: u32,
+) -> Result<(), WriteFault>
+    requires { length opening.now.graph.ids ≤ MAX_LANES }
+    ensures ok { OnOk result
+        (Appends (W.contents out.old) (W.contents out.new) (lane_heading (lane_of opening.now) id)) }
     ensures err { OnErr result
-        (AppendsPrefix (W.contents out.old) (W.contents out.new) (lane_heading (λ _. lane) id)) }
+        (AppendsPrefix (W.contents out.old) (W.contents out.new) (lane_heading (lane_of opening.now) id)) }
+{
+    put_heading(out, lane_x(lane_of(opening, id)), id as u64)
+}
+
+// Writes the identifier of a node above its lane, whose middle is at x.
+#[tactic(auto, unfolding(crate::specs::Frame::heading_text))]
+fn put_heading<W: Write>(out: &mut W, x: u64, id: u64) -> Result<(), WriteFault>
+    ensures ok { OnOk result (Appends (W.contents out.old) (W.contents out.new) (heading_text x id)) }
+    ensures err { OnErr result (AppendsPrefix (W.contents out.old) (W.contents out.new) (heading_text x id)) }
 {
     put_parts(
         out,
         &[
             Part::Text(b"<text class='lane' x='"),
-            Part::Number(lane_x(lane)),
+            Part::Number(x),
             Part::Text(b"' y='52'>"),
-            Part::Number(u64::from(id)),
+            Part::Number(id),
             Part::Text(b"</text>\n"),
         ],
     )
@@ -103,27 +139,28 @@ pub fn put_legend<W: Write>(out: &mut W, count: usize) -> Result<(), WriteFault>
     ensures ok { OnOk result (Appends (W.contents out.old) (W.contents out.new) (legend count)) }
     ensures err { OnErr result (AppendsPrefix (W.contents out.old) (W.contents out.new) (legend count)) }
 {
-    put_legend_tag(out, count)?;
+    put_legend_tag(out, legend_y(count))?;
     put_legend_items(out)
 }
 
-// Writes the tag of the legend.
-fn put_legend_tag<W: Write>(out: &mut W, count: usize) -> Result<(), WriteFault>
-    requires { count ≤ MAX_MARKS }
-    ensures ok { OnOk result (Appends (W.contents out.old) (W.contents out.new) (legend_tag count)) }
-    ensures err { OnErr result (AppendsPrefix (W.contents out.old) (W.contents out.new) (legend_tag count)) }
+// Writes the tag of the legend, which begins at y.
+#[tactic(auto, unfolding(crate::specs::Frame::legend_tag))]
+fn put_legend_tag<W: Write>(out: &mut W, y: u64) -> Result<(), WriteFault>
+    ensures ok { OnOk result (Appends (W.contents out.old) (W.contents out.new) (legend_tag y)) }
+    ensures err { OnErr result (AppendsPrefix (W.contents out.old) (W.contents out.new) (legend_tag y)) }
 {
     put_parts(
         out,
         &[
             Part::Text(b"<g class='legend' transform='translate(16 "),
-            Part::Number(legend_y(count)),
+            Part::Number(y),
             Part::Text(b")'>\n"),
         ],
     )
 }
 
 // Writes what the marks and the bands stand for, and the last tags.
+#[tactic(auto, unfolding(crate::specs::Frame::legend_items))]
 fn put_legend_items<W: Write>(out: &mut W) -> Result<(), WriteFault>
     ensures ok { OnOk result (Appends (W.contents out.old) (W.contents out.new) legend_items) }
     ensures err { OnErr result (AppendsPrefix (W.contents out.old) (W.contents out.new) legend_items) }

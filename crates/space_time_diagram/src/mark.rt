@@ -4,7 +4,7 @@ ghost use Rattle.std.specs.Prelude.{◌≡◌, ◌≤◌, OnErr, OnOk, length};
 ghost use Rattle.std.specs.Io.KnownBytes.{Appends};
 ghost use Rattle.action_tables.specs.Written.{AppendsPrefix};
 ghost use Rattle.space_time_diagram.specs.Lanes.{lane_of};
-ghost use Rattle.space_time_diagram.specs.Marks.{entry_kind, event_kind, mark, marks_from};
+ghost use Rattle.space_time_diagram.specs.Marks.{entry_kind, event_kind, mark, mark_text, marks_from};
 
 use crate::band::entry_node;
 use crate::diagram::DiagramStop;
@@ -56,31 +56,55 @@ fn put_mark<P: Application, W: Write>(
         (AppendsPrefix (W.contents out.old) (W.contents out.new) (mark (lane_of opening.now) place entry.now)) }
 {
     let line = escaped_line(alloc, entry)?;
-    let kind = entry_kind(entry).as_bytes();
-    let y = row_y(place);
+    let x = lane_x(lane_of(opening, entry_node(entry)));
+    put_mark_text(
+        out,
+        entry_kind(entry).as_bytes(),
+        x,
+        row_y(place),
+        place as u64,
+        &line,
+    )?;
+    Ok(())
+}
+
+// Writes a mark at x and y, of this kind, with the line of its entry.
+#[tactic(auto, unfolding(crate::specs::Marks::mark_text))]
+fn put_mark_text<'t, W: Write>(
+    out: &mut W,
+    kind: &'t [u8],
+    x: u64,
+    y: u64,
+    place: u64,
+    line: &'t [u8],
+) -> Result<(), WriteFault>
+    ensures ok { OnOk result
+        (Appends (W.contents out.old) (W.contents out.new) (mark_text kind.now x y place line.now)) }
+    ensures err { OnErr result
+        (AppendsPrefix (W.contents out.old) (W.contents out.new) (mark_text kind.now x y place line.now)) }
+{
     put_parts(
         out,
         &[
             Part::Text(b"<g class='mark "),
             Part::Text(kind),
             Part::Text(b"' transform='translate("),
-            Part::Number(lane_x(lane_of(opening, entry_node(entry)))),
+            Part::Number(x),
             Part::Text(b" "),
             Part::Number(y),
             Part::Text(b")'><title>"),
-            Part::Number(place as u64),
+            Part::Number(place),
             Part::Text(b": "),
-            Part::Text(&line),
+            Part::Text(line),
             Part::Text(b"</title><use href='#"),
             Part::Text(kind),
             Part::Text(b"'/></g>\n<text class='place' x='36' y='"),
             Part::Number(y),
             Part::Text(b"'>"),
-            Part::Number(place as u64),
+            Part::Number(place),
             Part::Text(b"</text>\n"),
         ],
-    )?;
-    Ok(())
+    )
 }
 
 // The kind of an entry, by which its mark has its colour, its form and its letter.
