@@ -1,5 +1,5 @@
 -- The marks of entries that are written one after another.
-use Rattle.std.proofs.Common.{◌≡◌, ℕ, zero, suc, ◌+◌, ◌<◌, List, [], ◌∷◌, ◌++◌, length, take, drop, get_or, Option, refl}
+use Rattle.std.proofs.Common.{◌≡◌, ℕ, zero, suc, ◌+◌, ◌<◌, List, [], ◌∷◌, ◌++◌, length, take, drop, get_or, Option, Some, None}
 use Rattle.std.proofs.Common.{sym, ap, ◌∙◌, append_assoc, append-nil, add-zero, add-one, arith}
 use Rattle.std.specs.Io.KnownBytes.{Appends}
 use Rattle.std.proofs.KnownBytes.{Appends-trans}
@@ -55,6 +55,8 @@ module _ (lane : ℕ → ℕ) where
       ++ marks_from lane (place + 1) (drop (suc i) es)) before
       (AppendsPrefix-first b c (mark lane place (get_or es i d)) (marks_from lane (place + 1) (drop (suc i) es)) here))
 
-  pub marks_none : marks_from lane 1 [] ≡ []
+  -- before the first nothing was written
+  pub marks_before : (a : Option (List ℕ)) → Appends a a (marks_from lane 1 [])
   unfolding marks_from
-  marks_none = refl
+  marks_before None = tt
+  marks_before (Some xs) = sym (append-nil xs)

@@ -1,5 +1,5 @@
 -- What stands round the lanes.
-use Rattle.std.specs.Prelude.{ℕ, List, [], ◌∷◌, ◌++◌, codes}
+use Rattle.std.specs.Prelude.{ℕ, List, [], ◌∷◌, ◌++◌, length, codes}
 use Rattle.std.specs.Fmt.{decimal}
 use Rattle.std.specs.List.{concat, flat_map}
 use Rattle.space_time_diagram.specs.Page.{lane_x, legend_y, page_height, page_width}
@@ -36,6 +36,11 @@ style = concat (codes "<style>\n" ∷ codes "</style>\n" ∷ [])
 -- the forms of the marks, by their kinds
 unfoldable pub shapes : List ℕ
 shapes = concat (codes "<defs>\n" ∷ codes "</defs>\n" ∷ [])
+
+-- what stands above the lanes of these nodes
+abbrev pub head_text : (ℕ → ℕ) → List ℕ → ℕ → List ℕ
+head_text lane ids count =
+    concat (first_tag (length ids) count ∷ style ∷ shapes ∷ lane_headings lane ids ∷ [])
 
 -- the tag of the legend, which begins at y
 unfoldable pub legend_tag : ℕ → List ℕ

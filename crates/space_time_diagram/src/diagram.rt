@@ -1,16 +1,17 @@
 // Space-time diagrams of histories.
 
-ghost use Rattle.std.specs.Prelude.{◌≡◌, ◌≤◌, IsSome, OnErr, OnOk, length};
+ghost use Rattle.std.specs.Prelude.{◌≡◌, ◌≤◌, All, IsSome, OnErr, OnOk, length};
 ghost use Rattle.std.specs.Io.KnownBytes.{Appends};
 ghost use Rattle.action_tables.specs.Written.{AppendsPrefix};
 ghost use Rattle.history.specs.Entries.{replayed};
 ghost use Rattle.history.specs.Reports.{reports_of};
-ghost use Rattle.space_time_diagram.specs.Diagram.{diagram_text};
+ghost use Rattle.space_time_diagram.specs.Diagram.{diagram_text, page_text};
+ghost use Rattle.space_time_diagram.specs.Lanes.{lane_of};
 ghost use Rattle.space_time_diagram.specs.declared.diagram.DiagramStop.TheVariants.{NoMemory, WriteFailed};
 
-use crate::band::{bands_of, put_bands};
+use crate::band::{Band, bands_of, put_bands};
 use crate::completion::put_completions;
-use crate::frame::{put_first_tag, put_headings, put_legend, put_shapes, put_style};
+use crate::frame::{put_head, put_legend};
 use crate::mark::put_marks;
 use crate::page::{MAX_LANES, MAX_MARKS};
 use action_tables::WriteFault;
@@ -68,15 +69,36 @@ pub fn put_diagram<P: Application, W: Write>(
         (AppendsPrefix (W.contents out.old) (W.contents out.new)
         (diagram_text P.app P.from_text opening.now entries.now reports.now)) }
 {
-    let lanes = opening.topology().len();
     let bands = bands_of(alloc, opening, entries)?;
-    put_first_tag(out, lanes, entries.len())?;
-    put_style(out)?;
-    put_shapes(out)?;
-    put_headings(out, opening, opening.topology().ids())?;
-    put_bands(out, &bands)?;
+    let ids = opening.topology().ids();
+    put_page(alloc, opening, ids, &bands, entries, reports, out)
+}
+
+// Writes the picture with lanes for these nodes, with these bands, and of these entries and reports.
+fn put_page<P: Application, W: Write>(
+    alloc: Global,
+    opening: &Config<P>,
+    ids: &[u32],
+    bands: &[Band],
+    entries: &[Entry],
+    reports: &[Report],
+    out: &mut W,
+) -> Result<(), DiagramStop>
+    requires graph { length opening.now.graph.ids ≤ MAX_LANES }
+    requires lanes { length ids.now ≤ MAX_LANES }
+    requires marks { length entries.now ≤ MAX_MARKS }
+    requires within { All (λ r. r.finished ≤ MAX_MARKS) reports.now }
+    ensures ok { OnOk result
+        (Appends (W.contents out.old) (W.contents out.new)
+        (page_text (lane_of opening.now) ids.now bands.now entries.now reports.now)) }
+    ensures err { OnErr result
+        (AppendsPrefix (W.contents out.old) (W.contents out.new)
+        (page_text (lane_of opening.now) ids.now bands.now entries.now reports.now)) }
+{
+    put_head(out, opening, ids, entries.len())?;
+    put_bands(out, bands)?;
     put_marks(alloc, opening, entries, out)?;
-    put_completions(out, lanes, reports)?;
+    put_completions(out, ids.len(), reports)?;
     put_legend(out, entries.len())?;
     Ok(())
 }

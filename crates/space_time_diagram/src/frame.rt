@@ -3,8 +3,8 @@
 ghost use Rattle.std.specs.Prelude.{◌≡◌, ◌≤◌, OnErr, OnOk, length};
 ghost use Rattle.std.specs.Io.KnownBytes.{Appends};
 ghost use Rattle.action_tables.specs.Written.{AppendsPrefix};
-ghost use Rattle.space_time_diagram.specs.Frame.{first_tag, first_tag_text, heading_text, lane_heading, lane_headings};
-ghost use Rattle.space_time_diagram.specs.Frame.{legend, legend_items, legend_tag, shapes, style};
+ghost use Rattle.space_time_diagram.specs.Frame.{first_tag, first_tag_text, head_text, heading_text, lane_heading};
+ghost use Rattle.space_time_diagram.specs.Frame.{lane_headings, legend, legend_items, legend_tag, shapes, style};
 ghost use Rattle.space_time_diagram.specs.Lanes.{lane_of};
 
 use crate::lane::lane_of;
@@ -14,8 +14,29 @@ use app_interface::Application;
 use reset_machine::Config;
 use std::io::Write;
 
+// Writes what stands above the lanes of these nodes.
+pub fn put_head<P: Application, W: Write>(
+    out: &mut W,
+    opening: &Config<P>,
+    ids: &[u32],
+    count: usize,
+) -> Result<(), WriteFault>
+    requires graph { length opening.now.graph.ids ≤ MAX_LANES }
+    requires lanes { length ids.now ≤ MAX_LANES }
+    requires marks { count ≤ MAX_MARKS }
+    ensures ok { OnOk result
+        (Appends (W.contents out.old) (W.contents out.new) (head_text (lane_of opening.now) ids.now count)) }
+    ensures err { OnErr result
+        (AppendsPrefix (W.contents out.old) (W.contents out.new) (head_text (lane_of opening.now) ids.now count)) }
+{
+    put_first_tag(out, ids.len(), count)?;
+    put_style(out)?;
+    put_shapes(out)?;
+    put_headings(out, opening, ids)
+}
+
 // Writes the first tag, with the size of the page of so many lanes and entries.
-pub fn put_first_tag<W: Write>(out: &mut W, lanes: usize, count: usize) -> Result<(), WriteFault>
+fn put_first_tag<W: Write>(out: &mut W, lanes: usize, count: usize) -> Result<(), WriteFault>
     requires lanes { lanes ≤ MAX_LANES }
     requires marks { count ≤ MAX_MARKS }
     ensures ok { OnOk result (Appends (W.contents out.old) (W.contents out.new) (first_tag lanes count)) }
@@ -66,7 +87,7 @@ fn put_first_tag_text<W: Write>(
 
 // Writes the colours, for light and for dark.
 #[tactic(auto, unfolding(crate::specs::Frame::style))]
-pub fn put_style<W: Write>(out: &mut W) -> Result<(), WriteFault>
+fn put_style<W: Write>(out: &mut W) -> Result<(), WriteFault>
     ensures ok { OnOk result (Appends (W.contents out.old) (W.contents out.new) style) }
     ensures err { OnErr result (AppendsPrefix (W.contents out.old) (W.contents out.new) style) }
 {
@@ -75,7 +96,7 @@ pub fn put_style<W: Write>(out: &mut W) -> Result<(), WriteFault>
 
 // Writes the forms of the marks, by their kinds.
 #[tactic(auto, unfolding(crate::specs::Frame::shapes))]
-pub fn put_shapes<W: Write>(out: &mut W) -> Result<(), WriteFault>
+fn put_shapes<W: Write>(out: &mut W) -> Result<(), WriteFault>
     ensures ok { OnOk result (Appends (W.contents out.old) (W.contents out.new) shapes) }
     ensures err { OnErr result (AppendsPrefix (W.contents out.old) (W.contents out.new) shapes) }
 {
@@ -83,7 +104,7 @@ pub fn put_shapes<W: Write>(out: &mut W) -> Result<(), WriteFault>
 }
 
 // Writes the identifiers of the nodes above their lanes.
-pub fn put_headings<P: Application, W: Write>(
+fn put_headings<P: Application, W: Write>(
     out: &mut W,
     opening: &Config<P>,
     ids: &[u32],
