@@ -1,0 +1,5 @@
+mod Strangers
+mod PlayedBands
+mod MarkTexts
+mod ReportRows
+mod Sequences

@@ -1,0 +1,75 @@
+-- The bands: what the wave registers of a node are, from the entry that left them on.
+use Rattle.std.specs.Prelude.{ℕ, ◌+◌, ◌%◌, List, [], ◌∷◌, ◌++◌, length, map, codes, Option}
+use Rattle.std.specs.Fmt.{decimal}
+use Rattle.std.specs.List.{concat, flat_map}
+use Rattle.std.specs.Option.{option_map_or}
+use Rattle.app_interface.specs.Application.{App}
+use Rattle.wave_layer.specs.Names.{phase_name}
+use Rattle.wave_layer.specs.declared.regs.WaveRegs.{WaveRegs}
+use Rattle.reset_model.specs.Configuration.{Configuration, wave_of}
+use Rattle.reset_model.specs.Steps.{event_node}
+use Rattle.fault_inject.specs.declared.fault.Fault.{Fault}
+use Rattle.fault_inject.specs.declared.fault.Fault.TheVariants.{SetTree, SetWave, SetLocal, LinkDown, LinkUp}
+use Rattle.history.specs.declared.entry.Entry.{Entry}
+use Rattle.history.specs.declared.entry.Entry.TheVariants.{Step, Disturbed}
+use Rattle.history.specs.Entries.{entered}
+use Rattle.space_time_diagram.specs.declared.band.Band.{Band}
+use Rattle.space_time_diagram.specs.Lanes.{lane_of}
+use Rattle.space_time_diagram.specs.Page.{height_below, lane_x, row_y}
+
+-- the node on whose lane a fault stands: of a link, the first end that it names
+abbrev pub fault_node : Fault → ℕ
+fault_node (SetTree at regs) = at
+fault_node (SetWave at regs) = at
+fault_node (SetLocal at text) = at
+fault_node (LinkDown a b) = a
+fault_node (LinkUp a b) = a
+
+-- the node on whose lane an entry stands
+abbrev pub entry_node : Entry → ℕ
+entry_node (Step e) = event_node e
+entry_node (Disturbed f) = fault_node f
+
+-- the band of a node with these registers, from the row of a position down to below the last of so many entries
+abbrev pub band : (ℕ → ℕ) → ℕ → ℕ → ℕ → WaveRegs → Band
+band lane count place i regs = record {
+  x = lane_x (lane i);
+  y = row_y place;
+  height = height_below count place;
+  node = i;
+  regs = regs;
+}
+
+-- the band of a node in the opening
+abbrev pub opening_band : {L : Type 0} → Configuration L → ℕ → ℕ → Band
+opening_band c count i = band (lane_of c) count 0 i (wave_of c i)
+
+-- the bands of entries from c on, the first of which has this position: each begins one at its node, with the
+-- registers that it leaves there
+unfoldable pub bands_from : {L : Type 0} → App L → (List ℕ → Option L) → (ℕ → ℕ) → ℕ → Configuration L → ℕ
+    → List Entry → List Band
+bands_from app from_text lane count c place [] = []
+bands_from app from_text lane count c place (e ∷ es) =
+    option_map_or (λ after. band lane count place (entry_node e) (wave_of after (entry_node e))
+    ∷ bands_from app from_text lane count after (place + 1) es) (entered app from_text c e) []
+
+-- the bands of a picture, in the order in which they are painted: each covers what an earlier one has below it
+abbrev pub bands_of : {L : Type 0} → App L → (List ℕ → Option L) → Configuration L → List Entry → List Band
+bands_of app from_text c es =
+    map (opening_band c (length es)) c.graph.ids ++ bands_from app from_text (lane_of c) (length es) c 1 es
+
+-- a band, whose phase has this name: the session as a wide pale rectangle in one of six colours, and the phase as a
+-- narrow one before it
+unfoldable pub phase_band_text : Band → List ℕ → List ℕ
+phase_band_text b phase = concat (codes "<g transform='translate(" ∷ decimal b.x ∷ codes " " ∷ decimal b.y
+    ∷ codes ")'><title>node " ∷ decimal b.node ∷ codes ": " ∷ phase ∷ codes ", session " ∷ decimal b.regs.session
+    ∷ codes "</title><rect class='s" ∷ decimal (b.regs.session % 6) ∷ codes "' x='-26' width='52' height='"
+    ∷ decimal b.height ∷ codes "'/><rect class='" ∷ phase ∷ codes "' x='-5' width='10' height='" ∷ decimal b.height
+    ∷ codes "'/></g>\n" ∷ [])
+
+abbrev pub band_text : Band → List ℕ
+band_text b = phase_band_text b (phase_name b.regs.phase)
+
+-- the bands of a picture
+abbrev pub bands_text : List Band → List ℕ
+bands_text bs = flat_map band_text bs

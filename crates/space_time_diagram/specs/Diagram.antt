@@ -1,0 +1,26 @@
+-- Space-time diagrams of histories.
+use Rattle.std.specs.Prelude.{ℕ, List, [], ◌∷◌, length, Option}
+use Rattle.std.specs.List.{concat}
+use Rattle.app_interface.specs.Application.{App}
+use Rattle.reset_model.specs.Configuration.{Configuration}
+use Rattle.history.specs.declared.entry.Entry.{Entry}
+use Rattle.history.specs.declared.entry.Report.{Report}
+use Rattle.space_time_diagram.specs.declared.band.Band.{Band}
+use Rattle.space_time_diagram.specs.Bands.{bands_of, bands_text}
+use Rattle.space_time_diagram.specs.Completions.{completions}
+use Rattle.space_time_diagram.specs.Frame.{head_text, legend}
+use Rattle.space_time_diagram.specs.Lanes.{lane_of}
+use Rattle.space_time_diagram.specs.Marks.{marks_from}
+
+-- the picture with lanes for these nodes, with these bands, and of these entries and reports, part by part: each is
+-- painted over those before it
+abbrev pub page_text : (ℕ → ℕ) → List ℕ → List Band → List Entry → List Report → List ℕ
+page_text lane ids bands es reports =
+    concat (head_text lane ids (length es) ∷ bands_text bands ∷ marks_from lane 1 es ∷ completions (length ids) reports
+    ∷ legend (length es) ∷ [])
+
+-- the picture of entries from the opening c on, and of what they report
+abbrev pub diagram_text : {L : Type 0} → App L → (List ℕ → Option L) → Configuration L → List Entry → List Report
+    → List ℕ
+diagram_text app from_text c es reports =
+    page_text (lane_of c) c.graph.ids (bands_of app from_text c es) es reports

@@ -1,0 +1,57 @@
+-- The marks of entries.
+use Rattle.std.specs.Prelude.{ℕ, ◌+◌, ◌==◌, if◌then◌else◌, List, [], ◌∷◌, ◌++◌, codes}
+use Rattle.std.specs.Fmt.{decimal}
+use Rattle.std.specs.List.{concat, flat_map}
+use Rattle.reset_model.specs.declared.event.Event.{Event}
+use Rattle.reset_model.specs.declared.event.Event.TheVariants.{Claim, Follow, Adopt, Request, Relay, Open, Join, Finish}
+use Rattle.reset_model.specs.declared.event.Event.TheVariants.{Mend, Act}
+use Rattle.history.specs.HistoryText.{entry_line}
+use Rattle.history.specs.declared.entry.Entry.{Entry}
+use Rattle.history.specs.declared.entry.Entry.TheVariants.{Step, Disturbed}
+use Rattle.space_time_diagram.specs.Bands.{entry_node}
+use Rattle.space_time_diagram.specs.Page.{lane_x, row_y}
+
+-- a byte of a text, as XML has it
+abbrev pub escaped_byte : ℕ → List ℕ
+escaped_byte b =
+    if b == 60 then codes "&lt;" else if b == 62 then codes "&gt;" else if b == 38 then codes "&amp;" else b ∷ []
+
+-- a text, as XML has it
+abbrev pub escaped : List ℕ → List ℕ
+escaped text = flat_map escaped_byte text
+
+-- the kind of an event, by which its mark has its colour, its form and its letter
+abbrev pub event_kind : Event → List ℕ
+event_kind (Claim i) = codes "tree"
+event_kind (Follow i) = codes "tree"
+event_kind (Adopt i j) = codes "tree"
+event_kind (Request i) = codes "request"
+event_kind (Relay i c) = codes "relay"
+event_kind (Open i) = codes "open"
+event_kind (Join i) = codes "join"
+event_kind (Finish i) = codes "finish"
+event_kind (Mend i) = codes "mend"
+event_kind (Act i case with) = codes "action"
+
+-- the kind of an entry
+abbrev pub entry_kind : Entry → List ℕ
+entry_kind (Step e) = event_kind e
+entry_kind (Disturbed f) = codes "fault"
+
+-- a mark at x and y, of this kind, with the line of its entry to be read there, and the position of the entry at the
+-- left
+unfoldable pub mark_text : List ℕ → ℕ → ℕ → ℕ → List ℕ → List ℕ
+mark_text kind x y place line = concat (codes "<g class='mark " ∷ kind ∷ codes "' transform='translate(" ∷ decimal x
+    ∷ codes " " ∷ decimal y ∷ codes ")'><title>" ∷ decimal place ∷ codes ": " ∷ line ∷ codes "</title><use href='#"
+    ∷ kind ∷ codes "'/></g>\n<text class='place' x='36' y='" ∷ decimal y ∷ codes "'>" ∷ decimal place
+    ∷ codes "</text>\n" ∷ [])
+
+-- the mark of the entry at a position, on the lane of its node
+abbrev pub mark : (ℕ → ℕ) → ℕ → Entry → List ℕ
+mark lane place e =
+    mark_text (entry_kind e) (lane_x (lane (entry_node e))) (row_y place) place (escaped (entry_line e))
+
+-- the marks of entries, the first of which has this position
+unfoldable pub marks_from : (ℕ → ℕ) → ℕ → List Entry → List ℕ
+marks_from lane place [] = []
+marks_from lane place (e ∷ es) = mark lane place e ++ marks_from lane (place + 1) es

@@ -1,0 +1,168 @@
+// The bands: what the wave registers of a node are, from the entry that left them on.
+
+ghost use Rattle.std.specs.Prelude.{◌≡◌, ◌≤◌, IfOk, IsSome, OnErr, OnOk, length, map};
+ghost use Rattle.std.specs.Io.KnownBytes.{Appends};
+ghost use Rattle.action_tables.specs.Written.{AppendsPrefix};
+ghost use Rattle.reset_model.specs.Configuration.{wave_of};
+ghost use Rattle.history.specs.Entries.{replayed};
+ghost use Rattle.space_time_diagram.specs.Bands.{band, band_text, bands_of, bands_text, entry_node, fault_node};
+ghost use Rattle.space_time_diagram.specs.Bands.{opening_band, phase_band_text};
+ghost use Rattle.space_time_diagram.specs.Lanes.{lane_of};
+
+use crate::lane::{lane_of, wave_at};
+use crate::page::{MAX_LANES, MAX_MARKS, height_below, lane_x, row_y};
+use crate::play::play;
+use action_tables::{Part, WriteFault, put_parts};
+use app_interface::Application;
+use fault_inject::Fault;
+use history::Entry;
+use reset_machine::Config;
+use std::alloc::{AllocError, Global};
+use std::io::Write;
+use wave_layer::WaveRegs;
+
+// A band: where it is on the page, and what it tells. It reaches to below the last entry, and a later band of its node
+// is painted over it.
+#[derive(Clone, Copy)]
+pub struct Band {
+    pub x: u64,
+    pub y: u64,
+    pub height: u64,
+    pub node: u32,
+    pub regs: WaveRegs,
+}
+
+// The node on whose lane an entry stands.
+pub fn entry_node(entry: &Entry) -> u32
+    ensures { result ≡ entry_node entry.now }
+{
+    match entry {
+        Entry::Step(event) => event.node(),
+        Entry::Disturbed(fault) => fault_node(fault),
+    }
+}
+
+// The node on whose lane a fault stands: of a link, the first end that it names.
+fn fault_node(fault: &Fault) -> u32
+    ensures { result ≡ fault_node fault.now }
+{
+    match fault {
+        Fault::SetTree { at, .. } | Fault::SetWave { at, .. } | Fault::SetLocal { at, .. } => *at,
+        Fault::LinkDown { a, .. } | Fault::LinkUp { a, .. } => *a,
+    }
+}
+
+// The bands of a picture, in the order in which they are painted.
+pub fn bands_of<P: Application>(
+    alloc: Global,
+    opening: &Config<P>,
+    entries: &[Entry],
+) -> Result<Vec<Band>, AllocError>
+    requires lanes { length opening.now.graph.ids ≤ MAX_LANES }
+    requires marks { length entries.now ≤ MAX_MARKS }
+    requires run { IsSome (replayed P.app P.from_text opening.now entries.now) }
+    ensures { IfOk result (λ bands. bands.items ≡ bands_of P.app P.from_text opening.now entries.now) }
+{
+    let mut bands = opening_bands(alloc, opening, opening.topology().ids(), entries.len())?;
+    let mut config = opening.copy(alloc)?;
+    let mut place = 0;
+    for entry in entries {
+        place += 1;
+        play(alloc, &mut config, entry)?;
+        bands.push(band_at(opening, &config, entries.len(), place, entry_node(entry)))?;
+    }
+    Ok(bands)
+}
+
+// The bands of these nodes in the opening.
+fn opening_bands<P: Application>(
+    alloc: Global,
+    opening: &Config<P>,
+    ids: &[u32],
+    count: usize,
+) -> Result<Vec<Band>, AllocError>
+    requires lanes { length opening.now.graph.ids ≤ MAX_LANES }
+    requires marks { count ≤ MAX_MARKS }
+    ensures { IfOk result (λ bands. bands.items ≡ map (opening_band opening.now count) ids.now) }
+{
+    let mut bands = Vec::new(alloc);
+    for id in ids {
+        bands.push(band_at(opening, opening, count, 0, *id))?;
+    }
+    Ok(bands)
+}
+
+// The band of a node from the row of a position on, with the registers that it has in this configuration.
+fn band_at<P: Application>(
+    opening: &Config<P>,
+    config: &Config<P>,
+    count: usize,
+    place: usize,
+    node: u32,
+) -> Band
+    requires lanes { length opening.now.graph.ids ≤ MAX_LANES }
+    requires marks { count ≤ MAX_MARKS }
+    requires within { place ≤ count }
+    ensures { result ≡ band (lane_of opening.now) count place node (wave_of config.now node) }
+{
+    Band {
+        x: lane_x(lane_of(opening, node)),
+        y: row_y(place),
+        height: height_below(count, place),
+        node,
+        regs: wave_at(config, node),
+    }
+}
+
+// Writes the bands.
+pub fn put_bands<W: Write>(out: &mut W, bands: &[Band]) -> Result<(), WriteFault>
+    ensures ok { OnOk result (Appends (W.contents out.old) (W.contents out.new) (bands_text bands.now)) }
+    ensures err { OnErr result (AppendsPrefix (W.contents out.old) (W.contents out.new) (bands_text bands.now)) }
+{
+    for band in bands {
+        put_band(out, *band)?;
+    }
+    Ok(())
+}
+
+// Writes a band.
+fn put_band<W: Write>(out: &mut W, band: Band) -> Result<(), WriteFault>
+    ensures ok { OnOk result (Appends (W.contents out.old) (W.contents out.new) (band_text band)) }
+    ensures err { OnErr result (AppendsPrefix (W.contents out.old) (W.contents out.new) (band_text band)) }
+{
+    put_band_of_phase(out, band, band.regs.phase.name().as_bytes())
+}
+
+// Writes a band, whose phase has this name.
+#[tactic(auto, unfolding(crate::specs::Bands::phase_band_text))]
+fn put_band_of_phase<W: Write>(out: &mut W, band: Band, phase: &[u8]) -> Result<(), WriteFault>
+    ensures ok { OnOk result (Appends (W.contents out.old) (W.contents out.new) (phase_band_text band phase.now)) }
+    ensures err { OnErr result
+        (AppendsPrefix (W.contents out.old) (W.contents out.new) (phase_band_text band phase.now)) }
+{
+    let session = band.regs.session as u64;
+    put_parts(
+        out,
+        &[
+            Part::Text(b"<g transform='translate("),
+            Part::Number(band.x),
+            Part::Text(b" "),
+            Part::Number(band.y),
+            Part::Text(b")'><title>node "),
+            Part::Number(band.node as u64),
+            Part::Text(b": "),
+            Part::Text(phase),
+            Part::Text(b", session "),
+            Part::Number(session),
+            Part::Text(b"</title><rect class='s"),
+            Part::Number(session % 6),
+            Part::Text(b"' x='-26' width='52' height='"),
+            Part::Number(band.height),
+            Part::Text(b"'/><rect class='"),
+            Part::Text(phase),
+            Part::Text(b"' x='-5' width='10' height='"),
+            Part::Number(band.height),
+            Part::Text(b"'/></g>\n"),
+        ],
+    )
+}

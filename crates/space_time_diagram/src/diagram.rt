@@ -1,0 +1,104 @@
+// Space-time diagrams of histories.
+
+ghost use Rattle.std.specs.Prelude.{◌≡◌, ◌≤◌, All, IsSome, OnErr, OnOk, length};
+ghost use Rattle.std.specs.Io.KnownBytes.{Appends};
+ghost use Rattle.action_tables.specs.Written.{AppendsPrefix};
+ghost use Rattle.history.specs.Entries.{replayed};
+ghost use Rattle.history.specs.Reports.{reports_of};
+ghost use Rattle.space_time_diagram.specs.Diagram.{diagram_text, page_text};
+ghost use Rattle.space_time_diagram.specs.Lanes.{lane_of};
+ghost use Rattle.space_time_diagram.specs.declared.diagram.DiagramStop.TheVariants.{NoMemory, WriteFailed};
+
+use crate::band::{Band, bands_of, put_bands};
+use crate::completion::put_completions;
+use crate::frame::{put_head, put_legend};
+use crate::mark::put_marks;
+use crate::page::{MAX_LANES, MAX_MARKS};
+use action_tables::WriteFault;
+use app_interface::Application;
+use history::{Entry, Report};
+use reset_machine::Config;
+use std::alloc::{AllocError, Global};
+use std::io::Write;
+
+/// What cut a picture short. What was written until then is a prefix of it.
+#[derive(Clone, Copy, Debug, PartialEq, Eq)]
+pub enum DiagramStop {
+    /// The writer failed.
+    WriteFailed,
+    /// Memory is wanting.
+    NoMemory,
+}
+
+impl From<WriteFault> for DiagramStop {
+    ghost from_gives = { λ _ s. s ≡ WriteFailed };
+
+    fn from(_fault: WriteFault) -> DiagramStop {
+        DiagramStop::WriteFailed
+    }
+}
+
+impl From<AllocError> for DiagramStop {
+    ghost from_gives = { λ _ s. s ≡ NoMemory };
+
+    fn from(_error: AllocError) -> DiagramStop {
+        DiagramStop::NoMemory
+    }
+}
+
+/// Writes the picture of entries that are a run from the opening, and of what they report: an SVG by itself, without
+/// scripts and without references to anything outside of it.
+///
+/// It is of at most `MAX_LANES` nodes and `MAX_MARKS` entries. What it holds at a time is a band an entry, and no text
+/// but the line of one entry.
+pub fn put_diagram<P: Application, W: Write>(
+    alloc: Global,
+    opening: &Config<P>,
+    entries: &[Entry],
+    reports: &[Report],
+    out: &mut W,
+) -> Result<(), DiagramStop>
+    requires lanes { length opening.now.graph.ids ≤ MAX_LANES }
+    requires marks { length entries.now ≤ MAX_MARKS }
+    requires run { IsSome (replayed P.app P.from_text opening.now entries.now) }
+    requires reports { reports.now ≡ reports_of P.app P.from_text opening.now entries.now }
+    ensures ok { OnOk result
+        (Appends (W.contents out.old) (W.contents out.new)
+        (diagram_text P.app P.from_text opening.now entries.now reports.now)) }
+    ensures err { OnErr result
+        (AppendsPrefix (W.contents out.old) (W.contents out.new)
+        (diagram_text P.app P.from_text opening.now entries.now reports.now)) }
+{
+    let bands = bands_of(alloc, opening, entries)?;
+    let ids = opening.topology().ids();
+    put_page(alloc, opening, ids, &bands, entries, reports, out)
+}
+
+// Writes the picture with lanes for these nodes, with these bands, and of these entries and reports.
+fn put_page<P: Application, W: Write>(
+    alloc: Global,
+    opening: &Config<P>,
+    ids: &[u32],
+    bands: &[Band],
+    entries: &[Entry],
+    reports: &[Report],
+    out: &mut W,
+) -> Result<(), DiagramStop>
+    requires graph { length opening.now.graph.ids ≤ MAX_LANES }
+    requires lanes { length ids.now ≤ MAX_LANES }
+    requires marks { length entries.now ≤ MAX_MARKS }
+    requires within { All (λ r. r.finished ≤ MAX_MARKS) reports.now }
+    ensures ok { OnOk result
+        (Appends (W.contents out.old) (W.contents out.new)
+        (page_text (lane_of opening.now) ids.now bands.now entries.now reports.now)) }
+    ensures err { OnErr result
+        (AppendsPrefix (W.contents out.old) (W.contents out.new)
+        (page_text (lane_of opening.now) ids.now bands.now entries.now reports.now)) }
+{
+    put_head(out, opening, ids, entries.len())?;
+    put_bands(out, bands)?;
+    put_marks(alloc, opening, entries, out)?;
+    put_completions(out, ids.len(), reports)?;
+    put_legend(out, entries.len())?;
+    Ok(())
+}

@@ -1,0 +1,18 @@
+//! Space-time diagrams of histories: one picture, as SVG, of what the entries of a history did to the nodes.
+//!
+//! A lane a node, in the order of the tree that the opening has, and a row an entry, downward. On its lane a node has a
+//! band, by what its wave registers are; each entry has a mark, and each completion a line across.
+#![tactic(auto)]
+
+mod band;
+mod completion;
+mod diagram;
+mod escape;
+mod frame;
+mod lane;
+mod mark;
+mod page;
+mod play;
+
+pub use diagram::{DiagramStop, put_diagram};
+pub use page::{MAX_LANES, MAX_MARKS};
