@@ -8,7 +8,8 @@ use Rattle.clap.specs.Words.{HasKind, Text, IsAmong, ReadsOne, first_of, kind_of
 use Rattle.clap.specs.declared.error.Error.{Error}
 use Rattle.clap.specs.declared.parser.matches.Found.{Found}
 use Rattle.clap.proofs.WalkLemmas.{one_text-rows}
-use Rattle.reset_service.specs.Words.{HasTurns, IsFaultOf, StandsFor, Writes, faults_of}
+use Rattle.reset_service.specs.Words.{HasNumber, IsFaultOf, IsNumberOr, IsNumberWithin, MayHaveNumber, StandsFor}
+use Rattle.reset_service.specs.Words.{Writes, faults_of}
 use Rattle.reset_service.specs.declared.words.Job.{Job}
 use Rattle.reset_service.specs.declared.words.LineFault.{LineFault}
 use Rattle.reset_service.specs.declared.words.LineFault.TheVariants.{BadWords, NoMemory}
@@ -28,40 +29,51 @@ fault_is words e (Err (BadWords kept)) kind stands = go kind
     go (inl memory) = absurd (stands.1 memory)
     go (inr among) = subst (λ (x : Error). IsAmong (kind_of x) (faults_of words)) (sym stands.0) among
 
--- the number of turns that was found is the one that a type of 32 bits reads
-turns_read : (E : Type 0) (G : Text → Result ℕ E → Type 0)
-    → ((t : Text) (x : Result ℕ E) → G t x → ParsesUnsigned 32 10 t x)
-    → (f : Found) (r : Option ℕ) (h : HasTurns (rows_of f))
-    → ((t : Text) → one_text f (codes "turns") ≡ Some t → ReadsOne G t r) → r ≡ Some h.0
-turns_read E G parses f r h reads =
-    go (first_of (codes "turns") (rows_of f)) h.1 (one_text-rows f (codes "turns") ∙ h.2)
-  where
-    number : (t : Text) → Writes h.0 t → (o : Option ℕ) → ReadsOne G t o → o ≡ Some h.0
-    number t writes (Some n) read = ap Some ((parses t (Ok n) read).1 ∙ writes.1)
-    number t writes None read =
-        let most = h.4 in
-        let same = writes.1 in
-        let small : digits_value 10 (without_leading_plus t) < 2 ^ 32 = omega arith in
-        absurd (parses t (Err read.0) read.1 (writes.0, small))
+-- the number that was found of an argument is the one that a type of 32 bits reads
+module _ (E : Type 0) (G : Text → Result ℕ E → Type 0)
+    (parses : (t : Text) (x : Result ℕ E) → G t x → ParsesUnsigned 32 10 t x) (name : Text) (least most : ℕ)
+    (small : most < 2 ^ 32) (f : Found) (r : Option ℕ)
+    (reads : (t : Text) → one_text f name ≡ Some t → ReadsOne G t r) where
+  number_read : (h : HasNumber name least most (rows_of f)) → r ≡ Some h.0
+  number_read h = go (first_of name (rows_of f)) h.1.0 (one_text-rows f name ∙ h.2)
+    where
+      number : (t : Text) → Writes h.0 t → (o : Option ℕ) → ReadsOne G t o → o ≡ Some h.0
+      number t writes (Some n) read = ap Some ((parses t (Ok n) read).1 ∙ writes.1)
+      number t writes None read =
+          let most_ok = h.1.2 in
+          let same = writes.1 in
+          let fits : digits_value 10 (without_leading_plus t) < 2 ^ 32 = omega arith in
+          absurd (parses t (Err read.0) read.1 (writes.0, fits))
 
-    go : (o : Option Text) → IsSomeAnd o (Writes h.0) → one_text f (codes "turns") ≡ o → r ≡ Some h.0
-    go None some text = absurd some
-    go (Some t) some text = number t some r (reads t text)
+      go : (o : Option Text) → IsSomeAnd o (Writes h.0) → one_text f name ≡ o → r ≡ Some h.0
+      go None some text = absurd some
+      go (Some t) some text = number t some r (reads t text)
 
-pub turns_are : (E : Type 0) (G : Text → Result ℕ E → Type 0)
-    → ((t : Text) (x : Result ℕ E) → G t x → ParsesUnsigned 32 10 t x)
-    → (f : Found) (r : Option ℕ) (n : ℕ) → r ≡ Some n → HasTurns (rows_of f)
-    → ((t : Text) → one_text f (codes "turns") ≡ Some t → ReadsOne G t r)
-    → IsSomeAnd (first_of (codes "turns") (rows_of f)) (Writes n) × (1 ≤ n) × (n ≤ 100000)
-turns_are E G parses f r n is h reads =
-    let same : h.0 ≡ n = ap (λ o. unwrap_or o 0) (sym (turns_read E G parses f r h reads) ∙ is) in
-    subst
-    (λ (k : ℕ). IsSomeAnd (first_of (codes "turns") (rows_of f)) (Writes k) × (1 ≤ k) × (k ≤ 100000)) same
-    (h.1, h.3, h.4)
+  -- it is the number of the text
+  pub number_is : (n : ℕ) → r ≡ Some n → HasNumber name least most (rows_of f)
+      → IsNumberWithin least most (first_of name (rows_of f)) n
+  number_is n is h =
+      subst (λ (k : ℕ). IsNumberWithin least most (first_of name (rows_of f)) k)
+      (ap (λ o. unwrap_or o 0) (sym (number_read h) ∙ is)) h.1
 
--- and such a number is read
-pub turns_found : (E : Type 0) (G : Text → Result ℕ E → Type 0)
-    → ((t : Text) (x : Result ℕ E) → G t x → ParsesUnsigned 32 10 t x)
-    → (f : Found) (r : Option ℕ) → HasTurns (rows_of f)
-    → ((t : Text) → one_text f (codes "turns") ≡ Some t → ReadsOne G t r) → IsSome r
-turns_found E G parses f r h reads = subst (λ (o : Option ℕ). IsSome o) (sym (turns_read E G parses f r h reads)) refl
+  -- and there is one
+  pub number_found : HasNumber name least most (rows_of f) → IsSome r
+  number_found h = subst (λ (o : Option ℕ). IsSome o) (sym (number_read h)) refl
+
+  -- where nothing may have been found, another number may stand for it
+  pub number_or : (other : ℕ) → (one_text f name ≡ None → r ≡ None)
+      → MayHaveNumber name least most (rows_of f)
+      → IsNumberOr other least most (first_of name (rows_of f)) (unwrap_or r other)
+  number_or other none (inl nothing) =
+      let empty : r ≡ None = none (one_text-rows f name ∙ nothing.1) in
+      subst (λ (o : Option Text). IsNumberOr other least most o (unwrap_or r other)) (sym nothing.0)
+      (ap (λ o. unwrap_or o other) empty)
+  number_or other none (inr h) =
+      let read : r ≡ Some h.0 = number_read h in
+      subst (λ (n : ℕ). IsNumberOr other least most (first_of name (rows_of f)) n)
+      (sym (ap (λ o. unwrap_or o other) read))
+      (given (first_of name (rows_of f)) h.1)
+    where
+      given : (o : Option Text) → IsNumberWithin least most o h.0 → IsNumberOr other least most o h.0
+      given None is = absurd is.0
+      given (Some t) is = is

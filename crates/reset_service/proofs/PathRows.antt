@@ -377,6 +377,17 @@ checked s words e =
 
 -- ---- an argument that was given
 
+-- the row of an argument that was found
+pub row_taken : (c : List Rule) (id : Text) (rows : List Row) → AreTaken c rows
+    → IfSome (find (λ x. bytes_eq x.id id) rows) (IsTaken (arg_by_id c id))
+row_taken c id [] f = tt
+row_taken c id (r ∷ rs) f = go (bytes_eq r.id id) refl (row_taken c id rs f.1)
+  where
+    go : (b : Bool) → bytes_eq r.id id ≡ b → IfSome (find (λ x. bytes_eq x.id id) rs) (IsTaken (arg_by_id c id))
+        → IfSome (cond b (Some r) (find (λ x. bytes_eq x.id id) rs)) (IsTaken (arg_by_id c id))
+    go true same below = subst (λ (t : Text). IsTaken (arg_by_id c t) r) ((bytes_eq-Decides r.id id).0 same) f.0
+    go false other below = below
+
 -- the row of an argument that was given
 pub given_row : (c : List Rule) (id : Text) (rows : List Row) → AreTaken c rows → is_given id rows ≡ true
     → (r : Row) × (find (λ x. bytes_eq x.id id) rows ≡ Some r) × IsTaken (arg_by_id c id) r

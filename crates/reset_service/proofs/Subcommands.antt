@@ -6,7 +6,7 @@ use Rattle.std.specs.List.{fold, slice_index_or}
 use Rattle.std.specs.Option.{option_map_or}
 use Rattle.std.specs.Str.{bytes_eq}
 use Rattle.std.specs.Str.Parse.{digits_value, starts_with_minus, without_leading_plus}
-use Rattle.std.specs.Prelude.{⊤, IsSome, IsSomeAnd, is_some, option_and_then, option_map, pos, slice_get, unwrap_or}
+use Rattle.std.specs.Prelude.{⊤, ◌⊎◌, IfSome, IsSome, IsSomeAnd, find, is_some, option_and_then, option_map, pos, slice_get, unwrap_or}
 use Rattle.std.proofs.lemmas.Int.{ints}
 use Rattle.std.proofs.lemmas.Slice.Eq.{bytes_eq-Decides}
 use Rattle.clap.specs.Lexer.{long_of, short_of, without_minus}
@@ -28,10 +28,13 @@ use Rattle.clap.specs.Walk.{walk_from, walked, walked_from, word_met, done, wait
 use Rattle.clap.specs.Walk.{positional, next, trailing, subcommand, value}
 use Rattle.clap.proofs.OnLiterals.{clap_on_literals}
 use Rattle.clap.proofs.ValueTestLemmas.{accepts-Accepts}
-use Rattle.reset_service.specs.Words.{HasJob, HasTexts, HasTurns, Writes, faults_of, program, tables_command}
-use Rattle.reset_service.specs.Words.{texts_command, threads_command}
+use Rattle.clap.specs.declared.builder.value_parser.Reading.TheVariants.{WithoutMinus}
+use Rattle.clap.specs.Walk.{reading_by}
+use Rattle.reset_service.specs.Words.{HasDrive, HasJob, HasNumber, HasShape, HasTexts, HasThreads, IsNumberWithin}
+use Rattle.reset_service.specs.Words.{MayHaveNumber, Writes, drive_command, explain_command, faults_of, program}
+use Rattle.reset_service.specs.Words.{tables_command, texts_command, threads_command, topology_command}
 use Rattle.reset_service.proofs.PathRows.{AllFit, AreTaken, IsTaken, TakesWords, checked, given_row, or_else-nil}
-use Rattle.reset_service.proofs.PathRows.{rows_taken}
+use Rattle.reset_service.proofs.PathRows.{row_taken, rows_taken}
 
 -- ---- the walk meets no `help`
 
@@ -151,14 +154,26 @@ the_check = the_texts (codes "check") (codes "SCRIPT")
 abbrev the_verify : Shape
 the_verify = the_texts (codes "verify") (codes "HISTORY")
 
+abbrev the_picture : Shape
+the_picture = the_texts (codes "picture") (codes "HISTORY")
+
 abbrev the_threads : Shape
-the_threads = slice_index_or (built program).subs 3 threads_command.top
+the_threads = slice_index_or (built program).subs 4 threads_command.top
+
+abbrev the_drive : Shape
+the_drive = slice_index_or (built program).subs 5 drive_command.top
+
+abbrev the_topology : Shape
+the_topology = slice_index_or (built program).subs 6 topology_command.top
+
+abbrev the_explain : Shape
+the_explain = slice_index_or (built program).subs 7 explain_command.top
 
 abbrev the_tables : Shape
-the_tables = slice_index_or (built program).subs 4 tables_command.top
+the_tables = slice_index_or (built program).subs 8 tables_command.top
 
 abbrev the_help : Shape
-the_help = slice_index_or (built program).subs 5 tables_command.top
+the_help = slice_index_or (built program).subs 9 tables_command.top
 
 -- the rows of the words after the subcommand
 abbrev rows_of_words : Shape → List Text → List Row
@@ -177,6 +192,27 @@ text_found c id a rows is taken given =
     subst (λ (o : Option Row). IsSome (option_and_then (λ r. slice_get r.values 0) o)) (sym row.1)
     (first_value row.0.values of_a.0)
 
+-- ---- which arguments have to be given
+
+one_given : (a : Bool) (k : ErrorKind) → cond (not a || false) (k ∷ []) [] ≡ [] → a ≡ true
+one_given true k e = refl
+one_given false k e = absurd (cc)
+
+both_given : (a b : Bool) (k : ErrorKind) → cond (not a || (not b || false)) (k ∷ []) [] ≡ [] → (a ≡ true) × (b ≡ true)
+both_given true b k e = (refl, one_given b k e)
+both_given false b k e = absurd (cc)
+
+three_given : (a b c : Bool) (k : ErrorKind) → cond (not a || (not b || (not c || false))) (k ∷ []) [] ≡ []
+    → (a ≡ true) × (b ≡ true) × (c ≡ true)
+three_given true b c k e = (refl, both_given b c k e)
+three_given false b c k e = absurd (cc)
+
+four_given : (a b c d : Bool) (k : ErrorKind)
+    → cond (not a || (not b || (not c || (not d || false)))) (k ∷ []) [] ≡ []
+    → (a ≡ true) × (b ≡ true) × (c ≡ true) × (d ≡ true)
+four_given true b c d k e = (refl, three_given b c d k e)
+four_given false b c d k e = absurd (cc)
+
 -- ---- the subcommands with two paths
 
 -- each argument takes a value, and the flag asks for help
@@ -184,14 +220,10 @@ scripts_fit : (name : Text) → AllFit (the_texts name (codes "SCRIPT")).rules (
 unfolding texts_command
 scripts_fit name = ((refl, inl (refl, refl, refl)), ((refl, inl (refl, refl, refl)), ((refl, inr refl), tt)))
 
-histories_fit : AllFit the_verify.rules the_verify.rules
+histories_fit : (name : Text)
+    → AllFit (the_texts name (codes "HISTORY")).rules (the_texts name (codes "HISTORY")).rules
 unfolding texts_command
-histories_fit = ((refl, inl (refl, refl, refl)), ((refl, inl (refl, refl, refl)), ((refl, inr refl), tt)))
-
-both_given : (a b : Bool) (k : ErrorKind) → cond (not a || (not b || false)) (k ∷ []) [] ≡ [] → (a ≡ true) × (b ≡ true)
-both_given true true k e = (refl, refl)
-both_given true false k e = absurd (cc)
-both_given false b k e = absurd (cc)
+histories_fit name = ((refl, inl (refl, refl, refl)), ((refl, inl (refl, refl, refl)), ((refl, inr refl), tt)))
 
 paths_given : (name input : Text) (words : List Text) → TakesWords (the_texts name input) words
     → (is_given (codes "TOPOLOGY") (rows_of_words (the_texts name input) words) ≡ true)
@@ -214,37 +246,18 @@ has_scripts name words e =
       text_found s.rules (codes "SCRIPT") _ (rows_of_words s words) refl taken given.1,
     )
 
-has_histories : (words : List Text) → TakesWords the_verify words
-    → HasTexts (codes "HISTORY") (rows_of_words the_verify words)
+has_histories : (name : Text) (words : List Text) → TakesWords (the_texts name (codes "HISTORY")) words
+    → HasTexts (codes "HISTORY") (rows_of_words (the_texts name (codes "HISTORY")) words)
 unfolding texts_command
-has_histories words e =
-    let given = paths_given (codes "verify") (codes "HISTORY") words e in
-    let taken = rows_taken the_verify histories_fit words e in (
-      text_found the_verify.rules (codes "TOPOLOGY") _ (rows_of_words the_verify words) refl taken given.0,
-      text_found the_verify.rules (codes "HISTORY") _ (rows_of_words the_verify words) refl taken given.1,
+has_histories name words e =
+    let s = the_texts name (codes "HISTORY") in
+    let given = paths_given name (codes "HISTORY") words e in
+    let taken = rows_taken s (histories_fit name) words e in (
+      text_found s.rules (codes "TOPOLOGY") _ (rows_of_words s words) refl taken given.0,
+      text_found s.rules (codes "HISTORY") _ (rows_of_words s words) refl taken given.1,
     )
 
--- ---- the subcommand `threads`
-
-abbrev the_turns : Rule
-the_turns = slice_index_or the_threads.rules 1 (new_rule [])
-
-threads_fit : AllFit the_threads.rules the_threads.rules
-unfolding program threads_command texts_command tables_command
-threads_fit = (
-  (refl, inl (refl, refl, refl)),
-  (
-    (refl, inl (refl, refl, refl)),
-    ((refl, inl (refl, refl, refl)), ((refl, inr refl), tt)),
-  ),
-)
-
-all_given : (a b c : Bool) (k : ErrorKind) → cond (not a || (not b || (not c || false))) (k ∷ []) [] ≡ []
-    → (a ≡ true) × (b ≡ true) × (c ≡ true)
-all_given true true true k e = (refl, refl, refl)
-all_given true true false k e = absurd (cc)
-all_given true false c k e = absurd (cc)
-all_given false b c k e = absurd (cc)
+-- ---- numbers
 
 -- a text without its minus, if it begins with one
 without_minus-cond : (t : Text) → without_minus t ≡ cond (starts_with_minus t) (drop 1 t) t
@@ -255,14 +268,24 @@ without_minus-cond (x ∷ xs) = go (x == 45)
     go true = refl
     go false = refl
 
--- a text that passed the range is read as it was written, and writes a number of the range
-abbrev WritesTurns : Option Text → Type 0
-WritesTurns o = (n : ℕ) × IsSomeAnd o (Writes n) × (option_map without_minus o ≡ o) × (1 ≤ n) × (n ≤ 100000)
+is_accepted : (b : Bool) (k : ErrorKind) → cond b [] (k ∷ []) ≡ [] → b ≡ true
+is_accepted true k e = refl
+is_accepted false k e = absurd (cc)
 
-writes_turns : (t : Text) → IsSignedIn (pos 1) (pos 100000) t → WritesTurns (Some t)
-writes_turns t passed = go (starts_with_minus t) refl
+-- an argument whose values are numbers from the least to the most
+record IsOfNumbers (least most : ℕ) (a : Rule) : Type 0 where
+  passes : (v : Text) (vs : List Text) → values_fault a (v ∷ vs) ≡ []
+      → accepts false (Signed (pos least) (pos most)) v ≡ true
+  reading : reading_by a ≡ WithoutMinus
+
+-- a text that passed the range is read as it was written, and writes a number of the range
+abbrev WritesNumber : ℕ → ℕ → Option Text → Type 0
+WritesNumber least most o = (n : ℕ) × IsNumberWithin least most o n × (option_map without_minus o ≡ o)
+
+writes_number : (least most : ℕ) (t : Text) → IsSignedIn (pos least) (pos most) t → WritesNumber least most (Some t)
+writes_number least most t passed = go (starts_with_minus t) refl
   where
-    go : (b : Bool) → starts_with_minus t ≡ b → WritesTurns (Some t)
+    go : (b : Bool) → starts_with_minus t ≡ b → WritesNumber least most (Some t)
     go true minus =
         let low_ok = rw minus at passed.2 in
         absurd (omega (arith, ints))
@@ -271,57 +294,230 @@ writes_turns t passed = go (starts_with_minus t) refl
         let low_ok = rw minus at passed.2 in
         let high_ok = rw minus at passed.3 in (
           digits_value 10 (without_leading_plus t),
-          (numeral, refl),
+          ((numeral, refl), omega (arith, ints), omega (arith, ints)),
           ap Some (without_minus-cond t ∙ rw minus refl),
-          omega (arith, ints),
-          omega (arith, ints),
         )
 
-is_accepted : (b : Bool) (k : ErrorKind) → cond b [] (k ∷ []) ≡ [] → b ≡ true
-is_accepted true k e = refl
-is_accepted false k e = absurd (cc)
+values_write_number : (least most : ℕ) (a : Rule) → IsOfNumbers least most a → (values : List Text)
+    → 0 < length values → values_fault a values ≡ [] → WritesNumber least most (slice_get values 0)
+values_write_number least most a numbers [] some e = absurd (omega arith)
+values_write_number least most a numbers (v ∷ vs) some e =
+    writes_number least most v (accepts-Accepts false (Signed (pos least) (pos most)) v (numbers.passes v vs e))
 
-values_write_turns : (values : List Text) → 0 < length values → values_fault the_turns values ≡ []
-    → WritesTurns (slice_get values 0)
-unfolding program threads_command texts_command tables_command
-values_write_turns [] some e = absurd (omega arith)
-values_write_turns (v ∷ vs) some e =
-    writes_turns v
-    (accepts-Accepts false (Signed (pos 1) (pos 100000)) v
-    (is_accepted (accepts false (Signed (pos 1) (pos 100000)) v) _ (or_else-nil _ (values_fault the_turns vs) e).0))
+-- the row has a number, which is read as it was written
+abbrev RowHasNumber : ℕ → ℕ → Option Row → Type 0
+RowHasNumber least most o = (n : ℕ) × IsNumberWithin least most (option_and_then (λ r. slice_get r.values 0) o) n
+    × (option_and_then row_text o ≡ option_and_then (λ r. slice_get r.values 0) o)
 
-abbrev RowWritesTurns : Option Row → Type 0
-RowWritesTurns o = (n : ℕ) × IsSomeAnd (option_and_then (λ r. slice_get r.values 0) o) (Writes n)
-    × (option_and_then row_text o ≡ option_and_then (λ r. slice_get r.values 0) o) × (1 ≤ n) × (n ≤ 100000)
-
-row_writes_turns : (r : Row) → IsTaken (Some the_turns) r → RowWritesTurns (Some r)
-unfolding program threads_command texts_command tables_command
-row_writes_turns r taken =
-    let writes = values_write_turns r.values taken.0 taken.1 in (
+row_has_number : (least most : ℕ) (a : Rule) → IsOfNumbers least most a → (r : Row) → IsTaken (Some a) r
+    → RowHasNumber least most (Some r)
+row_has_number least most a numbers r taken =
+    let writes = values_write_number least most a numbers r.values taken.0 taken.1 in (
       writes.0,
       writes.1,
-      ap (λ how. option_map (read_as how) (slice_get r.values 0)) taken.2 ∙ writes.2,
-      writes.3,
-      writes.4,
+      ap (λ how. option_map (read_as how) (slice_get r.values 0)) (taken.2 ∙ numbers.reading) ∙ writes.2,
     )
 
+-- an argument that was given has a number
+number_found : (least most : ℕ) (c : List Rule) (id : Text) (a : Rule) (rows : List Row) → IsOfNumbers least most a
+    → arg_by_id c id ≡ Some a → AreTaken c rows → is_given id rows ≡ true → HasNumber id least most rows
+number_found least most c id a rows numbers is taken given =
+    let row = given_row c id rows taken given in
+    let of_a = subst (λ (o : Option Rule). IsTaken o row.0) is row.2 in
+    subst (RowHasNumber least most) (sym row.1) (row_has_number least most a numbers row.0 of_a)
+
+-- and one that wasn't has none
+number_or_none : (least most : ℕ) (c : List Rule) (id : Text) (a : Rule) (rows : List Row) → IsOfNumbers least most a
+    → arg_by_id c id ≡ Some a → AreTaken c rows → MayHaveNumber id least most rows
+number_or_none least most c id a rows numbers is taken =
+    go (find (λ x. bytes_eq x.id id) rows) (row_taken c id rows taken)
+  where
+    go : (o : Option Row) → IfSome o (IsTaken (arg_by_id c id))
+        → ((option_and_then (λ r. slice_get r.values 0) o ≡ None) × (option_and_then row_text o ≡ None))
+        ⊎ RowHasNumber least most o
+    go None none = inl (refl, refl)
+    go (Some r) some =
+        inr (row_has_number least most a numbers r (subst (λ (x : Option Rule). IsTaken x r) is some))
+
+-- ---- the subcommand `threads`
+
+threads_fit : AllFit the_threads.rules the_threads.rules
+unfolding program threads_command drive_command topology_command explain_command texts_command tables_command
+threads_fit = (
+  (refl, inl (refl, refl, refl)),
+  (
+    (refl, inl (refl, refl, refl)),
+    ((refl, inl (refl, refl, refl)), ((refl, inr refl), tt)),
+  ),
+)
+
+abbrev the_turns : Rule
+the_turns = slice_index_or the_threads.rules 1 (new_rule [])
+
+turns_are_numbers : IsOfNumbers 1 100000 the_turns
+unfolding program threads_command drive_command topology_command explain_command texts_command tables_command
+turns_are_numbers = record {
+  passes =
+      λ v vs e. is_accepted (accepts false (Signed (pos 1) (pos 100000)) v) _
+      (or_else-nil _ (values_fault the_turns vs) e).0;
+  reading = refl;
+}
+
 -- where clap finds no fault in the words, they have a value for each argument
-has_thread_words : (words : List Text) → TakesWords the_threads words
-    → HasTexts (codes "history") (rows_of_words the_threads words) × HasTurns (rows_of_words the_threads words)
-unfolding program threads_command texts_command tables_command
-has_thread_words words e =
+has_threads : (words : List Text) → TakesWords the_threads words → HasThreads (rows_of_words the_threads words)
+unfolding program threads_command drive_command topology_command explain_command texts_command tables_command
+has_threads words e =
+    let c = the_threads.rules in
     let rows = rows_of_words the_threads words in
     let given =
-    all_given (is_given (codes "TOPOLOGY") rows) (is_given (codes "turns") rows) (is_given (codes "history") rows)
+    three_given (is_given (codes "TOPOLOGY") rows) (is_given (codes "turns") rows) (is_given (codes "history") rows)
     MissingRequiredArgument (checked the_threads words e) in
-    let taken = rows_taken the_threads threads_fit words e in
-    let turns = given_row the_threads.rules (codes "turns") rows taken given.1 in (
+    let taken = rows_taken the_threads threads_fit words e in (
       (
-        text_found the_threads.rules (codes "TOPOLOGY") _ rows refl taken given.0,
-        text_found the_threads.rules (codes "history") _ rows refl taken given.2,
+        text_found c (codes "TOPOLOGY") _ rows refl taken given.0,
+        text_found c (codes "history") _ rows refl taken given.2,
       ),
-      subst RowWritesTurns (sym turns.1) (row_writes_turns turns.0 turns.2),
+      number_found 1 100000 c (codes "turns") the_turns rows turns_are_numbers refl taken given.1,
     )
+
+-- ---- the subcommand `drive`
+
+drive_fit : AllFit the_drive.rules the_drive.rules
+unfolding program threads_command drive_command topology_command explain_command texts_command tables_command
+drive_fit = (
+  (refl, inl (refl, refl, refl)),
+  (
+    (refl, inl (refl, refl, refl)),
+    (
+      (refl, inl (refl, refl, refl)),
+      (
+        (refl, inl (refl, refl, refl)),
+        ((refl, inl (refl, refl, refl)), ((refl, inr refl), tt)),
+      ),
+    ),
+  ),
+)
+
+abbrev the_steps : Rule
+the_steps = slice_index_or the_drive.rules 1 (new_rule [])
+
+abbrev the_drive_seed : Rule
+the_drive_seed = slice_index_or the_drive.rules 2 (new_rule [])
+
+abbrev the_faults : Rule
+the_faults = slice_index_or the_drive.rules 4 (new_rule [])
+
+steps_are_numbers : IsOfNumbers 1 1000000 the_steps
+unfolding program threads_command drive_command topology_command explain_command texts_command tables_command
+steps_are_numbers = record {
+  passes =
+      λ v vs e. is_accepted (accepts false (Signed (pos 1) (pos 1000000)) v) _
+      (or_else-nil _ (values_fault the_steps vs) e).0;
+  reading = refl;
+}
+
+drive_seeds_are_numbers : IsOfNumbers 0 4294967295 the_drive_seed
+unfolding program threads_command drive_command topology_command explain_command texts_command tables_command
+drive_seeds_are_numbers = record {
+  passes =
+      λ v vs e. is_accepted (accepts false (Signed (pos 0) (pos 4294967295)) v) _
+      (or_else-nil _ (values_fault the_drive_seed vs) e).0;
+  reading = refl;
+}
+
+faults_are_numbers : IsOfNumbers 0 1000 the_faults
+unfolding program threads_command drive_command topology_command explain_command texts_command tables_command
+faults_are_numbers = record {
+  passes =
+      λ v vs e. is_accepted (accepts false (Signed (pos 0) (pos 1000)) v) _
+      (or_else-nil _ (values_fault the_faults vs) e).0;
+  reading = refl;
+}
+
+has_drive : (words : List Text) → TakesWords the_drive words → HasDrive (rows_of_words the_drive words)
+unfolding program threads_command drive_command topology_command explain_command texts_command tables_command
+has_drive words e =
+    let c = the_drive.rules in
+    let rows = rows_of_words the_drive words in
+    let given =
+    four_given (is_given (codes "TOPOLOGY") rows) (is_given (codes "steps") rows) (is_given (codes "seed") rows)
+    (is_given (codes "history") rows) MissingRequiredArgument (checked the_drive words e) in
+    let taken = rows_taken the_drive drive_fit words e in (
+      (
+        text_found c (codes "TOPOLOGY") _ rows refl taken given.0,
+        text_found c (codes "history") _ rows refl taken given.3,
+      ),
+      number_found 1 1000000 c (codes "steps") the_steps rows steps_are_numbers refl taken given.1,
+      number_found 0 4294967295 c (codes "seed") the_drive_seed rows drive_seeds_are_numbers refl taken given.2,
+      number_or_none 0 1000 c (codes "faults") the_faults rows faults_are_numbers refl taken,
+    )
+
+-- ---- the subcommand `topology`
+
+topology_fit : AllFit the_topology.rules the_topology.rules
+unfolding program threads_command drive_command topology_command explain_command texts_command tables_command
+topology_fit = (
+  (refl, inl (refl, refl, refl)),
+  (
+    (refl, inl (refl, refl, refl)),
+    (
+      (refl, inl (refl, refl, refl)),
+      ((refl, inl (refl, refl, refl)), ((refl, inr refl), tt)),
+    ),
+  ),
+)
+
+abbrev the_nodes : Rule
+the_nodes = slice_index_or the_topology.rules 1 (new_rule [])
+
+abbrev the_shape_seed : Rule
+the_shape_seed = slice_index_or the_topology.rules 2 (new_rule [])
+
+nodes_are_numbers : IsOfNumbers 1 1024 the_nodes
+unfolding program threads_command drive_command topology_command explain_command texts_command tables_command
+nodes_are_numbers = record {
+  passes =
+      λ v vs e. is_accepted (accepts false (Signed (pos 1) (pos 1024)) v) _
+      (or_else-nil _ (values_fault the_nodes vs) e).0;
+  reading = refl;
+}
+
+shape_seeds_are_numbers : IsOfNumbers 0 4294967295 the_shape_seed
+unfolding program threads_command drive_command topology_command explain_command texts_command tables_command
+shape_seeds_are_numbers = record {
+  passes =
+      λ v vs e. is_accepted (accepts false (Signed (pos 0) (pos 4294967295)) v) _
+      (or_else-nil _ (values_fault the_shape_seed vs) e).0;
+  reading = refl;
+}
+
+has_shape : (words : List Text) → TakesWords the_topology words → HasShape (rows_of_words the_topology words)
+unfolding program threads_command drive_command topology_command explain_command texts_command tables_command
+has_shape words e =
+    let c = the_topology.rules in
+    let rows = rows_of_words the_topology words in
+    let given =
+    both_given (is_given (codes "SHAPE") rows) (is_given (codes "N") rows) MissingRequiredArgument
+    (checked the_topology words e) in
+    let taken = rows_taken the_topology topology_fit words e in (
+      text_found c (codes "SHAPE") _ rows refl taken given.0,
+      number_found 1 1024 c (codes "N") the_nodes rows nodes_are_numbers refl taken given.1,
+      number_or_none 0 4294967295 c (codes "seed") the_shape_seed rows shape_seeds_are_numbers refl taken,
+    )
+
+-- ---- the subcommand `explain`
+
+explain_fit : AllFit the_explain.rules the_explain.rules
+unfolding program threads_command drive_command topology_command explain_command texts_command tables_command
+explain_fit = ((refl, inl (refl, refl, refl)), ((refl, inr refl), tt))
+
+has_word : (words : List Text) → TakesWords the_explain words
+    → IsSome (first_of (codes "WORD") (rows_of_words the_explain words))
+unfolding program threads_command drive_command topology_command explain_command texts_command tables_command
+has_word words e =
+    let rows = rows_of_words the_explain words in
+    text_found the_explain.rules (codes "WORD") _ rows refl (rows_taken the_explain explain_fit words e)
+    (one_given (is_given (codes "WORD") rows) MissingRequiredArgument (checked the_explain words e))
 
 -- ---- the job
 
@@ -335,43 +531,48 @@ bytes_eq-swap xs ys differs same =
     go true e = refl
     go false e = e
 
--- the subcommand whose name is the word: `replay`, `check`, `verify`, `threads`, `tables` or `help`
-abbrev sub_met : Bool → Bool → Bool → Bool → Bool → Bool → Option Shape
-sub_met r c v n t h =
-    cond r (Some the_replay)
-    (cond c (Some the_check)
-    (cond v (Some the_verify)
-    (cond n (Some the_threads) (cond t (Some the_tables) (cond h (Some the_help) None)))))
-
 abbrev fault_at : List Text → Option Shape → Kinds
 fault_at words sub = option_map_or (λ s. level_fault s [] nothing_held words false []) sub []
 
-job_of_sub : (p : Text × List Text) → bytes_eq p.0 (codes "help") ≡ false → (r c v n t h : Bool)
-    → answers_to p.0 (label_of the_help) ≡ h
-    → fault_at p.1 (sub_met r c v n t h) ≡ [] → HasJob (option_map (λ s. rows_at s p.1) (sub_met r c v n t h))
-unfolding program threads_command texts_command tables_command
-job_of_sub p no_help true c v n t h a f = inl (inl refl, has_scripts (codes "replay") p.1 f)
-job_of_sub p no_help false true v n t h a f = inl (inr refl, has_scripts (codes "check") p.1 f)
-job_of_sub p no_help false false true n t h a f = inr (inl (refl, has_histories p.1 f))
-job_of_sub p no_help false false false true t h a f =
-    let found = has_thread_words p.1 f in
-    inr (inr (inl (refl, found.0, found.1)))
-job_of_sub p no_help false false false false true h a f = inr (inr (inr refl))
-job_of_sub p no_help false false false false false true a f = absurd (bytes_eq-swap p.0 (codes "help") no_help a)
-job_of_sub p no_help false false false false false false a f = tt
+-- words at which clap finds no fault in the subcommand that was met ask for a job
+abbrev AsksJob : List Text → Option Shape → Type 0
+AsksJob words sub = fault_at words sub ≡ [] → HasJob (option_map (λ s. rows_at s words) sub)
+
+asks-met : (words : List Text) (b : Bool) (s : Shape) (below : Option Shape) → AsksJob words (Some s)
+    → AsksJob words below → AsksJob words (cond b (Some s) below)
+asks-met words true s below here there = here
+asks-met words false s below here there = there
+
+-- `help` isn't met, and where none is met, the words are the program's own
+no_help_met : (p : Text × List Text) → bytes_eq p.0 (codes "help") ≡ false → (h : Bool)
+    → answers_to p.0 (label_of the_help) ≡ h → AsksJob p.1 (cond h (Some the_help) None)
+unfolding program threads_command drive_command topology_command explain_command texts_command tables_command
+no_help_met p no_help true a = absurd (bytes_eq-swap p.0 (codes "help") no_help a)
+no_help_met p no_help false a = λ f. tt
 
 job_at : (stop : Option (Text × List Text)) → IsNoHelp stop → entered_fault (built program) stop ≡ []
     → HasJob (entered (built program) stop)
-unfolding program threads_command texts_command tables_command
+unfolding program threads_command drive_command topology_command explain_command texts_command tables_command
 job_at None no_help e = tt
 job_at (Some p) no_help e =
-    job_of_sub p no_help (answers_to p.0 (label_of the_replay)) (answers_to p.0 (label_of the_check))
-    (answers_to p.0 (label_of the_verify)) (answers_to p.0 (label_of the_threads))
-    (answers_to p.0 (label_of the_tables)) (answers_to p.0 (label_of the_help)) refl e
+    asks-met p.1 (answers_to p.0 (label_of the_replay)) the_replay _
+    (λ f. inl (inl refl, has_scripts (codes "replay") p.1 f))
+    (asks-met p.1 (answers_to p.0 (label_of the_check)) the_check _
+    (λ f. inl (inr refl, has_scripts (codes "check") p.1 f))
+    (asks-met p.1 (answers_to p.0 (label_of the_verify)) the_verify _
+    (λ f. inr (inl (inl refl, has_histories (codes "verify") p.1 f)))
+    (asks-met p.1 (answers_to p.0 (label_of the_picture)) the_picture _
+    (λ f. inr (inl (inr refl, has_histories (codes "picture") p.1 f)))
+    (asks-met p.1 (answers_to p.0 (label_of the_threads)) the_threads _ (λ f. inr (inr (inl (refl, has_threads p.1 f))))
+    (asks-met p.1 (answers_to p.0 (label_of the_drive)) the_drive _ (λ f. inr (inr (inr (inl (refl, has_drive p.1 f)))))
+    (asks-met p.1 (answers_to p.0 (label_of the_topology)) the_topology _ (λ f. inr (inr (inr (inr (inl (refl, has_shape p.1 f))))))
+    (asks-met p.1 (answers_to p.0 (label_of the_explain)) the_explain _ (λ f. inr (inr (inr (inr (inr (inl (refl, has_word p.1 f)))))))
+    (asks-met p.1 (answers_to p.0 (label_of the_tables)) the_tables _ (λ f. inr (inr (inr (inr (inr (inr refl))))))
+    (no_help_met p no_help (answers_to p.0 (label_of the_help)) refl))))))))) e
 
 -- words in which clap finds no fault ask for a job
 pub has_job : (words : List Text) → fault_of program words ≡ [] → HasJob (subcommand_of program words)
-unfolding program threads_command texts_command tables_command
+unfolding program threads_command drive_command topology_command explain_command texts_command tables_command
 has_job words e =
     let a : App = built program in
     let given : List Text = argument_words program words in
@@ -387,11 +588,13 @@ has_job words e =
 -- ---- the answer of clap for a command that is the program
 
 program_is_simple : is_simple program ≡ true
-unfolding program threads_command texts_command tables_command clap_on_literals
+unfolding program threads_command drive_command topology_command explain_command texts_command tables_command
+    clap_on_literals
 program_is_simple = refl
 
 program_is_free : is_simple_and_free program ≡ true
-unfolding program threads_command texts_command tables_command clap_on_literals
+unfolding program threads_command drive_command topology_command explain_command texts_command tables_command
+    clap_on_literals
 program_is_free = refl
 
 pub faults_are : (a : App) (words : List Text) (P : Kinds → Type 0) → a ≡ program

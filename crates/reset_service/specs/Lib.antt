@@ -6,6 +6,7 @@ pub mod Threaded
 pub mod Parts
 pub mod Lines
 pub mod Words
+pub mod Explained
 pub mod Tables
 pub mod Buffering
 pub mod StopText

@@ -3,11 +3,15 @@
 ghost use Rattle.std.specs.Prelude.{◌≡◌, IfOk, codes, false};
 ghost use Rattle.clap.specs.Words.{app_of, rule_of};
 ghost use Rattle.clap.specs.declared.builder.command.Command.TheViews.{out-Command as fields_of};
-ghost use Rattle.reset_service.specs.Words.{file_option, path, program, tables_command, texts_command};
-ghost use Rattle.reset_service.specs.Words.{threads_command, turns_option};
+ghost use Rattle.reset_service.specs.Words.{drive_command, explain_command, file_option, number_option, optional};
+ghost use Rattle.reset_service.specs.Words.{path, program, tables_command, texts_command, texts_program};
+ghost use Rattle.reset_service.specs.Words.{threads_command, topology_command, within};
 
 use clap::{Arg, Command, value_parser};
 use std::alloc::{AllocError, Global};
+
+// The program's version, which `--version` prints.
+const VERSION: &str = "0.1.0";
 
 const ABOUT: &str =
     "Replays scripts of reset events on a network of nodes, and writes an answer to each event.";
@@ -173,22 +177,114 @@ effect says. `enabled I` in a script gives the numbers of the rows that node I m
 A row of a link table is asked at each end of a link: own is the end at which it is asked,
 other the far end.";
 
+const DRIVE_ABOUT: &str =
+    "Drives a network by a seeded scheduler, and writes what it did as a history";
+
+const DRIVE_LONG_ABOUT: &str = "\
+Drives a network by a seeded scheduler, and writes what it did as a history.
+
+The network starts from the booted configuration of its topology. At each of N steps the scheduler
+draws a node among those that are ready (among all, where none is), and then one of the events that
+are enabled there, requests included; or, in about P of a thousand steps, a fault. The same words
+give the same history on every machine. It is written to FILE, and `verify` accepts it; the file is
+created, or emptied where it is there. A drawn fault may be refused, and then the step does
+nothing. Then one line is printed, `drove E entries R reports`: the entries of the history, and the
+resets that were completed.";
+
+const DRIVE_AFTER_HELP: &str = "\
+Example:
+  reset-service drive examples/one-wave/topology.toml --steps 1000 --seed 7 --history history
+  reset-service verify examples/one-wave/topology.toml history";
+
+const STEPS_HELP: &str = "How many steps it takes, from 1 to 1000000";
+
+const DRIVE_SEED_HELP: &str = "A number that the random words are drawn by, from 0 to 4294967295";
+
+const FAULTS_HELP: &str =
+    "How many of a thousand steps are faults, from 0 to 1000; none where this is left out";
+
+const PICTURE_HELP: Help = Help {
+    about: "Draws a history as a space-time diagram, in SVG",
+    long_about: "\
+Draws a history as a space-time diagram, in SVG, on standard output.
+
+A node is a lane, the leader first, and time goes down the page: each entry is a mark on the lane of
+its node, with its line as a text that shows where the pointer rests. A lane has the colour of the
+node's phase, and behind it that of its session, so that a reset is seen to go down the tree and to
+end. A line across all lanes is a completed reset. At most 64 nodes and 2,000 entries are drawn.",
+    input: HISTORY_HELP,
+    after_help: "\
+Example:
+  reset-service picture examples/verified-wave/topology.toml examples/verified-wave/history > wave.svg",
+};
+
+const SHAPE_ABOUT: &str = "Writes the text of a topology of a standard shape";
+
+const SHAPE_LONG_ABOUT: &str = "\
+Writes the text of a topology of a standard shape, with the nodes 1 to N.
+
+  path    each node is linked with the next one
+  ring    a path whose ends are linked
+  star    node 1 is linked with each other one
+  tree    a binary tree: node I is linked with the node at half of I
+  grid    rows as wide as they are many, each node linked with the next one and the one below
+  random  each node is linked with one or two lesser ones, which are drawn by the seed";
+
+const SHAPE_AFTER_HELP: &str = "\
+Example:
+  reset-service topology grid 16 --app mutex > topology.toml";
+
+const SHAPE_HELP: &str = "ring, path, star, grid, tree or random";
+
+const NODES_HELP: &str = "How many nodes it has, from 1 to 1024";
+
+const SHAPE_SEED_HELP: &str =
+    "A number that a random shape is drawn by, from 0 to 4294967295; 0 where this is left out";
+
+const APP_HELP: &str = "idle, token, mutex or routes; idle where this is left out";
+
+const EXPLAIN_ABOUT: &str =
+    "Tells what a word that the program prints or reads means, and what to do";
+
+const EXPLAIN_LONG_ABOUT: &str = "\
+Tells what a word that the program prints or reads means, and what to do: a refusal, a fault of a
+topology or of a history, or a command of a script.";
+
+const EXPLAIN_AFTER_HELP: &str = "\
+Example:
+  reset-service explain NotEnabled";
+
+const WORD_HELP: &str = "The word, as it is printed";
+
 /// The command line: the program and its subcommands.
 pub fn command_line<'a>(alloc: Global) -> Result<Command<'a>, AllocError>
     ensures { IfOk result (λ command. app_of command ≡ program) }
 {
+    texts_line(alloc)?
+        .subcommand(threads_words(alloc)?)?
+        .subcommand(drive_words(alloc)?)?
+        .subcommand(shape_words(alloc)?)?
+        .subcommand(explain_words(alloc)?)?
+        .subcommand(tables_words(alloc))
+}
+
+// The program with the subcommands that read two texts.
+fn texts_line<'a>(alloc: Global) -> Result<Command<'a>, AllocError>
+    ensures { IfOk result (λ command. app_of command ≡ texts_program) }
+{
     let replay = texts_words(alloc, "replay", "SCRIPT", &REPLAY_HELP)?;
     let check = texts_words(alloc, "check", "SCRIPT", &CHECK_HELP)?;
     let verify = texts_words(alloc, "verify", "HISTORY", &VERIFY_HELP)?;
+    let picture = texts_words(alloc, "picture", "HISTORY", &PICTURE_HELP)?;
     Command::new(alloc, "reset-service")
+        .version(VERSION)
         .about(ABOUT)
         .long_about(LONG_ABOUT)
         .after_help(AFTER_HELP)
         .subcommand(replay)?
         .subcommand(check)?
         .subcommand(verify)?
-        .subcommand(threads_words(alloc)?)?
-        .subcommand(tables_words(alloc))
+        .subcommand(picture)
 }
 
 // A subcommand with the paths of a topology and of another file.
@@ -223,6 +319,48 @@ fn threads_words<'a>(alloc: Global) -> Result<Command<'a>, AllocError>
         .arg(history_word(alloc))
 }
 
+// The subcommand with the path of a topology, the numbers of a seeded scheduler and the path of a file for the history.
+fn drive_words<'a>(alloc: Global) -> Result<Command<'a>, AllocError>
+    ensures app { IfOk result (λ command. app_of command ≡ drive_command) }
+    ensures local { IfOk result (λ command. (fields_of command).has_globals ≡ false) }
+{
+    Command::new(alloc, "drive")
+        .about(DRIVE_ABOUT)
+        .long_about(DRIVE_LONG_ABOUT)
+        .after_help(DRIVE_AFTER_HELP)
+        .arg(path_word(alloc, "TOPOLOGY", TOPOLOGY_HELP))?
+        .arg(steps_word(alloc))?
+        .arg(seed_word(alloc, true, DRIVE_SEED_HELP))?
+        .arg(history_word(alloc))?
+        .arg(faults_word(alloc))
+}
+
+// The subcommand with the name of a shape, a number of nodes, a seed and the name of an application.
+fn shape_words<'a>(alloc: Global) -> Result<Command<'a>, AllocError>
+    ensures app { IfOk result (λ command. app_of command ≡ topology_command) }
+    ensures local { IfOk result (λ command. (fields_of command).has_globals ≡ false) }
+{
+    Command::new(alloc, "topology")
+        .about(SHAPE_ABOUT)
+        .long_about(SHAPE_LONG_ABOUT)
+        .after_help(SHAPE_AFTER_HELP)
+        .arg(path_word(alloc, "SHAPE", SHAPE_HELP))?
+        .arg(nodes_word(alloc))?
+        .arg(seed_word(alloc, false, SHAPE_SEED_HELP))?
+        .arg(app_word(alloc))
+}
+
+fn explain_words<'a>(alloc: Global) -> Result<Command<'a>, AllocError>
+    ensures app { IfOk result (λ command. app_of command ≡ explain_command) }
+    ensures local { IfOk result (λ command. (fields_of command).has_globals ≡ false) }
+{
+    Command::new(alloc, "explain")
+        .about(EXPLAIN_ABOUT)
+        .long_about(EXPLAIN_LONG_ABOUT)
+        .after_help(EXPLAIN_AFTER_HELP)
+        .arg(path_word(alloc, "WORD", WORD_HELP))
+}
+
 fn tables_words<'a>(alloc: Global) -> Command<'a>
     ensures app { app_of result ≡ tables_command }
     ensures local { (fields_of result).has_globals ≡ false }
@@ -232,7 +370,7 @@ fn tables_words<'a>(alloc: Global) -> Command<'a>
         .long_about(TABLES_LONG_ABOUT)
 }
 
-// The path of a file, which has to be given.
+// The path of a file, or another word, which has to be given.
 fn path_word<'a>(alloc: Global, name: &'a str, help: &'a str) -> Arg<'a>
     ensures rule { rule_of result ≡ path name.entry.now }
     ensures local { result.global ≡ false }
@@ -242,7 +380,7 @@ fn path_word<'a>(alloc: Global, name: &'a str, help: &'a str) -> Arg<'a>
 
 // How many turns each node takes, which has to be given.
 fn turns_word<'a>(alloc: Global) -> Arg<'a>
-    ensures rule { rule_of result ≡ turns_option }
+    ensures rule { rule_of result ≡ number_option (codes "turns") 1 100000 }
     ensures local { result.global ≡ false }
 {
     Arg::new(alloc, "turns")
@@ -251,6 +389,66 @@ fn turns_word<'a>(alloc: Global) -> Arg<'a>
         .required(true)
         .value_parser(value_parser!(u32).range(1..=100_000))
         .help(TURNS_HELP)
+}
+
+// How many steps a scheduler takes, which has to be given.
+fn steps_word<'a>(alloc: Global) -> Arg<'a>
+    ensures rule { rule_of result ≡ number_option (codes "steps") 1 1000000 }
+    ensures local { result.global ≡ false }
+{
+    Arg::new(alloc, "steps")
+        .long("steps")
+        .value_name("N")
+        .required(true)
+        .value_parser(value_parser!(u32).range(1..=1_000_000))
+        .help(STEPS_HELP)
+}
+
+// What random words are drawn by.
+fn seed_word<'a>(alloc: Global, required: bool, help: &'a str) -> Arg<'a>
+    ensures rule { rule_of result ≡ record (number_option (codes "seed") 0 4294967295) { required = required } }
+    ensures local { result.global ≡ false }
+{
+    Arg::new(alloc, "seed")
+        .long("seed")
+        .value_name("S")
+        .required(required)
+        .value_parser(value_parser!(u32).range(0..=4_294_967_295))
+        .help(help)
+}
+
+// How many of a thousand steps are faults, which may be left out.
+fn faults_word<'a>(alloc: Global) -> Arg<'a>
+    ensures rule { rule_of result ≡ optional (number_option (codes "faults") 0 1000) }
+    ensures local { result.global ≡ false }
+{
+    Arg::new(alloc, "faults")
+        .long("faults")
+        .value_name("P")
+        .value_parser(value_parser!(u32).range(0..=1000))
+        .help(FAULTS_HELP)
+}
+
+// How many nodes a shape has, which has to be given.
+fn nodes_word<'a>(alloc: Global) -> Arg<'a>
+    ensures rule { rule_of result ≡ within 1 1024 (path (codes "N")) }
+    ensures local { result.global ≡ false }
+{
+    Arg::new(alloc, "N")
+        .required(true)
+        .value_parser(value_parser!(u32).range(1..=1024))
+        .help(NODES_HELP)
+}
+
+// The name of an application, which may be left out.
+fn app_word<'a>(alloc: Global) -> Arg<'a>
+    ensures rule { rule_of result ≡ optional (file_option (codes "app")) }
+    ensures local { result.global ≡ false }
+{
+    Arg::new(alloc, "app")
+        .long("app")
+        .value_name("A")
+        .help(APP_HELP)
 }
 
 // The path of the file for the history, which has to be given.

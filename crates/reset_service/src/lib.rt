@@ -8,6 +8,9 @@
 mod answer;
 mod buffered_output;
 mod commands;
+mod drive_words;
+mod explained;
+mod explanations;
 mod faults;
 mod injected;
 mod input;
@@ -16,6 +19,7 @@ mod line;
 mod replays;
 mod rows;
 mod script;
+mod shape_words;
 mod show;
 mod status;
 mod tables;
@@ -25,6 +29,8 @@ mod verified;
 mod words;
 
 pub use buffered_output::BufferedOutput;
+pub use drive_words::DriveWords;
+pub use explained::{Explanation, explain};
 pub use input::{READ_LIMIT, read_text};
 pub use laws::{
     booted_invariants_hold, kept_histories_are_runs, one_joined_output, one_output,
@@ -32,6 +38,7 @@ pub use laws::{
     verified_reports_are_true,
 };
 pub use replays::{check_text, replay, replay_joined, replay_text};
+pub use shape_words::ShapeWords;
 pub use status::{RunStop, Status};
 pub use tables::print_tables;
 pub use thread_words::ThreadWords;

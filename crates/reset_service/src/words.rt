@@ -1,12 +1,15 @@
 // What the words of the command line ask for.
 
-ghost use Rattle.std.specs.Prelude.{◌≡◌, ◌≤◌, [], codes, map, IfErr, IfOk, IsSomeAnd, Some};
+ghost use Rattle.std.specs.Prelude.{◌≡◌, [], codes, map, option_map, IfErr, IfOk, IsSome, Some};
 ghost use Rattle.clap.specs.Words.{first_of, found_of, kind_of, rows_of, subcommand_rows_of};
 ghost use Rattle.reset_service.specs.declared.words.LineFault.TheVariants.{NoMemory};
-ghost use Rattle.reset_service.specs.Words.{faults_of, AskFor, AskedBy, HasJob, HasTexts, HasTurns, IsFaultOf};
-ghost use Rattle.reset_service.specs.Words.{IsInvalidValue, StandsFor, Writes};
+ghost use Rattle.reset_service.specs.Words.{faults_of, AskFor, AskedBy, HasDrive, HasJob, HasShape, HasTexts};
+ghost use Rattle.reset_service.specs.Words.{HasThreads, IsFaultOf, IsInvalidValue, IsNumberOr, IsNumberWithin};
+ghost use Rattle.reset_service.specs.Words.{StandsFor};
 
 use crate::commands::command_line;
+use crate::drive_words::DriveWords;
+use crate::shape_words::ShapeWords;
 use crate::thread_words::ThreadWords;
 use clap::error::ErrorKind;
 use clap::{ArgMatches, Error};
@@ -34,8 +37,16 @@ pub enum Job<'a> {
     Check(Paths<'a>),
     /// Verify the history of a file from the booted configuration of another's topology.
     Verify(Paths<'a>),
+    /// Draw the history of a file from the booted configuration of another's topology.
+    Picture(Paths<'a>),
     /// Run a thread for each node of a topology, and write what the nodes did to a file.
     Threads(ThreadWords<'a>),
+    /// Run a seeded scheduler on a topology, and write what the nodes did to a file.
+    Drive(DriveWords<'a>),
+    /// Write the text of a topology of this shape.
+    Shape(ShapeWords<'a>),
+    /// Tell what a word of the output means.
+    Explain(&'a str),
     /// Print the tables.
     Tables,
 }
@@ -100,7 +111,11 @@ fn job_of<'a>(matches: &ArgMatches<'a>) -> Job<'a>
         Some(("replay", values)) => Job::Replay(paths_of(values, "SCRIPT")),
         Some(("check", values)) => Job::Check(paths_of(values, "SCRIPT")),
         Some(("verify", values)) => Job::Verify(paths_of(values, "HISTORY")),
+        Some(("picture", values)) => Job::Picture(paths_of(values, "HISTORY")),
         Some(("threads", values)) => Job::Threads(thread_words_of(values)),
+        Some(("drive", values)) => Job::Drive(drive_words_of(values)),
+        Some(("topology", values)) => Job::Shape(shape_words_of(values)),
+        Some(("explain", values)) => Job::Explain(word_of(values)),
         Some(_) => Job::Tables,
     }
 }
@@ -119,13 +134,10 @@ fn paths_of<'a>(values: &ArgMatches<'a>, input: &str) -> Paths<'a>
 
 // The words of matches that have a topology, a number of turns and a file for the history.
 fn thread_words_of<'a>(values: &ArgMatches<'a>) -> ThreadWords<'a>
-    requires texts { HasTexts (codes "history") (rows_of (found_of values.now)) }
-    requires turns { HasTurns (rows_of (found_of values.now)) }
+    requires { HasThreads (rows_of (found_of values.now)) }
     ensures topology { first_of (codes "TOPOLOGY") (rows_of (found_of values.now)) ≡ Some result.topology.now }
     ensures history { first_of (codes "history") (rows_of (found_of values.now)) ≡ Some result.history.now }
-    ensures turns { IsSomeAnd (first_of (codes "turns") (rows_of (found_of values.now))) (Writes result.turns) }
-    ensures least { 1 ≤ result.turns }
-    ensures most { result.turns ≤ 100000 }
+    ensures turns { IsNumberWithin 1 100000 (first_of (codes "turns") (rows_of (found_of values.now))) result.turns }
 {
     let paths = paths_of(values, "history");
     ThreadWords {
@@ -133,6 +145,49 @@ fn thread_words_of<'a>(values: &ArgMatches<'a>) -> ThreadWords<'a>
         turns: values.get_one::<u32>("turns").unwrap(),
         history: paths.input,
     }
+}
+
+// The words of matches that have what a run of the seeded scheduler needs.
+fn drive_words_of<'a>(values: &ArgMatches<'a>) -> DriveWords<'a>
+    requires { HasDrive (rows_of (found_of values.now)) }
+    ensures topology { first_of (codes "TOPOLOGY") (rows_of (found_of values.now)) ≡ Some result.topology.now }
+    ensures history { first_of (codes "history") (rows_of (found_of values.now)) ≡ Some result.history.now }
+    ensures steps { IsNumberWithin 1 1000000 (first_of (codes "steps") (rows_of (found_of values.now))) result.steps }
+    ensures seed { IsNumberWithin 0 4294967295 (first_of (codes "seed") (rows_of (found_of values.now))) result.seed }
+    ensures faults { IsNumberOr 0 0 1000 (first_of (codes "faults") (rows_of (found_of values.now))) result.faults }
+{
+    let paths = paths_of(values, "history");
+    DriveWords {
+        topology: paths.topology,
+        steps: values.get_one::<u32>("steps").unwrap(),
+        seed: values.get_one::<u32>("seed").unwrap(),
+        faults: values.get_one::<u32>("faults").unwrap_or(0),
+        history: paths.input,
+    }
+}
+
+// The words of matches that have what a topology text needs.
+fn shape_words_of<'a>(values: &ArgMatches<'a>) -> ShapeWords<'a>
+    requires { HasShape (rows_of (found_of values.now)) }
+    ensures shape { first_of (codes "SHAPE") (rows_of (found_of values.now)) ≡ Some result.shape.now }
+    ensures nodes { IsNumberWithin 1 1024 (first_of (codes "N") (rows_of (found_of values.now))) result.nodes }
+    ensures seed { IsNumberOr 0 0 4294967295 (first_of (codes "seed") (rows_of (found_of values.now))) result.seed }
+    ensures app { first_of (codes "app") (rows_of (found_of values.now)) ≡ option_map (λ app. app.now) result.app }
+{
+    ShapeWords {
+        shape: values.get_str("SHAPE").unwrap(),
+        nodes: values.get_one::<u32>("N").unwrap(),
+        seed: values.get_one::<u32>("seed").unwrap_or(0),
+        app: values.get_str("app"),
+    }
+}
+
+// The word of matches that have one.
+fn word_of<'a>(values: &ArgMatches<'a>) -> &'a str
+    requires { IsSome (first_of (codes "WORD") (rows_of (found_of values.now))) }
+    ensures { first_of (codes "WORD") (rows_of (found_of values.now)) ≡ Some result.now }
+{
+    values.get_str("WORD").unwrap()
 }
 
 /// The fault of words that aren't text.
