@@ -6,9 +6,11 @@ pub mod CommandOf
 pub mod CaseNames
 pub mod Nodes
 pub mod Disturbing
+pub mod Driving
 pub mod Watching
 pub mod Jobs
 pub mod PathRows
+pub mod Picturing
 pub mod Subcommands
 pub mod TableRuns
 pub mod ReadyTexts

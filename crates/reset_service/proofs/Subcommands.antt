@@ -5,20 +5,20 @@ use Rattle.std.proofs.Common.{◌==◌}
 use Rattle.std.specs.List.{fold, slice_index_or}
 use Rattle.std.specs.Option.{option_map_or}
 use Rattle.std.specs.Str.{bytes_eq}
-use Rattle.std.specs.Str.Parse.{digits_value, starts_with_minus, without_leading_plus}
+use Rattle.std.specs.Str.Parse.{digits_value, without_leading_plus}
 use Rattle.std.specs.Prelude.{⊤, ◌⊎◌, IfSome, IsSome, IsSomeAnd, find, is_some, option_and_then, option_map, pos, slice_get, unwrap_or}
-use Rattle.std.proofs.lemmas.Int.{ints}
 use Rattle.std.proofs.lemmas.Slice.Eq.{bytes_eq-Decides}
-use Rattle.clap.specs.Lexer.{long_of, short_of, without_minus}
-use Rattle.clap.specs.Words.{App, IsSignedIn, Kinds, Row, Rule, Shape, Text, built, fault_of, first_of, is_simple}
+use Rattle.clap.specs.Lexer.{long_of, short_of}
+use Rattle.clap.specs.Words.{App, Kinds, Row, Rule, Shape, Text, built, fault_of, first_of, is_simple}
 use Rattle.clap.specs.Words.{is_simple_and_free, new_app, new_rule, read_as, subcommand_of, with_subcommand}
 use Rattle.clap.specs.Kinds.{or_else}
 use Rattle.clap.specs.Simple.{argument_words, entered, label_of, names_of, rows_at}
 use Rattle.clap.specs.Takes.{is_given}
 use Rattle.clap.specs.ValueTests.{accepts}
+use Rattle.clap.specs.Values.{IsUnsignedIn}
 use Rattle.clap.specs.Faults.{entered_fault, level_fault, other_fault, step_fault, turn_fault, values_fault}
 use Rattle.clap.specs.Faults.{walk_fault, word_fault}
-use Rattle.clap.specs.declared.builder.value_parser.ValueParser.TheVariants.{Signed}
+use Rattle.clap.specs.declared.builder.value_parser.ValueParser.TheVariants.{Unsigned}
 use Rattle.clap.specs.declared.error.ErrorKind.{ErrorKind}
 use Rattle.clap.specs.declared.error.ErrorKind.TheVariants.{DisplayHelp, InvalidSubcommand, MissingRequiredArgument}
 use Rattle.clap.specs.Walk.{Held, Names, Outcome, Step, Waiting, Walk, after_flag, after_step, answers_to, arg_by_id}
@@ -28,7 +28,7 @@ use Rattle.clap.specs.Walk.{walk_from, walked, walked_from, word_met, done, wait
 use Rattle.clap.specs.Walk.{positional, next, trailing, subcommand, value}
 use Rattle.clap.proofs.OnLiterals.{clap_on_literals}
 use Rattle.clap.proofs.ValueTestLemmas.{accepts-Accepts}
-use Rattle.clap.specs.declared.builder.value_parser.Reading.TheVariants.{WithoutMinus}
+use Rattle.clap.specs.declared.builder.value_parser.Reading.TheVariants.{AsWritten}
 use Rattle.clap.specs.Walk.{reading_by}
 use Rattle.reset_service.specs.Words.{HasDrive, HasJob, HasNumber, HasShape, HasTexts, HasThreads, IsNumberWithin}
 use Rattle.reset_service.specs.Words.{MayHaveNumber, Writes, drive_command, explain_command, faults_of, program}
@@ -204,13 +204,15 @@ both_given false b k e = absurd (cc)
 
 three_given : (a b c : Bool) (k : ErrorKind) → cond (not a || (not b || (not c || false))) (k ∷ []) [] ≡ []
     → (a ≡ true) × (b ≡ true) × (c ≡ true)
-three_given true b c k e = (refl, both_given b c k e)
+three_given true b c k e =
+    let rest = both_given b c k e in (refl, rest.0, rest.1)
 three_given false b c k e = absurd (cc)
 
 four_given : (a b c d : Bool) (k : ErrorKind)
     → cond (not a || (not b || (not c || (not d || false)))) (k ∷ []) [] ≡ []
     → (a ≡ true) × (b ≡ true) × (c ≡ true) × (d ≡ true)
-four_given true b c d k e = (refl, three_given b c d k e)
+four_given true b c d k e =
+    let rest = three_given b c d k e in (refl, rest.0, rest.1, rest.2)
 four_given false b c d k e = absurd (cc)
 
 -- ---- the subcommands with two paths
@@ -259,15 +261,6 @@ has_histories name words e =
 
 -- ---- numbers
 
--- a text without its minus, if it begins with one
-without_minus-cond : (t : Text) → without_minus t ≡ cond (starts_with_minus t) (drop 1 t) t
-without_minus-cond [] = refl
-without_minus-cond (x ∷ xs) = go (x == 45)
-  where
-    go : (b : Bool) → unwrap_or (cond b (Some xs) None) (x ∷ xs) ≡ cond b xs (x ∷ xs)
-    go true = refl
-    go false = refl
-
 is_accepted : (b : Bool) (k : ErrorKind) → cond b [] (k ∷ []) ≡ [] → b ≡ true
 is_accepted true k e = refl
 is_accepted false k e = absurd (cc)
@@ -275,34 +268,26 @@ is_accepted false k e = absurd (cc)
 -- an argument whose values are numbers from the least to the most
 record IsOfNumbers (least most : ℕ) (a : Rule) : Type 0 where
   passes : (v : Text) (vs : List Text) → values_fault a (v ∷ vs) ≡ []
-      → accepts false (Signed (pos least) (pos most)) v ≡ true
-  reading : reading_by a ≡ WithoutMinus
+      → accepts false (Unsigned least most) v ≡ true
+  reading : reading_by a ≡ AsWritten
 
--- a text that passed the range is read as it was written, and writes a number of the range
+-- a text that passed the range writes a number of the range
 abbrev WritesNumber : ℕ → ℕ → Option Text → Type 0
-WritesNumber least most o = (n : ℕ) × IsNumberWithin least most o n × (option_map without_minus o ≡ o)
+WritesNumber least most o = (n : ℕ) × IsNumberWithin least most o n
 
-writes_number : (least most : ℕ) (t : Text) → IsSignedIn (pos least) (pos most) t → WritesNumber least most (Some t)
-writes_number least most t passed = go (starts_with_minus t) refl
-  where
-    go : (b : Bool) → starts_with_minus t ≡ b → WritesNumber least most (Some t)
-    go true minus =
-        let low_ok = rw minus at passed.2 in
-        absurd (omega (arith, ints))
-    go false minus =
-        let numeral = rw minus at passed.0 in
-        let low_ok = rw minus at passed.2 in
-        let high_ok = rw minus at passed.3 in (
-          digits_value 10 (without_leading_plus t),
-          ((numeral, refl), omega (arith, ints), omega (arith, ints)),
-          ap Some (without_minus-cond t ∙ rw minus refl),
-        )
+writes_number : (least most : ℕ) (t : Text) → IsUnsignedIn least most t → WritesNumber least most (Some t)
+writes_number least most t passed =
+    (digits_value 10 (without_leading_plus t), ((passed.0, refl), passed.2, passed.3))
+
+read_as_written : (o : Option Text) → option_map (read_as AsWritten) o ≡ o
+read_as_written None = refl
+read_as_written (Some t) = refl
 
 values_write_number : (least most : ℕ) (a : Rule) → IsOfNumbers least most a → (values : List Text)
     → 0 < length values → values_fault a values ≡ [] → WritesNumber least most (slice_get values 0)
 values_write_number least most a numbers [] some e = absurd (omega arith)
 values_write_number least most a numbers (v ∷ vs) some e =
-    writes_number least most v (accepts-Accepts false (Signed (pos least) (pos most)) v (numbers.passes v vs e))
+    writes_number least most v (accepts-Accepts false (Unsigned least most) v (numbers.passes v vs e))
 
 -- the row has a number, which is read as it was written
 abbrev RowHasNumber : ℕ → ℕ → Option Row → Type 0
@@ -315,7 +300,8 @@ row_has_number least most a numbers r taken =
     let writes = values_write_number least most a numbers r.values taken.0 taken.1 in (
       writes.0,
       writes.1,
-      ap (λ how. option_map (read_as how) (slice_get r.values 0)) (taken.2 ∙ numbers.reading) ∙ writes.2,
+      ap (λ how. option_map (read_as how) (slice_get r.values 0)) (taken.2 ∙ numbers.reading)
+          ∙ read_as_written (slice_get r.values 0),
     )
 
 -- an argument that was given has a number
@@ -358,7 +344,7 @@ turns_are_numbers : IsOfNumbers 1 100000 the_turns
 unfolding program threads_command drive_command topology_command explain_command texts_command tables_command
 turns_are_numbers = record {
   passes =
-      λ v vs e. is_accepted (accepts false (Signed (pos 1) (pos 100000)) v) _
+      λ v vs e. is_accepted (accepts false (Unsigned 1 100000) v) _
       (or_else-nil _ (values_fault the_turns vs) e).0;
   reading = refl;
 }
@@ -411,7 +397,7 @@ steps_are_numbers : IsOfNumbers 1 1000000 the_steps
 unfolding program threads_command drive_command topology_command explain_command texts_command tables_command
 steps_are_numbers = record {
   passes =
-      λ v vs e. is_accepted (accepts false (Signed (pos 1) (pos 1000000)) v) _
+      λ v vs e. is_accepted (accepts false (Unsigned 1 1000000) v) _
       (or_else-nil _ (values_fault the_steps vs) e).0;
   reading = refl;
 }
@@ -420,7 +406,7 @@ drive_seeds_are_numbers : IsOfNumbers 0 4294967295 the_drive_seed
 unfolding program threads_command drive_command topology_command explain_command texts_command tables_command
 drive_seeds_are_numbers = record {
   passes =
-      λ v vs e. is_accepted (accepts false (Signed (pos 0) (pos 4294967295)) v) _
+      λ v vs e. is_accepted (accepts false (Unsigned 0 4294967295) v) _
       (or_else-nil _ (values_fault the_drive_seed vs) e).0;
   reading = refl;
 }
@@ -429,7 +415,7 @@ faults_are_numbers : IsOfNumbers 0 1000 the_faults
 unfolding program threads_command drive_command topology_command explain_command texts_command tables_command
 faults_are_numbers = record {
   passes =
-      λ v vs e. is_accepted (accepts false (Signed (pos 0) (pos 1000)) v) _
+      λ v vs e. is_accepted (accepts false (Unsigned 0 1000) v) _
       (or_else-nil _ (values_fault the_faults vs) e).0;
   reading = refl;
 }
@@ -477,7 +463,7 @@ nodes_are_numbers : IsOfNumbers 1 1024 the_nodes
 unfolding program threads_command drive_command topology_command explain_command texts_command tables_command
 nodes_are_numbers = record {
   passes =
-      λ v vs e. is_accepted (accepts false (Signed (pos 1) (pos 1024)) v) _
+      λ v vs e. is_accepted (accepts false (Unsigned 1 1024) v) _
       (or_else-nil _ (values_fault the_nodes vs) e).0;
   reading = refl;
 }
@@ -486,7 +472,7 @@ shape_seeds_are_numbers : IsOfNumbers 0 4294967295 the_shape_seed
 unfolding program threads_command drive_command topology_command explain_command texts_command tables_command
 shape_seeds_are_numbers = record {
   passes =
-      λ v vs e. is_accepted (accepts false (Signed (pos 0) (pos 4294967295)) v) _
+      λ v vs e. is_accepted (accepts false (Unsigned 0 4294967295) v) _
       (or_else-nil _ (values_fault the_shape_seed vs) e).0;
   reading = refl;
 }

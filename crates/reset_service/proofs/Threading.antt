@@ -37,8 +37,8 @@ use Rattle.reset_service.specs.declared.status.RunStop.TheVariants.{ReadFailed, 
 use Rattle.reset_service.specs.declared.status.RunStop.TheVariants.{ThreadFailed, NotClosed}
 use Rattle.reset_service.specs.declared.status.Status.{Status}
 use Rattle.reset_service.specs.declared.status.Status.TheVariants.{BadInput, Good}
-use Rattle.reset_service.specs.declared.threaded.Told.{Told}
-use Rattle.reset_service.specs.declared.threaded.Told.TheVariants.{BadTopology, TooManyNodes, Kept}
+use Rattle.reset_service.specs.declared.told.Told.{Told}
+use Rattle.reset_service.specs.declared.told.Told.TheVariants.{BadTopology, TooManyNodes, Kept}
 
 abbrev Output : Type 0
 Output = List ℕ × Status

@@ -1,6 +1,5 @@
 -- What a word is explained by.
-use Rattle.std.specs.Prelude.{ℕ, ◌==◌, List, Option, Some, None, codes, find}
-use Rattle.std.specs.Str.{bytes_eq}
+use Rattle.std.specs.Prelude.{ℕ, List, Option, Some, None, codes}
 use Rattle.history.specs.HistoryText.{ended}
 use Rattle.reset_service.specs.declared.explained.Explanation.{Explanation}
 use Rattle.reset_service.specs.declared.status.Status.{Status}
@@ -10,7 +9,3 @@ use Rattle.reset_service.specs.declared.status.Status.TheVariants.{Good, BadInpu
 abbrev pub explanation_output : Option Explanation → List ℕ × Status
 explanation_output (Some explanation) = (explanation.text.now, Good)
 explanation_output None = (ended (codes "no such word"), BadInput)
-
--- what a table says of a word: the first explanation of it
-abbrev pub explained : List Explanation → List ℕ → List ℕ × Status
-explained table word = explanation_output (find (λ explanation. bytes_eq explanation.word.now word) table)

@@ -19,14 +19,15 @@ use Rattle.history.specs.Entries.{replayed}
 use Rattle.history.specs.HistoryText.{IsReadAs, ended}
 use Rattle.history.specs.Reports.{reports_of}
 use Rattle.history.specs.Stretches.{IsSoundStretch, IsStretch, IsTrueReport, Stretch, steps}
+use Rattle.reset_service.specs.Drove.{drove_line}
 use Rattle.reset_service.specs.Meaning.{Meaning, idle_meaning, token_meaning, mutex_meaning, routes_meaning}
 use Rattle.reset_service.specs.Output.{IsJudged, bad_topology_text}
 use Rattle.reset_service.specs.declared.status.RunStop.{RunStop}
 use Rattle.reset_service.specs.declared.status.RunStop.TheVariants as stop
 use Rattle.reset_service.specs.declared.status.Status.{Status}
 use Rattle.reset_service.specs.declared.status.Status.TheVariants.{Good, BadInput}
-use Rattle.reset_service.specs.declared.threaded.Told.{Told}
-use Rattle.reset_service.specs.declared.threaded.Told.TheVariants.{BadTopology, TooManyNodes, Kept}
+use Rattle.reset_service.specs.declared.told.Told.{Told}
+use Rattle.reset_service.specs.declared.told.Told.TheVariants.{BadTopology, TooManyNodes, Kept, Driven}
 
 -- ---- lines
 
@@ -132,9 +133,11 @@ TellsRunOf Routes = TellsRun routes_meaning HasRoutes
 
 abbrev pub told_history : Told → List ℕ
 told_history (Kept k) = k.history.items
+told_history (Driven d) = d.history.items
 told_history told = []
 
 abbrev pub told_output : Told → List ℕ × Status
 told_output (BadTopology f) = (bad_topology_text f, BadInput)
 told_output TooManyNodes = (too_many_text, BadInput)
 told_output (Kept k) = (threads_line k.nodes k.entries k.reports, Good)
+told_output (Driven d) = (drove_line d.entries d.reports, Good)

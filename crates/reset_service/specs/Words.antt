@@ -1,12 +1,12 @@
 -- What the words of the command line ask for, by clap's own definition of what a command makes of words.
-use Rattle.std.specs.Prelude.{◌≡◌, ◌≢◌, ◌≤◌, ◌⊎◌, ⊤, ℕ, pos, true, false, List, codes, Option, Some, None, IsSome}
+use Rattle.std.specs.Prelude.{◌≡◌, ◌≢◌, ◌≤◌, ◌⊎◌, ⊤, ℕ, true, false, List, codes, Option, Some, None, IsSome}
 use Rattle.std.specs.Prelude.{IsSomeAnd}
 use Rattle.std.specs.Prelude.{option_and_then, option_map}
 use Rattle.std.specs.Str.Parse.{IsNumeral, digits_value, without_leading_plus}
 use Rattle.clap.specs.Words.{App, Kinds, Row, Rule, Text, IsAmong, fault_of, first_of, kind_of, new_app, new_rule}
 use Rattle.clap.specs.Words.{one_of, subcommand_of, with_rule, with_subcommand}
 use Rattle.clap.specs.Simple.{on_top}
-use Rattle.clap.specs.declared.builder.value_parser.ValueParser.TheVariants.{Signed}
+use Rattle.clap.specs.declared.builder.value_parser.ValueParser.TheVariants.{Unsigned}
 use Rattle.clap.specs.declared.error.Error.{Error}
 use Rattle.clap.specs.declared.error.ErrorKind.TheVariants.{InvalidValue, OutOfMemory}
 use Rattle.reset_service.specs.declared.words.Job.{Job}
@@ -35,7 +35,7 @@ file_option name = record (new_rule name) { long = Some name; value_names = 1; r
 
 -- an argument whose value is a number from the least to the most
 abbrev pub within : ℕ → ℕ → Rule → Rule
-within least most rule = record rule { parser = Some (Signed (pos least) (pos most)) }
+within least most rule = record rule { parser = Some (Unsigned least most) }
 
 -- a number behind its name, which has to be given: `--NAME N`
 abbrev pub number_option : Text → ℕ → ℕ → Rule

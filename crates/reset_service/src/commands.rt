@@ -387,7 +387,7 @@ fn turns_word<'a>(alloc: Global) -> Arg<'a>
         .long("turns")
         .value_name("N")
         .required(true)
-        .value_parser(value_parser!(u32).range(1..=100_000))
+        .value_parser(value_parser!(u64).range(1..=100_000))
         .help(TURNS_HELP)
 }
 
@@ -400,7 +400,7 @@ fn steps_word<'a>(alloc: Global) -> Arg<'a>
         .long("steps")
         .value_name("N")
         .required(true)
-        .value_parser(value_parser!(u32).range(1..=1_000_000))
+        .value_parser(value_parser!(u64).range(1..=1_000_000))
         .help(STEPS_HELP)
 }
 
@@ -413,7 +413,7 @@ fn seed_word<'a>(alloc: Global, required: bool, help: &'a str) -> Arg<'a>
         .long("seed")
         .value_name("S")
         .required(required)
-        .value_parser(value_parser!(u32).range(0..=4_294_967_295))
+        .value_parser(value_parser!(u64).range(0..=4_294_967_295))
         .help(help)
 }
 
@@ -425,7 +425,7 @@ fn faults_word<'a>(alloc: Global) -> Arg<'a>
     Arg::new(alloc, "faults")
         .long("faults")
         .value_name("P")
-        .value_parser(value_parser!(u32).range(0..=1000))
+        .value_parser(value_parser!(u64).range(0..=1000))
         .help(FAULTS_HELP)
 }
 
@@ -436,7 +436,7 @@ fn nodes_word<'a>(alloc: Global) -> Arg<'a>
 {
     Arg::new(alloc, "N")
         .required(true)
-        .value_parser(value_parser!(u32).range(1..=1024))
+        .value_parser(value_parser!(u64).range(1..=1024))
         .help(NODES_HELP)
 }
 

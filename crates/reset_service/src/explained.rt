@@ -1,11 +1,14 @@
 // Telling what a word means.
 
-ghost use Rattle.std.specs.Prelude.{◌≡◌, IfErr};
-ghost use Rattle.reset_service.specs.Explained.{explained};
+ghost use Rattle.std.specs.Prelude.{◌≡◌, IfErr, find, option_map};
+ghost use Rattle.std.specs.Str.{bytes_eq};
+ghost use Rattle.reset_service.specs.Explained.{explanation_output};
 ghost use Rattle.reset_service.specs.Output.{Leaves};
 ghost use Rattle.reset_service.specs.Stops.{IsOutputStop};
 
-use crate::explanations::EXPLANATIONS;
+use crate::explanations::{
+    ANSWERS, APPLICATIONS, COMMANDS, REFUSALS, REGISTERS, TEXT_FAULTS, TOPOLOGY_FAULTS,
+};
 use crate::status::{RunStop, Status};
 use action_tables::put_bytes;
 use std::io::Write;
@@ -23,21 +26,43 @@ pub struct Explanation {
 pub fn explain<W: Write>(word: &str, out: &mut W) -> Result<Status, RunStop>
     ensures stop { IfErr result IsOutputStop }
 {
-    explain_from(&EXPLANATIONS, word, out)
+    let found = explanation_of(&REFUSALS, word)
+        .or(explanation_of(&TOPOLOGY_FAULTS, word))
+        .or(explanation_of(&TEXT_FAULTS, word))
+        .or(explanation_of(&ANSWERS, word))
+        .or(explanation_of(&COMMANDS, word))
+        .or(explanation_of(&REGISTERS, word))
+        .or(explanation_of(&APPLICATIONS, word));
+    put_explanation(found, out)
 }
 
-// The same of the words of a table.
-fn explain_from<W: Write>(table: &[Explanation], word: &str, out: &mut W) -> Result<Status, RunStop>
-    ensures leaves { Leaves (λ output. output ≡ explained table.now word.now) (W.contents out.old) (W.contents out.new)
-        result }
+// Writes an explanation, if there is one.
+fn put_explanation<W: Write>(found: Option<&Explanation>, out: &mut W) -> Result<Status, RunStop>
+    ensures leaves { Leaves (λ output. output ≡ explanation_output (option_map (λ found. found.now) found.entry))
+        (W.contents out.old) (W.contents out.new) result }
     ensures stop { IfErr result IsOutputStop }
+{
+    match found {
+        Some(explanation) => {
+            put_bytes(out, explanation.text.as_bytes())?;
+            Ok(Status::Good)
+        }
+        None => {
+            put_bytes(out, b"no such word\n")?;
+            Ok(Status::BadInput)
+        }
+    }
+}
+
+// The first explanation of a word.
+fn explanation_of<'a>(table: &'a [Explanation], word: &str) -> Option<&'a Explanation>
+    ensures { option_map (λ found. found.now) result
+        ≡ find (λ explanation. bytes_eq explanation.word.now word.now) table.now }
 {
     for explanation in table {
         if explanation.word == word {
-            put_bytes(out, explanation.text.as_bytes())?;
-            return Ok(Status::Good);
+            return Some(explanation);
         }
     }
-    put_bytes(out, b"no such word\n")?;
-    Ok(Status::BadInput)
+    None
 }

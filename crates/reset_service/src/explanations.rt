@@ -2,9 +2,8 @@
 
 use crate::explained::Explanation;
 
-/// The explanations, each of one word: refusals and faults, what texts and histories may lack, answers, commands,
-/// registers, applications and their actions.
-pub const EXPLANATIONS: [Explanation; 88] = [
+/// Refusals of events and of faults.
+pub const REFUSALS: [Explanation; 13] = [
     Explanation {
         word: "StrangeNode",
         text: "\
@@ -80,6 +79,10 @@ The link that should come up is there already.\n",
 Without this link some node couldn't be reached, and a topology has to be connected. Bring\n\
 another link up first.\n",
     },
+];
+
+/// Faults of topologies and of their texts.
+pub const TOPOLOGY_FAULTS: [Explanation; 17] = [
     Explanation {
         word: "TextTooLong",
         text: "\
@@ -168,6 +171,10 @@ the node out.\n",
         text: "\
 `picture` draws a topology of at most 64 nodes.\n",
     },
+];
+
+/// Faults of scripts, histories and devices.
+pub const TEXT_FAULTS: [Explanation; 11] = [
     Explanation {
         word: "TooLong",
         text: "\
@@ -231,6 +238,10 @@ right.\n",
 `lists differ`: what the node threads kept isn't what each of them was told. No run is known\n\
 that ends so; please report it.\n",
     },
+];
+
+/// Answers to commands.
+pub const ANSWERS: [Explanation; 12] = [
     Explanation {
         word: "applied",
         text: "\
@@ -297,6 +308,10 @@ where it wasn't opened since the last fault).\n",
 What a seeded scheduler did: the entries of the history that it wrote, and the resets that were\n\
 completed.\n",
     },
+];
+
+/// Commands of scripts.
+pub const COMMANDS: [Explanation; 19] = [
     Explanation {
         word: "claim",
         text: "\
@@ -401,6 +416,10 @@ answer: at this node, toward that neighbour, this row of the application's link 
         text: "\
 `watch I`: as `alarm I`, and after an alarm node I asks for a reset.\n",
     },
+];
+
+/// Registers, phases and families of faults.
+pub const REGISTERS: [Explanation; 7] = [
     Explanation {
         word: "normal",
         text: "\
@@ -437,6 +456,10 @@ As a family of faults: a row of the application's link table.\n",
         text: "\
 The local state of the application at a node, as a text.\n",
     },
+];
+
+/// Applications and their actions.
+pub const APPLICATIONS: [Explanation; 9] = [
     Explanation {
         word: "idle",
         text: "\

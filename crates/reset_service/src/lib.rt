@@ -9,6 +9,7 @@ mod answer;
 mod buffered_output;
 mod commands;
 mod drive_words;
+mod driven;
 mod explained;
 mod explanations;
 mod faults;
@@ -16,20 +17,24 @@ mod injected;
 mod input;
 mod laws;
 mod line;
+mod pictured;
 mod replays;
 mod rows;
 mod script;
 mod shape_words;
+mod shaped;
 mod show;
 mod status;
 mod tables;
 mod thread_words;
 mod threaded;
+mod told;
 mod verified;
 mod words;
 
 pub use buffered_output::BufferedOutput;
 pub use drive_words::DriveWords;
+pub use driven::{Drive, drive_text};
 pub use explained::{Explanation, explain};
 pub use input::{READ_LIMIT, read_text};
 pub use laws::{
@@ -37,8 +42,10 @@ pub use laws::{
     one_verification, stretches_are_runs, threads_are_verified, threads_keep_a_run,
     verified_reports_are_true,
 };
+pub use pictured::picture_text;
 pub use replays::{check_text, replay, replay_joined, replay_text};
 pub use shape_words::ShapeWords;
+pub use shaped::write_shape;
 pub use status::{RunStop, Status};
 pub use tables::print_tables;
 pub use thread_words::ThreadWords;

@@ -1,29 +1,21 @@
 // Runs of node threads from a booted configuration.
 
-ghost use Rattle.std.specs.Prelude.{◌≡◌, ◌≢◌, ◌+◌, ◌≤◌, ◌⊎◌, [], length, Err, IfErr, IfOk, IsErrAnd, IsTrue, Ok, OnErr};
-ghost use Rattle.std.specs.Prelude.{OnOk};
+ghost use Rattle.std.specs.Prelude.{◌≡◌, ◌≤◌, [], length, IfErr, IfOk, IsTrue};
 ghost use Rattle.std.specs.List.{list_all};
-ghost use Rattle.std.specs.Io.KnownBytes.{Appends, Keeps};
-ghost use Rattle.action_tables.specs.Written.{AppendsPrefix};
-ghost use Rattle.topology.specs.Graph.{IsNode};
 ghost use Rattle.node_threads.specs.Locked.{is_step};
-ghost use Rattle.history.specs.HistoryText.{IsReadAs, history_text};
 ghost use Rattle.reset_service.specs.Meaning.{meaning_of};
-ghost use Rattle.reset_service.specs.Output.{bad_topology_text};
-ghost use Rattle.reset_service.specs.Threaded.{threads_line, too_many_text, IsKept, IsKeptFrom, IsKeptOf, IsThreaded};
+ghost use Rattle.reset_service.specs.Threaded.{IsKept, IsKeptFrom, IsKeptOf, IsThreaded};
 ghost use Rattle.reset_service.specs.Threaded.{LeavesBoth, told_history, told_output};
 ghost use Rattle.reset_service.specs.Stops.{IsRunStop};
 
-use crate::answer::put_topology_fault;
 use crate::status::{RunStop, Status};
-use action_tables::{Part, WriteFault, put_bytes, put_parts};
+use crate::told::{Kept, Told, put_history, put_told, status_of, text_of};
 use app_interface::{Application, Idle};
 use app_mutex::EdgeReversal;
 use app_routes::Routes;
 use app_token::Token;
 use history::{
-    Book, BookFault, MAX_ENTRIES, ReaderFault, VerifyFault, books_read_back, one_reading_a_text,
-    verify_reader, write_book,
+    Book, BookFault, MAX_ENTRIES, ReaderFault, VerifyFault, one_reading_a_text, verify_reader,
 };
 use node_threads::{Gate, RunCause, run_nodes};
 use reset_machine::Config;
@@ -32,23 +24,6 @@ use std::io::Write;
 use std::sync::Wait;
 use std::thread::Threads;
 use topology::{AppName, ReadFault, Topology, read_topology};
-
-// What a run of node threads comes to, before anything is written.
-#[derive(Drop)]
-enum Told {
-    BadTopology(ReadFault),
-    TooManyNodes,
-    Kept(Kept),
-}
-
-// The history that node threads kept, as a text, and what it has.
-#[derive(Drop)]
-struct Kept {
-    history: Vec<u8>,
-    nodes: usize,
-    entries: usize,
-    reports: usize,
-}
 
 // A gate that nobody watches.
 struct NoGate;
@@ -202,21 +177,6 @@ fn judge<P: Application>(alloc: Global, opening: Config<P>, book: &Book<P>) -> R
     }
 }
 
-// The text of a book's history.
-fn text_of<P: Application>(alloc: Global, book: &Book<P>) -> Result<Vec<u8>, RunStop>
-    ensures text { IfOk result (λ text. text.items ≡ history_text book.now.entries) }
-    ensures read { IfOk result (λ text. IsReadAs text.items (Ok book.now.entries)) }
-    ensures stop { IfErr result IsRunStop }
-{
-    book.lemma_is_book();
-    books_read_back::<P>();
-    let mut text = Vec::new(alloc);
-    match write_book(book, &mut text) {
-        Ok(()) => Ok(text),
-        Err(_) => Err(RunStop::NoMemory),
-    }
-}
-
 // What stops a run whose history isn't taken.
 fn stop_of(fault: ReaderFault) -> RunStop
     ensures { IsRunStop result }
@@ -226,65 +186,5 @@ fn stop_of(fault: ReaderFault) -> RunStop
             RunStop::NoMemory
         }
         ReaderFault::Text(_) | ReaderFault::Entries(_) => RunStop::NotClosed,
-    }
-}
-
-// ---- what is written
-
-// Writes the history of a run that kept one.
-fn put_history<H: Write>(history: &mut H, told: &Told) -> Result<(), WriteFault>
-    ensures ok { OnOk result (Appends (H.contents history.old) (H.contents history.new) (told_history told.now)) }
-    ensures err { OnErr result
-        (AppendsPrefix (H.contents history.old) (H.contents history.new) (told_history told.now)) }
-{
-    match told {
-        Told::Kept(kept) => put_bytes(history, &kept.history),
-        Told::BadTopology(_) | Told::TooManyNodes => put_bytes(history, b""),
-    }
-}
-
-// Writes the line of a run.
-fn put_told<W: Write>(out: &mut W, told: &Told) -> Result<(), WriteFault>
-    ensures ok { OnOk result (Appends (W.contents out.old) (W.contents out.new) (told_output told.now).0) }
-    ensures err { OnErr result (AppendsPrefix (W.contents out.old) (W.contents out.new) (told_output told.now).0) }
-{
-    match told {
-        Told::BadTopology(fault) => put_topology_fault(out, *fault),
-        Told::TooManyNodes => put_bytes(out, b"bad topology TooManyForThreads\n"),
-        Told::Kept(kept) => put_counts(out, kept.nodes, kept.entries, kept.reports),
-    }
-}
-
-fn put_counts<W: Write>(
-    out: &mut W,
-    nodes: usize,
-    entries: usize,
-    reports: usize,
-) -> Result<(), WriteFault>
-    ensures ok { OnOk result (Appends (W.contents out.old) (W.contents out.new) (threads_line nodes entries reports)) }
-    ensures err { OnErr result
-        (AppendsPrefix (W.contents out.old) (W.contents out.new) (threads_line nodes entries reports)) }
-{
-    put_parts(
-        out,
-        &[
-            Part::Text(b"threads "),
-            Part::Number(nodes as u64),
-            Part::Text(b" nodes "),
-            Part::Number(entries as u64),
-            Part::Text(b" entries "),
-            Part::Number(reports as u64),
-            Part::Text(b" reports\n"),
-        ],
-    )
-}
-
-// The status of a run.
-fn status_of(told: &Told) -> Status
-    ensures { result ≡ (told_output told.now).1 }
-{
-    match told {
-        Told::BadTopology(_) | Told::TooManyNodes => Status::BadInput,
-        Told::Kept(_) => Status::Good,
     }
 }

@@ -113,7 +113,7 @@ fn verify_from<P: Application, R: Read, W: Write>(
 }
 
 // Answers a text that is no history.
-fn refuse_history<W: Write>(fault: BookFault, out: &mut W) -> Result<Status, RunStop>
+pub fn refuse_history<W: Write>(fault: BookFault, out: &mut W) -> Result<Status, RunStop>
     ensures leaves { Leaves (λ output. output ≡ (bad_history_text fault, Status.BadInput)) (W.contents out.old)
         (W.contents out.new) result }
     ensures stop { IfErr result IsOutputStop }
@@ -123,7 +123,7 @@ fn refuse_history<W: Write>(fault: BookFault, out: &mut W) -> Result<Status, Run
 }
 
 // Answers a history by the position of its first entry that isn't allowed where it stands.
-fn refuse_entry<W: Write>(position: usize, out: &mut W) -> Result<Status, RunStop>
+pub fn refuse_entry<W: Write>(position: usize, out: &mut W) -> Result<Status, RunStop>
     ensures leaves { Leaves (λ output. output ≡ (not_enabled_text position, Status.NotEnabled)) (W.contents out.old)
         (W.contents out.new) result }
     ensures stop { IfErr result IsOutputStop }

@@ -156,13 +156,16 @@ fn drive_words_of<'a>(values: &ArgMatches<'a>) -> DriveWords<'a>
     ensures seed { IsNumberWithin 0 4294967295 (first_of (codes "seed") (rows_of (found_of values.now))) result.seed }
     ensures faults { IsNumberOr 0 0 1000 (first_of (codes "faults") (rows_of (found_of values.now))) result.faults }
 {
-    let paths = paths_of(values, "history");
+    let Paths {
+        topology,
+        input: history,
+    } = paths_of(values, "history");
     DriveWords {
-        topology: paths.topology,
+        topology,
         steps: values.get_one::<u32>("steps").unwrap(),
         seed: values.get_one::<u32>("seed").unwrap(),
         faults: values.get_one::<u32>("faults").unwrap_or(0),
-        history: paths.input,
+        history,
     }
 }
 

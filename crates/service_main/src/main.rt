@@ -1,7 +1,7 @@
 //! The program of the distributed reset service: it replays a script of reset events on the booted
-//! configuration of a topology and writes an answer to each, it runs a thread for each node, and it
-//! verifies histories. Here stand the files and the streams that it opens and its exit status; all else is
-//! the library `reset_service`.
+//! configuration of a topology and writes an answer to each, runs a thread for each node, drives a network by a seeded
+//! scheduler, and verifies and draws histories. Here stand the files and the streams that it opens and its exit status;
+//! all else is the library `reset_service`.
 #![tactic(auto)]
 
 mod files;
@@ -11,8 +11,9 @@ use crate::files::{create_file, open_file, read_file};
 use crate::status::exit_code;
 use action_tables::put_bytes;
 use reset_service::{
-    BufferedOutput, Job, LineFault, Paths, RunStop, Status, check_text, no_text, print_tables,
-    read_words, replay, replay_joined, threads_text, verify_text,
+    BufferedOutput, Drive, DriveWords, Job, LineFault, Paths, RunStop, ShapeWords, Status,
+    ThreadWords, check_text, drive_text, explain, no_text, picture_text, print_tables, read_words,
+    replay, replay_joined, threads_text, verify_text, write_shape,
 };
 use std::env::Env;
 use std::io::Write;
@@ -101,14 +102,57 @@ fn job_output<R: Files + Input + AllocGlobal + Threads + Wait + Sync, W: Write>(
             let (topology, mut history) = open_texts(rt, paths)?;
             verify_text(rt.alloc(), &topology, &mut history, out)
         }
-        Job::Threads(words) => {
-            let topology = read_file(rt, words.topology)?;
-            let mut history = create_file(rt, words.history)?;
-            let turns = words.turns;
-            threads_text(rt, rt.alloc(), &topology, turns, &mut history, out)
+        Job::Picture(paths) => {
+            let (topology, mut history) = open_texts(rt, paths)?;
+            picture_text(rt.alloc(), &topology, &mut history, out)
         }
+        Job::Threads(words) => run_threads(rt, words, out),
+        Job::Drive(words) => run_drive(rt, words, out),
+        Job::Shape(words) => put_shape(rt, words, out),
+        Job::Explain(word) => explain(word, out),
         Job::Tables => print_tables(out),
     }
+}
+
+fn run_threads<R: Files + AllocGlobal + Threads + Wait + Sync, W: Write>(
+    rt: &R,
+    words: ThreadWords<'_>,
+    out: &mut W,
+) -> Result<Status, RunStop> {
+    let topology = read_file(rt, words.topology)?;
+    let mut history = create_file(rt, words.history)?;
+    let turns = words.turns;
+    threads_text(rt, rt.alloc(), &topology, turns, &mut history, out)
+}
+
+fn run_drive<R: Files + AllocGlobal, W: Write>(
+    rt: &R,
+    words: DriveWords<'_>,
+    out: &mut W,
+) -> Result<Status, RunStop> {
+    let topology = read_file(rt, words.topology)?;
+    let mut history = create_file(rt, words.history)?;
+    let run = Drive {
+        steps: words.steps,
+        seed: words.seed,
+        faults: words.faults,
+    };
+    drive_text(rt.alloc(), &topology, run, &mut history, out)
+}
+
+fn put_shape<R: AllocGlobal, W: Write>(
+    rt: &R,
+    words: ShapeWords<'_>,
+    out: &mut W,
+) -> Result<Status, RunStop> {
+    write_shape(
+        rt.alloc(),
+        words.shape,
+        words.nodes,
+        words.seed,
+        words.app,
+        out,
+    )
 }
 
 // The text of the topology, and the script or the history, opened: both before anything is judged.

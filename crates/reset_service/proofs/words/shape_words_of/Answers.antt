@@ -46,4 +46,9 @@ returns-clause-app c =
 
 pub invariant_of-result : goal.invariant_of-result
 invariant_of-result c =
-    let within = returns-clause-nodes c in record { some = within.1; few = within.2 }
+    let within =
+    number_is _
+    (λ bs r. ParsesUnsigned 32 10 bs r × ExplainsUnsignedError 10 bs r × HasUnsignedDigitsIfOk bs r) (λ t x g. g.0)
+    (codes "N") 1 1024 (omega arith) (found_of c.args.values.now) c.get_one.result c.get_one.ensures.value
+    c.unwrap-2.result c.unwrap-2.ensures c.requires.1 in
+    record { some = within.1; few = within.2 }

@@ -1,0 +1,65 @@
+-- What drawing a history writes.
+use Rattle.std.specs.Prelude.{◌≡◌, ◌<◌, ◌≤◌, ℕ, nat_lt, if◌then◌else◌, List, length, codes, IsSome, Ok}
+use Rattle.std.specs.Prelude.{Err}
+use Rattle.topology.specs.Graph.{Graph}
+use Rattle.topology.specs.declared.text.AppName.{AppName}
+use Rattle.topology.specs.declared.text.AppName.TheVariants.{Idle, Token, Mutex, Routes}
+use Rattle.reset_model.specs.Configuration.{Configuration}
+use Rattle.reset_model.specs.Outcome.{IsBoot}
+use Rattle.history.specs.Entries.{IsFirstRefused, replayed}
+use Rattle.history.specs.HistoryText.{IsReadAs, ended}
+use Rattle.history.specs.Reports.{reports_of}
+use Rattle.history.specs.declared.entry.Entry.{Entry}
+use Rattle.history.specs.declared.text.BookFault.{BookFault}
+use Rattle.space_time_diagram.specs.Diagram.{diagram_text}
+use Rattle.reset_service.specs.Meaning.{Meaning, idle_meaning, token_meaning, mutex_meaning, routes_meaning}
+use Rattle.reset_service.specs.Output.{IsJudged}
+use Rattle.reset_service.specs.Verified.{bad_history_text, not_enabled_text}
+use Rattle.reset_service.specs.declared.status.Status.{Status}
+use Rattle.reset_service.specs.declared.status.Status.TheVariants.{Good, NotEnabled, BadInput}
+
+-- the line of a topology that has more nodes than a picture has lanes
+abbrev pub too_many_lanes_text : List ℕ
+too_many_lanes_text = ended (codes "bad topology TooManyForPicture")
+
+-- the line of a history that has more entries than a picture has marks
+abbrev pub too_many_marks_text : List ℕ
+too_many_marks_text = ended (codes "bad history TooLongForPicture")
+
+-- the picture of entries that are a run from c, and the status, where they aren't too many
+abbrev pub drawing : {L : Type 0} → Meaning L → Configuration L → List Entry → List ℕ × Status
+drawing m c es =
+    if nat_lt 2000 (length es) then (too_many_marks_text, BadInput)
+    else (diagram_text m.app m.from_text c es (reports_of m.app m.from_text c es), Good)
+
+-- what entries are drawn as that a text has: whether each is allowed where it stands is judged before their number
+pub data IsDrawing {L : Type 0} (m : Meaning L) (c : Configuration L) (es : List Entry) (output : List ℕ × Status) :
+    Type 0 where
+  not_enabled : (position : ℕ) → IsFirstRefused m.app m.from_text c es position
+      → output ≡ (not_enabled_text position, NotEnabled) → IsDrawing m c es output
+  allowed : IsSome (replayed m.app m.from_text c es) → output ≡ drawing m c es → IsDrawing m c es output
+
+-- what the text of a history that opens so is drawn as, and the status: the number of nodes is judged first, and then the
+-- text
+pub data IsPicture {L : Type 0} (m : Meaning L) (c : Configuration L) (history : List ℕ) (output : List ℕ × Status) :
+    Type 0 where
+  too_many_lanes : 64 < length c.graph.ids → output ≡ (too_many_lanes_text, BadInput) → IsPicture m c history output
+  bad_history : (f : BookFault) → length c.graph.ids ≤ 64 → IsReadAs history (Err f)
+      → output ≡ (bad_history_text f, BadInput) → IsPicture m c history output
+  read : (es : List Entry) → length c.graph.ids ≤ 64 → IsReadAs history (Ok es) → IsDrawing m c es output
+      → IsPicture m c history output
+
+-- the same from the booted configuration of a graph
+abbrev pub IsPictureFrom : {L : Type 0} → Meaning L → Graph → List ℕ → List ℕ × Status → Type 0
+IsPictureFrom {L = L} m g history output = (c : Configuration L) × IsBoot m.app g c × IsPicture m c history output
+
+-- the same for the application of a name
+abbrev pub IsPictureOf : AppName → Graph → List ℕ → List ℕ × Status → Type 0
+IsPictureOf Idle = IsPictureFrom idle_meaning
+IsPictureOf Token = IsPictureFrom token_meaning
+IsPictureOf Mutex = IsPictureFrom mutex_meaning
+IsPictureOf Routes = IsPictureFrom routes_meaning
+
+-- what the texts of a topology and of a history are drawn as, and the status: the topology is judged before the history
+abbrev pub IsPictureText : List ℕ → List ℕ → List ℕ × Status → Type 0
+IsPictureText topology history = IsJudged (λ app g. IsPictureOf app g history) topology

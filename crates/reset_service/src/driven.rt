@@ -1,0 +1,123 @@
+// Runs of the seeded scheduler from a booted configuration.
+
+ghost use Rattle.std.specs.Prelude.{◌≡◌, ◌≤◌, [], IfErr, IfOk};
+ghost use Rattle.reset_service.specs.Drove.{IsDrove, IsDroveFrom, IsDroveOf, IsDroveText};
+ghost use Rattle.reset_service.specs.Meaning.{meaning_of};
+ghost use Rattle.reset_service.specs.Stops.{IsRunStop};
+ghost use Rattle.reset_service.specs.Threaded.{LeavesBoth, told_history, told_output};
+
+use crate::status::{RunStop, Status};
+use crate::told::{Driven, Told, put_history, put_told, status_of, text_of};
+use app_interface::{Application, Idle};
+use app_mutex::EdgeReversal;
+use app_routes::Routes;
+use app_token::Token;
+use history::{Book, MAX_ENTRIES};
+use reset_machine::Config;
+use scheduler::drive;
+use std::alloc::{AllocError, Global};
+use std::io::Write;
+use topology::{AppName, ReadFault, Topology, read_topology};
+
+/// How a seeded scheduler is to drive a network.
+#[derive(Clone, Copy, Debug, PartialEq, Eq)]
+pub struct Drive {
+    /// How many steps it takes.
+    pub steps: u32,
+    /// What its random words are drawn by.
+    pub seed: u32,
+    /// In how many of a thousand cases a step is a fault.
+    pub faults: u32,
+}
+
+/// Drives the network of a topology text by a seeded scheduler, from its booted configuration on. Writes the history of
+/// what it did to one writer, and then to the other how many entries and reports the history has.
+///
+/// The same words give the same history. A verification takes it (`driven_runs_are_verified`). Nothing is written before
+/// the last step. A history has at most a million entries.
+pub fn drive_text<H: Write, W: Write>(
+    alloc: Global,
+    topology: &[u8],
+    run: Drive,
+    history: &mut H,
+    out: &mut W,
+) -> Result<Status, RunStop>
+    ensures { LeavesBoth (IsDroveText run.steps run.seed run.faults topology.now) (H.contents history.old)
+        (H.contents history.new) (W.contents out.old) (W.contents out.new) result }
+{
+    let told = drive_topology(alloc, topology, run)?;
+    put_history(history, &told)?;
+    put_told(out, &told)?;
+    Ok(status_of(&told))
+}
+
+// Drives the network of a topology text.
+fn drive_topology(alloc: Global, topology: &[u8], run: Drive) -> Result<Told, RunStop>
+    ensures ok { IfOk result
+        (λ told. IsDroveText run.steps run.seed run.faults topology.now (told_history told) (told_output told)) }
+    ensures stop { IfErr result IsRunStop }
+{
+    match read_topology(alloc, topology) {
+        Ok((topology, app)) => drive_app(alloc, app, topology, run),
+        Err(ReadFault::NoMemory) => Err(RunStop::NoMemory),
+        Err(fault) => Ok(Told::BadTopology(fault)),
+    }
+}
+
+// Drives a network with the application of this name.
+fn drive_app(alloc: Global, app: AppName, topology: Topology, run: Drive) -> Result<Told, RunStop>
+    ensures ok { IfOk result
+        (λ told. IsDroveOf run.steps run.seed run.faults app topology (told_history told) (told_output told)) }
+    ensures undriven { IfOk result (λ told. (told_output told).1 ≡ Status.BadInput → told_history told ≡ []) }
+    ensures stop { IfErr result IsRunStop }
+{
+    match app {
+        AppName::Idle => drive_booted::<Idle>(alloc, topology, run),
+        AppName::Token => drive_booted::<Token>(alloc, topology, run),
+        AppName::Mutex => drive_booted::<EdgeReversal>(alloc, topology, run),
+        AppName::Routes => drive_booted::<Routes>(alloc, topology, run),
+    }
+}
+
+fn drive_booted<P: Application>(
+    alloc: Global,
+    topology: Topology,
+    run: Drive,
+) -> Result<Told, RunStop>
+    ensures ok { IfOk result
+        (λ told. IsDroveFrom (meaning_of P.app P.text P.from_text P.names) run.steps run.seed run.faults topology
+        (told_history told) (told_output told)) }
+    ensures undriven { IfOk result (λ told. (told_output told).1 ≡ Status.BadInput → told_history told ≡ []) }
+    ensures stop { IfErr result IsRunStop }
+{
+    match Config::<P>::boot(alloc, topology) {
+        Ok(opening) => drive_from(alloc, opening, run),
+        Err(_) => Err(RunStop::NoMemory),
+    }
+}
+
+// Drives a network from this configuration on.
+fn drive_from<P: Application>(
+    alloc: Global,
+    opening: Config<P>,
+    run: Drive,
+) -> Result<Told, RunStop>
+    ensures ok { IfOk result
+        (λ told. IsDrove (meaning_of P.app P.text P.from_text P.names) opening run.steps run.seed run.faults
+        (told_history told) (told_output told)) }
+    ensures undriven { IfOk result (λ told. (told_output told).1 ≡ Status.BadInput → told_history told ≡ []) }
+    ensures stop { IfErr result IsRunStop }
+{
+    let mut book = Book::open_book(alloc, opening, MAX_ENTRIES);
+    match drive(alloc, &mut book, run.steps, run.seed, run.faults) {
+        Ok(()) => {}
+        Err(AllocError) => return Err(RunStop::NoMemory),
+    }
+    book.lemma_is_book();
+    let history = text_of(alloc, &book)?;
+    Ok(Told::Driven(Driven {
+        history,
+        entries: book.len(),
+        reports: book.reports().len(),
+    }))
+}

@@ -1,0 +1,196 @@
+// The picture of a history from a booted configuration.
+
+ghost use Rattle.std.specs.Prelude.{◌≡◌, ◌≤◌, IfErr, IfSome, IsSome, length};
+ghost use Rattle.std.specs.Io.KnownBytes.{Keeps};
+ghost use Rattle.topology.specs.TopologyText.{IsReadFault};
+ghost use Rattle.history.specs.Entries.{replayed};
+ghost use Rattle.history.specs.Reports.{reports_of};
+ghost use Rattle.reset_service.specs.Meaning.{meaning_of};
+ghost use Rattle.reset_service.specs.Output.{Leaves};
+ghost use Rattle.space_time_diagram.specs.Diagram.{diagram_text};
+ghost use Rattle.reset_service.specs.Pictured.{drawing, too_many_lanes_text, too_many_marks_text, IsDrawing, IsPicture};
+ghost use Rattle.reset_service.specs.Pictured.{IsPictureFrom, IsPictureOf, IsPictureText};
+ghost use Rattle.reset_service.specs.Stops.{IsOutputStop};
+
+use crate::replays::refuse_topology;
+use crate::status::{RunStop, Status};
+use crate::verified::{refuse_entry, refuse_history};
+use action_tables::put_bytes;
+use app_interface::{Application, Idle};
+use app_mutex::EdgeReversal;
+use app_routes::Routes;
+use app_token::Token;
+use history::{BookFault, Entry, Report, VerifyFault, read_book, verify};
+use reset_machine::Config;
+use space_time_diagram::{DiagramStop, MAX_LANES, MAX_MARKS, put_diagram};
+use std::alloc::Global;
+use std::io::{Read, Write};
+use topology::{AppName, ReadFault, Topology, read_topology};
+
+/// Draws the history that a reader gives, from the booted configuration of a topology text, as a space-time diagram.
+///
+/// The topology is judged before the reader is touched. A history that a verification wouldn't take is answered as
+/// there; one of more than 64 nodes or 2,000 entries isn't drawn.
+pub fn picture_text<R: Read, W: Write>(
+    alloc: Global,
+    topology: &[u8],
+    history: &mut R,
+    out: &mut W,
+) -> Result<Status, RunStop>
+    ensures leaves { IfSome (R.remaining history.old)
+        (λ text. Leaves (IsPictureText topology.now text) (W.contents out.old) (W.contents out.new) result) }
+    ensures unread { result ≡ Err RunStop.ReadFailed → Keeps (W.contents out.old) (W.contents out.new) }
+    ensures untouched { (f : ReadFault) → IsReadFault topology.now f → history.new ≡ history.old }
+{
+    match read_topology(alloc, topology) {
+        Ok((topology, app)) => draw_app(alloc, app, topology, history, out),
+        Err(fault) => refuse_topology(fault, out),
+    }
+}
+
+// Draws a history from the booted configuration of a topology, with the application of this name.
+fn draw_app<R: Read, W: Write>(
+    alloc: Global,
+    app: AppName,
+    topology: Topology,
+    history: &mut R,
+    out: &mut W,
+) -> Result<Status, RunStop>
+    ensures leaves { IfSome (R.remaining history.old)
+        (λ text. Leaves (IsPictureOf app topology text) (W.contents out.old) (W.contents out.new) result) }
+    ensures unread { result ≡ Err RunStop.ReadFailed → Keeps (W.contents out.old) (W.contents out.new) }
+{
+    match app {
+        AppName::Idle => draw_booted::<Idle, R, W>(alloc, topology, history, out),
+        AppName::Token => draw_booted::<Token, R, W>(alloc, topology, history, out),
+        AppName::Mutex => draw_booted::<EdgeReversal, R, W>(alloc, topology, history, out),
+        AppName::Routes => draw_booted::<Routes, R, W>(alloc, topology, history, out),
+    }
+}
+
+fn draw_booted<P: Application, R: Read, W: Write>(
+    alloc: Global,
+    topology: Topology,
+    history: &mut R,
+    out: &mut W,
+) -> Result<Status, RunStop>
+    ensures leaves { IfSome (R.remaining history.old)
+        (λ text. Leaves (IsPictureFrom (meaning_of P.app P.text P.from_text P.names) topology text)
+        (W.contents out.old) (W.contents out.new) result) }
+    ensures unread { result ≡ Err RunStop.ReadFailed → Keeps (W.contents out.old) (W.contents out.new) }
+{
+    match Config::<P>::boot(alloc, topology) {
+        Ok(opening) => draw_from(alloc, &opening, history, out),
+        Err(_) => Err(RunStop::NoMemory),
+    }
+}
+
+// Draws a history from this configuration on.
+fn draw_from<P: Application, R: Read, W: Write>(
+    alloc: Global,
+    opening: &Config<P>,
+    history: &mut R,
+    out: &mut W,
+) -> Result<Status, RunStop>
+    ensures leaves { IfSome (R.remaining history.old)
+        (λ text. Leaves (IsPicture (meaning_of P.app P.text P.from_text P.names) opening.now text)
+        (W.contents out.old) (W.contents out.new) result) }
+    ensures unread { result ≡ Err RunStop.ReadFailed → Keeps (W.contents out.old) (W.contents out.new) }
+{
+    if opening.topology().len() > MAX_LANES {
+        return refuse_lanes(out);
+    }
+    match read_book(alloc, history) {
+        Ok(entries) => draw_entries(alloc, opening, &entries, out),
+        Err(BookFault::NoMemory) => Err(RunStop::NoMemory),
+        Err(BookFault::ReadFailed) => Err(RunStop::ReadFailed),
+        Err(fault) => refuse_history(fault, out),
+    }
+}
+
+// Draws entries from this configuration on.
+fn draw_entries<P: Application, W: Write>(
+    alloc: Global,
+    opening: &Config<P>,
+    entries: &[Entry],
+    out: &mut W,
+) -> Result<Status, RunStop>
+    requires { length opening.now.graph.ids ≤ MAX_LANES }
+    ensures leaves { Leaves (IsDrawing (meaning_of P.app P.text P.from_text P.names) opening.now entries.now)
+        (W.contents out.old) (W.contents out.new) result }
+    ensures stop { IfErr result IsOutputStop }
+{
+    match verify(alloc, opening.copy(alloc)?, entries) {
+        Ok(summary) => draw(alloc, opening, entries, &summary.reports, out),
+        Err(VerifyFault::NotEnabledAt(position)) => refuse_entry(position, out),
+        Err(VerifyFault::NoMemory) => Err(RunStop::NoMemory),
+    }
+}
+
+// Draws entries that are a run from this configuration on, with their reports, if they aren't too many.
+fn draw<P: Application, W: Write>(
+    alloc: Global,
+    opening: &Config<P>,
+    entries: &[Entry],
+    reports: &[Report],
+    out: &mut W,
+) -> Result<Status, RunStop>
+    requires lanes { length opening.now.graph.ids ≤ MAX_LANES }
+    requires run { IsSome (replayed P.app P.from_text opening.now entries.now) }
+    requires reports { reports.now ≡ reports_of P.app P.from_text opening.now entries.now }
+    ensures leaves { Leaves
+        (λ output. output ≡ drawing (meaning_of P.app P.text P.from_text P.names) opening.now entries.now)
+        (W.contents out.old) (W.contents out.new) result }
+    ensures stop { IfErr result IsOutputStop }
+{
+    if entries.len() > MAX_MARKS {
+        refuse_marks(out)
+    } else {
+        draw_few(alloc, opening, entries, reports, out)
+    }
+}
+
+// The same of entries that aren't too many.
+fn draw_few<P: Application, W: Write>(
+    alloc: Global,
+    opening: &Config<P>,
+    entries: &[Entry],
+    reports: &[Report],
+    out: &mut W,
+) -> Result<Status, RunStop>
+    requires lanes { length opening.now.graph.ids ≤ MAX_LANES }
+    requires marks { length entries.now ≤ MAX_MARKS }
+    requires run { IsSome (replayed P.app P.from_text opening.now entries.now) }
+    requires reports { reports.now ≡ reports_of P.app P.from_text opening.now entries.now }
+    ensures leaves { Leaves
+        (λ output. output
+        ≡ (diagram_text P.app P.from_text opening.now entries.now reports.now, Status.Good))
+        (W.contents out.old) (W.contents out.new) result }
+    ensures stop { IfErr result IsOutputStop }
+{
+    match put_diagram(alloc, opening, entries, reports, out) {
+        Ok(()) => Ok(Status::Good),
+        Err(DiagramStop::WriteFailed) => Err(RunStop::WriteFailed),
+        Err(DiagramStop::NoMemory) => Err(RunStop::NoMemory),
+    }
+}
+
+// Answers a topology of more nodes than a picture has lanes.
+fn refuse_lanes<W: Write>(out: &mut W) -> Result<Status, RunStop>
+    ensures leaves { Leaves (λ output. output ≡ (too_many_lanes_text, Status.BadInput)) (W.contents out.old)
+        (W.contents out.new) result }
+    ensures stop { IfErr result IsOutputStop }
+{
+    put_bytes(out, b"bad topology TooManyForPicture\n")?;
+    Ok(Status::BadInput)
+}
+
+// Answers a history of more entries than a picture has marks.
+fn refuse_marks<W: Write>(out: &mut W) -> Result<Status, RunStop>
+    ensures leaves { Leaves (λ output. output ≡ (too_many_marks_text, Status.BadInput)) (W.contents out.old)
+        (W.contents out.new) result }
+    ensures stop { IfErr result IsOutputStop }
+{
+    put_bytes(out, b"bad history TooLongForPicture\n")?;
+    Ok(Status::BadInput)
+}

@@ -1,0 +1,135 @@
+// What a run comes to that keeps a history, before anything is written, and how it is written then.
+
+ghost use Rattle.std.specs.Prelude.{◌≡◌, IfErr, IfOk, Ok, OnErr, OnOk};
+ghost use Rattle.std.specs.Io.KnownBytes.{Appends};
+ghost use Rattle.action_tables.specs.Written.{AppendsPrefix};
+ghost use Rattle.history.specs.HistoryText.{IsReadAs, history_text};
+ghost use Rattle.reset_service.specs.Drove.{drove_line};
+ghost use Rattle.reset_service.specs.Stops.{IsRunStop};
+ghost use Rattle.reset_service.specs.Threaded.{threads_line, told_history, told_output};
+
+use crate::answer::put_topology_fault;
+use crate::status::{RunStop, Status};
+use action_tables::{Part, WriteFault, put_bytes, put_parts};
+use app_interface::Application;
+use history::{Book, books_read_back, write_book};
+use std::alloc::Global;
+use std::io::Write;
+use topology::ReadFault;
+
+// What a run of node threads or of the seeded scheduler comes to, before anything is written.
+#[derive(Drop)]
+pub enum Told {
+    BadTopology(ReadFault),
+    TooManyNodes,
+    Kept(Kept),
+    Driven(Driven),
+}
+
+// The history that node threads kept, as a text, and what it has.
+#[derive(Drop)]
+pub struct Kept {
+    pub history: Vec<u8>,
+    pub nodes: usize,
+    pub entries: usize,
+    pub reports: usize,
+}
+
+// The history of what a scheduler did, as a text, and what it has.
+#[derive(Drop)]
+pub struct Driven {
+    pub history: Vec<u8>,
+    pub entries: usize,
+    pub reports: usize,
+}
+
+// The text of a book's history.
+pub fn text_of<P: Application>(alloc: Global, book: &Book<P>) -> Result<Vec<u8>, RunStop>
+    ensures text { IfOk result (λ text. text.items ≡ history_text book.now.entries) }
+    ensures read { IfOk result (λ text. IsReadAs text.items (Ok book.now.entries)) }
+    ensures stop { IfErr result IsRunStop }
+{
+    book.lemma_is_book();
+    books_read_back::<P>();
+    let mut text = Vec::new(alloc);
+    match write_book(book, &mut text) {
+        Ok(()) => Ok(text),
+        Err(_) => Err(RunStop::NoMemory),
+    }
+}
+
+// Writes the history of a run that kept one.
+pub fn put_history<H: Write>(history: &mut H, told: &Told) -> Result<(), WriteFault>
+    ensures ok { OnOk result (Appends (H.contents history.old) (H.contents history.new) (told_history told.now)) }
+    ensures err { OnErr result
+        (AppendsPrefix (H.contents history.old) (H.contents history.new) (told_history told.now)) }
+{
+    match told {
+        Told::Kept(kept) => put_bytes(history, &kept.history),
+        Told::Driven(driven) => put_bytes(history, &driven.history),
+        Told::BadTopology(_) | Told::TooManyNodes => put_bytes(history, b""),
+    }
+}
+
+// Writes the line of a run.
+pub fn put_told<W: Write>(out: &mut W, told: &Told) -> Result<(), WriteFault>
+    ensures ok { OnOk result (Appends (W.contents out.old) (W.contents out.new) (told_output told.now).0) }
+    ensures err { OnErr result (AppendsPrefix (W.contents out.old) (W.contents out.new) (told_output told.now).0) }
+{
+    match told {
+        Told::BadTopology(fault) => put_topology_fault(out, *fault),
+        Told::TooManyNodes => put_bytes(out, b"bad topology TooManyForThreads\n"),
+        Told::Kept(kept) => put_counts(out, kept.nodes, kept.entries, kept.reports),
+        Told::Driven(driven) => put_driven(out, driven.entries, driven.reports),
+    }
+}
+
+fn put_counts<W: Write>(
+    out: &mut W,
+    nodes: usize,
+    entries: usize,
+    reports: usize,
+) -> Result<(), WriteFault>
+    ensures ok { OnOk result (Appends (W.contents out.old) (W.contents out.new) (threads_line nodes entries reports)) }
+    ensures err { OnErr result
+        (AppendsPrefix (W.contents out.old) (W.contents out.new) (threads_line nodes entries reports)) }
+{
+    put_parts(
+        out,
+        &[
+            Part::Text(b"threads "),
+            Part::Number(nodes as u64),
+            Part::Text(b" nodes "),
+            Part::Number(entries as u64),
+            Part::Text(b" entries "),
+            Part::Number(reports as u64),
+            Part::Text(b" reports\n"),
+        ],
+    )
+}
+
+fn put_driven<W: Write>(out: &mut W, entries: usize, reports: usize) -> Result<(), WriteFault>
+    ensures ok { OnOk result (Appends (W.contents out.old) (W.contents out.new) (drove_line entries reports)) }
+    ensures err { OnErr result (AppendsPrefix (W.contents out.old) (W.contents out.new) (drove_line entries reports)) }
+{
+    put_parts(
+        out,
+        &[
+            Part::Text(b"drove "),
+            Part::Number(entries as u64),
+            Part::Text(b" entries "),
+            Part::Number(reports as u64),
+            Part::Text(b" reports\n"),
+        ],
+    )
+}
+
+// The status of a run.
+pub fn status_of(told: &Told) -> Status
+    ensures { result ≡ (told_output told.now).1 }
+{
+    match told {
+        Told::BadTopology(_) | Told::TooManyNodes => Status::BadInput,
+        Told::Kept(_) | Told::Driven(_) => Status::Good,
+    }
+}
