@@ -19,7 +19,9 @@ returns-in-Ok-clause-leaves g c =
     known_leaves (g.R.Read.remaining c.args.history.now) (λ text. IsReadAs text (Ok es)) (IsDrawing m opening es)
     (λ text. IsPicture m opening text) _ _ c.draw_entries.result
     (λ text o reads is. read es few reads is) c.in-Ok.ensures.ok
-    (subst (λ xs. Leaves (IsDrawing m opening xs) _ _ c.draw_entries.result) c.deref.ensures.value
+    (subst
+    (λ xs. Leaves (IsDrawing m opening xs) (g.W.Write.contents c.args.out.now)
+    (g.W.Write.contents c.draw_entries.new.out) c.draw_entries.result) c.deref.ensures.value
     c.draw_entries.ensures.leaves)
 
 pub returns-in-Err : goal.returns-in-Err
