@@ -8,3 +8,4 @@ mod Lengths
 mod Printed
 mod Shaped
 mod Connected
+mod Accepted

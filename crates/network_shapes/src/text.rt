@@ -5,7 +5,8 @@ ghost use Rattle.toml.specs.Data.{members_depth, members_have_valid_dates};
 ghost use Rattle.toml.specs.Parse.{parse_document};
 ghost use Rattle.toml.specs.Text.{IsDocumentText};
 ghost use Rattle.toml.specs.View.{table_view};
-ghost use Rattle.topology.specs.TopologyText.{description_of};
+ghost use Rattle.topology.specs.TopologyText.{IsReadFault, description_of};
+ghost use Rattle.topology.specs.declared.text.ReadFault.{ReadFault};
 ghost use Rattle.network_shapes.specs.Shapes.{shape_description};
 ghost use Rattle.network_shapes.specs.TopologyTable.{description_text};
 
@@ -17,8 +18,8 @@ use toml::Table;
 use topology::AppName;
 
 /// The topology text of a shape with the nodes 1 to `count`, from 1 to 1,024 of them. `seed` matters
-/// to `Shape::Random` alone. `read_topology` accepts the text, unless memory is wanting there
-/// (`shapes_are_topologies`).
+/// to `Shape::Random` alone. The text has no fault that `read_topology` could name, so that reading it
+/// fails for want of memory alone.
 pub fn shape_text(
     alloc: Global,
     shape: Shape,
@@ -31,6 +32,7 @@ pub fn shape_text(
     ensures text { IfOk result (λ text. string_bytes text ≡ description_text (shape_description shape count seed app)) }
     ensures described { IfOk result
         (λ text. description_of (string_bytes text) ≡ Ok (shape_description shape count seed app)) }
+    ensures accepted { IfOk result (λ text. (f : ReadFault) → IsReadFault (string_bytes text) f → ⊥) }
 {
     let nodes = node_numbers(alloc, count)?;
     let links = shape_links(alloc, shape, count, seed)?;
