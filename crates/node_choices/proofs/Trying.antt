@@ -1,6 +1,7 @@
 -- Trying the elements of a list in turn, where what is left to try gives what all give.
 use Rattle.std.proofs.Common.{◌≡◌, ℕ, suc, ◌+◌, ◌-◌, ◌<◌, ◌≤◌, Bool, true, false, cond, List, [], ◌∷◌, ◌++◌}
-use Rattle.std.proofs.Common.{Option, Some, None, Result, Ok, Err, IfOk, filter, find, length, drop, drop-cons, get_or, add-one, append_assoc, append-nil, sym, ap, ◌∙◌, arith}
+use Rattle.std.proofs.Common.{Option, Some, None, Result, Ok, Err, IfOk, filter, find, length, drop}
+use Rattle.std.proofs.Common.{drop-cons, get_or, add-one, append_assoc, append-nil, sym, ap, ◌∙◌, arith}
 use Rattle.std.specs.List.{flat_map, range_with_len}
 use Rattle.std.specs.Option.{option_or}
 use Rattle.std.proofs.lemmas.List.Concat.{flat_map-cons}

@@ -6,5 +6,4 @@ mod events;
 mod run;
 mod step;
 
-pub use events::enabled_events;
 pub use run::drive;

@@ -11,8 +11,8 @@ use rand_pcg::Lcg64Xsh32;
 use std::alloc::{AllocError, Global};
 
 /// Takes so many steps, which the generator that the number `seed` seeds draws: in `faults` of a thousand cases (from
-/// 1,000 on in all) a fault, and else an event that is enabled. What is refused changes nothing. Where memory is wanting
-/// the book is as the first steps have left it.
+/// 1,000 on in all) a fault, and else an event that is enabled. What is refused changes nothing. Where memory is
+/// wanting the book is as the first steps have left it.
 pub fn drive<P: Application>(
     alloc: Global,
     book: &mut Book<P>,
