@@ -18,10 +18,10 @@ completion_words session None finished =
 unfoldable pub completion_tag : ℕ → List ℕ
 completion_tag y = concat (codes "<g class='completion' transform='translate(0 " ∷ decimal y ∷ codes ")'>" ∷ [])
 
--- its line across all lanes to x, with the session at the right end
+-- its line across all lanes to x, below its row, with the session at the right end
 unfoldable pub completion_line : ℕ → ℕ → List ℕ
 completion_line x session =
-    concat (codes "<path d='M44 0H" ∷ decimal x ∷ codes "'/><text dx='6' dy='4' x='" ∷ decimal x ∷ codes "'>session "
+    concat (codes "<path d='M44 11H" ∷ decimal x ∷ codes "'/><text dx='6' y='15' x='" ∷ decimal x ∷ codes "'>session "
     ∷ decimal session ∷ codes " complete</text></g>\n" ∷ [])
 
 -- where a session was told complete
