@@ -4,13 +4,13 @@ use Rattle.std.specs.Fmt.{decimal}
 use Rattle.std.specs.List.{concat, flat_map}
 use Rattle.space_time_diagram.specs.Page.{lane_x, legend_y, page_height, page_width}
 
--- the first tag, with the size of the page and what is on it
+-- the first tag, with the size of the page, its ground, and what is on it in words
 unfoldable pub first_tag_text : ℕ → ℕ → ℕ → ℕ → List ℕ
 first_tag_text width height lanes count = concat (codes "<svg xmlns='http://www.w3.org/2000/svg' viewBox='0 0 "
     ∷ decimal width ∷ codes " " ∷ decimal height ∷ codes "' width='" ∷ decimal width ∷ codes "' height='"
-    ∷ decimal height
-    ∷ codes "' role='img' aria-label='Space-time diagram of " ∷ decimal count ∷ codes " entries on " ∷ decimal lanes
-    ∷ codes " nodes'>\n" ∷ [])
+    ∷ decimal height ∷ codes "' role='img' aria-label='space-time diagram of a history'>\n"
+    ∷ codes "<rect class='ground' width='100%' height='100%'/>\n<text class='title' x='16' y='24'>entries: "
+    ∷ decimal count ∷ codes ", nodes: " ∷ decimal lanes ∷ codes "</text>\n" ∷ [])
 
 -- that of the page of so many lanes and entries
 abbrev pub first_tag : ℕ → ℕ → List ℕ
@@ -33,7 +33,7 @@ lane_headings lane ids = flat_map (lane_heading lane) ids
 unfoldable pub style : List ℕ
 style =
     concat (codes "<style>\n"
-    ∷ codes "svg{color:#1f2328;font:11px system-ui,sans-serif}.page{fill:#fff}"
+    ∷ codes "svg{color:#1f2328;font:11px system-ui,sans-serif}.ground{fill:#fff}"
     ∷ codes "text{fill:currentColor}\n"
     ∷ codes ".title{font-size:13px;font-weight:600}"
     ∷ codes ".lane{font-size:10px;font-weight:600;text-anchor:middle}\n"
@@ -47,7 +47,7 @@ style =
     ∷ codes ".bad{fill:#d55e00}.plain{fill:#fff}\n"
     ∷ codes ".completion path{stroke:#009e73;stroke-width:2;stroke-dasharray:6 3}"
     ∷ codes ".completion text{font-weight:600}\n"
-    ∷ codes "@media(prefers-color-scheme:dark){svg{color:#e6edf3}.page{fill:#14171c}\n"
+    ∷ codes "@media(prefers-color-scheme:dark){svg{color:#e6edf3}.ground{fill:#14171c}\n"
     ∷ codes ".s0{fill:#262b33}.s1{fill:#14344f}.s2{fill:#4a3a12}.s3{fill:#124030}"
     ∷ codes ".s4{fill:#49293e}.s5{fill:#42401a}\n"
     ∷ codes ".normal{fill:#6e7681}.form{stroke:#e6edf3}}\n"
@@ -75,8 +75,7 @@ shapes =
     ∷ codes "</g>\n"
     ∷ codes "<g id='fault'><path class='form bad' d='M0-9L9 0L0 9L-9 0Z'/>"
     ∷ codes "<text class='letter' y='3'>!</text></g>\n"
-    ∷ codes "</defs>\n"
-    ∷ codes "<rect class='page' width='100%' height='100%'/>\n" ∷ [])
+    ∷ codes "</defs>\n" ∷ [])
 
 -- what stands above the lanes of these nodes
 abbrev pub head_text : (ℕ → ℕ) → List ℕ → ℕ → List ℕ

@@ -17,7 +17,7 @@ use std::io::Write;
 // The colours, for light and for dark.
 const STYLE: &[u8] = b"\
     <style>\n\
-    svg{color:#1f2328;font:11px system-ui,sans-serif}.page{fill:#fff}\
+    svg{color:#1f2328;font:11px system-ui,sans-serif}.ground{fill:#fff}\
     text{fill:currentColor}\n\
     .title{font-size:13px;font-weight:600}\
     .lane{font-size:10px;font-weight:600;text-anchor:middle}\n\
@@ -31,14 +31,14 @@ const STYLE: &[u8] = b"\
     .bad{fill:#d55e00}.plain{fill:#fff}\n\
     .completion path{stroke:#009e73;stroke-width:2;stroke-dasharray:6 3}\
     .completion text{font-weight:600}\n\
-    @media(prefers-color-scheme:dark){svg{color:#e6edf3}.page{fill:#14171c}\n\
+    @media(prefers-color-scheme:dark){svg{color:#e6edf3}.ground{fill:#14171c}\n\
     .s0{fill:#262b33}.s1{fill:#14344f}.s2{fill:#4a3a12}.s3{fill:#124030}\
     .s4{fill:#49293e}.s5{fill:#42401a}\n\
     .normal{fill:#6e7681}.form{stroke:#e6edf3}}\n\
     </style>\n\
 ";
 
-// The forms of the marks, by their kinds, and the ground that all stands on.
+// The forms of the marks, by their kinds.
 const SHAPES: &[u8] = b"\
     <defs>\n\
     <g id='tree'><rect class='form plain' x='-6' y='-6' width='12' height='12'/>\
@@ -60,7 +60,6 @@ const SHAPES: &[u8] = b"\
     <g id='fault'><path class='form bad' d='M0-9L9 0L0 9L-9 0Z'/>\
     <text class='letter' y='3'>!</text></g>\n\
     </defs>\n\
-    <rect class='page' width='100%' height='100%'/>\n\
 ";
 
 // What the bands and the marks stand for, and the last tags.
@@ -128,7 +127,7 @@ fn put_first_tag<W: Write>(out: &mut W, lanes: usize, count: usize) -> Result<()
     )
 }
 
-// Writes the first tag, with the size of the page and what is on it.
+// Writes the first tag, with the size of the page, its ground, and what is on it in words.
 #[tactic(auto, unfolding(crate::specs::Frame::first_tag_text))]
 fn put_first_tag_text<W: Write>(
     out: &mut W,
@@ -153,11 +152,14 @@ fn put_first_tag_text<W: Write>(
             Part::Number(width),
             Part::Text(b"' height='"),
             Part::Number(height),
-            Part::Text(b"' role='img' aria-label='Space-time diagram of "),
+            Part::Text(b"' role='img' aria-label='space-time diagram of a history'>\n"),
+            Part::Text(
+                b"<rect class='ground' width='100%' height='100%'/>\n<text class='title' x='16' y='24'>entries: ",
+            ),
             Part::Number(count),
-            Part::Text(b" entries on "),
+            Part::Text(b", nodes: "),
             Part::Number(lanes),
-            Part::Text(b" nodes'>\n"),
+            Part::Text(b"</text>\n"),
         ],
     )
 }
