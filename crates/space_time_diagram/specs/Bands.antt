@@ -65,7 +65,7 @@ phase_band_text b phase = concat (codes "<g transform='translate(" ∷ decimal b
     ∷ codes ")'><title>node " ∷ decimal b.node ∷ codes ": " ∷ phase ∷ codes ", session " ∷ decimal b.regs.session
     ∷ codes "</title><rect class='s" ∷ decimal (b.regs.session % 6) ∷ codes "' x='-26' width='52' height='"
     ∷ decimal b.height ∷ codes "'/><rect class='" ∷ phase ∷ codes "' x='-5' width='10' height='" ∷ decimal b.height
-    ∷ codes "'/><text class='session' x='24' y='13'>" ∷ decimal b.regs.session ∷ codes "</text></g>\n" ∷ [])
+    ∷ codes "'/><text class='session' x='24' y='8'>" ∷ decimal b.regs.session ∷ codes "</text></g>\n" ∷ [])
 
 abbrev pub band_text : Band → List ℕ
 band_text b = phase_band_text b (phase_name b.regs.phase)

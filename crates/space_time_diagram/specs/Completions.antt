@@ -12,7 +12,8 @@ completion_words session (Some opened) finished =
     concat (codes "<title>session " ∷ decimal session ∷ codes ": opened at " ∷ decimal opened ∷ codes ", complete at "
     ∷ decimal finished ∷ codes "</title>" ∷ [])
 completion_words session None finished =
-    concat (codes "<title>session " ∷ decimal session ∷ codes ": complete at " ∷ decimal finished ∷ codes "</title>" ∷ [])
+    concat (codes "<title>session " ∷ decimal session ∷ codes ": complete at " ∷ decimal finished
+    ∷ codes "</title>" ∷ [])
 
 -- the tag of a completion, whose row is at y
 unfoldable pub completion_tag : ℕ → List ℕ

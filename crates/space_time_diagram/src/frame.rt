@@ -17,23 +17,20 @@ use std::io::Write;
 // The colours, for light and for dark.
 const STYLE: &[u8] = b"\
     <style>\n\
-    svg{color:#1f2328;font:11px system-ui,sans-serif}.ground{fill:#fff}\
-    text{fill:currentColor}\n\
-    .title{font-size:13px;font-weight:600}\
-    .lane{font-size:10px;font-weight:600;text-anchor:middle}\n\
+    svg{color:#1f2328;font:11px system-ui,sans-serif}text{fill:currentColor}.ground{fill:#fff}\n\
+    .title{font-size:13px;font-weight:600}.lane{font-size:10px;font-weight:600;text-anchor:middle}\n\
     .place{font-size:9px;text-anchor:end}.session{font-size:8px;text-anchor:end}\n\
-    .s0{fill:#e9ecef}.s1{fill:#cfe5f5}.s2{fill:#fae3b4}.s3{fill:#c9ebdd}\
-    .s4{fill:#f3d3e4}.s5{fill:#f3efb0}\n\
+    .s0{fill:#e9ecef}.s1{fill:#cfe5f5}.s2{fill:#fae3b4}\n\
+    .s3{fill:#c9ebdd}.s4{fill:#f3d3e4}.s5{fill:#f3efb0}\n\
     .normal{fill:#9aa3ad}.initiate{fill:#e69f00}.reset{fill:#0072b2}\n\
-    .form{stroke:#1f2328}\
-    .letter{font-size:9px;font-weight:700;text-anchor:middle;fill:#1f2328}\n\
-    .ask{fill:#e69f00}.wave{fill:#56b4e9}.done{fill:#009e73}.mended{fill:#cc79a7}\
-    .bad{fill:#d55e00}.plain{fill:#fff}\n\
-    .completion path{stroke:#009e73;stroke-width:2;stroke-dasharray:6 3}\
+    .form{stroke:#1f2328}.letter{font-size:9px;font-weight:700;text-anchor:middle;fill:#1f2328}\n\
+    .ask{fill:#e69f00}.wave{fill:#56b4e9}.done{fill:#009e73}\n\
+    .mended{fill:#cc79a7}.bad{fill:#d55e00}.plain{fill:#fff}\n\
+    .completion path{stroke:#009e73;stroke-width:2;stroke-dasharray:6 3}\n\
     .completion text{font-weight:600}\n\
     @media(prefers-color-scheme:dark){svg{color:#e6edf3}.ground{fill:#14171c}\n\
-    .s0{fill:#262b33}.s1{fill:#14344f}.s2{fill:#4a3a12}.s3{fill:#124030}\
-    .s4{fill:#49293e}.s5{fill:#42401a}\n\
+    .s0{fill:#262b33}.s1{fill:#14344f}.s2{fill:#4a3a12}\n\
+    .s3{fill:#124030}.s4{fill:#49293e}.s5{fill:#42401a}\n\
     .normal{fill:#6e7681}.form{stroke:#e6edf3}}\n\
     </style>\n\
 ";
@@ -41,52 +38,49 @@ const STYLE: &[u8] = b"\
 // The forms of the marks, by their kinds.
 const SHAPES: &[u8] = b"\
     <defs>\n\
-    <g id='tree'><rect class='form plain' x='-6' y='-6' width='12' height='12'/>\
+    <g id='tree'><rect x='-6' y='-6' width='12' height='12' class='form plain'/>\n\
     <text class='letter' y='3'>T</text></g>\n\
-    <g id='request'><path class='form ask' d='M0-9L9 6H-9Z'/><text class='letter' y='4'>\
-    Q</text></g>\n\
-    <g id='relay'><path class='form ask' d='M0-9L9 6H-9Z'/><text class='letter' y='4'>\
-    L</text></g>\n\
-    <g id='open'><circle class='form wave' r='9'/><text class='letter' y='3'>O</text>\
-    </g>\n\
-    <g id='join'><circle class='form wave' r='7'/><text class='letter' y='3'>J</text>\
-    </g>\n\
-    <g id='finish'><circle class='form done' r='7'/><text class='letter' y='3'>F</text>\
-    </g>\n\
-    <g id='mend'><circle class='form mended' r='7'/><text class='letter' y='3'>M</text>\
-    </g>\n\
-    <g id='action'><circle class='form plain' r='6'/><text class='letter' y='3'>A</text>\
-    </g>\n\
-    <g id='fault'><path class='form bad' d='M0-9L9 0L0 9L-9 0Z'/>\
+    <g id='request'><path d='M0-9L9 6H-9Z' class='form ask'/>\n\
+    <text class='letter' y='4'>Q</text></g>\n\
+    <g id='relay'><path d='M0-9L9 6H-9Z' class='form ask'/>\n\
+    <text class='letter' y='4'>L</text></g>\n\
+    <g id='open'><circle r='9' class='form wave'/>\n\
+    <text class='letter' y='3'>O</text></g>\n\
+    <g id='join'><circle r='7' class='form wave'/>\n\
+    <text class='letter' y='3'>J</text></g>\n\
+    <g id='finish'><circle r='7' class='form done'/>\n\
+    <text class='letter' y='3'>F</text></g>\n\
+    <g id='mend'><circle r='7' class='form mended'/>\n\
+    <text class='letter' y='3'>M</text></g>\n\
+    <g id='action'><circle r='6' class='form plain'/>\n\
+    <text class='letter' y='3'>A</text></g>\n\
+    <g id='fault'><path d='M0-9L9 0L0 9L-9 0Z' class='form bad'/>\n\
     <text class='letter' y='3'>!</text></g>\n\
     </defs>\n\
 ";
 
 // What the bands and the marks stand for, and the last tags.
 const LEGEND_ITEMS: &[u8] = b"\
-    <rect class='normal' x='3' y='-8' width='10' height='16'/><text x='26' y='4'>\
-    normal: knows of no reset</text>\n\
-    <rect class='initiate' x='3' y='12' width='10' height='16'/><text x='26' y='24'>\
-    initiate: has asked for a reset</text>\n\
-    <rect class='reset' x='3' y='32' width='10' height='16'/><text x='26' y='44'>\
-    reset: waits for its children</text>\n\
-    <rect class='s0' y='52' width='8' height='16'/>\
+    <rect class='normal' x='3' y='-8' width='10' height='16'/>\n\
+    <text x='26' y='4'>normal: knows of no reset</text>\n\
+    <rect class='initiate' x='3' y='12' width='10' height='16'/>\n\
+    <text x='26' y='24'>initiate: has asked for a reset</text>\n\
+    <rect class='reset' x='3' y='32' width='10' height='16'/>\n\
+    <text x='26' y='44'>reset: waits for its children</text>\n\
+    <rect class='s0' y='52' width='8' height='16'/>\n\
     <rect class='s1' x='8' y='52' width='8' height='16'/>\n\
-    <text x='26' y='64'>behind it, the session by its colour</text>\n\
+    <text x='26' y='64'>behind it the session, by its number and a colour</text>\n\
     <use href='#request' x='8' y='80'/><text x='26' y='84'>request</text>\n\
     <use href='#relay' x='8' y='100'/><text x='26' y='104'>relay of a request</text>\n\
     <use href='#open' x='8' y='120'/><text x='26' y='124'>open a session</text>\n\
     <use href='#join' x='8' y='140'/><text x='26' y='144'>join a session</text>\n\
     <use href='#finish' x='8' y='160'/><text x='26' y='164'>finish</text>\n\
-    <use href='#mend' x='8' y='180'/><text x='26' y='184'>mend the wave registers</text>\
-    \n\
-    <use href='#tree' x='8' y='200'/><text x='26' y='204'>claim, follow or adopt</text>\
-    \n\
-    <use href='#action' x='8' y='220'/><text x='26' y='224'>\
-    action of the application</text>\n\
+    <use href='#mend' x='8' y='180'/><text x='26' y='184'>mend the wave registers</text>\n\
+    <use href='#tree' x='8' y='200'/><text x='26' y='204'>claim, follow or adopt</text>\n\
+    <use href='#action' x='8' y='220'/><text x='26' y='224'>action of the application</text>\n\
     <use href='#fault' x='8' y='240'/><text x='26' y='244'>fault</text>\n\
-    <g class='completion'><path d='M-4 260H20'/></g><text x='26' y='264'>\
-    a session is told complete</text>\n\
+    <g class='completion'><path d='M-4 260H20'/></g>\n\
+    <text x='26' y='264'>a session is told complete</text>\n\
     </g>\n</svg>\n\
 ";
 
