@@ -3,3 +3,5 @@ mod PlayedBands
 mod MarkTexts
 mod ReportRows
 mod Sequences
+mod KeptRegisters
+mod ShownRegisters
