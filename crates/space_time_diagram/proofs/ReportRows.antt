@@ -1,5 +1,5 @@
 -- The reports of entries stand in rows of entries.
-use Rattle.std.proofs.Common.{◌≡◌, ℕ, zero, suc, ◌+◌, ◌≤◌, List, [], ◌∷◌, ◌++◌, length, Option, Some, None, Ok, Err}
+use Rattle.std.proofs.Common.{ℕ, zero, suc, ◌+◌, ◌≤◌, List, [], ◌∷◌, ◌++◌, length, Option, Some, None, Ok, Err}
 use Rattle.std.proofs.Common.{All, arith}
 use Rattle.std.specs.Option.{option_map_or}
 use Rattle.app_interface.specs.Application.{App}

@@ -1,4 +1,4 @@
-use Rattle.std.proofs.Common.{append-nil, arith, length, refl, ap, sym, ◌∙◌, ◌≡◌, ◌+◌, ◌++◌, ◌∷◌, []}
+use Rattle.std.proofs.Common.{append-nil, arith, length, ap, sym, ◌∙◌, ◌+◌, ◌++◌}
 use Rattle.std.proofs.lemmas.List.{drop_all}
 use Rattle.space_time_diagram.specs.Bands.{bands_from}
 use Rattle.space_time_diagram.specs.Lanes.{lane_of}

@@ -1,11 +1,11 @@
-use Rattle.std.proofs.Common.{length, [], ◌∷◌, ◌++◌}
+use Rattle.std.proofs.Common.{length, [], ◌++◌}
 use Rattle.action_tables.proofs.Prefixes.{AppendsPrefix-first, OnErr-always}
 use Rattle.space_time_diagram.specs.Bands.{bands_text}
 use Rattle.space_time_diagram.specs.Completions.{completions}
 use Rattle.space_time_diagram.specs.Frame.{head_text, legend}
 use Rattle.space_time_diagram.specs.Lanes.{lane_of}
 use Rattle.space_time_diagram.specs.Marks.{marks_from}
-use Rattle.space_time_diagram.proofs.Sequences.{fifth_failed, five_written, four_written, fourth_failed}
+use Rattle.space_time_diagram.proofs.Sequences.{fifth_failed, five_written, fourth_failed}
 use Rattle.space_time_diagram.proofs.Sequences.{second_failed, third_failed}
 use Rattle.space_time_diagram.proofs.diagram.put_page.Goals as goal
 
