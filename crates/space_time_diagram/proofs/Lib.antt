@@ -5,3 +5,4 @@ mod ReportRows
 mod Sequences
 mod KeptRegisters
 mod ShownRegisters
+mod LaneOrder

@@ -16,5 +16,5 @@ mod page;
 mod play;
 
 pub use diagram::{DiagramStop, put_diagram};
-pub use laws::bands_show_registers;
+pub use laws::{bands_show_registers, nodes_have_lanes};
 pub use page::{MAX_LANES, MAX_MARKS};
