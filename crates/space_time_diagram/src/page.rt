@@ -47,7 +47,7 @@ pub fn page_width(lanes: usize) -> u64
     requires { lanes ≤ MAX_LANES }
     ensures { result ≡ page_width lanes }
 {
-    220 + 56 * lanes as u64
+    280 + 56 * lanes as u64
 }
 
 // Where the legend begins.
