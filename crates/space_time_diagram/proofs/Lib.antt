@@ -3,3 +3,6 @@ mod PlayedBands
 mod MarkTexts
 mod ReportRows
 mod Sequences
+mod KeptRegisters
+mod ShownRegisters
+mod LaneOrder

@@ -1,5 +1,6 @@
 -- The marks of entries that are written one after another.
-use Rattle.std.proofs.Common.{◌≡◌, ℕ, zero, suc, ◌+◌, ◌<◌, List, [], ◌∷◌, ◌++◌, length, take, drop, get_or, Option, Some, None}
+use Rattle.std.proofs.Common.{◌≡◌, ℕ, zero, suc, ◌+◌, ◌<◌, List, [], ◌∷◌, ◌++◌, length, take, drop, get_or, Option}
+use Rattle.std.proofs.Common.{Some, None}
 use Rattle.std.proofs.Common.{sym, ap, ◌∙◌, append_assoc, append-nil, add-zero, add-one, arith}
 use Rattle.std.specs.Io.KnownBytes.{Appends}
 use Rattle.std.proofs.KnownBytes.{Appends-trans}
@@ -53,7 +54,8 @@ module _ (lane : ℕ → ℕ) where
       rw (marks_cut 1 es i d h, at)
       (AppendsPrefix-then a b c (marks_from lane 1 (take i es)) (mark lane place (get_or es i d)
       ++ marks_from lane (place + 1) (drop (suc i) es)) before
-      (AppendsPrefix-first b c (mark lane place (get_or es i d)) (marks_from lane (place + 1) (drop (suc i) es)) here))
+      (AppendsPrefix-first b c (mark lane place (get_or es i d)) (marks_from lane (place + 1) (drop (suc i)
+      es)) here))
 
   -- before the first nothing was written
   pub marks_before : (a : Option (List ℕ)) → Appends a a (marks_from lane 1 [])

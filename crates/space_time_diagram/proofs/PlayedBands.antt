@@ -1,6 +1,6 @@
 -- The bands of entries that are played one after another.
-use Rattle.std.proofs.Common.{◌≡◌, ℕ, suc, ◌+◌, ◌<◌, List, [], ◌∷◌, ◌++◌, length, drop, Option, Some, None, IsSome, sym}
-use Rattle.std.proofs.Common.{slice_index_or, refl, ap, subst, ◌∙◌, add-one, drop-cons, append_assoc}
+use Rattle.std.proofs.Common.{◌≡◌, ℕ, suc, ◌+◌, ◌<◌, List, [], ◌∷◌, ◌++◌, length, drop, Option, Some, None, IsSome}
+use Rattle.std.proofs.Common.{sym, slice_index_or, refl, ap, subst, ◌∙◌, add-one, drop-cons, append_assoc}
 use Rattle.std.specs.Option.{option_and_then, option_map_or}
 use Rattle.app_interface.specs.Application.{App}
 use Rattle.reset_model.specs.Configuration.{Configuration, wave_of}

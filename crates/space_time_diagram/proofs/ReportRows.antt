@@ -1,5 +1,6 @@
 -- The reports of entries stand in rows of entries.
-use Rattle.std.proofs.Common.{◌≡◌, ℕ, zero, suc, ◌+◌, ◌≤◌, List, [], ◌∷◌, ◌++◌, length, Option, Some, None, Ok, Err, All, arith}
+use Rattle.std.proofs.Common.{ℕ, zero, suc, ◌+◌, ◌≤◌, List, [], ◌∷◌, ◌++◌, length, Option, Some, None, Ok, Err}
+use Rattle.std.proofs.Common.{All, arith}
 use Rattle.std.specs.Option.{option_map_or}
 use Rattle.app_interface.specs.Application.{App}
 use Rattle.reset_model.specs.Configuration.{Configuration}
@@ -53,4 +54,5 @@ module _ {L : Type 0} (app : App L) (from_text : List ℕ → Option L) (last : 
 -- no report is finished after the last entry
 pub reports_within : {L : Type 0} (app : App L) (from_text : List ℕ → Option L) (c : Configuration L) (es : List Entry)
     (last : ℕ) → length es ≤ last → All (λ r. r.finished ≤ last) (reports_of app from_text c es)
-reports_within app from_text c es last few = each_by last (reports_of app from_text c es) (reports_by app from_text last es c [] (omega (arith, few)))
+reports_within app from_text c es last few =
+    each_by last (reports_of app from_text c es) (reports_by app from_text last es c [] (omega (arith, few)))

@@ -58,14 +58,14 @@ abbrev pub bands_of : {L : Type 0} → App L → (List ℕ → Option L) → Con
 bands_of app from_text c es =
     map (opening_band c (length es)) c.graph.ids ++ bands_from app from_text (lane_of c) (length es) c 1 es
 
--- a band, whose phase has this name: the session as a wide pale rectangle in one of six colours, and the phase as a
--- narrow one before it
+-- a band, whose phase has this name: the session as a wide pale rectangle in one of six colours with its number, and
+-- the phase as a narrow one before it
 unfoldable pub phase_band_text : Band → List ℕ → List ℕ
 phase_band_text b phase = concat (codes "<g transform='translate(" ∷ decimal b.x ∷ codes " " ∷ decimal b.y
     ∷ codes ")'><title>node " ∷ decimal b.node ∷ codes ": " ∷ phase ∷ codes ", session " ∷ decimal b.regs.session
     ∷ codes "</title><rect class='s" ∷ decimal (b.regs.session % 6) ∷ codes "' x='-26' width='52' height='"
     ∷ decimal b.height ∷ codes "'/><rect class='" ∷ phase ∷ codes "' x='-5' width='10' height='" ∷ decimal b.height
-    ∷ codes "'/></g>\n" ∷ [])
+    ∷ codes "'/><text class='session' x='24' y='8'>" ∷ decimal b.regs.session ∷ codes "</text></g>\n" ∷ [])
 
 abbrev pub band_text : Band → List ℕ
 band_text b = phase_band_text b (phase_name b.regs.phase)

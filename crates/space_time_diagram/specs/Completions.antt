@@ -12,16 +12,17 @@ completion_words session (Some opened) finished =
     concat (codes "<title>session " ∷ decimal session ∷ codes ": opened at " ∷ decimal opened ∷ codes ", complete at "
     ∷ decimal finished ∷ codes "</title>" ∷ [])
 completion_words session None finished =
-    concat (codes "<title>session " ∷ decimal session ∷ codes ": complete at " ∷ decimal finished ∷ codes "</title>" ∷ [])
+    concat (codes "<title>session " ∷ decimal session ∷ codes ": complete at " ∷ decimal finished
+    ∷ codes "</title>" ∷ [])
 
 -- the tag of a completion, whose row is at y
 unfoldable pub completion_tag : ℕ → List ℕ
 completion_tag y = concat (codes "<g class='completion' transform='translate(0 " ∷ decimal y ∷ codes ")'>" ∷ [])
 
--- its line across all lanes to x, with the session at the right end
+-- its line across all lanes to x, below its row, with the session at the right end
 unfoldable pub completion_line : ℕ → ℕ → List ℕ
 completion_line x session =
-    concat (codes "<path d='M44 0H" ∷ decimal x ∷ codes "'/><text dx='6' dy='4' x='" ∷ decimal x ∷ codes "'>session "
+    concat (codes "<path d='M44 11H" ∷ decimal x ∷ codes "'/><text dx='6' y='15' x='" ∷ decimal x ∷ codes "'>session "
     ∷ decimal session ∷ codes " complete</text></g>\n" ∷ [])
 
 -- where a session was told complete

@@ -16,7 +16,8 @@ use Rattle.space_time_diagram.specs.Marks.{marks_from}
 -- painted over those before it
 abbrev pub page_text : (ℕ → ℕ) → List ℕ → List Band → List Entry → List Report → List ℕ
 page_text lane ids bands es reports =
-    concat (head_text lane ids (length es) ∷ bands_text bands ∷ marks_from lane 1 es ∷ completions (length ids) reports
+    concat (head_text lane ids (length es) ∷ bands_text bands ∷ marks_from lane 1 es ∷ completions (length ids)
+    reports
     ∷ legend (length es) ∷ [])
 
 -- the picture of entries from the opening c on, and of what they report

@@ -5,3 +5,4 @@ pub mod Marks
 pub mod Completions
 pub mod Frame
 pub mod Diagram
+pub mod Shown

@@ -17,9 +17,9 @@ height_below count place = 22 * (count + 1 - place)
 abbrev pub right_end : ℕ → ℕ
 right_end lanes = 52 + 56 * lanes
 
--- the page has a margin for what is written beside the lanes
+-- the page has a margin for what is written beside the lanes and below them
 abbrev pub page_width : ℕ → ℕ
-page_width lanes = 220 + 56 * lanes
+page_width lanes = 280 + 56 * lanes
 
 -- where the legend begins
 abbrev pub legend_y : ℕ → ℕ

@@ -162,7 +162,9 @@ fn put_band_of_phase<W: Write>(out: &mut W, band: Band, phase: &[u8]) -> Result<
             Part::Text(phase),
             Part::Text(b"' x='-5' width='10' height='"),
             Part::Number(band.height),
-            Part::Text(b"'/></g>\n"),
+            Part::Text(b"'/><text class='session' x='24' y='8'>"),
+            Part::Number(session),
+            Part::Text(b"</text></g>\n"),
         ],
     )
 }

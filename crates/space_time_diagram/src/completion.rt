@@ -111,7 +111,7 @@ fn put_words<W: Write>(
     }
 }
 
-// Writes the line of a completion to x, with its session at the right end.
+// Writes the line of a completion to x, below its row, with its session at the right end.
 #[tactic(auto, unfolding(crate::specs::Completions::completion_line))]
 fn put_line<W: Write>(out: &mut W, x: u64, session: u64) -> Result<(), WriteFault>
     ensures ok { OnOk result (Appends (W.contents out.old) (W.contents out.new) (completion_line x session)) }
@@ -120,9 +120,9 @@ fn put_line<W: Write>(out: &mut W, x: u64, session: u64) -> Result<(), WriteFaul
     put_parts(
         out,
         &[
-            Part::Text(b"<path d='M44 0H"),
+            Part::Text(b"<path d='M44 11H"),
             Part::Number(x),
-            Part::Text(b"'/><text dx='6' dy='4' x='"),
+            Part::Text(b"'/><text dx='6' y='15' x='"),
             Part::Number(x),
             Part::Text(b"'>session "),
             Part::Number(session),

@@ -9,10 +9,80 @@ ghost use Rattle.space_time_diagram.specs.Lanes.{lane_of};
 
 use crate::lane::lane_of;
 use crate::page::{MAX_LANES, MAX_MARKS, lane_x, legend_y, page_height, page_width};
-use action_tables::{Part, WriteFault, put_parts};
+use action_tables::{Part, WriteFault, put_bytes, put_parts};
 use app_interface::Application;
 use reset_machine::Config;
 use std::io::Write;
+
+// The colours, for light and for dark.
+const STYLE: &[u8] = b"\
+    <style>\n\
+    svg{color:#1f2328;font:11px system-ui,sans-serif}text{fill:currentColor}.ground{fill:#fff}\n\
+    .title{font-size:13px;font-weight:600}.lane{font-size:10px;font-weight:600;text-anchor:middle}\n\
+    .place{font-size:9px;text-anchor:end}.session{font-size:8px;text-anchor:end}\n\
+    .s0{fill:#e9ecef}.s1{fill:#cfe5f5}.s2{fill:#fae3b4}\n\
+    .s3{fill:#c9ebdd}.s4{fill:#f3d3e4}.s5{fill:#f3efb0}\n\
+    .normal{fill:#9aa3ad}.initiate{fill:#e69f00}.reset{fill:#0072b2}\n\
+    .form{stroke:#1f2328}.letter{font-size:9px;font-weight:700;text-anchor:middle;fill:#1f2328}\n\
+    .ask{fill:#e69f00}.wave{fill:#56b4e9}.done{fill:#009e73}\n\
+    .mended{fill:#cc79a7}.bad{fill:#d55e00}.plain{fill:#fff}\n\
+    .completion path{stroke:#009e73;stroke-width:2;stroke-dasharray:6 3}\n\
+    .completion text{font-weight:600}\n\
+    @media(prefers-color-scheme:dark){svg{color:#e6edf3}.ground{fill:#14171c}\n\
+    .s0{fill:#262b33}.s1{fill:#14344f}.s2{fill:#4a3a12}\n\
+    .s3{fill:#124030}.s4{fill:#49293e}.s5{fill:#42401a}\n\
+    .normal{fill:#6e7681}.form{stroke:#e6edf3}}\n\
+    </style>\n\
+";
+
+// The forms of the marks, by their kinds.
+const SHAPES: &[u8] = b"\
+    <defs>\n\
+    <g id='tree'><rect x='-6' y='-6' width='12' height='12' class='form plain'/>\n\
+    <text class='letter' y='3'>T</text></g>\n\
+    <g id='request'><path d='M0-9L9 6H-9Z' class='form ask'/>\n\
+    <text class='letter' y='4'>Q</text></g>\n\
+    <g id='relay'><path d='M0-9L9 6H-9Z' class='form ask'/>\n\
+    <text class='letter' y='4'>L</text></g>\n\
+    <g id='open'><circle r='9' class='form wave'/>\n\
+    <text class='letter' y='3'>O</text></g>\n\
+    <g id='join'><circle r='7' class='form wave'/>\n\
+    <text class='letter' y='3'>J</text></g>\n\
+    <g id='finish'><circle r='7' class='form done'/>\n\
+    <text class='letter' y='3'>F</text></g>\n\
+    <g id='mend'><circle r='7' class='form mended'/>\n\
+    <text class='letter' y='3'>M</text></g>\n\
+    <g id='action'><circle r='6' class='form plain'/>\n\
+    <text class='letter' y='3'>A</text></g>\n\
+    <g id='fault'><path d='M0-9L9 0L0 9L-9 0Z' class='form bad'/>\n\
+    <text class='letter' y='3'>!</text></g>\n\
+    </defs>\n\
+";
+
+// What the bands and the marks stand for, and the last tags.
+const LEGEND_ITEMS: &[u8] = b"\
+    <rect class='normal' x='3' y='-8' width='10' height='16'/>\n\
+    <text x='26' y='4'>normal: knows of no reset</text>\n\
+    <rect class='initiate' x='3' y='12' width='10' height='16'/>\n\
+    <text x='26' y='24'>initiate: has asked for a reset</text>\n\
+    <rect class='reset' x='3' y='32' width='10' height='16'/>\n\
+    <text x='26' y='44'>reset: waits for its children</text>\n\
+    <rect class='s0' y='52' width='8' height='16'/>\n\
+    <rect class='s1' x='8' y='52' width='8' height='16'/>\n\
+    <text x='26' y='64'>behind it the session, by its number and a colour</text>\n\
+    <use href='#request' x='8' y='80'/><text x='26' y='84'>request</text>\n\
+    <use href='#relay' x='8' y='100'/><text x='26' y='104'>relay of a request</text>\n\
+    <use href='#open' x='8' y='120'/><text x='26' y='124'>open a session</text>\n\
+    <use href='#join' x='8' y='140'/><text x='26' y='144'>join a session</text>\n\
+    <use href='#finish' x='8' y='160'/><text x='26' y='164'>finish</text>\n\
+    <use href='#mend' x='8' y='180'/><text x='26' y='184'>mend the wave registers</text>\n\
+    <use href='#tree' x='8' y='200'/><text x='26' y='204'>claim, follow or adopt</text>\n\
+    <use href='#action' x='8' y='220'/><text x='26' y='224'>action of the application</text>\n\
+    <use href='#fault' x='8' y='240'/><text x='26' y='244'>fault</text>\n\
+    <g class='completion'><path d='M-4 260H20'/></g>\n\
+    <text x='26' y='264'>a session is told complete</text>\n\
+    </g>\n</svg>\n\
+";
 
 // Writes what stands above the lanes of these nodes.
 pub fn put_head<P: Application, W: Write>(
@@ -51,7 +121,7 @@ fn put_first_tag<W: Write>(out: &mut W, lanes: usize, count: usize) -> Result<()
     )
 }
 
-// Writes the first tag, with the size of the page and what is on it.
+// Writes the first tag, with the size of the page, its ground, and what is on it in words.
 #[tactic(auto, unfolding(crate::specs::Frame::first_tag_text))]
 fn put_first_tag_text<W: Write>(
     out: &mut W,
@@ -76,11 +146,14 @@ fn put_first_tag_text<W: Write>(
             Part::Number(width),
             Part::Text(b"' height='"),
             Part::Number(height),
-            Part::Text(b"' role='img' aria-label='Space-time diagram of "),
+            Part::Text(b"' role='img' aria-label='space-time diagram of a history'>\n"),
+            Part::Text(
+                b"<rect class='ground' width='100%' height='100%'/>\n<text class='title' x='16' y='24'>entries: ",
+            ),
             Part::Number(count),
-            Part::Text(b" entries on "),
+            Part::Text(b", nodes: "),
             Part::Number(lanes),
-            Part::Text(b" nodes'>\n"),
+            Part::Text(b"</text>\n"),
         ],
     )
 }
@@ -91,7 +164,7 @@ fn put_style<W: Write>(out: &mut W) -> Result<(), WriteFault>
     ensures ok { OnOk result (Appends (W.contents out.old) (W.contents out.new) style) }
     ensures err { OnErr result (AppendsPrefix (W.contents out.old) (W.contents out.new) style) }
 {
-    put_parts(out, &[Part::Text(b"<style>\n"), Part::Text(b"</style>\n")])
+    put_bytes(out, STYLE)
 }
 
 // Writes the forms of the marks, by their kinds.
@@ -100,7 +173,7 @@ fn put_shapes<W: Write>(out: &mut W) -> Result<(), WriteFault>
     ensures ok { OnOk result (Appends (W.contents out.old) (W.contents out.new) shapes) }
     ensures err { OnErr result (AppendsPrefix (W.contents out.old) (W.contents out.new) shapes) }
 {
-    put_parts(out, &[Part::Text(b"<defs>\n"), Part::Text(b"</defs>\n")])
+    put_bytes(out, SHAPES)
 }
 
 // Writes the identifiers of the nodes above their lanes.
@@ -186,11 +259,5 @@ fn put_legend_items<W: Write>(out: &mut W) -> Result<(), WriteFault>
     ensures ok { OnOk result (Appends (W.contents out.old) (W.contents out.new) legend_items) }
     ensures err { OnErr result (AppendsPrefix (W.contents out.old) (W.contents out.new) legend_items) }
 {
-    put_parts(
-        out,
-        &[
-            Part::Text(b"<text>legend</text>\n"),
-            Part::Text(b"</g>\n</svg>\n"),
-        ],
-    )
+    put_bytes(out, LEGEND_ITEMS)
 }

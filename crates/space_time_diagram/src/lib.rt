@@ -10,9 +10,11 @@ mod diagram;
 mod escape;
 mod frame;
 mod lane;
+mod laws;
 mod mark;
 mod page;
 mod play;
 
 pub use diagram::{DiagramStop, put_diagram};
+pub use laws::{bands_show_registers, nodes_have_lanes};
 pub use page::{MAX_LANES, MAX_MARKS};

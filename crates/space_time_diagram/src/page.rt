@@ -1,7 +1,8 @@
 // Places on the page, in whole user units of the picture.
 
 ghost use Rattle.std.specs.Prelude.{◌≡◌, ◌≤◌};
-ghost use Rattle.space_time_diagram.specs.Page.{height_below, lane_x, legend_y, page_height, page_width, right_end, row_y};
+ghost use Rattle.space_time_diagram.specs.Page.{height_below, lane_x, legend_y, page_height, page_width, right_end};
+ghost use Rattle.space_time_diagram.specs.Page.{row_y};
 
 /// The most nodes of a picture.
 pub const MAX_LANES: usize = 64;
@@ -46,7 +47,7 @@ pub fn page_width(lanes: usize) -> u64
     requires { lanes ≤ MAX_LANES }
     ensures { result ≡ page_width lanes }
 {
-    220 + 56 * lanes as u64
+    280 + 56 * lanes as u64
 }
 
 // Where the legend begins.

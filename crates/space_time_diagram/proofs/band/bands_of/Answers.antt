@@ -1,4 +1,4 @@
-use Rattle.std.proofs.Common.{append-nil, arith, length, refl, ap, sym, ◌∙◌, ◌≡◌, ◌+◌, ◌++◌, ◌∷◌, []}
+use Rattle.std.proofs.Common.{append-nil, arith, length, ap, sym, ◌∙◌, ◌+◌, ◌++◌}
 use Rattle.std.proofs.lemmas.List.{drop_all}
 use Rattle.space_time_diagram.specs.Bands.{bands_from}
 use Rattle.space_time_diagram.specs.Lanes.{lane_of}
@@ -20,7 +20,8 @@ loop-entry-preserved g c =
     let short = c.loop-entry-test.true in
     let pushed = rw (c.band_at.ensures, c.entry_node.ensures) at c.in_ok-push.ensures.items in (
       rw pushed
-          (bands_more app from_text (lane_of c.args.opening.now) (length es) (loop.place + 1) loop.config c.play.new.config
+          (bands_more app from_text (lane_of c.args.opening.now) (length es) (loop.place + 1) loop.config
+          c.play.new.config
           es loop.entry-index _ loop.bands.items short c.entry-item.is c.in_ok-play.ensures ∙ loop.invariant.0),
       rest_allowed app from_text loop.config c.play.new.config es loop.entry-index _ short c.entry-item.is
           c.in_ok-play.ensures loop.invariant.1,

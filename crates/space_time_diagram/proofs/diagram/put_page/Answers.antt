@@ -1,11 +1,12 @@
-use Rattle.std.proofs.Common.{length, [], ◌∷◌, ◌++◌}
+use Rattle.std.proofs.Common.{length, [], ◌++◌}
 use Rattle.action_tables.proofs.Prefixes.{AppendsPrefix-first, OnErr-always}
 use Rattle.space_time_diagram.specs.Bands.{bands_text}
 use Rattle.space_time_diagram.specs.Completions.{completions}
 use Rattle.space_time_diagram.specs.Frame.{head_text, legend}
 use Rattle.space_time_diagram.specs.Lanes.{lane_of}
 use Rattle.space_time_diagram.specs.Marks.{marks_from}
-use Rattle.space_time_diagram.proofs.Sequences.{fifth_failed, five_written, four_written, fourth_failed, second_failed, third_failed}
+use Rattle.space_time_diagram.proofs.Sequences.{fifth_failed, five_written, fourth_failed}
+use Rattle.space_time_diagram.proofs.Sequences.{second_failed, third_failed}
 use Rattle.space_time_diagram.proofs.diagram.put_page.Goals as goal
 
 pub returns-in_err-put_head-clause-err : goal.returns-in_err-put_head-clause-err
@@ -18,7 +19,8 @@ returns-in_err-put_head-clause-err g c =
     let marks = marks_from lane 1 es in
     let lines = completions (length ids) c.args.reports.now in
     let last = legend (length es) in
-    OnErr-always _ _ (AppendsPrefix-first _ _ head (bands ++ (marks ++ (lines ++ (last ++ [])))) c.in_err-put_head.ensures.err)
+    OnErr-always _ _ (AppendsPrefix-first _ _ head (bands ++ (marks ++ (lines ++ (last ++ []))))
+    c.in_err-put_head.ensures.err)
 
 pub returns-in_err-put_bands-clause-err : goal.returns-in_err-put_bands-clause-err
 returns-in_err-put_bands-clause-err g c =
@@ -30,7 +32,8 @@ returns-in_err-put_bands-clause-err g c =
     let marks = marks_from lane 1 es in
     let lines = completions (length ids) c.args.reports.now in
     let last = legend (length es) in
-    OnErr-always _ _ (second_failed _ _ _ head bands (marks ++ (lines ++ (last ++ []))) c.in_ok-put_head.ensures.ok c.in_err-put_bands.ensures.err)
+    OnErr-always _ _ (second_failed _ _ _ head bands (marks ++ (lines ++ (last ++ [])))
+    c.in_ok-put_head.ensures.ok c.in_err-put_bands.ensures.err)
 
 pub returns-in_err-put_marks-clause-err : goal.returns-in_err-put_marks-clause-err
 returns-in_err-put_marks-clause-err g c =
@@ -42,7 +45,8 @@ returns-in_err-put_marks-clause-err g c =
     let marks = marks_from lane 1 es in
     let lines = completions (length ids) c.args.reports.now in
     let last = legend (length es) in
-    OnErr-always _ _ (third_failed _ _ _ _ head bands marks (lines ++ (last ++ [])) c.in_ok-put_head.ensures.ok c.in_ok-put_bands.ensures.ok c.in_err-put_marks.ensures.err)
+    OnErr-always _ _ (third_failed _ _ _ _ head bands marks (lines ++ (last ++ [])) c.in_ok-put_head.ensures.ok
+    c.in_ok-put_bands.ensures.ok c.in_err-put_marks.ensures.err)
 
 pub returns-in_err-put_completions-clause-err : goal.returns-in_err-put_completions-clause-err
 returns-in_err-put_completions-clause-err g c =
@@ -54,7 +58,8 @@ returns-in_err-put_completions-clause-err g c =
     let marks = marks_from lane 1 es in
     let lines = completions (length ids) c.args.reports.now in
     let last = legend (length es) in
-    OnErr-always _ _ (fourth_failed _ _ _ _ _ head bands marks lines (last ++ []) c.in_ok-put_head.ensures.ok c.in_ok-put_bands.ensures.ok c.in_ok-put_marks.ensures.ok c.in_err-put_completions.ensures.err)
+    OnErr-always _ _ (fourth_failed _ _ _ _ _ head bands marks lines (last ++ []) c.in_ok-put_head.ensures.ok
+    c.in_ok-put_bands.ensures.ok c.in_ok-put_marks.ensures.ok c.in_err-put_completions.ensures.err)
 
 pub returns-in_err-put_legend-clause-err : goal.returns-in_err-put_legend-clause-err
 returns-in_err-put_legend-clause-err g c =
@@ -66,7 +71,9 @@ returns-in_err-put_legend-clause-err g c =
     let marks = marks_from lane 1 es in
     let lines = completions (length ids) c.args.reports.now in
     let last = legend (length es) in
-    OnErr-always _ _ (fifth_failed _ _ _ _ _ _ head bands marks lines last [] c.in_ok-put_head.ensures.ok c.in_ok-put_bands.ensures.ok c.in_ok-put_marks.ensures.ok c.in_ok-put_completions.ensures.ok c.in_err-put_legend.ensures.err)
+    OnErr-always _ _ (fifth_failed _ _ _ _ _ _ head bands marks lines last [] c.in_ok-put_head.ensures.ok
+    c.in_ok-put_bands.ensures.ok c.in_ok-put_marks.ensures.ok c.in_ok-put_completions.ensures.ok
+    c.in_err-put_legend.ensures.err)
 
 pub returns-clause-ok : goal.returns-clause-ok
 returns-clause-ok g c =
@@ -78,4 +85,6 @@ returns-clause-ok g c =
     let marks = marks_from lane 1 es in
     let lines = completions (length ids) c.args.reports.now in
     let last = legend (length es) in
-    five_written _ _ _ _ _ _ head bands marks lines last c.in_ok-put_head.ensures.ok c.in_ok-put_bands.ensures.ok c.in_ok-put_marks.ensures.ok c.in_ok-put_completions.ensures.ok c.in_ok-put_legend.ensures.ok
+    five_written _ _ _ _ _ _ head bands marks lines last c.in_ok-put_head.ensures.ok
+    c.in_ok-put_bands.ensures.ok c.in_ok-put_marks.ensures.ok c.in_ok-put_completions.ensures.ok
+    c.in_ok-put_legend.ensures.ok

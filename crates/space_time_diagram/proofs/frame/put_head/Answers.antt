@@ -12,7 +12,8 @@ returns-in_err-put_first_tag-clause-err g c =
     let ids = c.args.ids.now in
     let first = first_tag (length ids) c.args.count in
     let headings = lane_headings lane ids in
-    OnErr-always _ _ (AppendsPrefix-first _ _ first (style ++ (shapes ++ (headings ++ []))) c.in_err-put_first_tag.ensures.err)
+    OnErr-always _ _ (AppendsPrefix-first _ _ first (style ++ (shapes ++ (headings ++ [])))
+    c.in_err-put_first_tag.ensures.err)
 
 pub returns-in_err-put_style-clause-err : goal.returns-in_err-put_style-clause-err
 returns-in_err-put_style-clause-err g c =
@@ -20,7 +21,8 @@ returns-in_err-put_style-clause-err g c =
     let ids = c.args.ids.now in
     let first = first_tag (length ids) c.args.count in
     let headings = lane_headings lane ids in
-    OnErr-always _ _ (second_failed _ _ _ first style (shapes ++ (headings ++ [])) c.in_ok-put_first_tag.ensures.ok c.in_err-put_style.ensures.err)
+    OnErr-always _ _ (second_failed _ _ _ first style (shapes ++ (headings ++ []))
+    c.in_ok-put_first_tag.ensures.ok c.in_err-put_style.ensures.err)
 
 pub returns-in_err-put_shapes-clause-err : goal.returns-in_err-put_shapes-clause-err
 returns-in_err-put_shapes-clause-err g c =
@@ -28,7 +30,8 @@ returns-in_err-put_shapes-clause-err g c =
     let ids = c.args.ids.now in
     let first = first_tag (length ids) c.args.count in
     let headings = lane_headings lane ids in
-    OnErr-always _ _ (third_failed _ _ _ _ first style shapes (headings ++ []) c.in_ok-put_first_tag.ensures.ok c.in_ok-put_style.ensures.ok c.in_err-put_shapes.ensures.err)
+    OnErr-always _ _ (third_failed _ _ _ _ first style shapes (headings ++ []) c.in_ok-put_first_tag.ensures.ok
+    c.in_ok-put_style.ensures.ok c.in_err-put_shapes.ensures.err)
 
 pub returns-clause-err : goal.returns-clause-err
 returns-clause-err g c =
@@ -36,4 +39,6 @@ returns-clause-err g c =
     let ids = c.args.ids.now in
     let first = first_tag (length ids) c.args.count in
     let headings = lane_headings lane ids in
-    on_err_weaker _ (λ h. fourth_failed _ _ _ _ _ first style shapes headings [] c.in_ok-put_first_tag.ensures.ok c.in_ok-put_style.ensures.ok c.in_ok-put_shapes.ensures.ok h) c.put_headings.ensures.err
+    on_err_weaker _ (λ h. fourth_failed _ _ _ _ _ first style shapes headings []
+    c.in_ok-put_first_tag.ensures.ok c.in_ok-put_style.ensures.ok c.in_ok-put_shapes.ensures.ok h)
+    c.put_headings.ensures.err

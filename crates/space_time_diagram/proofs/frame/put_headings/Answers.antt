@@ -8,5 +8,6 @@ use Rattle.space_time_diagram.proofs.frame.put_headings.Goals as goal
 pub returns-in_err-put_lane_heading-clause-err : goal.returns-in_err-put_lane_heading-clause-err
 returns-in_err-put_lane_heading-clause-err g c =
     OnErr-always _ _
-    (AppendsPrefix-piece _ _ _ (lane_heading (lane_of c.args.opening.now)) c.args.ids.now c.loop-id.id-index _ (omega arith)
+    (AppendsPrefix-piece _ _ _ (lane_heading (lane_of c.args.opening.now)) c.args.ids.now c.loop-id.id-index _
+    (omega arith)
     c.loop-id.invariant c.in_err-put_lane_heading.ensures.err)
