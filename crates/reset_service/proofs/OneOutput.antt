@@ -91,7 +91,7 @@ one_cut joined t t' s s' (topology_alone whole t_is s_is) (at_separator prefix r
 one_cut joined t t' s s' (topology_alone whole t_is s_is) (topology_alone whole' t'_is s'_is) =
     (t_is ∙ sym t'_is, s_is ∙ sym s'_is)
 
-one_read_fault : (text : List ℕ) (f e : ReadFault) → IsReadFault text f → IsReadFault text e → f ≡ e
+pub one_read_fault : (text : List ℕ) (f e : ReadFault) → IsReadFault text f → IsReadFault text e → f ≡ e
 one_read_fault text f e a b = go (own_or_lists text f a) (own_or_lists text e b)
   where
     go : (description_of text ≡ Err f) ⊎ OfLists text f → (description_of text ≡ Err e) ⊎ OfLists text e → f ≡ e
@@ -105,7 +105,7 @@ one_read_fault text f e a b = go (own_or_lists text f a) (own_or_lists text e b)
         f_is ∙ ap Topology (one_first_fault d'.nodes d'.links x y lists first') ∙ sym e_is
 
 -- no text is both bad and good
-bad_or_good : (text : List ℕ) (f : ReadFault) (g : Graph) (app : AppName) → IsReadFault text f → Describes text g app
+pub bad_or_good : (text : List ℕ) (f : ReadFault) (g : Graph) (app : AppName) → IsReadFault text f → Describes text g app
     → ⊥
 bad_or_good text f g app bad (d, is, sound, app_is) = go (own_or_lists text f bad)
   where
@@ -115,7 +115,7 @@ bad_or_good text f g app bad (d, is, sound, app_is) = go (own_or_lists text f ba
         let same : d' ≡ d = ok_once (description_of text) d' d is' is in
         sound.sound x (subst (λ (l : Description). IsFirstFault l.nodes l.links x) same first).fault
 
-one_description : (text : List ℕ) (g h : Graph) (app other : AppName) → Describes text g app → Describes text h other
+pub one_description : (text : List ℕ) (g h : Graph) (app other : AppName) → Describes text g app → Describes text h other
     → (g ≡ h) × (app ≡ other)
 one_description text g h app other (d, is, of_g, app_is) (d', is', of_h, other_is) =
     let same : d ≡ d' = ok_once (description_of text) d d' is is' in (

@@ -7,6 +7,7 @@ ghost use Rattle.reset_model.specs.Configuration.{Configuration, IsShaped};
 ghost use Rattle.reset_model.specs.Outcome.{IsBoot};
 ghost use Rattle.reset_model.specs.Refinement.{abstract_of};
 ghost use Rattle.reset_model.specs.Sound.{IsSound};
+ghost use Rattle.reset_service.specs.Drove.{IsDroveText};
 ghost use Rattle.reset_service.specs.Meaning.{meaning_of};
 ghost use Rattle.reset_service.specs.Output.{Describes, IsJoinedOutput, IsOutput};
 ghost use Rattle.reset_service.specs.Stretches.{AreUndisturbed, MakeRun, MakeSoundRun};
@@ -91,6 +92,20 @@ pub fn threads_keep_a_run()
 pub fn threads_are_verified()
     ensures { (topology history line : List ℕ) → IsThreaded topology history (line, Status.Good)
         → (written : List ℕ) × IsVerification topology history (written, Status.Good) }
+{}
+
+/// A verification takes the history of a run of the seeded scheduler that ends well.
+pub fn driven_runs_are_verified()
+    ensures { (steps seed faults : ℕ) (topology history line : List ℕ)
+        → IsDroveText steps seed faults topology history (line, Status.Good)
+        → (written : List ℕ) × IsVerification topology history (written, Status.Good) }
+{}
+
+/// The same topology, number of steps, seed and rate of faults give the same history and the same output.
+pub fn one_driven_run()
+    ensures { (steps seed faults : ℕ) (topology h k : List ℕ) (o p : List ℕ × Status)
+        → IsDroveText steps seed faults topology h o → IsDroveText steps seed faults topology k p
+        → (h ≡ k) × (o ≡ p) }
 {}
 
 /// Between two faults the lines of a script make a run happen: whatever the configuration, lines of which

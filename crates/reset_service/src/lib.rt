@@ -38,9 +38,9 @@ pub use driven::{Drive, drive_text};
 pub use explained::{Explanation, explain};
 pub use input::{READ_LIMIT, read_text};
 pub use laws::{
-    booted_invariants_hold, kept_histories_are_runs, one_joined_output, one_output,
-    one_verification, stretches_are_runs, threads_are_verified, threads_keep_a_run,
-    verified_reports_are_true,
+    booted_invariants_hold, driven_runs_are_verified, kept_histories_are_runs, one_driven_run,
+    one_joined_output, one_output, one_verification, stretches_are_runs, threads_are_verified,
+    threads_keep_a_run, verified_reports_are_true,
 };
 pub use pictured::picture_text;
 pub use replays::{check_text, replay, replay_joined, replay_text};
