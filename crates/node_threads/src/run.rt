@@ -201,7 +201,8 @@ fn crosses<L: Round + Send + Sync, P: Application>(shared: &Shared<L, P>)
     let _ = shared;
 }
 
-// One thread for each seat, all joined. Room for the handles and the seats is made before the first is started.
+// One thread for each seat, all joined. Room for the handles and the seats is made before the first is started, so that
+// no thread is left to end by itself for want of a place for its handle.
 fn in_threads<L: Round + Send + Sync, P: Application, G: Gate + Sync, R: Threads + Wait + Sync>(
     rt: &R,
     alloc: Global,
@@ -213,6 +214,14 @@ fn in_threads<L: Round + Send + Sync, P: Application, G: Gate + Sync, R: Threads
     thread::scope(thread::scope_env(), rt, |scope| -> Joined<L> {
         crosses(shared);
         let mut handles = Vec::new(alloc);
+        let mut back = Vec::new(alloc);
+        if handles.reserve(seats.len()).is_err() || back.reserve(seats.len()).is_err() {
+            return Joined {
+                seats: back,
+                refused: false,
+                hungry: true,
+            };
+        }
         let mut refused = false;
         let mut hungry = false;
         for seat in seats {
@@ -225,7 +234,6 @@ fn in_threads<L: Round + Send + Sync, P: Application, G: Gate + Sync, R: Threads
                 Err(_) => refused = true,
             }
         }
-        let mut back = Vec::new(alloc);
         for handle in handles {
             let (seat, end) = handle.join(rt);
             if end == TurnsEnd::NoMemory || back.push(seat).is_err() {

@@ -32,7 +32,7 @@ Examples:
 
 Exit status:
   0  good, refused commands included
-  1  the subcommand `check` found faults, or `verify` an entry that isn't allowed
+  1  the subcommand `check` found faults, or `verify` or `picture` an entry that isn't allowed
   2  a bad topology, script, history or command line
   3  a file or a standard stream could not be read or written, or a thread could not be started
   4  out of memory";

@@ -241,7 +241,31 @@ that ends so; please report it.\n",
 ];
 
 /// Answers to commands.
-pub const ANSWERS: [Explanation; 12] = [
+pub const ANSWERS: [Explanation; 16] = [
+    Explanation {
+        word: "bad",
+        text: "\
+`bad topology`, `bad script`, `bad history` and `bad line`: the text isn't one that the program
+takes. The word behind it says why: `explain` it. Status 2.\n",
+    },
+    Explanation {
+        word: "node",
+        text: "\
+`node I tree ROOT FATHER DIST wave PHASE SESSION local TEXT`: the registers of node I, and its
+local state.\n",
+    },
+    Explanation {
+        word: "session",
+        text: "\
+The number of a reset. Processes communicate only where theirs are equal; the newest is that of
+the leader.\n",
+    },
+    Explanation {
+        word: "threads",
+        text: "\
+`threads N nodes E entries R reports`: what node threads did, the entries of the history that they
+keep, and the resets that were completed.\n",
+    },
     Explanation {
         word: "applied",
         text: "\

@@ -43,7 +43,7 @@ entry_kind (Disturbed f) = codes "fault"
 unfoldable pub mark_text : List ℕ → ℕ → ℕ → ℕ → List ℕ → List ℕ
 mark_text kind x y place line = concat (codes "<g class='mark " ∷ kind ∷ codes "' transform='translate(" ∷ decimal x
     ∷ codes " " ∷ decimal y ∷ codes ")'><title>" ∷ decimal place ∷ codes ": " ∷ line ∷ codes "</title><use href='#"
-    ∷ kind ∷ codes "'/></g>\n<text class='place' x='36' y='" ∷ decimal y ∷ codes "'>" ∷ decimal place
+    ∷ kind ∷ codes "'/></g>\n<text class='place' x='36' dy='3' y='" ∷ decimal y ∷ codes "'>" ∷ decimal place
     ∷ codes "</text>\n" ∷ [])
 
 -- the mark of the entry at a position, on the lane of its node

@@ -98,7 +98,7 @@ fn put_mark_text<'t, W: Write>(
             Part::Text(line),
             Part::Text(b"</title><use href='#"),
             Part::Text(kind),
-            Part::Text(b"'/></g>\n<text class='place' x='36' y='"),
+            Part::Text(b"'/></g>\n<text class='place' x='36' dy='3' y='"),
             Part::Number(y),
             Part::Text(b"'>"),
             Part::Number(place),
