@@ -105,8 +105,8 @@ one_read_fault text f e a b = go (own_or_lists text f a) (own_or_lists text e b)
         f_is ∙ ap Topology (one_first_fault d'.nodes d'.links x y lists first') ∙ sym e_is
 
 -- no text is both bad and good
-pub bad_or_good : (text : List ℕ) (f : ReadFault) (g : Graph) (app : AppName) → IsReadFault text f → Describes text g app
-    → ⊥
+pub bad_or_good : (text : List ℕ) (f : ReadFault) (g : Graph) (app : AppName) → IsReadFault text f
+    → Describes text g app → ⊥
 bad_or_good text f g app bad (d, is, sound, app_is) = go (own_or_lists text f bad)
   where
     go : (description_of text ≡ Err f) ⊎ OfLists text f → ⊥
@@ -115,8 +115,8 @@ bad_or_good text f g app bad (d, is, sound, app_is) = go (own_or_lists text f ba
         let same : d' ≡ d = ok_once (description_of text) d' d is' is in
         sound.sound x (subst (λ (l : Description). IsFirstFault l.nodes l.links x) same first).fault
 
-pub one_description : (text : List ℕ) (g h : Graph) (app other : AppName) → Describes text g app → Describes text h other
-    → (g ≡ h) × (app ≡ other)
+pub one_description : (text : List ℕ) (g h : Graph) (app other : AppName) → Describes text g app
+    → Describes text h other → (g ≡ h) × (app ≡ other)
 one_description text g h app other (d, is, of_g, app_is) (d', is', of_h, other_is) =
     let same : d ≡ d' = ok_once (description_of text) d d' is is' in (
       one_graph d'.nodes d'.links g h (subst (λ (l : Description). IsGraphOf l.nodes l.links g) same of_g.exact)

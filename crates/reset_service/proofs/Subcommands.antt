@@ -6,7 +6,8 @@ use Rattle.std.specs.List.{fold, slice_index_or}
 use Rattle.std.specs.Option.{option_map_or}
 use Rattle.std.specs.Str.{bytes_eq}
 use Rattle.std.specs.Str.Parse.{digits_value, without_leading_plus}
-use Rattle.std.specs.Prelude.{⊤, ◌⊎◌, IfSome, IsSome, IsSomeAnd, find, is_some, option_and_then, option_map, pos, slice_get, unwrap_or}
+use Rattle.std.specs.Prelude.{⊤, ◌⊎◌, IfSome, IsSome, IsSomeAnd, find, is_some, option_and_then, option_map}
+use Rattle.std.specs.Prelude.{pos, slice_get, unwrap_or}
 use Rattle.std.proofs.lemmas.Slice.Eq.{bytes_eq-Decides}
 use Rattle.clap.specs.Lexer.{long_of, short_of}
 use Rattle.clap.specs.Words.{App, Kinds, Row, Rule, Shape, Text, built, fault_of, first_of, is_simple}
@@ -551,8 +552,10 @@ job_at (Some p) no_help e =
     (λ f. inr (inl (inr refl, has_histories (codes "picture") p.1 f)))
     (asks-met p.1 (answers_to p.0 (label_of the_threads)) the_threads _ (λ f. inr (inr (inl (refl, has_threads p.1 f))))
     (asks-met p.1 (answers_to p.0 (label_of the_drive)) the_drive _ (λ f. inr (inr (inr (inl (refl, has_drive p.1 f)))))
-    (asks-met p.1 (answers_to p.0 (label_of the_topology)) the_topology _ (λ f. inr (inr (inr (inr (inl (refl, has_shape p.1 f))))))
-    (asks-met p.1 (answers_to p.0 (label_of the_explain)) the_explain _ (λ f. inr (inr (inr (inr (inr (inl (refl, has_word p.1 f)))))))
+    (asks-met p.1 (answers_to p.0 (label_of the_topology)) the_topology _
+    (λ f. inr (inr (inr (inr (inl (refl, has_shape p.1 f))))))
+    (asks-met p.1 (answers_to p.0 (label_of the_explain)) the_explain _
+    (λ f. inr (inr (inr (inr (inr (inl (refl, has_word p.1 f)))))))
     (asks-met p.1 (answers_to p.0 (label_of the_tables)) the_tables _ (λ f. inr (inr (inr (inr (inr (inr refl))))))
     (no_help_met p no_help (answers_to p.0 (label_of the_help)) refl))))))))) e
 

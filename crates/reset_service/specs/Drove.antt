@@ -28,8 +28,8 @@ abbrev pub new_book : {L : Type 0} → Configuration L → BookView L
 new_book c = record { opening = c; entries = []; config = c; limit = 1000000 }
 
 -- what a scheduler does from a configuration on in so many steps, drawn by the seed, of which in so many of a thousand
--- cases one is a fault: its entries are those of the book that it drives, they are allowed where they stand, the history
--- is their text and is read as them, and the line counts them and their reports
+-- cases one is a fault: its entries are those of the book that it drives, they are allowed where they stand, the
+-- history is their text and is read as them, and the line counts them and their reports
 pub record IsDrove {L : Type 0} (m : Meaning L) (c : Configuration L) (steps seed faults : ℕ) (history : List ℕ)
     (output : List ℕ × Status) : Type 0 where
   pub entries : List Entry

@@ -39,8 +39,8 @@ pub data IsDrawing {L : Type 0} (m : Meaning L) (c : Configuration L) (es : List
       → output ≡ (not_enabled_text position, NotEnabled) → IsDrawing m c es output
   allowed : IsSome (replayed m.app m.from_text c es) → output ≡ drawing m c es → IsDrawing m c es output
 
--- what the text of a history that opens so is drawn as, and the status: the number of nodes is judged first, and then the
--- text
+-- what the text of a history that opens so is drawn as, and the status: the number of nodes is judged first, and then
+-- the text
 pub data IsPicture {L : Type 0} (m : Meaning L) (c : Configuration L) (history : List ℕ) (output : List ℕ × Status) :
     Type 0 where
   too_many_lanes : 64 < length c.graph.ids → output ≡ (too_many_lanes_text, BadInput) → IsPicture m c history output

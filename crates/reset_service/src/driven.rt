@@ -33,8 +33,8 @@ pub struct Drive {
 /// Drives the network of a topology text by a seeded scheduler, from its booted configuration on. Writes the history of
 /// what it did to one writer, and then to the other how many entries and reports the history has.
 ///
-/// The same words give the same history. A verification takes it (`driven_runs_are_verified`). Nothing is written before
-/// the last step. A history has at most a million entries.
+/// The same words give the same history (`one_driven_run`). A verification takes it (`driven_runs_are_verified`).
+/// Nothing is written before the last step. A history has at most a million entries.
 pub fn drive_text<H: Write, W: Write>(
     alloc: Global,
     topology: &[u8],

@@ -30,7 +30,8 @@ pub fn write_shape<W: Write>(
     requires some { 1 ≤ nodes }
     requires few { nodes ≤ 1024 }
     ensures leaves { Leaves
-        (λ output. output ≡ shaped (shape_named shape.now) (app_or_idle (option_map (λ name. name.now) app.entry)) nodes seed)
+        (λ output. output
+        ≡ shaped (shape_named shape.now) (app_or_idle (option_map (λ name. name.now) app.entry)) nodes seed)
         (W.contents out.old) (W.contents out.new) result }
     ensures stop { IfErr result IsOutputStop }
 {

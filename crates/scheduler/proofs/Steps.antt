@@ -34,7 +34,8 @@ module _ {L : Type 0} (from_text : List ℕ → Option L) (b : BookView L) (g : 
       ap₂ (λ (l : BookView L) (a : Lcg). (l, a)) (done ∙ ap (after_fault from_text b) drawn) next
 
 pub event_found : {L : Type 0} (app : App L) (c now : Configuration L) (for_node for_event : ℕ)
-    (ids ready from : List ℕ) (node : ℕ) (events : List Event) (drawn : Option Event) → now ≡ c → ids ≡ now.graph.ids → ready ≡ ready_of app c
+    (ids ready from : List ℕ) (node : ℕ) (events : List Event) (drawn : Option Event) → now ≡ c → ids ≡ now.graph.ids
+    → ready ≡ ready_of app c
     → from ≡ or_all ids ready → node ≡ drawn_node from for_node → events ≡ enabled_events app now node
     → drawn ≡ drawn_event events for_event → drawn ≡ drawn_by app c for_node for_event
 unfolding drawn_by

@@ -107,7 +107,8 @@ module _ {L : Type 0} (app : App L) (from_text : List ℕ → Option L) (lane : 
         | None ↦ refl
         | Some after ↦
             ap (λ v. seen i (row_y q) v (bands_from app from_text lane count after (p + 1) es))
-            (lower_band i (row_y q) (band lane count p (entry_node e) (wave_of after (entry_node e))) w (not_yet p q below))
+            (lower_band i (row_y q) (band lane count p (entry_node e) (wave_of after (entry_node e))) w
+            (not_yet p q below))
             ∙ later_unseen es after (p + 1) q w (omega arith)
       ]
 
@@ -159,7 +160,8 @@ module _ {L : Type 0} (app : App L) (from_text : List ℕ → Option L) (lane : 
         by_entry : ((after : Configuration L) → IsGraph after.graph → IsConnected after.graph → IsShaped after
             → IsNode after.graph i → replayed app from_text after (take k es) ≡ Some here
             → seen i (row_y ((p + 1) + k)) (wave_of after i)
-            (bands_from app from_text lane count after (p + 1 + 1) es) ≡ wave_of here i) → (o : Option (Configuration L)) → entered app from_text c e ≡ o
+            (bands_from app from_text lane count after (p + 1 + 1) es) ≡ wave_of here i)
+            → (o : Option (Configuration L)) → entered app from_text c e ≡ o
             → option_and_then (λ after. replayed app from_text after (take k es)) o ≡ Some here
             → seen i (row_y (p + suc k)) (wave_of c i)
             (option_map_or (λ after. band lane count (p + 1) (entry_node e) (wave_of after (entry_node e))
@@ -172,7 +174,8 @@ module _ {L : Type 0} (app : App L) (from_text : List ℕ → Option L) (lane : 
             let row : p + suc k ≡ (p + 1) + k = omega arith in
             ap (λ v. seen i (row_y (p + suc k)) v (bands_from app from_text lane count after (p + 1 + 1) es))
             (one_more c after (entry_node e) (p + 1) (p + suc k) keeps node (omega arith) within)
-            ∙ ap (λ n. seen i (row_y n) (wave_of after i) (bands_from app from_text lane count after (p + 1 + 1) es)) row
+            ∙ ap (λ n. seen i (row_y n) (wave_of after i) (bands_from app from_text lane count after (p + 1 + 1) es))
+            row
             ∙ later after network.0 network.1 network.2 there is
 
 -- what is seen of a node in the row of a position, whatever was seen there before the bands were painted

@@ -41,4 +41,5 @@ returns-clause-local c =
     c.in_ok-arg-3.ensures.globals ∙ ap₂ (λ x y. x || y) two c.seed_word.ensures.local in
     let four : (fields_of c.in_ok-arg-4.field-0).has_globals ≡ false =
     c.in_ok-arg-4.ensures.globals ∙ ap₂ (λ x y. x || y) three c.history_word.ensures.local in
-    IfOk-weaker c.arg-5.result _ _ (λ r h. h.globals ∙ ap₂ (λ x y. x || y) four c.faults_word.ensures.local) c.arg-5.ensures
+    IfOk-weaker c.arg-5.result _ _ (λ r h. h.globals ∙ ap₂ (λ x y. x || y) four c.faults_word.ensures.local)
+    c.arg-5.ensures

@@ -31,4 +31,5 @@ returns-clause-local c =
     c.in_ok-arg-2.ensures.globals ∙ ap₂ (λ x y. x || y) one c.nodes_word.ensures.local in
     let three : (fields_of c.in_ok-arg-3.field-0).has_globals ≡ false =
     c.in_ok-arg-3.ensures.globals ∙ ap₂ (λ x y. x || y) two c.seed_word.ensures.local in
-    IfOk-weaker c.arg-4.result _ _ (λ r h. h.globals ∙ ap₂ (λ x y. x || y) three c.app_word.ensures.local) c.arg-4.ensures
+    IfOk-weaker c.arg-4.result _ _ (λ r h. h.globals ∙ ap₂ (λ x y. x || y) three c.app_word.ensures.local)
+    c.arg-4.ensures

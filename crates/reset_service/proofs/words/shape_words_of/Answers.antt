@@ -37,8 +37,8 @@ returns-clause-seed c =
     (sym c.unwrap_or.ensures)
     (number_or _
     (λ bs r. ParsesUnsigned 32 10 bs r × ExplainsUnsignedError 10 bs r × HasUnsignedDigitsIfOk bs r) (λ t x g. g.0)
-    (codes "seed") 0 4294967295 (omega arith) (found_of c.args.values.now) c.get_one-2.result c.get_one-2.ensures.value 0
-    c.get_one-2.ensures.none c.requires.2)
+    (codes "seed") 0 4294967295 (omega arith) (found_of c.args.values.now) c.get_one-2.result
+    c.get_one-2.ensures.value 0 c.get_one-2.ensures.none c.requires.2)
 
 pub returns-clause-app : goal.returns-clause-app
 returns-clause-app c =

@@ -23,7 +23,8 @@ pub invariant_of-result : goal.invariant_of-result
 invariant_of-result c =
     record {
       few = (number_is _
-          (λ bs r. ParsesUnsigned 32 10 bs r × ExplainsUnsignedError 10 bs r × HasUnsignedDigitsIfOk bs r) (λ t x g. g.0)
+          (λ bs r. ParsesUnsigned 32 10 bs r × ExplainsUnsignedError 10 bs r × HasUnsignedDigitsIfOk bs r)
+          (λ t x g. g.0)
           (codes "turns") 1 100000 (omega arith) (found_of c.args.values.now) c.get_one.result
           c.get_one.ensures.value c.unwrap.result c.unwrap.ensures c.requires.1).2;
     }
