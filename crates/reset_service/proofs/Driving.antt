@@ -10,17 +10,17 @@ use Rattle.reset_model.proofs.OneBoot.{one_boot}
 use Rattle.history.specs.HistoryText.{history_text}
 use Rattle.history.specs.Reports.{reports_of}
 use Rattle.reset_service.specs.Drove.{IsDrove, IsDroveFrom, IsDroveOf, IsDroveText, drove_line}
-use Rattle.reset_service.specs.Meaning.{Meaning, idle_meaning, token_meaning, mutex_meaning, routes_meaning}
-use Rattle.reset_service.specs.Output.{Describes, IsJudged, bad_topology_text}
-use Rattle.reset_service.specs.Output.IsJudged.{bad_topology, good_topology}
+use Rattle.script_replay.specs.Meaning.{Meaning, idle_meaning, token_meaning, mutex_meaning, routes_meaning}
+use Rattle.script_replay.specs.Output.{Describes, IsJudged, bad_topology_text}
+use Rattle.script_replay.specs.Output.IsJudged.{bad_topology, good_topology}
 use Rattle.reset_service.specs.Threaded.{told_history, told_output}
 use Rattle.reset_service.specs.Verified.{IsVerification, IsVerifiedFrom, IsVerifiedOf, verified_text}
 use Rattle.reset_service.specs.Verified.IsVerified.{allowed}
-use Rattle.reset_service.specs.declared.status.RunStop.{RunStop}
-use Rattle.reset_service.specs.declared.status.Status.{Status}
-use Rattle.reset_service.specs.declared.status.Status.TheVariants.{BadInput, Good}
+use Rattle.script_replay.specs.declared.status.RunStop.{RunStop}
+use Rattle.script_replay.specs.declared.status.Status.{Status}
+use Rattle.script_replay.specs.declared.status.Status.TheVariants.{BadInput, Good}
 use Rattle.reset_service.specs.declared.told.Told.{Told}
-use Rattle.reset_service.proofs.OneOutput.{bad_or_good, one_description, one_read_fault}
+use Rattle.script_replay.proofs.OneOutput.{bad_or_good, one_description, one_read_fault}
 
 abbrev Output : Type 0
 Output = List ℕ × Status

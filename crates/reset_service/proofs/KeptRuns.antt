@@ -25,16 +25,16 @@ use Rattle.history.specs.Stretches.{IsIn, IsReport, IsSoundStretch, IsStretch, I
 use Rattle.history.specs.declared.entry.Entry.{Entry}
 use Rattle.history.specs.declared.entry.Entry.TheVariants.{Step}
 use Rattle.history.specs.declared.entry.Report.{Report}
-use Rattle.reset_service.specs.Meaning.{Meaning, idle_meaning, token_meaning, mutex_meaning, routes_meaning}
-use Rattle.reset_service.specs.Output.{Describes, IsJudged}
-use Rattle.reset_service.specs.Output.IsJudged.{bad_topology, good_topology}
+use Rattle.script_replay.specs.Meaning.{Meaning, idle_meaning, token_meaning, mutex_meaning, routes_meaning}
+use Rattle.script_replay.specs.Output.{Describes, IsJudged}
+use Rattle.script_replay.specs.Output.IsJudged.{bad_topology, good_topology}
 use Rattle.reset_service.specs.Threaded.{IsKept, IsKeptFrom, IsKeptOf, IsThreaded, TellsRun, TellsRunOf}
 use Rattle.reset_service.specs.Threaded.{threads_line, whole}
 use Rattle.reset_service.specs.Threaded.IsKept.{too_many, kept}
 use Rattle.reset_service.specs.Verified.{IsVerification, IsVerifiedFrom, IsVerifiedOf, verified_text}
 use Rattle.reset_service.specs.Verified.IsVerified.{allowed}
-use Rattle.reset_service.specs.declared.status.Status.{Status}
-use Rattle.reset_service.specs.declared.status.Status.TheVariants.{BadInput, Good}
+use Rattle.script_replay.specs.declared.status.Status.{Status}
+use Rattle.script_replay.specs.declared.status.Status.TheVariants.{BadInput, Good}
 use Rattle.reset_service.proofs.ConnectedTopologies.{topology_connected}
 use Rattle.reset_service.proofs.VerifiedReports.{has_graph, is_connected, is_shaped, is_sound}
 

@@ -25,18 +25,18 @@ use Rattle.history.specs.declared.text.BookFault.{BookFault}
 use Rattle.node_threads.specs.Locked.{is_step}
 use Rattle.node_threads.specs.declared.run.RunCause.{RunCause}
 use Rattle.node_threads.specs.declared.run.RunCause.TheVariants.{TooManyForThreads}
-use Rattle.reset_service.specs.Meaning.{Meaning}
-use Rattle.reset_service.specs.Output.{Describes, bad_topology_text}
-use Rattle.reset_service.specs.Output.IsJudged.{bad_topology, good_topology}
-use Rattle.reset_service.specs.Stops.{IsRunStop}
+use Rattle.script_replay.specs.Meaning.{Meaning}
+use Rattle.script_replay.specs.Output.{Describes, bad_topology_text}
+use Rattle.script_replay.specs.Output.IsJudged.{bad_topology, good_topology}
+use Rattle.script_replay.specs.Stops.{IsRunStop}
 use Rattle.reset_service.specs.Threaded.{IsKept, IsKeptFrom, IsKeptOf, IsThreaded, LeavesBoth, threads_line}
 use Rattle.reset_service.specs.Threaded.{told_history, told_output, too_many_text}
 use Rattle.reset_service.specs.Threaded.IsKept.{too_many, kept}
-use Rattle.reset_service.specs.declared.status.RunStop.{RunStop}
-use Rattle.reset_service.specs.declared.status.RunStop.TheVariants.{ReadFailed, WriteFailed, NoMemory}
-use Rattle.reset_service.specs.declared.status.RunStop.TheVariants.{ThreadFailed, NotClosed}
-use Rattle.reset_service.specs.declared.status.Status.{Status}
-use Rattle.reset_service.specs.declared.status.Status.TheVariants.{BadInput, Good}
+use Rattle.script_replay.specs.declared.status.RunStop.{RunStop}
+use Rattle.script_replay.specs.declared.status.RunStop.TheVariants.{ReadFailed, WriteFailed, NoMemory}
+use Rattle.script_replay.specs.declared.status.RunStop.TheVariants.{ThreadFailed, NotClosed}
+use Rattle.script_replay.specs.declared.status.Status.{Status}
+use Rattle.script_replay.specs.declared.status.Status.TheVariants.{BadInput, Good}
 use Rattle.reset_service.specs.declared.told.Told.{Told}
 use Rattle.reset_service.specs.declared.told.Told.TheVariants.{BadTopology, TooManyNodes, Kept}
 

@@ -11,14 +11,14 @@ use Rattle.reset_model.proofs.SoundConfigurations.{boot_tree_picture, boot_wave_
 use Rattle.history.specs.Reports.{reports_of}
 use Rattle.history.specs.Stretches.{IsIn, IsStretch, IsTrueReport, Stretch}
 use Rattle.history.specs.declared.entry.Entry.{Entry}
-use Rattle.reset_service.specs.Meaning.{Meaning, idle_meaning, token_meaning, mutex_meaning, routes_meaning}
-use Rattle.reset_service.specs.Output.{Describes}
-use Rattle.reset_service.specs.Output.IsJudged.{bad_topology, good_topology}
+use Rattle.script_replay.specs.Meaning.{Meaning, idle_meaning, token_meaning, mutex_meaning, routes_meaning}
+use Rattle.script_replay.specs.Output.{Describes}
+use Rattle.script_replay.specs.Output.IsJudged.{bad_topology, good_topology}
 use Rattle.reset_service.specs.Verified.{IsVerification, IsVerified, IsVerifiedFrom, IsVerifiedOf}
 use Rattle.reset_service.specs.Verified.{TellsTrueReports, TellsTrueReportsOf}
 use Rattle.reset_service.specs.Verified.IsVerified.{allowed, bad_history, not_enabled}
-use Rattle.reset_service.specs.declared.status.Status.{Status}
-use Rattle.reset_service.specs.declared.status.Status.TheVariants.{BadInput, Good, NotEnabled}
+use Rattle.script_replay.specs.declared.status.Status.{Status}
+use Rattle.script_replay.specs.declared.status.Status.TheVariants.{BadInput, Good, NotEnabled}
 use Rattle.reset_service.proofs.ConnectedTopologies.{topology_connected}
 
 abbrev Output : Type 0

@@ -21,16 +21,16 @@ use Rattle.history.specs.declared.text.BookFault.TheVariants.{BadLine, BadVersio
 use Rattle.history.specs.declared.text.BookFault.TheVariants as book
 use Rattle.history.specs.declared.verification.ReaderFault.{ReaderFault}
 use Rattle.history.specs.declared.verification.ReaderFault.TheVariants.{Entries, Text}
-use Rattle.reset_service.specs.Meaning.{Meaning, idle_meaning, token_meaning, mutex_meaning, routes_meaning}
-use Rattle.reset_service.specs.Output.{Leaves}
+use Rattle.script_replay.specs.Meaning.{Meaning, idle_meaning, token_meaning, mutex_meaning, routes_meaning}
+use Rattle.script_replay.specs.Output.{Leaves}
 use Rattle.reset_service.specs.Verified.{IsVerification, IsVerified, IsVerifiedFrom, IsVerifiedOf}
 use Rattle.reset_service.specs.Verified.{bad_history_text, not_enabled_text, verified_text}
 use Rattle.reset_service.specs.Verified.IsVerified.{allowed, bad_history, not_enabled}
-use Rattle.reset_service.specs.declared.status.Status.{Status}
-use Rattle.reset_service.specs.declared.status.Status.TheVariants.{BadInput, Good, NotEnabled}
-use Rattle.reset_service.specs.declared.status.RunStop.{RunStop}
-use Rattle.reset_service.proofs.Runs.{leaves_weaker}
-use Rattle.reset_service.proofs.OneOutput.{one_judged}
+use Rattle.script_replay.specs.declared.status.Status.{Status}
+use Rattle.script_replay.specs.declared.status.Status.TheVariants.{BadInput, Good, NotEnabled}
+use Rattle.script_replay.specs.declared.status.RunStop.{RunStop}
+use Rattle.script_replay.proofs.Runs.{leaves_weaker}
+use Rattle.script_replay.proofs.OneOutput.{one_judged}
 
 abbrev Output : Type 0
 Output = List ℕ × Status

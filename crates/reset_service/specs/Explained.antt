@@ -2,8 +2,8 @@
 use Rattle.std.specs.Prelude.{ℕ, List, Option, Some, None, codes}
 use Rattle.history.specs.HistoryText.{ended}
 use Rattle.reset_service.specs.declared.explained.Explanation.{Explanation}
-use Rattle.reset_service.specs.declared.status.Status.{Status}
-use Rattle.reset_service.specs.declared.status.Status.TheVariants.{Good, BadInput}
+use Rattle.script_replay.specs.declared.status.Status.{Status}
+use Rattle.script_replay.specs.declared.status.Status.TheVariants.{Good, BadInput}
 
 -- the text and the status of an explanation, if there is one
 abbrev pub explanation_output : Option Explanation → List ℕ × Status

@@ -1,17 +1,7 @@
-pub mod Meaning
-pub mod Script
-pub mod Output
 pub mod Verified
 pub mod Drove
 pub mod Threaded
-pub mod Parts
-pub mod Lines
-pub mod Words
 pub mod Pictured
 pub mod Shaped
 pub mod Explained
 pub mod Tables
-pub mod Buffering
-pub mod StopText
-pub mod Stops
-pub mod Stretches

@@ -12,11 +12,11 @@ use Rattle.history.specs.Reports.{reports_of}
 use Rattle.history.specs.declared.entry.Entry.{Entry}
 use Rattle.history.specs.declared.text.BookFault.{BookFault}
 use Rattle.space_time_diagram.specs.Diagram.{diagram_text}
-use Rattle.reset_service.specs.Meaning.{Meaning, idle_meaning, token_meaning, mutex_meaning, routes_meaning}
-use Rattle.reset_service.specs.Output.{IsJudged}
+use Rattle.script_replay.specs.Meaning.{Meaning, idle_meaning, token_meaning, mutex_meaning, routes_meaning}
+use Rattle.script_replay.specs.Output.{IsJudged}
 use Rattle.reset_service.specs.Verified.{bad_history_text, not_enabled_text}
-use Rattle.reset_service.specs.declared.status.Status.{Status}
-use Rattle.reset_service.specs.declared.status.Status.TheVariants.{Good, NotEnabled, BadInput}
+use Rattle.script_replay.specs.declared.status.Status.{Status}
+use Rattle.script_replay.specs.declared.status.Status.TheVariants.{Good, NotEnabled, BadInput}
 
 -- the line of a topology that has more nodes than a picture has lanes
 abbrev pub too_many_lanes_text : List ℕ

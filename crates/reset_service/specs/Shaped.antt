@@ -10,9 +10,9 @@ use Rattle.network_shapes.specs.TopologyTable.{description_text}
 use Rattle.network_shapes.specs.declared.shape.Shape.{Shape}
 use Rattle.network_shapes.specs.declared.shape.Shape.TheVariants.{Ring, Path, Star, Grid, Tree, Random}
 use Rattle.history.specs.HistoryText.{ended}
-use Rattle.reset_service.specs.Output.{bad_topology_text}
-use Rattle.reset_service.specs.declared.status.Status.{Status}
-use Rattle.reset_service.specs.declared.status.Status.TheVariants.{Good, BadInput}
+use Rattle.script_replay.specs.Output.{bad_topology_text}
+use Rattle.script_replay.specs.declared.status.Status.{Status}
+use Rattle.script_replay.specs.declared.status.Status.TheVariants.{Good, BadInput}
 
 -- the shape of this name
 unfoldable pub shape_named : List ℕ → Option Shape

@@ -20,12 +20,12 @@ use Rattle.history.specs.HistoryText.{IsReadAs, ended}
 use Rattle.history.specs.Reports.{reports_of}
 use Rattle.history.specs.Stretches.{IsSoundStretch, IsStretch, IsTrueReport, Stretch, steps}
 use Rattle.reset_service.specs.Drove.{drove_line}
-use Rattle.reset_service.specs.Meaning.{Meaning, idle_meaning, token_meaning, mutex_meaning, routes_meaning}
-use Rattle.reset_service.specs.Output.{IsJudged, bad_topology_text}
-use Rattle.reset_service.specs.declared.status.RunStop.{RunStop}
-use Rattle.reset_service.specs.declared.status.RunStop.TheVariants as stop
-use Rattle.reset_service.specs.declared.status.Status.{Status}
-use Rattle.reset_service.specs.declared.status.Status.TheVariants.{Good, BadInput}
+use Rattle.script_replay.specs.Meaning.{Meaning, idle_meaning, token_meaning, mutex_meaning, routes_meaning}
+use Rattle.script_replay.specs.Output.{IsJudged, bad_topology_text}
+use Rattle.script_replay.specs.declared.status.RunStop.{RunStop}
+use Rattle.script_replay.specs.declared.status.RunStop.TheVariants as stop
+use Rattle.script_replay.specs.declared.status.Status.{Status}
+use Rattle.script_replay.specs.declared.status.Status.TheVariants.{Good, BadInput}
 use Rattle.reset_service.specs.declared.told.Told.{Told}
 use Rattle.reset_service.specs.declared.told.Told.TheVariants.{BadTopology, TooManyNodes, Kept, Driven}
 

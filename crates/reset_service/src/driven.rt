@@ -2,11 +2,10 @@
 
 ghost use Rattle.std.specs.Prelude.{◌≡◌, ◌≤◌, [], IfErr, IfOk};
 ghost use Rattle.reset_service.specs.Drove.{IsDrove, IsDroveFrom, IsDroveOf, IsDroveText};
-ghost use Rattle.reset_service.specs.Meaning.{meaning_of};
-ghost use Rattle.reset_service.specs.Stops.{IsRunStop};
+ghost use Rattle.script_replay.specs.Meaning.{meaning_of};
+ghost use Rattle.script_replay.specs.Stops.{IsRunStop};
 ghost use Rattle.reset_service.specs.Threaded.{LeavesBoth, told_history, told_output};
 
-use crate::status::{RunStop, Status};
 use crate::told::{Driven, Told, put_history, put_told, status_of, text_of};
 use app_interface::{Application, Idle};
 use app_mutex::EdgeReversal;
@@ -15,6 +14,7 @@ use app_token::Token;
 use history::{Book, MAX_ENTRIES};
 use reset_machine::Config;
 use scheduler::drive;
+use script_replay::{RunStop, Status};
 use std::alloc::{AllocError, Global};
 use std::io::Write;
 use topology::{AppName, ReadFault, Topology, read_topology};

@@ -3,14 +3,14 @@
 ghost use Rattle.std.specs.Prelude.{◌≡◌, IfErr, find, option_map};
 ghost use Rattle.std.specs.Str.{bytes_eq};
 ghost use Rattle.reset_service.specs.Explained.{explanation_output};
-ghost use Rattle.reset_service.specs.Output.{Leaves};
-ghost use Rattle.reset_service.specs.Stops.{IsOutputStop};
+ghost use Rattle.script_replay.specs.Output.{Leaves};
+ghost use Rattle.script_replay.specs.Stops.{IsOutputStop};
 
 use crate::explanations::{
     ANSWERS, APPLICATIONS, COMMANDS, REFUSALS, REGISTERS, TEXT_FAULTS, TOPOLOGY_FAULTS,
 };
-use crate::status::{RunStop, Status};
 use action_tables::put_bytes;
+use script_replay::{RunStop, Status};
 use std::io::Write;
 
 /// What a word means.

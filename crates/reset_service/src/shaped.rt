@@ -5,14 +5,13 @@ ghost use Rattle.topology.specs.TopologyText.{app_named};
 ghost use Rattle.network_shapes.specs.Shapes.{shape_description};
 ghost use Rattle.network_shapes.specs.TopologyTable.{description_text};
 ghost use Rattle.history.specs.HistoryText.{ended};
-ghost use Rattle.reset_service.specs.Output.{bad_topology_text, Leaves};
+ghost use Rattle.script_replay.specs.Output.{bad_topology_text, Leaves};
 ghost use Rattle.reset_service.specs.Shaped.{app_or_idle, shape_named, shaped};
-ghost use Rattle.reset_service.specs.Stops.{IsOutputStop};
+ghost use Rattle.script_replay.specs.Stops.{IsOutputStop};
 
-use crate::answer::put_topology_fault;
-use crate::status::{RunStop, Status};
 use action_tables::put_bytes;
 use network_shapes::{Shape, shape_text};
+use script_replay::{RunStop, Status, put_topology_fault};
 use std::alloc::Global;
 use std::io::Write;
 use topology::{AppName, ReadFault};

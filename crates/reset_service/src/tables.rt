@@ -4,12 +4,12 @@ ghost use Rattle.std.specs.Prelude.{◌≡◌, ◌≢◌, IfErr, OnOk, OnErr};
 ghost use Rattle.std.specs.Io.KnownBytes.{Appends};
 ghost use Rattle.std.specs.List.{flat_map};
 ghost use Rattle.action_tables.specs.Written.{AppendsPrefix};
-ghost use Rattle.reset_service.specs.Output.{Leaves};
+ghost use Rattle.script_replay.specs.Output.{Leaves};
 ghost use Rattle.reset_service.specs.Tables.{Standpoint, tables_text, titled_rows_text};
-ghost use Rattle.reset_service.specs.declared.status.Status.TheVariants.{Good};
+ghost use Rattle.script_replay.specs.declared.status.Status.TheVariants.{Good};
 
-use crate::status::{RunStop, Status};
 use action_tables::{CaseRow, WriteFault, print_rows};
+use script_replay::{RunStop, Status};
 use std::io::Write;
 use tree_layer::tree_rows;
 use wave_layer::wave_rows;

@@ -3,12 +3,11 @@
 ghost use Rattle.std.specs.Prelude.{◌≡◌, ◌≤◌, [], length, IfErr, IfOk, IsTrue};
 ghost use Rattle.std.specs.List.{list_all};
 ghost use Rattle.node_threads.specs.Locked.{is_step};
-ghost use Rattle.reset_service.specs.Meaning.{meaning_of};
+ghost use Rattle.script_replay.specs.Meaning.{meaning_of};
 ghost use Rattle.reset_service.specs.Threaded.{IsKept, IsKeptFrom, IsKeptOf, IsThreaded};
 ghost use Rattle.reset_service.specs.Threaded.{LeavesBoth, told_history, told_output};
-ghost use Rattle.reset_service.specs.Stops.{IsRunStop};
+ghost use Rattle.script_replay.specs.Stops.{IsRunStop};
 
-use crate::status::{RunStop, Status};
 use crate::told::{Kept, Told, put_history, put_told, status_of, text_of};
 use app_interface::{Application, Idle};
 use app_mutex::EdgeReversal;
@@ -19,6 +18,7 @@ use history::{
 };
 use node_threads::{Gate, RunCause, run_nodes};
 use reset_machine::Config;
+use script_replay::{RunStop, Status};
 use std::alloc::Global;
 use std::io::Write;
 use std::sync::Wait;

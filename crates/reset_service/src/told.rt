@@ -5,14 +5,13 @@ ghost use Rattle.std.specs.Io.KnownBytes.{Appends};
 ghost use Rattle.action_tables.specs.Written.{AppendsPrefix};
 ghost use Rattle.history.specs.HistoryText.{IsReadAs, history_text};
 ghost use Rattle.reset_service.specs.Drove.{drove_line};
-ghost use Rattle.reset_service.specs.Stops.{IsRunStop};
+ghost use Rattle.script_replay.specs.Stops.{IsRunStop};
 ghost use Rattle.reset_service.specs.Threaded.{threads_line, told_history, told_output};
 
-use crate::answer::put_topology_fault;
-use crate::status::{RunStop, Status};
 use action_tables::{Part, WriteFault, put_bytes, put_parts};
 use app_interface::Application;
 use history::{Book, books_read_back, write_book};
+use script_replay::{RunStop, Status, put_topology_fault};
 use std::alloc::Global;
 use std::io::Write;
 use topology::ReadFault;

@@ -1,10 +1,10 @@
 -- The status that the process exits with.
 use Rattle.std.specs.Prelude.{ℕ, Result, Ok, Err}
-use Rattle.reset_service.specs.declared.status.Status.{Status}
-use Rattle.reset_service.specs.declared.status.Status.TheVariants.{Good, FaultsFound, NotEnabled, BadInput}
-use Rattle.reset_service.specs.declared.status.RunStop.{RunStop}
-use Rattle.reset_service.specs.declared.status.RunStop.TheVariants.{ReadFailed, WriteFailed, NoMemory}
-use Rattle.reset_service.specs.declared.status.RunStop.TheVariants.{ThreadFailed, NotClosed}
+use Rattle.script_replay.specs.declared.status.Status.{Status}
+use Rattle.script_replay.specs.declared.status.Status.TheVariants.{Good, FaultsFound, NotEnabled, BadInput}
+use Rattle.script_replay.specs.declared.status.RunStop.{RunStop}
+use Rattle.script_replay.specs.declared.status.RunStop.TheVariants.{ReadFailed, WriteFailed, NoMemory}
+use Rattle.script_replay.specs.declared.status.RunStop.TheVariants.{ThreadFailed, NotClosed}
 
 abbrev pub status_of : Result Status RunStop → ℕ
 status_of (Ok Good) = 0

@@ -1,8 +1,8 @@
 // Opening, reading and creating the files that the command line names.
 
 ghost use Rattle.std.specs.Prelude.{IfErr, IfOk};
-ghost use Rattle.reset_service.specs.Lines.{IsReadFrom};
-ghost use Rattle.reset_service.specs.Stops.{IsInputStop, IsOutputStop};
+ghost use Rattle.script_replay.specs.Lines.{IsReadFrom};
+ghost use Rattle.script_replay.specs.Stops.{IsInputStop, IsOutputStop};
 
 use reset_service::{RunStop, read_text};
 use std::rt::Files;

@@ -1,10 +1,10 @@
 use Rattle.std.proofs.Common.{◌≡◌, ◌∙◌, ap, sym, arith}
 use Rattle.space_time_diagram.specs.Diagram.{diagram_text}
-use Rattle.reset_service.specs.Meaning.{meaning_of}
+use Rattle.script_replay.specs.Meaning.{meaning_of}
 use Rattle.reset_service.specs.Pictured.{drawing}
-use Rattle.reset_service.specs.declared.status.Status.TheVariants.{Good}
+use Rattle.script_replay.specs.declared.status.Status.TheVariants.{Good}
 use Rattle.reset_service.proofs.Picturing.{drawing_few}
-use Rattle.reset_service.proofs.Runs.{leaves_weaker}
+use Rattle.script_replay.proofs.Runs.{leaves_weaker}
 use Rattle.reset_service.proofs.pictured.draw.Goals as goal
 
 pub returns-else-entries-gt-MAX_MARKS-clause-leaves : goal.returns-else-entries-gt-MAX_MARKS-clause-leaves

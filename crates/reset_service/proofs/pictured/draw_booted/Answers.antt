@@ -1,4 +1,4 @@
-use Rattle.reset_service.specs.Meaning.{meaning_of}
+use Rattle.script_replay.specs.Meaning.{meaning_of}
 use Rattle.reset_service.specs.Pictured.{IsPicture, IsPictureFrom}
 use Rattle.reset_service.proofs.Verifying.{known_weaker}
 use Rattle.reset_service.proofs.pictured.draw_booted.Goals as goal

@@ -1,11 +1,11 @@
 use Rattle.std.proofs.Common.{◌≡◌, refl, subst}
 use Rattle.history.specs.Entries.{IsFirstRefused}
-use Rattle.reset_service.specs.Meaning.{meaning_of}
+use Rattle.script_replay.specs.Meaning.{meaning_of}
 use Rattle.reset_service.specs.Pictured.{IsDrawing}
 use Rattle.reset_service.specs.Pictured.IsDrawing.{not_enabled}
 use Rattle.reset_service.specs.Verified.{not_enabled_text}
-use Rattle.reset_service.specs.declared.status.Status.TheVariants.{NotEnabled}
-use Rattle.reset_service.proofs.Runs.{leaves_weaker}
+use Rattle.script_replay.specs.declared.status.Status.TheVariants.{NotEnabled}
+use Rattle.script_replay.proofs.Runs.{leaves_weaker}
 use Rattle.reset_service.proofs.pictured.draw_entries.Goals as goal
 
 pub returns-in-Err-NotEnabledAt-clause-leaves : goal.returns-in-Err-NotEnabledAt-clause-leaves

@@ -1,12 +1,12 @@
 use Rattle.std.proofs.Common.{◌≡◌, ◌≢◌, ◌≤◌, Err, length, Ok, rules, subst}
 use Rattle.history.specs.HistoryText.{IsReadAs}
 use Rattle.history.specs.declared.text.BookFault.TheVariants.{NoMemory, ReadFailed}
-use Rattle.reset_service.specs.Meaning.{meaning_of}
-use Rattle.reset_service.specs.Output.{Leaves}
+use Rattle.script_replay.specs.Meaning.{meaning_of}
+use Rattle.script_replay.specs.Output.{Leaves}
 use Rattle.reset_service.specs.Pictured.{IsDrawing, IsPicture}
 use Rattle.reset_service.specs.Pictured.IsPicture.{bad_history, read}
 use Rattle.reset_service.specs.Verified.{bad_history_text}
-use Rattle.reset_service.specs.declared.status.Status.TheVariants.{BadInput}
+use Rattle.script_replay.specs.declared.status.Status.TheVariants.{BadInput}
 use Rattle.reset_service.proofs.Verifying.{known_leaves}
 use Rattle.reset_service.proofs.pictured.draw_from.Goals as goal
 

@@ -1,9 +1,9 @@
 use Rattle.std.proofs.Common.{◌≡◌, refl, rules}
 use Rattle.std.specs.Prelude.{IsErrAnd}
 use Rattle.reset_service.specs.Tables.{tables_text}
-use Rattle.reset_service.specs.declared.status.Status.TheVariants.{Good}
-use Rattle.reset_service.specs.declared.status.RunStop.TheVariants.{WriteFailed}
-use Rattle.reset_service.proofs.Runs.{leaves_fault}
+use Rattle.script_replay.specs.declared.status.Status.TheVariants.{Good}
+use Rattle.script_replay.specs.declared.status.RunStop.TheVariants.{WriteFailed}
+use Rattle.script_replay.proofs.Runs.{leaves_fault}
 use Rattle.reset_service.proofs.TableRuns.{tables_text-rows}
 use Rattle.reset_service.proofs.tables.print_tables.Goals as goal
 

@@ -1,4 +1,4 @@
-use Rattle.reset_service.specs.Meaning.{meaning_of}
+use Rattle.script_replay.specs.Meaning.{meaning_of}
 use Rattle.reset_service.specs.Threaded.{IsKept, IsKeptFrom, told_history, told_output}
 use Rattle.reset_service.proofs.Threading.{ok_weaker}
 use Rattle.reset_service.proofs.threaded.run_booted.Goals as goal

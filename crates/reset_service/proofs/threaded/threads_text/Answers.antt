@@ -1,7 +1,7 @@
 use Rattle.std.proofs.Common.{◌≡◌, rules}
 use Rattle.std.specs.Prelude.{IsErrAnd}
 use Rattle.reset_service.specs.Threaded.{IsThreaded}
-use Rattle.reset_service.specs.declared.status.RunStop.TheVariants.{WriteFailed}
+use Rattle.script_replay.specs.declared.status.RunStop.TheVariants.{WriteFailed}
 use Rattle.reset_service.proofs.Threading.{cut_history}
 use Rattle.reset_service.proofs.threaded.threads_text.Goals as goal
 

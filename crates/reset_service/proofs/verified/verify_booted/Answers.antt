@@ -1,4 +1,4 @@
-use Rattle.reset_service.specs.Meaning.{meaning_of}
+use Rattle.script_replay.specs.Meaning.{meaning_of}
 use Rattle.reset_service.specs.Verified.{IsVerified, IsVerifiedFrom}
 use Rattle.reset_service.proofs.Verifying.{known_weaker}
 use Rattle.reset_service.proofs.verified.verify_booted.Goals as goal

@@ -3,9 +3,9 @@ use Rattle.history.specs.Verdict.{IsVerdict}
 use Rattle.history.specs.declared.entry.VerifyFault.TheVariants.{NotEnabledAt}
 use Rattle.history.specs.declared.text.BookFault.TheVariants.{NoMemory, ReadFailed}
 use Rattle.history.specs.declared.verification.ReaderFault.TheVariants.{Entries, Text}
-use Rattle.reset_service.specs.Meaning.{meaning_of}
+use Rattle.script_replay.specs.Meaning.{meaning_of}
 use Rattle.reset_service.specs.Verified.{IsVerified, bad_history_text, not_enabled_text, verified_text}
-use Rattle.reset_service.specs.declared.status.Status.TheVariants.{BadInput, Good, NotEnabled}
+use Rattle.script_replay.specs.declared.status.Status.TheVariants.{BadInput, Good, NotEnabled}
 use Rattle.reset_service.proofs.Verifying.{known_leaves, of_no_history, of_refused, of_summary}
 use Rattle.reset_service.proofs.verified.verify_from.Goals as goal
 

@@ -1,9 +1,9 @@
 use Rattle.std.proofs.Common.{◌≡◌, ◌≢◌}
 use Rattle.topology.specs.declared.text.ReadFault.TheVariants.{NoMemory}
-use Rattle.reset_service.specs.Output.{bad_topology_text}
-use Rattle.reset_service.specs.Output.IsJudged.{bad_topology, good_topology}
+use Rattle.script_replay.specs.Output.{bad_topology_text}
+use Rattle.script_replay.specs.Output.IsJudged.{bad_topology, good_topology}
 use Rattle.reset_service.specs.Verified.{IsVerification, IsVerifiedOf}
-use Rattle.reset_service.specs.declared.status.Status.TheVariants.{BadInput}
+use Rattle.script_replay.specs.declared.status.Status.TheVariants.{BadInput}
 use Rattle.reset_service.proofs.Verifying.{known_anyway, known_weaker}
 use Rattle.reset_service.proofs.verified.verify_text.Goals as goal
 

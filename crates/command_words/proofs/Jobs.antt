@@ -1,0 +1,79 @@
+-- The job of a subcommand that clap met, and the fault that stands for clap's error.
+use Rattle.std.proofs.Common.{◌≡◌, ◌∙◌, ◌≤◌, ◌<◌, ◌^◌, ℕ, refl, sym, subst, ap, arith, codes, List, Option, Some, None}
+use Rattle.std.proofs.Common.{Result, Ok, Err, inl, inr}
+use Rattle.std.specs.Borrow.{Bor}
+use Rattle.std.specs.Prelude.{IfErr, IsErrAnd, IsSome, IsSomeAnd, option_map, unwrap_or}
+use Rattle.std.specs.Str.Parse.{ParsesUnsigned, digits_value, without_leading_plus}
+use Rattle.clap.specs.Words.{HasKind, Text, IsAmong, ReadsOne, first_of, kind_of, one_text, rows_of}
+use Rattle.clap.specs.declared.error.Error.{Error}
+use Rattle.clap.specs.declared.parser.matches.Found.{Found}
+use Rattle.clap.proofs.WalkLemmas.{one_text-rows}
+use Rattle.command_words.specs.Words.{HasNumber, IsFaultOf, IsNumberOr, IsNumberWithin, MayHaveNumber, StandsFor}
+use Rattle.command_words.specs.Words.{Writes, faults_of}
+use Rattle.command_words.specs.declared.words.Job.{Job}
+use Rattle.command_words.specs.declared.words.LineFault.{LineFault}
+use Rattle.command_words.specs.declared.words.LineFault.TheVariants.{BadWords, NoMemory}
+
+pub some_text : (o : Option (Bor Text)) (text : Option Text) → option_map (λ s. s.now) o ≡ text → IsSome text → IsSome o
+some_text None text e some = absurd (cc)
+some_text (Some s) text e some = refl
+
+-- clap's error as a fault
+pub fault_is : (words : List Text) (e : Error) (r : Result Job LineFault) → HasKind (faults_of words) e
+    → IsErrAnd r (StandsFor e) → IfErr r (IsFaultOf words)
+fault_is words e (Ok job) kind stands = tt
+fault_is words e (Err NoMemory) kind stands = tt
+fault_is words e (Err (BadWords kept)) kind stands = go kind
+  where
+    go : HasKind (faults_of words) e → IsAmong (kind_of kept) (faults_of words)
+    go (inl memory) = absurd (stands.1 memory)
+    go (inr among) = subst (λ (x : Error). IsAmong (kind_of x) (faults_of words)) (sym stands.0) among
+
+-- the number that was found of an argument is the one that a type of 32 bits reads
+module _ (E : Type 0) (G : Text → Result ℕ E → Type 0)
+    (parses : (t : Text) (x : Result ℕ E) → G t x → ParsesUnsigned 32 10 t x) (name : Text) (least most : ℕ)
+    (small : most < 2 ^ 32) (f : Found) (r : Option ℕ)
+    (reads : (t : Text) → one_text f name ≡ Some t → ReadsOne G t r) where
+  number_read : (h : HasNumber name least most (rows_of f)) → r ≡ Some h.0
+  number_read h = go (first_of name (rows_of f)) h.1.0 (one_text-rows f name ∙ h.2)
+    where
+      number : (t : Text) → Writes h.0 t → (o : Option ℕ) → ReadsOne G t o → o ≡ Some h.0
+      number t writes (Some n) read = ap Some ((parses t (Ok n) read).1 ∙ writes.1)
+      number t writes None read =
+          let most_ok = h.1.2 in
+          let same = writes.1 in
+          let fits : digits_value 10 (without_leading_plus t) < 2 ^ 32 = omega arith in
+          absurd (parses t (Err read.0) read.1 (writes.0, fits))
+
+      go : (o : Option Text) → IsSomeAnd o (Writes h.0) → one_text f name ≡ o → r ≡ Some h.0
+      go None some text = absurd some
+      go (Some t) some text = number t some r (reads t text)
+
+  -- it is the number of the text
+  pub number_is : (n : ℕ) → r ≡ Some n → HasNumber name least most (rows_of f)
+      → IsNumberWithin least most (first_of name (rows_of f)) n
+  number_is n is h =
+      subst (λ (k : ℕ). IsNumberWithin least most (first_of name (rows_of f)) k)
+      (ap (λ o. unwrap_or o 0) (sym (number_read h) ∙ is)) h.1
+
+  -- and there is one
+  pub number_found : HasNumber name least most (rows_of f) → IsSome r
+  number_found h = subst (λ (o : Option ℕ). IsSome o) (sym (number_read h)) refl
+
+  -- where nothing may have been found, another number may stand for it
+  pub number_or : (other : ℕ) → (one_text f name ≡ None → r ≡ None)
+      → MayHaveNumber name least most (rows_of f)
+      → IsNumberOr other least most (first_of name (rows_of f)) (unwrap_or r other)
+  number_or other none (inl nothing) =
+      let empty : r ≡ None = none (one_text-rows f name ∙ nothing.1) in
+      subst (λ (o : Option Text). IsNumberOr other least most o (unwrap_or r other)) (sym nothing.0)
+      (ap (λ o. unwrap_or o other) empty)
+  number_or other none (inr h) =
+      let read : r ≡ Some h.0 = number_read h in
+      subst (λ (n : ℕ). IsNumberOr other least most (first_of name (rows_of f)) n)
+      (sym (ap (λ o. unwrap_or o other) read))
+      (given (first_of name (rows_of f)) h.1)
+    where
+      given : (o : Option Text) → IsNumberWithin least most o h.0 → IsNumberOr other least most o h.0
+      given None is = absurd is.0
+      given (Some t) is = is

@@ -1,0 +1,244 @@
+-- What the words of the command line ask for, by clap's own definition of what a command makes of words.
+use Rattle.std.specs.Prelude.{◌≡◌, ◌≢◌, ◌≤◌, ◌⊎◌, ⊤, ℕ, true, false, List, codes, Option, Some, None, IsSome}
+use Rattle.std.specs.Prelude.{IsSomeAnd}
+use Rattle.std.specs.Prelude.{option_and_then, option_map}
+use Rattle.std.specs.Str.Parse.{IsNumeral, digits_value, without_leading_plus}
+use Rattle.clap.specs.Words.{App, Kinds, Row, Rule, Text, IsAmong, fault_of, first_of, kind_of, new_app, new_rule}
+use Rattle.clap.specs.Words.{one_of, subcommand_of, with_rule, with_subcommand}
+use Rattle.clap.specs.Simple.{on_top}
+use Rattle.clap.specs.declared.builder.value_parser.ValueParser.TheVariants.{Unsigned}
+use Rattle.clap.specs.declared.error.Error.{Error}
+use Rattle.clap.specs.declared.error.ErrorKind.TheVariants.{InvalidValue, OutOfMemory}
+use Rattle.command_words.specs.declared.words.Job.{Job}
+use Rattle.command_words.specs.declared.words.Job.TheVariants.{Joined, Replay, Check, Verify, Picture, Threads, Drive}
+use Rattle.command_words.specs.declared.words.Job.TheVariants.{Shape, Explain, Tables}
+use Rattle.command_words.specs.declared.words.LineFault.{LineFault}
+use Rattle.command_words.specs.declared.words.Paths.{Paths}
+use Rattle.command_words.specs.declared.words.LineFault.TheVariants.{BadWords, NoMemory}
+use Rattle.command_words.specs.declared.drive_words.DriveWords.{DriveWords}
+use Rattle.command_words.specs.declared.shape_words.ShapeWords.{ShapeWords}
+use Rattle.command_words.specs.declared.thread_words.ThreadWords.{ThreadWords}
+
+-- ---- the command line
+
+-- a path that has to be given
+abbrev pub path : Text → Rule
+path name = record (new_rule name) { required = true }
+
+-- a subcommand with two paths: `NAME TOPOLOGY INPUT`
+unfoldable pub texts_command : Text → Text → App
+texts_command name input = with_rule (with_rule (new_app name) (path (codes "TOPOLOGY"))) (path input)
+
+-- the path of a file behind its name, which has to be given: `--NAME FILE`
+abbrev pub file_option : Text → Rule
+file_option name = record (new_rule name) { long = Some name; value_names = 1; required = true }
+
+-- an argument whose value is a number from the least to the most
+abbrev pub within : ℕ → ℕ → Rule → Rule
+within least most rule = record rule { parser = Some (Unsigned least most) }
+
+-- a number behind its name, which has to be given: `--NAME N`
+abbrev pub number_option : Text → ℕ → ℕ → Rule
+number_option name least most = within least most (file_option name)
+
+-- an option that may be left out
+abbrev pub optional : Rule → Rule
+optional rule = record rule { required = false }
+
+-- `threads TOPOLOGY --turns N --history FILE`
+unfoldable pub threads_command : App
+threads_command =
+    with_rule
+    (with_rule (with_rule (new_app (codes "threads")) (path (codes "TOPOLOGY")))
+    (number_option (codes "turns") 1 100000)) (file_option (codes "history"))
+
+-- `drive TOPOLOGY --steps N --seed S --history FILE [--faults P]`
+unfoldable pub drive_command : App
+drive_command =
+    with_rule
+    (with_rule
+    (with_rule
+    (with_rule (with_rule (new_app (codes "drive")) (path (codes "TOPOLOGY")))
+    (number_option (codes "steps") 1 1000000)) (number_option (codes "seed") 0 4294967295))
+    (file_option (codes "history"))) (optional (number_option (codes "faults") 0 1000))
+
+-- `topology SHAPE N [--seed S] [--app A]`
+unfoldable pub topology_command : App
+topology_command =
+    with_rule
+    (with_rule
+    (with_rule (with_rule (new_app (codes "topology")) (path (codes "SHAPE"))) (within 1 1024 (path (codes "N"))))
+    (optional (number_option (codes "seed") 0 4294967295))) (optional (file_option (codes "app")))
+
+-- `explain WORD`
+unfoldable pub explain_command : App
+explain_command = with_rule (new_app (codes "explain")) (path (codes "WORD"))
+
+-- `tables`
+unfoldable pub tables_command : App
+tables_command = new_app (codes "tables")
+
+-- the program before it has subcommands: it tells its version
+abbrev pub new_program : App
+new_program = on_top (λ s. record s { has_version = true }) (new_app (codes "reset-service"))
+
+-- with the subcommands that read two texts
+abbrev pub texts_program : App
+texts_program =
+    with_subcommand
+    (with_subcommand
+    (with_subcommand (with_subcommand new_program (texts_command (codes "replay") (codes "SCRIPT")).top)
+    (texts_command (codes "check") (codes "SCRIPT")).top) (texts_command (codes "verify") (codes "HISTORY")).top)
+    (texts_command (codes "picture") (codes "HISTORY")).top
+
+-- the program with its nine subcommands
+unfoldable pub program : App
+program =
+    with_subcommand
+    (with_subcommand
+    (with_subcommand (with_subcommand (with_subcommand texts_program threads_command.top) drive_command.top)
+    topology_command.top) explain_command.top) tables_command.top
+
+-- ---- what words ask for
+
+-- the subcommand that clap finds, with what it found for the arguments
+abbrev pub Found : Type 0
+Found = Option (Text × List Row)
+
+abbrev pub name_in : Found → Option Text
+name_in = option_map (λ s. s.0)
+
+abbrev pub value_in : Found → Text → Option Text
+value_in found argument = option_and_then (λ s. first_of argument s.1) found
+
+-- it is the subcommand of this name, with these paths, of which the second is that of the argument input
+abbrev pub HasPaths : Found → Text → Text → Paths → Type 0
+HasPaths found name input paths = (name_in found ≡ Some name)
+    × (value_in found (codes "TOPOLOGY") ≡ Some paths.topology.now) × (value_in found input ≡ Some paths.input.now)
+
+-- the text is the number in decimal digits; a plus may stand first
+abbrev pub Writes : ℕ → Text → Type 0
+Writes number text =
+    IsNumeral 10 (without_leading_plus text) × (digits_value 10 (without_leading_plus text) ≡ number)
+
+-- the text is that of the number, which is from the least to the most
+abbrev pub IsNumberWithin : ℕ → ℕ → Option Text → ℕ → Type 0
+IsNumberWithin least most text number = IsSomeAnd text (Writes number) × (least ≤ number) × (number ≤ most)
+
+-- so it is, or there is no text, and it is this number
+abbrev pub IsNumberOr : ℕ → ℕ → ℕ → Option Text → ℕ → Type 0
+IsNumberOr other least most None number = number ≡ other
+IsNumberOr other least most (Some text) number = IsNumberWithin least most (Some text) number
+
+-- it is the subcommand `threads` with these values, and the turns are from 1 to 100,000
+abbrev pub HasThreadWords : Found → ThreadWords → Type 0
+HasThreadWords found words = (name_in found ≡ Some (codes "threads"))
+    × (value_in found (codes "TOPOLOGY") ≡ Some words.topology.now)
+    × (value_in found (codes "history") ≡ Some words.history.now)
+    × IsNumberWithin 1 100000 (value_in found (codes "turns")) words.turns
+
+-- it is the subcommand `drive` with these values: the steps are from 1 to 1,000,000, the seed has 32 bits, and of a
+-- thousand steps at most as many are faults, none where that isn't said
+abbrev pub HasDriveWords : Found → DriveWords → Type 0
+HasDriveWords found words = (name_in found ≡ Some (codes "drive"))
+    × (value_in found (codes "TOPOLOGY") ≡ Some words.topology.now)
+    × (value_in found (codes "history") ≡ Some words.history.now)
+    × IsNumberWithin 1 1000000 (value_in found (codes "steps")) words.steps
+    × IsNumberWithin 0 4294967295 (value_in found (codes "seed")) words.seed
+    × IsNumberOr 0 0 1000 (value_in found (codes "faults")) words.faults
+
+-- it is the subcommand `topology` with these values: the nodes are from 1 to 1,024, the seed is 0 where it isn't given
+abbrev pub HasShapeWords : Found → ShapeWords → Type 0
+HasShapeWords found words = (name_in found ≡ Some (codes "topology"))
+    × (value_in found (codes "SHAPE") ≡ Some words.shape.now)
+    × IsNumberWithin 1 1024 (value_in found (codes "N")) words.nodes
+    × IsNumberOr 0 0 4294967295 (value_in found (codes "seed")) words.seed
+    × (value_in found (codes "app") ≡ option_map (λ app. app.now) words.app)
+
+-- it is the subcommand `explain` with this word
+abbrev pub HasWord : Found → Text → Type 0
+HasWord found word = (name_in found ≡ Some (codes "explain")) × (value_in found (codes "WORD") ≡ Some word)
+
+-- the subcommand and its values are those of the job
+abbrev pub AskedBy : Found → Job → Type 0
+AskedBy found Joined = found ≡ None
+AskedBy found (Replay paths) = HasPaths found (codes "replay") (codes "SCRIPT") paths
+AskedBy found (Check paths) = HasPaths found (codes "check") (codes "SCRIPT") paths
+AskedBy found (Verify paths) = HasPaths found (codes "verify") (codes "HISTORY") paths
+AskedBy found (Picture paths) = HasPaths found (codes "picture") (codes "HISTORY") paths
+AskedBy found (Threads words) = HasThreadWords found words
+AskedBy found (Drive words) = HasDriveWords found words
+AskedBy found (Shape words) = HasShapeWords found words
+AskedBy found (Explain word) = HasWord found word.now
+AskedBy found Tables = name_in found ≡ Some (codes "tables")
+
+-- what clap finds in the words asks for the job
+abbrev pub AskFor : List Text → Job → Type 0
+AskFor words = AskedBy (subcommand_of program words)
+
+-- the kinds that clap's error at the words may have, a request for help included: none where it takes them
+abbrev pub faults_of : List Text → Kinds
+faults_of = fault_of program
+
+-- the fault is one that clap has at the words, or memory was wanting
+abbrev pub IsFaultOf : List Text → LineFault → Type 0
+IsFaultOf words (BadWords error) = IsAmong (kind_of error) (faults_of words)
+IsFaultOf words NoMemory = ⊤
+
+-- the fault of a word that is no text, or memory was wanting
+abbrev pub IsInvalidValue : LineFault → Type 0
+IsInvalidValue (BadWords error) = kind_of error ≡ InvalidValue
+IsInvalidValue NoMemory = ⊤
+
+-- ---- what private clauses cite
+
+-- a value was found for each of the two paths
+abbrev pub HasTexts : Text → List Row → Type 0
+HasTexts input rows = IsSome (first_of (codes "TOPOLOGY") rows) × IsSome (first_of input rows)
+
+-- a number from the least to the most was found, which is read as it was written
+abbrev pub HasNumber : Text → ℕ → ℕ → List Row → Type 0
+HasNumber name least most rows = (number : ℕ) × IsNumberWithin least most (first_of name rows) number
+    × (one_of name rows ≡ first_of name rows)
+
+-- so it was, or nothing
+abbrev pub MayHaveNumber : Text → ℕ → ℕ → List Row → Type 0
+MayHaveNumber name least most rows =
+    ((first_of name rows ≡ None) × (one_of name rows ≡ None)) ⊎ HasNumber name least most rows
+
+-- what `threads` needs was found
+abbrev pub HasThreads : List Row → Type 0
+HasThreads rows = HasTexts (codes "history") rows × HasNumber (codes "turns") 1 100000 rows
+
+-- what `drive` needs was found
+abbrev pub HasDrive : List Row → Type 0
+HasDrive rows = HasTexts (codes "history") rows × HasNumber (codes "steps") 1 1000000 rows
+    × HasNumber (codes "seed") 0 4294967295 rows × MayHaveNumber (codes "faults") 0 1000 rows
+
+-- what `topology` needs was found
+abbrev pub HasShape : List Row → Type 0
+HasShape rows = IsSome (first_of (codes "SHAPE") rows) × HasNumber (codes "N") 1 1024 rows
+    × MayHaveNumber (codes "seed") 0 4294967295 rows
+
+-- it is the name of a subcommand that runs a script
+abbrev pub IsOfScript : Text → Type 0
+IsOfScript name = (name ≡ codes "replay") ⊎ (name ≡ codes "check")
+
+-- it is the name of a subcommand that reads a history
+abbrev pub IsOfHistory : Text → Type 0
+IsOfHistory name = (name ≡ codes "verify") ⊎ (name ≡ codes "picture")
+
+-- a subcommand of the program with the values that it needs, or none
+abbrev pub HasJob : Found → Type 0
+HasJob None = ⊤
+HasJob (Some s) = (IsOfScript s.0 × HasTexts (codes "SCRIPT") s.1)
+    ⊎ ((IsOfHistory s.0 × HasTexts (codes "HISTORY") s.1)
+    ⊎ (((s.0 ≡ codes "threads") × HasThreads s.1)
+    ⊎ (((s.0 ≡ codes "drive") × HasDrive s.1)
+    ⊎ (((s.0 ≡ codes "topology") × HasShape s.1)
+    ⊎ (((s.0 ≡ codes "explain") × IsSome (first_of (codes "WORD") s.1)) ⊎ (s.0 ≡ codes "tables"))))))
+
+-- clap's error as a fault
+abbrev pub StandsFor : Error → LineFault → Type 0
+StandsFor error (BadWords kept) = (kept ≡ error) × (kind_of error ≢ OutOfMemory)
+StandsFor error NoMemory = kind_of error ≡ OutOfMemory

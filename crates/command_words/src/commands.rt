@@ -1,0 +1,464 @@
+// The commands of the program and their help, as `clap` reads and prints them.
+
+ghost use Rattle.std.specs.Prelude.{◌≡◌, IfOk, codes, false};
+ghost use Rattle.clap.specs.Words.{app_of, rule_of};
+ghost use Rattle.clap.specs.declared.builder.command.Command.TheViews.{out-Command as fields_of};
+ghost use Rattle.command_words.specs.Words.{drive_command, explain_command, file_option, number_option, optional};
+ghost use Rattle.command_words.specs.Words.{path, program, tables_command, texts_command, texts_program};
+ghost use Rattle.command_words.specs.Words.{threads_command, topology_command, within};
+
+use clap::{Arg, Command, value_parser};
+use std::alloc::{AllocError, Global};
+
+// The program's version, which `--version` prints.
+const VERSION: &str = "0.1.0";
+
+const ABOUT: &str =
+    "Replays scripts of reset events on a network of nodes, and writes an answer to each event.";
+
+const LONG_ABOUT: &str = "\
+Replays scripts of reset events on a network of nodes, and writes an answer to each event.
+
+A reset restarts all nodes of a network while they run: a request travels up a spanning
+tree to its leader, the leader opens a new session, and the session travels down the tree.
+
+Without a subcommand the program reads one text from standard input: a topology, a line
+that is `---`, and a script. `reset-service replay --help` tells what these are.";
+
+const AFTER_HELP: &str = "\
+Examples:
+  reset-service replay examples/one-wave/topology.toml examples/one-wave/script
+  { cat topology.toml; echo ---; cat script; } | reset-service
+
+Exit status:
+  0  good, refused commands included
+  1  the subcommand `check` found faults, or `verify` or `picture` an entry that isn't allowed
+  2  a bad topology, script, history or command line
+  3  a file or a standard stream could not be read or written, or a thread could not be started
+  4  out of memory";
+
+const TOPOLOGY_HELP: &str =
+    "A file in TOML that names the nodes, the links between them, and the application";
+
+const SCRIPT_HELP: &str = "A file with one command a line";
+
+const HISTORY_HELP: &str = "A file with the history, one entry a line";
+
+// What `--help` says of a subcommand that reads two files.
+struct Help {
+    about: &'static str,
+    long_about: &'static str,
+    input: &'static str,
+    after_help: &'static str,
+}
+
+const REPLAY_HELP: Help = Help {
+    about: "Runs a script on a topology, from its booted configuration",
+    long_about: "\
+Runs a script on a topology, from its booted configuration.
+
+Each command writes its answer to standard output. A command that is refused changes
+nothing, and the run goes on; a bad line ends it.",
+    input: SCRIPT_HELP,
+    after_help: "\
+A topology:
+  nodes = [1, 2, 3]
+  links = [[1, 2], [2, 3]]
+  app = \"token\"
+All three keys are needed; the application is \"idle\", \"token\", \"mutex\" or \"routes\".
+
+The commands of a script, at node I with its neighbour J and its child C:
+  claim I, follow I, adopt I J
+  request I, relay I C, open I, join I, finish I, mend I
+  act I CASE, act I CASE J
+  show, show I, newest, enabled I, ready
+  check, check I, alarm I, watch I
+  fault tree I ROOT FATHER DIST, fault wave I PHASE SESSION, fault local I TEXT
+  fault down A B, fault up A B, draw SEED
+A CASE is the name of an action of the application, or its number. They are
+  act I pass J, act I take J    of token
+  act I enter, act I leave      of mutex
+  act I pull J                  of routes
+A PHASE is normal, initiate or reset.
+Words have one space between them. An empty line, or one that begins with #, does nothing.
+In any other line a tab, a space at either end, a carriage return, a command in capital
+letters, a zero before a number or a comment behind the command makes the line bad;
+`cat -A SCRIPT` shows what the eye misses.
+
+Example:
+  reset-service replay examples/one-wave/topology.toml examples/one-wave/script",
+};
+
+const CHECK_HELP: Help = Help {
+    about: "Runs a script on a topology, and checks the network that it leaves",
+    long_about: "\
+Runs a script on a topology, and checks the network that it leaves.
+
+The script is run as `replay` runs it. Then each link whose ends contradict each other is named
+in a line `link AT OTHER FAMILY ROW`: the node, its neighbour (or the node itself), which table
+(tree, wave or app) and which of its rows; `reset-service tables` prints the tables. The last line is
+`faults COUNT`, and the exit status is 1 where COUNT isn't 0. After a bad line nothing is checked.",
+    input: SCRIPT_HELP,
+    after_help: "\
+Example:
+  reset-service check examples/sound-network/topology.toml examples/sound-network/script",
+};
+
+const VERIFY_HELP: Help = Help {
+    about: "Tells whether a history could happen, and which resets it completed",
+    long_about: "\
+Tells whether a history could happen, and which resets it completed.
+
+A history is what happened to a network, from the booted configuration of its topology on: each
+event that a node took, and each fault. For each reset that was completed there is a line `report
+NUMBER opened POSITION finished POSITION`: the number of the session, and the entries that opened
+and finished it, counted from 1 (`-` where it wasn't opened since the last fault). The last line is
+`verified E entries R reports`.
+
+Where an entry isn't allowed where it stands, the answer is `not enabled at POSITION` of the first
+such entry, and the exit status is 1. A file that isn't a history is answered by `bad history` and
+its first bad line, and the exit status is 2.",
+    input: HISTORY_HELP,
+    after_help: "\
+A history:
+  reset-history 1
+  request 3
+  open 3
+The first line is always this one. Each line after it is one entry, a command of a script that
+`replay` answers with `applied`, `complete NUMBER` or `disturbed`, an action with the number of its
+case; `reset-service replay --help` tells the commands. There are no comments, no empty lines, no
+questions and no draws, and each line, the last one too, ends with a line feed.
+
+Example:
+  reset-service verify examples/verified-wave/topology.toml examples/verified-wave/history",
+};
+
+const THREADS_ABOUT: &str =
+    "Runs a thread for each node, and writes what the nodes did as a history";
+
+const THREADS_LONG_ABOUT: &str = "\
+Runs a thread for each node, and writes what the nodes did as a history.
+
+The network starts from the booted configuration of its topology. The node with the least
+identifier asks for a reset first. Then each node takes N turns, all nodes at the same time. In a
+turn a node does the first event that it may do, requests left out; it does nothing where it may do
+none, or where a neighbour has changed what it saw. What the nodes did is written to FILE as a
+history, which `verify` accepts; the file is created, or emptied where it is there. At most
+1,000,000 entries are kept: a run that reaches this many ends there. Then one line is printed,
+`threads N nodes E entries R reports`: the nodes, the entries of the history, and the resets that
+were completed.
+
+A topology of over 64 nodes is answered by `bad topology TooManyForThreads`, and the exit status
+is 2.";
+
+const THREADS_AFTER_HELP: &str = "\
+Example:
+  reset-service threads examples/one-wave/topology.toml --turns 100 --history history
+  reset-service verify examples/one-wave/topology.toml history";
+
+const FEW_NODES_HELP: &str =
+    "A file in TOML that names the nodes, at most 64, the links between them, and the application";
+
+const TURNS_HELP: &str = "How many turns each node takes, from 1 to 100000";
+
+const HISTORY_FILE_HELP: &str = "The file that the history is written to";
+
+const TABLES_ABOUT: &str = "Prints the tables that the nodes act by";
+
+const TABLES_LONG_ABOUT: &str = "\
+Prints the tables that the nodes act by: the tree table, by which they build and mend the
+spanning tree, the wave table, by which resets travel on it, and the tables of the
+applications token, mutex and routes; and then the link tables of these applications, whose
+rows say what a fault of a link is.
+
+A table is a line `table TITLE`, and then a line `NUMBER NAME | GUARD | EFFECT` for each
+row. A node may take a row where its guard holds, and then its registers change as the
+effect says. `enabled I` in a script gives the numbers of the rows that node I may take.
+A row of a link table is asked at each end of a link: own is the end at which it is asked,
+other the far end.";
+
+const DRIVE_ABOUT: &str =
+    "Drives a network by a seeded scheduler, and writes what it did as a history";
+
+const DRIVE_LONG_ABOUT: &str = "\
+Drives a network by a seeded scheduler, and writes what it did as a history.
+
+The network starts from the booted configuration of its topology. At each of N steps the scheduler
+draws a node among those that are ready (among all, where none is), and then one of the events that
+are enabled there, requests included; or, in about P of a thousand steps, a fault. The same words
+give the same history on every machine. It is written to FILE, and `verify` accepts it; the file is
+created, or emptied where it is there. A drawn fault may be refused, and then the step does
+nothing. Then one line is printed, `drove E entries R reports`: the entries of the history, and the
+resets that were completed.";
+
+const DRIVE_AFTER_HELP: &str = "\
+Example:
+  reset-service drive examples/one-wave/topology.toml --steps 1000 --seed 7 --history history
+  reset-service verify examples/one-wave/topology.toml history";
+
+const STEPS_HELP: &str = "How many steps it takes, from 1 to 1000000";
+
+const DRIVE_SEED_HELP: &str = "A number that the random words are drawn by, from 0 to 4294967295";
+
+const FAULTS_HELP: &str =
+    "How many of a thousand steps are faults, from 0 to 1000; none where this is left out";
+
+const PICTURE_HELP: Help = Help {
+    about: "Draws a history as a space-time diagram, in SVG",
+    long_about: "\
+Draws a history as a space-time diagram, in SVG, on standard output.
+
+A node is a lane, the leader first, and time goes down the page: each entry is a mark on the lane of
+its node, with its line as a text that shows where the pointer rests. A lane has the colour of the
+node's phase, and behind it that of its session, so that a reset is seen to go down the tree and to
+end. A line across all lanes is a completed reset. At most 64 nodes and 2,000 entries are drawn.",
+    input: HISTORY_HELP,
+    after_help: "\
+Example:
+  reset-service picture examples/verified-wave/topology.toml examples/verified-wave/history > wave.svg",
+};
+
+const SHAPE_ABOUT: &str = "Writes the text of a topology of a standard shape";
+
+const SHAPE_LONG_ABOUT: &str = "\
+Writes the text of a topology of a standard shape, with the nodes 1 to N.
+
+  path    each node is linked with the next one
+  ring    a path whose ends are linked
+  star    node 1 is linked with each other one
+  tree    a binary tree: node I is linked with the node at half of I
+  grid    rows as wide as they are many, each node linked with the next one and the one below
+  random  each node is linked with one or two lesser ones, which are drawn by the seed";
+
+const SHAPE_AFTER_HELP: &str = "\
+Example:
+  reset-service topology grid 16 --app mutex > topology.toml";
+
+const SHAPE_HELP: &str = "ring, path, star, grid, tree or random";
+
+const NODES_HELP: &str = "How many nodes it has, from 1 to 1024";
+
+const SHAPE_SEED_HELP: &str =
+    "A number that a random shape is drawn by, from 0 to 4294967295; 0 where this is left out";
+
+const APP_HELP: &str = "idle, token, mutex or routes; idle where this is left out";
+
+const EXPLAIN_ABOUT: &str =
+    "Tells what a word that the program prints or reads means, and what to do";
+
+const EXPLAIN_LONG_ABOUT: &str = "\
+Tells what a word that the program prints or reads means, and what to do: a refusal, a fault of a
+topology or of a history, or a command of a script.";
+
+const EXPLAIN_AFTER_HELP: &str = "\
+Example:
+  reset-service explain NotEnabled";
+
+const WORD_HELP: &str = "The word, as it is printed";
+
+/// The command line: the program and its subcommands.
+pub fn command_line<'a>(alloc: Global) -> Result<Command<'a>, AllocError>
+    ensures { IfOk result (λ command. app_of command ≡ program) }
+{
+    texts_line(alloc)?
+        .subcommand(threads_words(alloc)?)?
+        .subcommand(drive_words(alloc)?)?
+        .subcommand(shape_words(alloc)?)?
+        .subcommand(explain_words(alloc)?)?
+        .subcommand(tables_words(alloc))
+}
+
+// The program with the subcommands that read two texts.
+fn texts_line<'a>(alloc: Global) -> Result<Command<'a>, AllocError>
+    ensures { IfOk result (λ command. app_of command ≡ texts_program) }
+{
+    let replay = texts_words(alloc, "replay", "SCRIPT", &REPLAY_HELP)?;
+    let check = texts_words(alloc, "check", "SCRIPT", &CHECK_HELP)?;
+    let verify = texts_words(alloc, "verify", "HISTORY", &VERIFY_HELP)?;
+    let picture = texts_words(alloc, "picture", "HISTORY", &PICTURE_HELP)?;
+    Command::new(alloc, "reset-service")
+        .version(VERSION)
+        .about(ABOUT)
+        .long_about(LONG_ABOUT)
+        .after_help(AFTER_HELP)
+        .subcommand(replay)?
+        .subcommand(check)?
+        .subcommand(verify)?
+        .subcommand(picture)
+}
+
+// A subcommand with the paths of a topology and of another file.
+fn texts_words<'a>(
+    alloc: Global,
+    name: &'a str,
+    input: &'a str,
+    help: &Help,
+) -> Result<Command<'a>, AllocError>
+    ensures app { IfOk result (λ command. app_of command ≡ texts_command name.entry.now input.entry.now) }
+    ensures local { IfOk result (λ command. (fields_of command).has_globals ≡ false) }
+{
+    Command::new(alloc, name)
+        .about(help.about)
+        .long_about(help.long_about)
+        .after_help(help.after_help)
+        .arg(path_word(alloc, "TOPOLOGY", TOPOLOGY_HELP))?
+        .arg(path_word(alloc, input, help.input))
+}
+
+// The subcommand with the path of a topology, a number of turns and the path of a file for the history.
+fn threads_words<'a>(alloc: Global) -> Result<Command<'a>, AllocError>
+    ensures app { IfOk result (λ command. app_of command ≡ threads_command) }
+    ensures local { IfOk result (λ command. (fields_of command).has_globals ≡ false) }
+{
+    Command::new(alloc, "threads")
+        .about(THREADS_ABOUT)
+        .long_about(THREADS_LONG_ABOUT)
+        .after_help(THREADS_AFTER_HELP)
+        .arg(path_word(alloc, "TOPOLOGY", FEW_NODES_HELP))?
+        .arg(turns_word(alloc))?
+        .arg(history_word(alloc))
+}
+
+// The subcommand with the path of a topology, the numbers of a seeded scheduler and the path of a file for the history.
+fn drive_words<'a>(alloc: Global) -> Result<Command<'a>, AllocError>
+    ensures app { IfOk result (λ command. app_of command ≡ drive_command) }
+    ensures local { IfOk result (λ command. (fields_of command).has_globals ≡ false) }
+{
+    Command::new(alloc, "drive")
+        .about(DRIVE_ABOUT)
+        .long_about(DRIVE_LONG_ABOUT)
+        .after_help(DRIVE_AFTER_HELP)
+        .arg(path_word(alloc, "TOPOLOGY", TOPOLOGY_HELP))?
+        .arg(steps_word(alloc))?
+        .arg(seed_word(alloc, true, DRIVE_SEED_HELP))?
+        .arg(history_word(alloc))?
+        .arg(faults_word(alloc))
+}
+
+// The subcommand with the name of a shape, a number of nodes, a seed and the name of an application.
+fn shape_words<'a>(alloc: Global) -> Result<Command<'a>, AllocError>
+    ensures app { IfOk result (λ command. app_of command ≡ topology_command) }
+    ensures local { IfOk result (λ command. (fields_of command).has_globals ≡ false) }
+{
+    Command::new(alloc, "topology")
+        .about(SHAPE_ABOUT)
+        .long_about(SHAPE_LONG_ABOUT)
+        .after_help(SHAPE_AFTER_HELP)
+        .arg(path_word(alloc, "SHAPE", SHAPE_HELP))?
+        .arg(nodes_word(alloc))?
+        .arg(seed_word(alloc, false, SHAPE_SEED_HELP))?
+        .arg(app_word(alloc))
+}
+
+fn explain_words<'a>(alloc: Global) -> Result<Command<'a>, AllocError>
+    ensures app { IfOk result (λ command. app_of command ≡ explain_command) }
+    ensures local { IfOk result (λ command. (fields_of command).has_globals ≡ false) }
+{
+    Command::new(alloc, "explain")
+        .about(EXPLAIN_ABOUT)
+        .long_about(EXPLAIN_LONG_ABOUT)
+        .after_help(EXPLAIN_AFTER_HELP)
+        .arg(path_word(alloc, "WORD", WORD_HELP))
+}
+
+fn tables_words<'a>(alloc: Global) -> Command<'a>
+    ensures app { app_of result ≡ tables_command }
+    ensures local { (fields_of result).has_globals ≡ false }
+{
+    Command::new(alloc, "tables")
+        .about(TABLES_ABOUT)
+        .long_about(TABLES_LONG_ABOUT)
+}
+
+// The path of a file, or another word, which has to be given.
+fn path_word<'a>(alloc: Global, name: &'a str, help: &'a str) -> Arg<'a>
+    ensures rule { rule_of result ≡ path name.entry.now }
+    ensures local { result.global ≡ false }
+{
+    Arg::new(alloc, name).required(true).help(help)
+}
+
+// How many turns each node takes, which has to be given.
+fn turns_word<'a>(alloc: Global) -> Arg<'a>
+    ensures rule { rule_of result ≡ number_option (codes "turns") 1 100000 }
+    ensures local { result.global ≡ false }
+{
+    Arg::new(alloc, "turns")
+        .long("turns")
+        .value_name("N")
+        .required(true)
+        .value_parser(value_parser!(u64).range(1..=100_000))
+        .help(TURNS_HELP)
+}
+
+// How many steps a scheduler takes, which has to be given.
+fn steps_word<'a>(alloc: Global) -> Arg<'a>
+    ensures rule { rule_of result ≡ number_option (codes "steps") 1 1000000 }
+    ensures local { result.global ≡ false }
+{
+    Arg::new(alloc, "steps")
+        .long("steps")
+        .value_name("N")
+        .required(true)
+        .value_parser(value_parser!(u64).range(1..=1_000_000))
+        .help(STEPS_HELP)
+}
+
+// What random words are drawn by.
+fn seed_word<'a>(alloc: Global, required: bool, help: &'a str) -> Arg<'a>
+    ensures rule { rule_of result ≡ record (number_option (codes "seed") 0 4294967295) { required = required } }
+    ensures local { result.global ≡ false }
+{
+    Arg::new(alloc, "seed")
+        .long("seed")
+        .value_name("S")
+        .required(required)
+        .value_parser(value_parser!(u64).range(0..=4_294_967_295))
+        .help(help)
+}
+
+// How many of a thousand steps are faults, which may be left out.
+fn faults_word<'a>(alloc: Global) -> Arg<'a>
+    ensures rule { rule_of result ≡ optional (number_option (codes "faults") 0 1000) }
+    ensures local { result.global ≡ false }
+{
+    Arg::new(alloc, "faults")
+        .long("faults")
+        .value_name("P")
+        .value_parser(value_parser!(u64).range(0..=1000))
+        .help(FAULTS_HELP)
+}
+
+// How many nodes a shape has, which has to be given.
+fn nodes_word<'a>(alloc: Global) -> Arg<'a>
+    ensures rule { rule_of result ≡ within 1 1024 (path (codes "N")) }
+    ensures local { result.global ≡ false }
+{
+    Arg::new(alloc, "N")
+        .required(true)
+        .value_parser(value_parser!(u64).range(1..=1024))
+        .help(NODES_HELP)
+}
+
+// The name of an application, which may be left out.
+fn app_word<'a>(alloc: Global) -> Arg<'a>
+    ensures rule { rule_of result ≡ optional (file_option (codes "app")) }
+    ensures local { result.global ≡ false }
+{
+    Arg::new(alloc, "app")
+        .long("app")
+        .value_name("A")
+        .help(APP_HELP)
+}
+
+// The path of the file for the history, which has to be given.
+fn history_word<'a>(alloc: Global) -> Arg<'a>
+    ensures rule { rule_of result ≡ file_option (codes "history") }
+    ensures local { result.global ≡ false }
+{
+    Arg::new(alloc, "history")
+        .long("history")
+        .value_name("FILE")
+        .required(true)
+        .help(HISTORY_FILE_HELP)
+}

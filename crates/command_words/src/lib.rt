@@ -1,0 +1,13 @@
+//! The words of the program's command line: what they ask for, or what is wrong with them.
+#![tactic(auto)]
+
+mod commands;
+mod drive_words;
+mod shape_words;
+mod thread_words;
+mod words;
+
+pub use drive_words::DriveWords;
+pub use shape_words::ShapeWords;
+pub use thread_words::ThreadWords;
+pub use words::{Job, LineFault, Paths, no_text, read_words};

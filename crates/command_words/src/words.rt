@@ -1,0 +1,213 @@
+// What the words of the command line ask for.
+
+ghost use Rattle.std.specs.Prelude.{◌≡◌, [], codes, map, option_map, IfErr, IfOk, IsSome, Some};
+ghost use Rattle.clap.specs.Words.{first_of, found_of, kind_of, rows_of, subcommand_rows_of};
+ghost use Rattle.command_words.specs.declared.words.LineFault.TheVariants.{NoMemory};
+ghost use Rattle.command_words.specs.Words.{faults_of, AskFor, AskedBy, HasDrive, HasJob, HasShape, HasTexts};
+ghost use Rattle.command_words.specs.Words.{HasThreads, IsFaultOf, IsInvalidValue, IsNumberOr, IsNumberWithin};
+ghost use Rattle.command_words.specs.Words.{StandsFor};
+
+use crate::commands::command_line;
+use crate::drive_words::DriveWords;
+use crate::shape_words::ShapeWords;
+use crate::thread_words::ThreadWords;
+use clap::error::ErrorKind;
+use clap::{ArgMatches, Error};
+use std::alloc::{AllocError, Global};
+use std::convert::AsStr;
+use std::{error, fmt};
+
+/// The files of a run.
+#[derive(Clone, Copy, Debug, PartialEq, Eq)]
+pub struct Paths<'a> {
+    /// The path of the topology.
+    pub topology: &'a str,
+    /// The path of the script, or of the history.
+    pub input: &'a str,
+}
+
+/// What the program is to do.
+#[derive(Clone, Copy, Debug, PartialEq, Eq)]
+pub enum Job<'a> {
+    /// Replay the joined text of the standard input.
+    Joined,
+    /// Replay the script of a file on the topology of another.
+    Replay(Paths<'a>),
+    /// The same, and check the network that the script leaves.
+    Check(Paths<'a>),
+    /// Verify the history of a file from the booted configuration of another's topology.
+    Verify(Paths<'a>),
+    /// Draw the history of a file from the booted configuration of another's topology.
+    Picture(Paths<'a>),
+    /// Run a thread for each node of a topology, and write what the nodes did to a file.
+    Threads(ThreadWords<'a>),
+    /// Run a seeded scheduler on a topology, and write what the nodes did to a file.
+    Drive(DriveWords<'a>),
+    /// Write the text of a topology of this shape.
+    Shape(ShapeWords<'a>),
+    /// Tell what a word of the output means.
+    Explain(&'a str),
+    /// Print the tables.
+    Tables,
+}
+
+/// Why words give no job.
+#[derive(Debug, Drop)]
+pub enum LineFault {
+    /// The words are a mistake, or they ask for help: clap's error has the text for the user.
+    BadWords(Error),
+    /// A growth was refused.
+    NoMemory,
+}
+
+impl From<Error> for LineFault {
+    ghost from_gives = { StandsFor };
+
+    fn from(error: Error) -> LineFault {
+        if error.kind() == ErrorKind::OutOfMemory {
+            LineFault::NoMemory
+        } else {
+            LineFault::BadWords(error)
+        }
+    }
+}
+
+impl From<AllocError> for LineFault {
+    ghost from_gives = { λ _ fault. fault ≡ NoMemory };
+
+    fn from(_error: AllocError) -> LineFault {
+        LineFault::NoMemory
+    }
+}
+
+impl fmt::Display for LineFault {
+    fn fmt<W: fmt::Write>(&self, f: &mut fmt::Formatter<W>) -> fmt::Result {
+        match self {
+            LineFault::BadWords(error) => write!(f, "{error}"),
+            LineFault::NoMemory => f.write_str("out of memory"),
+        }
+    }
+}
+
+impl error::Error for LineFault {}
+
+/// The job that the words ask for, of which the first is the program's name.
+pub fn read_words<'a, S: AsStr>(alloc: Global, words: &'a [S]) -> Result<Job<'a>, LineFault>
+    ensures taken { IfOk result (λ job. faults_of (map S.text words.entry.now) ≡ []) }
+    ensures job { IfOk result (AskFor (map S.text words.entry.now)) }
+    ensures fault { IfErr result (IsFaultOf (map S.text words.entry.now)) }
+{
+    let matches = command_line(alloc)?.try_get_matches_from(words)?;
+    Ok(job_of(&matches))
+}
+
+// The job of matches, in which a subcommand has the values that it needs.
+fn job_of<'a>(matches: &ArgMatches<'a>) -> Job<'a>
+    requires { HasJob (subcommand_rows_of matches.now) }
+    ensures { AskedBy (subcommand_rows_of matches.now) result }
+{
+    match matches.subcommand() {
+        None => Job::Joined,
+        Some(("replay", values)) => Job::Replay(paths_of(values, "SCRIPT")),
+        Some(("check", values)) => Job::Check(paths_of(values, "SCRIPT")),
+        Some(("verify", values)) => Job::Verify(paths_of(values, "HISTORY")),
+        Some(("picture", values)) => Job::Picture(paths_of(values, "HISTORY")),
+        Some(("threads", values)) => Job::Threads(thread_words_of(values)),
+        Some(("drive", values)) => Job::Drive(drive_words_of(values)),
+        Some(("topology", values)) => Job::Shape(shape_words_of(values)),
+        Some(("explain", values)) => Job::Explain(word_of(values)),
+        Some(_) => Job::Tables,
+    }
+}
+
+// The paths of matches that have both: that of the topology, and that of the argument of this name.
+fn paths_of<'a>(values: &ArgMatches<'a>, input: &str) -> Paths<'a>
+    requires { HasTexts input.now (rows_of (found_of values.now)) }
+    ensures topology { first_of (codes "TOPOLOGY") (rows_of (found_of values.now)) ≡ Some result.topology.now }
+    ensures input { first_of input.now (rows_of (found_of values.now)) ≡ Some result.input.now }
+{
+    Paths {
+        topology: values.get_str("TOPOLOGY").unwrap(),
+        input: values.get_str(input).unwrap(),
+    }
+}
+
+// The words of matches that have a topology, a number of turns and a file for the history.
+fn thread_words_of<'a>(values: &ArgMatches<'a>) -> ThreadWords<'a>
+    requires { HasThreads (rows_of (found_of values.now)) }
+    ensures topology { first_of (codes "TOPOLOGY") (rows_of (found_of values.now)) ≡ Some result.topology.now }
+    ensures history { first_of (codes "history") (rows_of (found_of values.now)) ≡ Some result.history.now }
+    ensures turns { IsNumberWithin 1 100000 (first_of (codes "turns") (rows_of (found_of values.now))) result.turns }
+{
+    let paths = paths_of(values, "history");
+    ThreadWords {
+        topology: paths.topology,
+        turns: values.get_one::<u32>("turns").unwrap(),
+        history: paths.input,
+    }
+}
+
+// The words of matches that have what a run of the seeded scheduler needs.
+fn drive_words_of<'a>(values: &ArgMatches<'a>) -> DriveWords<'a>
+    requires { HasDrive (rows_of (found_of values.now)) }
+    ensures topology { first_of (codes "TOPOLOGY") (rows_of (found_of values.now)) ≡ Some result.topology.now }
+    ensures history { first_of (codes "history") (rows_of (found_of values.now)) ≡ Some result.history.now }
+    ensures steps { IsNumberWithin 1 1000000 (first_of (codes "steps") (rows_of (found_of values.now))) result.steps }
+    ensures seed { IsNumberWithin 0 4294967295 (first_of (codes "seed") (rows_of (found_of values.now))) result.seed }
+    ensures faults { IsNumberOr 0 0 1000 (first_of (codes "faults") (rows_of (found_of values.now))) result.faults }
+{
+    let Paths {
+        topology,
+        input: history,
+    } = paths_of(values, "history");
+    DriveWords {
+        topology,
+        steps: values.get_one::<u32>("steps").unwrap(),
+        seed: values.get_one::<u32>("seed").unwrap(),
+        faults: values.get_one::<u32>("faults").unwrap_or(0),
+        history,
+    }
+}
+
+// The words of matches that have what a topology text needs.
+fn shape_words_of<'a>(values: &ArgMatches<'a>) -> ShapeWords<'a>
+    requires { HasShape (rows_of (found_of values.now)) }
+    ensures shape { first_of (codes "SHAPE") (rows_of (found_of values.now)) ≡ Some result.shape.now }
+    ensures nodes { IsNumberWithin 1 1024 (first_of (codes "N") (rows_of (found_of values.now))) result.nodes }
+    ensures seed { IsNumberOr 0 0 4294967295 (first_of (codes "seed") (rows_of (found_of values.now))) result.seed }
+    ensures app { first_of (codes "app") (rows_of (found_of values.now)) ≡ option_map (λ app. app.now) result.app }
+{
+    ShapeWords {
+        shape: values.get_str("SHAPE").unwrap(),
+        nodes: values.get_one::<u32>("N").unwrap(),
+        seed: values.get_one::<u32>("seed").unwrap_or(0),
+        app: values.get_str("app"),
+    }
+}
+
+// The word of matches that have one.
+fn word_of<'a>(values: &ArgMatches<'a>) -> &'a str
+    requires { IsSome (first_of (codes "WORD") (rows_of (found_of values.now))) }
+    ensures { first_of (codes "WORD") (rows_of (found_of values.now)) ≡ Some result.now }
+{
+    values.get_str("WORD").unwrap()
+}
+
+/// The fault of words that aren't text.
+pub fn no_text(alloc: Global) -> LineFault
+    ensures { IsInvalidValue result }
+{
+    match no_text_error(alloc) {
+        Ok(error) => LineFault::from(error),
+        Err(_) => LineFault::NoMemory,
+    }
+}
+
+fn no_text_error(alloc: Global) -> Result<Error, AllocError>
+    ensures { IfOk result (λ error. kind_of error ≡ ErrorKind.InvalidValue) }
+{
+    command_line(alloc)?.error(
+        ErrorKind::InvalidValue,
+        "a word of the command line is not UTF-8",
+    )
+}

@@ -1,7 +1,0 @@
-use Rattle.std.proofs.Common.{rules}
-use Rattle.reset_service.specs.Words.{tables_command}
-use Rattle.reset_service.proofs.commands.tables_words.Goals as goal
-
-pub returns-clause-app : goal.returns-clause-app
-unfolding tables_command
-returns-clause-app c = search rules

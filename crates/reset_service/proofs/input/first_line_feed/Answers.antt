@@ -1,5 +1,0 @@
-use Rattle.reset_service.proofs.TextLines.{first_place}
-use Rattle.reset_service.proofs.input.first_line_feed.Goals as goal
-
-pub returns : goal.returns
-returns c = first_place c.args.text.now c.memchr.result c.memchr.ensures

@@ -1,0 +1,12 @@
+pub mod TextLines
+pub mod Reading
+pub mod Runs
+pub mod CommandLines
+pub mod CommandOf
+pub mod CaseNames
+pub mod Nodes
+pub mod Disturbing
+pub mod Watching
+pub mod ReadyTexts
+pub mod OneOutput
+pub mod Stretches

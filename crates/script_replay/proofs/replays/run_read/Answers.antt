@@ -1,0 +1,36 @@
+use Rattle.std.proofs.Common.{◌≡◌, ◌≢◌}
+use Rattle.script_replay.specs.Output.{IsOutput, IsReplayOf, bad_topology_text}
+use Rattle.script_replay.specs.Output.IsJudged.{bad_topology, good_topology}
+use Rattle.script_replay.specs.declared.status.Status.TheVariants.{BadInput}
+use Rattle.topology.specs.declared.text.ReadFault.TheVariants.{NoMemory}
+use Rattle.script_replay.proofs.Runs.{leaves_unread, leaves_weaker}
+use Rattle.script_replay.proofs.Reading.{some_read}
+use Rattle.script_replay.proofs.replays.run_read.Goals as goal
+
+pub returns-in-Err-clause-leaves : goal.returns-in-Err-clause-leaves
+returns-in-Err-clause-leaves g c =
+    let read = some_read (g.R.Read.remaining c.args.script.now) in (
+      read.0,
+      read.1,
+      leaves_weaker (λ o. (c.in-Err.refused ≢ NoMemory) × (o ≡ (bad_topology_text c.in-Err.refused, BadInput)))
+          (IsOutput c.args.purpose c.args.topology.now read.0) _ _ c.refuse_topology.result
+          (λ o is. bad_topology c.in-Err.refused (c.in-Err.ensures.err is.0) is.1) c.refuse_topology.ensures.leaves,
+    )
+
+pub returns-in-Ok-read_text-clause-leaves : goal.returns-in-Ok-read_text-clause-leaves
+returns-in-Ok-read_text-clause-leaves g c = (
+  c.deref.result.now,
+  rw c.deref.ensures.value c.in-Ok-read_text.ensures.ok,
+  leaves_weaker (IsReplayOf c.in-Ok.app c.args.purpose c.in-Ok.topology c.deref.result.now)
+      (IsOutput c.args.purpose c.args.topology.now c.deref.result.now) _ _ c.run_app.result
+      (λ o is. good_topology c.in-Ok.topology c.in-Ok.app c.in-Ok.ensures.ok is) c.run_app.ensures.leaves,
+)
+
+pub returns-in-Err-read_text-clause-leaves : goal.returns-in-Err-read_text-clause-leaves
+returns-in-Err-read_text-clause-leaves g c =
+    let read = some_read (g.R.Read.remaining c.args.script.now) in (
+      read.0,
+      read.1,
+      leaves_unread (IsOutput c.args.purpose c.args.topology.now read.0)
+          (g.W.Write.contents c.args.out.now) c.in-Err-read_text.stop c.in-Err-read_text.ensures.err,
+    )

@@ -1,0 +1,40 @@
+use Rattle.std.proofs.Common.{◌≡◌, ◌<◌, ◌∙◌, ap, subst, List, ℕ, length, get_or}
+use Rattle.std.specs.Io.KnownBytes.{Appends}
+use Rattle.topology.specs.Graph.{Graph}
+use Rattle.action_tables.specs.Written.{AppendsPrefix}
+use Rattle.action_tables.proofs.Prefixes.{OnErr-always}
+use Rattle.action_tables.proofs.Pieces.{Appends-piece, AppendsPrefix-piece}
+use Rattle.script_replay.specs.Meaning.{meaning_of}
+use Rattle.script_replay.specs.Output.{newest_line}
+use Rattle.script_replay.proofs.show.show_newest.Goals as goal
+
+pub returns-in_err-newest_of-clause-err : goal.returns-in_err-newest_of-clause-err
+returns-in_err-newest_of-clause-err g c =
+    let m = meaning_of g.P.Application.app g.P.Application.text g.P.Application.from_text g.P.Application.names in
+    let config = c.args.config.now in
+    let i = c.loop-id.id-index in
+    let items : c.ids-id-items.result.now ≡ config.graph.ids =
+    c.ids-id-items.ensures ∙ ap (λ (t : Graph). t.ids) c.topology.ensures in
+    let inside : i < length config.graph.ids = subst (λ (ids : List ℕ). i < length ids) items c.loop-id-test.true in
+    let P : List ℕ → Type 0 =
+    λ ids. AppendsPrefix (g.W.Write.contents c.loop-id.out) (g.W.Write.contents c.newest_of.new.out)
+    (newest_line m config (get_or ids i 0)) in
+    OnErr-always _ _
+    (AppendsPrefix-piece (g.W.Write.contents c.args.out.now) (g.W.Write.contents c.loop-id.out)
+    (g.W.Write.contents c.newest_of.new.out) (newest_line m config) config.graph.ids i 0 inside
+    c.loop-id.invariant (subst P items c.in_err-newest_of.ensures.err))
+
+pub loop-id-preserved : goal.loop-id-preserved
+loop-id-preserved g c =
+    let m = meaning_of g.P.Application.app g.P.Application.text g.P.Application.from_text g.P.Application.names in
+    let config = c.args.config.now in
+    let i = c.loop-id.id-index in
+    let items : c.ids-id-items.result.now ≡ config.graph.ids =
+    c.ids-id-items.ensures ∙ ap (λ (t : Graph). t.ids) c.topology.ensures in
+    let inside : i < length config.graph.ids = subst (λ (ids : List ℕ). i < length ids) items c.loop-id-test.true in
+    let P : List ℕ → Type 0 =
+    λ ids. Appends (g.W.Write.contents c.loop-id.out) (g.W.Write.contents c.newest_of.new.out)
+    (newest_line m config (get_or ids i 0)) in
+    Appends-piece (g.W.Write.contents c.args.out.now) (g.W.Write.contents c.loop-id.out)
+    (g.W.Write.contents c.newest_of.new.out) (newest_line m config) config.graph.ids i 0 inside
+    c.loop-id.invariant (subst P items c.in_ok-newest_of.ensures.ok)

@@ -1,0 +1,9 @@
+pub mod Meaning
+pub mod Script
+pub mod Output
+pub mod Parts
+pub mod Lines
+pub mod Buffering
+pub mod StopText
+pub mod Stops
+pub mod Stretches

@@ -1,0 +1,204 @@
+// The answers that tell faults and alarms.
+
+ghost use Rattle.std.specs.Prelude.{◌≡◌, ◌++◌, codes, length, Err, IfErr, IfOk, OnErr, OnOk};
+ghost use Rattle.std.specs.List.{flat_map};
+ghost use Rattle.std.specs.Io.KnownBytes.{Appends};
+ghost use Rattle.topology.specs.Graph.{IsNode};
+ghost use Rattle.action_tables.specs.Written.{AppendsPrefix};
+ghost use Rattle.script_replay.specs.Meaning.{meaning_of};
+ghost use Rattle.script_replay.specs.Output.{alarm_line, alarm_text, answered, at_node, fault_line, faults_lines};
+ghost use Rattle.script_replay.specs.Output.{faults_status, faults_text, found_status, node_faults_lines, watched};
+ghost use Rattle.script_replay.specs.declared.script.Command.TheVariants.{Watch};
+ghost use Rattle.script_replay.specs.Stops.{IsOutputStop};
+
+use crate::answer::{answer_step, put_numbered, put_refusal};
+use crate::status::{RunStop, Status};
+use action_tables::{Part, WriteFault, put_bytes, put_parts};
+use app_interface::Application;
+use fault_inject::is_node;
+use link_predicates::{LinkFault, alarm, check_all, check_node};
+use reset_machine::{Config, Event, StepRefusal};
+use std::alloc::{AllocError, Global};
+use std::io::Write;
+
+/// Writes the faults of all nodes, and answers whether there are some. Want of memory writes
+/// nothing.
+pub fn answer_check<P: Application, W: Write>(
+    alloc: Global,
+    config: &Config<P>,
+    out: &mut W,
+) -> Result<Status, RunStop>
+    ensures ok { OnOk result (Appends (W.contents out.old) (W.contents out.new)
+        (faults_lines (meaning_of P.app P.text P.from_text P.names) config.now)) }
+    ensures status { IfOk result
+        (λ status. status ≡ faults_status (meaning_of P.app P.text P.from_text P.names) config.now) }
+    ensures err { OnErr result (AppendsPrefix (W.contents out.old) (W.contents out.new)
+        (faults_lines (meaning_of P.app P.text P.from_text P.names) config.now)) }
+    ensures stop { IfErr result IsOutputStop }
+{
+    match check_all(alloc, config) {
+        Ok(found) => {
+            put_faults(out, &found)?;
+            Ok(found_status(&found))
+        }
+        Err(AllocError) => Err(RunStop::NoMemory),
+    }
+}
+
+// How a check that found these ends.
+fn found_status(found: &[LinkFault]) -> Status
+    ensures { result ≡ found_status found.now }
+{
+    match found {
+        [] => Status::Good,
+        _ => Status::FaultsFound,
+    }
+}
+
+/// Writes the faults of a node, or that there is no such node. Want of memory writes nothing.
+pub fn answer_check_node<P: Application, W: Write>(
+    alloc: Global,
+    config: &Config<P>,
+    at: u32,
+    out: &mut W,
+) -> Result<(), RunStop>
+    ensures ok { OnOk result (Appends (W.contents out.old) (W.contents out.new)
+        (at_node config.now at (node_faults_lines (meaning_of P.app P.text P.from_text P.names) config.now at))) }
+    ensures err { OnErr result (AppendsPrefix (W.contents out.old) (W.contents out.new)
+        (at_node config.now at (node_faults_lines (meaning_of P.app P.text P.from_text P.names) config.now at))) }
+    ensures stop { IfErr result IsOutputStop }
+{
+    match check_node(alloc, config, at) {
+        Ok(found) => Ok(put_faults(out, &found)?),
+        Err(StepRefusal::NoMemory) => Err(RunStop::NoMemory),
+        Err(refusal) => Ok(put_refusal(out, refusal)?),
+    }
+}
+
+/// Writes the alarm of a node, that it has none, or that there is no such node.
+pub fn answer_alarm<P: Application, W: Write>(
+    config: &Config<P>,
+    at: u32,
+    out: &mut W,
+) -> Result<(), WriteFault>
+    ensures ok { OnOk result (Appends (W.contents out.old) (W.contents out.new)
+        (at_node config.now at (alarm_line (meaning_of P.app P.text P.from_text P.names) config.now at))) }
+    ensures err { OnErr result (AppendsPrefix (W.contents out.old) (W.contents out.new)
+        (at_node config.now at (alarm_line (meaning_of P.app P.text P.from_text P.names) config.now at))) }
+{
+    if is_node(config, at) {
+        put_alarm(out, alarm(config, at))
+    } else {
+        put_refusal(out, StepRefusal::StrangeNode)
+    }
+}
+
+/// As `answer_alarm`; where the node has an alarm it then asks for a reset, and the reply or the
+/// refusal is written. Want of memory changes nothing.
+pub fn answer_watch<P: Application, W: Write>(
+    alloc: Global,
+    config: &mut Config<P>,
+    at: u32,
+    out: &mut W,
+) -> Result<(), RunStop>
+    ensures ok { OnOk result
+        ((config.new ≡ (answered (meaning_of P.app P.text P.from_text P.names) config.old (Watch at)).0)
+        × Appends (W.contents out.old) (W.contents out.new)
+        (answered (meaning_of P.app P.text P.from_text P.names) config.old (Watch at)).1) }
+    ensures err { OnErr result (AppendsPrefix (W.contents out.old) (W.contents out.new)
+        (answered (meaning_of P.app P.text P.from_text P.names) config.old (Watch at)).1) }
+    ensures stop { IfErr result IsOutputStop }
+    ensures memory { result ≡ Err RunStop.NoMemory → config.new ≡ config.old }
+{
+    if is_node(&*config, at) {
+        watch_node(alloc, config, at, out)
+    } else {
+        Ok(put_refusal(out, StepRefusal::StrangeNode)?)
+    }
+}
+
+// Writes the alarm of a node, which asks for a reset where it has one.
+fn watch_node<P: Application, W: Write>(
+    alloc: Global,
+    config: &mut Config<P>,
+    at: u32,
+    out: &mut W,
+) -> Result<(), RunStop>
+    requires { IsNode config.now.graph at }
+    ensures ok { OnOk result ((config.new ≡ (watched (meaning_of P.app P.text P.from_text P.names) config.old at).0)
+        × Appends (W.contents out.old) (W.contents out.new)
+        (watched (meaning_of P.app P.text P.from_text P.names) config.old at).1) }
+    ensures err { OnErr result (AppendsPrefix (W.contents out.old) (W.contents out.new)
+        (watched (meaning_of P.app P.text P.from_text P.names) config.old at).1) }
+    ensures stop { IfErr result IsOutputStop }
+    ensures memory { result ≡ Err RunStop.NoMemory → config.new ≡ config.old }
+{
+    let told = alarm(config, at);
+    put_alarm(out, told)?;
+    match told {
+        None => Ok(()),
+        Some(_) => answer_step(alloc, config, Event::Request { at }, out),
+    }
+}
+
+// Writes the line of an alarm, or that there is none.
+fn put_alarm<W: Write>(out: &mut W, told: Option<LinkFault>) -> Result<(), WriteFault>
+    ensures ok { OnOk result (Appends (W.contents out.old) (W.contents out.new) (alarm_text told)) }
+    ensures err { OnErr result (AppendsPrefix (W.contents out.old) (W.contents out.new) (alarm_text told)) }
+{
+    let Some(fault) = told else {
+        return put_bytes(out, b"quiet\n");
+    };
+    put_parts(
+        out,
+        &[
+            Part::Text(b"alarm "),
+            Part::Number(u64::from(fault.at)),
+            Part::Text(b" "),
+            Part::Number(u64::from(fault.other)),
+            Part::Text(b" "),
+            Part::Number(u64::from(fault.row)),
+            Part::Text(b"\n"),
+        ],
+    )
+}
+
+// Writes the lines of faults, and their number.
+fn put_faults<W: Write>(out: &mut W, faults: &[LinkFault]) -> Result<(), WriteFault>
+    ensures ok { OnOk result (Appends (W.contents out.old) (W.contents out.new) (faults_text faults.now)) }
+    ensures err { OnErr result (AppendsPrefix (W.contents out.old) (W.contents out.new) (faults_text faults.now)) }
+{
+    put_fault_lines(out, faults)?;
+    put_numbered(out, b"faults ", faults.len() as u64)
+}
+
+fn put_fault_lines<W: Write>(out: &mut W, faults: &[LinkFault]) -> Result<(), WriteFault>
+    ensures ok { OnOk result (Appends (W.contents out.old) (W.contents out.new) (flat_map fault_line faults.now)) }
+    ensures err { OnErr result
+        (AppendsPrefix (W.contents out.old) (W.contents out.new) (flat_map fault_line faults.now)) }
+{
+    for fault in faults {
+        put_fault(out, *fault)?;
+    }
+    Ok(())
+}
+
+fn put_fault<W: Write>(out: &mut W, fault: LinkFault) -> Result<(), WriteFault>
+    ensures ok { OnOk result (Appends (W.contents out.old) (W.contents out.new) (fault_line fault)) }
+    ensures err { OnErr result (AppendsPrefix (W.contents out.old) (W.contents out.new) (fault_line fault)) }
+{
+    put_parts(
+        out,
+        &[
+            Part::Text(b"link "),
+            Part::Number(u64::from(fault.at)),
+            Part::Text(b" "),
+            Part::Number(u64::from(fault.other)),
+            Part::Text(b" "),
+            Part::Text(fault.family.name().as_bytes()),
+            Part::Text(b" "),
+            Part::Number(u64::from(fault.row)),
+            Part::Text(b"\n"),
+        ],
+    )
+}

@@ -1,0 +1,98 @@
+// The answers to faults.
+
+ghost use Rattle.std.specs.Prelude.{◌≡◌, ◌++◌, codes, Err, IfErr, OnErr, OnOk};
+ghost use Rattle.std.specs.Io.KnownBytes.{Appends};
+ghost use Rattle.action_tables.specs.Written.{AppendsPrefix};
+ghost use Rattle.fault_inject.specs.Effects.{injected};
+ghost use Rattle.script_replay.specs.Meaning.{meaning_of};
+ghost use Rattle.script_replay.specs.Output.{answered, disturbed, drawn, drawn_text, fault_refusal_text};
+ghost use Rattle.script_replay.specs.declared.script.Command.TheVariants.{Draw};
+ghost use Rattle.script_replay.specs.Stops.{IsOutputStop};
+
+use crate::status::RunStop;
+use action_tables::{WriteFault, put_bytes};
+use app_interface::Application;
+use fault_inject::{Fault, FaultRefusal, draw_fault, inject, write_fault};
+use rand_core::SeedableRng;
+use rand_pcg::Lcg64Xsh32;
+use reset_machine::Config;
+use std::alloc::Global;
+use std::io::Write;
+
+/// Does the fault to the configuration, and writes that it was done or the refusal. Want of memory
+/// changes and writes nothing; where the writer fails the fault was done, or refused.
+pub fn answer_fault<P: Application, W: Write>(
+    alloc: Global,
+    config: &mut Config<P>,
+    fault: &Fault,
+    out: &mut W,
+) -> Result<(), RunStop>
+    ensures ok { OnOk result ((config.new ≡ (disturbed config.old (injected P.from_text config.old fault.now)).0)
+        × Appends (W.contents out.old) (W.contents out.new)
+        (disturbed config.old (injected P.from_text config.old fault.now)).1) }
+    ensures err { OnErr result (AppendsPrefix (W.contents out.old) (W.contents out.new)
+        (disturbed config.old (injected P.from_text config.old fault.now)).1) }
+    ensures stop { IfErr result IsOutputStop }
+    ensures memory { result ≡ Err RunStop.NoMemory → config.new ≡ config.old }
+{
+    match inject(alloc, config, fault) {
+        Ok(()) => Ok(put_bytes(out, b"disturbed\n")?),
+        Err(FaultRefusal::NoMemory) => Err(RunStop::NoMemory),
+        Err(refusal) => Ok(put_fault_refusal(out, refusal)?),
+    }
+}
+
+/// Draws a fault, writes its line, and does it as `answer_fault`. Want of memory changes nothing.
+pub fn answer_draw<P: Application, W: Write>(
+    alloc: Global,
+    config: &mut Config<P>,
+    seed: u32,
+    out: &mut W,
+) -> Result<(), RunStop>
+    ensures ok { OnOk result
+        ((config.new ≡ (answered (meaning_of P.app P.text P.from_text P.names) config.old (Draw seed)).0)
+        × Appends (W.contents out.old) (W.contents out.new)
+        (answered (meaning_of P.app P.text P.from_text P.names) config.old (Draw seed)).1) }
+    ensures err { OnErr result (AppendsPrefix (W.contents out.old) (W.contents out.new)
+        (answered (meaning_of P.app P.text P.from_text P.names) config.old (Draw seed)).1) }
+    ensures stop { IfErr result IsOutputStop }
+    ensures memory { result ≡ Err RunStop.NoMemory → config.new ≡ config.old }
+{
+    let fault = drawn(config, seed);
+    put_drawn(out, &fault)?;
+    answer_fault(alloc, config, &fault, out)
+}
+
+// The fault that a new generator with this seed draws.
+fn drawn<P: Application>(config: &Config<P>, seed: u32) -> Fault
+    ensures { result ≡ drawn config.now.graph.ids seed }
+{
+    let mut random = Lcg64Xsh32::seed_from_u64(u64::from(seed));
+    draw_fault(&mut random, config)
+}
+
+// Writes the line of a fault that was drawn.
+fn put_drawn<W: Write>(out: &mut W, fault: &Fault) -> Result<(), WriteFault>
+    ensures ok { OnOk result (Appends (W.contents out.old) (W.contents out.new) (drawn_text fault.now)) }
+    ensures err { OnErr result (AppendsPrefix (W.contents out.old) (W.contents out.new) (drawn_text fault.now)) }
+{
+    put_bytes(out, b"drawn ")?;
+    write_fault(fault, out)?;
+    put_bytes(out, b"\n")
+}
+
+// Writes what a refused fault is answered with.
+fn put_fault_refusal<W: Write>(out: &mut W, refusal: FaultRefusal) -> Result<(), WriteFault>
+    ensures ok { OnOk result (Appends (W.contents out.old) (W.contents out.new) (fault_refusal_text refusal)) }
+    ensures err { OnErr result (AppendsPrefix (W.contents out.old) (W.contents out.new) (fault_refusal_text refusal)) }
+{
+    match refusal {
+        FaultRefusal::StrangeNode => put_bytes(out, b"refused StrangeNode\n"),
+        FaultRefusal::BadValue => put_bytes(out, b"refused BadValue\n"),
+        FaultRefusal::BadLocal => put_bytes(out, b"refused BadLocal\n"),
+        FaultRefusal::NoSuchLink => put_bytes(out, b"refused NoSuchLink\n"),
+        FaultRefusal::LinkIsThere => put_bytes(out, b"refused LinkIsThere\n"),
+        FaultRefusal::WouldDisconnect => put_bytes(out, b"refused WouldDisconnect\n"),
+        FaultRefusal::NoMemory => put_bytes(out, b"refused NoMemory\n"),
+    }
+}

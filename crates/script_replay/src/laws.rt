@@ -1,0 +1,44 @@
+// Laws of what a run writes, and of what its lines leave.
+
+ghost use Rattle.std.specs.Prelude.{◌≡◌, ℕ, List};
+ghost use Rattle.topology.specs.Graph.{IsConnected, IsGraph};
+ghost use Rattle.reset_model.specs.Configuration.{Configuration, IsShaped};
+ghost use Rattle.reset_model.specs.Sound.{IsSound};
+ghost use Rattle.script_replay.specs.Meaning.{meaning_of};
+ghost use Rattle.script_replay.specs.Output.{IsJoinedOutput, IsOutput};
+ghost use Rattle.script_replay.specs.Stretches.{AreUndisturbed, MakeRun, MakeSoundRun};
+ghost use Rattle.script_replay.specs.declared.status.Purpose.{Purpose};
+ghost use Rattle.script_replay.specs.declared.status.Status.{Status};
+
+use app_interface::Application;
+use reset_machine::{completions, invariants, refinement, runs_stay_sound};
+
+/// A topology and a script have at most one output, status included.
+pub fn one_output()
+    ensures { (purpose : Purpose) (topology script : List ℕ) (o p : List ℕ × Status)
+        → IsOutput purpose topology script o → IsOutput purpose topology script p → o ≡ p }
+{}
+
+/// A joined text has at most one output, status included.
+pub fn one_joined_output()
+    ensures { (joined : List ℕ) (o p : List ℕ × Status) → IsJoinedOutput joined o → IsJoinedOutput joined p → o ≡ p }
+{}
+
+/// Between two faults the lines of a script make a run happen: whatever the configuration, lines of which
+/// none asks for a fault leave exactly what a run of their events leaves, each event answered by its
+/// outcome. The event of a line is its own, or the request of a node that watches and has an alarm. So,
+/// from a sound configuration on, all that holds of runs holds of the lines: what they leave is sound, on
+/// the abstract machine they are a run too, the application's invariant is kept, holds once a session is
+/// opened, and each completion is true.
+pub fn stretches_are_runs<P: Application>()
+    ensures run { (c : Configuration P.Local) (n : ℕ) (lines : List (List ℕ)) → AreUndisturbed P.names lines
+        → MakeRun (meaning_of P.app P.text P.from_text P.names) c n lines }
+    ensures lawful { (c : Configuration P.Local) (n : ℕ) (lines : List (List ℕ)) → AreUndisturbed P.names lines
+        → IsGraph c.graph → IsConnected c.graph → IsShaped c → IsSound c
+        → MakeSoundRun (meaning_of P.app P.text P.from_text P.names) P.Inv c n lines }
+{
+    completions::<P>();
+    refinement::<P>();
+    invariants::<P>();
+    runs_stay_sound::<P>();
+}

@@ -1,0 +1,22 @@
+//! Scripts of reset events, faults and questions: each is replayed on the booted configuration of a topology, with an
+//! answer to each line, and what it leaves can be checked.
+#![tactic(auto)]
+
+mod answer;
+mod buffered_output;
+mod faults;
+mod injected;
+mod input;
+mod laws;
+mod replays;
+mod rows;
+mod script;
+mod show;
+mod status;
+
+pub use answer::{put_numbered, put_topology_fault};
+pub use buffered_output::BufferedOutput;
+pub use input::{READ_LIMIT, read_text};
+pub use laws::{one_joined_output, one_output, stretches_are_runs};
+pub use replays::{check_text, refuse_topology, replay, replay_joined, replay_text};
+pub use status::{RunStop, Status};

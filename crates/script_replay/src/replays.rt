@@ -1,0 +1,317 @@
+// The replay of a script on a booted configuration.
+
+ghost use Rattle.std.specs.Prelude.{◌≡◌, ◌≢◌, ℕ, ◌≤◌, List, length, IfOk, IfErr, OnErr, OnOk};
+ghost use Rattle.std.specs.Io.KnownBytes.{Appends};
+ghost use Rattle.topology.specs.TopologyText.{IsReadFault};
+ghost use Rattle.action_tables.specs.Written.{AppendsPrefix};
+ghost use Rattle.script_replay.specs.Lines.{lines_of, IsReadFrom};
+ghost use Rattle.script_replay.specs.Meaning.{meaning_of};
+ghost use Rattle.script_replay.specs.Script.{line_of};
+ghost use Rattle.script_replay.specs.Output.{answer_to, answers, bad_topology_text, ending, script_output};
+ghost use Rattle.script_replay.specs.Output.{too_long_text, IsJoinedOutput, IsOutput, IsReplay, IsReplayOf, Leaves};
+ghost use Rattle.script_replay.specs.Stops.{IsOutputStop};
+
+use crate::answer::{answer, answer_step, put_bad_line, put_too_long, put_topology_fault};
+use crate::faults::answer_check;
+use crate::input::{cut_joined, read_text, split_line};
+use crate::script::{Line, read_line};
+use crate::status::{Purpose, RunStop, Status};
+use app_interface::{Application, Idle};
+use app_mutex::EdgeReversal;
+use app_routes::Routes;
+use app_token::Token;
+use reset_machine::{Config, read_event};
+use std::alloc::Global;
+use std::io::{Read, Write};
+use topology::{AppName, MAX_TEXT, ReadFault, Topology, read_topology};
+
+/// Replays a script on the booted configuration of a topology text, and writes the answers.
+///
+/// The topology is judged first, then the length of the script, then its lines in order, each
+/// with its answer before the next. The first bad line ends the run, and what was answered before
+/// it stays.
+pub fn replay_text<W: Write>(
+    alloc: Global,
+    topology: &[u8],
+    script: &[u8],
+    out: &mut W,
+) -> Result<Status, RunStop>
+    ensures leaves { Leaves (IsOutput Purpose.Replay topology.now script.now) (W.contents out.old) (W.contents out.new)
+        result }
+    ensures stop { IfErr result IsOutputStop }
+{
+    match read_topology(alloc, topology) {
+        Ok((topology, app)) => run_app(alloc, Purpose::Replay, app, topology, script, out),
+        Err(fault) => refuse_topology(fault, out),
+    }
+}
+
+/// As `replay_text`, with the script from a reader, of which at most 1,048,577 bytes are read. The
+/// topology is judged before the reader is touched.
+pub fn replay<R: Read, W: Write>(
+    alloc: Global,
+    topology: &[u8],
+    script: &mut R,
+    out: &mut W,
+) -> Result<Status, RunStop>
+    ensures leaves { (text : List ℕ) × IsReadFrom (R.remaining script.old) text
+        × Leaves (IsOutput Purpose.Replay topology.now text) (W.contents out.old) (W.contents out.new) result }
+    ensures untouched { (f : ReadFault) → IsReadFault topology.now f → script.new ≡ script.old }
+{
+    run_read(alloc, Purpose::Replay, topology, script, out)
+}
+
+/// As `replay`, and where the topology, the script and all its lines are good, the faults of the
+/// configuration that the script leaves are written after its answers.
+pub fn check_text<R: Read, W: Write>(
+    alloc: Global,
+    topology: &[u8],
+    script: &mut R,
+    out: &mut W,
+) -> Result<Status, RunStop>
+    ensures leaves { (text : List ℕ) × IsReadFrom (R.remaining script.old) text
+        × Leaves (IsOutput Purpose.Check topology.now text) (W.contents out.old) (W.contents out.new) result }
+    ensures untouched { (f : ReadFault) → IsReadFault topology.now f → script.new ≡ script.old }
+{
+    run_read(alloc, Purpose::Check, topology, script, out)
+}
+
+// Runs the script of a reader.
+fn run_read<R: Read, W: Write>(
+    alloc: Global,
+    purpose: Purpose,
+    topology: &[u8],
+    script: &mut R,
+    out: &mut W,
+) -> Result<Status, RunStop>
+    ensures leaves { (text : List ℕ) × IsReadFrom (R.remaining script.old) text
+        × Leaves (IsOutput purpose topology.now text) (W.contents out.old) (W.contents out.new) result }
+    ensures untouched { (f : ReadFault) → IsReadFault topology.now f → script.new ≡ script.old }
+{
+    match read_topology(alloc, topology) {
+        Ok((topology, app)) => match read_text(alloc, script) {
+            Ok(text) => run_app(alloc, purpose, app, topology, &text, out),
+            Err(stop) => Err(stop),
+        },
+        Err(refused) => refuse_topology(refused, out),
+    }
+}
+
+/// As `replay_text`, with both texts from one reader: the topology up to the first line that is
+/// exactly `---`, and the script after it. At most 1,048,577 bytes are read, and a joined text of
+/// that length is a script that is too long.
+pub fn replay_joined<R: Read, W: Write>(
+    alloc: Global,
+    joined: &mut R,
+    out: &mut W,
+) -> Result<Status, RunStop>
+    ensures { (text : List ℕ) × IsReadFrom (R.remaining joined.old) text
+        × Leaves (IsJoinedOutput text) (W.contents out.old) (W.contents out.new) result }
+{
+    match read_text(alloc, joined) {
+        Ok(text) => replay_whole(alloc, &text, out),
+        Err(stop) => Err(stop),
+    }
+}
+
+// The run of a joined text.
+fn replay_whole<W: Write>(alloc: Global, joined: &[u8], out: &mut W) -> Result<Status, RunStop>
+    ensures leaves { Leaves (IsJoinedOutput joined.now) (W.contents out.old) (W.contents out.new) result }
+    ensures stop { IfErr result IsOutputStop }
+{
+    if joined.len() > MAX_TEXT {
+        return refuse_script(out);
+    }
+    let (topology, script) = cut_joined(joined);
+    replay_text(alloc, topology, script, out)
+}
+
+// Runs a script on the booted configuration of a topology, with the application of this name.
+fn run_app<W: Write>(
+    alloc: Global,
+    purpose: Purpose,
+    app: AppName,
+    topology: Topology,
+    script: &[u8],
+    out: &mut W,
+) -> Result<Status, RunStop>
+    ensures leaves { Leaves (IsReplayOf app purpose topology script.now) (W.contents out.old) (W.contents out.new)
+        result }
+    ensures stop { IfErr result IsOutputStop }
+{
+    match app {
+        AppName::Idle => run_booted::<Idle, W>(alloc, purpose, topology, script, out),
+        AppName::Token => run_booted::<Token, W>(alloc, purpose, topology, script, out),
+        AppName::Mutex => run_booted::<EdgeReversal, W>(alloc, purpose, topology, script, out),
+        AppName::Routes => run_booted::<Routes, W>(alloc, purpose, topology, script, out),
+    }
+}
+
+fn run_booted<P: Application, W: Write>(
+    alloc: Global,
+    purpose: Purpose,
+    topology: Topology,
+    script: &[u8],
+    out: &mut W,
+) -> Result<Status, RunStop>
+    ensures leaves { Leaves (IsReplay (meaning_of P.app P.text P.from_text P.names) purpose topology script.now)
+        (W.contents out.old) (W.contents out.new) result }
+    ensures stop { IfErr result IsOutputStop }
+{
+    match Config::<P>::boot(alloc, topology) {
+        Ok(config) => run_script(alloc, purpose, config, script, out),
+        Err(_) => Err(RunStop::NoMemory),
+    }
+}
+
+/// Answers a text that is no topology.
+pub fn refuse_topology<W: Write>(fault: ReadFault, out: &mut W) -> Result<Status, RunStop>
+    ensures leaves { Leaves
+        (λ output. (fault ≢ ReadFault.NoMemory) × (output ≡ (bad_topology_text fault, Status.BadInput)))
+        (W.contents out.old) (W.contents out.new) result }
+    ensures stop { IfErr result IsOutputStop }
+{
+    if fault == ReadFault::NoMemory {
+        return Err(RunStop::NoMemory);
+    }
+    put_topology_fault(out, fault)?;
+    Ok(Status::BadInput)
+}
+
+// Answers a script that is too long.
+fn refuse_script<W: Write>(out: &mut W) -> Result<Status, RunStop>
+    ensures leaves { Leaves (λ output. output ≡ (too_long_text, Status.BadInput)) (W.contents out.old)
+        (W.contents out.new) result }
+    ensures stop { IfErr result IsOutputStop }
+{
+    put_too_long(out)?;
+    Ok(Status::BadInput)
+}
+
+fn run_script<P: Application, W: Write>(
+    alloc: Global,
+    purpose: Purpose,
+    mut config: Config<P>,
+    script: &[u8],
+    out: &mut W,
+) -> Result<Status, RunStop>
+    ensures leaves { Leaves
+        (λ output. output ≡ script_output (meaning_of P.app P.text P.from_text P.names) purpose config script.now)
+        (W.contents out.old) (W.contents out.new) result }
+    ensures stop { IfErr result IsOutputStop }
+{
+    if script.len() > MAX_TEXT {
+        return refuse_script(out);
+    }
+    match answer_lines(alloc, &mut config, script, out) {
+        Ok(answered) => end_run(alloc, purpose, &config, answered, out),
+        Err(stop) => Err(stop),
+    }
+}
+
+// Ends a run whose lines ended so: a check follows good lines, if the run is for one.
+fn end_run<P: Application, W: Write>(
+    alloc: Global,
+    purpose: Purpose,
+    config: &Config<P>,
+    answered: Status,
+    out: &mut W,
+) -> Result<Status, RunStop>
+    ensures ok { IfOk result
+        (λ status. let last = ending (meaning_of P.app P.text P.from_text P.names) purpose config.now answered in
+        (status ≡ last.1) × Appends (W.contents out.old) (W.contents out.new) last.0) }
+    ensures err { OnErr result (AppendsPrefix (W.contents out.old) (W.contents out.new)
+        (ending (meaning_of P.app P.text P.from_text P.names) purpose config.now answered).0) }
+    ensures stop { IfErr result IsOutputStop }
+{
+    match (purpose, answered) {
+        (Purpose::Check, Status::Good) => answer_check(alloc, config, out),
+        _ => Ok(answered),
+    }
+}
+
+// Answers the lines of a script in order, up to the first bad one.
+fn answer_lines<P: Application, W: Write>(
+    alloc: Global,
+    config: &mut Config<P>,
+    script: &[u8],
+    out: &mut W,
+) -> Result<Status, RunStop>
+    requires { length script.now ≤ MAX_TEXT }
+    ensures leaves { let a = answers (meaning_of P.app P.text P.from_text P.names) config.old 1 (lines_of script.now) in
+        Leaves (λ output. output ≡ (a.text, a.status)) (W.contents out.old) (W.contents out.new) result }
+    ensures config { OnOk result
+        (config.new
+        ≡ (answers (meaning_of P.app P.text P.from_text P.names) config.old 1 (lines_of script.now)).config) }
+    ensures stop { IfErr result IsOutputStop }
+{
+    let mut rest = script;
+    let mut number = 1;
+    while let Some((line, after)) = split_line(rest) {
+        match answer_line(alloc, config, number, line, out) {
+            Ok(Status::Good) => {}
+            Ok(ended) => return Ok(ended),
+            Err(stop) => return Err(stop),
+        }
+        rest = after;
+        number += 1;
+    }
+    answer_line(alloc, config, number, rest, out)
+}
+
+// Answers the line with this number. Most lines are events: they are read first and by themselves,
+// since a command of any kind may hold the text of a fault, with which it is slow to move.
+fn answer_line<P: Application, W: Write>(
+    alloc: Global,
+    config: &mut Config<P>,
+    number: u64,
+    line: &[u8],
+    out: &mut W,
+) -> Result<Status, RunStop>
+    ensures ok { IfOk result
+        (λ status. let a = answer_to (meaning_of P.app P.text P.from_text P.names) config.old number
+        (line_of P.names line.now) in
+        (status ≡ a.status) × (config.new ≡ a.config) × Appends (W.contents out.old) (W.contents out.new) a.text) }
+    ensures err { OnErr result
+        (AppendsPrefix (W.contents out.old) (W.contents out.new)
+        (answer_to (meaning_of P.app P.text P.from_text P.names) config.old number (line_of P.names line.now)).text) }
+    ensures stop { IfErr result IsOutputStop }
+{
+    match read_event(line) {
+        Some(event) => {
+            answer_step(alloc, config, event, out)?;
+            Ok(Status::Good)
+        }
+        None => answer_any_line(alloc, config, number, line, out),
+    }
+}
+
+// Answers the line with this number, whatever it is.
+fn answer_any_line<P: Application, W: Write>(
+    alloc: Global,
+    config: &mut Config<P>,
+    number: u64,
+    line: &[u8],
+    out: &mut W,
+) -> Result<Status, RunStop>
+    ensures ok { IfOk result
+        (λ status. let a = answer_to (meaning_of P.app P.text P.from_text P.names) config.old number
+        (line_of P.names line.now) in
+        (status ≡ a.status) × (config.new ≡ a.config) × Appends (W.contents out.old) (W.contents out.new) a.text) }
+    ensures err { OnErr result
+        (AppendsPrefix (W.contents out.old) (W.contents out.new)
+        (answer_to (meaning_of P.app P.text P.from_text P.names) config.old number (line_of P.names line.now)).text) }
+    ensures stop { IfErr result IsOutputStop }
+{
+    match read_line::<P>(alloc, line)? {
+        Line::Silent => Ok(Status::Good),
+        Line::Asks(command) => {
+            answer(alloc, config, command, out)?;
+            Ok(Status::Good)
+        }
+        Line::Bad => {
+            put_bad_line(out, number)?;
+            Ok(Status::BadInput)
+        }
+    }
+}
