@@ -14,7 +14,7 @@ mod put;
 mod row;
 mod table;
 
-pub use case_set::CaseSet;
+pub use case_set::{CaseSet, MOST_CASES};
 pub use cutting::cut;
 pub use list::{ListItem, put_list};
 pub use number::read_number;

@@ -20,6 +20,7 @@ mod verifier;
 
 pub use book::{Book, MAX_ENTRIES};
 pub use entry::{Entry, Receipt, Report, Summary, VerifyFault};
+pub use lines::MAX_LINE;
 pub use read::{is_graphic, is_printable, read_book};
 pub use refusal::{ApplyRefusal, AtFault, BookRefusal, DisturbRefusal};
 pub use stretches::{
