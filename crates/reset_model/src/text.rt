@@ -79,8 +79,8 @@ fn event_of(kind: EventKind, rest: &[u8]) -> Option<Event>
     }
 }
 
-// Two numbers with a space between them.
-fn two_numbers(text: &[u8]) -> Option<(u32, u32)>
+/// Two numbers with a space between them, as the whole of a text.
+pub fn two_numbers(text: &[u8]) -> Option<(u32, u32)>
     ensures found { IfSome result (λ ns. words_of text.now ≡ decimal ns.0 ∷ decimal ns.1 ∷ []) }
     ensures small { IfSome result (λ ns. (ns.0 < 2 ^ 32) × (ns.1 < 2 ^ 32)) }
     ensures only { IfNone result
