@@ -9,12 +9,12 @@ ghost use Rattle.tree_layer.specs.declared.regs.TreeRegs.{TreeRegs};
 
 use crate::effects::{adopted, claimed, followed};
 use crate::guards::{
-    has_other_dist, has_other_root, is_far, is_low, is_odd_root, is_stray, near_regs,
-    some_greater_root, some_shorter_way,
+    has_other_dist, has_other_root, is_far, is_low, is_odd_root, is_stray, some_greater_root,
+    some_shorter_way,
 };
 use crate::regs::{TreeRefusal, TreeRegs};
 use crate::view::TreeView;
-use action_tables::{CaseRow, CaseSet, case_rows, enabled_cases, fire_case};
+use action_tables::{CaseRow, CaseSet, case_rows, enabled_cases, fire_case, regs_of};
 
 // The rows, for the macro that is named. `$asked` are the neighbours that rows 7 and 8 may adopt.
 macro_rules! tree_table {
@@ -80,7 +80,7 @@ pub fn tree_fire(view: &TreeView, case: u8, from: Option<u32>) -> Result<TreeReg
         }
         Some(id) => {
             if names_neighbour {
-                fire_from(view, case, id, near_regs(view.near(), id))
+                fire_from(view, case, id, regs_of(view.near(), id))
             } else {
                 Err(TreeRefusal::StrangeNeighbour)
             }

@@ -2,7 +2,7 @@
 use Rattle.std.specs.Prelude.{◌≡◌, ℕ, ◌+◌, Bool, true, false, not, ◌&&◌, ◌||◌, ◌==◌, if◌then◌else◌, List, [], ◌∷◌}
 use Rattle.std.specs.Prelude.{codes, Option, Some, None, Result, Ok, Err, ◌⊎◌, nat_lt}
 use Rattle.std.specs.List.{list_all, list_any}
-use Rattle.std.specs.Map.{lookup}
+use Rattle.action_tables.specs.Nodes.{regs_of}
 use Rattle.action_tables.specs.Table.{Row, fired_of}
 use Rattle.wave_layer.specs.declared.regs.Phase.{Phase}
 use Rattle.wave_layer.specs.declared.regs.Phase.TheVariants.{Normal, Initiate, Reset}
@@ -191,10 +191,6 @@ wave_table v asked =
     }
     ∷ []
 
--- the registers of the child with this id
-abbrev pub child_regs : ℕ → List (ℕ × WaveRegs) → Option WaveRegs
-child_regs id children = lookup (λ child. child == id) children
-
 -- the rows that name a child
 abbrev pub names_child : ℕ → Bool
 names_child n = n == 2
@@ -211,7 +207,7 @@ wave_fired v n None =
     else (if names_child n then Err NotChild else fired_of NoSuchCase NotEnabled (wave_table v []) n)
 wave_fired v n (Some id) =
     if nat_lt n 1 || nat_lt 11 n then Err NoSuchCase
-    else (if names_child n then fired_at v n id (child_regs id v.children) else Err NotChild)
+    else (if names_child n then fired_at v n id (regs_of id v.children) else Err NotChild)
 
 -- the predicate of a node's registers and those of its father, a neighbour
 pub record WaveHolds (own up : WaveRegs) : Type 0 where

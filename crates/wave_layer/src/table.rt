@@ -9,12 +9,12 @@ ghost use Rattle.wave_layer.specs.WaveTable.{LocalView, fired_at, wave_fired, wa
 
 use crate::effects::{asked, completed, finished, joined, mended, opened};
 use crate::guards::{
-    child_regs, differs_awake, differs_reset, is_asked, is_late, is_normal, joins_asked,
-    joins_normal, may_complete, may_finish, may_open, resets_alone,
+    differs_awake, differs_reset, is_asked, is_late, is_normal, joins_asked, joins_normal,
+    may_complete, may_finish, may_open, resets_alone,
 };
 use crate::regs::{WaveMove, WaveRefusal, WaveRegs};
 use crate::view::WaveView;
-use action_tables::{CaseRow, CaseSet, case_rows, enabled_cases, fire_case};
+use action_tables::{CaseRow, CaseSet, case_rows, enabled_cases, fire_case, regs_of};
 
 // The only row that names a child, the relay.
 const RELAY: u8 = 2;
@@ -83,7 +83,7 @@ pub fn wave_fire(view: &WaveView, case: u8, child: Option<u32>) -> Result<WaveMo
         }
         Some(id) => {
             if case == RELAY {
-                fire_relay(view, id, child_regs(view.children(), id))
+                fire_relay(view, id, regs_of(view.children(), id))
             } else {
                 Err(WaveRefusal::NotChild)
             }
