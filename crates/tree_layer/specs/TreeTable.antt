@@ -1,11 +1,11 @@
 -- The rows of the tree table on what one node sees.
-use Rattle.std.specs.Prelude.{◌≢◌, ℕ, ◌+◌, ◌<◌, Bool, true, false, not, ◌&&◌, ◌||◌, ◌==◌, if◌then◌else◌, List, [], ◌∷◌}
-use Rattle.std.specs.Prelude.{codes, Option, Some, None, Result, Ok, Err, nat_lt, nat_le}
+use Rattle.std.specs.Prelude.{◌≢◌, ℕ, ◌+◌, ◌<◌, Bool, true, false, not, ◌&&◌, ◌||◌, ◌==◌, List, [], ◌∷◌}
+use Rattle.std.specs.Prelude.{codes, Option, Result, Ok, nat_lt, nat_le}
 use Rattle.std.specs.List.{list_any}
 use Rattle.std.specs.List.Sorted.{IsStrictlyIncreasing}
 use Rattle.std.specs.Option.{option_map_or}
 use Rattle.action_tables.specs.Nodes.{ids_of, regs_of}
-use Rattle.action_tables.specs.Table.{Row, fired_of}
+use Rattle.action_tables.specs.Table.{Row, fired_naming}
 use Rattle.tree_layer.specs.declared.regs.TreeRegs.{TreeRegs}
 use Rattle.tree_layer.specs.declared.regs.TreeRefusal.{TreeRefusal}
 use Rattle.tree_layer.specs.declared.regs.TreeRefusal.TheVariants.{NoSuchCase, StrangeNeighbour, NotEnabled}
@@ -128,16 +128,7 @@ tree_table v asked =
 abbrev pub names_neighbour : ℕ → Bool
 names_neighbour n = n == 7 || n == 8
 
--- row n with the neighbour that it names, None where there is no such neighbour
-abbrev pub fired_from : LocalView → ℕ → ℕ → Option TreeRegs → Result TreeRegs TreeRefusal
-fired_from v n j None = Err StrangeNeighbour
-fired_from v n j (Some regs) = fired_of NoSuchCase NotEnabled (tree_table v ((j, regs) ∷ [])) n
-
 -- case n, with this neighbour named: what the registers become, or the first refusal
 abbrev pub tree_fired : LocalView → ℕ → Option ℕ → Result TreeRegs TreeRefusal
-tree_fired v n None =
-    if nat_lt n 1 || nat_lt 8 n then Err NoSuchCase
-    else (if names_neighbour n then Err StrangeNeighbour else fired_of NoSuchCase NotEnabled (tree_table v []) n)
-tree_fired v n (Some j) =
-    if nat_lt n 1 || nat_lt 8 n then Err NoSuchCase
-    else (if names_neighbour n then fired_from v n j (regs_of j v.near) else Err StrangeNeighbour)
+tree_fired v n named =
+    fired_naming 8 names_neighbour NoSuchCase StrangeNeighbour NotEnabled (tree_table v) v.near n named

@@ -2,9 +2,9 @@
 
 ghost use Rattle.std.specs.Prelude.{◌≡◌, ◌≤◌, ◌↔◌, [], ℕ, List, IsTrue, length, map};
 ghost use Rattle.action_tables.specs.RowText.{as_printed};
-ghost use Rattle.action_tables.specs.Table.{enabled_of, fired_of, printed};
-ghost use Rattle.tree_layer.specs.declared.regs.TreeRefusal.TheVariants.{NoSuchCase, NotEnabled};
-ghost use Rattle.tree_layer.specs.TreeTable.{LocalView, fired_from, tree_fired, tree_table};
+ghost use Rattle.action_tables.specs.Table.{enabled_of, fired_of, fired_toward, printed};
+ghost use Rattle.tree_layer.specs.declared.regs.TreeRefusal.TheVariants.{NoSuchCase, NotEnabled, StrangeNeighbour};
+ghost use Rattle.tree_layer.specs.TreeTable.{LocalView, tree_fired, tree_table};
 ghost use Rattle.tree_layer.specs.declared.regs.TreeRegs.{TreeRegs};
 
 use crate::effects::{adopted, claimed, followed};
@@ -95,7 +95,9 @@ fn fire_from(
     id: u32,
     regs: Option<TreeRegs>,
 ) -> Result<TreeRegs, TreeRefusal>
-    ensures { result ≡ fired_from view.now case id regs }
+    ensures { result
+        ≡ fired_toward StrangeNeighbour (λ asked. fired_of NoSuchCase NotEnabled (tree_table view.now asked) case) id
+        regs }
 {
     match regs {
         Some(regs) => fire_row(view, case, &[(id, regs)]),
