@@ -1,13 +1,13 @@
 -- Numbers that stand beside values ascend exactly where each is below the next.
-use Rattle.std.proofs.Common.{◌≡◌, ℕ, ◌+◌, ◌<◌, ◌≤◌, ◌↔◌, Bool, true, false, IsTrue, List, length, get_or, map, nat_lt}
-use Rattle.std.proofs.Common.{refl, sym, arith}
+use Rattle.std.proofs.Common.{◌≡◌, ℕ, ◌+◌, ◌<◌, ◌≤◌, ◌↔◌, Bool, true, false, IsTrue, List, [], ◌∷◌, length, get_or}
+use Rattle.std.proofs.Common.{map, nat_lt, refl, sym, arith}
 use Rattle.std.proofs.lemmas.Bool.{ltb-true, ltb-false}
 use Rattle.std.proofs.lemmas.List.{length-map}
 use Rattle.std.proofs.Math.ListN.{get_or-map}
 use Rattle.std.specs.List.{AllAdjacentBelow, IsAllAdjacentAnswer}
 use Rattle.std.specs.List.Sorted.{IsStrictlyIncreasing}
 
--- some value has to be there, for what is read past an end
+-- where some value is there, for what is read past an end
 module _ {X : Type 0} (some : X) where
   abbrev numbers : List (ℕ × X) → List ℕ
   numbers items = map (λ c. c.0) items
@@ -31,12 +31,11 @@ module _ {X : Type 0} (some : X) where
       rw (get_or-map (λ (c : ℕ × X). c.0) items k stranger, get_or-map (λ (c : ℕ × X). c.0) items (k + 1) stranger)
       (ltb-true _ _ (sym (below k stranger inside)))
 
-  -- the answer of a test of each number against the next
-  pub ascends_from_answer : (items : List (ℕ × X)) (answer : Bool)
+  from_answer : (items : List (ℕ × X)) (answer : Bool)
       → IsAllAdjacentAnswer (λ x y b. b ≡ nat_lt x.0 y.0) items answer → IsTrue answer
       ↔ IsStrictlyIncreasing (numbers items)
-  ascends_from_answer items true below = (λ _. ascends_at items below, λ _. refl)
-  ascends_from_answer items false (k, inside, above) = (
+  from_answer items true below = (λ _. ascends_at items below, λ _. refl)
+  from_answer items false (k, inside, above) = (
     λ wrong. cc,
     λ ascending.
         let high : (get_or items (k + 1) stranger).0 ≤ (get_or items k stranger).0 =
@@ -44,3 +43,11 @@ module _ {X : Type 0} (some : X) where
         let low = rise_at items k (ascending k (rw length-map inside)) in
         absurd (omega arith),
   )
+
+-- the answer of a test of each number against the next
+pub ascends_from_answer : {X : Type 0} (items : List (ℕ × X)) (answer : Bool)
+    → IsAllAdjacentAnswer (λ x y b. b ≡ nat_lt x.0 y.0) items answer
+    → IsTrue answer ↔ IsStrictlyIncreasing (map (λ item. item.0) items)
+ascends_from_answer [] true below = (λ _ k h. absurd (omega (arith, h)), λ _. refl)
+ascends_from_answer [] false (k, inside, above) = absurd (omega (arith, inside))
+ascends_from_answer (item ∷ items) answer told = from_answer item.1 (item ∷ items) answer told

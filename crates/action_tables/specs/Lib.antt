@@ -1,5 +1,6 @@
 pub mod Written
 pub mod Numbers
+pub mod Nodes
 pub mod Table
 pub mod Lists
 pub mod RowText

@@ -5,6 +5,9 @@ ghost use Rattle.action_tables.specs.Numbers.{all_cases, has_bit, is_among, with
 
 use std::marker::Model;
 
+/// The greatest number that a case can have: a set keeps a bit for each, and there are 16.
+pub const MOST_CASES: u8 = 16;
+
 /// A set of case numbers from 1 to 16.
 ///
 /// A contract sees it as the list of its numbers, ascending. It is one word, and allocates nothing.
@@ -64,7 +67,7 @@ impl CaseSet {
         ensures { result ≡ is_among case self }
     {
         let bits = self.bits;
-        if case < 1 || case > 16 {
+        if case < 1 || case > MOST_CASES {
             return false;
         }
         bits >> (case - 1) & 1 == 1

@@ -9,12 +9,12 @@ pub fn cut(text: &[u8], byte: u8) -> Option<(&[u8], &[u8])>
     ensures first { IfSome result (λ parts. HasNo byte parts.0.now) }
     ensures none { IfNone result (HasNo byte text.now) }
 {
-    let place = place_of(text, byte)?;
-    Some((&text[..place], &text[place + 1..]))
+    let index = index_of(text, byte)?;
+    Some((&text[..index], &text[index + 1..]))
 }
 
-// The place of the first byte of this value.
-fn place_of(text: &[u8], byte: u8) -> Option<usize>
+// The index of the first byte of this value.
+fn index_of(text: &[u8], byte: u8) -> Option<usize>
     ensures { result ≡ position (λ b. b == byte) text.now }
 {
     text.iter().position(|b| *b == byte)

@@ -13,7 +13,7 @@ mod refusal;
 mod view;
 
 pub use application::Application;
-pub use identifier::{is_id, read_id};
+pub use identifier::{is_id, named_id, read_id};
 pub use idle::Idle;
 pub use reads::Reads;
 pub use refusal::{ClockRefusal, LocalFault};

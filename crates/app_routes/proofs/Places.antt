@@ -12,7 +12,7 @@ use Rattle.std.proofs.lemmas.Bool.{cases_eq, cases_lt}
 use Rattle.std.proofs.lemmas.List.{get_or-map, length-map, take-set, drop-set, drop_all, take_all, append-nil}
 use Rattle.std.proofs.lemmas.List.Elements.{All-append, All-filter}
 use Rattle.topology.proofs.Ascending.{rises}
-use Rattle.app_interface.proofs.KeptByPlace.{keeps_back, keeps_prefix}
+use Rattle.app_interface.proofs.KeptByIndex.{keeps_back, keeps_prefix}
 use Rattle.app_interface.proofs.ListEnds.{all_one}
 use Rattle.app_routes.specs.Entries.{AreRoutes, IsAscending, IsEntry, IsPlaceOf, route_of, set_route}
 use Rattle.app_routes.specs.LawsOfEntries.{find_first, find_none, set_ascends}

@@ -1,6 +1,7 @@
 -- Each entry of each node is a route, at the start and after each pull.
 use Rattle.std.proofs.Common.{◌≡◌, ℕ, ◌≤◌, Bool, true, false, ◌==◌, cond, List, [], ◌∷◌, Option, Some, None, Ok, Err}
 use Rattle.std.proofs.Common.{length, unwrap_or, Contains, refl, sym, ◌∙◌, subst, arith, eqb-true, ⊎_elim}
+use Rattle.std.specs.Prelude.{option_and_then}
 use Rattle.std.specs.Result.{result_ok}
 use Rattle.std.proofs.lemmas.Bool.{cases_eq}
 use Rattle.topology.specs.Graph.{Graph, IsGraph, IsNode, AreLinked, Changes}
@@ -88,16 +89,24 @@ pub record Pulls (K case j : ℕ) (own : List Entry) (near : List (ℕ × List E
 
 pulls_from : (K case j : ℕ) (own new : List Entry) (near : List (ℕ × List Entry))
     → routes_next K case (Some j) own near ≡ Some new → Pulls K case j own near new
-pulls_from K case j own new near = at (is_id j) (1 == case) (some_better K own (entries_of j near)) refl
+pulls_from K case j own new near = at (is_id j)
   where
-    at : (a b c : Bool) → (1 == case) ≡ b
-        → cond a
-        (result_ok (cond b (cond c (Ok (pulled K j own (entries_of j near))) (Err NotEnabled)) (Err NotEnabled))) None
+    fired : (b c : Bool) → (1 == case) ≡ b
+        → result_ok (cond b (cond c (Ok (pulled K j own (entries_of j near))) (Err NotEnabled)) (Err NotEnabled))
         ≡ Some new → Pulls K case j own near new
-    at false b c is e = absurd (cc)
-    at true true true is e = record { one = eqb-true 1 case is; is = cc }
-    at true true false is e = absurd (cc)
-    at true false c is e = absurd (cc)
+    fired true true is e = record { one = eqb-true 1 case is; is = cc }
+    fired true false is e = absurd (cc)
+    fired false c is e = absurd (cc)
+
+    at : (a : Bool)
+        → option_and_then
+        (λ k. result_ok
+        (cond (1 == case)
+        (cond (some_better K own (entries_of k near)) (Ok (pulled K k own (entries_of k near))) (Err NotEnabled))
+        (Err NotEnabled))) (cond a (Some j) None) ≡ Some new
+        → Pulls K case j own near new
+    at false e = absurd (cc)
+    at true e = fired (1 == case) (some_better K own (entries_of j near)) refl e
 
 module _ (g : Graph) (are : IsGraph g) (K i j : ℕ) (v v' : ℕ → List Entry) (node : IsNode g i)
     (linked : AreLinked g i j) (theirs : List Entry) (changes : Changes g v i (pulled K j (v i) theirs) v') where

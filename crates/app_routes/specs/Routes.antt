@@ -3,8 +3,7 @@ use Rattle.std.specs.Prelude.{ℕ, ◌==◌, if◌then◌else◌, List, [], ◌�
 use Rattle.std.specs.Result.{result_ok}
 use Rattle.action_tables.specs.Table.{Row, fired_of}
 use Rattle.app_interface.specs.Application.{App}
-use Rattle.app_interface.specs.Ids.{is_id}
-use Rattle.app_interface.specs.Views.{seen_at}
+use Rattle.app_interface.specs.Views.{seen_at, toward}
 use Rattle.app_interface.specs.declared.reads.Reads.{Reads}
 use Rattle.app_interface.specs.declared.reads.Reads.TheVariants.{One}
 use Rattle.app_interface.specs.declared.refusal.ClockRefusal.{ClockRefusal}
@@ -33,9 +32,8 @@ routes_table K j own theirs =
 
 -- what a case leaves, toward a neighbour that is named by an identifier
 abbrev pub routes_next : ℕ → ℕ → Option ℕ → List Entry → List (ℕ × List Entry) → Option (List Entry)
-routes_next K case None own seen = None
-routes_next K case (Some j) own seen =
-    if is_id j then result_ok (fired_of NotEnabled NotEnabled (routes_table K j own (entries_of j seen)) case) else None
+routes_next K case with own seen =
+    toward with (λ j. result_ok (fired_of NotEnabled NotEnabled (routes_table K j own (entries_of j seen)) case))
 
 abbrev pub routes_reads : ℕ → Option Reads
 routes_reads case = if 1 == case then Some One else None

@@ -14,7 +14,7 @@ use crate::entry::Entry;
 use crate::local::RoutesLocal;
 use crate::pull;
 use action_tables::{CaseRow, case_rows, enabled_cases, fire_case};
-use app_interface::{ClockRefusal, Here, Seen, is_id, seen_at};
+use app_interface::{ClockRefusal, Here, Seen, named_id, seen_at};
 use std::alloc::Global;
 
 // The row, for the macro that is named. `$better` says whether some entry of the neighbour `$j`, of
@@ -40,12 +40,11 @@ pub fn can(
 ) -> bool
     ensures { result ≡ is_some (routes_next here.k case with own.now (seen_values seen.now)) }
 {
-    match with {
+    match named_id(with) {
         Some(j) => {
             let theirs = entries_of(j, seen);
             let better = pull::some_better(here.k, own, theirs);
-            is_id(j)
-                && routes_table!(enabled_cases!(); alloc, bound, own, j, theirs, better).has(case)
+            routes_table!(enabled_cases!(); alloc, bound, own, j, theirs, better).has(case)
         }
         None => false,
     }
@@ -64,14 +63,8 @@ pub fn on_clock(
     ensures not_enabled { result ≡ Err ClockRefusal.NotEnabled
         ↔ routes_next here.k case with own.now (seen_values seen.now) ≡ None }
 {
-    match with {
-        Some(j) => {
-            if is_id(j) {
-                fire(alloc, here.k, case, own, j, entries_of(j, seen))
-            } else {
-                Err(ClockRefusal::NotEnabled)
-            }
-        }
+    match named_id(with) {
+        Some(j) => fire(alloc, here.k, case, own, j, entries_of(j, seen)),
         None => Err(ClockRefusal::NotEnabled),
     }
 }

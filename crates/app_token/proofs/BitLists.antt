@@ -9,7 +9,7 @@ use Rattle.std.proofs.lemmas.List.Kept.{IsStrictlyIncreasing-filter}
 use Rattle.topology.specs.Id.{IsId}
 use Rattle.topology.proofs.Ascending.{finds, member_by_search, index_once}
 use Rattle.topology.proofs.Inserting.{inserted}
-use Rattle.app_interface.proofs.KeptByPlace.{keeps_all, keeps_back, keeps_prefix}
+use Rattle.app_interface.proofs.KeptByIndex.{keeps_all, keeps_back, keeps_prefix}
 use Rattle.app_interface.proofs.ListEnds.{all_one}
 use Rattle.app_token.specs.Bits.{IsBits, bit_of, toggled, without_id}
 

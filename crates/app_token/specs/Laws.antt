@@ -3,6 +3,7 @@ use Rattle.std.proofs.Common.{◌≡◌, ◌≢◌, ◌⊎◌, ℕ, ◌+◌, ◌
 use Rattle.std.proofs.Common.{◌∷◌, Option, Some, None, Ok, Err, length, inl, inr, refl, sym, ap, ap₂, ◌∙◌, subst, arith}
 use Rattle.std.proofs.Common.{eq-eqb, ne_eqb, eqb-true, ⊎_elim}
 use Rattle.std.specs.List.{count_by, sum_by}
+use Rattle.std.specs.Prelude.{option_and_then}
 use Rattle.std.specs.Result.{result_ok}
 use Rattle.std.proofs.Math.Bool.{and-false}
 use Rattle.std.proofs.lemmas.Bool.{cases_eq}
@@ -55,11 +56,11 @@ moves_toward : (i case j : ℕ) (own new : TokenLocal) (near : List (ℕ × Toke
 moves_toward i case j own new near = at (is_id j)
   where
     at : (b : Bool)
-        → cond b
-        (result_ok
-        (cond (1 == case) (cond own.hold (Ok (passed own j)) (Err NotEnabled))
-        (cond (2 == case) (cond (not own.hold && arrives i j own near) (Ok (took own j)) (Err NotEnabled))
-        (Err NotEnabled)))) None ≡ Some new
+        → option_and_then
+        (λ k. result_ok
+        (cond (1 == case) (cond own.hold (Ok (passed own k)) (Err NotEnabled))
+        (cond (2 == case) (cond (not own.hold && arrives i k own near) (Ok (took own k)) (Err NotEnabled))
+        (Err NotEnabled)))) (cond b (Some j) None) ≡ Some new
         → Moves i case own near new j
     at false e = absurd (cc)
     at true e =

@@ -5,8 +5,7 @@ use Rattle.std.specs.Option.{option_map_or}
 use Rattle.std.specs.Result.{result_ok}
 use Rattle.action_tables.specs.Table.{Row, fired_of}
 use Rattle.app_interface.specs.Application.{App}
-use Rattle.app_interface.specs.Ids.{is_id}
-use Rattle.app_interface.specs.Views.{seen_at}
+use Rattle.app_interface.specs.Views.{seen_at, toward}
 use Rattle.app_interface.specs.declared.reads.Reads.{Reads}
 use Rattle.app_interface.specs.declared.reads.Reads.TheVariants.{Toward, One}
 use Rattle.app_interface.specs.declared.refusal.ClockRefusal.{ClockRefusal}
@@ -43,9 +42,8 @@ token_table j own arriving =
 
 -- what a case leaves, toward a neighbour that is named by an identifier
 abbrev pub token_next : ℕ → ℕ → Option ℕ → TokenLocal → List (ℕ × TokenLocal) → Option TokenLocal
-token_next i case None own seen = None
-token_next i case (Some j) own seen =
-    if is_id j then result_ok (fired_of NotEnabled NotEnabled (token_table j own (arrives i j own seen)) case) else None
+token_next i case with own seen =
+    toward with (λ j. result_ok (fired_of NotEnabled NotEnabled (token_table j own (arrives i j own seen)) case))
 
 abbrev pub token_reads : ℕ → Option Reads
 token_reads case = if 1 == case then Some Toward else (if 2 == case then Some One else None)

@@ -13,7 +13,7 @@ ghost use Rattle.app_token.specs.declared.local.TokenLocal.{TokenLocal};
 use crate::links::is_in_flight;
 use crate::local::TokenLocal;
 use action_tables::{CaseRow, case_rows, enabled_cases, fire_case};
-use app_interface::{ClockRefusal, Here, Seen, is_id, seen_at};
+use app_interface::{ClockRefusal, Here, Seen, named_id, seen_at};
 use std::alloc::Global;
 
 // The rows, for the macro that is named. `$arrives` says whether the token is on its way from the
@@ -41,10 +41,10 @@ pub fn can(
 ) -> bool
     ensures { result ≡ is_some (token_next here.id case with own.now (seen_values seen.now)) }
 {
-    match with {
+    match named_id(with) {
         Some(j) => {
             let arriving = arrives(here.id, j, own, seen);
-            is_id(j) && token_table!(enabled_cases!(); alloc, own, j, arriving).has(case)
+            token_table!(enabled_cases!(); alloc, own, j, arriving).has(case)
         }
         None => false,
     }
@@ -63,15 +63,8 @@ pub fn on_clock(
     ensures not_enabled { result ≡ Err ClockRefusal.NotEnabled
         ↔ token_next here.id case with own.now (seen_values seen.now) ≡ None }
 {
-    match with {
-        Some(j) => {
-            if is_id(j) {
-                let arriving = arrives(here.id, j, own, seen);
-                fire(alloc, case, own, j, arriving)
-            } else {
-                Err(ClockRefusal::NotEnabled)
-            }
-        }
+    match named_id(with) {
+        Some(j) => fire(alloc, case, own, j, arrives(here.id, j, own, seen)),
         None => Err(ClockRefusal::NotEnabled),
     }
 }

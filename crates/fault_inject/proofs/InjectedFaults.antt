@@ -20,7 +20,7 @@ use Rattle.topology.proofs.Reaching.{walk_from_test}
 use Rattle.tree_layer.specs.declared.regs.TreeRegs.{TreeRegs}
 use Rattle.wave_layer.specs.declared.regs.WaveRegs.{WaveRegs}
 use Rattle.reset_model.specs.Configuration.{Configuration, with_graph, with_local, with_tree, with_wave}
-use Rattle.reset_model.proofs.NodePlaces.{a_node, no_node}
+use Rattle.reset_model.proofs.NodePositions.{a_node, no_node}
 use Rattle.fault_inject.specs.Effects.{damaged, injected, refusals}
 use Rattle.fault_inject.specs.declared.fault.Fault.{Fault}
 use Rattle.fault_inject.specs.declared.fault.Fault.TheVariants.{SetTree, SetWave, SetLocal, LinkDown, LinkUp}

@@ -15,7 +15,7 @@ ghost use Rattle.wave_layer.specs.declared.regs.Phase.{Phase};
 use crate::fault::Fault;
 use crate::local_text::LocalText;
 use action_tables::{Part, WriteFault, cut, put_parts, read_number};
-use reset_machine::split_word;
+use reset_machine::{split_word, two_numbers};
 use std::alloc::{AllocError, Global};
 use std::io::Write;
 use tree_layer::TreeRegs;
@@ -124,17 +124,6 @@ fn link_up(text: &[u8]) -> Option<Fault>
 {
     let (a, b) = two_numbers(text)?;
     Some(Fault::LinkUp { a, b })
-}
-
-// Two numbers with a space between them.
-fn two_numbers(text: &[u8]) -> Option<(u32, u32)>
-    ensures found { IfSome result (λ ns. words_of text.now ≡ decimal ns.0 ∷ decimal ns.1 ∷ []) }
-    ensures small { IfSome result (λ ns. (ns.0 < 2 ^ 32) × (ns.1 < 2 ^ 32)) }
-    ensures only { IfNone result ((m n : ℕ) → m < 2 ^ 32 → n < 2 ^ 32
-        → words_of text.now ≡ decimal m ∷ decimal n ∷ [] → ⊥) }
-{
-    let (first, second) = split_number(text)?;
-    Some((first, read_number(second)?))
 }
 
 // The number that is the first word of a text, and what follows the space after it.

@@ -1,31 +1,28 @@
 -- Entries leave a network where there was one: a connected graph, whose nodes have their registers and local states.
-use Rattle.std.proofs.Common.{◌≡◌, ◌≢◌, ℕ, ◌==◌, ◌&&◌, ◌||◌, not, Bool, true, false, cond, nat_eq, List, [], ◌∷◌}
+use Rattle.std.proofs.Common.{◌≡◌, ◌≢◌, ℕ, ◌==◌, ◌&&◌, ◌||◌, not, Bool, true, false, cond, List, [], ◌∷◌}
 use Rattle.std.proofs.Common.{length, Option, Some, None, Result, Ok, Err, ◌⊎◌, inl, inr, ⊎_elim}
-use Rattle.std.proofs.Common.{refl, sym, ap, ap₂, subst, ◌∙◌, arith}
-use Rattle.std.specs.FinSet as set
+use Rattle.std.proofs.Common.{refl, sym, ap, ap₂, subst, ◌∙◌}
 use Rattle.std.specs.List.{AllByRecursion}
 use Rattle.std.specs.Option.{option_and_then}
-use Rattle.std.specs.Ordering.{eq_by_cmp}
 use Rattle.std.proofs.lemmas.Bool.{and_parts, both_ways, eq-eqb, or_cases, or_left}
 use Rattle.action_tables.specs.Numbers.{is_among}
 use Rattle.app_interface.specs.Application.{App}
 use Rattle.topology.specs.Building.{joins}
 use Rattle.topology.specs.Changing.{Reason, first_of, with_link, without_link}
-use Rattle.topology.specs.Graph.{AreLinked, Graph, IsConnected, IsGraph, IsNode, are_linked, pair_cmp}
+use Rattle.topology.specs.Graph.{AreLinked, Graph, IsConnected, IsGraph, IsNode, are_linked}
 use Rattle.topology.specs.Reaching.{is_connected}
-use Rattle.topology.proofs.Counting.{one_direction}
+use Rattle.topology.proofs.Changed.{has_fewer, has_more}
 use Rattle.topology.proofs.Inserting.{joins_back, joins_ends}
 use Rattle.topology.proofs.Membership.{Contains-has}
 use Rattle.topology.proofs.Reaching.{connected_is_tested}
-use Rattle.topology.proofs.RowLemmas.{pair_total}
 use Rattle.topology.proofs.Walks.{walk_of_other}
-use Rattle.reset_model.specs.Configuration.{Configuration, IsShaped, put_at, with_graph}
+use Rattle.reset_model.specs.Configuration.{Configuration, IsShaped, with_graph}
 use Rattle.reset_model.specs.Planned.{Outcome, outcome_of}
 use Rattle.reset_model.specs.declared.event.Event.{Event}
 use Rattle.reset_model.specs.declared.step.Reply.{Reply}
 use Rattle.reset_model.proofs.ConfigurationSteps.{outcome_is_step}
 use Rattle.reset_model.proofs.RunShadows.{step_graph}
-use Rattle.reset_model.proofs.Shapes.{outcome_shaped}
+use Rattle.reset_model.proofs.Shapes.{length-put_at, outcome_shaped}
 use Rattle.fault_inject.specs.Effects.{damaged, injected, refusals, with_read}
 use Rattle.fault_inject.specs.declared.fault.Fault.{Fault}
 use Rattle.fault_inject.specs.declared.fault.Fault.TheVariants.{SetTree, SetWave, SetLocal, LinkDown, LinkUp}
@@ -42,40 +39,12 @@ pub record IsNetwork {L : Type 0} (c : Configuration L) : Type 0 where
 
 -- ---- one link more or less
 
-or_last : (x y s : Bool) → (y || (x || s)) ≡ (s || (x || y))
-or_last true true true = refl
-or_last true true false = refl
-or_last true false true = refl
-or_last true false false = refl
-or_last false true true = refl
-or_last false true false = refl
-or_last false false true = refl
-or_last false false false = refl
-
-and_last : (x y s : Bool) → (not y && (not x && s)) ≡ (s && not (x || y))
-and_last true true true = refl
-and_last true true false = refl
-and_last true false true = refl
-and_last true false false = refl
-and_last false true true = refl
-and_last false true false = refl
-and_last false false true = refl
-and_last false false false = refl
-
 module _ (g : Graph) (a b : ℕ) where
   linked_more : (x y : ℕ) → are_linked (with_link g a b) x y ≡ (are_linked g x y || joins x y (a, b))
-  linked_more x y =
-      set.contains-insert pair_total (set.insert g.links (a, b)) (b, a) (x, y)
-      ∙ ap (λ t. eq_by_cmp pair_cmp (x, y) (b, a) || t) (set.contains-insert pair_total g.links (a, b) (x, y))
-      ∙ or_last (eq_by_cmp pair_cmp (x, y) (a, b)) (eq_by_cmp pair_cmp (x, y) (b, a)) (are_linked g x y)
-      ∙ ap (λ t. are_linked g x y || t) (one_direction x y (a, b))
+  linked_more x y = has_more g.links a b (x, y)
 
   linked_fewer : (x y : ℕ) → are_linked (without_link g a b) x y ≡ (are_linked g x y && not (joins x y (a, b)))
-  linked_fewer x y =
-      set.contains-remove pair_total (set.remove g.links (a, b)) (b, a) (x, y)
-      ∙ ap (λ t. not (eq_by_cmp pair_cmp (x, y) (b, a)) && t) (set.contains-remove pair_total g.links (a, b) (x, y))
-      ∙ and_last (eq_by_cmp pair_cmp (x, y) (a, b)) (eq_by_cmp pair_cmp (x, y) (b, a)) (are_linked g x y)
-      ∙ ap (λ t. are_linked g x y && not t) (one_direction x y (a, b))
+  linked_fewer x y = has_fewer g.links a b (x, y)
 
   module _ (are : IsGraph g) where
     graph_less : IsGraph (without_link g a b)
@@ -127,15 +96,6 @@ module _ (g : Graph) (a b : ℕ) where
           )
 
 -- ---- faults
-
-length-put_at : {X : Type 0} (ids : List ℕ) (xs : List X) (i : ℕ) (y : X) → length xs ≡ length ids
-    → length (put_at ids xs i y) ≡ length ids
-length-put_at [] xs i y same = same
-length-put_at (k ∷ ks) [] i y same = same
-length-put_at (k ∷ ks) (x ∷ xs) i y same =
-    let rest : length (put_at ks xs i y) ≡ length ks = length-put_at ks xs i y (omega (arith, same)) in
-    elim (nat_eq k i) as (λ b. length (cond b (y ∷ xs) (x ∷ put_at ks xs i y)) ≡ length (k ∷ ks))
-    [ true ↦ same | false ↦ omega (arith, rest) ]
 
 -- where the first reason that holds is none, none of them holds
 none_holds : {F : Type 0} (reasons : List (Reason F)) → first_of reasons ≡ None

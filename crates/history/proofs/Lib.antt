@@ -4,6 +4,7 @@ mod Replays
 mod Checkpoints
 mod SegmentTexts
 mod Plays
+mod Books
 pub mod HistoryLines
 mod HistoryReadings
 mod LineCuts

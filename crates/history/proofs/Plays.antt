@@ -15,7 +15,7 @@ use Rattle.reset_model.specs.Configuration.{Configuration}
 use Rattle.reset_model.specs.Planned.{outcome_of, planned, written}
 use Rattle.reset_model.specs.View.{view_of}
 use Rattle.reset_model.specs.declared.step.StepRefusal.TheVariants.{StrangeNode}
-use Rattle.reset_model.proofs.Places.{list_any-position}
+use Rattle.reset_model.proofs.Positions.{list_any-position}
 use Rattle.topology.specs.Graph.{Graph}
 use Rattle.reset_model.specs.Steps.{event_node}
 use Rattle.fault_inject.specs.Effects.{injected}

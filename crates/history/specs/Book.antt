@@ -19,8 +19,12 @@ use Rattle.history.specs.declared.refusal.DisturbRefusal.{DisturbRefusal}
 use Rattle.history.specs.declared.refusal.DisturbRefusal.TheVariants as disturb
 use Rattle.history.specs.declared.refusal.ApplyRefusal.{ApplyRefusal}
 use Rattle.history.specs.declared.refusal.ApplyRefusal.TheVariants.{StrangeNode, Stale, BookFull, NoMemory}
+use Rattle.history.specs.declared.log.Log.{Log}
+use Rattle.history.specs.declared.player.Player.{Player}
 use Rattle.history.specs.Entries.{replayed}
 use Rattle.history.specs.HistoryText.{HasLine}
+use Rattle.history.specs.Played.{HasPlayed}
+use Rattle.history.specs.Segments.{IsLog, entries_of}
 
 -- what contracts see of a book: how it opened, what happened since, what that left, and how many entries it may have
 pub record BookView (L : Type 0) : Type 0 where
@@ -35,6 +39,14 @@ pub record IsBook {L : Type 0} (app : App L) (from_text : List ℕ → Option L)
   pub room : length b.entries ≤ b.limit
   pub small : b.limit ≤ 1000000
   pub lines : All HasLine b.entries
+
+-- what a player, a log and a limit are that keep a book: the player's is what the entries of the log leave from its
+-- opening, which are within the limit, and which a history may have
+abbrev pub IsKept : {P L : Type 0} → App L → (List ℕ → Option L) → Player P L → Log P L → ℕ → Type 0
+IsKept app from_text player log limit =
+    HasPlayed app from_text log.opening.value (entries_of log.segments) player
+    × (length (entries_of log.segments) ≤ limit) × (limit ≤ 1000000)
+    × All HasLine (entries_of log.segments) × IsLog app from_text log
 
 -- the book with an entry more, which left this
 abbrev pub with_entry : {L : Type 0} → BookView L → Entry → Configuration L → BookView L

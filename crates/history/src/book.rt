@@ -4,7 +4,7 @@ ghost use Rattle.std.specs.Prelude.{◌≡◌, ◌≢◌, ℕ, ◌+◌, ◌≤�
 ghost use Rattle.std.specs.Prelude.{◌<◌, ◌↔◌, take, Some, MatchResult};
 
 use crate::entry::{Entry, Receipt, Report};
-use crate::line::{lemma_fault_has_line, lemma_step_has_line};
+use crate::line::lemma_fault_has_line;
 use crate::log::Log;
 use crate::player::Player;
 use crate::refusal::{
@@ -29,11 +29,8 @@ pub struct Book<P: Application> {
 }
 
 impl<P: Application> Model for Book<P> {
-    ghost use Rattle.std.specs.Prelude.{◌≤◌, All, length};
-    ghost use Rattle.history.specs.Book.{BookView};
-    ghost use Rattle.history.specs.HistoryText.{HasLine};
-    ghost use Rattle.history.specs.Played.{HasPlayed};
-    ghost use Rattle.history.specs.Segments.{IsLog, entries_of};
+    ghost use Rattle.history.specs.Book.{BookView, IsKept};
+    ghost use Rattle.history.specs.Segments.{entries_of};
 
     ghost Value = { BookView P.Local };
 
@@ -49,9 +46,7 @@ impl<P: Application> Model for Book<P> {
       limit = b.limit;
     } };
 
-    ghost invariant = { λ b. HasPlayed P.app P.from_text b.log.opening.value (entries_of b.log.segments) b.player
-        × (length (entries_of b.log.segments) ≤ b.limit) × (b.limit ≤ 1000000)
-        × All HasLine (entries_of b.log.segments) × IsLog P.app P.from_text b.log };
+    ghost invariant = { λ b. IsKept P.app P.from_text b.player b.log b.limit };
 }
 
 impl<P: Application> Book<P> {
@@ -98,15 +93,7 @@ impl<P: Application> Book<P> {
         }
         let position = count + 1;
         match self.player.enter_step(alloc, position, event) {
-            Ok(reply) => {
-                lemma_step_has_line(event);
-                self.log.push(Entry::Step(event));
-                Ok(Receipt {
-                    position,
-                    event,
-                    reply,
-                })
-            }
+            Ok(reply) => Ok(self.log.enter(position, event, reply)),
             Err(refusal) => Err(step_refused(refusal)),
         }
     }
@@ -199,15 +186,7 @@ impl<P: Application> Book<P> {
         let position = count + 1;
         let event = plan.event();
         match self.player.enter_plan(position, plan) {
-            Ok(reply) => {
-                lemma_step_has_line(event);
-                self.log.push(Entry::Step(event));
-                Ok(Receipt {
-                    position,
-                    event,
-                    reply,
-                })
-            }
+            Ok(reply) => Ok(self.log.enter(position, event, reply)),
             Err(plan) => Err((self.unseen(alloc, plan.seen_view()), plan)),
         }
     }

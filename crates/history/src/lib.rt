@@ -20,8 +20,10 @@ mod verifier;
 
 pub use book::{Book, MAX_ENTRIES};
 pub use entry::{Entry, Receipt, Report, Summary, VerifyFault};
+pub use lines::MAX_LINE;
 pub use read::{is_graphic, is_printable, read_book};
 pub use refusal::{ApplyRefusal, AtFault, BookRefusal, DisturbRefusal};
+pub use replay::play;
 pub use stretches::{
     replays_stay_connected, reports_are_completions, reports_are_true, stretches_refine,
     undisturbed_parts_are_stretches,

@@ -18,7 +18,8 @@ use std::io::Read;
 /// The most bytes that are asked of a reader at once.
 pub const CHUNK: usize = 4096;
 
-/// The most bytes of a line.
+/// The most bytes of a line, without its line feed, of a history as of a script. The line of each event has fewer,
+/// and of a line without an end no more is kept.
 pub const MAX_LINE: usize = 256;
 
 // What was read: whole lines, and the beginning of a line that goes on.

@@ -2,13 +2,16 @@
 
 ghost use Rattle.std.specs.Prelude.{◌≡◌, ◌<◌, ◌++◌, ◌∷◌, [], length, take, IfOk, IsSome, OnOk, Some};
 ghost use Rattle.history.specs.Entries.{replayed};
+ghost use Rattle.history.specs.declared.entry.Entry.TheVariants.{Step};
+ghost use Rattle.history.specs.HistoryText.{HasLine};
 ghost use Rattle.history.specs.Segments.{HasPlace, IsCovered, IsLog, entries_of};
 
-use crate::entry::Entry;
+use crate::entry::{Entry, Receipt};
+use crate::line::lemma_step_has_line;
 use crate::replay::replay;
 use crate::segments::{SEGMENT, Segments};
 use app_interface::Application;
-use reset_machine::Config;
+use reset_machine::{Config, Event, Reply};
 use std::alloc::{AllocError, Global};
 use std::snapshot::Snapshot;
 
@@ -78,6 +81,26 @@ impl<P: Application> Log<P> {
         ensures entries { entries_of self.new.segments ≡ entries_of self.old.segments ++ entry ∷ [] }
     {
         self.segments.push(entry);
+    }
+
+    // Adds the entry of a step, for which there is room, and tells it.
+    pub fn enter(&mut self, position: usize, event: Event, reply: Reply) -> Receipt
+        requires log { IsLog P.app P.from_text self.old }
+        requires room { HasPlace self.old }
+        requires few { length (entries_of self.old.segments) < 1000000 }
+        ensures log { IsLog P.app P.from_text self.new }
+        ensures opening { self.new.opening ≡ self.old.opening }
+        ensures entries { entries_of self.new.segments ≡ entries_of self.old.segments ++ Step event ∷ [] }
+        ensures line { HasLine (Step event) }
+        ensures receipt { result ≡ record { position = position; event = event; reply = reply } }
+    {
+        lemma_step_has_line(event);
+        self.push(Entry::Step(event));
+        Receipt {
+            position,
+            event,
+            reply,
+        }
     }
 
     // The configuration before the entry with this index.

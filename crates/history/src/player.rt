@@ -1,7 +1,8 @@
 // A configuration that entries happen to, with what they report.
 
-ghost use Rattle.std.specs.Prelude.{◌≡◌, ◌≢◌, ℕ, ◌+◌, ◌<◌, ◌≤◌, ◌==◌, ◌^◌, ◌++◌, ◌∷◌, [], List, length, position};
+ghost use Rattle.std.specs.Prelude.{◌≡◌, ◌≢◌, ℕ, ◌+◌, ◌<◌, ◌≤◌, ◌==◌, ◌^◌, ◌++◌, ◌∷◌, [], List, length};
 ghost use Rattle.std.specs.Prelude.{if◌then◌else◌, OnOk, OnErr, IfOk, IfErr, MatchResult, Ok, Err, Some, None};
+ghost use Rattle.std.specs.Prelude.{position as position_of};
 ghost use Rattle.std.specs.Vec.{vec_len, vec_capacity};
 ghost use Rattle.reset_model.specs.Configuration.{Configuration};
 ghost use Rattle.reset_model.specs.Planned.{outcome_of};
@@ -44,12 +45,12 @@ impl<P: Application> Player<P> {
         }
     }
 
-    // Does the event, which is entered at this place.
+    // Does the event, which is entered at this position.
     #[inline(always)]
     pub fn enter_step(
         &mut self,
         alloc: Global,
-        place: usize,
+        position: usize,
         event: Event,
     ) -> Result<Reply, StepRefusal>
         ensures outcome { MatchResult result (λ reply.
@@ -57,7 +58,7 @@ impl<P: Application> Player<P> {
             (λ f. f ≢ StepRefusal.NoMemory → outcome_of P.app self.old.config event ≡ Err f) }
         ensures kept { OnErr result (self.new.config ≡ self.old.config) }
         ensures played { (c : Configuration P.Local) (es : List Entry) → HasPlayed P.app P.from_text c es self.old
-            → MatchResult result (λ reply. place ≡ length es + 1
+            → MatchResult result (λ reply. position ≡ length es + 1
             → HasPlayed P.app P.from_text c (es ++ Step event ∷ []) self.new)
             (λ f. HasPlayed P.app P.from_text c es self.new) }
         ensures lawful { IfOk result (λ reply. IsSound self.old.config
@@ -69,56 +70,56 @@ impl<P: Application> Player<P> {
         }
         match self.config.step(alloc, event) {
             Ok(reply) => {
-                self.note(place, event, reply);
+                self.note(position, event, reply);
                 Ok(reply)
             }
             Err(refusal) => Err(refusal),
         }
     }
 
-    // Does the fault, which is entered at this place.
+    // Does the fault, which is entered at this position.
     pub fn enter_fault(
         &mut self,
         alloc: Global,
-        place: usize,
+        position: usize,
         fault: &Fault,
     ) -> Result<(), FaultRefusal>
         ensures outcome { MatchResult result (λ _. injected P.from_text self.old.config fault.now ≡ Ok self.new.config)
             (λ f. f ≢ FaultRefusal.NoMemory → injected P.from_text self.old.config fault.now ≡ Err f) }
         ensures kept { OnErr result (self.new.config ≡ self.old.config) }
         ensures played { (c : Configuration P.Local) (es : List Entry) → HasPlayed P.app P.from_text c es self.old
-            → MatchResult result (λ _. place ≡ length es + 1
+            → MatchResult result (λ _. position ≡ length es + 1
             → HasPlayed P.app P.from_text c (es ++ Disturbed fault.now ∷ []) self.new)
             (λ f. HasPlayed P.app P.from_text c es self.new) }
     {
         match inject(alloc, &mut self.config, fault) {
             Ok(()) => {
-                self.openings.disturb(place);
+                self.openings.disturb(position);
                 Ok(())
             }
             Err(refusal) => Err(refusal),
         }
     }
 
-    // Plays an entry, which has this place.
+    // Plays an entry, which has this position.
     #[inline(always)]
-    fn enter(&mut self, alloc: Global, place: usize, entry: &Entry) -> Result<(), VerifyFault>
+    fn enter(&mut self, alloc: Global, position: usize, entry: &Entry) -> Result<(), VerifyFault>
         ensures played { OnOk result ((c : Configuration P.Local) (es : List Entry)
             → HasPlayed P.app P.from_text c es self.old
-            → place ≡ length es + 1 → HasPlayed P.app P.from_text c (es ++ entry.now ∷ []) self.new) }
-        ensures err { IfErr result (λ f. f ≢ VerifyFault.NoMemory → (f ≡ VerifyFault.NotEnabledAt place)
+            → position ≡ length es + 1 → HasPlayed P.app P.from_text c (es ++ entry.now ∷ []) self.new) }
+        ensures err { IfErr result (λ f. f ≢ VerifyFault.NoMemory → (f ≡ VerifyFault.NotEnabledAt position)
             × (entered P.app P.from_text self.old.config entry.now ≡ None)) }
     {
         match entry {
-            Entry::Step(event) => match self.enter_step(alloc, place, *event) {
+            Entry::Step(event) => match self.enter_step(alloc, position, *event) {
                 Ok(_) => Ok(()),
                 Err(StepRefusal::NoMemory) => Err(VerifyFault::NoMemory),
-                Err(_) => Err(VerifyFault::NotEnabledAt(place)),
+                Err(_) => Err(VerifyFault::NotEnabledAt(position)),
             },
-            Entry::Disturbed(fault) => match self.enter_fault(alloc, place, fault) {
+            Entry::Disturbed(fault) => match self.enter_fault(alloc, position, fault) {
                 Ok(()) => Ok(()),
                 Err(FaultRefusal::NoMemory) => Err(VerifyFault::NoMemory),
-                Err(_) => Err(VerifyFault::NotEnabledAt(place)),
+                Err(_) => Err(VerifyFault::NotEnabledAt(position)),
             },
         }
     }
@@ -149,8 +150,8 @@ impl<P: Application> Player<P> {
         Ok(())
     }
 
-    // Does what the plan says, where its node sees what it was made on, and enters it at this place.
-    pub fn enter_plan(&mut self, place: usize, plan: Plan<P>) -> Result<Reply, Plan<P>>
+    // Does what the plan says, where its node sees what it was made on, and enters it at this position.
+    pub fn enter_plan(&mut self, position: usize, plan: Plan<P>) -> Result<Reply, Plan<P>>
         requires openings { length self.old.config.graph.ids ≤ length self.old.openings.positions.items }
         requires reports { vec_len self.old.reports < vec_capacity self.old.reports }
         ensures outcome { IfOk result (λ reply.
@@ -161,14 +162,14 @@ impl<P: Application> Player<P> {
         ensures kept { OnErr result (self.new ≡ self.old) }
         ensures played { OnOk result ((c : Configuration P.Local) (es : List Entry)
             → HasPlayed P.app P.from_text c es self.old
-            → place ≡ length es + 1 → HasPlayed P.app P.from_text c (es ++ Step plan.event ∷ []) self.new) }
+            → position ≡ length es + 1 → HasPlayed P.app P.from_text c (es ++ Step plan.event ∷ []) self.new) }
         ensures lawful { IfOk result (λ reply. IsSound self.old.config
             → IsSoundStep P.app P.Inv self.old.config plan.event reply self.new.config) }
     {
         let event = plan.event();
         match self.config.put_plan(plan) {
             Ok(reply) => {
-                self.note(place, event, reply);
+                self.note(position, event, reply);
                 Ok(reply)
             }
             Err(plan) => Err(plan),
@@ -190,32 +191,32 @@ impl<P: Application> Player<P> {
 
     // Keeps that an event was answered so, at this position.
     #[inline(always)]
-    fn note(&mut self, place: usize, event: Event, reply: Reply)
+    fn note(&mut self, position: usize, event: Event, reply: Reply)
         requires openings { length self.old.config.graph.ids ≤ length self.old.openings.positions.items }
         requires reports { vec_len self.old.reports < vec_capacity self.old.reports }
         ensures same { self.new.config ≡ self.old.config }
         ensures reports { self.new.reports.items ≡ self.old.reports.items
-            ++ reported reply (told_of self.old.openings self.old.config.graph.ids (event_node event)) place }
-        ensures openings { (n i k : ℕ) → IsWithin self.old.openings n → n < place
-            → position (λ j. j == i) self.old.config.graph.ids ≡ Some k
-            → told self.new.openings k ≡ opened_by event i place (told self.old.openings k) }
-        ensures within { (n : ℕ) → IsWithin self.old.openings n → n ≤ place → IsWithin self.new.openings place }
+            ++ reported reply (told_of self.old.openings self.old.config.graph.ids (event_node event)) position }
+        ensures openings { (n i k : ℕ) → IsWithin self.old.openings n → n < position
+            → position_of (λ j. j == i) self.old.config.graph.ids ≡ Some k
+            → told self.new.openings k ≡ opened_by event i position (told self.old.openings k) }
+        ensures within { (n : ℕ) → IsWithin self.old.openings n → n ≤ position → IsWithin self.new.openings position }
     {
-        self.report(place, event, reply);
+        self.report(position, event, reply);
         match event {
-            Event::Open { at } => self.open(place, at),
+            Event::Open { at } => self.open(position, at),
             _ => {}
         }
     }
 
     // Keeps the report of a reply.
     #[inline(always)]
-    fn report(&mut self, place: usize, event: Event, reply: Reply)
+    fn report(&mut self, position: usize, event: Event, reply: Reply)
         requires { vec_len self.old.reports < vec_capacity self.old.reports }
         ensures same { self.new.config ≡ self.old.config }
         ensures openings { self.new.openings ≡ self.old.openings }
         ensures reports { self.new.reports.items ≡ self.old.reports.items
-            ++ reported reply (told_of self.old.openings self.old.config.graph.ids (event_node event)) place }
+            ++ reported reply (told_of self.old.openings self.old.config.graph.ids (event_node event)) position }
     {
         match reply {
             Reply::Applied => {}
@@ -224,7 +225,7 @@ impl<P: Application> Player<P> {
                 self.reports.push_reserved(Report {
                     number,
                     opened,
-                    finished: place,
+                    finished: position,
                 });
             }
         }
@@ -241,17 +242,17 @@ impl<P: Application> Player<P> {
     }
 
     // Keeps that the node with this identifier opened a session at this position.
-    fn open(&mut self, place: usize, at: u32)
+    fn open(&mut self, position: usize, at: u32)
         requires { length self.old.config.graph.ids ≤ length self.old.openings.positions.items }
         ensures same { self.new.config ≡ self.old.config }
         ensures reports { self.new.reports ≡ self.old.reports }
-        ensures openings { (n i k : ℕ) → IsWithin self.old.openings n → n < place
-            → position (λ j. j == i) self.old.config.graph.ids ≡ Some k
-            → told self.new.openings k ≡ (if at == i then Some place else told self.old.openings k) }
-        ensures within { (n : ℕ) → IsWithin self.old.openings n → n ≤ place → IsWithin self.new.openings place }
+        ensures openings { (n i k : ℕ) → IsWithin self.old.openings n → n < position
+            → position_of (λ j. j == i) self.old.config.graph.ids ≡ Some k
+            → told self.new.openings k ≡ (if at == i then Some position else told self.old.openings k) }
+        ensures within { (n : ℕ) → IsWithin self.old.openings n → n ≤ position → IsWithin self.new.openings position }
     {
         match self.config.topology().index_of(at) {
-            Some(index) => self.openings.open(index, place),
+            Some(index) => self.openings.open(index, position),
             None => {}
         }
     }

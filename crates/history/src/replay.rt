@@ -25,8 +25,8 @@ pub fn replay<P: Application>(
     Ok(left)
 }
 
-// Does what the entry tells.
-fn play<P: Application>(
+/// Does what the entry tells, which is allowed where it stands.
+pub fn play<P: Application>(
     alloc: Global,
     config: &mut Config<P>,
     entry: &Entry,

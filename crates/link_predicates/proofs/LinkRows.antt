@@ -3,11 +3,12 @@ use Rattle.std.proofs.Common.{arith, ◌≡◌, ◌≢◌, ◌⊎◌, inl, inr, 
 use Rattle.std.proofs.Common.{cond, ◌&&◌, ◌||◌, ◌==◌, nat_lt, [], ◌∷◌, Option, Some, None, Result, Err, refl, sym, ap}
 use Rattle.std.proofs.Common.{◌∙◌}
 use Rattle.std.proofs.lemmas.Bool.Decides.{eqb_tells, leb_tells}
-use Rattle.action_tables.specs.Table.{enabled_of}
+use Rattle.action_tables.specs.Table.{enabled_of, fired_of, fired_toward}
 use Rattle.topology.specs.Graph.{Graph, AreLinked, IsGraph}
+use Rattle.tree_layer.specs.declared.regs.TreeRefusal.{TreeRefusal}
 use Rattle.tree_layer.specs.declared.regs.TreeRegs.{TreeRegs}
 use Rattle.tree_layer.specs.TreeRows.{Adopts, Follows, IsFather, adopted, follow_dist, follow_root}
-use Rattle.tree_layer.specs.TreeTable.{LocalView, fired_from, tree_table}
+use Rattle.tree_layer.specs.TreeTable.{LocalView, tree_table}
 use Rattle.wave_layer.specs.declared.regs.WaveRegs.{WaveRegs}
 use Rattle.wave_layer.specs.declared.regs.FatherSeen.TheVariants.{Is}
 use Rattle.wave_layer.specs.WaveTable as wave
@@ -97,7 +98,10 @@ module _ (g : Graph) (K : ℕ) (t : ℕ → TreeRegs) (graph : IsGraph g) (i j :
   adopt_tells : Tells (Adopts g K t i j) (first_of_two 7 8 (rows 7) (rows 8))
   adopt_tells =
       let v = tree_view_of g K t i in
-      let row : Option TreeRegs → ℕ → Result Fired StepRefusal = λ o n. tree_answer (fired_from v n j o) in
+      let row : Option TreeRegs → ℕ → Result Fired StepRefusal =
+      λ o n. tree_answer
+      (fired_toward TreeRefusal.StrangeNeighbour
+      (λ asked. fired_of TreeRefusal.NoSuchCase TreeRefusal.NotEnabled (tree_table v asked) n) j o) in
       let near = nat_lt (t j).dist K in
       let higher = (near && nat_lt (t i).root (t j).root) || false in
       let shorter = (near && (t i).root == (t j).root && nat_lt ((t j).dist + 1) (t i).dist) || false in

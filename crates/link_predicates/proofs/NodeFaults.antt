@@ -11,7 +11,7 @@ use Rattle.app_interface.specs.Application.{App}
 use Rattle.topology.specs.Graph.{neighbours_of}
 use Rattle.reset_model.specs.Configuration.{Configuration}
 use Rattle.reset_machine.proofs.NearSeen.{at_indexes, one_more}
-use Rattle.reset_model.proofs.Places.{Contains-position, id_at-position, position-Contains}
+use Rattle.reset_model.proofs.Positions.{Contains-position, id_at-position, position-Contains}
 use Rattle.reset_model.specs.View.{Neighbour, near_of}
 use Rattle.link_predicates.specs.Faults.{alarm_of, app_row, fault_of, is_of_app, link_faults, own_row, tree_row}
 use Rattle.link_predicates.specs.Faults.{wave_row}

@@ -9,7 +9,7 @@ use Rattle.topology.specs.Graph.{Graph, IsGraph, are_linked, neighbours_of}
 use Rattle.tree_layer.specs.declared.regs.TreeRegs.{TreeRegs}
 use Rattle.tree_layer.specs.TreeRows.{Claims, claimed}
 use Rattle.tree_layer.specs.TreeTable.{LocalView, father_passes, tree_table}
-use Rattle.reset_model.proofs.TreePlans.{IsTreeAnswer, claim_is, near_regs-linked}
+use Rattle.reset_model.proofs.TreePlans.{IsTreeAnswer, claim_is, regs_of-linked}
 use Rattle.reset_model.specs.LocalSteps.{or_next}
 use Rattle.reset_model.specs.declared.step.StepRefusal.TheVariants.{NotEnabled}
 use Rattle.reset_model.specs.Configuration.{Configuration, tree_of}
@@ -66,7 +66,7 @@ module _ (g : Graph) (t : ℕ → TreeRegs) (graph : IsGraph g) (i : ℕ) where
       → father_passes (λ _. true) (seeing i g.bound (t i) all_near) ≡ passes b
   whole b linked =
       ap (λ o. option_map_or (λ (_ : TreeRegs). true) o false)
-      (near_regs-linked g g.bound t no_wave graph i (t i).father) ∙ ap passes linked
+      (regs_of-linked g g.bound t no_wave graph i (t i).father) ∙ ap passes linked
 
   father_seen : (up : TreeRegs) → are_linked g i (t i).father ≡ true
       → first_own i g.bound (t i) (((t i).father, up) ∷ []) ≡ first_own i g.bound (t i) all_near

@@ -6,12 +6,10 @@ ghost use Rattle.action_tables.specs.Numbers.{all_cases};
 ghost use Rattle.node_choices.specs.Choice.{allowed_events, case_events, is_allowed, next_of};
 
 use crate::events::{adoptions, case_events, relays};
+use action_tables::MOST_CASES;
 use app_interface::Application;
 use reset_machine::{Event, StepRefusal, View};
 use std::alloc::{AllocError, Global};
-
-// No application has more cases.
-const MOST_CASES: u8 = 16;
 
 /// The first event that the view allows, of `Claim`, `Follow`, `Adopt` (neighbours ascending), `Mend`, `Join`,
 /// `Finish`, `Open`, `Relay` (children ascending) and `Act` (cases ascending, each by itself and then toward the

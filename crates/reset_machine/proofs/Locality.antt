@@ -16,7 +16,7 @@ use Rattle.wave_layer.specs.declared.regs.Phase.TheVariants.{Normal}
 use Rattle.reset_model.specs.Configuration.{Configuration, local_of, tree_of, wave_of, with_local, with_tree, with_wave}
 use Rattle.reset_model.specs.Planned.{case_taken}
 use Rattle.reset_model.specs.View.{NodeView, near_of, tree_view, view_of, wave_view}
-use Rattle.reset_model.proofs.Places.{value_at-put_at_other}
+use Rattle.reset_model.proofs.Positions.{value_at-put_at_other}
 use Rattle.reset_model.proofs.ViewedOutcomes.{case-is, tree_view-is, wave_view-is}
 use Rattle.reset_machine.specs.Enabled.{arguments_of, has_work, is_ready, is_taken}
 use Rattle.reset_machine.specs.Known.{IsKnown}

@@ -6,7 +6,8 @@ use Rattle.topology.specs.Building.{has}
 use Rattle.topology.specs.Graph.{Graph, are_linked}
 use Rattle.tree_layer.specs.declared.regs.TreeRegs.{TreeRegs}
 use Rattle.wave_layer.specs.declared.regs.WaveRegs.{WaveRegs}
-use Rattle.wave_layer.specs.WaveTable.{child_regs, children_done, is_done}
+use Rattle.action_tables.specs.Nodes.{regs_of}
+use Rattle.wave_layer.specs.WaveTable.{children_done, is_done}
 use Rattle.reset_model.specs.LocalSteps.{children_of}
 use Rattle.reset_machine.proofs.Children.{among-drop, children_among}
 use Rattle.reset_model.proofs.Seen.{has-children_of, lookup-among}
@@ -15,12 +16,12 @@ use Rattle.reset_model.proofs.Seen.{has-children_of, lookup-among}
 
 module _ (g : Graph) (t : ℕ → TreeRegs) (w : ℕ → WaveRegs) (i c : ℕ) where
   asked : (b : Bool) → has (children_of g t i) c ≡ b
-      → child_regs c (map (λ k. (k, w k)) (children_of g t i)) ≡ cond b (Some (w c)) None
+      → regs_of c (map (λ k. (k, w k)) (children_of g t i)) ≡ cond b (Some (w c)) None
   asked b child = lookup-among w (children_of g t i) c ∙ ap (λ d. cond d (Some (w c)) None) child
 
   -- it is a child
   pub asked_child : (regs : WaveRegs) → (t c).father ≡ i → are_linked g i c ≡ true → has g.ids c ≡ true → w c ≡ regs
-      → child_regs c ((c, regs) ∷ []) ≡ child_regs c (map (λ k. (k, w k)) (children_of g t i))
+      → regs_of c ((c, regs) ∷ []) ≡ regs_of c (map (λ k. (k, w k)) (children_of g t i))
   asked_child regs father linked node same =
       let named = eq-eqb (t c).father i father in
       let child : has (children_of g t i) c ≡ true = rw (has-children_of g t i c, named, linked, node) refl in
@@ -28,12 +29,12 @@ module _ (g : Graph) (t : ℕ → TreeRegs) (w : ℕ → WaveRegs) (i c : ℕ) w
 
   -- its father is another node
   pub asked_of_another : ((t c).father == i) ≡ false
-      → child_regs c [] ≡ child_regs c (map (λ k. (k, w k)) (children_of g t i))
+      → regs_of c [] ≡ regs_of c (map (λ k. (k, w k)) (children_of g t i))
   asked_of_another other = sym (asked false (rw (has-children_of g t i c, other) refl))
 
   -- it is no neighbour
   pub asked_stranger : are_linked g i c ≡ false
-      → child_regs c [] ≡ child_regs c (map (λ k. (k, w k)) (children_of g t i))
+      → regs_of c [] ≡ regs_of c (map (λ k. (k, w k)) (children_of g t i))
   asked_stranger stray =
       sym (asked false
       (has-children_of g t i c ∙ ap (λ b. ((t c).father == i) && (b && has g.ids c)) stray ∙ never ((t c).father == i)))

@@ -5,7 +5,8 @@ use Rattle.topology.specs.Graph.{Graph}
 use Rattle.tree_layer.specs.declared.regs.TreeRegs.{TreeRegs}
 use Rattle.wave_layer.specs.declared.regs.WaveRegs.{WaveRegs}
 use Rattle.wave_layer.specs.declared.regs.FatherSeen.{FatherSeen}
-use Rattle.wave_layer.specs.WaveTable.{LocalView, is_root, children_done, child_regs}
+use Rattle.action_tables.specs.Nodes.{regs_of}
+use Rattle.wave_layer.specs.WaveTable.{LocalView, is_root, children_done}
 use Rattle.reset_model.specs.declared.event.Event.{Event}
 use Rattle.reset_model.specs.declared.event.Event.TheVariants.{Claim, Follow, Adopt, Request, Relay, Open, Join, Finish}
 use Rattle.reset_model.specs.declared.event.Event.TheVariants.{Mend, Act}
@@ -23,11 +24,11 @@ module _ (own : WaveRegs) (f f' : FatherSeen) (cs cs' : List (ℕ × WaveRegs)) 
   answer_on f cs e = first_answer (Wave (record { own = own; father = f; children = cs })) (named_node e) (cases_of e)
 
   -- a relay looks at the child that it names
-  relay_alike : (i c : ℕ) → child_regs c cs ≡ child_regs c cs'
+  relay_alike : (i c : ℕ) → regs_of c cs ≡ regs_of c cs'
       → answer_on f cs (Relay i c) ≡ answer_on f' cs' (Relay i c)
-  relay_alike i c same = at (child_regs c cs') same refl
+  relay_alike i c same = at (regs_of c cs') same refl
     where
-      at : (o : Option WaveRegs) → child_regs c cs ≡ o → child_regs c cs' ≡ o
+      at : (o : Option WaveRegs) → regs_of c cs ≡ o → regs_of c cs' ≡ o
           → answer_on f cs (Relay i c) ≡ answer_on f' cs' (Relay i c)
       at None here there = rw (here, there) refl
       at (Some regs) here there = rw (here, there) refl

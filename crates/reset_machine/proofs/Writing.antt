@@ -19,7 +19,7 @@ use Rattle.reset_model.specs.declared.step.Reply.TheVariants.{Applied}
 use Rattle.reset_model.specs.declared.step.StepRefusal.{StepRefusal}
 use Rattle.std.proofs.lemmas.List.{get_or-map}
 use Rattle.std.proofs.lemmas.List.Quantifiers.{position-Some}
-use Rattle.reset_model.proofs.Places.{id_at-position, position-place, put_at-position}
+use Rattle.reset_model.proofs.Positions.{id_at-position, position-place, put_at-position}
 
 -- the identifiers ascend, so one at an index stands nowhere before
 pub put_at-index : {X : Type 0} (ids : List ℕ) (xs : List X) (index : ℕ) (y : X) → IsStrictlyIncreasing ids

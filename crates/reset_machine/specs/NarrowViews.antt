@@ -2,7 +2,8 @@
 use Rattle.std.specs.Prelude.{◌≡◌, ℕ, List}
 use Rattle.wave_layer.specs.declared.regs.WaveRegs.{WaveRegs}
 use Rattle.wave_layer.specs.declared.regs.FatherSeen.{FatherSeen}
-use Rattle.wave_layer.specs.WaveTable.{LocalView, child_regs, children_done, is_root}
+use Rattle.action_tables.specs.Nodes.{regs_of}
+use Rattle.wave_layer.specs.WaveTable.{LocalView, children_done, is_root}
 use Rattle.reset_model.specs.declared.event.Event.{Event}
 use Rattle.reset_model.specs.declared.event.Event.TheVariants.{Claim, Follow, Adopt, Request, Relay, Open, Join, Finish}
 use Rattle.reset_model.specs.declared.event.Event.TheVariants.{Mend, Act}
@@ -28,7 +29,7 @@ ChildrenSuffice (Claim i) v cs = Unit {0}
 ChildrenSuffice (Follow i) v cs = Unit {0}
 ChildrenSuffice (Adopt i j) v cs = Unit {0}
 ChildrenSuffice (Request i) v cs = Unit {0}
-ChildrenSuffice (Relay i c) v cs = child_regs c cs ≡ child_regs c v.children
+ChildrenSuffice (Relay i c) v cs = regs_of c cs ≡ regs_of c v.children
 ChildrenSuffice (Open i) v cs = Unit {0}
 ChildrenSuffice (Join i) v cs = Unit {0}
 ChildrenSuffice (Finish i) v cs = children_done v.own.session cs ≡ children_done v.own.session v.children

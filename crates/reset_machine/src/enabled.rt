@@ -16,7 +16,7 @@ ghost use Rattle.wave_layer.specs.WaveTable.{wave_table};
 use crate::action::is_taken;
 use crate::place::Place;
 use crate::view::{father_seen, read_children, read_near_trees};
-use action_tables::CaseSet;
+use action_tables::{CaseSet, MOST_CASES};
 use app_interface::{Application, Reads};
 use reset_model::Arguments;
 use std::alloc::{AllocError, Global};
@@ -25,9 +25,6 @@ use wave_layer::{FatherSeen, WaveRegs, WaveView, wave_enabled};
 
 // The request, the one row that is enabled wherever nothing is to be done.
 const REQUEST: u8 = 1;
-
-// No application has more cases.
-const MOST_CASES: u8 = 16;
 
 /// The enabled rows of a node, by table.
 #[derive(Clone, Copy, Debug, PartialEq, Eq)]

@@ -4,7 +4,8 @@
 
 ghost use Rattle.std.specs.Prelude.{◌≡◌, ◌≤◌, length};
 ghost use Rattle.std.specs.Option.{option_to_list};
-ghost use Rattle.wave_layer.specs.WaveTable.{child_regs, children_done};
+ghost use Rattle.action_tables.specs.Nodes.{regs_of};
+ghost use Rattle.wave_layer.specs.WaveTable.{children_done};
 ghost use Rattle.reset_machine.specs.NarrowViews.{ChildrenSuffice, FatherSuffices, Suffices};
 ghost use Rattle.reset_machine.specs.Place.{IsNamed, IsNear, wave_seen};
 ghost use Rattle.reset_model.specs.Steps.{named_node};
@@ -90,7 +91,7 @@ fn asked_child<P: Application>(
     index: usize,
 ) -> Option<(u32, WaveRegs)>
     requires { IsNear place.now child index }
-    ensures { child_regs child (option_to_list result) ≡ child_regs child (wave_seen place.now).children }
+    ensures { regs_of child (option_to_list result) ≡ regs_of child (wave_seen place.now).children }
 {
     if place.tree_at(index).father == place.id() {
         Some((child, place.wave_at(index)))

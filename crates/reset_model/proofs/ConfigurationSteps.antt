@@ -25,7 +25,7 @@ use Rattle.reset_model.specs.Outcome.{restarted}
 use Rattle.reset_model.specs.Actions.{acted_of}
 use Rattle.reset_model.specs.Planned.{outcome_of}
 use Rattle.reset_model.specs.LocalSteps.{planned_of}
-use Rattle.reset_model.proofs.Places.{value_at-put_at, value_at-put_at_other, put_at-position}
+use Rattle.reset_model.proofs.Positions.{value_at-put_at, value_at-put_at_other, put_at-position}
 use Rattle.reset_model.proofs.PlannedSteps.{IsPlannedStep, planned_steps}
 use Rattle.reset_model.proofs.WavePlans.{restarts_of}
 use Rattle.reset_model.proofs.ViewedOutcomes.{outcome-is}

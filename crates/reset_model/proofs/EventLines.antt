@@ -1,5 +1,4 @@
 -- An event's line has the event's words, and no other event has them.
-use Rattle.std.specs.Prelude.{codes}
 use Rattle.std.proofs.Common.{◌≡◌, ℕ, ◌+◌, ◌*◌, ◌<◌, ◌^◌, ◌≤◌, Bool, true, not, nat_eq, ◌||◌, true≢false, List, [], ◌∷◌}
 use Rattle.std.proofs.Common.{◌++◌, refl, sym, ap, ◌∙◌, subst, append_assoc, arith, length, get_or, Option, None, Some}
 use Rattle.std.proofs.Common.{IfSome}
@@ -26,19 +25,19 @@ words_of-decimals m n p q =
     words_of-more (decimal m) (decimal n) (IsWord-decimal m p) ∙ ap (λ ws. decimal m ∷ ws) (words_of-decimal n q)
 
 pub words_of-event_line : (e : Event) → Fits e → words_of (event_line e) ≡ event_words e
-words_of-event_line (Claim at) h = ap (λ ws. codes "claim" ∷ ws) (words_of-decimal at h)
-words_of-event_line (Follow at) h = ap (λ ws. codes "follow" ∷ ws) (words_of-decimal at h)
-words_of-event_line (Adopt at from) h = ap (λ ws. codes "adopt" ∷ ws) (words_of-decimals at from h.0 h.1)
-words_of-event_line (Request at) h = ap (λ ws. codes "request" ∷ ws) (words_of-decimal at h)
-words_of-event_line (Relay at child) h = ap (λ ws. codes "relay" ∷ ws) (words_of-decimals at child h.0 h.1)
-words_of-event_line (Open at) h = ap (λ ws. codes "open" ∷ ws) (words_of-decimal at h)
-words_of-event_line (Join at) h = ap (λ ws. codes "join" ∷ ws) (words_of-decimal at h)
-words_of-event_line (Finish at) h = ap (λ ws. codes "finish" ∷ ws) (words_of-decimal at h)
-words_of-event_line (Mend at) h = ap (λ ws. codes "mend" ∷ ws) (words_of-decimal at h)
+words_of-event_line (Claim at) h = ap (λ ws. command_of EventKind.Claim ∷ ws) (words_of-decimal at h)
+words_of-event_line (Follow at) h = ap (λ ws. command_of EventKind.Follow ∷ ws) (words_of-decimal at h)
+words_of-event_line (Adopt at from) h = ap (λ ws. command_of EventKind.Adopt ∷ ws) (words_of-decimals at from h.0 h.1)
+words_of-event_line (Request at) h = ap (λ ws. command_of EventKind.Request ∷ ws) (words_of-decimal at h)
+words_of-event_line (Relay at child) h = ap (λ ws. command_of EventKind.Relay ∷ ws) (words_of-decimals at child h.0 h.1)
+words_of-event_line (Open at) h = ap (λ ws. command_of EventKind.Open ∷ ws) (words_of-decimal at h)
+words_of-event_line (Join at) h = ap (λ ws. command_of EventKind.Join ∷ ws) (words_of-decimal at h)
+words_of-event_line (Finish at) h = ap (λ ws. command_of EventKind.Finish ∷ ws) (words_of-decimal at h)
+words_of-event_line (Mend at) h = ap (λ ws. command_of EventKind.Mend ∷ ws) (words_of-decimal at h)
 words_of-event_line (Act at case None) h =
-    ap (λ ws. codes "act" ∷ ws) (words_of-decimals at case h.0 (omega (arith, h.1)))
+    ap (λ ws. command_of EventKind.Act ∷ ws) (words_of-decimals at case h.0 (omega (arith, h.1)))
 words_of-event_line (Act at case (Some j)) h =
-    ap (λ ws. codes "act" ∷ ws)
+    ap (λ ws. command_of EventKind.Act ∷ ws)
     (words_of-more (decimal at) _ (IsWord-decimal at h.0)
     ∙ ap (λ ws. decimal at ∷ ws) (words_of-decimals case j (omega (arith, h.1)) h.2))
 
@@ -62,7 +61,8 @@ pub record IsAction (ws : List (List ℕ)) : Type 0 where
   pub fits : Fits (Act at case with)
   pub words : ws ≡ decimal at ∷ decimal case ∷ neighbour_words with
 
-pub action_words : (e : Event) (ws : List (List ℕ)) → Fits e → codes "act" ∷ ws ≡ event_words e → IsAction ws
+pub action_words : (e : Event) (ws : List (List ℕ)) → Fits e → command_of EventKind.Act ∷ ws ≡ event_words e
+    → IsAction ws
 action_words (Act at case with) ws fits is = record { at = at; case = case; with = with; fits = fits; words = cc }
 action_words e ws fits is = absurd (omega (arith, ap first_bytes is))
 
@@ -154,8 +154,9 @@ one_found command rest name n is number small =
 -- the command is not one of those that take more than one number
 abbrev pub takes_one : List ℕ → Bool
 takes_one w =
-    not (nat_eq (two_bytes w) (two_bytes (codes "adopt")) || nat_eq (two_bytes w) (two_bytes (codes "relay"))
-    || nat_eq (two_bytes w) (two_bytes (codes "act")))
+    not (nat_eq (two_bytes w) (two_bytes (command_of EventKind.Adopt))
+    || nat_eq (two_bytes w) (two_bytes (command_of EventKind.Relay))
+    || nat_eq (two_bytes w) (two_bytes (command_of EventKind.Act)))
 
 one_number_of : (e : Event) (name : List ℕ) (ws : List (List ℕ)) → takes_one name ≡ true → Fits e
     → name ∷ ws ≡ event_words e → (n : ℕ) × (n < 2 ^ 32) × (ws ≡ decimal n ∷ [])
@@ -166,11 +167,11 @@ one_number_of (Open at) name ws one fits is = (at, fits, cc)
 one_number_of (Join at) name ws one fits is = (at, fits, cc)
 one_number_of (Finish at) name ws one fits is = (at, fits, cc)
 one_number_of (Mend at) name ws one fits is = (at, fits, cc)
-one_number_of (Adopt at from) name ws one fits is = let same : name ≡ codes "adopt" =
+one_number_of (Adopt at from) name ws one fits is = let same : name ≡ command_of EventKind.Adopt =
     cc in absurd (true≢false (sym one ∙ ap takes_one same))
-one_number_of (Relay at child) name ws one fits is = let same : name ≡ codes "relay" =
+one_number_of (Relay at child) name ws one fits is = let same : name ≡ command_of EventKind.Relay =
     cc in absurd (true≢false (sym one ∙ ap takes_one same))
-one_number_of (Act at case with) name ws one fits is = let same : name ≡ codes "act" =
+one_number_of (Act at case with) name ws one fits is = let same : name ≡ command_of EventKind.Act =
     cc in absurd (true≢false (sym one ∙ ap takes_one same))
 
 -- where no number follows such a command, it is no event
@@ -196,7 +197,7 @@ one_and_none text word last first none w (Some j) near is = let same =
 pub end_only : (text at rest : List ℕ) → words_of text ≡ at ∷ words_of rest
     → ((word : List ℕ) (with : Option ℕ) → IfSome with (λ j. j < 2 ^ 32)
     → words_of rest ≡ word ∷ neighbour_words with → ⊥)
-    → (e : Event) → Fits e → codes "act" ∷ words_of text ≡ event_words e → ⊥
+    → (e : Event) → Fits e → command_of EventKind.Act ∷ words_of text ≡ event_words e → ⊥
 end_only text at rest split none e fits is =
     let action = action_words e (words_of text) fits is in
     let same = sym split ∙ action.words in
@@ -205,7 +206,7 @@ end_only text at rest split none e fits is =
 -- nor where the case has more than 8 bits
 pub case_only : (text at rest word : List ℕ) (with : Option ℕ) (n : ℕ) → words_of text ≡ at ∷ words_of rest
     → words_of rest ≡ word ∷ neighbour_words with → word ≡ decimal n → n < 2 ^ 32 → 256 ≤ n
-    → (e : Event) → Fits e → codes "act" ∷ words_of text ≡ event_words e → ⊥
+    → (e : Event) → Fits e → command_of EventKind.Act ∷ words_of text ≡ event_words e → ⊥
 case_only text at rest word with n first second number small large e fits is =
     let action = action_words e (words_of text) fits is in
     let parts = action_small action.at action.case action.with action.fits in
@@ -216,26 +217,29 @@ case_only text at rest word with n first second number small large e fits is =
 -- ---- the text of an action, where its neighbour is written last
 
 pub act_line : (at case b : ℕ) (with : Option ℕ) (j k : ℕ) → b ≡ case → with ≡ Some j → k ≡ j
-    → event_line (Act at case with) ≡ ((codes "act" ++ (32 ∷ decimal at)) ++ (32 ∷ decimal b)) ++ (32 ∷ decimal k)
+    → event_line (Act at case with)
+    ≡ ((command_of EventKind.Act ++ (32 ∷ decimal at)) ++ (32 ∷ decimal b)) ++ (32 ∷ decimal k)
 act_line at case b with j k same is near =
     rw (is, same, near)
     (ap (λ l. 97 ∷ 99 ∷ 116 ∷ 32 ∷ l) (sym (append_assoc (decimal at) (32 ∷ decimal case) (32 ∷ decimal j))))
 
 -- what is written of a text that an action's line begins with is written of the line
 pub act_begun : (x y : Option (List ℕ)) (at case b : ℕ) (with : Option ℕ) → b ≡ case
-    → AppendsPrefix x y ((codes "act" ++ (32 ∷ decimal at)) ++ (32 ∷ decimal b))
+    → AppendsPrefix x y ((command_of EventKind.Act ++ (32 ∷ decimal at)) ++ (32 ∷ decimal b))
     → AppendsPrefix x y (event_line (Act at case with))
 act_begun x y at case b None same h = rw (← same) h
 act_begun x y at case b (Some j) same h =
     let P : List ℕ → Type 0 = λ l. AppendsPrefix x y l in
     subst P (sym (act_line at case b (Some j) j j same refl refl))
-    (AppendsPrefix-first x y ((codes "act" ++ (32 ∷ decimal at)) ++ (32 ∷ decimal b)) (32 ∷ decimal j) h)
+    (AppendsPrefix-first x y ((command_of EventKind.Act ++ (32 ∷ decimal at)) ++ (32 ∷ decimal b)) (32 ∷ decimal j) h)
 
 -- so is what is written of the neighbour after that text
 pub act_ended : (x y z : Option (List ℕ)) (at case b : ℕ) (with : Option ℕ) (j k : ℕ) → b ≡ case → with ≡ Some j → k ≡ j
-    → Appends x y ((codes "act" ++ (32 ∷ decimal at)) ++ (32 ∷ decimal b)) → AppendsPrefix y z (32 ∷ decimal k)
+    → Appends x y ((command_of EventKind.Act ++ (32 ∷ decimal at)) ++ (32 ∷ decimal b))
+    → AppendsPrefix y z (32 ∷ decimal k)
     → AppendsPrefix x z (event_line (Act at case with))
 act_ended x y z at case b with j k same is near first h =
     let P : List ℕ → Type 0 = λ l. AppendsPrefix x z l in
     subst P (sym (act_line at case b with j k same is near))
-    (AppendsPrefix-then x y z ((codes "act" ++ (32 ∷ decimal at)) ++ (32 ∷ decimal b)) (32 ∷ decimal k) first h)
+    (AppendsPrefix-then x y z ((command_of EventKind.Act ++ (32 ∷ decimal at)) ++ (32 ∷ decimal b)) (32 ∷ decimal k)
+    first h)

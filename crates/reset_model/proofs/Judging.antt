@@ -15,7 +15,7 @@ use Rattle.reset_model.specs.declared.step.StepRefusal.TheVariants.{StrangeNode,
 use Rattle.reset_model.specs.Actions.{misfit, reads_near, first_apart, judged, case_outcome_of, acted_of}
 use Rattle.reset_model.specs.Configuration.{value_at}
 use Rattle.reset_model.specs.LocalSteps.{is_neighbour}
-use Rattle.reset_model.proofs.Places.{value_at-place}
+use Rattle.reset_model.proofs.Positions.{value_at-place}
 
 -- the first of those of the ids at these indexes that pass the test p that passes q as well
 abbrev pub first_among : List ℕ → (ℕ → Bool) → (ℕ → Bool) → List ℕ → Option ℕ

@@ -1,5 +1,5 @@
-pub mod Places
-pub mod NodePlaces
+pub mod Positions
+pub mod NodePositions
 pub mod Planned
 pub mod Seen
 pub mod WaveRows

@@ -16,7 +16,7 @@ use Rattle.reset_model.specs.Steps.{event_node, named_node}
 use Rattle.tree_layer.specs.TreeTable as tree
 use Rattle.reset_model.specs.LocalSteps.{planned_of, answer_of, is_neighbour, father_seen, children_of, view_of}
 use Rattle.reset_model.specs.LocalSteps.{tree_view_of}
-use Rattle.reset_model.proofs.NodePlaces.{a_node}
+use Rattle.reset_model.proofs.NodePositions.{a_node}
 
 module _ (g : Graph) (K : ℕ) (t : ℕ → TreeRegs) (w : ℕ → WaveRegs) (e : Event) where
   pub planned_of-strange_node : list_any (λ i. i == event_node e) g.ids ≡ false → planned_of g K t w e ≡ Err StrangeNode

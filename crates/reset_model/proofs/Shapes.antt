@@ -14,7 +14,7 @@ use Rattle.reset_model.specs.declared.plan.Effect.TheVariants.{Tree, Wave, Local
 use Rattle.reset_model.specs.Planned.{after_effect, outcome_of, planned, written}
 use Rattle.reset_model.specs.View.{view_of}
 
-length-put_at : {X : Type 0} (ids : List ℕ) (xs : List X) (i : ℕ) (y : X) → length xs ≡ length ids
+pub length-put_at : {X : Type 0} (ids : List ℕ) (xs : List X) (i : ℕ) (y : X) → length xs ≡ length ids
     → length (put_at ids xs i y) ≡ length ids
 length-put_at [] xs i y same = same
 length-put_at (k ∷ ks) [] i y same = same

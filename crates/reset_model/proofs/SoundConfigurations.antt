@@ -23,7 +23,7 @@ use Rattle.reset_model.specs.MachineSteps.{IsStep, row_step, act_step}
 use Rattle.reset_model.specs.WavePicture.{WavePicture}
 use Rattle.reset_model.specs.Sound.{Sound, IsSound, IsComplete, Repairs, claims, follows, adopts, mends}
 use Rattle.reset_model.specs.Outcome.{IsBoot}
-use Rattle.reset_model.proofs.Places.{value_at-place}
+use Rattle.reset_model.proofs.Positions.{value_at-place}
 use Rattle.reset_model.proofs.WavePictures.{sound_where_picture}
 use Rattle.reset_model.proofs.SoundSteps.{sound_stays, sound_rests}
 use Rattle.reset_model.proofs.CompleteResets.{completed}

@@ -10,7 +10,7 @@ use Rattle.tree_layer.specs.declared.regs.TreeRegs.{TreeRegs}
 use Rattle.tree_layer.specs.TreeRows.{IsFather, Claims, claim_low, claim_self, claim_stray, claim_far, Follows}
 use Rattle.tree_layer.specs.TreeRows.{follow_root, follow_dist, Adopts, adopt_root, adopt_short, claimed, followed}
 use Rattle.tree_layer.specs.TreeRows.{adopted}
-use Rattle.tree_layer.specs.TreeTable.{near_regs}
+use Rattle.action_tables.specs.Nodes.{regs_of}
 use Rattle.wave_layer.specs.declared.regs.WaveRegs.{WaveRegs}
 use Rattle.reset_model.specs.declared.event.Event.TheVariants.{Claim, Follow, Adopt}
 use Rattle.reset_model.specs.declared.plan.Fired.{Fired}
@@ -47,9 +47,9 @@ Le a b = ((nat_le a b ≡ true) × (a ≤ b)) ⊎ ((nat_le a b ≡ false) × (b 
 
 module _ (g : Graph) (K : ℕ) (t : ℕ → TreeRegs) (w : ℕ → WaveRegs) (graph : IsGraph g) where
   -- what a node's view has of another node: its registers, where they are linked
-  pub near_regs-linked : (i j : ℕ)
-      → near_regs j (map (λ k. (k, t k)) (neighbours_of g i)) ≡ cond (are_linked g i j) (Some (t j)) None
-  near_regs-linked i j =
+  pub regs_of-linked : (i j : ℕ)
+      → regs_of j (map (λ k. (k, t k)) (neighbours_of g i)) ≡ cond (are_linked g i j) (Some (t j)) None
+  regs_of-linked i j =
       lookup-among t (neighbours_of g i) j
       ∙ ap (λ b. cond b (Some (t j)) None) (has-filter (are_linked g i) g.ids j ∙ both (are_linked g i j) refl)
     where
@@ -57,11 +57,11 @@ module _ (g : Graph) (K : ℕ) (t : ℕ → TreeRegs) (w : ℕ → WaveRegs) (gr
       both true linked = rw linked (has-Contains g.ids j (graph.ends j i (graph.symmetric j i ∙ linked)))
       both false linked = rw linked refl
 
-  pub near_some : (i j : ℕ) → AreLinked g i j → near_regs j (map (λ k. (k, t k)) (neighbours_of g i)) ≡ Some (t j)
-  near_some i j linked = near_regs-linked i j ∙ ap (λ b. cond b (Some (t j)) None) linked
+  pub near_some : (i j : ℕ) → AreLinked g i j → regs_of j (map (λ k. (k, t k)) (neighbours_of g i)) ≡ Some (t j)
+  near_some i j linked = regs_of-linked i j ∙ ap (λ b. cond b (Some (t j)) None) linked
 
-  near_none : (i j : ℕ) → are_linked g i j ≡ false → near_regs j (map (λ k. (k, t k)) (neighbours_of g i)) ≡ None
-  near_none i j linked = near_regs-linked i j ∙ ap (λ b. cond b (Some (t j)) None) linked
+  near_none : (i j : ℕ) → are_linked g i j ≡ false → regs_of j (map (λ k. (k, t k)) (neighbours_of g i)) ≡ None
+  near_none i j linked = regs_of-linked i j ∙ ap (λ b. cond b (Some (t j)) None) linked
 
   far_tells : (i : ℕ) → Lt (t i).dist K
   far_tells i = leb_tells (suc (t i).dist) K

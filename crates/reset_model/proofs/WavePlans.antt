@@ -7,7 +7,8 @@ use Rattle.tree_layer.specs.declared.regs.TreeRegs.{TreeRegs}
 use Rattle.wave_layer.specs.declared.regs.WaveRegs.{WaveRegs}
 use Rattle.wave_layer.specs.declared.regs.Phase.{Phase}
 use Rattle.wave_layer.specs.declared.regs.Phase.TheVariants.{Normal, Initiate, Reset}
-use Rattle.wave_layer.specs.WaveTable.{is_reset, father_regs, child_regs, children_done, is_done, next_session}
+use Rattle.action_tables.specs.Nodes.{regs_of}
+use Rattle.wave_layer.specs.WaveTable.{is_reset, father_regs, children_done, is_done, next_session}
 use Rattle.reset_model.specs.declared.event.Event.{Event}
 use Rattle.reset_model.specs.declared.event.Event.TheVariants.{Claim, Follow, Adopt, Request, Relay, Open, Join, Finish}
 use Rattle.reset_model.specs.declared.event.Event.TheVariants.{Mend, Act}
@@ -99,7 +100,7 @@ module _ (g : Graph) (K : ℕ) (t : ℕ → TreeRegs) (w : ℕ → WaveRegs) (gr
 
   pub relay_is : (i c : ℕ) → (b : Bool) → has (children_of g t i) c ≡ b → WaveAnswers (Relay i c)
   relay_is i c true among =
-      let regs : child_regs c (children i) ≡ Some (record { phase = (w c).phase; session = (w c).session }) =
+      let regs : regs_of c (children i) ≡ Some (record { phase = (w c).phase; session = (w c).session }) =
       lookup-among w (children_of g t i) c ∙ ap (λ b. cond b (Some (w c)) None) among in
       answer_as (answer (Relay i c)) ⊥ false
       (relay_answers (w i).phase (w i).session (father_seen g t w i) (children i) c (w c).phase (w c).session regs)

@@ -8,7 +8,8 @@ use Rattle.wave_layer.specs.declared.regs.Phase.{Phase}
 use Rattle.wave_layer.specs.declared.regs.Phase.TheVariants.{Normal, Initiate, Reset}
 use Rattle.wave_layer.specs.declared.regs.FatherSeen.{FatherSeen}
 use Rattle.wave_layer.specs.declared.regs.FatherSeen.TheVariants.{Itself, Lost, Is}
-use Rattle.wave_layer.specs.WaveTable.{LocalView, is_reset, is_root, father_regs, children_done, child_regs}
+use Rattle.action_tables.specs.Nodes.{regs_of}
+use Rattle.wave_layer.specs.WaveTable.{LocalView, is_reset, is_root, father_regs, children_done}
 use Rattle.wave_layer.specs.WaveTable.{next_session}
 use Rattle.reset_model.specs.declared.step.StepRefusal.{StepRefusal}
 use Rattle.reset_model.specs.declared.step.StepRefusal.TheVariants.{StrangeNode, StrangeNeighbour, NoSuchCase}
@@ -48,13 +49,13 @@ request_answers Reset s f cs = λ e. cc
 
 -- the named node is no child
 pub relay_answers-stranger : (p : Phase) (s : ℕ) (f : FatherSeen) (cs : List (ℕ × WaveRegs)) (c : ℕ) (E : Type 0)
-    (regs : WaveRegs) → child_regs c cs ≡ None → (E → ⊥) →
+    (regs : WaveRegs) → regs_of c cs ≡ None → (E → ⊥) →
     IsAnswer (first_answer (Wave (parts p s f cs)) (Some c) (2 ∷ [])) E ⊥ regs false false
 relay_answers-stranger p s f cs c E regs is none = rw is none
 
 -- the named child is in phase q
 pub relay_answers : (p : Phase) (s : ℕ) (f : FatherSeen) (cs : List (ℕ × WaveRegs)) (c : ℕ) (q : Phase) (u : ℕ)
-    → child_regs c cs ≡ Some (record { phase = q; session = u }) →
+    → regs_of c cs ≡ Some (record { phase = q; session = u }) →
     IsAnswer (first_answer (Wave (parts p s f cs)) (Some c) (2 ∷ [])) ((p ≡ Normal) × (q ≡ Initiate)) ⊥
     (record { phase = Initiate; session = s }) false false
 relay_answers Normal s f cs c Initiate u is = rw is ((refl, refl), λ h. h, refl, refl, refl)

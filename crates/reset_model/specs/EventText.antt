@@ -1,7 +1,9 @@
 -- The lines that stand for events.
-use Rattle.std.specs.Prelude.{ℕ, ◌<◌, ◌^◌, List, [], ◌∷◌, Option, Some, None, codes}
+use Rattle.std.specs.Prelude.{ℕ, ◌<◌, ◌^◌, List, [], ◌∷◌, Option, Some, None}
 use Rattle.std.specs.Fmt.{decimal}
 use Rattle.std.specs.List.{join_with_byte}
+use Rattle.reset_model.specs.EventCommands.{command_of}
+use Rattle.reset_model.specs.declared.event_kind.EventKind.{EventKind}
 use Rattle.reset_model.specs.declared.event.Event.{Event}
 use Rattle.reset_model.specs.declared.event.Event.TheVariants.{Claim, Follow, Adopt, Request, Relay, Open, Join, Finish}
 use Rattle.reset_model.specs.declared.event.Event.TheVariants.{Mend, Act}
@@ -13,16 +15,16 @@ neighbour_words (Some j) = decimal j ∷ []
 
 -- an event in words: its command, and the numbers of the nodes and of the case
 abbrev pub event_words : Event → List (List ℕ)
-event_words (Claim at) = codes "claim" ∷ decimal at ∷ []
-event_words (Follow at) = codes "follow" ∷ decimal at ∷ []
-event_words (Adopt at from) = codes "adopt" ∷ decimal at ∷ decimal from ∷ []
-event_words (Request at) = codes "request" ∷ decimal at ∷ []
-event_words (Relay at child) = codes "relay" ∷ decimal at ∷ decimal child ∷ []
-event_words (Open at) = codes "open" ∷ decimal at ∷ []
-event_words (Join at) = codes "join" ∷ decimal at ∷ []
-event_words (Finish at) = codes "finish" ∷ decimal at ∷ []
-event_words (Mend at) = codes "mend" ∷ decimal at ∷ []
-event_words (Act at case with) = codes "act" ∷ decimal at ∷ decimal case ∷ neighbour_words with
+event_words (Claim at) = command_of EventKind.Claim ∷ decimal at ∷ []
+event_words (Follow at) = command_of EventKind.Follow ∷ decimal at ∷ []
+event_words (Adopt at from) = command_of EventKind.Adopt ∷ decimal at ∷ decimal from ∷ []
+event_words (Request at) = command_of EventKind.Request ∷ decimal at ∷ []
+event_words (Relay at child) = command_of EventKind.Relay ∷ decimal at ∷ decimal child ∷ []
+event_words (Open at) = command_of EventKind.Open ∷ decimal at ∷ []
+event_words (Join at) = command_of EventKind.Join ∷ decimal at ∷ []
+event_words (Finish at) = command_of EventKind.Finish ∷ decimal at ∷ []
+event_words (Mend at) = command_of EventKind.Mend ∷ decimal at ∷ []
+event_words (Act at case with) = command_of EventKind.Act ∷ decimal at ∷ decimal case ∷ neighbour_words with
 
 -- the one line of an event: its words, with a space between each two
 abbrev pub event_line : Event → List ℕ

@@ -1,6 +1,6 @@
 // The kinds of events, and the commands that their lines begin with.
-ghost use Rattle.std.specs.Prelude.{◌≡◌, ℕ, List, ◌∷◌, ◌++◌, codes, IfNone, IfSome};
-ghost use Rattle.reset_model.specs.EventCommands.{command_of};
+ghost use Rattle.std.specs.Prelude.{◌≡◌, ℕ, List, ◌∷◌, ◌++◌, IfNone, IfSome, option_map};
+ghost use Rattle.reset_model.specs.EventCommands.{IsAfter, command_of};
 ghost use Rattle.reset_model.specs.declared.event_kind.EventKind.{EventKind};
 
 /// What kind an event is of, whatever its numbers.
@@ -60,8 +60,7 @@ pub fn cut_kind(line: &[u8]) -> Option<(EventKind, &[u8])>
 // What follows `claim` and a space.
 #[inline(always)]
 fn after_claim(line: &[u8]) -> Option<&[u8]>
-    ensures found { IfSome result (λ rest. line.now ≡ codes "claim" ++ 32 ∷ rest.now) }
-    ensures only { IfNone result ((rest : List ℕ) → line.now ≡ codes "claim" ++ 32 ∷ rest → ⊥) }
+    ensures { IsAfter EventKind.Claim line.now (option_map (λ rest. rest.now) result) }
 {
     match line {
         [b'c', b'l', b'a', b'i', b'm', b' ', rest @ ..] => Some(rest),
@@ -72,8 +71,7 @@ fn after_claim(line: &[u8]) -> Option<&[u8]>
 // What follows `follow` and a space.
 #[inline(always)]
 fn after_follow(line: &[u8]) -> Option<&[u8]>
-    ensures found { IfSome result (λ rest. line.now ≡ codes "follow" ++ 32 ∷ rest.now) }
-    ensures only { IfNone result ((rest : List ℕ) → line.now ≡ codes "follow" ++ 32 ∷ rest → ⊥) }
+    ensures { IsAfter EventKind.Follow line.now (option_map (λ rest. rest.now) result) }
 {
     match line {
         [b'f', b'o', b'l', b'l', b'o', b'w', b' ', rest @ ..] => Some(rest),
@@ -84,8 +82,7 @@ fn after_follow(line: &[u8]) -> Option<&[u8]>
 // What follows `adopt` and a space.
 #[inline(always)]
 fn after_adopt(line: &[u8]) -> Option<&[u8]>
-    ensures found { IfSome result (λ rest. line.now ≡ codes "adopt" ++ 32 ∷ rest.now) }
-    ensures only { IfNone result ((rest : List ℕ) → line.now ≡ codes "adopt" ++ 32 ∷ rest → ⊥) }
+    ensures { IsAfter EventKind.Adopt line.now (option_map (λ rest. rest.now) result) }
 {
     match line {
         [b'a', b'd', b'o', b'p', b't', b' ', rest @ ..] => Some(rest),
@@ -96,8 +93,7 @@ fn after_adopt(line: &[u8]) -> Option<&[u8]>
 // What follows `request` and a space.
 #[inline(always)]
 fn after_request(line: &[u8]) -> Option<&[u8]>
-    ensures found { IfSome result (λ rest. line.now ≡ codes "request" ++ 32 ∷ rest.now) }
-    ensures only { IfNone result ((rest : List ℕ) → line.now ≡ codes "request" ++ 32 ∷ rest → ⊥) }
+    ensures { IsAfter EventKind.Request line.now (option_map (λ rest. rest.now) result) }
 {
     match line {
         [b'r', b'e', b'q', b'u', b'e', b's', b't', b' ', rest @ ..] => Some(rest),
@@ -108,8 +104,7 @@ fn after_request(line: &[u8]) -> Option<&[u8]>
 // What follows `relay` and a space.
 #[inline(always)]
 fn after_relay(line: &[u8]) -> Option<&[u8]>
-    ensures found { IfSome result (λ rest. line.now ≡ codes "relay" ++ 32 ∷ rest.now) }
-    ensures only { IfNone result ((rest : List ℕ) → line.now ≡ codes "relay" ++ 32 ∷ rest → ⊥) }
+    ensures { IsAfter EventKind.Relay line.now (option_map (λ rest. rest.now) result) }
 {
     match line {
         [b'r', b'e', b'l', b'a', b'y', b' ', rest @ ..] => Some(rest),
@@ -120,8 +115,7 @@ fn after_relay(line: &[u8]) -> Option<&[u8]>
 // What follows `open` and a space.
 #[inline(always)]
 fn after_open(line: &[u8]) -> Option<&[u8]>
-    ensures found { IfSome result (λ rest. line.now ≡ codes "open" ++ 32 ∷ rest.now) }
-    ensures only { IfNone result ((rest : List ℕ) → line.now ≡ codes "open" ++ 32 ∷ rest → ⊥) }
+    ensures { IsAfter EventKind.Open line.now (option_map (λ rest. rest.now) result) }
 {
     match line {
         [b'o', b'p', b'e', b'n', b' ', rest @ ..] => Some(rest),
@@ -132,8 +126,7 @@ fn after_open(line: &[u8]) -> Option<&[u8]>
 // What follows `join` and a space.
 #[inline(always)]
 fn after_join(line: &[u8]) -> Option<&[u8]>
-    ensures found { IfSome result (λ rest. line.now ≡ codes "join" ++ 32 ∷ rest.now) }
-    ensures only { IfNone result ((rest : List ℕ) → line.now ≡ codes "join" ++ 32 ∷ rest → ⊥) }
+    ensures { IsAfter EventKind.Join line.now (option_map (λ rest. rest.now) result) }
 {
     match line {
         [b'j', b'o', b'i', b'n', b' ', rest @ ..] => Some(rest),
@@ -144,8 +137,7 @@ fn after_join(line: &[u8]) -> Option<&[u8]>
 // What follows `finish` and a space.
 #[inline(always)]
 fn after_finish(line: &[u8]) -> Option<&[u8]>
-    ensures found { IfSome result (λ rest. line.now ≡ codes "finish" ++ 32 ∷ rest.now) }
-    ensures only { IfNone result ((rest : List ℕ) → line.now ≡ codes "finish" ++ 32 ∷ rest → ⊥) }
+    ensures { IsAfter EventKind.Finish line.now (option_map (λ rest. rest.now) result) }
 {
     match line {
         [b'f', b'i', b'n', b'i', b's', b'h', b' ', rest @ ..] => Some(rest),
@@ -156,8 +148,7 @@ fn after_finish(line: &[u8]) -> Option<&[u8]>
 // What follows `mend` and a space.
 #[inline(always)]
 fn after_mend(line: &[u8]) -> Option<&[u8]>
-    ensures found { IfSome result (λ rest. line.now ≡ codes "mend" ++ 32 ∷ rest.now) }
-    ensures only { IfNone result ((rest : List ℕ) → line.now ≡ codes "mend" ++ 32 ∷ rest → ⊥) }
+    ensures { IsAfter EventKind.Mend line.now (option_map (λ rest. rest.now) result) }
 {
     match line {
         [b'm', b'e', b'n', b'd', b' ', rest @ ..] => Some(rest),
@@ -168,8 +159,7 @@ fn after_mend(line: &[u8]) -> Option<&[u8]>
 // What follows `act` and a space.
 #[inline(always)]
 fn after_act(line: &[u8]) -> Option<&[u8]>
-    ensures found { IfSome result (λ rest. line.now ≡ codes "act" ++ 32 ∷ rest.now) }
-    ensures only { IfNone result ((rest : List ℕ) → line.now ≡ codes "act" ++ 32 ∷ rest → ⊥) }
+    ensures { IsAfter EventKind.Act line.now (option_map (λ rest. rest.now) result) }
 {
     match line {
         [b'a', b'c', b't', b' ', rest @ ..] => Some(rest),

@@ -1,5 +1,5 @@
 // The lines that stand for events, and the words that lines are made of.
-ghost use Rattle.std.specs.Prelude.{◌≡◌, ℕ, ◌<◌, ◌≤◌, ◌^◌, List, [], ◌∷◌, ◌++◌, Option, codes, IfSome, IfNone, OnOk};
+ghost use Rattle.std.specs.Prelude.{◌≡◌, ℕ, ◌<◌, ◌≤◌, ◌^◌, List, [], ◌∷◌, ◌++◌, Option, IfSome, IfNone, OnOk};
 ghost use Rattle.std.specs.Prelude.{OnErr};
 ghost use Rattle.std.specs.Fmt.{decimal};
 ghost use Rattle.std.specs.Io.KnownBytes.{Appends};
@@ -79,8 +79,8 @@ fn event_of(kind: EventKind, rest: &[u8]) -> Option<Event>
     }
 }
 
-// Two numbers with a space between them.
-fn two_numbers(text: &[u8]) -> Option<(u32, u32)>
+/// Two numbers with a space between them, as the whole of a text.
+pub fn two_numbers(text: &[u8]) -> Option<(u32, u32)>
     ensures found { IfSome result (λ ns. words_of text.now ≡ decimal ns.0 ∷ decimal ns.1 ∷ []) }
     ensures small { IfSome result (λ ns. (ns.0 < 2 ^ 32) × (ns.1 < 2 ^ 32)) }
     ensures only { IfNone result
@@ -92,9 +92,10 @@ fn two_numbers(text: &[u8]) -> Option<(u32, u32)>
 
 // The action of a node and a case, and of a neighbour if one is named.
 fn action_of(text: &[u8]) -> Option<Event>
-    ensures found { IfSome result (λ e. codes "act" ∷ words_of text.now ≡ event_words e) }
+    ensures found { IfSome result (λ e. command_of EventKind.Act ∷ words_of text.now ≡ event_words e) }
     ensures fits { IfSome result Fits }
-    ensures only { IfNone result ((e : Event) → Fits e → codes "act" ∷ words_of text.now ≡ event_words e → ⊥) }
+    ensures only { IfNone result
+        ((e : Event) → Fits e → command_of EventKind.Act ∷ words_of text.now ≡ event_words e → ⊥) }
 {
     let (at, rest) = split_word(text)?;
     let (case, with) = word_and_neighbour(rest)?;

@@ -8,7 +8,7 @@ use Rattle.std.proofs.lemmas.List.Elements.{All-tail, All-weaker}
 use Rattle.action_tables.specs.Numbers.{all_cases}
 use Rattle.app_interface.specs.Application.{App}
 use Rattle.topology.specs.Graph.{IsNode}
-use Rattle.reset_model.proofs.NodePlaces.{a_node, no_node}
+use Rattle.reset_model.proofs.NodePositions.{a_node, no_node}
 use Rattle.reset_model.specs.declared.event.Event.{Event}
 use Rattle.reset_model.specs.declared.event.Event.TheVariants.{Claim, Follow, Adopt, Request, Relay, Open, Join, Finish}
 use Rattle.reset_model.specs.declared.event.Event.TheVariants.{Mend, Act}

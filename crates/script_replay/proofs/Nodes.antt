@@ -16,7 +16,7 @@ use Rattle.reset_machine.specs.Enabled.{enabled_rows, ready_of}
 use Rattle.reset_machine.specs.declared.enabled.Enabled.{Enabled}
 use Rattle.reset_model.specs.Configuration.{Configuration, tree_of, wave_of, local_of}
 use Rattle.reset_model.specs.WavePicture.{HasJoined}
-use Rattle.reset_model.proofs.Places.{Contains-position, list_any-position}
+use Rattle.reset_model.proofs.Positions.{Contains-position, list_any-position}
 use Rattle.app_interface.specs.Application.{App}
 use Rattle.link_predicates.specs.Faults.{alarm_of, faults, node_faults}
 use Rattle.link_predicates.specs.declared.fault.LinkFault.{LinkFault}

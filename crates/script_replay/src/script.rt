@@ -15,18 +15,12 @@ ghost use Rattle.script_replay.specs.Script.{AsksAbout, CommandFits, IsPlain, Sp
 ghost use Rattle.script_replay.specs.Script.{command_line, command_words, command_of, is_called, is_name, is_silent};
 ghost use Rattle.script_replay.specs.Script.{line_of, named_words};
 
-use action_tables::read_number;
+use action_tables::{MOST_CASES, read_number};
 use app_interface::Application;
 use fault_inject::{Fault, read_fault};
-use history::{is_graphic, is_printable};
+use history::{MAX_LINE, is_graphic, is_printable};
 use reset_machine::{Event, read_event, split_word, word_and_neighbour};
 use std::alloc::{AllocError, Global};
-
-/// The most bytes of a line, without its line feed.
-pub const MAX_LINE: usize = 256;
-
-// No application has more cases.
-const MOST_CASES: u8 = 16;
 
 // The number of no case.
 const NO_CASE: u8 = 0;

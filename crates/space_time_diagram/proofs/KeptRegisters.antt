@@ -12,7 +12,7 @@ use Rattle.reset_model.specs.MachineSteps.IsStep.{row_step, act_step}
 use Rattle.reset_model.specs.Planned.{Outcome, outcome_of}
 use Rattle.reset_model.specs.Steps.{event_node}
 use Rattle.reset_model.proofs.ConfigurationSteps.{outcome_is_step}
-use Rattle.reset_model.proofs.Places.{value_at-put_at_other}
+use Rattle.reset_model.proofs.Positions.{value_at-put_at_other}
 use Rattle.fault_inject.specs.Effects.{damaged, injected, refusals, with_read}
 use Rattle.fault_inject.specs.declared.fault.Fault.{Fault}
 use Rattle.fault_inject.specs.declared.fault.Fault.TheVariants.{SetTree, SetWave, SetLocal, LinkDown, LinkUp}

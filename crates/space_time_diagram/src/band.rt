@@ -11,11 +11,10 @@ ghost use Rattle.space_time_diagram.specs.Lanes.{lane_of};
 
 use crate::lane::{lane_of, wave_at};
 use crate::page::{MAX_LANES, MAX_MARKS, height_below, lane_x, row_y};
-use crate::play::play;
 use action_tables::{Part, WriteFault, put_parts};
 use app_interface::Application;
 use fault_inject::Fault;
-use history::Entry;
+use history::{Entry, play};
 use reset_machine::Config;
 use std::alloc::{AllocError, Global};
 use std::io::Write;

@@ -13,7 +13,6 @@ mod lane;
 mod laws;
 mod mark;
 mod page;
-mod play;
 
 pub use diagram::{DiagramStop, put_diagram};
 pub use laws::{bands_show_registers, nodes_have_lanes};

@@ -45,14 +45,14 @@ and_last false false true = refl
 and_last false false false = refl
 
 module _ (s : set.FinSet pair_cmp) (a b : ℕ) (q : ℕ × ℕ) where
-  has_more : set.contains (set.insert (set.insert s (a, b)) (b, a)) q ≡ (set.contains s q || joins q.0 q.1 (a, b))
+  pub has_more : set.contains (set.insert (set.insert s (a, b)) (b, a)) q ≡ (set.contains s q || joins q.0 q.1 (a, b))
   has_more =
       set.contains-insert pair_total (set.insert s (a, b)) (b, a) q
       ∙ ap (λ t. eq_by_cmp pair_cmp q (b, a) || t) (set.contains-insert pair_total s (a, b) q)
       ∙ or_last (eq_by_cmp pair_cmp q (a, b)) (eq_by_cmp pair_cmp q (b, a)) (set.contains s q)
       ∙ ap (λ t. set.contains s q || t) (one_direction q.0 q.1 (a, b))
 
-  has_fewer : set.contains (set.remove (set.remove s (a, b)) (b, a)) q
+  pub has_fewer : set.contains (set.remove (set.remove s (a, b)) (b, a)) q
       ≡ (set.contains s q && not (joins q.0 q.1 (a, b)))
   has_fewer =
       set.contains-remove pair_total (set.remove s (a, b)) (b, a) q

@@ -1,11 +1,11 @@
 -- The rows of the tree table on what one node sees.
-use Rattle.std.specs.Prelude.{◌≢◌, ℕ, ◌+◌, ◌<◌, Bool, true, false, not, ◌&&◌, ◌||◌, ◌==◌, if◌then◌else◌, List, [], ◌∷◌}
-use Rattle.std.specs.Prelude.{map, codes, Option, Some, None, Result, Ok, Err, nat_lt, nat_le}
+use Rattle.std.specs.Prelude.{◌≢◌, ℕ, ◌+◌, ◌<◌, Bool, true, false, not, ◌&&◌, ◌||◌, ◌==◌, List, [], ◌∷◌}
+use Rattle.std.specs.Prelude.{codes, Option, Result, Ok, nat_lt, nat_le}
 use Rattle.std.specs.List.{list_any}
 use Rattle.std.specs.List.Sorted.{IsStrictlyIncreasing}
-use Rattle.std.specs.Map.{lookup}
 use Rattle.std.specs.Option.{option_map_or}
-use Rattle.action_tables.specs.Table.{Row, fired_of}
+use Rattle.action_tables.specs.Nodes.{ids_of, regs_of}
+use Rattle.action_tables.specs.Table.{Row, fired_naming}
 use Rattle.tree_layer.specs.declared.regs.TreeRegs.{TreeRegs}
 use Rattle.tree_layer.specs.declared.regs.TreeRefusal.{TreeRefusal}
 use Rattle.tree_layer.specs.declared.regs.TreeRefusal.TheVariants.{NoSuchCase, StrangeNeighbour, NotEnabled}
@@ -19,27 +19,20 @@ pub record LocalView : Type 0 where
   pub own : TreeRegs
   pub near : List (ℕ × TreeRegs)
 
-abbrev pub near_ids : List (ℕ × TreeRegs) → List ℕ
-near_ids near = map (λ j. j.0) near
-
 -- what a view has to be made of: some bound, and neighbours by strictly ascending id, none of
 -- which is the node itself
 pub record IsView (id bound : ℕ) (near : List (ℕ × TreeRegs)) : Type 0 where
   pub bounded : 0 < bound
-  pub ascending : IsStrictlyIncreasing (near_ids near)
+  pub ascending : IsStrictlyIncreasing (ids_of near)
   pub others : list_any (λ j. j.0 == id) near ≢ true
-
--- the registers of the neighbour j
-abbrev pub near_regs : ℕ → List (ℕ × TreeRegs) → Option TreeRegs
-near_regs j near = lookup (λ k. k == j) near
 
 -- the father is a neighbour, and passes the test
 abbrev pub father_passes : (TreeRegs → Bool) → LocalView → Bool
-father_passes p v = option_map_or p (near_regs v.own.father v.near) false
+father_passes p v = option_map_or p (regs_of v.own.father v.near) false
 
 -- the father's registers, and the node's own where the father is no neighbour
 abbrev pub father_regs : LocalView → TreeRegs
-father_regs v = option_map_or (λ up. up) (near_regs v.own.father v.near) v.own
+father_regs v = option_map_or (λ up. up) (regs_of v.own.father v.near) v.own
 
 -- some neighbour that is asked passes the test
 abbrev pub asked_passes : (TreeRegs → Bool) → List (ℕ × TreeRegs) → Bool
@@ -135,16 +128,7 @@ tree_table v asked =
 abbrev pub names_neighbour : ℕ → Bool
 names_neighbour n = n == 7 || n == 8
 
--- row n with the neighbour that it names, None where there is no such neighbour
-abbrev pub fired_from : LocalView → ℕ → ℕ → Option TreeRegs → Result TreeRegs TreeRefusal
-fired_from v n j None = Err StrangeNeighbour
-fired_from v n j (Some regs) = fired_of NoSuchCase NotEnabled (tree_table v ((j, regs) ∷ [])) n
-
 -- case n, with this neighbour named: what the registers become, or the first refusal
 abbrev pub tree_fired : LocalView → ℕ → Option ℕ → Result TreeRegs TreeRefusal
-tree_fired v n None =
-    if nat_lt n 1 || nat_lt 8 n then Err NoSuchCase
-    else (if names_neighbour n then Err StrangeNeighbour else fired_of NoSuchCase NotEnabled (tree_table v []) n)
-tree_fired v n (Some j) =
-    if nat_lt n 1 || nat_lt 8 n then Err NoSuchCase
-    else (if names_neighbour n then fired_from v n j (near_regs j v.near) else Err StrangeNeighbour)
+tree_fired v n named =
+    fired_naming 8 names_neighbour NoSuchCase StrangeNeighbour NotEnabled (tree_table v) v.near n named

@@ -3,10 +3,12 @@
 // The conjunctions are strict: each operand is cheap, and none depends on another.
 
 ghost use Rattle.std.specs.Prelude.{◌≡◌, ◌+◌, true, not, ◌&&◌, ◌||◌, ◌==◌, nat_lt, nat_le};
-ghost use Rattle.tree_layer.specs.TreeTable.{asked_passes, father_passes, near_regs};
+ghost use Rattle.action_tables.specs.Nodes.{regs_of};
+ghost use Rattle.tree_layer.specs.TreeTable.{asked_passes, father_passes};
 
 use crate::regs::TreeRegs;
 use crate::view::TreeView;
+use action_tables::regs_of;
 
 // Row 1: the root is less than the node's id.
 pub(crate) fn is_low(view: &TreeView) -> bool
@@ -96,21 +98,9 @@ pub(crate) fn some_shorter_way(view: &TreeView, asked: &[(u32, TreeRegs)]) -> bo
 
 // The registers of the father, where it is a neighbour.
 pub(crate) fn father(view: &TreeView) -> Option<TreeRegs>
-    ensures { result ≡ near_regs view.now.own.father view.now.near }
+    ensures { result ≡ regs_of view.now.own.father view.now.near }
 {
-    near_regs(view.near(), view.own().father)
-}
-
-// The registers of the neighbour with this id.
-pub(crate) fn near_regs(near: &[(u32, TreeRegs)], id: u32) -> Option<TreeRegs>
-    ensures { result ≡ near_regs id near.now }
-{
-    for (other, regs) in near {
-        if *other == id {
-            return Some(*regs);
-        }
-    }
-    None
+    regs_of(view.near(), view.own().father)
 }
 
 // One more than the distance. It is wide enough for one more than the greatest.

@@ -2,19 +2,19 @@
 
 ghost use Rattle.std.specs.Prelude.{◌≡◌, ◌≤◌, ◌↔◌, [], ℕ, List, IsTrue, length, map};
 ghost use Rattle.action_tables.specs.RowText.{as_printed};
-ghost use Rattle.action_tables.specs.Table.{enabled_of, fired_of, printed};
-ghost use Rattle.tree_layer.specs.declared.regs.TreeRefusal.TheVariants.{NoSuchCase, NotEnabled};
-ghost use Rattle.tree_layer.specs.TreeTable.{LocalView, fired_from, tree_fired, tree_table};
+ghost use Rattle.action_tables.specs.Table.{enabled_of, fired_of, fired_toward, printed};
+ghost use Rattle.tree_layer.specs.declared.regs.TreeRefusal.TheVariants.{NoSuchCase, NotEnabled, StrangeNeighbour};
+ghost use Rattle.tree_layer.specs.TreeTable.{LocalView, tree_fired, tree_table};
 ghost use Rattle.tree_layer.specs.declared.regs.TreeRegs.{TreeRegs};
 
 use crate::effects::{adopted, claimed, followed};
 use crate::guards::{
-    has_other_dist, has_other_root, is_far, is_low, is_odd_root, is_stray, near_regs,
-    some_greater_root, some_shorter_way,
+    has_other_dist, has_other_root, is_far, is_low, is_odd_root, is_stray, some_greater_root,
+    some_shorter_way,
 };
 use crate::regs::{TreeRefusal, TreeRegs};
 use crate::view::TreeView;
-use action_tables::{CaseRow, CaseSet, case_rows, enabled_cases, fire_case};
+use action_tables::{CaseRow, CaseSet, case_rows, enabled_cases, fire_case, regs_of};
 
 // The rows, for the macro that is named. `$asked` are the neighbours that rows 7 and 8 may adopt.
 macro_rules! tree_table {
@@ -80,7 +80,7 @@ pub fn tree_fire(view: &TreeView, case: u8, from: Option<u32>) -> Result<TreeReg
         }
         Some(id) => {
             if names_neighbour {
-                fire_from(view, case, id, near_regs(view.near(), id))
+                fire_from(view, case, id, regs_of(view.near(), id))
             } else {
                 Err(TreeRefusal::StrangeNeighbour)
             }
@@ -95,7 +95,9 @@ fn fire_from(
     id: u32,
     regs: Option<TreeRegs>,
 ) -> Result<TreeRegs, TreeRefusal>
-    ensures { result ≡ fired_from view.now case id regs }
+    ensures { result
+        ≡ fired_toward StrangeNeighbour (λ asked. fired_of NoSuchCase NotEnabled (tree_table view.now asked) case) id
+        regs }
 {
     match regs {
         Some(regs) => fire_row(view, case, &[(id, regs)]),

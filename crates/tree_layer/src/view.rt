@@ -1,12 +1,14 @@
 // What one node sees of the tree: its own registers and its neighbours'.
 
-ghost use Rattle.std.specs.Prelude.{◌≡◌, ◌↔◌, ◌<◌, IsSome, IfSome, IsTrue};
+ghost use Rattle.std.specs.Prelude.{◌≡◌, ◌↔◌, ◌<◌, IsSome, IfSome};
 ghost use Rattle.std.specs.List.{list_any};
 ghost use Rattle.std.specs.List.Sorted.{IsStrictlyIncreasing};
 ghost use Rattle.std.specs.Prelude.{◌==◌};
-ghost use Rattle.tree_layer.specs.TreeTable.{IsView, near_ids};
+ghost use Rattle.action_tables.specs.Nodes.{ids_of};
+ghost use Rattle.tree_layer.specs.TreeTable.{IsView};
 
 use crate::regs::TreeRegs;
+use action_tables::ids_ascend;
 use std::marker::Model;
 
 /// What one node sees: its id, the bound of the distances, its registers, and those of its
@@ -70,17 +72,10 @@ impl<'a> TreeView<'a> {
     /// The neighbours' ids and registers, by strictly ascending id.
     pub(crate) fn near(&self) -> &[(u32, TreeRegs)]
         ensures value { result.now ≡ self.now.near }
-        ensures ascending { IsStrictlyIncreasing (near_ids self.now.near) }
+        ensures ascending { IsStrictlyIncreasing (ids_of self.now.near) }
     {
         self.near
     }
-}
-
-// Whether each neighbour's id is below the next one's.
-fn ids_ascend(near: &[(u32, TreeRegs)]) -> bool
-    ensures { IsTrue result ↔ IsStrictlyIncreasing (near_ids near.now) }
-{
-    near.is_sorted_by(|one, next| one.0 < next.0)
 }
 
 // Whether a neighbour has this id.

@@ -1,9 +1,8 @@
 -- The wave layer: the rows of its table on what one node sees, and its predicate.
 use Rattle.std.specs.Prelude.{◌≡◌, ℕ, ◌+◌, Bool, true, false, not, ◌&&◌, ◌||◌, ◌==◌, if◌then◌else◌, List, [], ◌∷◌}
-use Rattle.std.specs.Prelude.{codes, Option, Some, None, Result, Ok, Err, ◌⊎◌, nat_lt}
+use Rattle.std.specs.Prelude.{codes, Option, Result, Ok, Err, ◌⊎◌, nat_lt}
 use Rattle.std.specs.List.{list_all, list_any}
-use Rattle.std.specs.Map.{lookup}
-use Rattle.action_tables.specs.Table.{Row, fired_of}
+use Rattle.action_tables.specs.Table.{Row, fired_naming}
 use Rattle.wave_layer.specs.declared.regs.Phase.{Phase}
 use Rattle.wave_layer.specs.declared.regs.Phase.TheVariants.{Normal, Initiate, Reset}
 use Rattle.wave_layer.specs.declared.regs.WaveRegs.{WaveRegs}
@@ -191,27 +190,14 @@ wave_table v asked =
     }
     ∷ []
 
--- the registers of the child with this id
-abbrev pub child_regs : ℕ → List (ℕ × WaveRegs) → Option WaveRegs
-child_regs id children = lookup (λ child. child == id) children
-
 -- the rows that name a child
 abbrev pub names_child : ℕ → Bool
 names_child n = n == 2
 
--- row n with the child that it names, None where it isn't among the children
-abbrev pub fired_at : LocalView → ℕ → ℕ → Option WaveRegs → Result WaveMove WaveRefusal
-fired_at v n id None = Err NotChild
-fired_at v n id (Some regs) = fired_of NoSuchCase NotEnabled (wave_table v ((id, regs) ∷ [])) n
-
 -- case n, with this child named: what the node does, or the first refusal
 abbrev pub wave_fired : LocalView → ℕ → Option ℕ → Result WaveMove WaveRefusal
-wave_fired v n None =
-    if nat_lt n 1 || nat_lt 11 n then Err NoSuchCase
-    else (if names_child n then Err NotChild else fired_of NoSuchCase NotEnabled (wave_table v []) n)
-wave_fired v n (Some id) =
-    if nat_lt n 1 || nat_lt 11 n then Err NoSuchCase
-    else (if names_child n then fired_at v n id (child_regs id v.children) else Err NotChild)
+wave_fired v n named =
+    fired_naming 11 names_child NoSuchCase NotChild NotEnabled (wave_table v) v.children n named
 
 -- the predicate of a node's registers and those of its father, a neighbour
 pub record WaveHolds (own up : WaveRegs) : Type 0 where

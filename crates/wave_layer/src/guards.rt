@@ -3,8 +3,8 @@
 // The conjunctions are strict: each operand is cheap, and none depends on another.
 
 ghost use Rattle.std.specs.Prelude.{◌≡◌, ◌==◌, ◌&&◌, not};
-ghost use Rattle.wave_layer.specs.WaveTable.{any_initiate, child_regs, children_done, father_awake, father_regs};
-ghost use Rattle.wave_layer.specs.WaveTable.{father_reset, is_initiate, is_normal, is_reset, is_root, next_session};
+ghost use Rattle.wave_layer.specs.WaveTable.{any_initiate, children_done, father_awake, father_regs, father_reset};
+ghost use Rattle.wave_layer.specs.WaveTable.{is_initiate, is_normal, is_reset, is_root, next_session};
 
 use crate::effects::father_regs;
 use crate::regs::WaveRegs;
@@ -133,16 +133,4 @@ fn children_done(view: &WaveView) -> bool
     view.children()
         .iter()
         .all(|(_, child)| child.is_done(session))
-}
-
-// The registers of the child with this id.
-pub(crate) fn child_regs(children: &[(u32, WaveRegs)], id: u32) -> Option<WaveRegs>
-    ensures { result ≡ child_regs id children.now }
-{
-    for (child, regs) in children {
-        if *child == id {
-            return Some(*regs);
-        }
-    }
-    None
 }

@@ -2,19 +2,20 @@
 
 ghost use Rattle.std.specs.Prelude.{◌≡◌, ℕ, List, map};
 ghost use Rattle.action_tables.specs.RowText.{as_printed};
-ghost use Rattle.action_tables.specs.Table.{enabled_of, fired_of, printed};
+ghost use Rattle.action_tables.specs.Table.{enabled_of, fired_of, fired_toward, printed};
 ghost use Rattle.wave_layer.specs.declared.regs.WaveRegs.{WaveRegs};
-ghost use Rattle.wave_layer.specs.declared.regs.WaveRefusal.TheVariants.{NoSuchCase, NotEnabled};
-ghost use Rattle.wave_layer.specs.WaveTable.{LocalView, fired_at, wave_fired, wave_table};
+ghost use Rattle.wave_layer.specs.declared.regs.WaveRefusal.TheVariants.{NoSuchCase, NotChild, NotEnabled};
+ghost use Rattle.wave_layer.specs.declared.table.TheConstants.{RELAY};
+ghost use Rattle.wave_layer.specs.WaveTable.{LocalView, wave_fired, wave_table};
 
 use crate::effects::{asked, completed, finished, joined, mended, opened};
 use crate::guards::{
-    child_regs, differs_awake, differs_reset, is_asked, is_late, is_normal, joins_asked,
-    joins_normal, may_complete, may_finish, may_open, resets_alone,
+    differs_awake, differs_reset, is_asked, is_late, is_normal, joins_asked, joins_normal,
+    may_complete, may_finish, may_open, resets_alone,
 };
 use crate::regs::{WaveMove, WaveRefusal, WaveRegs};
 use crate::view::WaveView;
-use action_tables::{CaseRow, CaseSet, case_rows, enabled_cases, fire_case};
+use action_tables::{CaseRow, CaseSet, case_rows, enabled_cases, fire_case, regs_of};
 
 // The only row that names a child, the relay.
 const RELAY: u8 = 2;
@@ -83,7 +84,7 @@ pub fn wave_fire(view: &WaveView, case: u8, child: Option<u32>) -> Result<WaveMo
         }
         Some(id) => {
             if case == RELAY {
-                fire_relay(view, id, child_regs(view.children(), id))
+                fire_relay(view, id, regs_of(view.children(), id))
             } else {
                 Err(WaveRefusal::NotChild)
             }
@@ -93,7 +94,8 @@ pub fn wave_fire(view: &WaveView, case: u8, child: Option<u32>) -> Result<WaveMo
 
 // Row 2, with the registers of the child that it names.
 fn fire_relay(view: &WaveView, id: u32, child: Option<WaveRegs>) -> Result<WaveMove, WaveRefusal>
-    ensures { result ≡ fired_at view.now 2 id child }
+    ensures { result
+        ≡ fired_toward NotChild (λ asked. fired_of NoSuchCase NotEnabled (wave_table view.now asked) RELAY) id child }
 {
     match child {
         Some(regs) => fire_row(view, RELAY, &[(id, regs)]),

@@ -1,9 +1,11 @@
 // What one node sees of the wave: its own registers, its father's and its children's.
 
-ghost use Rattle.std.specs.Prelude.{◌≡◌, ◌↔◌, IsSome, IfSome, IsTrue, map};
+ghost use Rattle.std.specs.Prelude.{◌≡◌, ◌↔◌, IsSome, IfSome};
 ghost use Rattle.std.specs.List.Sorted.{IsStrictlyIncreasing};
+ghost use Rattle.action_tables.specs.Nodes.{ids_of};
 
 use crate::regs::{FatherSeen, WaveRegs};
+use action_tables::ids_ascend;
 use std::marker::Model;
 
 /// What one node sees: its registers, its father's, and those of its children with their ids.
@@ -17,15 +19,15 @@ pub struct WaveView<'a> {
 }
 
 impl<'a> Model for WaveView<'a> {
-    ghost use Rattle.std.specs.Prelude.{map};
     ghost use Rattle.std.specs.List.Sorted.{IsStrictlyIncreasing};
+    ghost use Rattle.action_tables.specs.Nodes.{ids_of};
     ghost use Rattle.wave_layer.specs.WaveTable.{LocalView};
 
     ghost Value = { LocalView };
 
     ghost view = { λ v. record { own = v.own; father = v.father; children = v.children.now } };
 
-    ghost invariant = { λ v. IsStrictlyIncreasing (map (λ c. c.0) v.children.now) };
+    ghost invariant = { λ v. IsStrictlyIncreasing (ids_of v.children.now) };
 }
 
 impl<'a> WaveView<'a> {
@@ -35,7 +37,7 @@ impl<'a> WaveView<'a> {
         father: FatherSeen,
         children: &'a [(u32, WaveRegs)],
     ) -> Option<WaveView<'a>>
-        ensures ascending { IsSome result ↔ IsStrictlyIncreasing (map (λ c. c.0) children.now) }
+        ensures ascending { IsSome result ↔ IsStrictlyIncreasing (ids_of children.now) }
         ensures value { IfSome result (λ v. v ≡ record { own = own; father = father; children = children.now }) }
     {
         if ids_ascend(children) {
@@ -66,15 +68,8 @@ impl<'a> WaveView<'a> {
     /// The children's ids and registers, by strictly ascending id.
     pub(crate) fn children(&self) -> &[(u32, WaveRegs)]
         ensures value { result.now ≡ self.now.children }
-        ensures ascending { IsStrictlyIncreasing (map (λ c. c.0) self.now.children) }
+        ensures ascending { IsStrictlyIncreasing (ids_of self.now.children) }
     {
         self.children
     }
-}
-
-// Whether each child's id is below the next one's.
-fn ids_ascend(children: &[(u32, WaveRegs)]) -> bool
-    ensures { IsTrue result ↔ IsStrictlyIncreasing (map (λ c. c.0) children.now) }
-{
-    children.is_sorted_by(|one, next| one.0 < next.0)
 }

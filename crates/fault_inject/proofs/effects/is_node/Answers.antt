@@ -1,6 +1,6 @@
 use Rattle.std.proofs.Common.{◌==◌, position, is_some, sym, ap, ◌∙◌}
 use Rattle.topology.specs.Graph.{Graph}
-use Rattle.reset_model.proofs.Places.{list_any-position}
+use Rattle.reset_model.proofs.Positions.{list_any-position}
 use Rattle.fault_inject.proofs.effects.is_node.Goals as goal
 
 pub returns : goal.returns

@@ -3,7 +3,7 @@ use Rattle.topology.specs.Graph.{Graph}
 use Rattle.wave_layer.specs.declared.regs.Phase.TheVariants.{Normal}
 use Rattle.reset_model.proofs.Judging.{read_at-place}
 use Rattle.reset_machine.proofs.NearSeen.{same_neighbour}
-use Rattle.reset_model.proofs.Places.{value_at-place}
+use Rattle.reset_model.proofs.Positions.{value_at-place}
 use Rattle.link_predicates.proofs.end.end_at.Goals as goal
 
 pub returns : goal.returns

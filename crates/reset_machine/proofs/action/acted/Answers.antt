@@ -1,6 +1,6 @@
 use Rattle.topology.specs.Graph.{node_bound}
 use Rattle.reset_model.specs.Configuration.{local_of, wave_of}
-use Rattle.reset_model.proofs.NodePlaces.{no_node}
+use Rattle.reset_model.proofs.NodePositions.{no_node}
 use Rattle.reset_model.proofs.Judging.{acted_of-strange_node}
 use Rattle.reset_machine.proofs.action.acted.Goals as goal
 

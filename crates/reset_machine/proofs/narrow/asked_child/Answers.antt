@@ -1,7 +1,7 @@
 use Rattle.std.proofs.Common.{refl, sym, ap, ◌∙◌}
 use Rattle.std.proofs.lemmas.Bool.{ne_eqb}
 use Rattle.reset_model.specs.Configuration.{tree_of, wave_of}
-use Rattle.reset_model.proofs.Places.{found_is_node, id_at-position}
+use Rattle.reset_model.proofs.Positions.{found_is_node, id_at-position}
 use Rattle.reset_machine.proofs.NarrowChildren.{asked_child, asked_of_another}
 use Rattle.reset_machine.proofs.narrow.asked_child.Goals as goal
 

@@ -8,7 +8,7 @@ use Rattle.reset_model.specs.Configuration.{tree_of}
 use Rattle.reset_model.specs.View.{Neighbour, near_of, near_trees}
 use Rattle.reset_machine.proofs.NearSeen.{same_view}
 use Rattle.reset_machine.proofs.NearTrees.{near_is_view}
-use Rattle.reset_model.proofs.Places.{id_at-position}
+use Rattle.reset_model.proofs.Positions.{id_at-position}
 use Rattle.reset_machine.proofs.StepClauses.{start_is}
 use Rattle.reset_machine.proofs.node_view.read_view.Goals as goal
 

@@ -1,7 +1,7 @@
 use Rattle.std.proofs.Common.{◌∙◌}
 use Rattle.topology.specs.Graph.{node_bound}
 use Rattle.reset_model.specs.Configuration.{tree_of, wave_of}
-use Rattle.reset_model.proofs.NodePlaces.{no_node}
+use Rattle.reset_model.proofs.NodePositions.{no_node}
 use Rattle.reset_model.proofs.Planned.{planned_at, planned_of-strange_node}
 use Rattle.reset_machine.proofs.plan.planned.Goals as goal
 

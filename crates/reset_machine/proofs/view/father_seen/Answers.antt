@@ -1,7 +1,7 @@
 use Rattle.std.proofs.Common.{sym, ap, ◌∙◌}
 use Rattle.reset_model.specs.Configuration.{tree_of, wave_of}
-use Rattle.reset_model.proofs.NodePlaces.{father_seen-near}
-use Rattle.reset_model.proofs.Places.{id_at-position}
+use Rattle.reset_model.proofs.NodePositions.{father_seen-near}
+use Rattle.reset_model.proofs.Positions.{id_at-position}
 use Rattle.reset_machine.proofs.view.father_seen.Goals as goal
 
 pub returns-in-Some : goal.returns-in-Some

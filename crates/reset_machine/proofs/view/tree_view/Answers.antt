@@ -3,7 +3,7 @@ use Rattle.tree_layer.specs.declared.regs.TreeRegs.{TreeRegs}
 use Rattle.tree_layer.specs.TreeTable.{IsView}
 use Rattle.topology.specs.Graph.{node_bound}
 use Rattle.reset_model.specs.Configuration.{tree_of}
-use Rattle.reset_model.proofs.Places.{none_is_no_some}
+use Rattle.reset_model.proofs.Positions.{none_is_no_some}
 use Rattle.reset_machine.proofs.NearTrees.{near_is_view}
 use Rattle.reset_model.proofs.Planned.{tree_view_of-parts}
 use Rattle.reset_machine.proofs.view.tree_view.Goals as goal

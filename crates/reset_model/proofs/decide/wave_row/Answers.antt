@@ -6,7 +6,7 @@ use Rattle.reset_model.specs.LocalSteps.{cases_of, first_answer}
 use Rattle.reset_model.specs.Steps.{named_node}
 use Rattle.reset_model.specs.View.{near_waves, tree_view, wave_view}
 use Rattle.reset_model.proofs.Deciding.{kept_ascend, wave_view-parts}
-use Rattle.reset_model.proofs.Places.{none_is_no_some}
+use Rattle.reset_model.proofs.Positions.{none_is_no_some}
 use Rattle.reset_model.proofs.Planned.{exact_of}
 use Rattle.reset_model.proofs.decide.wave_row.Goals as goal
 

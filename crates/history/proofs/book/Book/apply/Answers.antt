@@ -1,9 +1,7 @@
-use Rattle.std.proofs.Common.{◌≡◌, ◌++◌, ◌∷◌, [], ◌∙◌, arith, ap, length}
-use Rattle.std.proofs.lemmas.List.{length_push}
-use Rattle.std.proofs.lemmas.List.Elements.{All-push}
+use Rattle.std.proofs.Common.{◌++◌, ◌∷◌, [], ◌∙◌, arith, ap, length}
 use Rattle.history.specs.declared.entry.Entry.TheVariants.{Step}
-use Rattle.history.specs.HistoryText.{HasLine}
 use Rattle.history.specs.Segments.{entries_of}
+use Rattle.history.proofs.Books.{kept_with_entry, kept_with_room}
 use Rattle.history.proofs.book.Book.apply.Goals as goal
 
 pub returns-in-Ok-enter_plan-clause-seen : goal.returns-in-Ok-enter_plan-clause-seen
@@ -14,59 +12,38 @@ pub invariant_of-self-in-Ok-enter_plan : goal.invariant_of-self-in-Ok-enter_plan
 invariant_of-self-in-Ok-enter_plan g c =
     let book = c.self.inside in
     let es = entries_of book.log.segments in
-    let before = c.self.invariant in
-    let kept = ap length c.make_room.ensures.same in
-    let roomy = c.make_room-2.ensures.played book.log.opening.value es before.0 in
-    let line = rw c.event-event.ensures at c.lemma_step_has_line.ensures in
-    let more : entries_of c.push.new.self.segments ≡ es ++ Step c.args.plan.event ∷ [] =
-    c.push.ensures.entries
-    ∙ ap (λ l. l ++ Step c.event-event.result ∷ []) c.make_room.ensures.same
-    ∙ ap (λ event. es ++ Step event ∷ []) c.event-event.ensures in
-    let opening : c.push.new.self.opening.value ≡ book.log.opening.value =
-    ap (λ o. o.value) (c.push.ensures.opening ∙ c.make_room.ensures.opening) in (
-      rw (more, opening) (c.in-Ok-enter_plan.ensures.played book.log.opening.value es roomy (omega (arith, kept))),
-      rw more (omega (arith, length_push es (Step c.args.plan.event))),
-      before.2,
-      rw more (All-push HasLine es (Step c.args.plan.event) before.3 line),
-      c.push.ensures.log,
-    )
+    let same = c.make_room.ensures.same in
+    let kept = ap length same in
+    let roomy = c.make_room-2.ensures.played book.log.opening.value es c.self.invariant.0 in
+    kept_with_entry g.P.Application.app g.P.Application.from_text book.player book.log book.limit c.self.invariant
+    c.enter_plan.new.self c.enter.new.self (Step c.args.plan.event)
+    (c.enter.ensures.opening ∙ c.make_room.ensures.opening)
+    (c.enter.ensures.entries
+    ∙ ap (λ l. l ++ Step c.event-event.result ∷ []) same
+    ∙ ap (λ event. es ++ Step event ∷ []) c.event-event.ensures) c.enter.ensures.log
+    (c.in-Ok-enter_plan.ensures.played book.log.opening.value es roomy (omega (arith, kept)))
+    (rw c.event-event.ensures at c.enter.ensures.line) (omega (arith, kept))
 
 pub invariant_of-self-in-Err-enter_plan : goal.invariant_of-self-in-Err-enter_plan
 invariant_of-self-in-Err-enter_plan g c =
     let book = c.self.inside in
-    let before = c.self.invariant in
-    let roomy = c.make_room-2.ensures.played book.log.opening.value (entries_of book.log.segments) before.0 in
-    let opening : c.make_room.new.self.opening.value ≡ book.log.opening.value =
-    ap (λ o. o.value) c.make_room.ensures.opening in (
-      rw (c.make_room.ensures.same, opening, c.in-Err-enter_plan.ensures.kept) roomy,
-      rw c.make_room.ensures.same before.1,
-      before.2,
-      rw c.make_room.ensures.same before.3,
-      c.make_room.ensures.log,
-    )
+    let roomy = c.make_room-2.ensures.played book.log.opening.value (entries_of book.log.segments) c.self.invariant.0 in
+    kept_with_room g.P.Application.app g.P.Application.from_text book.player book.log book.limit c.self.invariant
+    c.enter_plan.new.self c.make_room.new.self
+    c.make_room.ensures.opening c.make_room.ensures.same c.make_room.ensures.log
+    (rw c.in-Err-enter_plan.ensures.kept roomy)
 
 pub invariant_of-self : goal.invariant_of-self
 invariant_of-self g c =
-    let before = c.self.invariant in
-    let opening : c.make_room.new.self.opening.value ≡ c.self.inside.log.opening.value =
-    ap (λ o. o.value) c.make_room.ensures.opening in (
-      rw (c.make_room.ensures.same, opening) before.0,
-      rw c.make_room.ensures.same before.1,
-      before.2,
-      rw c.make_room.ensures.same before.3,
-      c.make_room.ensures.log,
-    )
+    let book = c.self.inside in
+    kept_with_room g.P.Application.app g.P.Application.from_text book.player book.log book.limit c.self.invariant
+    book.player c.make_room.new.self
+    c.make_room.ensures.opening c.make_room.ensures.same c.make_room.ensures.log c.self.invariant.0
 
 pub invariant_of-self-in-Err-make_room : goal.invariant_of-self-in-Err-make_room
 invariant_of-self-in-Err-make_room g c =
     let book = c.self.inside in
-    let before = c.self.invariant in
-    let roomy = c.make_room-2.ensures.played book.log.opening.value (entries_of book.log.segments) before.0 in
-    let opening : c.make_room.new.self.opening.value ≡ book.log.opening.value =
-    ap (λ o. o.value) c.make_room.ensures.opening in (
-      rw (c.make_room.ensures.same, opening) roomy,
-      rw c.make_room.ensures.same before.1,
-      before.2,
-      rw c.make_room.ensures.same before.3,
-      c.make_room.ensures.log,
-    )
+    kept_with_room g.P.Application.app g.P.Application.from_text book.player book.log book.limit c.self.invariant
+    c.make_room-2.new.self c.make_room.new.self
+    c.make_room.ensures.opening c.make_room.ensures.same c.make_room.ensures.log
+    (c.make_room-2.ensures.played book.log.opening.value (entries_of book.log.segments) c.self.invariant.0)

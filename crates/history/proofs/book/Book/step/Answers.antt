@@ -1,24 +1,17 @@
-use Rattle.std.proofs.Common.{◌≡◌, ◌++◌, ◌∷◌, [], ◌∙◌, arith, ap, length}
-use Rattle.std.proofs.lemmas.List.{length_push}
-use Rattle.std.proofs.lemmas.List.Elements.{All-push}
+use Rattle.std.proofs.Common.{◌++◌, ◌∷◌, [], ◌∙◌, arith, ap, length}
 use Rattle.history.specs.declared.entry.Entry.TheVariants.{Step}
-use Rattle.history.specs.HistoryText.{HasLine}
 use Rattle.history.specs.Segments.{entries_of}
+use Rattle.history.proofs.Books.{kept_with_entry}
 use Rattle.history.proofs.book.Book.step.Goals as goal
 
 pub invariant_of-self-in-Ok : goal.invariant_of-self-in-Ok
 invariant_of-self-in-Ok g c =
     let book = c.self.inside in
     let es = entries_of book.log.segments in
-    let before = c.self.invariant in
-    let kept = ap length c.make_room.ensures.same in
-    let more : entries_of c.push.new.self.segments ≡ es ++ Step c.args.event ∷ [] =
-    c.push.ensures.entries ∙ ap (λ l. l ++ Step c.args.event ∷ []) c.make_room.ensures.same in
-    let opening : c.push.new.self.opening.value ≡ book.log.opening.value =
-    ap (λ o. o.value) (c.push.ensures.opening ∙ c.make_room.ensures.opening) in (
-      rw (more, opening) (c.in-Ok.ensures.played book.log.opening.value es before.0 (omega (arith, kept))),
-      rw more (omega (arith, length_push es (Step c.args.event))),
-      before.2,
-      rw more (All-push HasLine es (Step c.args.event) before.3 c.lemma_step_has_line.ensures),
-      c.push.ensures.log,
-    )
+    let same = c.make_room.ensures.same in
+    let kept = ap length same in
+    kept_with_entry g.P.Application.app g.P.Application.from_text book.player book.log book.limit c.self.invariant
+    c.enter_step.new.self c.enter.new.self (Step c.args.event) (c.enter.ensures.opening ∙ c.make_room.ensures.opening)
+    (c.enter.ensures.entries ∙ ap (λ l. l ++ Step c.args.event ∷ []) same) c.enter.ensures.log
+    (c.in-Ok.ensures.played book.log.opening.value es c.self.invariant.0 (omega (arith, kept)))
+    c.enter.ensures.line (omega (arith, kept))

@@ -7,4 +7,4 @@ returns-in-Ok-clause-played g c =
     λ start es before at.
     played_fault g.P.Application.app g.P.Application.from_text start now.config c.inject.new.config es now.openings
     c.disturb.new.self now.reports.items
-    c.args.fault.now c.args.place before at c.in-Ok.ensures.outcome c.disturb.ensures.none c.disturb.ensures.within
+    c.args.fault.now c.args.position before at c.in-Ok.ensures.outcome c.disturb.ensures.none c.disturb.ensures.within

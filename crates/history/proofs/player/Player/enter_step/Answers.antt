@@ -10,7 +10,7 @@ returns-in-Ok-step-clause-played g c =
     rw c.note.ensures.same
     (played_step app g.P.Application.from_text start room.config c.step.new.self es room.openings
     c.note.new.self.openings room.reports.items c.note.new.self.reports.items
-    c.args.event c.in-Ok-step.reply c.args.place (c.make_room.ensures.played start es before) at
+    c.args.event c.in-Ok-step.reply c.args.position (c.make_room.ensures.played start es before) at
     c.in-Ok-step.ensures.outcome
     (step_graph app room.config c.step.new.self c.args.event c.in-Ok-step.ensures.ok)
     c.note.ensures.reports c.note.ensures.openings c.note.ensures.within)

@@ -9,5 +9,5 @@ returns-in-Some-clause-openings g c =
     let there : position (λ j. j == c.args.at) ids ≡ Some c.in-Some.index = search rules in
     λ n i k within less found.
     c.open.ensures.told n k within less
-    ∙ ap (λ b. if b then Some c.args.place else told c.args.self.now.openings k) (same_place ids i c.args.at k _
+    ∙ ap (λ b. if b then Some c.args.position else told c.args.self.now.openings k) (same_place ids i c.args.at k _
     found there)

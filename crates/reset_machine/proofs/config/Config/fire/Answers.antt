@@ -1,7 +1,7 @@
 use Rattle.std.proofs.Common.{Ok, slice_index, ◌∙◌, ap}
 use Rattle.reset_model.specs.Steps.{event_node}
 use Rattle.reset_model.proofs.ConfigurationSteps.{refused_outcome}
-use Rattle.reset_model.proofs.Places.{id_at-position}
+use Rattle.reset_model.proofs.Positions.{id_at-position}
 use Rattle.reset_machine.proofs.StepClauses.{wave_is_outcome}
 use Rattle.reset_machine.proofs.Writing.{tree_outcome}
 use Rattle.reset_machine.proofs.config.Config.fire.Goals as goal

@@ -1,5 +1,5 @@
 use Rattle.std.proofs.Common.{sym}
-use Rattle.reset_model.proofs.Places.{read_at-position, position-Contains, Contains-position}
+use Rattle.reset_model.proofs.Positions.{read_at-position, position-Contains, Contains-position}
 use Rattle.reset_machine.proofs.config.Config.local_at.Goals as goal
 
 pub returns-in-None-clause-none : goal.returns-in-None-clause-none

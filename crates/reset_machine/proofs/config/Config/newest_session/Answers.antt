@@ -1,7 +1,7 @@
 use Rattle.std.proofs.Common.{◌-◌, ◌<◌, length, slice_index_or, sym, ap, ◌∙◌, arith}
 use Rattle.wave_layer.specs.declared.regs.WaveRegs.{WaveRegs}
 use Rattle.wave_layer.specs.declared.regs.Phase.TheVariants.{Normal}
-use Rattle.reset_model.proofs.Places.{value_at-place}
+use Rattle.reset_model.proofs.Positions.{value_at-place}
 use Rattle.reset_machine.proofs.config.Config.newest_session.Goals as goal
 
 pub returns : goal.returns

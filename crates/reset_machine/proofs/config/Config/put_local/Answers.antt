@@ -1,5 +1,5 @@
 use Rattle.std.proofs.Common.{refl, sym}
-use Rattle.reset_model.proofs.Places.{position-Contains, Contains-position}
+use Rattle.reset_model.proofs.Positions.{position-Contains, Contains-position}
 use Rattle.reset_machine.proofs.Writing.{local_written}
 use Rattle.reset_machine.proofs.config.Config.put_local.Goals as goal
 

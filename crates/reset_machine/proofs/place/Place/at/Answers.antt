@@ -1,4 +1,4 @@
-use Rattle.reset_model.proofs.Places.{position-place}
+use Rattle.reset_model.proofs.Positions.{position-place}
 use Rattle.reset_machine.proofs.place.Place.at.Goals as goal
 
 pub invariant_of-result : goal.invariant_of-result

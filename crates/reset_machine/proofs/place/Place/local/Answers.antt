@@ -1,4 +1,4 @@
-use Rattle.reset_model.proofs.Places.{read_at-position}
+use Rattle.reset_model.proofs.Positions.{read_at-position}
 use Rattle.reset_machine.proofs.place.Place.local.Goals as goal
 
 pub returns : goal.returns

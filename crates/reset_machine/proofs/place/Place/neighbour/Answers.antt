@@ -1,4 +1,4 @@
-use Rattle.reset_model.proofs.Places.{id_at-position}
+use Rattle.reset_model.proofs.Positions.{id_at-position}
 use Rattle.reset_machine.proofs.place.Place.neighbour.Goals as goal
 
 pub returns-clause-found : goal.returns-clause-found

@@ -1,6 +1,6 @@
 use Rattle.std.proofs.Common.{ap, ◌∙◌}
 use Rattle.topology.specs.Graph.{neighbours_of}
-use Rattle.reset_model.proofs.Places.{id_at-position}
+use Rattle.reset_model.proofs.Positions.{id_at-position}
 use Rattle.reset_machine.proofs.place.Place.neighbours.Goals as goal
 
 pub returns-clause-ids : goal.returns-clause-ids

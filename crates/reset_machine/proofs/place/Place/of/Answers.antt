@@ -1,5 +1,5 @@
 use Rattle.std.proofs.Common.{sym}
-use Rattle.reset_model.proofs.Places.{Contains-position, position-Contains}
+use Rattle.reset_model.proofs.Positions.{Contains-position, position-Contains}
 use Rattle.reset_machine.proofs.place.Place.of.Goals as goal
 
 pub returns-in-Some-clause-node : goal.returns-in-Some-clause-node

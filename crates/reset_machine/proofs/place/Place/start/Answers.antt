@@ -1,7 +1,7 @@
 use Rattle.std.proofs.Common.{◌==◌, ap, ◌∙◌}
 use Rattle.std.proofs.lemmas.List.{get_or-map}
 use Rattle.std.proofs.lemmas.List.Quantifiers.{position-Some}
-use Rattle.reset_model.proofs.Places.{id_at-position}
+use Rattle.reset_model.proofs.Positions.{id_at-position}
 use Rattle.reset_machine.proofs.place.Place.start.Goals as goal
 
 pub returns : goal.returns

@@ -1,5 +1,5 @@
 use Rattle.std.proofs.Common.{sym}
-use Rattle.reset_model.proofs.Places.{value_at-place}
+use Rattle.reset_model.proofs.Positions.{value_at-place}
 use Rattle.reset_machine.proofs.place.Place.tree_at.Goals as goal
 
 pub returns : goal.returns

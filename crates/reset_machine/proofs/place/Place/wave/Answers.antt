@@ -1,6 +1,6 @@
 use Rattle.std.proofs.Common.{sym}
 use Rattle.wave_layer.specs.declared.regs.Phase.TheVariants.{Normal}
-use Rattle.reset_model.proofs.Places.{value_at-position}
+use Rattle.reset_model.proofs.Positions.{value_at-position}
 use Rattle.reset_machine.proofs.place.Place.wave.Goals as goal
 
 pub returns : goal.returns

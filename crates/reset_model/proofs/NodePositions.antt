@@ -9,7 +9,7 @@ use Rattle.tree_layer.specs.declared.regs.TreeRegs.{TreeRegs}
 use Rattle.wave_layer.specs.declared.regs.WaveRegs.{WaveRegs}
 use Rattle.wave_layer.specs.declared.regs.FatherSeen.TheVariants.{Is}
 use Rattle.reset_model.specs.LocalSteps.{father_seen}
-use Rattle.reset_model.proofs.Places.{Contains-position, list_any-position, position-Contains}
+use Rattle.reset_model.proofs.Positions.{Contains-position, list_any-position, position-Contains}
 
 -- what isn't among the ids isn't found there
 pub no_node : (ids : List ℕ) (id : ℕ) → (Contains ids id → ⊥) → list_any (λ i. i == id) ids ≡ false

@@ -1,4 +1,4 @@
--- What a test keeps of a list, where it passes by place.
+-- What a test keeps of a list, where it passes by index.
 use Rattle.std.proofs.Common.{◌≡◌, ℕ, zero, suc, ◌<◌, ◌≤◌, Bool, true, false, List, [], ◌∷◌, length, get_or, take, drop}
 use Rattle.std.proofs.Common.{refl, ap, arith}
 use Rattle.std.specs.List.{filter}
