@@ -27,6 +27,7 @@ impl Error for WriteFault {}
 ///
 /// A call that fails or takes no byte is a fault, whatever its reason. It ends the writing, and
 /// nothing is tried again, so that no byte is written twice or out of its turn.
+#[inline(always)]
 pub fn put_bytes<W: Write>(out: &mut W, bytes: &[u8]) -> Result<(), WriteFault>
     ensures ok { OnOk result (Appends (W.contents out.old) (W.contents out.new) bytes.now) }
     ensures err { OnErr result (AppendsPrefix (W.contents out.old) (W.contents out.new) bytes.now) }

@@ -151,6 +151,7 @@ pub fn answer<P: Application, W: Write>(
 
 /// Steps, and writes the reply or the refusal. Want of memory changes and writes nothing; where the
 /// writer fails the event was done, or refused.
+#[inline(always)]
 pub fn answer_step<P: Application, W: Write>(
     alloc: Global,
     config: &mut Config<P>,
@@ -176,6 +177,7 @@ pub fn answer_step<P: Application, W: Write>(
     }
 }
 
+#[inline(always)]
 fn put_reply<W: Write>(out: &mut W, reply: Reply) -> Result<(), WriteFault>
     ensures ok { OnOk result (Appends (W.contents out.old) (W.contents out.new) (reply_text reply)) }
     ensures err { OnErr result (AppendsPrefix (W.contents out.old) (W.contents out.new) (reply_text reply)) }

@@ -2,7 +2,8 @@
 
 ghost use Rattle.std.specs.Prelude.{◌≡◌, ◌<◌, ◌≤◌, ◌⊎◌, [], drop, length, vec_capacity, vec_len, Err, IfErr, IfOk};
 ghost use Rattle.std.specs.Prelude.{OnOk};
-ghost use Rattle.std.specs.Io.KnownBytes.{Keeps};
+ghost use Rattle.std.specs.Io.{WritesAtMost};
+ghost use Rattle.std.specs.Io.KnownBytes.{Keeps, WriteAppends};
 ghost use Rattle.script_replay.specs.declared.buffered_output.TheConstants.{ROOM};
 
 use crate::status::{RunStop, Status};
@@ -70,6 +71,21 @@ impl<W: Write + Drop> BufferedOutput<W> {
         }
     }
 
+    // Writes what the buffer has room for, once it is flushed if it is full.
+    #[inline(never)]
+    fn write_some(&mut self, bytes: &[u8]) -> io::Result<usize>
+        ensures bound { WritesAtMost result bytes.now }
+        ensures bytes { WriteAppends (buffered_contents W.contents self.old) (buffered_contents W.contents self.new)
+            result bytes.now }
+    {
+        if self.held.len() >= ROOM {
+            self.flush()?;
+        }
+        let count = bytes.len().min(ROOM - self.held.len());
+        self.held.extend_from_slice(&bytes[..count]).unwrap();
+        Ok(count)
+    }
+
     // Flushes as much as one write takes.
     fn flush_once(&mut self) -> Result<(), RunStop>
         ensures ok { OnOk result (length self.new.held.items < length self.old.held.items) }
@@ -101,13 +117,14 @@ impl<W: Write + Drop> Write for BufferedOutput<W> {
 
     ghost contents = { buffered_contents W.contents };
 
+    // Nearly each piece has room: it is one copy, which the compiler makes short where it knows the piece.
+    #[inline(always)]
     fn write(&mut self, buf: &[u8]) -> io::Result<usize> {
-        if self.held.len() >= ROOM {
-            self.flush()?;
+        if buf.len() <= ROOM - self.held.len() {
+            self.held.extend_from_slice(buf).unwrap();
+            return Ok(buf.len());
         }
-        let count = buf.len().min(ROOM - self.held.len());
-        self.held.extend_from_slice(&buf[..count]).unwrap();
-        Ok(count)
+        self.write_some(buf)
     }
 
     fn flush(&mut self) -> io::Result<()> {

@@ -261,6 +261,7 @@ fn answer_lines<P: Application, W: Write>(
 
 // Answers the line with this number. Most lines are events: they are read first and by themselves,
 // since a command of any kind may hold the text of a fault, with which it is slow to move.
+#[inline(always)]
 fn answer_line<P: Application, W: Write>(
     alloc: Global,
     config: &mut Config<P>,
@@ -287,6 +288,7 @@ fn answer_line<P: Application, W: Write>(
 }
 
 // Answers the line with this number, whatever it is.
+#[inline(never)]
 fn answer_any_line<P: Application, W: Write>(
     alloc: Global,
     config: &mut Config<P>,
