@@ -1,6 +1,6 @@
 // The texts of histories.
 
-use crate::line::{line, whole_reset};
+use crate::line::line;
 use history::{
     Book, BookFault, Entry, MAX_ENTRIES, ReaderFault, Summary, VerifyFault, read_book, verify,
     verify_reader, write_book,
@@ -10,9 +10,10 @@ use std::io;
 use std::io::Read;
 use std::process::Abort;
 use std::test::Fail;
+use test_networks::WHOLE_RESET;
 
 // The history of one whole reset of the line.
-const WHOLE_RESET: &[u8] = b"reset-history 1
+const RESET_HISTORY: &[u8] = b"reset-history 1
 request 1
 relay 2 1
 relay 3 2
@@ -92,12 +93,12 @@ fn fault_of(rt: &impl Abort, alloc: Global, text: &[u8]) -> BookFault {
 #[test]
 fn a_book_is_written_and_read(rt: HostRuntime) -> Result<(), Fail> {
     let mut book = Book::open_book(rt.alloc(), line(&rt, rt.alloc()), MAX_ENTRIES);
-    for event in whole_reset() {
+    for event in WHOLE_RESET {
         assert!(rt; book.step(rt.alloc(), event).is_ok());
     }
     let mut text = Vec::new(rt.alloc());
     assert!(rt; write_book(&book, &mut text).is_ok());
-    assert!(rt; text.as_slice() == WHOLE_RESET);
+    assert!(rt; text.as_slice() == RESET_HISTORY);
     let mut rest = text.as_slice();
     match read_book(rt.alloc(), &mut rest) {
         Ok(entries) => match verify(rt.alloc(), line(&rt, rt.alloc()), &entries) {
@@ -138,14 +139,14 @@ fn names_the_first_bad_line(rt: HostRuntime) {
 #[test]
 fn reads_piece_by_piece(rt: HostRuntime) {
     let mut pieces = Failing {
-        rest: WHOLE_RESET,
+        rest: RESET_HISTORY,
         stop: 0,
         reads: 0,
     };
     match read_book(rt.alloc(), &mut pieces) {
         Ok(entries) => {
             assert_eq!(rt; entries.len(), 9);
-            for (entry, event) in entries.iter().zip(whole_reset()) {
+            for (entry, event) in entries.iter().zip(WHOLE_RESET) {
                 assert!(rt; *entry == Entry::Step(event));
             }
         }
@@ -161,7 +162,7 @@ fn reads_piece_by_piece(rt: HostRuntime) {
 fn each_failed_read_is_told(rt: HostRuntime) {
     for stop in 1..=15 {
         let mut failing = Failing {
-            rest: WHOLE_RESET,
+            rest: RESET_HISTORY,
             stop,
             reads: 0,
         };
@@ -185,7 +186,7 @@ fn verdict<R: Read>(
 
 #[test]
 fn verifies_what_a_reader_gives(rt: HostRuntime) {
-    let mut whole = WHOLE_RESET;
+    let mut whole = RESET_HISTORY;
     assert_eq!(rt; verdict(&rt, rt.alloc(), &mut whole), Ok((9, 1)));
     let mut header = b"reset-history 1\n".as_slice();
     assert_eq!(rt; verdict(&rt, rt.alloc(), &mut header), Ok((0, 0)));
@@ -209,7 +210,7 @@ fn verifies_what_a_reader_gives(rt: HostRuntime) {
 fn each_failed_read_of_a_verification_is_told(rt: HostRuntime) {
     for stop in 1..=15 {
         let mut failing = Failing {
-            rest: WHOLE_RESET,
+            rest: RESET_HISTORY,
             stop,
             reads: 0,
         };
@@ -236,7 +237,7 @@ fn verdict_of_pieces(
 
 #[test]
 fn verifies_piece_by_piece(rt: HostRuntime) {
-    let whole = verdict_of_pieces(&rt, rt.alloc(), WHOLE_RESET, 0);
+    let whole = verdict_of_pieces(&rt, rt.alloc(), RESET_HISTORY, 0);
     assert_eq!(rt; whole, Ok((9, 1)));
     let early = b"reset-history 1\nrequest 3\nopen 3\njoin 1\njoin 1\n".as_slice();
     let refused = Err(ReaderFault::Entries(VerifyFault::NotEnabledAt(3)));
