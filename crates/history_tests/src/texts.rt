@@ -10,6 +10,7 @@ use std::io;
 use std::io::Read;
 use std::process::Abort;
 use std::test::Fail;
+use test_devices::{Endless, FailingReader};
 use test_networks::WHOLE_RESET;
 
 // The history of one whole reset of the line.
@@ -24,38 +25,6 @@ finish 1
 finish 2
 finish 3
 ";
-
-// Gives its bytes, at most seven at a read. The read numbered `stop`, from 1, fails.
-#[derive(Drop)]
-struct Failing<'t> {
-    rest: &'t [u8],
-    stop: usize,
-    reads: usize,
-}
-
-impl Read for Failing<'_> {
-    fn read(&mut self, buf: &mut [u8]) -> io::Result<usize> {
-        self.reads = self.reads.saturating_add(1);
-        if self.reads == self.stop {
-            return Err(io::Error::from(io::ErrorKind::Interrupted));
-        }
-        let count = buf.len().min(self.rest.len()).min(7);
-        buf[..count].copy_from_slice(&self.rest[..count]);
-        self.rest = &self.rest[count..];
-        Ok(count)
-    }
-}
-
-// Gives the byte `1` for ever.
-#[derive(Drop)]
-struct Endless;
-
-impl Read for Endless {
-    fn read(&mut self, buf: &mut [u8]) -> io::Result<usize> {
-        buf.fill(b'1');
-        Ok(buf.len())
-    }
-}
 
 // Entries of which the first is refused after the boot.
 const JOINS: &[u8] =
@@ -138,11 +107,7 @@ fn names_the_first_bad_line(rt: HostRuntime) {
 
 #[test]
 fn reads_piece_by_piece(rt: HostRuntime) {
-    let mut pieces = Failing {
-        rest: RESET_HISTORY,
-        stop: 0,
-        reads: 0,
-    };
+    let mut pieces = FailingReader::new(RESET_HISTORY, 0);
     match read_book(rt.alloc(), &mut pieces) {
         Ok(entries) => {
             assert_eq!(rt; entries.len(), 9);
@@ -161,16 +126,12 @@ fn reads_piece_by_piece(rt: HostRuntime) {
 #[test]
 fn each_failed_read_is_told(rt: HostRuntime) {
     for stop in 1..=15 {
-        let mut failing = Failing {
-            rest: RESET_HISTORY,
-            stop,
-            reads: 0,
-        };
+        let mut failing = FailingReader::new(RESET_HISTORY, stop);
         match read_book(rt.alloc(), &mut failing) {
             Ok(_) => panic!(rt; "a failed read"),
             Err(fault) => assert_eq!(rt; fault, BookFault::ReadFailed),
         }
-        assert_eq!(rt; failing.reads, stop);
+        assert_eq!(rt; failing.reads(), stop);
     }
 }
 
@@ -209,14 +170,10 @@ fn verifies_what_a_reader_gives(rt: HostRuntime) {
 #[test]
 fn each_failed_read_of_a_verification_is_told(rt: HostRuntime) {
     for stop in 1..=15 {
-        let mut failing = Failing {
-            rest: RESET_HISTORY,
-            stop,
-            reads: 0,
-        };
+        let mut failing = FailingReader::new(RESET_HISTORY, stop);
         let failed = Err(ReaderFault::Text(BookFault::ReadFailed));
         assert_eq!(rt; verdict(&rt, rt.alloc(), &mut failing), failed);
-        assert_eq!(rt; failing.reads, stop);
+        assert_eq!(rt; failing.reads(), stop);
     }
 }
 
@@ -227,11 +184,7 @@ fn verdict_of_pieces(
     text: &[u8],
     stop: usize,
 ) -> Result<(usize, usize), ReaderFault> {
-    let mut pieces = Failing {
-        rest: text,
-        stop,
-        reads: 0,
-    };
+    let mut pieces = FailingReader::new(text, stop);
     verdict(rt, alloc, &mut pieces)
 }
 
