@@ -29,6 +29,18 @@ fn path(alloc: Global, nodes: u32) -> Result<String, AllocError> {
     Ok(text)
 }
 
+// How a path of so many nodes is answered, which take one turn each.
+fn run_path<R: Threads + Wait + Sync>(
+    rt: &R,
+    alloc: Global,
+    nodes: u32,
+    history: &mut Vec<u8>,
+    out: &mut Vec<u8>,
+) -> Result<Result<Status, RunStop>, AllocError> {
+    let topology = path(alloc, nodes)?;
+    Ok(threads_text(rt, alloc, topology.as_bytes(), 1, history, out))
+}
+
 // How the node alone is answered, where each write takes at most five bytes.
 fn stopped<R: Threads + Wait + Sync>(
     rt: &R,
@@ -55,15 +67,7 @@ fn a_node_alone_completes_its_reset(rt: HostRuntime) {
 fn over_64_nodes_have_no_threads(rt: HostRuntime) -> Result<(), AllocError> {
     let mut history = Vec::new(rt.alloc());
     let mut out = Vec::new(rt.alloc());
-    let topology = path(rt.alloc(), 65)?;
-    let result = threads_text(
-        &rt,
-        rt.alloc(),
-        topology.as_bytes(),
-        1,
-        &mut history,
-        &mut out,
-    );
+    let result = run_path(&rt, rt.alloc(), 65, &mut history, &mut out)?;
     assert_eq!(rt; result, Ok(Status::BadInput));
     assert_eq!(rt;
         out.as_slice(),
@@ -77,15 +81,7 @@ fn over_64_nodes_have_no_threads(rt: HostRuntime) -> Result<(), AllocError> {
 fn as_many_as_64_nodes_have_threads(rt: HostRuntime) -> Result<(), AllocError> {
     let mut history = Vec::new(rt.alloc());
     let mut out = Vec::new(rt.alloc());
-    let topology = path(rt.alloc(), 64)?;
-    let result = threads_text(
-        &rt,
-        rt.alloc(),
-        topology.as_bytes(),
-        1,
-        &mut history,
-        &mut out,
-    );
+    let result = run_path(&rt, rt.alloc(), 64, &mut history, &mut out)?;
     assert_eq!(rt; result, Ok(Status::Good));
     assert!(rt; out.starts_with(b"threads 64 nodes "));
     assert!(rt; history.starts_with(b"reset-history 1\n"));
