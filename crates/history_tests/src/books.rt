@@ -1,6 +1,6 @@
 // What books keep.
 
-use crate::line::{line, single};
+use crate::line::{line, single, whole_reset};
 use app_interface::Idle;
 use fault_inject::{Fault, FaultRefusal};
 use history::{
@@ -9,7 +9,6 @@ use history::{
 use reset_machine::{Event, Plan, Reply, StepRefusal, View};
 use std::alloc::Global;
 use std::process::Abort;
-use test_networks::WHOLE_RESET;
 use tree_layer::TreeRegs;
 use wave_layer::{Phase, WaveRegs};
 
@@ -17,7 +16,7 @@ use wave_layer::{Phase, WaveRegs};
 fn reports_a_whole_reset(rt: HostRuntime) {
     let mut book = Book::open_book(rt.alloc(), line(&rt, rt.alloc()), MAX_ENTRIES);
     assert_eq!(rt; book.reports().len(), 0);
-    for event in WHOLE_RESET {
+    for event in whole_reset() {
         assert!(rt; book.step(rt.alloc(), event).is_ok());
     }
     let reset = Report {
@@ -37,7 +36,7 @@ fn reports_a_whole_reset(rt: HostRuntime) {
 #[test]
 fn refuses_before_it_is_full(rt: HostRuntime) {
     let mut book = Book::open_book(rt.alloc(), line(&rt, rt.alloc()), 8);
-    for (ix, event) in WHOLE_RESET.iter().enumerate() {
+    for (ix, event) in whole_reset().iter().enumerate() {
         let answer = book.step(rt.alloc(), *event);
         if ix < 8 {
             let receipt = Receipt {

@@ -7,6 +7,8 @@
 #[cfg(test)]
 mod reading;
 #[cfg(test)]
+mod slow;
+#[cfg(test)]
 mod topologies;
 #[cfg(test)]
 mod tree;

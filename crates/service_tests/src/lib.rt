@@ -9,6 +9,8 @@ mod calls;
 #[cfg(test)]
 mod checks;
 #[cfg(test)]
+mod devices;
+#[cfg(test)]
 mod histories;
 #[cfg(test)]
 mod replays;
