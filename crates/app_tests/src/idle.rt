@@ -1,40 +1,23 @@
 // The application without cases, and what all applications use: identifiers, and what is seen of a name.
 
-use crate::texts::{Step, acted, are_same, is_bad, shown, started};
-use app_interface::{Application, Idle, Seen, is_id, read_id, seen_at};
+use crate::texts::{names_cases, reads_back, refuses, starts, takes_steps, tells_apart};
+use app_interface::{Idle, Seen, is_id, read_id, seen_at};
 use std::test::Fail;
 use topology::NodeId;
 
 #[test]
 fn idles(rt: HostRuntime) -> Result<(), Fail> {
-    let step = Step {
-        id: 7,
-        case: 1,
-        with: None,
-        own: b"-",
-        seen: None,
-    };
-    assert!(rt; Idle::cases() == 0 && Idle::case_name(1).is_none() && Idle::reads(1).is_none());
-    assert!(rt; started::<Idle>(rt.alloc(), 0)?.as_slice() == b"-".as_slice());
-    assert!(rt; acted::<Idle>(rt.alloc(), step)?.is_empty());
-    assert!(rt; are_same::<Idle>(rt.alloc(), b"-", b"-")?);
-    assert!(rt; shown::<Idle>(rt.alloc(), b"-")?.as_slice() == b"-".as_slice());
-    Ok(())
+    names_cases::<Idle>(&rt, 0, &[(1, None, None)]);
+    starts::<Idle>(&rt, rt.alloc(), ["-", "-", "-"])?;
+    takes_steps::<Idle>(&rt, rt.alloc(), &[(7, 1, None, "-", None, "")])?;
+    tells_apart::<Idle>(&rt, rt.alloc(), "-", &[("-", true)])?;
+    reads_back::<Idle>(&rt, rt.alloc(), &["-"])
 }
 
 #[test]
 fn reads_a_dash_alone(rt: HostRuntime) {
-    for text in [
-        b"".as_slice(),
-        b"--".as_slice(),
-        b" -".as_slice(),
-        b"- ".as_slice(),
-        b"-\n".as_slice(),
-        b"0".as_slice(),
-        b"hold/-/-".as_slice(),
-    ] {
-        assert!(rt; is_bad::<Idle>(rt.alloc(), text));
-    }
+    let texts = ["", "--", " -", "- ", "-\n", "0", "hold/-/-"];
+    refuses::<Idle>(&rt, rt.alloc(), &texts);
 }
 
 #[test]

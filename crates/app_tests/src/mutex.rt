@@ -1,140 +1,62 @@
 // Nodes enter and leave by turns.
 
-use crate::texts::{Step, acted, are_same, is_bad, shown, started};
-use app_interface::{Application, Reads};
+use crate::texts::{self, is_bad, names_cases, reads_back, refuses, takes_steps, tells_apart};
+use app_interface::Reads;
 use app_mutex::EdgeReversal;
 use std::test::Fail;
 
 #[test]
 fn starts(rt: HostRuntime) -> Result<(), Fail> {
-    for (index, text) in [
-        b"out/0".as_slice(),
-        b"out/0".as_slice(),
-        b"out/0".as_slice(),
-    ]
-    .into_iter()
-    .enumerate()
-    {
-        assert!(rt;
-            started::<EdgeReversal>(rt.alloc(), index)?.as_slice() == text,
-            "node {index}"
-        );
-    }
-    Ok(())
+    texts::starts::<EdgeReversal>(&rt, rt.alloc(), ["out/0", "out/0", "out/0"])
 }
 
 #[test]
 fn hands_the_turns_on(rt: HostRuntime) -> Result<(), Fail> {
-    for (id, case, with, own, seen, left) in [
-        (
-            1,
-            1,
-            None,
-            b"out/0".as_slice(),
-            Some((2, b"out/0".as_slice())),
-            b"in/0".as_slice(),
-        ),
-        (
-            3,
-            1,
-            None,
-            b"out/0".as_slice(),
-            Some((2, b"out/0".as_slice())),
-            b"".as_slice(),
-        ),
-        (1, 2, None, b"in/0".as_slice(), None, b"out/1".as_slice()),
-        (
-            1,
-            1,
-            None,
-            b"out/1".as_slice(),
-            Some((2, b"out/0".as_slice())),
-            b"".as_slice(),
-        ),
-        (
-            2,
-            1,
-            None,
-            b"out/0".as_slice(),
-            Some((1, b"out/1".as_slice())),
-            b"in/0".as_slice(),
-        ),
-        (7, 2, None, b"in/1".as_slice(), None, b"out/0".as_slice()),
-    ] {
-        let step = Step {
-            id,
-            case,
-            with,
-            own,
-            seen,
-        };
-        assert!(rt;
-            acted::<EdgeReversal>(rt.alloc(), step)?.as_slice() == left,
-            "node {id}, case {case}"
-        );
-    }
-    Ok(())
+    let steps = [
+        (1, 1, None, "out/0", Some((2, "out/0")), "in/0"),
+        (3, 1, None, "out/0", Some((2, "out/0")), ""),
+        (1, 2, None, "in/0", None, "out/1"),
+        (1, 1, None, "out/1", Some((2, "out/0")), ""),
+        (2, 1, None, "out/0", Some((1, "out/1")), "in/0"),
+        (7, 2, None, "in/1", None, "out/0"),
+    ];
+    takes_steps::<EdgeReversal>(&rt, rt.alloc(), &steps)
 }
 
 #[test]
 fn tells_local_states_apart(rt: HostRuntime) -> Result<(), Fail> {
-    for (other, same) in [
-        (b"in/0".as_slice(), true),
-        (b"in/1".as_slice(), false),
-        (b"out/0".as_slice(), false),
-        (b"out/1".as_slice(), false),
-    ] {
-        assert!(rt; are_same::<EdgeReversal>(rt.alloc(), b"in/0", other)? == same);
-    }
-    Ok(())
+    let others = [
+        ("in/0", true),
+        ("in/1", false),
+        ("out/0", false),
+        ("out/1", false),
+    ];
+    tells_apart::<EdgeReversal>(&rt, rt.alloc(), "in/0", &others)
 }
 
 #[test]
 fn reads_what_it_shows(rt: HostRuntime) -> Result<(), Fail> {
-    for text in [
-        b"out/0".as_slice(),
-        b"out/1".as_slice(),
-        b"in/0".as_slice(),
-        b"in/1".as_slice(),
-    ] {
-        assert!(rt; shown::<EdgeReversal>(rt.alloc(), text)?.as_slice() == text);
-    }
-    Ok(())
+    let texts = ["out/0", "out/1", "in/0", "in/1"];
+    reads_back::<EdgeReversal>(&rt, rt.alloc(), &texts)
 }
 
 #[test]
 fn refuses_other_texts(rt: HostRuntime) {
-    for text in [
-        b"".as_slice(),
-        b"in".as_slice(),
-        b"in/".as_slice(),
-        b"/0".as_slice(),
-        b"in/2".as_slice(),
-        b"In/0".as_slice(),
-        b"OUT/1".as_slice(),
-        b"out/00".as_slice(),
-        b"in/0/".as_slice(),
-        b" in/0".as_slice(),
-        b"in/0 ".as_slice(),
-        b"in/0\n".as_slice(),
-        b"inside/0".as_slice(),
-        b"out 0".as_slice(),
-        b"in/\xff".as_slice(),
-    ] {
-        assert!(rt; is_bad::<EdgeReversal>(rt.alloc(), text));
-    }
+    let texts = [
+        "", "in", "in/", "/0", "in/2", "In/0", "OUT/1", "out/00", "in/0/", " in/0", "in/0 ",
+        "in/0\n", "inside/0", "out 0",
+    ];
+    refuses::<EdgeReversal>(&rt, rt.alloc(), &texts);
+    assert!(rt; is_bad::<EdgeReversal>(rt.alloc(), b"in/\xff"));
 }
 
 #[test]
 fn names_its_cases(rt: HostRuntime) {
-    assert!(rt; EdgeReversal::cases() == 2);
-    for (case, name, reads) in [
+    let cases = [
         (0, None, None),
         (1, Some("enter"), Some(Reads::All)),
         (2, Some("leave"), Some(Reads::Alone)),
         (3, None, None),
-    ] {
-        assert!(rt; EdgeReversal::case_name(case) == name);
-        assert!(rt; EdgeReversal::reads(case) == reads);
-    }
+    ];
+    names_cases::<EdgeReversal>(&rt, 2, &cases);
 }

@@ -1,20 +1,21 @@
-// Local states by their texts.
+// What tables of texts of local states ask of an application.
 
-use app_interface::{Application, Here, LocalFault, Seen};
+use app_interface::{Application, Here, LocalFault, Reads, Seen};
 use std::alloc::Global;
+use std::process::Abort;
 use std::test::Fail;
 use topology::Topology;
 
-/// A case that a node takes, from the text of its own state and of the state of a neighbour that it
-/// sees, if it sees one.
-#[derive(Clone, Copy)]
-pub(crate) struct Step<'t> {
-    pub(crate) id: u32,
-    pub(crate) case: u8,
-    pub(crate) with: Option<u32>,
-    pub(crate) own: &'t [u8],
-    pub(crate) seen: Option<(u32, &'t [u8])>,
-}
+/// A node, a case that it takes and the neighbour that it names with that; the text of its state, and a neighbour that
+/// it sees with the text of that one's; and the text of the state that the case leaves, no text where it isn't enabled.
+pub(crate) type Step<'t> = (
+    u32,
+    u8,
+    Option<u32>,
+    &'t str,
+    Option<(u32, &'t str)>,
+    &'t str,
+);
 
 fn text_of<P: Application>(alloc: Global, local: &P::Local) -> Vec<u8> {
     let mut out = Vec::new(alloc);
@@ -22,38 +23,46 @@ fn text_of<P: Application>(alloc: Global, local: &P::Local) -> Vec<u8> {
     out
 }
 
-/// The text of the state in which the node at this index of the line 1, 2, 3 starts.
-pub(crate) fn started<P: Application>(alloc: Global, index: usize) -> Result<Vec<u8>, Fail> {
+/// The nodes of the line 1, 2, 3 start in the states with these texts.
+pub(crate) fn starts<P: Application>(
+    rt: &impl Abort,
+    alloc: Global,
+    texts: [&str; 3],
+) -> Result<(), Fail> {
     let line = Topology::build(alloc, &[1, 2, 3], &[(1, 2), (2, 3)])?;
-    let local = P::on_start(alloc, &line, index)?;
-    Ok(text_of::<P>(alloc, &local))
+    for (index, text) in texts.into_iter().enumerate() {
+        let local = P::on_start(alloc, &line, index)?;
+        assert!(rt;
+            text_of::<P>(alloc, &local).as_slice() == text.as_bytes(),
+            "node {index}"
+        );
+    }
+    Ok(())
 }
 
-/// The text of what a text is read as.
-pub(crate) fn shown<P: Application>(alloc: Global, text: &[u8]) -> Result<Vec<u8>, Fail> {
-    let local = P::read_local(alloc, text)?;
-    Ok(text_of::<P>(alloc, &local))
+/// Each step leaves what it has to leave.
+pub(crate) fn takes_steps<P: Application>(
+    rt: &impl Abort,
+    alloc: Global,
+    steps: &[Step<'_>],
+) -> Result<(), Fail> {
+    for step in steps {
+        let (id, case, _, _, _, left) = *step;
+        assert!(rt;
+            acted::<P>(alloc, *step)?.as_slice() == left.as_bytes(),
+            "node {id}, case {case}"
+        );
+    }
+    Ok(())
 }
 
-pub(crate) fn is_bad<P: Application>(alloc: Global, text: &[u8]) -> bool {
-    matches!(P::read_local(alloc, text), Err(LocalFault::BadLocal))
-}
-
-/// Whether a copy of the one is the same as the other.
-pub(crate) fn are_same<P: Application>(alloc: Global, a: &[u8], b: &[u8]) -> Result<bool, Fail> {
-    let a = P::read_local(alloc, a)?;
-    let b = P::read_local(alloc, b)?;
-    let copy = P::copy(alloc, &a)?;
-    Ok(P::same(&copy, &b))
-}
-
-/// The text of the state that the case leaves; no text where it isn't enabled.
-pub(crate) fn acted<P: Application>(alloc: Global, step: Step<'_>) -> Result<Vec<u8>, Fail> {
-    let own = P::read_local(alloc, step.own)?;
-    match step.seen {
+fn acted<P: Application>(alloc: Global, step: Step<'_>) -> Result<Vec<u8>, Fail> {
+    let (_, _, _, own, seen, _) = step;
+    let own = P::read_local(alloc, own.as_bytes())?;
+    match seen {
         None => after::<P>(alloc, step, &own, &[]),
         Some((id, theirs)) => {
-            let theirs = P::read_local(alloc, theirs)?;
+            let theirs = P::read_local(alloc, theirs.as_bytes())?;
             after::<P>(alloc, step, &own, &[Seen { id, local: &theirs }])
         }
     }
@@ -65,12 +74,69 @@ fn after<P: Application>(
     own: &P::Local,
     seen: &[Seen<'_, P::Local>],
 ) -> Result<Vec<u8>, Fail> {
-    let here = Here { id: step.id, k: 3 };
-    if !P::can(here, step.case, step.with, own, seen) {
+    let (id, case, with, _, _, _) = step;
+    let here = Here { id, k: 3 };
+    if !P::can(here, case, with, own, seen) {
         return Ok(Vec::new(alloc));
     }
-    let after = P::on_clock(alloc, here, step.case, step.with, own, seen)?;
+    let after = P::on_clock(alloc, here, case, with, own, seen)?;
     Ok(text_of::<P>(alloc, &after))
+}
+
+/// A copy of the state with this text is the same as those of which the table says so, and as no other of it.
+pub(crate) fn tells_apart<P: Application>(
+    rt: &impl Abort,
+    alloc: Global,
+    text: &str,
+    others: &[(&str, bool)],
+) -> Result<(), Fail> {
+    let local = P::read_local(alloc, text.as_bytes())?;
+    let copy = P::copy(alloc, &local)?;
+    for (other, same) in others {
+        let theirs = P::read_local(alloc, other.as_bytes())?;
+        assert!(rt; P::same(&copy, &theirs) == *same, "{other}");
+    }
+    Ok(())
+}
+
+/// What is read of each text has that text.
+pub(crate) fn reads_back<P: Application>(
+    rt: &impl Abort,
+    alloc: Global,
+    texts: &[&str],
+) -> Result<(), Fail> {
+    for text in texts {
+        let local = P::read_local(alloc, text.as_bytes())?;
+        assert!(rt;
+            text_of::<P>(alloc, &local).as_slice() == text.as_bytes(),
+            "{text}"
+        );
+    }
+    Ok(())
+}
+
+/// No text is one of a state.
+pub(crate) fn refuses<P: Application>(rt: &impl Abort, alloc: Global, texts: &[&str]) {
+    for text in texts {
+        assert!(rt; is_bad::<P>(alloc, text.as_bytes()), "{text}");
+    }
+}
+
+pub(crate) fn is_bad<P: Application>(alloc: Global, text: &[u8]) -> bool {
+    matches!(P::read_local(alloc, text), Err(LocalFault::BadLocal))
+}
+
+/// There are so many cases, and those of the table have these names and read this.
+pub(crate) fn names_cases<P: Application>(
+    rt: &impl Abort,
+    count: u8,
+    cases: &[(u8, Option<&'static str>, Option<Reads>)],
+) {
+    assert!(rt; P::cases() == count);
+    for (case, name, reads) in cases {
+        assert!(rt; P::case_name(*case) == *name, "case {case}");
+        assert!(rt; P::reads(*case) == *reads, "case {case}");
+    }
 }
 
 /// What is told at node `id` of its link to `other`, from the texts of the states of the two.

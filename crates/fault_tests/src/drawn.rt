@@ -7,19 +7,13 @@ use rand_pcg::Lcg64Xsh32;
 use reset_machine::Config;
 use std::alloc::Global;
 use std::process::Abort;
-use topology::Topology;
+use test_networks::booted;
 use tree_layer::TreeRegs;
 use wave_layer::{Phase, WaveRegs};
 
 // The booted triangle of nodes 1, 2, 3.
 fn triangle(rt: &impl Abort, alloc: Global) -> Config<Idle> {
-    let topology = Topology::build(alloc, &[1, 2, 3], &[(1, 2), (2, 3), (1, 3)]).expect(
-        rt, "a graph",
-    );
-    match Config::<Idle>::boot(alloc, topology) {
-        Ok(config) => config,
-        Err(_) => panic!(rt; "memory for the graph"),
-    }
+    booted(alloc, &[1, 2, 3], &[(1, 2), (2, 3), (1, 3)]).expect(rt, "a graph")
 }
 
 // The words are the published ones of the reference generator from state 42 and stream 54: a15c02b7,

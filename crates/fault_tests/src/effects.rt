@@ -6,18 +6,9 @@ use reset_machine::Config;
 use std::alloc::Global;
 use std::process::Abort;
 use std::test::Fail;
-use topology::Topology;
+use test_networks::{booted, line};
 use tree_layer::TreeRegs;
 use wave_layer::{Phase, WaveRegs};
-
-// The booted network of the nodes 1, 2, 3 with these links.
-fn booted(rt: &impl Abort, alloc: Global, links: &[(u32, u32)]) -> Config<Idle> {
-    let topology = Topology::build(alloc, &[1, 2, 3], links).expect(rt, "a graph");
-    match Config::<Idle>::boot(alloc, topology) {
-        Ok(config) => config,
-        Err(_) => panic!(rt; "memory for the graph"),
-    }
-}
 
 // Does the fault of the line.
 fn do_line(
@@ -34,7 +25,7 @@ fn do_line(
 
 #[test]
 fn refuses_what_cant_be_done(rt: HostRuntime) -> Result<(), Fail> {
-    for (line, refusal) in [
+    for (text, refusal) in [
         (b"fault down 1 2".as_slice(), FaultRefusal::WouldDisconnect),
         (b"fault down 1 3".as_slice(), FaultRefusal::NoSuchLink),
         (b"fault down 1 4".as_slice(), FaultRefusal::StrangeNode),
@@ -52,8 +43,8 @@ fn refuses_what_cant_be_done(rt: HostRuntime) -> Result<(), Fail> {
         (b"fault local 1 x".as_slice(), FaultRefusal::BadLocal),
         (b"fault local 9 x".as_slice(), FaultRefusal::StrangeNode),
     ] {
-        let mut config = booted(&rt, rt.alloc(), &[(1, 2), (2, 3)]);
-        assert_eq!(rt; do_line(&rt, rt.alloc(), &mut config, line)?, Err(refusal));
+        let mut config = line::<Idle>(rt.alloc())?;
+        assert_eq!(rt; do_line(&rt, rt.alloc(), &mut config, text)?, Err(refusal));
         assert_eq!(rt; config.topology().link_count(), 2);
     }
     Ok(())
@@ -61,7 +52,7 @@ fn refuses_what_cant_be_done(rt: HostRuntime) -> Result<(), Fail> {
 
 #[test]
 fn writes_registers_and_local_states(rt: HostRuntime) -> Result<(), Fail> {
-    let mut config = booted(&rt, rt.alloc(), &[(1, 2), (2, 3)]);
+    let mut config = line::<Idle>(rt.alloc())?;
     let others = [config.tree_at(1), config.tree_at(3)];
     let done = do_line(
         &rt,
@@ -96,7 +87,7 @@ fn writes_registers_and_local_states(rt: HostRuntime) -> Result<(), Fail> {
 
 #[test]
 fn takes_links_out_and_puts_them_in(rt: HostRuntime) -> Result<(), Fail> {
-    let mut config = booted(&rt, rt.alloc(), &[(1, 2), (2, 3), (1, 3)]);
+    let mut config = booted::<Idle>(rt.alloc(), &[1, 2, 3], &[(1, 2), (2, 3), (1, 3)])?;
     let done = do_line(&rt, rt.alloc(), &mut config, b"fault down 3 1")?;
     assert_eq!(rt; done, Ok(()));
     assert!(rt; !config.topology().linked(1, 3));

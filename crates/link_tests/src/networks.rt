@@ -5,28 +5,8 @@ use link_predicates::{Family, LinkFault};
 use reset_machine::Config;
 use std::alloc::Global;
 use std::process::Abort;
-use topology::Topology;
 use tree_layer::TreeRegs;
 use wave_layer::{Phase, WaveRegs};
-
-/// The booted configuration of the nodes with these links.
-pub(crate) fn booted<P: Application>(
-    rt: &impl Abort,
-    alloc: Global,
-    nodes: &[u32],
-    links: &[(u32, u32)],
-) -> Config<P> {
-    let topology = Topology::build(alloc, nodes, links).expect(rt, "a graph");
-    match Config::<P>::boot(alloc, topology) {
-        Ok(config) => config,
-        Err(_) => panic!(rt; "memory for the graph"),
-    }
-}
-
-/// The line 1, 2, 3.
-pub(crate) fn line<P: Application>(rt: &impl Abort, alloc: Global) -> Config<P> {
-    booted::<P>(rt, alloc, &[1, 2, 3], &[(1, 2), (2, 3)])
-}
 
 pub(crate) fn tree(root: u32, father: u32, dist: u32) -> TreeRegs {
     TreeRegs { root, father, dist }

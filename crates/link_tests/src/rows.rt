@@ -1,28 +1,30 @@
 // Each row of the tree table and of the wave table that tells a fault, failing alone at a node.
 
-use crate::networks::{booted, fault, line, put_text, tree, wave};
+use crate::networks::{fault, put_text, tree, wave};
 use app_interface::Idle;
 use app_mutex::EdgeReversal;
 use link_predicates::{Family, LinkFault, check_all, check_node};
 use reset_machine::{Event, Reply, StepRefusal};
 use std::test::Fail;
+use test_networks::{booted, line};
 use tree_layer::TreeRegs;
 use wave_layer::{Phase, WaveRegs};
 
 #[test]
 fn a_sound_network_has_no_fault(rt: HostRuntime) -> Result<(), Fail> {
-    let config = line::<EdgeReversal>(&rt, rt.alloc());
+    let config = line::<EdgeReversal>(rt.alloc())?;
     assert!(rt; check_all(rt.alloc(), &config)?.is_empty());
     Ok(())
 }
 
 #[test]
-fn a_stranger_is_refused(rt: HostRuntime) {
-    let config = line::<Idle>(&rt, rt.alloc());
+fn a_stranger_is_refused(rt: HostRuntime) -> Result<(), Fail> {
+    let config = line::<Idle>(rt.alloc())?;
     match check_node(rt.alloc(), &config, 9) {
         Ok(_) => panic!(rt; "9 is no node"),
         Err(refusal) => assert_eq!(rt; refusal, StepRefusal::StrangeNode),
     }
+    Ok(())
 }
 
 // Rows 1 to 3 of the tree table at the one node of a network, whose number is 3.
@@ -34,7 +36,7 @@ fn a_wrong_root_or_father_is_told_of_the_node(rt: HostRuntime) -> Result<(), Fai
         (tree(3, 3, 1), 2),
         (tree(3, 9, 0), 3),
     ] {
-        let mut config = booted::<Idle>(&rt, rt.alloc(), &[3], &[]);
+        let mut config = booted::<Idle>(rt.alloc(), &[3], &[])?;
         config.put_tree(3, regs)?;
         let found = check_all(rt.alloc(), &config)?;
         assert!(rt;
@@ -53,7 +55,7 @@ fn a_wrong_distance_is_told_of_the_link(rt: HostRuntime) -> Result<(), Fail> {
         (tree(4, 2, 2), tree(3, 3, 1), fault(1, 2, Family::Tree, 5)),
         (tree(3, 2, 1), tree(3, 3, 1), fault(1, 2, Family::Tree, 6)),
     ] {
-        let mut config = line::<Idle>(&rt, rt.alloc());
+        let mut config = line::<Idle>(rt.alloc())?;
         config.put_tree(1, own)?;
         config.put_tree(2, up)?;
         let found = check_node(rt.alloc(), &config, 1)?;
@@ -64,7 +66,7 @@ fn a_wrong_distance_is_told_of_the_link(rt: HostRuntime) -> Result<(), Fail> {
 
 #[test]
 fn a_greater_root_is_told_of_the_link(rt: HostRuntime) -> Result<(), Fail> {
-    let mut config = line::<Idle>(&rt, rt.alloc());
+    let mut config = line::<Idle>(rt.alloc())?;
     config.put_tree(1, tree(5, 2, 0))?;
     let found = check_node(rt.alloc(), &config, 2)?;
     assert!(rt; found.as_slice() == [fault(2, 1, Family::Tree, 7)].as_slice());
@@ -73,7 +75,7 @@ fn a_greater_root_is_told_of_the_link(rt: HostRuntime) -> Result<(), Fail> {
 
 #[test]
 fn a_shorter_way_is_told(rt: HostRuntime) -> Result<(), Fail> {
-    let mut config = booted::<Idle>(&rt, rt.alloc(), &[1, 2, 3], &[(1, 2), (2, 3), (1, 3)]);
+    let mut config = booted::<Idle>(rt.alloc(), &[1, 2, 3], &[(1, 2), (2, 3), (1, 3)])?;
     config.put_tree(1, tree(3, 2, 2))?;
     let found = check_all(rt.alloc(), &config)?;
     assert!(rt; found.as_slice() == [fault(1, 3, Family::Tree, 8)].as_slice());
@@ -89,7 +91,7 @@ fn a_torn_wave_is_told_of_the_link(rt: HostRuntime) -> Result<(), Fail> {
         (wave(Phase::Reset, 0), wave(Phase::Reset, 1), 10),
         (wave(Phase::Normal, 0), wave(Phase::Reset, 5), 11),
     ] {
-        let mut config = line::<Idle>(&rt, rt.alloc());
+        let mut config = line::<Idle>(rt.alloc())?;
         config.put_wave(1, own)?;
         config.put_wave(2, up)?;
         let found = check_node(rt.alloc(), &config, 1)?;
@@ -103,7 +105,7 @@ fn a_torn_wave_is_told_of_the_link(rt: HostRuntime) -> Result<(), Fail> {
 
 #[test]
 fn a_node_that_is_to_join_has_no_fault(rt: HostRuntime) -> Result<(), Fail> {
-    let mut config = line::<Idle>(&rt, rt.alloc());
+    let mut config = line::<Idle>(rt.alloc())?;
     config.put_wave(2, wave(Phase::Reset, 1))?;
     assert!(rt; check_node(rt.alloc(), &config, 1)?.is_empty());
     Ok(())
@@ -111,7 +113,7 @@ fn a_node_that_is_to_join_has_no_fault(rt: HostRuntime) -> Result<(), Fail> {
 
 #[test]
 fn a_mended_reset_is_told_no_more(rt: HostRuntime) -> Result<(), Fail> {
-    let mut config = line::<Idle>(&rt, rt.alloc());
+    let mut config = line::<Idle>(rt.alloc())?;
     config.put_wave(1, wave(Phase::Reset, 0))?;
     let found = check_all(rt.alloc(), &config)?;
     assert!(rt; found.as_slice() == [fault(1, 2, Family::Wave, 8)].as_slice());
@@ -125,7 +127,7 @@ fn a_mended_reset_is_told_no_more(rt: HostRuntime) -> Result<(), Fail> {
 
 #[test]
 fn a_link_may_fail_in_each_family(rt: HostRuntime) -> Result<(), Fail> {
-    let mut config = line::<EdgeReversal>(&rt, rt.alloc());
+    let mut config = line::<EdgeReversal>(rt.alloc())?;
     config.put_tree(1, tree(3, 2, 1))?;
     config.put_wave(1, wave(Phase::Reset, 0))?;
     put_text(&rt, rt.alloc(), &mut config, 1, b"in/0");
@@ -145,7 +147,7 @@ fn a_link_may_fail_in_each_family(rt: HostRuntime) -> Result<(), Fail> {
 
 #[test]
 fn sessions_apart_have_no_fault_of_the_application(rt: HostRuntime) -> Result<(), Fail> {
-    let mut config = line::<EdgeReversal>(&rt, rt.alloc());
+    let mut config = line::<EdgeReversal>(rt.alloc())?;
     put_text(&rt, rt.alloc(), &mut config, 1, b"in/0");
     put_text(&rt, rt.alloc(), &mut config, 2, b"in/0");
     config.put_wave(1, wave(Phase::Normal, 7))?;

@@ -1,9 +1,9 @@
 // The lines of events.
 
-use crate::slow::{Fault, Slow};
 use action_tables::WriteFault;
 use reset_machine::{Event, read_event, split_word, write_event};
 use std::test::Fail;
+use test_devices::{FailingWriter, Fault};
 
 #[test]
 fn reads_and_writes_each_line(rt: HostRuntime) -> Result<(), Fail> {
@@ -60,10 +60,10 @@ fn stops_at_the_first_fault(rt: HostRuntime) {
     for (line, event) in lines {
         for fault in [Fault::Error, Fault::Zero] {
             for stop in 1..=line.len() {
-                let mut out = Slow::new(rt.alloc(), 1, stop, fault);
+                let mut out = FailingWriter::new(rt.alloc(), 1, stop, fault);
                 assert_eq!(rt; write_event(&event, &mut out), Err(WriteFault));
                 assert_eq!(rt; out.taken(), &line[..stop - 1]);
-                assert_eq!(rt; out.calls(), stop);
+                assert_eq!(rt; out.writes(), stop);
             }
         }
     }

@@ -13,6 +13,4 @@ mod pictures;
 #[cfg(test)]
 mod plans;
 #[cfg(test)]
-mod slow;
-#[cfg(test)]
 mod topologies;

@@ -2,17 +2,13 @@ use app_interface::Idle;
 use reset_machine::{Config, Done, Event, Reply, StepRefusal, View};
 use std::alloc::Global;
 use std::process::Abort;
-use topology::Topology;
+use test_networks::WHOLE_RESET;
 use tree_layer::TreeRegs;
 use wave_layer::{Phase, WaveRegs};
 
 // The booted line of the nodes 1, 2 and 3.
 pub fn line(rt: &impl Abort, alloc: Global) -> Config<Idle> {
-    let topology = Topology::build(alloc, &[1, 2, 3], &[(1, 2), (2, 3)]).expect(rt, "the line");
-    match Config::<Idle>::boot(alloc, topology) {
-        Ok(config) => config,
-        Err(_) => panic!(rt; "memory for the line"),
-    }
+    test_networks::line(alloc).expect(rt, "the line")
 }
 
 fn waves(rt: &impl Abort, config: &Config<Idle>) -> [WaveRegs; 3] {
@@ -47,18 +43,7 @@ fn a_copy_keeps_its_session(rt: HostRuntime) {
         Ok(copy) => copy,
         Err(_) => panic!(rt; "memory for a copy"),
     };
-    let events = [
-        Event::Request { at: 1 },
-        Event::Relay { at: 2, child: 1 },
-        Event::Relay { at: 3, child: 2 },
-        Event::Open { at: 3 },
-        Event::Join { at: 2 },
-        Event::Join { at: 1 },
-        Event::Finish { at: 1 },
-        Event::Finish { at: 2 },
-        Event::Finish { at: 3 },
-    ];
-    let answers = match config.run(rt.alloc(), &events) {
+    let answers = match config.run(rt.alloc(), &WHOLE_RESET) {
         Ok(answers) => answers,
         Err(_) => panic!(rt; "memory for the answers"),
     };

@@ -4,7 +4,7 @@ use app_interface::Idle;
 use reset_machine::{Config, Event};
 use std::alloc::Global;
 use std::process::Abort;
-use topology::Topology;
+use test_networks::booted;
 use tree_layer::TreeRegs;
 use wave_layer::{Phase, WaveRegs};
 
@@ -31,11 +31,7 @@ const BOUND: u32 = 3;
 
 impl Case {
     fn boot(&self, rt: &impl Abort, alloc: Global) -> Config<Idle> {
-        let topology = Topology::build(alloc, &IDS, self.links).expect(rt, "a graph");
-        match Config::<Idle>::boot(alloc, topology) {
-            Ok(config) => config,
-            Err(_) => panic!(rt; "memory for the graph"),
-        }
+        booted(alloc, &IDS, self.links).expect(rt, "a graph")
     }
 
     fn are_linked(&self, a: u32, b: u32) -> bool {

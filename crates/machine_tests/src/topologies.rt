@@ -4,20 +4,8 @@ use crate::leader_link::LeaderLink;
 use reset_machine::{Config, Event, Reply};
 use std::alloc::{AllocFailed, Global};
 use std::process::Abort;
+use test_networks::booted;
 use topology::Topology;
-
-fn booted(
-    rt: &impl Abort,
-    alloc: Global,
-    nodes: &[u32],
-    links: &[(u32, u32)],
-) -> Config<LeaderLink> {
-    let topology = Topology::build(alloc, nodes, links).expect(rt, "a graph");
-    match Config::<LeaderLink>::boot(alloc, topology) {
-        Ok(config) => config,
-        Err(_) => panic!(rt; "memory for the graph"),
-    }
-}
 
 // The nodes in the midst of a reset that the greatest has opened, each with a local state of its own.
 fn resetting(
@@ -26,7 +14,7 @@ fn resetting(
     nodes: &[u32],
     links: &[(u32, u32)],
 ) -> Config<LeaderLink> {
-    let mut config = booted(rt, alloc, nodes, links);
+    let mut config = booted::<LeaderLink>(alloc, nodes, links).expect(rt, "a graph");
     let greatest = config.topology().greatest().get();
     for event in [
         Event::Request { at: greatest },

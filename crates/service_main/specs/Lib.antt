@@ -1,1 +1,2 @@
 pub mod ExitStatus
+pub mod SecondsLine

@@ -5,9 +5,11 @@
 #![tactic(auto)]
 
 mod files;
+mod progress;
 mod status;
 
 use crate::files::{create_file, open_file, read_file};
+use crate::progress::{BelowLine, ProgressLine};
 use crate::status::exit_code;
 use action_tables::put_bytes;
 use reset_service::{
@@ -16,15 +18,16 @@ use reset_service::{
     replay, replay_joined, threads_text, verify_text, write_shape,
 };
 use std::env::Env;
-use std::io::Write;
+use std::io::{Stderr, Write};
 use std::process::ExitCode;
 use std::rt::Files;
 use std::sync::Wait;
 use std::thread::Threads;
+use std::time::Clock;
 use std::{env, io};
 
 fn main(rt: HostRuntime) -> ExitCode {
-    let ended = run(&rt);
+    let ended = run(&rt, rt.stderr());
     if let Err(stop) = ended {
         let _ = eprintln!(rt; "{stop}");
     }
@@ -32,15 +35,16 @@ fn main(rt: HostRuntime) -> ExitCode {
 }
 
 // Threads can be had only of the runtime that `main` is given, so what is called of it is said here.
-fn run<R: Env + Files + Input + Print + Eprint + AllocGlobal + Threads + Wait + Sync>(
+fn run<R: Clock + Env + Files + Input + Print + Eprint + AllocGlobal + Threads + Wait + Sync>(
     rt: &R,
+    terminal: Stderr,
 ) -> Result<Status, RunStop> {
     let words = match given_words(rt) {
         Ok(words) => words,
         Err(fault) => return answer_fault(rt, fault),
     };
     match read_words(rt.alloc(), words.as_slice()) {
-        Ok(job) => do_job(rt, job),
+        Ok(job) => do_job(rt, terminal, job),
         Err(fault) => answer_fault(rt, fault),
     }
 }
@@ -74,13 +78,29 @@ fn answer_fault<R: Print + Eprint + AllocGlobal>(
     }
 }
 
-fn do_job<R: Files + Input + Print + AllocGlobal + Threads + Wait + Sync>(
+fn do_job<R: Clock + Files + Input + Print + AllocGlobal + Threads + Wait + Sync>(
     rt: &R,
+    terminal: Stderr,
     job: Job<'_>,
 ) -> Result<Status, RunStop> {
-    let mut out = BufferedOutput::new(rt.alloc(), io::writer(rt))?;
-    let ended = job_output(rt, job, &mut out);
+    let line = ProgressLine::new(terminal);
+    let writer = BelowLine::new(rt, line.as_ref(), io::writer(rt));
+    let mut out = BufferedOutput::new(rt.alloc(), writer)?;
+    let ended = match (long_name(&job), &line) {
+        (Some(name), Some(line)) => line.during(rt, name, || job_output(rt, job, &mut out)),
+        _ => job_output(rt, job, &mut out),
+    };
     out.end(ended)
+}
+
+// The subcommand, if it can take more than a second.
+fn long_name(job: &Job<'_>) -> Option<&'static str> {
+    match job {
+        Job::Verify(_) => Some("verify"),
+        Job::Threads(_) => Some("threads"),
+        Job::Drive(_) => Some("drive"),
+        _ => None,
+    }
 }
 
 fn job_output<R: Files + Input + AllocGlobal + Threads + Wait + Sync, W: Write>(

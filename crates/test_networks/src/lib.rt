@@ -1,0 +1,54 @@
+//! Networks that several crates of tests stand on: booted ones, and a whole reset of one.
+#![tactic(auto)]
+
+ghost use Rattle.std.specs.Prelude.{◌≢◌, ◌∷◌, [], IfErr, IfOk};
+ghost use Rattle.reset_model.specs.Outcome.{IsBoot};
+ghost use Rattle.topology.specs.Faults.{IsFirstFault, IsTopologyOf};
+
+use app_interface::Application;
+use reset_machine::{Config, Event};
+use std::alloc::Global;
+use topology::{TopoFault, Topology};
+
+/// The steps of one whole reset of the line of the nodes 1, 2, 3.
+pub const WHOLE_RESET: [Event; 9] = [
+    Event::Request { at: 1 },
+    Event::Relay { at: 2, child: 1 },
+    Event::Relay { at: 3, child: 2 },
+    Event::Open { at: 3 },
+    Event::Join { at: 2 },
+    Event::Join { at: 1 },
+    Event::Finish { at: 1 },
+    Event::Finish { at: 2 },
+    Event::Finish { at: 3 },
+];
+
+/// The booted line of the nodes 1, 2, 3.
+pub fn line<P: Application>(alloc: Global) -> Result<Config<P>, TopoFault>
+    ensures lists { IfOk result (λ c. IsTopologyOf (1 ∷ 2 ∷ 3 ∷ []) ((1, 2) ∷ (2, 3) ∷ []) c.graph) }
+    ensures boot { IfOk result (λ c. IsBoot P.app c.graph c) }
+    ensures err { IfErr result
+        (λ f. f ≢ TopoFault.NoMemory → IsFirstFault (1 ∷ 2 ∷ 3 ∷ []) ((1, 2) ∷ (2, 3) ∷ []) f) }
+{
+    booted::<P>(alloc, &[1, 2, 3], &[(1, 2), (2, 3)])
+}
+
+/// The booted network with these nodes and links, or the first fault of the lists.
+pub fn booted<P: Application>(
+    alloc: Global,
+    nodes: &[u32],
+    links: &[(u32, u32)],
+) -> Result<Config<P>, TopoFault>
+    ensures lists { IfOk result (λ c. IsTopologyOf nodes.now links.now c.graph) }
+    ensures boot { IfOk result (λ c. IsBoot P.app c.graph c) }
+    ensures err { IfErr result (λ f. f ≢ TopoFault.NoMemory → IsFirstFault nodes.now links.now f) }
+{
+    let topology = match Topology::build(alloc, nodes, links) {
+        Ok(topology) => topology,
+        Err(fault) => return Err(fault),
+    };
+    match Config::<P>::boot(alloc, topology) {
+        Ok(config) => Ok(config),
+        Err(_) => Err(TopoFault::NoMemory),
+    }
+}
