@@ -1,6 +1,6 @@
 // What books keep.
 
-use crate::line::{line, single, whole_reset};
+use crate::line::{line, single};
 use app_interface::Idle;
 use fault_inject::{Fault, FaultRefusal};
 use history::{
@@ -9,6 +9,7 @@ use history::{
 use reset_machine::{Event, Plan, Reply, StepRefusal, View};
 use std::alloc::Global;
 use std::process::Abort;
+use test_networks::WHOLE_RESET;
 use tree_layer::TreeRegs;
 use wave_layer::{Phase, WaveRegs};
 
@@ -16,7 +17,7 @@ use wave_layer::{Phase, WaveRegs};
 fn reports_a_whole_reset(rt: HostRuntime) {
     let mut book = Book::open_book(rt.alloc(), line(&rt, rt.alloc()), MAX_ENTRIES);
     assert_eq!(rt; book.reports().len(), 0);
-    for event in whole_reset() {
+    for event in WHOLE_RESET {
         assert!(rt; book.step(rt.alloc(), event).is_ok());
     }
     let reset = Report {
@@ -36,7 +37,7 @@ fn reports_a_whole_reset(rt: HostRuntime) {
 #[test]
 fn refuses_before_it_is_full(rt: HostRuntime) {
     let mut book = Book::open_book(rt.alloc(), line(&rt, rt.alloc()), 8);
-    for (ix, event) in whole_reset().iter().enumerate() {
+    for (ix, event) in WHOLE_RESET.iter().enumerate() {
         let answer = book.step(rt.alloc(), *event);
         if ix < 8 {
             let receipt = Receipt {

@@ -1,16 +1,17 @@
 // What verifying a history tells.
 
-use crate::line::{line, whole_reset};
+use crate::line::line;
 use fault_inject::Fault;
 use history::{Entry, Report, VerifyFault, verify};
 use reset_machine::Event;
 use std::test::Fail;
+use test_networks::WHOLE_RESET;
 use wave_layer::{Phase, WaveRegs};
 
 #[test]
 fn reports_a_whole_reset(rt: HostRuntime) -> Result<(), Fail> {
     let mut entries = Vec::new(rt.alloc());
-    for event in whole_reset() {
+    for event in WHOLE_RESET {
         entries.push(Entry::Step(event))?;
     }
     match verify(rt.alloc(), line(&rt, rt.alloc()), &entries) {

@@ -1,11 +1,12 @@
 // The configurations that books had.
 
-use crate::line::{line, single, whole_reset};
+use crate::line::{line, single};
 use app_interface::Idle;
 use history::{AtFault, Book, Entry, MAX_ENTRIES, read_book, write_book};
 use reset_machine::{Config, Event};
 use std::alloc::Global;
 use std::process::Abort;
+use test_networks::WHOLE_RESET;
 use wave_layer::{Phase, WaveRegs};
 
 // The configuration of the book at this position.
@@ -19,7 +20,7 @@ fn config_of(rt: &impl Abort, alloc: Global, book: &Book<Idle>, position: usize)
 #[test]
 fn config_at(rt: HostRuntime) {
     let mut book = Book::open_book(rt.alloc(), line(&rt, rt.alloc()), MAX_ENTRIES);
-    for event in whole_reset() {
+    for event in WHOLE_RESET {
         assert!(rt; book.step(rt.alloc(), event).is_ok());
     }
     let opening = config_of(&rt, rt.alloc(), &book, 0);

@@ -1,6 +1,6 @@
 // The texts of histories.
 
-use crate::line::{line, whole_reset};
+use crate::line::line;
 use history::{
     Book, BookFault, Entry, MAX_ENTRIES, ReaderFault, Summary, VerifyFault, read_book, verify,
     verify_reader, write_book,
@@ -10,9 +10,11 @@ use std::io;
 use std::io::Read;
 use std::process::Abort;
 use std::test::Fail;
+use test_devices::{Endless, FailingReader};
+use test_networks::WHOLE_RESET;
 
 // The history of one whole reset of the line.
-const WHOLE_RESET: &[u8] = b"reset-history 1
+const RESET_HISTORY: &[u8] = b"reset-history 1
 request 1
 relay 2 1
 relay 3 2
@@ -23,38 +25,6 @@ finish 1
 finish 2
 finish 3
 ";
-
-// Gives its bytes, at most seven at a read. The read numbered `stop`, from 1, fails.
-#[derive(Drop)]
-struct Failing<'t> {
-    rest: &'t [u8],
-    stop: usize,
-    reads: usize,
-}
-
-impl Read for Failing<'_> {
-    fn read(&mut self, buf: &mut [u8]) -> io::Result<usize> {
-        self.reads = self.reads.saturating_add(1);
-        if self.reads == self.stop {
-            return Err(io::Error::from(io::ErrorKind::Interrupted));
-        }
-        let count = buf.len().min(self.rest.len()).min(7);
-        buf[..count].copy_from_slice(&self.rest[..count]);
-        self.rest = &self.rest[count..];
-        Ok(count)
-    }
-}
-
-// Gives the byte `1` for ever.
-#[derive(Drop)]
-struct Endless;
-
-impl Read for Endless {
-    fn read(&mut self, buf: &mut [u8]) -> io::Result<usize> {
-        buf.fill(b'1');
-        Ok(buf.len())
-    }
-}
 
 // Entries of which the first is refused after the boot.
 const JOINS: &[u8] =
@@ -92,12 +62,12 @@ fn fault_of(rt: &impl Abort, alloc: Global, text: &[u8]) -> BookFault {
 #[test]
 fn a_book_is_written_and_read(rt: HostRuntime) -> Result<(), Fail> {
     let mut book = Book::open_book(rt.alloc(), line(&rt, rt.alloc()), MAX_ENTRIES);
-    for event in whole_reset() {
+    for event in WHOLE_RESET {
         assert!(rt; book.step(rt.alloc(), event).is_ok());
     }
     let mut text = Vec::new(rt.alloc());
     assert!(rt; write_book(&book, &mut text).is_ok());
-    assert!(rt; text.as_slice() == WHOLE_RESET);
+    assert!(rt; text.as_slice() == RESET_HISTORY);
     let mut rest = text.as_slice();
     match read_book(rt.alloc(), &mut rest) {
         Ok(entries) => match verify(rt.alloc(), line(&rt, rt.alloc()), &entries) {
@@ -137,15 +107,11 @@ fn names_the_first_bad_line(rt: HostRuntime) {
 
 #[test]
 fn reads_piece_by_piece(rt: HostRuntime) {
-    let mut pieces = Failing {
-        rest: WHOLE_RESET,
-        stop: 0,
-        reads: 0,
-    };
+    let mut pieces = FailingReader::new(RESET_HISTORY, 0);
     match read_book(rt.alloc(), &mut pieces) {
         Ok(entries) => {
             assert_eq!(rt; entries.len(), 9);
-            for (entry, event) in entries.iter().zip(whole_reset()) {
+            for (entry, event) in entries.iter().zip(WHOLE_RESET) {
                 assert!(rt; *entry == Entry::Step(event));
             }
         }
@@ -160,16 +126,12 @@ fn reads_piece_by_piece(rt: HostRuntime) {
 #[test]
 fn each_failed_read_is_told(rt: HostRuntime) {
     for stop in 1..=15 {
-        let mut failing = Failing {
-            rest: WHOLE_RESET,
-            stop,
-            reads: 0,
-        };
+        let mut failing = FailingReader::new(RESET_HISTORY, stop);
         match read_book(rt.alloc(), &mut failing) {
             Ok(_) => panic!(rt; "a failed read"),
             Err(fault) => assert_eq!(rt; fault, BookFault::ReadFailed),
         }
-        assert_eq!(rt; failing.reads, stop);
+        assert_eq!(rt; failing.reads(), stop);
     }
 }
 
@@ -185,7 +147,7 @@ fn verdict<R: Read>(
 
 #[test]
 fn verifies_what_a_reader_gives(rt: HostRuntime) {
-    let mut whole = WHOLE_RESET;
+    let mut whole = RESET_HISTORY;
     assert_eq!(rt; verdict(&rt, rt.alloc(), &mut whole), Ok((9, 1)));
     let mut header = b"reset-history 1\n".as_slice();
     assert_eq!(rt; verdict(&rt, rt.alloc(), &mut header), Ok((0, 0)));
@@ -208,14 +170,10 @@ fn verifies_what_a_reader_gives(rt: HostRuntime) {
 #[test]
 fn each_failed_read_of_a_verification_is_told(rt: HostRuntime) {
     for stop in 1..=15 {
-        let mut failing = Failing {
-            rest: WHOLE_RESET,
-            stop,
-            reads: 0,
-        };
+        let mut failing = FailingReader::new(RESET_HISTORY, stop);
         let failed = Err(ReaderFault::Text(BookFault::ReadFailed));
         assert_eq!(rt; verdict(&rt, rt.alloc(), &mut failing), failed);
-        assert_eq!(rt; failing.reads, stop);
+        assert_eq!(rt; failing.reads(), stop);
     }
 }
 
@@ -226,17 +184,13 @@ fn verdict_of_pieces(
     text: &[u8],
     stop: usize,
 ) -> Result<(usize, usize), ReaderFault> {
-    let mut pieces = Failing {
-        rest: text,
-        stop,
-        reads: 0,
-    };
+    let mut pieces = FailingReader::new(text, stop);
     verdict(rt, alloc, &mut pieces)
 }
 
 #[test]
 fn verifies_piece_by_piece(rt: HostRuntime) {
-    let whole = verdict_of_pieces(&rt, rt.alloc(), WHOLE_RESET, 0);
+    let whole = verdict_of_pieces(&rt, rt.alloc(), RESET_HISTORY, 0);
     assert_eq!(rt; whole, Ok((9, 1)));
     let early = b"reset-history 1\nrequest 3\nopen 3\njoin 1\njoin 1\n".as_slice();
     let refused = Err(ReaderFault::Entries(VerifyFault::NotEnabledAt(3)));

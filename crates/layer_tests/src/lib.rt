@@ -7,8 +7,6 @@
 #[cfg(test)]
 mod reading;
 #[cfg(test)]
-mod slow;
-#[cfg(test)]
 mod topologies;
 #[cfg(test)]
 mod tree;

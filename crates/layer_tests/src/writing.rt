@@ -1,36 +1,36 @@
 // What is written, on writers that take it in pieces and on writers that fail.
 
-use crate::slow::{Fault, Slow};
 use action_tables::{
     CaseRow, CaseSet, Part, WriteFault, print_rows, put_bytes, put_list, put_number, put_parts,
 };
 use std::test::Fail;
+use test_devices::{FailingWriter, Fault};
 
 #[test]
 fn writes_all_bytes_in_pieces(rt: HostRuntime) {
     for (step, calls) in [(1, 5), (2, 3), (9, 1)] {
-        let mut out = Slow::new(rt.alloc(), step, 0, Fault::Error);
+        let mut out = FailingWriter::new(rt.alloc(), step, 0, Fault::Error);
         assert_eq!(rt; put_bytes(&mut out, b"hello"), Ok(()));
         assert_eq!(rt; out.taken(), b"hello".as_slice());
-        assert_eq!(rt; out.calls(), calls);
+        assert_eq!(rt; out.writes(), calls);
     }
 }
 
 #[test]
 fn writes_no_bytes_without_a_call(rt: HostRuntime) {
-    let mut out = Slow::new(rt.alloc(), 1, 1, Fault::Error);
+    let mut out = FailingWriter::new(rt.alloc(), 1, 1, Fault::Error);
     assert_eq!(rt; put_bytes(&mut out, b""), Ok(()));
-    assert_eq!(rt; out.calls(), 0);
+    assert_eq!(rt; out.writes(), 0);
 }
 
 #[test]
 fn tries_nothing_again(rt: HostRuntime) {
     for fault in [Fault::Error, Fault::Zero] {
         for stop in 1..=5 {
-            let mut out = Slow::new(rt.alloc(), 1, stop, fault);
+            let mut out = FailingWriter::new(rt.alloc(), 1, stop, fault);
             assert_eq!(rt; put_bytes(&mut out, b"hello"), Err(WriteFault));
             assert_eq!(rt; out.taken(), &b"hello"[..stop - 1]);
-            assert_eq!(rt; out.calls(), stop);
+            assert_eq!(rt; out.writes(), stop);
         }
     }
 }
@@ -56,12 +56,12 @@ fn stops_at_the_first_fault(rt: HostRuntime) {
         effect: "sleep",
     };
     let text = b"table day\n12 rest | tired | sleep\n";
-    let mut out = Slow::new(rt.alloc(), 3, 0, Fault::Error);
+    let mut out = FailingWriter::new(rt.alloc(), 3, 0, Fault::Error);
     assert_eq!(rt; print_rows("day", &[row], &mut out), Ok(()));
     assert_eq!(rt; out.taken(), text.as_slice());
     for fault in [Fault::Error, Fault::Zero] {
         for stop in 1..=text.len() {
-            let mut out = Slow::new(rt.alloc(), 1, stop, fault);
+            let mut out = FailingWriter::new(rt.alloc(), 1, stop, fault);
             assert_eq!(rt; print_rows("day", &[row], &mut out), Err(WriteFault));
             assert_eq!(rt; out.taken(), &text[..stop - 1]);
         }

@@ -1,6 +1,6 @@
 // Books, history texts, and what verifying them tells.
 
-use crate::networks::{booted, line, opened, whole_reset};
+use crate::networks::{booted, line, opened};
 use crate::page::Picture;
 use app_interface::Idle;
 use app_token::Token;
@@ -12,6 +12,7 @@ use history::{
 use reset_machine::{Config, Event, Reply, StepRefusal};
 use std::alloc::Global;
 use std::process::Abort;
+use test_networks::WHOLE_RESET;
 use wave_layer::{Phase, WaveRegs};
 
 const HISTORY: &[u8] = b"reset-history 1\nrequest 1\nrelay 2 1\n";
@@ -33,7 +34,7 @@ fn enter(rt: &impl Abort, alloc: Global, book: &mut Book<Token>, event: Event) {
 #[test]
 fn a_book_keeps_a_whole_reset(rt: HostRuntime) {
     let mut book = opened::<Token>(&rt, rt.alloc());
-    for event in whole_reset() {
+    for event in WHOLE_RESET {
         enter(&rt, rt.alloc(), &mut book, event);
     }
     assert_eq!(rt; book.len(), 9);

@@ -1,6 +1,6 @@
 // Steps, questions, plans and runs of a configuration.
 
-use crate::networks::{booted, line, whole_reset};
+use crate::networks::{booted, line};
 use crate::page::Picture;
 use app_interface::{Application, Idle, LocalFault};
 use app_routes::Routes;
@@ -8,6 +8,7 @@ use app_token::Token;
 use reset_machine::{Config, Done, Event, Plan, Reply, StepRefusal, View};
 use std::alloc::{AllocError, Global};
 use std::process::Abort;
+use test_networks::WHOLE_RESET;
 
 // The node 3 hands its token on to node 2, which takes it.
 fn handing_on() -> [Event; 2] {
@@ -45,8 +46,8 @@ fn steps_are_taken(rt: HostRuntime) {
             Ok(Reply::Applied)
         );
     }
-    let [.., last] = whole_reset();
-    for event in whole_reset() {
+    let [.., last] = WHOLE_RESET;
+    for event in WHOLE_RESET {
         let reply = if event == last {
             Reply::Complete(1)
         } else {
@@ -144,7 +145,7 @@ fn a_run_is_made_beside_a_copy(rt: HostRuntime) {
     let copy = copy.ok().expect(&rt, "memory is refused once");
     // No step of `idle` asks for memory, so want of it is the answers' alone, and nothing was done.
     let done =
-        again!(&rt; config.run(rt.alloc(), &whole_reset()), AllocError, Picture::of(&rt, &config).is(&before));
+        again!(&rt; config.run(rt.alloc(), &WHOLE_RESET), AllocError, Picture::of(&rt, &config).is(&before));
     attempted(&rt, &done.expect(&rt, "memory is refused once"));
     assert_eq!(rt; config.newest_session(), 1);
     assert!(rt; Picture::of(&rt, &copy).is(&before));

@@ -2,7 +2,7 @@
 
 use app_interface::Application;
 use history::{Book, MAX_ENTRIES};
-use reset_machine::{Config, Event};
+use reset_machine::Config;
 use std::alloc::Global;
 use std::process::Abort;
 use topology::{TopoFault, Topology};
@@ -44,19 +44,4 @@ pub(crate) fn booted<P: Application>(
 /// A book that opens with the booted line.
 pub(crate) fn opened<P: Application>(rt: &impl Abort, alloc: Global) -> Book<P> {
     Book::open_book(alloc, booted::<P>(rt, alloc, line(rt, alloc)), MAX_ENTRIES)
-}
-
-/// The steps of one whole reset of the line.
-pub(crate) fn whole_reset() -> [Event; 9] {
-    [
-        Event::Request { at: 1 },
-        Event::Relay { at: 2, child: 1 },
-        Event::Relay { at: 3, child: 2 },
-        Event::Open { at: 3 },
-        Event::Join { at: 2 },
-        Event::Join { at: 1 },
-        Event::Finish { at: 1 },
-        Event::Finish { at: 2 },
-        Event::Finish { at: 3 },
-    ]
 }

@@ -1,10 +1,10 @@
 // The buffer between a run and its output: what it has flushed, and how it ends.
 
-use crate::devices::Stopping;
 use action_tables::put_bytes;
 use reset_service::{BufferedOutput, RunStop, Status};
 use std::alloc::Global;
 use std::test::Fail;
+use test_devices::{FailingWriter, Fault};
 
 const PIECE: &[u8] = b"0123456789";
 
@@ -13,10 +13,10 @@ const PIECE: &[u8] = b"0123456789";
 fn ended(
     alloc: Global,
     stop: usize,
-    zero: bool,
+    fault: Fault,
     run: Result<Status, RunStop>,
 ) -> Result<Result<Status, RunStop>, Fail> {
-    let mut out = BufferedOutput::new(alloc, Stopping::new(alloc, 3000, stop, zero))?;
+    let mut out = BufferedOutput::new(alloc, FailingWriter::new(alloc, 3000, stop, fault))?;
     for _ in 0..1000 {
         if put_bytes(&mut out, PIECE).is_err() {
             return Ok(out.end(Err(RunStop::WriteFailed)));
@@ -36,19 +36,19 @@ fn ends_as_the_run_did(rt: HostRuntime) -> Result<(), Fail> {
         Err(RunStop::NoMemory),
         Err(RunStop::WriteFailed),
     ] {
-        assert_eq!(rt; ended(rt.alloc(), 0, false, run)?, run);
+        assert_eq!(rt; ended(rt.alloc(), 0, Fault::Error, run)?, run);
     }
     Ok(())
 }
 
 #[test]
 fn a_failed_write_is_told(rt: HostRuntime) -> Result<(), Fail> {
-    for zero in [false, true] {
+    for fault in [Fault::Error, Fault::Zero] {
         for stop in 1..=4 {
-            let result = ended(rt.alloc(), stop, zero, Ok(Status::Good))?;
+            let result = ended(rt.alloc(), stop, fault, Ok(Status::Good))?;
             assert_eq!(rt; result, Err(RunStop::WriteFailed), "at write {stop}");
         }
-        let result = ended(rt.alloc(), 4, zero, Err(RunStop::NoMemory))?;
+        let result = ended(rt.alloc(), 4, fault, Err(RunStop::NoMemory))?;
         assert_eq!(rt; result, Err(RunStop::NoMemory));
     }
     Ok(())

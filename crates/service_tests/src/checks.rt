@@ -2,8 +2,8 @@
 // shown with the replays.
 
 use crate::calls::LINE;
-use crate::devices::Endless;
 use reset_service::{Status, check_text};
+use test_devices::Endless;
 
 const HALF_WAVE: &[u8] = b"request 3\nopen 3\njoin 2\ncheck 1\nalarm 1\nwatch 2\nshow 2\n";
 

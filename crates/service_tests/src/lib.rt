@@ -9,8 +9,6 @@ mod calls;
 #[cfg(test)]
 mod checks;
 #[cfg(test)]
-mod devices;
-#[cfg(test)]
 mod histories;
 #[cfg(test)]
 mod replays;

@@ -1,11 +1,11 @@
 // Runs of node threads: what is written to the two writers, and what a run does where one of them fails. What
 // several threads keep is shown on the program itself.
 
-use crate::devices::Stopping;
 use reset_service::{RunStop, Status, threads_text};
 use std::alloc::{AllocError, Global};
 use std::sync::Wait;
 use std::thread::Threads;
+use test_devices::{FailingWriter, Fault};
 
 // A node without neighbours does what it does in one order.
 const ALONE: &[u8] = b"nodes = [7]\nlinks = []\napp = \"idle\"\n";
@@ -29,12 +29,24 @@ fn path(alloc: Global, nodes: u32) -> Result<String, AllocError> {
     Ok(text)
 }
 
+// How a path of so many nodes is answered, which take one turn each.
+fn run_path<R: Threads + Wait + Sync>(
+    rt: &R,
+    alloc: Global,
+    nodes: u32,
+    history: &mut Vec<u8>,
+    out: &mut Vec<u8>,
+) -> Result<Result<Status, RunStop>, AllocError> {
+    let topology = path(alloc, nodes)?;
+    Ok(threads_text(rt, alloc, topology.as_bytes(), 1, history, out))
+}
+
 // How the node alone is answered, where each write takes at most five bytes.
 fn stopped<R: Threads + Wait + Sync>(
     rt: &R,
     alloc: Global,
-    history: &mut Stopping,
-    out: &mut Stopping,
+    history: &mut FailingWriter,
+    out: &mut FailingWriter,
 ) -> Result<Status, RunStop> {
     threads_text(rt, alloc, ALONE, 10, history, out)
 }
@@ -55,15 +67,7 @@ fn a_node_alone_completes_its_reset(rt: HostRuntime) {
 fn over_64_nodes_have_no_threads(rt: HostRuntime) -> Result<(), AllocError> {
     let mut history = Vec::new(rt.alloc());
     let mut out = Vec::new(rt.alloc());
-    let topology = path(rt.alloc(), 65)?;
-    let result = threads_text(
-        &rt,
-        rt.alloc(),
-        topology.as_bytes(),
-        1,
-        &mut history,
-        &mut out,
-    );
+    let result = run_path(&rt, rt.alloc(), 65, &mut history, &mut out)?;
     assert_eq!(rt; result, Ok(Status::BadInput));
     assert_eq!(rt;
         out.as_slice(),
@@ -77,15 +81,7 @@ fn over_64_nodes_have_no_threads(rt: HostRuntime) -> Result<(), AllocError> {
 fn as_many_as_64_nodes_have_threads(rt: HostRuntime) -> Result<(), AllocError> {
     let mut history = Vec::new(rt.alloc());
     let mut out = Vec::new(rt.alloc());
-    let topology = path(rt.alloc(), 64)?;
-    let result = threads_text(
-        &rt,
-        rt.alloc(),
-        topology.as_bytes(),
-        1,
-        &mut history,
-        &mut out,
-    );
+    let result = run_path(&rt, rt.alloc(), 64, &mut history, &mut out)?;
     assert_eq!(rt; result, Ok(Status::Good));
     assert!(rt; out.starts_with(b"threads 64 nodes "));
     assert!(rt; history.starts_with(b"reset-history 1\n"));
@@ -104,30 +100,30 @@ fn a_bad_topology_leaves_no_history(rt: HostRuntime) {
 
 #[test]
 fn no_line_follows_a_history_that_is_not_whole(rt: HostRuntime) {
-    for zero in [false, true] {
+    for fault in [Fault::Error, Fault::Zero] {
         for stop in 1..=HISTORY.len().div_ceil(5) {
-            let mut history = Stopping::new(rt.alloc(), 5, stop, zero);
-            let mut out = Stopping::new(rt.alloc(), 5, 0, zero);
+            let mut history = FailingWriter::new(rt.alloc(), 5, stop, fault);
+            let mut out = FailingWriter::new(rt.alloc(), 5, 0, fault);
             let result = stopped(&rt, rt.alloc(), &mut history, &mut out);
             assert_eq!(rt; result, Err(RunStop::WriteFailed), "at write {stop}");
-            assert_eq!(rt; history.writes, stop);
-            assert!(rt; HISTORY.starts_with(&history.taken));
-            assert_eq!(rt; out.writes, 0);
+            assert_eq!(rt; history.writes(), stop);
+            assert!(rt; HISTORY.starts_with(history.taken()));
+            assert_eq!(rt; out.writes(), 0);
         }
     }
 }
 
 #[test]
 fn a_failed_write_of_the_line_is_the_last(rt: HostRuntime) {
-    for zero in [false, true] {
+    for fault in [Fault::Error, Fault::Zero] {
         for stop in 1..=7 {
-            let mut history = Stopping::new(rt.alloc(), 5, 0, zero);
-            let mut out = Stopping::new(rt.alloc(), 5, stop, zero);
+            let mut history = FailingWriter::new(rt.alloc(), 5, 0, fault);
+            let mut out = FailingWriter::new(rt.alloc(), 5, stop, fault);
             let result = stopped(&rt, rt.alloc(), &mut history, &mut out);
             assert_eq!(rt; result, Err(RunStop::WriteFailed), "at write {stop}");
-            assert_eq!(rt; history.taken.as_slice(), HISTORY);
-            assert_eq!(rt; out.writes, stop);
-            assert!(rt; LINE.starts_with(&out.taken));
+            assert_eq!(rt; history.taken(), HISTORY);
+            assert_eq!(rt; out.writes(), stop);
+            assert!(rt; LINE.starts_with(out.taken()));
         }
     }
 }

@@ -1,6 +1,5 @@
 // What a node does by itself, in a network that isn't damaged.
 
-use crate::steps::whole_reset;
 use crate::topologies::{booted, line, star};
 use app_interface::{Application, Idle};
 use app_mutex::EdgeReversal;
@@ -10,6 +9,7 @@ use node_threads::next_event;
 use reset_machine::{Config, Event};
 use std::alloc::Global;
 use std::process::Abort;
+use test_networks::WHOLE_RESET;
 use wave_layer::{Phase, WaveRegs};
 
 // What the node does by itself.
@@ -77,7 +77,7 @@ fn a_request_is_relayed_by_the_father_alone(rt: HostRuntime) {
 #[test]
 fn after_the_request_a_reset_goes_by_itself(rt: HostRuntime) {
     let mut config = booted::<Idle>(&rt, rt.alloc(), line(&rt, rt.alloc()));
-    for event in whole_reset() {
+    for event in WHOLE_RESET {
         let next = next_at(&rt, rt.alloc(), &config, event.node());
         if event == (Event::Request { at: 1 }) {
             assert_eq!(rt; next, None);

@@ -9,6 +9,7 @@ use reset_machine::{Config, Event, Reply};
 use std::alloc::Global;
 use std::process::Abort;
 use std::sync::Wait;
+use test_networks::WHOLE_RESET;
 
 struct Relaying;
 
@@ -73,21 +74,6 @@ fn a_step_of_another_node_is_refused(rt: HostRuntime) {
     assert!(rt; play::<Straying, HostRuntime>(&rt, rt.alloc(), book).is_ok());
 }
 
-// The steps of one whole reset of the line.
-pub fn whole_reset() -> [Event; 9] {
-    [
-        Event::Request { at: 1 },
-        Event::Relay { at: 2, child: 1 },
-        Event::Relay { at: 3, child: 2 },
-        Event::Open { at: 3 },
-        Event::Join { at: 2 },
-        Event::Join { at: 1 },
-        Event::Finish { at: 1 },
-        Event::Finish { at: 2 },
-        Event::Finish { at: 3 },
-    ]
-}
-
 // Does the event at the seat of its node.
 fn step_at<L: Round, R: Wait + Abort>(
     rt: &R,
@@ -138,7 +124,7 @@ impl Scene for WholeReset {
     ) {
         let mut config = booted::<Idle>(rt, alloc, line(rt, alloc));
         assert!(rt; sees_the_same(rt, alloc, &shared, &seats, &config));
-        for (event, position) in whole_reset().into_iter().zip(1..=9) {
+        for (event, position) in WHOLE_RESET.into_iter().zip(1..=9) {
             let reply = if position == 9 {
                 Reply::Complete(1)
             } else {
