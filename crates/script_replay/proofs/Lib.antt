@@ -10,3 +10,5 @@ pub mod Watching
 pub mod ReadyTexts
 pub mod OneOutput
 pub mod Stretches
+pub mod Noting
+pub mod LeftRecords
