@@ -166,7 +166,12 @@ decides app from_text b mark told seats (Ok u) is none all differs other =
 decides app from_text b mark told seats (Err (SeatMissing i)) is none all differs other = absurd (other i refl)
 decides app from_text b mark told seats (Err (ListsDiffer i)) is none all differs other =
     (tt, (none, subst (λ t. IsFirstDiffering t seats i) is (differs i refl)))
-decides app from_text b mark told seats (Err NoMemory) is none all differs other = (tt, tt)
+decides app from_text b mark told seats (Err NoMemory) is none all differs other = (tt, none)
+
+-- what holds anyway holds of an answer that is Ok
+pub seated : {T : Type 0} {E : Type 0} {A : Type 0} (r : Result T E) → A → OnOk r A
+seated (Ok u) holds = holds
+seated (Err e) holds = tt
 
 -- there is room for one list more
 pub left_over : (lists : List NodeList) (s : SeatView) (rest seats : List SeatView)

@@ -59,7 +59,7 @@ IsUnclosed app from_text b mark seats (SeatMissing i) = first_missing b.config.g
 IsUnclosed app from_text b mark seats (ListsDiffer i) =
     (first_missing b.config.graph.ids seats ≡ None)
     × IsFirstDiffering (receipts_after app from_text b mark) seats i
-IsUnclosed app from_text b mark seats NoMemory = ⊤
+IsUnclosed app from_text b mark seats NoMemory = first_missing b.config.graph.ids seats ≡ None
 
 -- the fault of the seats by the book that lay under the lock
 pub record IsCloseFault {L : Type 0} (app : App L) (from_text : List ℕ → Option L) (mark nodes : ℕ)

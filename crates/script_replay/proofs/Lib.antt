@@ -8,6 +8,7 @@ pub mod Nodes
 pub mod Disturbing
 pub mod Watching
 pub mod ReadyTexts
+pub mod FaultTexts
 pub mod OneOutput
 pub mod Stretches
 pub mod Noting

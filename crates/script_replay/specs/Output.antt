@@ -6,16 +6,11 @@ use Rattle.std.specs.Io.KnownBytes.{Appends, Keeps}
 use Rattle.std.specs.List.{concat, flat_map}
 use Rattle.topology.specs.Graph.{Graph}
 use Rattle.topology.specs.Faults.{IsTopologyOf}
+use Rattle.topology.specs.FaultText.{fault_text}
+use Rattle.topology.specs.ReadFaultText.{read_fault_text}
 use Rattle.topology.specs.TopologyText.{Description, IsReadFault, description_of}
 use Rattle.topology.specs.declared.fault.TopoFault.{TopoFault}
-use Rattle.topology.specs.declared.fault.TopoFault.TheVariants.{NoNodes, TooManyNodes, BadId, TwiceNode, TooManyLinks}
-use Rattle.topology.specs.declared.fault.TopoFault.TheVariants.{SelfLink, TwiceLink, Disconnected, NoSuchLink}
-use Rattle.topology.specs.declared.fault.TopoFault.TheVariants.{LinkIsThere}
-use Rattle.topology.specs.declared.fault.TopoFault.TheVariants as topo
 use Rattle.topology.specs.declared.text.ReadFault.{ReadFault}
-use Rattle.topology.specs.declared.text.ReadFault.TheVariants.{TextTooLong, NotToml, MissingKey, UnknownKey, WrongKind}
-use Rattle.topology.specs.declared.text.ReadFault.TheVariants.{UnknownApp, Topology}
-use Rattle.topology.specs.declared.text.ReadFault.TheVariants as read
 use Rattle.topology.specs.declared.text.AppName.{AppName}
 use Rattle.topology.specs.declared.text.AppName.TheVariants.{Idle, Token, Mutex, Routes}
 use Rattle.tree_layer.specs.declared.regs.TreeRegs.{TreeRegs}
@@ -145,30 +140,12 @@ alarm_text (Some fault) =
     concat (codes "alarm " ∷ decimal fault.at ∷ codes " " ∷ decimal fault.other ∷ codes " " ∷ decimal fault.row
     ∷ ended [] ∷ [])
 
+-- the line of a fault of the lists that a topology is built from, and that of a fault of its text
 abbrev pub graph_fault_text : TopoFault → List ℕ
-graph_fault_text NoNodes = ended (codes "bad topology NoNodes")
-graph_fault_text TooManyNodes = ended (codes "bad topology TooManyNodes")
-graph_fault_text (BadId n) = numbered (codes "bad topology BadId ") n
-graph_fault_text (TwiceNode n) = numbered (codes "bad topology TwiceNode ") n
-graph_fault_text TooManyLinks = ended (codes "bad topology TooManyLinks")
-graph_fault_text (topo.StrangeNode n) = numbered (codes "bad topology StrangeNode ") n
-graph_fault_text (SelfLink n) = numbered (codes "bad topology SelfLink ") n
-graph_fault_text (TwiceLink a b) = numbered_twice (codes "bad topology TwiceLink ") a b
-graph_fault_text (Disconnected n) = numbered (codes "bad topology Disconnected ") n
-graph_fault_text topo.NoMemory = ended (codes "bad topology NoMemory")
-graph_fault_text NoSuchLink = ended (codes "bad topology NoSuchLink")
-graph_fault_text LinkIsThere = ended (codes "bad topology LinkIsThere")
+graph_fault_text f = codes "bad topology " ++ ended (fault_text f)
 
--- the line of a text's fault
 abbrev pub bad_topology_text : ReadFault → List ℕ
-bad_topology_text TextTooLong = ended (codes "bad topology TextTooLong")
-bad_topology_text NotToml = ended (codes "bad topology NotToml")
-bad_topology_text MissingKey = ended (codes "bad topology MissingKey")
-bad_topology_text UnknownKey = ended (codes "bad topology UnknownKey")
-bad_topology_text WrongKind = ended (codes "bad topology WrongKind")
-bad_topology_text UnknownApp = ended (codes "bad topology UnknownApp")
-bad_topology_text (Topology f) = graph_fault_text f
-bad_topology_text read.NoMemory = ended (codes "bad topology NoMemory")
+bad_topology_text f = codes "bad topology " ++ ended (read_fault_text f)
 
 abbrev pub too_long_text : List ℕ
 too_long_text = ended (codes "bad script TooLong")

@@ -1,5 +1,5 @@
-use Rattle.std.proofs.Common.{subst}
-use Rattle.node_threads.specs.Closed.{IsUnclosed}
+use Rattle.std.proofs.Common.{◌≡◌, None, subst}
+use Rattle.node_threads.specs.Closed.{IsUnclosed, first_missing}
 use Rattle.node_threads.proofs.closing.close.Goals as goal
 
 pub returns-in-Err-clause-err : goal.returns-in-Err-clause-err
@@ -21,4 +21,11 @@ returns-in-Err-clause-err g c =
 pub returns-in-Err-with_capacity-clause-err : goal.returns-in-Err-with_capacity-clause-err
 returns-in-Err-with_capacity-clause-err g c =
     let l = c.into_inner-locked.result in
-    record { book = l.book; total = l.tally.total; locked = c.lemma_is_locked.ensures.locked; why = tt }
+    record {
+      book = l.book;
+      total = l.tally.total;
+      locked = c.lemma_is_locked.ensures.locked;
+      why =
+          subst (λ seats. first_missing l.book.config.graph.ids seats ≡ None) c.deref.ensures.value
+          c.in-Ok.ensures.seated;
+    }

@@ -1,7 +1,35 @@
+use Rattle.std.proofs.Common.{sym}
+use Rattle.script_replay.proofs.FaultTexts.{twice_link}
 use Rattle.script_replay.proofs.answer.put_graph_fault.Goals as goal
 
+pub returns-in-NoNodes-clause-ok : goal.returns-in-NoNodes-clause-ok
+returns-in-NoNodes-clause-ok g c = rw c.in-NoNodes.is c.put_bytes.ensures.ok
+
+pub returns-in-TooManyNodes-clause-ok : goal.returns-in-TooManyNodes-clause-ok
+returns-in-TooManyNodes-clause-ok g c = rw c.in-TooManyNodes.is c.put_bytes-in-TooManyNodes.ensures.ok
+
+pub returns-in-BadId-clause-ok : goal.returns-in-BadId-clause-ok
+returns-in-BadId-clause-ok g c = rw c.in-BadId.is c.put_node_fault.ensures.ok
+
+pub returns-in-TwiceNode-clause-ok : goal.returns-in-TwiceNode-clause-ok
+returns-in-TwiceNode-clause-ok g c = rw c.in-TwiceNode.is c.put_node_fault-in-TwiceNode.ensures.ok
+
+pub returns-in-TooManyLinks-clause-ok : goal.returns-in-TooManyLinks-clause-ok
+returns-in-TooManyLinks-clause-ok g c = rw c.in-TooManyLinks.is c.put_bytes-in-TooManyLinks.ensures.ok
+
+pub returns-in-StrangeNode-clause-ok : goal.returns-in-StrangeNode-clause-ok
+returns-in-StrangeNode-clause-ok g c = rw c.in-StrangeNode.is c.put_node_fault-in-StrangeNode.ensures.ok
+
+pub returns-in-SelfLink-clause-ok : goal.returns-in-SelfLink-clause-ok
+returns-in-SelfLink-clause-ok g c = rw c.in-SelfLink.is c.put_node_fault-in-SelfLink.ensures.ok
+
 pub returns-in-TwiceLink-clause-ok : goal.returns-in-TwiceLink-clause-ok
-returns-in-TwiceLink-clause-ok g c = rw c.in-TwiceLink.is c.put_link_fault.ensures.ok
+returns-in-TwiceLink-clause-ok g c =
+    rw (c.in-TwiceLink.is, sym (twice_link c.in-TwiceLink.a c.in-TwiceLink.b)) c.put_link_fault.ensures.ok
+
+pub returns-in-TwiceLink-clause-err : goal.returns-in-TwiceLink-clause-err
+returns-in-TwiceLink-clause-err g c =
+    rw (c.in-TwiceLink.is, sym (twice_link c.in-TwiceLink.a c.in-TwiceLink.b)) c.put_link_fault.ensures.err
 
 pub returns-in-Disconnected-clause-ok : goal.returns-in-Disconnected-clause-ok
 returns-in-Disconnected-clause-ok g c = rw c.in-Disconnected.is c.put_node_fault-in-Disconnected.ensures.ok

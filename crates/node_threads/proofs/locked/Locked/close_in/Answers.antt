@@ -1,7 +1,7 @@
 use Rattle.std.proofs.Common.{◌≡◌, None, ap, sym, ◌∙◌}
 use Rattle.topology.specs.Graph.{Graph}
 use Rattle.node_threads.specs.Closed.{first_missing}
-use Rattle.node_threads.proofs.Gathering.{decides}
+use Rattle.node_threads.proofs.Gathering.{decides, seated}
 use Rattle.node_threads.proofs.locked.Locked.close_in.Goals as goal
 
 pub returns-in-Ok : goal.returns-in-Ok
@@ -14,4 +14,4 @@ returns-in-Ok g c =
     let both = decides g.P.Application.app g.P.Application.from_text l.book l.mark c.deref.result.now seats
     c.compared.result (c.deref.ensures.value ∙ c.in-Ok.ensures) none c.compared.ensures.ok c.compared.ensures.differs
     c.compared.ensures.all in
-    record { ok = both.0; err = both.1 }
+    record { ok = both.0; seated = seated c.compared.result none; err = both.1 }
