@@ -1,41 +1,21 @@
 -- The walk of words in which clap finds no fault meets no `help`.
-use Rattle.std.proofs.Common.{◌≡◌, ◌∙◌, ◌≤◌, ◌<◌, ◌&&◌, ◌||◌, not, ℕ, Bool, cond, true, false, refl, sym, ap, subst}
-use Rattle.std.proofs.Common.{arith, List, [], ◌∷◌, codes, drop, length, Option, Some, None, inl, inr, true≢false}
-use Rattle.std.proofs.Common.{◌==◌}
-use Rattle.std.specs.List.{fold, slice_index_or}
-use Rattle.std.specs.Option.{option_map_or}
+use Rattle.std.proofs.Common.{◌≡◌, ◌&&◌, ℕ, Bool, cond, true, false, refl}
+use Rattle.std.proofs.Common.{List, [], ◌∷◌, codes, Option, Some, None}
+use Rattle.std.specs.List.{fold}
 use Rattle.std.specs.Str.{bytes_eq}
-use Rattle.std.specs.Str.Parse.{digits_value, without_leading_plus}
-use Rattle.std.specs.Prelude.{⊤, ◌⊎◌, IfSome, IsSome, IsSomeAnd, find, is_some, option_and_then, option_map}
-use Rattle.std.specs.Prelude.{pos, slice_get, unwrap_or}
-use Rattle.std.proofs.lemmas.Slice.Eq.{bytes_eq-Decides}
+use Rattle.std.specs.Prelude.{⊤, is_some}
 use Rattle.clap.specs.Lexer.{long_of, short_of}
-use Rattle.clap.specs.Words.{App, Kinds, Row, Rule, Shape, Text, built, fault_of, first_of, is_simple}
-use Rattle.clap.specs.Words.{is_simple_and_free, new_app, new_rule, read_as, subcommand_of, with_subcommand}
+use Rattle.clap.specs.Words.{Kinds, Rule, Shape, Text}
 use Rattle.clap.specs.Kinds.{or_else}
-use Rattle.clap.specs.Simple.{argument_words, entered, label_of, names_of, rows_at}
-use Rattle.clap.specs.Takes.{is_given}
-use Rattle.clap.specs.ValueTests.{accepts}
-use Rattle.clap.specs.Values.{IsUnsignedIn}
-use Rattle.clap.specs.Faults.{entered_fault, level_fault, other_fault, step_fault, turn_fault, values_fault}
+use Rattle.clap.specs.Faults.{other_fault, step_fault, turn_fault}
 use Rattle.clap.specs.Faults.{walk_fault, word_fault}
-use Rattle.clap.specs.declared.builder.value_parser.ValueParser.TheVariants.{Unsigned}
-use Rattle.clap.specs.declared.error.ErrorKind.{ErrorKind}
-use Rattle.clap.specs.declared.error.ErrorKind.TheVariants.{DisplayHelp, InvalidSubcommand, MissingRequiredArgument}
-use Rattle.clap.specs.Walk.{Held, Names, Outcome, Step, Waiting, Walk, after_flag, after_step, answers_to, arg_by_id}
-use Rattle.clap.specs.Walk.{arg_by_index, arg_by_long, bundle, long_met, long_or_other, nothing_held, plain_word}
-use Rattle.clap.specs.Walk.{row_text, short_or_plain, subcommand_met, subcommand_or_other, to_positional, walk}
-use Rattle.clap.specs.Walk.{walk_from, walked, walked_from, word_met, done, waits, plain, refused, idle, option}
+use Rattle.clap.specs.declared.error.ErrorKind.TheVariants.{DisplayHelp, InvalidSubcommand}
+use Rattle.clap.specs.Walk.{Held, Names, Outcome, Step, Waiting, Walk, after_flag, after_step}
+use Rattle.clap.specs.Walk.{arg_by_index, arg_by_long, bundle, long_met, long_or_other, plain_word}
+use Rattle.clap.specs.Walk.{short_or_plain, subcommand_met, subcommand_or_other, to_positional}
+use Rattle.clap.specs.Walk.{walked, walked_from, word_met, done, waits, plain, refused, idle, option}
 use Rattle.clap.specs.Walk.{positional, next, trailing, subcommand, value}
-use Rattle.clap.proofs.OnLiterals.{clap_on_literals}
-use Rattle.clap.proofs.ValueTestLemmas.{accepts-Accepts}
-use Rattle.clap.specs.declared.builder.value_parser.Reading.TheVariants.{AsWritten}
-use Rattle.clap.specs.Walk.{reading_by}
-use Rattle.command_words.specs.Words.{HasDrive, HasJob, HasNumber, HasShape, HasTexts, HasThreads, IsNumberWithin}
-use Rattle.command_words.specs.Words.{MayHaveNumber, Writes, drive_command, explain_command, faults_of, program}
-use Rattle.command_words.specs.Words.{tables_command, texts_command, threads_command, topology_command}
-use Rattle.command_words.proofs.PathRows.{AllFit, AreTaken, IsTaken, TakesWords, checked, given_row, or_else-nil}
-use Rattle.command_words.proofs.PathRows.{row_taken, rows_taken}
+use Rattle.command_words.proofs.PathRows.{or_else-nil}
 
 -- where the walk stopped it wasn't at `help`
 abbrev pub IsNoHelp : Option (Text × List Text) → Type 0

@@ -26,7 +26,8 @@ pub use driven::{Drive, drive_text};
 pub use explained::{Explanation, explain};
 pub use laws::{
     booted_invariants_hold, driven_runs_are_verified, kept_histories_are_runs, one_driven_run,
-    one_verification, recordings_are_verified, threads_are_verified, threads_keep_a_run, verified_reports_are_true,
+    one_verification, recordings_are_verified, threads_are_verified, threads_keep_a_run,
+    verified_reports_are_true,
 };
 pub use pictured::picture_text;
 pub use script_replay::{

@@ -1,5 +1,5 @@
 -- What a recording leaves to its two writers, and that there is one, whose output is that of a replay.
-use Rattle.std.proofs.Common.{◌≡◌, ◌≢◌, ◌∙◌, ℕ, List, [], Option, Result, Ok, Err, IfErr, arith, ap, refl, sym, subst, subst₂}
+use Rattle.std.proofs.Common.{◌≡◌, ◌∙◌, ℕ, List, [], Option, Result, Ok, Err, IfErr, arith, ap, refl, sym, subst, subst₂}
 use Rattle.std.proofs.Common.{inl, inr}
 use Rattle.std.specs.Prelude.{IsErrAnd}
 use Rattle.std.specs.Io.KnownBytes.{Appends, Keeps}
@@ -15,7 +15,6 @@ use Rattle.reset_model.proofs.OneBoot.{one_boot}
 use Rattle.history.specs.HistoryText.{history_text}
 use Rattle.script_replay.specs.Meaning.{Meaning, idle_meaning, token_meaning, mutex_meaning, routes_meaning}
 use Rattle.script_replay.specs.Output.{Describes, IsJudged, IsOutput, IsReplay, IsReplayOf, Leaves, bad_topology_text}
-use Rattle.script_replay.specs.Output.{script_output}
 use Rattle.script_replay.specs.Output.IsJudged.{bad_topology, good_topology}
 use Rattle.script_replay.specs.Output.IsReplay.{replayed}
 use Rattle.script_replay.specs.Recorded.{IsHistory, IsRecord, IsRecordFrom, IsRecordOf, IsRecorded, LeavesRecord}

@@ -1,7 +1,7 @@
-use Rattle.std.proofs.Common.{◌≡◌, ◌∙◌, ap, ap₂, codes}
+use Rattle.std.proofs.Common.{◌≡◌, ◌∙◌, ap, ap₂}
 use Rattle.std.proofs.lemmas.Result.{IfOk-weaker}
 use Rattle.clap.specs.Words.{App, app_of, with_subcommand}
-use Rattle.command_words.specs.Words.{drive_command, record_command, texts_program, threads_command}
+use Rattle.command_words.specs.Words.{record_command, texts_program, threads_command}
 use Rattle.command_words.proofs.commands.histories_line.Goals as goal
 
 pub returns : goal.returns
