@@ -1,6 +1,6 @@
 //! The program of the distributed reset service: it replays a script of reset events on the booted
-//! configuration of a topology and writes an answer to each, records it as a history, runs a thread for each node, drives a network by a seeded
-//! scheduler, and verifies and draws histories. Here stand the files and the streams that it opens and its exit status;
+//! configuration of a topology and writes an answer to each, records what it did as a history, runs a thread for each
+//! node, drives a network by a seeded scheduler, and verifies and draws histories. Here stand the files and the streams that it opens and its exit status;
 //! all else is the library `reset_service`.
 #![tactic(auto)]
 
