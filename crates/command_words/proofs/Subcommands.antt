@@ -29,7 +29,8 @@ use Rattle.clap.specs.declared.builder.value_parser.Reading.TheVariants.{AsWritt
 use Rattle.clap.specs.Walk.{reading_by}
 use Rattle.command_words.specs.Words.{HasDrive, HasJob, HasNumber, HasRecord, HasShape, HasTexts, HasThreads}
 use Rattle.command_words.specs.Words.{IsNumberWithin, MayHaveNumber, drive_command, explain_command, faults_of}
-use Rattle.command_words.specs.Words.{program, record_command, tables_command, texts_command, threads_command, topology_command}
+use Rattle.command_words.specs.Words.{program, record_command, tables_command, texts_command, threads_command}
+use Rattle.command_words.specs.Words.{topology_command}
 use Rattle.command_words.proofs.NoHelp.{IsNoHelp, walk-stop}
 use Rattle.command_words.proofs.PathRows.{AllFit, AreTaken, IsTaken, TakesWords, checked, given_row, or_else-nil}
 use Rattle.command_words.proofs.PathRows.{row_taken, rows_taken}

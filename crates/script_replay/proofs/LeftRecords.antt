@@ -1,6 +1,6 @@
 -- What a recording leaves to its two writers, and that there is one, whose output is that of a replay.
-use Rattle.std.proofs.Common.{◌≡◌, ◌∙◌, ℕ, List, [], Option, Result, Ok, Err, IfErr, arith, ap, refl, sym, subst, subst₂}
-use Rattle.std.proofs.Common.{inl, inr}
+use Rattle.std.proofs.Common.{◌≡◌, ◌∙◌, ℕ, List, [], Option, Result, Ok, Err, IfErr, arith, ap, inl, inr, refl, sym}
+use Rattle.std.proofs.Common.{subst, subst₂}
 use Rattle.std.specs.Prelude.{IsErrAnd}
 use Rattle.std.specs.Io.KnownBytes.{Appends, Keeps}
 use Rattle.std.proofs.KnownBytes.{Appends-kept, Appends-nil, Keeps-refl}
@@ -149,8 +149,10 @@ AreOne h k o p = (h ≡ k) × (o ≡ p)
 one_history : {L : Type 0} (m : Meaning L) (c : Configuration L) (script h k : List ℕ) → IsHistory m c script h
     → IsHistory m c script k → h ≡ k
 one_history m c script h k (too_long long is) (too_long long' is') = is ∙ sym is'
-one_history m c script h k (too_long long is) (kept es short are allowed read text) = absurd (omega (arith, long, short))
-one_history m c script h k (kept es short are allowed read text) (too_long long is) = absurd (omega (arith, long, short))
+one_history m c script h k (too_long long is) (kept es short are allowed read text) =
+    absurd (omega (arith, long, short))
+one_history m c script h k (kept es short are allowed read text) (too_long long is) =
+    absurd (omega (arith, long, short))
 one_history m c script h k (kept es short are allowed read text) (kept ds short' are' allowed' read' text') =
     text ∙ ap history_text (are ∙ sym are') ∙ sym text'
 

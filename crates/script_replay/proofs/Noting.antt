@@ -235,7 +235,8 @@ module _ {L : Type 0} (m : Meaning L) where
     pub noted_good : status ≡ Good → all ≡ new.entries ++ entries_of_lines m new.config (n + 1) later
     noted_good good =
         all_are
-        ∙ ap (λ s. new.entries ++ if_good s (entries_of_lines m after.config (n + 1) later) []) (sym (noted.good n) ∙ good)
+        ∙ ap (λ s. new.entries ++ if_good s (entries_of_lines m after.config (n + 1) later) [])
+        (sym (noted.good n) ∙ good)
         ∙ ap (λ c. new.entries ++ entries_of_lines m c (n + 1) later)
         (sym (ap (λ (b : BookView L). b.config) (noted.book n)))
 

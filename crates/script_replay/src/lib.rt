@@ -23,5 +23,6 @@ pub use laws::{
     one_joined_output, one_output, one_record, recordings_are_replays, stretches_are_runs,
 };
 pub use recorded::record_text;
+pub use recording::text_of;
 pub use replays::{check_text, refuse_topology, replay, replay_joined, replay_text};
 pub use status::{RunStop, Status};

@@ -44,8 +44,8 @@ pub fn history_of<P: Application>(
     text_of(alloc, &book)
 }
 
-// The text of a book's history.
-fn text_of<P: Application>(alloc: Global, book: &Book<P>) -> Result<Vec<u8>, AllocError>
+/// The text of a book's history, which is read as its entries.
+pub fn text_of<P: Application>(alloc: Global, book: &Book<P>) -> Result<Vec<u8>, AllocError>
     ensures text { IfOk result (λ text. text.items ≡ history_text book.now.entries) }
     ensures read { IfOk result (λ text. IsReadAs text.items (Ok book.now.entries)) }
 {
