@@ -1,5 +1,5 @@
 -- A verification takes the history of a script.
-use Rattle.std.proofs.Common.{◌≡◌, ◌≤◌, ℕ, List, Ok, arith, length, refl}
+use Rattle.std.proofs.Common.{◌≤◌, ℕ, List, arith, length, refl}
 use Rattle.topology.specs.Graph.{Graph}
 use Rattle.topology.specs.declared.text.AppName.{AppName}
 use Rattle.topology.specs.declared.text.AppName.TheVariants.{Idle, Token, Mutex, Routes}
