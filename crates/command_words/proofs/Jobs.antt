@@ -1,5 +1,5 @@
 -- The job of a subcommand that clap met, and the fault that stands for clap's error.
-use Rattle.std.proofs.Common.{◌≡◌, ◌∙◌, ◌≤◌, ◌<◌, ◌^◌, ℕ, refl, sym, subst, ap, arith, codes, List, Option, Some, None}
+use Rattle.std.proofs.Common.{◌≡◌, ◌∙◌, ◌<◌, ◌^◌, ℕ, refl, sym, subst, ap, arith, List, Option, Some, None}
 use Rattle.std.proofs.Common.{Result, Ok, Err, inl, inr}
 use Rattle.std.specs.Borrow.{Bor}
 use Rattle.std.specs.Prelude.{IfErr, IsErrAnd, IsSome, IsSomeAnd, option_map, unwrap_or}

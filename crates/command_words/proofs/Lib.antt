@@ -1,3 +1,4 @@
 pub mod Jobs
 pub mod PathRows
+pub mod NoHelp
 pub mod Subcommands

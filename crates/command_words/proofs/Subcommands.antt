@@ -1,142 +1,39 @@
 -- The subcommand of words in which clap finds no fault is one of the program's own, with its values.
-use Rattle.std.proofs.Common.{◌≡◌, ◌∙◌, ◌≤◌, ◌<◌, ◌&&◌, ◌||◌, not, ℕ, Bool, cond, true, false, refl, sym, ap, subst}
-use Rattle.std.proofs.Common.{arith, List, [], ◌∷◌, codes, drop, length, Option, Some, None, inl, inr, true≢false}
-use Rattle.std.proofs.Common.{◌==◌}
-use Rattle.std.specs.List.{fold, slice_index_or}
+use Rattle.std.proofs.Common.{◌≡◌, ◌∙◌, ◌<◌, ◌||◌, not, ℕ, Bool, cond, true, false, refl, sym, ap, subst}
+use Rattle.std.proofs.Common.{arith, List, [], ◌∷◌, codes, length, Option, Some, None, inl, inr, true≢false}
+use Rattle.std.specs.List.{slice_index_or}
 use Rattle.std.specs.Option.{option_map_or}
 use Rattle.std.specs.Str.{bytes_eq}
 use Rattle.std.specs.Str.Parse.{digits_value, without_leading_plus}
-use Rattle.std.specs.Prelude.{⊤, ◌⊎◌, IfSome, IsSome, IsSomeAnd, find, is_some, option_and_then, option_map}
-use Rattle.std.specs.Prelude.{pos, slice_get, unwrap_or}
+use Rattle.std.specs.Prelude.{◌⊎◌, IfSome, IsSome, find, option_and_then, option_map}
+use Rattle.std.specs.Prelude.{slice_get}
 use Rattle.std.proofs.lemmas.Slice.Eq.{bytes_eq-Decides}
-use Rattle.clap.specs.Lexer.{long_of, short_of}
 use Rattle.clap.specs.Words.{App, Kinds, Row, Rule, Shape, Text, built, fault_of, first_of, is_simple}
 use Rattle.clap.specs.Words.{is_simple_and_free, new_app, new_rule, read_as, subcommand_of, with_subcommand}
-use Rattle.clap.specs.Kinds.{or_else}
 use Rattle.clap.specs.Simple.{argument_words, entered, label_of, names_of, rows_at}
 use Rattle.clap.specs.Takes.{is_given}
 use Rattle.clap.specs.ValueTests.{accepts}
 use Rattle.clap.specs.Values.{IsUnsignedIn}
-use Rattle.clap.specs.Faults.{entered_fault, level_fault, other_fault, step_fault, turn_fault, values_fault}
-use Rattle.clap.specs.Faults.{walk_fault, word_fault}
+use Rattle.clap.specs.Faults.{entered_fault, level_fault, values_fault}
+use Rattle.clap.specs.Faults.{walk_fault}
 use Rattle.clap.specs.declared.builder.value_parser.ValueParser.TheVariants.{Unsigned}
 use Rattle.clap.specs.declared.error.ErrorKind.{ErrorKind}
-use Rattle.clap.specs.declared.error.ErrorKind.TheVariants.{DisplayHelp, InvalidSubcommand, MissingRequiredArgument}
-use Rattle.clap.specs.Walk.{Held, Names, Outcome, Step, Waiting, Walk, after_flag, after_step, answers_to, arg_by_id}
-use Rattle.clap.specs.Walk.{arg_by_index, arg_by_long, bundle, long_met, long_or_other, nothing_held, plain_word}
-use Rattle.clap.specs.Walk.{row_text, short_or_plain, subcommand_met, subcommand_or_other, to_positional, walk}
-use Rattle.clap.specs.Walk.{walk_from, walked, walked_from, word_met, done, waits, plain, refused, idle, option}
-use Rattle.clap.specs.Walk.{positional, next, trailing, subcommand, value}
+use Rattle.clap.specs.declared.error.ErrorKind.TheVariants.{MissingRequiredArgument}
+use Rattle.clap.specs.Walk.{answers_to, arg_by_id}
+use Rattle.clap.specs.Walk.{nothing_held}
+use Rattle.clap.specs.Walk.{row_text, walk}
+use Rattle.clap.specs.Walk.{walk_from}
 use Rattle.clap.proofs.OnLiterals.{clap_on_literals}
 use Rattle.clap.proofs.ValueTestLemmas.{accepts-Accepts}
 use Rattle.clap.specs.declared.builder.value_parser.Reading.TheVariants.{AsWritten}
 use Rattle.clap.specs.Walk.{reading_by}
-use Rattle.command_words.specs.Words.{HasDrive, HasJob, HasNumber, HasShape, HasTexts, HasThreads, IsNumberWithin}
-use Rattle.command_words.specs.Words.{MayHaveNumber, Writes, drive_command, explain_command, faults_of, program}
-use Rattle.command_words.specs.Words.{tables_command, texts_command, threads_command, topology_command}
+use Rattle.command_words.specs.Words.{HasDrive, HasJob, HasNumber, HasRecord, HasShape, HasTexts, HasThreads}
+use Rattle.command_words.specs.Words.{IsNumberWithin, MayHaveNumber, drive_command, explain_command, faults_of}
+use Rattle.command_words.specs.Words.{program, record_command, tables_command, texts_command, threads_command}
+use Rattle.command_words.specs.Words.{topology_command}
+use Rattle.command_words.proofs.NoHelp.{IsNoHelp, walk-stop}
 use Rattle.command_words.proofs.PathRows.{AllFit, AreTaken, IsTaken, TakesWords, checked, given_row, or_else-nil}
 use Rattle.command_words.proofs.PathRows.{row_taken, rows_taken}
-
--- ---- the walk meets no `help`
-
--- where the walk stopped it wasn't at `help`
-abbrev IsNoHelp : Option (Text × List Text) → Type 0
-IsNoHelp None = ⊤
-IsNoHelp (Some p) = bytes_eq p.0 (codes "help") ≡ false
-
-abbrev StepsToNoHelp : Step → Type 0
-StepsToNoHelp (subcommand name) = bytes_eq name (codes "help") ≡ false
-StepsToNoHelp (next waiting) = ⊤
-StepsToNoHelp (trailing position) = ⊤
-StepsToNoHelp value = ⊤
-
-plain_word-step : (c : List Rule) (waiting : Waiting) (word : Text) (h : Held)
-    → StepsToNoHelp (plain_word c waiting word h).1
-plain_word-step c idle word h = tt
-plain_word-step c (option id) word h = tt
-plain_word-step c positional word h = tt
-
-after_flag-step : (c : List Rule) (waiting : Waiting) (word : Text) (h : Held) (o : Outcome)
-    → StepsToNoHelp (after_flag c waiting word h o).1
-after_flag-step c waiting word h done = tt
-after_flag-step c waiting word h (waits id) = tt
-after_flag-step c waiting word h plain = plain_word-step c waiting word h
-after_flag-step c waiting word h refused = plain_word-step c waiting word h
-
-short_or_plain-step : (c : List Rule) (waiting : Waiting) (word : Text) (o : Option Text) (h : Held)
-    → StepsToNoHelp (short_or_plain c waiting word o h).1
-short_or_plain-step c waiting word None h = plain_word-step c waiting word h
-short_or_plain-step c waiting word (Some flags) h =
-    after_flag-step c waiting word (bundle c flags h).0 (bundle c flags h).1
-
-long_or_other-step : (c : List Rule) (waiting : Waiting) (word : Text) (o : Option (Text × Option Text)) (h : Held)
-    → StepsToNoHelp (long_or_other c waiting word o h).1
-long_or_other-step c waiting word None h = short_or_plain-step c waiting word (short_of word) h
-long_or_other-step c waiting word (Some p) h =
-    after_flag-step c waiting word (long_met c (arg_by_long c p.0) p.1 h).0 (long_met c (arg_by_long c p.0) p.1 h).1
-
--- the fault of a turn that goes on
-abbrev plain_fault : Shape → Names → Walk → Text → Kinds
-plain_fault s names w word =
-    let met = word_met s.rules names w.is_trailing w.waiting w.position word w.held in
-    or_else (word_fault s names w.is_trailing w.waiting word w.held) (step_fault s w.position met.0 met.1)
-
-module _ (s : Shape) (has_help : s.disable_help_subcommand ≡ false) where
-  subcommand_or_other-step : (o : Option Text) (waiting : Waiting) (position : ℕ) (word : Text) (h : Held)
-      → other_fault s o word h ≡ []
-      → StepsToNoHelp (subcommand_or_other s.rules o waiting position word h).1
-  subcommand_or_other-step (Some name) waiting position word h e = go (bytes_eq name (codes "help")) (rw has_help at e)
-    where
-      go : (b : Bool) → cond (b && true) (DisplayHelp ∷ InvalidSubcommand ∷ []) [] ≡ [] → b ≡ false
-      go true e = absurd (cc)
-      go false e = refl
-  subcommand_or_other-step None waiting position word h e = go (bytes_eq word (45 ∷ 45 ∷ []))
-    where
-      go : (b : Bool)
-          → StepsToNoHelp (cond b (h, trailing position) (long_or_other s.rules waiting word (long_of word) h)).1
-      go true = tt
-      go false = long_or_other-step s.rules waiting word (long_of word) h
-
-  word_met-step : (names : Names) (is_trailing : Bool) (waiting : Waiting) (position : ℕ) (word : Text) (h : Held)
-      → word_fault s names is_trailing waiting word h ≡ []
-      → StepsToNoHelp (word_met s.rules names is_trailing waiting position word h).1
-  word_met-step names true waiting position word h e = tt
-  word_met-step names false waiting position word h e =
-      subcommand_or_other-step (subcommand_met names waiting word) waiting position word h e
-
-  to_positional-stop : (found : Option Rule) (word : Text) (w : Walk) (h : Held) → IsNoHelp w.stopped
-      → IsNoHelp (to_positional s.rules found word w h).stopped
-  to_positional-stop None word w h n = n
-  to_positional-stop (Some a) word w h n = tt
-
-  after_step-stop : (word : Text) (w : Walk) (h : Held) (step : Step) → StepsToNoHelp step → IsNoHelp w.stopped
-      → IsNoHelp (after_step s.rules word w h step).stopped
-  after_step-stop word w h (next waiting) ok n = n
-  after_step-stop word w h (trailing position) ok n = n
-  after_step-stop word w h (subcommand name) ok n = ok
-  after_step-stop word w h value ok n = to_positional-stop (arg_by_index s.rules w.position) word w h n
-
-  walked_from-stop : (names : Names) (stop : Option (Text × List Text)) (w : Walk) (word : Text)
-      → cond (is_some stop) [] (plain_fault s names w word) ≡ []
-      → IsNoHelp stop → IsNoHelp w.stopped → IsNoHelp (walked_from s.rules names stop w word).stopped
-  walked_from-stop names (Some p) w word e m n = m
-  walked_from-stop names None w word e m n =
-      let met = word_met s.rules names w.is_trailing w.waiting w.position word w.held in
-      after_step-stop word w met.0 met.1
-      (word_met-step names w.is_trailing w.waiting w.position word w.held (or_else-nil _ _ e).0) n
-
-  walked-stop : (names : Names) (w : Walk) (word : Text) → turn_fault s names w word ≡ [] → IsNoHelp w.stopped
-      → IsNoHelp (walked s.rules names w word).stopped
-  unfolding walked
-  walked-stop names w word e n = walked_from-stop names w.stopped w word e n n
-
-  walk-stop : (names : Names) (w : Walk) (words : List Text) → walk_fault s names w words ≡ [] → IsNoHelp w.stopped
-      → IsNoHelp (fold (walked s.rules names) w words).stopped
-  unfolding walk_fault
-  walk-stop names w [] e n = n
-  walk-stop names w (word ∷ words) e n =
-      let parts = or_else-nil (turn_fault s names w word) (walk_fault s names (walked s.rules names w word) words) e in
-      walk-stop names (walked s.rules names w word) words parts.1 (walked-stop names w word parts.0 n)
 
 -- ---- the program
 
@@ -158,23 +55,26 @@ the_verify = the_texts (codes "verify") (codes "HISTORY")
 abbrev the_picture : Shape
 the_picture = the_texts (codes "picture") (codes "HISTORY")
 
+abbrev the_record : Shape
+the_record = slice_index_or (built program).subs 4 record_command.top
+
 abbrev the_threads : Shape
-the_threads = slice_index_or (built program).subs 4 threads_command.top
+the_threads = slice_index_or (built program).subs 5 threads_command.top
 
 abbrev the_drive : Shape
-the_drive = slice_index_or (built program).subs 5 drive_command.top
+the_drive = slice_index_or (built program).subs 6 drive_command.top
 
 abbrev the_topology : Shape
-the_topology = slice_index_or (built program).subs 6 topology_command.top
+the_topology = slice_index_or (built program).subs 7 topology_command.top
 
 abbrev the_explain : Shape
-the_explain = slice_index_or (built program).subs 7 explain_command.top
+the_explain = slice_index_or (built program).subs 8 explain_command.top
 
 abbrev the_tables : Shape
-the_tables = slice_index_or (built program).subs 8 tables_command.top
+the_tables = slice_index_or (built program).subs 9 tables_command.top
 
 abbrev the_help : Shape
-the_help = slice_index_or (built program).subs 9 tables_command.top
+the_help = slice_index_or (built program).subs 10 tables_command.top
 
 -- the rows of the words after the subcommand
 abbrev rows_of_words : Shape → List Text → List Row
@@ -326,10 +226,42 @@ number_or_none least most c id a rows numbers is taken =
     go (Some r) some =
         inr (row_has_number least most a numbers r (subst (λ (x : Option Rule). IsTaken x r) is some))
 
+-- ---- the subcommand `record`
+
+record_fit : AllFit the_record.rules the_record.rules
+unfolding program record_command threads_command drive_command topology_command explain_command texts_command
+    tables_command
+record_fit = (
+  (refl, inl (refl, refl, refl)),
+  (
+    (refl, inl (refl, refl, refl)),
+    ((refl, inl (refl, refl, refl)), ((refl, inr refl), tt)),
+  ),
+)
+
+-- where clap finds no fault in the words, they have a value for each argument
+has_record : (words : List Text) → TakesWords the_record words → HasRecord (rows_of_words the_record words)
+unfolding program record_command threads_command drive_command topology_command explain_command texts_command
+    tables_command
+has_record words e =
+    let c = the_record.rules in
+    let rows = rows_of_words the_record words in
+    let given =
+    three_given (is_given (codes "TOPOLOGY") rows) (is_given (codes "SCRIPT") rows) (is_given (codes "history") rows)
+    MissingRequiredArgument (checked the_record words e) in
+    let taken = rows_taken the_record record_fit words e in (
+      (
+        text_found c (codes "TOPOLOGY") _ rows refl taken given.0,
+        text_found c (codes "SCRIPT") _ rows refl taken given.1,
+      ),
+      text_found c (codes "history") _ rows refl taken given.2,
+    )
+
 -- ---- the subcommand `threads`
 
 threads_fit : AllFit the_threads.rules the_threads.rules
-unfolding program threads_command drive_command topology_command explain_command texts_command tables_command
+unfolding program record_command threads_command drive_command topology_command explain_command texts_command
+    tables_command
 threads_fit = (
   (refl, inl (refl, refl, refl)),
   (
@@ -342,7 +274,8 @@ abbrev the_turns : Rule
 the_turns = slice_index_or the_threads.rules 1 (new_rule [])
 
 turns_are_numbers : IsOfNumbers 1 100000 the_turns
-unfolding program threads_command drive_command topology_command explain_command texts_command tables_command
+unfolding program record_command threads_command drive_command topology_command explain_command texts_command
+    tables_command
 turns_are_numbers = record {
   passes =
       λ v vs e. is_accepted (accepts false (Unsigned 1 100000) v) _
@@ -350,9 +283,9 @@ turns_are_numbers = record {
   reading = refl;
 }
 
--- where clap finds no fault in the words, they have a value for each argument
 has_threads : (words : List Text) → TakesWords the_threads words → HasThreads (rows_of_words the_threads words)
-unfolding program threads_command drive_command topology_command explain_command texts_command tables_command
+unfolding program record_command threads_command drive_command topology_command explain_command texts_command
+    tables_command
 has_threads words e =
     let c = the_threads.rules in
     let rows = rows_of_words the_threads words in
@@ -370,7 +303,8 @@ has_threads words e =
 -- ---- the subcommand `drive`
 
 drive_fit : AllFit the_drive.rules the_drive.rules
-unfolding program threads_command drive_command topology_command explain_command texts_command tables_command
+unfolding program record_command threads_command drive_command topology_command explain_command texts_command
+    tables_command
 drive_fit = (
   (refl, inl (refl, refl, refl)),
   (
@@ -395,7 +329,8 @@ abbrev the_faults : Rule
 the_faults = slice_index_or the_drive.rules 4 (new_rule [])
 
 steps_are_numbers : IsOfNumbers 1 1000000 the_steps
-unfolding program threads_command drive_command topology_command explain_command texts_command tables_command
+unfolding program record_command threads_command drive_command topology_command explain_command texts_command
+    tables_command
 steps_are_numbers = record {
   passes =
       λ v vs e. is_accepted (accepts false (Unsigned 1 1000000) v) _
@@ -404,7 +339,8 @@ steps_are_numbers = record {
 }
 
 drive_seeds_are_numbers : IsOfNumbers 0 4294967295 the_drive_seed
-unfolding program threads_command drive_command topology_command explain_command texts_command tables_command
+unfolding program record_command threads_command drive_command topology_command explain_command texts_command
+    tables_command
 drive_seeds_are_numbers = record {
   passes =
       λ v vs e. is_accepted (accepts false (Unsigned 0 4294967295) v) _
@@ -413,7 +349,8 @@ drive_seeds_are_numbers = record {
 }
 
 faults_are_numbers : IsOfNumbers 0 1000 the_faults
-unfolding program threads_command drive_command topology_command explain_command texts_command tables_command
+unfolding program record_command threads_command drive_command topology_command explain_command texts_command
+    tables_command
 faults_are_numbers = record {
   passes =
       λ v vs e. is_accepted (accepts false (Unsigned 0 1000) v) _
@@ -422,7 +359,8 @@ faults_are_numbers = record {
 }
 
 has_drive : (words : List Text) → TakesWords the_drive words → HasDrive (rows_of_words the_drive words)
-unfolding program threads_command drive_command topology_command explain_command texts_command tables_command
+unfolding program record_command threads_command drive_command topology_command explain_command texts_command
+    tables_command
 has_drive words e =
     let c = the_drive.rules in
     let rows = rows_of_words the_drive words in
@@ -442,7 +380,8 @@ has_drive words e =
 -- ---- the subcommand `topology`
 
 topology_fit : AllFit the_topology.rules the_topology.rules
-unfolding program threads_command drive_command topology_command explain_command texts_command tables_command
+unfolding program record_command threads_command drive_command topology_command explain_command texts_command
+    tables_command
 topology_fit = (
   (refl, inl (refl, refl, refl)),
   (
@@ -461,7 +400,8 @@ abbrev the_shape_seed : Rule
 the_shape_seed = slice_index_or the_topology.rules 2 (new_rule [])
 
 nodes_are_numbers : IsOfNumbers 1 1024 the_nodes
-unfolding program threads_command drive_command topology_command explain_command texts_command tables_command
+unfolding program record_command threads_command drive_command topology_command explain_command texts_command
+    tables_command
 nodes_are_numbers = record {
   passes =
       λ v vs e. is_accepted (accepts false (Unsigned 1 1024) v) _
@@ -470,7 +410,8 @@ nodes_are_numbers = record {
 }
 
 shape_seeds_are_numbers : IsOfNumbers 0 4294967295 the_shape_seed
-unfolding program threads_command drive_command topology_command explain_command texts_command tables_command
+unfolding program record_command threads_command drive_command topology_command explain_command texts_command
+    tables_command
 shape_seeds_are_numbers = record {
   passes =
       λ v vs e. is_accepted (accepts false (Unsigned 0 4294967295) v) _
@@ -479,7 +420,8 @@ shape_seeds_are_numbers = record {
 }
 
 has_shape : (words : List Text) → TakesWords the_topology words → HasShape (rows_of_words the_topology words)
-unfolding program threads_command drive_command topology_command explain_command texts_command tables_command
+unfolding program record_command threads_command drive_command topology_command explain_command texts_command
+    tables_command
 has_shape words e =
     let c = the_topology.rules in
     let rows = rows_of_words the_topology words in
@@ -495,12 +437,14 @@ has_shape words e =
 -- ---- the subcommand `explain`
 
 explain_fit : AllFit the_explain.rules the_explain.rules
-unfolding program threads_command drive_command topology_command explain_command texts_command tables_command
+unfolding program record_command threads_command drive_command topology_command explain_command texts_command
+    tables_command
 explain_fit = ((refl, inl (refl, refl, refl)), ((refl, inr refl), tt))
 
 has_word : (words : List Text) → TakesWords the_explain words
     → IsSome (first_of (codes "WORD") (rows_of_words the_explain words))
-unfolding program threads_command drive_command topology_command explain_command texts_command tables_command
+unfolding program record_command threads_command drive_command topology_command explain_command texts_command
+    tables_command
 has_word words e =
     let rows = rows_of_words the_explain words in
     text_found the_explain.rules (codes "WORD") _ rows refl (rows_taken the_explain explain_fit words e)
@@ -533,13 +477,15 @@ asks-met words false s below here there = there
 -- `help` isn't met, and where none is met, the words are the program's own
 no_help_met : (p : Text × List Text) → bytes_eq p.0 (codes "help") ≡ false → (h : Bool)
     → answers_to p.0 (label_of the_help) ≡ h → AsksJob p.1 (cond h (Some the_help) None)
-unfolding program threads_command drive_command topology_command explain_command texts_command tables_command
+unfolding program record_command threads_command drive_command topology_command explain_command texts_command
+    tables_command
 no_help_met p no_help true a = absurd (bytes_eq-swap p.0 (codes "help") no_help a)
 no_help_met p no_help false a = λ f. tt
 
 job_at : (stop : Option (Text × List Text)) → IsNoHelp stop → entered_fault (built program) stop ≡ []
     → HasJob (entered (built program) stop)
-unfolding program threads_command drive_command topology_command explain_command texts_command tables_command
+unfolding program record_command threads_command drive_command topology_command explain_command texts_command
+    tables_command
 job_at None no_help e = tt
 job_at (Some p) no_help e =
     asks-met p.1 (answers_to p.0 (label_of the_replay)) the_replay _
@@ -550,18 +496,23 @@ job_at (Some p) no_help e =
     (λ f. inr (inl (inl refl, has_histories (codes "verify") p.1 f)))
     (asks-met p.1 (answers_to p.0 (label_of the_picture)) the_picture _
     (λ f. inr (inl (inr refl, has_histories (codes "picture") p.1 f)))
-    (asks-met p.1 (answers_to p.0 (label_of the_threads)) the_threads _ (λ f. inr (inr (inl (refl, has_threads p.1 f))))
-    (asks-met p.1 (answers_to p.0 (label_of the_drive)) the_drive _ (λ f. inr (inr (inr (inl (refl, has_drive p.1 f)))))
+    (asks-met p.1 (answers_to p.0 (label_of the_record)) the_record _ (λ f. inr (inr (inl (refl, has_record p.1 f))))
+    (asks-met p.1 (answers_to p.0 (label_of the_threads)) the_threads _
+    (λ f. inr (inr (inr (inl (refl, has_threads p.1 f)))))
+    (asks-met p.1 (answers_to p.0 (label_of the_drive)) the_drive _
+    (λ f. inr (inr (inr (inr (inl (refl, has_drive p.1 f))))))
     (asks-met p.1 (answers_to p.0 (label_of the_topology)) the_topology _
-    (λ f. inr (inr (inr (inr (inl (refl, has_shape p.1 f))))))
+    (λ f. inr (inr (inr (inr (inr (inl (refl, has_shape p.1 f)))))))
     (asks-met p.1 (answers_to p.0 (label_of the_explain)) the_explain _
-    (λ f. inr (inr (inr (inr (inr (inl (refl, has_word p.1 f)))))))
-    (asks-met p.1 (answers_to p.0 (label_of the_tables)) the_tables _ (λ f. inr (inr (inr (inr (inr (inr refl))))))
-    (no_help_met p no_help (answers_to p.0 (label_of the_help)) refl))))))))) e
+    (λ f. inr (inr (inr (inr (inr (inr (inl (refl, has_word p.1 f))))))))
+    (asks-met p.1 (answers_to p.0 (label_of the_tables)) the_tables _
+    (λ f. inr (inr (inr (inr (inr (inr (inr refl)))))))
+    (no_help_met p no_help (answers_to p.0 (label_of the_help)) refl)))))))))) e
 
 -- words in which clap finds no fault ask for a job
 pub has_job : (words : List Text) → fault_of program words ≡ [] → HasJob (subcommand_of program words)
-unfolding program threads_command drive_command topology_command explain_command texts_command tables_command
+unfolding program record_command threads_command drive_command topology_command explain_command texts_command
+    tables_command
 has_job words e =
     let a : App = built program in
     let given : List Text = argument_words program words in
@@ -577,13 +528,13 @@ has_job words e =
 -- ---- the answer of clap for a command that is the program
 
 program_is_simple : is_simple program ≡ true
-unfolding program threads_command drive_command topology_command explain_command texts_command tables_command
-    clap_on_literals
+unfolding program record_command threads_command drive_command topology_command explain_command texts_command
+    tables_command clap_on_literals
 program_is_simple = refl
 
 program_is_free : is_simple_and_free program ≡ true
-unfolding program threads_command drive_command topology_command explain_command texts_command tables_command
-    clap_on_literals
+unfolding program record_command threads_command drive_command topology_command explain_command texts_command
+    tables_command clap_on_literals
 program_is_free = refl
 
 pub faults_are : (a : App) (words : List Text) (P : Kinds → Type 0) → a ≡ program

@@ -10,12 +10,13 @@ use Rattle.clap.specs.declared.builder.value_parser.ValueParser.TheVariants.{Uns
 use Rattle.clap.specs.declared.error.Error.{Error}
 use Rattle.clap.specs.declared.error.ErrorKind.TheVariants.{InvalidValue, OutOfMemory}
 use Rattle.command_words.specs.declared.words.Job.{Job}
-use Rattle.command_words.specs.declared.words.Job.TheVariants.{Joined, Replay, Check, Verify, Picture, Threads, Drive}
-use Rattle.command_words.specs.declared.words.Job.TheVariants.{Shape, Explain, Tables}
+use Rattle.command_words.specs.declared.words.Job.TheVariants.{Joined, Replay, Check, Verify, Picture, Record, Threads}
+use Rattle.command_words.specs.declared.words.Job.TheVariants.{Drive, Shape, Explain, Tables}
 use Rattle.command_words.specs.declared.words.LineFault.{LineFault}
 use Rattle.command_words.specs.declared.words.Paths.{Paths}
 use Rattle.command_words.specs.declared.words.LineFault.TheVariants.{BadWords, NoMemory}
 use Rattle.command_words.specs.declared.drive_words.DriveWords.{DriveWords}
+use Rattle.command_words.specs.declared.record_words.RecordWords.{RecordWords}
 use Rattle.command_words.specs.declared.shape_words.ShapeWords.{ShapeWords}
 use Rattle.command_words.specs.declared.thread_words.ThreadWords.{ThreadWords}
 
@@ -44,6 +45,13 @@ number_option name least most = within least most (file_option name)
 -- an option that may be left out
 abbrev pub optional : Rule → Rule
 optional rule = record rule { required = false }
+
+-- `record TOPOLOGY SCRIPT --history FILE`
+unfoldable pub record_command : App
+record_command =
+    with_rule
+    (with_rule (with_rule (new_app (codes "record")) (path (codes "TOPOLOGY"))) (path (codes "SCRIPT")))
+    (file_option (codes "history"))
 
 -- `threads TOPOLOGY --turns N --history FILE`
 unfoldable pub threads_command : App
@@ -91,13 +99,17 @@ texts_program =
     (texts_command (codes "check") (codes "SCRIPT")).top) (texts_command (codes "verify") (codes "HISTORY")).top)
     (texts_command (codes "picture") (codes "HISTORY")).top
 
--- the program with its nine subcommands
+-- with those that write a history
+abbrev pub histories_program : App
+histories_program =
+    with_subcommand
+    (with_subcommand (with_subcommand texts_program record_command.top) threads_command.top) drive_command.top
+
+-- the program with its ten subcommands
 unfoldable pub program : App
 program =
     with_subcommand
-    (with_subcommand
-    (with_subcommand (with_subcommand (with_subcommand texts_program threads_command.top) drive_command.top)
-    topology_command.top) explain_command.top) tables_command.top
+    (with_subcommand (with_subcommand histories_program topology_command.top) explain_command.top) tables_command.top
 
 -- ---- what words ask for
 
@@ -129,6 +141,13 @@ IsNumberWithin least most text number = IsSomeAnd text (Writes number) × (least
 abbrev pub IsNumberOr : ℕ → ℕ → ℕ → Option Text → ℕ → Type 0
 IsNumberOr other least most None number = number ≡ other
 IsNumberOr other least most (Some text) number = IsNumberWithin least most (Some text) number
+
+-- it is the subcommand `record` with these values
+abbrev pub HasRecordWords : Found → RecordWords → Type 0
+HasRecordWords found words = (name_in found ≡ Some (codes "record"))
+    × (value_in found (codes "TOPOLOGY") ≡ Some words.topology.now)
+    × (value_in found (codes "SCRIPT") ≡ Some words.script.now)
+    × (value_in found (codes "history") ≡ Some words.history.now)
 
 -- it is the subcommand `threads` with these values, and the turns are from 1 to 100,000
 abbrev pub HasThreadWords : Found → ThreadWords → Type 0
@@ -166,6 +185,7 @@ AskedBy found (Replay paths) = HasPaths found (codes "replay") (codes "SCRIPT") 
 AskedBy found (Check paths) = HasPaths found (codes "check") (codes "SCRIPT") paths
 AskedBy found (Verify paths) = HasPaths found (codes "verify") (codes "HISTORY") paths
 AskedBy found (Picture paths) = HasPaths found (codes "picture") (codes "HISTORY") paths
+AskedBy found (Record words) = HasRecordWords found words
 AskedBy found (Threads words) = HasThreadWords found words
 AskedBy found (Drive words) = HasDriveWords found words
 AskedBy found (Shape words) = HasShapeWords found words
@@ -206,6 +226,10 @@ abbrev pub MayHaveNumber : Text → ℕ → ℕ → List Row → Type 0
 MayHaveNumber name least most rows =
     ((first_of name rows ≡ None) × (one_of name rows ≡ None)) ⊎ HasNumber name least most rows
 
+-- what `record` needs was found
+abbrev pub HasRecord : List Row → Type 0
+HasRecord rows = HasTexts (codes "SCRIPT") rows × IsSome (first_of (codes "history") rows)
+
 -- what `threads` needs was found
 abbrev pub HasThreads : List Row → Type 0
 HasThreads rows = HasTexts (codes "history") rows × HasNumber (codes "turns") 1 100000 rows
@@ -233,10 +257,11 @@ abbrev pub HasJob : Found → Type 0
 HasJob None = ⊤
 HasJob (Some s) = (IsOfScript s.0 × HasTexts (codes "SCRIPT") s.1)
     ⊎ ((IsOfHistory s.0 × HasTexts (codes "HISTORY") s.1)
+    ⊎ (((s.0 ≡ codes "record") × HasRecord s.1)
     ⊎ (((s.0 ≡ codes "threads") × HasThreads s.1)
     ⊎ (((s.0 ≡ codes "drive") × HasDrive s.1)
     ⊎ (((s.0 ≡ codes "topology") × HasShape s.1)
-    ⊎ (((s.0 ≡ codes "explain") × IsSome (first_of (codes "WORD") s.1)) ⊎ (s.0 ≡ codes "tables"))))))
+    ⊎ (((s.0 ≡ codes "explain") × IsSome (first_of (codes "WORD") s.1)) ⊎ (s.0 ≡ codes "tables")))))))
 
 -- clap's error as a fault
 abbrev pub StandsFor : Error → LineFault → Type 0

@@ -3,9 +3,9 @@
 ghost use Rattle.std.specs.Prelude.{◌≡◌, IfOk, codes, false};
 ghost use Rattle.clap.specs.Words.{app_of, rule_of};
 ghost use Rattle.clap.specs.declared.builder.command.Command.TheViews.{out-Command as fields_of};
-ghost use Rattle.command_words.specs.Words.{drive_command, explain_command, file_option, number_option, optional};
-ghost use Rattle.command_words.specs.Words.{path, program, tables_command, texts_command, texts_program};
-ghost use Rattle.command_words.specs.Words.{threads_command, topology_command, within};
+ghost use Rattle.command_words.specs.Words.{drive_command, explain_command, file_option, histories_program};
+ghost use Rattle.command_words.specs.Words.{number_option, optional, path, program, record_command, tables_command};
+ghost use Rattle.command_words.specs.Words.{texts_command, texts_program, threads_command, topology_command, within};
 
 use clap::{Arg, Command, value_parser};
 use std::alloc::{AllocError, Global};
@@ -132,6 +132,23 @@ questions and no draws, and each line, the last one too, ends with a line feed.
 Example:
   reset-service verify examples/verified-wave/topology.toml examples/verified-wave/history",
 };
+
+const RECORD_ABOUT: &str = "Runs a script as `replay` does, and writes what happened as a history";
+
+const RECORD_LONG_ABOUT: &str = "\
+Runs a script as `replay` does, and writes what happened as a history.
+
+Standard output and the exit status are those of `replay`. Before the first answer, each event that
+is applied and each fault that is done is written to FILE as an entry, in order: the event or the
+fault of a line, the fault that `draw` draws, and the request that `watch` makes after an alarm. What
+is refused, questions and comments leave no entry, and a bad line ends the history too. `verify` and
+`picture` accept it. The file is created, or emptied where it is there; it stays empty where the
+topology is bad or the script is too long.";
+
+const RECORD_AFTER_HELP: &str = "\
+Example:
+  reset-service record examples/one-wave/topology.toml examples/one-wave/script --history history
+  reset-service verify examples/one-wave/topology.toml history";
 
 const THREADS_ABOUT: &str =
     "Runs a thread for each node, and writes what the nodes did as a history";
@@ -260,12 +277,20 @@ const WORD_HELP: &str = "The word, as it is printed";
 pub fn command_line<'a>(alloc: Global) -> Result<Command<'a>, AllocError>
     ensures { IfOk result (λ command. app_of command ≡ program) }
 {
-    texts_line(alloc)?
-        .subcommand(threads_words(alloc)?)?
-        .subcommand(drive_words(alloc)?)?
+    histories_line(alloc)?
         .subcommand(shape_words(alloc)?)?
         .subcommand(explain_words(alloc)?)?
         .subcommand(tables_words(alloc))
+}
+
+// The program with the subcommands that read two texts, and those that write a history.
+fn histories_line<'a>(alloc: Global) -> Result<Command<'a>, AllocError>
+    ensures { IfOk result (λ command. app_of command ≡ histories_program) }
+{
+    texts_line(alloc)?
+        .subcommand(record_words(alloc)?)?
+        .subcommand(threads_words(alloc)?)?
+        .subcommand(drive_words(alloc)?)
 }
 
 // The program with the subcommands that read two texts.
@@ -303,6 +328,20 @@ fn texts_words<'a>(
         .after_help(help.after_help)
         .arg(path_word(alloc, "TOPOLOGY", TOPOLOGY_HELP))?
         .arg(path_word(alloc, input, help.input))
+}
+
+// The subcommand with the paths of a topology, of a script and of a file for the history.
+fn record_words<'a>(alloc: Global) -> Result<Command<'a>, AllocError>
+    ensures app { IfOk result (λ command. app_of command ≡ record_command) }
+    ensures local { IfOk result (λ command. (fields_of command).has_globals ≡ false) }
+{
+    Command::new(alloc, "record")
+        .about(RECORD_ABOUT)
+        .long_about(RECORD_LONG_ABOUT)
+        .after_help(RECORD_AFTER_HELP)
+        .arg(path_word(alloc, "TOPOLOGY", TOPOLOGY_HELP))?
+        .arg(path_word(alloc, "SCRIPT", SCRIPT_HELP))?
+        .arg(history_word(alloc))
 }
 
 // The subcommand with the path of a topology, a number of turns and the path of a file for the history.

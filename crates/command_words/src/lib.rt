@@ -3,11 +3,13 @@
 
 mod commands;
 mod drive_words;
+mod record_words;
 mod shape_words;
 mod thread_words;
 mod words;
 
 pub use drive_words::DriveWords;
+pub use record_words::RecordWords;
 pub use shape_words::ShapeWords;
 pub use thread_words::ThreadWords;
 pub use words::{Job, LineFault, Paths, no_text, read_words};

@@ -3,12 +3,13 @@
 ghost use Rattle.std.specs.Prelude.{◌≡◌, [], codes, map, option_map, IfErr, IfOk, IsSome, Some};
 ghost use Rattle.clap.specs.Words.{first_of, found_of, kind_of, rows_of, subcommand_rows_of};
 ghost use Rattle.command_words.specs.declared.words.LineFault.TheVariants.{NoMemory};
-ghost use Rattle.command_words.specs.Words.{faults_of, AskFor, AskedBy, HasDrive, HasJob, HasShape, HasTexts};
-ghost use Rattle.command_words.specs.Words.{HasThreads, IsFaultOf, IsInvalidValue, IsNumberOr, IsNumberWithin};
-ghost use Rattle.command_words.specs.Words.{StandsFor};
+ghost use Rattle.command_words.specs.Words.{faults_of, AskFor, AskedBy, HasDrive, HasJob, HasRecord, HasShape};
+ghost use Rattle.command_words.specs.Words.{HasTexts, HasThreads, IsFaultOf, IsInvalidValue, IsNumberOr};
+ghost use Rattle.command_words.specs.Words.{IsNumberWithin, StandsFor};
 
 use crate::commands::command_line;
 use crate::drive_words::DriveWords;
+use crate::record_words::RecordWords;
 use crate::shape_words::ShapeWords;
 use crate::thread_words::ThreadWords;
 use clap::error::ErrorKind;
@@ -39,6 +40,8 @@ pub enum Job<'a> {
     Verify(Paths<'a>),
     /// Draw the history of a file from the booted configuration of another's topology.
     Picture(Paths<'a>),
+    /// Replay the script of a file on the topology of another, and write what happened to a third.
+    Record(RecordWords<'a>),
     /// Run a thread for each node of a topology, and write what the nodes did to a file.
     Threads(ThreadWords<'a>),
     /// Run a seeded scheduler on a topology, and write what the nodes did to a file.
@@ -112,6 +115,7 @@ fn job_of<'a>(matches: &ArgMatches<'a>) -> Job<'a>
         Some(("check", values)) => Job::Check(paths_of(values, "SCRIPT")),
         Some(("verify", values)) => Job::Verify(paths_of(values, "HISTORY")),
         Some(("picture", values)) => Job::Picture(paths_of(values, "HISTORY")),
+        Some(("record", values)) => Job::Record(record_words_of(values)),
         Some(("threads", values)) => Job::Threads(thread_words_of(values)),
         Some(("drive", values)) => Job::Drive(drive_words_of(values)),
         Some(("topology", values)) => Job::Shape(shape_words_of(values)),
@@ -129,6 +133,21 @@ fn paths_of<'a>(values: &ArgMatches<'a>, input: &str) -> Paths<'a>
     Paths {
         topology: values.get_str("TOPOLOGY").unwrap(),
         input: values.get_str(input).unwrap(),
+    }
+}
+
+// The words of matches that have a topology, a script and a file for the history.
+fn record_words_of<'a>(values: &ArgMatches<'a>) -> RecordWords<'a>
+    requires { HasRecord (rows_of (found_of values.now)) }
+    ensures topology { first_of (codes "TOPOLOGY") (rows_of (found_of values.now)) ≡ Some result.topology.now }
+    ensures script { first_of (codes "SCRIPT") (rows_of (found_of values.now)) ≡ Some result.script.now }
+    ensures history { first_of (codes "history") (rows_of (found_of values.now)) ≡ Some result.history.now }
+{
+    let paths = paths_of(values, "SCRIPT");
+    RecordWords {
+        topology: paths.topology,
+        script: paths.input,
+        history: values.get_str("history").unwrap(),
     }
 }
 

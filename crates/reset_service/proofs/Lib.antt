@@ -6,3 +6,4 @@ pub mod ConnectedTopologies
 pub mod VerifiedReports
 pub mod Threading
 pub mod KeptRuns
+pub mod RecordedRuns

@@ -6,7 +6,7 @@ ghost use Rattle.script_replay.specs.Meaning.{meaning_of};
 ghost use Rattle.script_replay.specs.Stops.{IsRunStop};
 ghost use Rattle.reset_service.specs.Threaded.{LeavesBoth, told_history, told_output};
 
-use crate::told::{Driven, Told, put_history, put_told, status_of, text_of};
+use crate::told::{Driven, Told, put_history, put_told, status_of};
 use app_interface::{Application, Idle};
 use app_mutex::EdgeReversal;
 use app_routes::Routes;
@@ -14,7 +14,7 @@ use app_token::Token;
 use history::{Book, MAX_ENTRIES};
 use reset_machine::Config;
 use scheduler::drive;
-use script_replay::{RunStop, Status};
+use script_replay::{RunStop, Status, text_of};
 use std::alloc::{AllocError, Global};
 use std::io::Write;
 use topology::{AppName, ReadFault, Topology, read_topology};

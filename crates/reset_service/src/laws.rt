@@ -1,6 +1,6 @@
-// Laws of verifications, of runs of node threads and of the scheduler.
+// Laws of verifications, of recordings, and of runs of node threads and of the scheduler.
 
-ghost use Rattle.std.specs.Prelude.{◌≡◌, ℕ, List};
+ghost use Rattle.std.specs.Prelude.{◌≡◌, ◌≤◌, ℕ, List, length};
 ghost use Rattle.topology.specs.Graph.{Graph, IsConnected, IsGraph};
 ghost use Rattle.topology.specs.declared.text.AppName.{AppName};
 ghost use Rattle.reset_model.specs.Configuration.{Configuration};
@@ -9,6 +9,7 @@ ghost use Rattle.reset_model.specs.Refinement.{abstract_of};
 ghost use Rattle.reset_service.specs.Drove.{IsDroveText};
 ghost use Rattle.script_replay.specs.Meaning.{meaning_of};
 ghost use Rattle.script_replay.specs.Output.{Describes};
+ghost use Rattle.script_replay.specs.Recorded.{IsRecorded};
 ghost use Rattle.reset_service.specs.Threaded.{IsKeptFrom, IsThreaded, TellsRun, TellsRunOf};
 ghost use Rattle.reset_service.specs.Verified.{IsVerification, TellsTrueReportsOf};
 ghost use Rattle.script_replay.specs.declared.status.Status.{Status};
@@ -83,6 +84,14 @@ pub fn threads_are_verified()
 pub fn driven_runs_are_verified()
     ensures { (steps seed faults : ℕ) (topology history line : List ℕ)
         → IsDroveText steps seed faults topology history (line, Status.Good)
+        → (written : List ℕ) × IsVerification topology history (written, Status.Good) }
+{}
+
+/// A verification takes the history of a recorded script, whatever its answers and also where it ends at a bad line, if
+/// the topology is good and the script isn't too long.
+pub fn recordings_are_verified()
+    ensures { (topology script history : List ℕ) (output : List ℕ × Status) (g : Graph) (app : AppName)
+        → Describes topology g app → length script ≤ 1048576 → IsRecorded topology script history output
         → (written : List ℕ) × IsVerification topology history (written, Status.Good) }
 {}
 

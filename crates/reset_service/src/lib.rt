@@ -1,8 +1,9 @@
 //! What the program of the distributed reset service does, as calls on texts, readers and writers: it
 //! replays scripts of reset events on the booted configuration of a topology and writes an answer to
-//! each line, checks the network that a script leaves, verifies histories, runs a thread for each node
-//! or a seeded scheduler and writes the history that they keep, draws histories, writes topologies, prints
-//! the tables that the nodes act by, explains the words of its answers, and reads those of its command line.
+//! each line, checks the network that a script leaves, records what a script did as a history, verifies
+//! histories, runs a thread for each node or a seeded scheduler and writes the history that they keep, draws
+//! histories, writes topologies, prints the tables that the nodes act by, explains the words of its answers,
+//! and reads those of its command line.
 //! Scripts are replayed by the crate `script_replay`, and the command line is read by `command_words`.
 #![tactic(auto)]
 
@@ -19,18 +20,20 @@ mod told;
 mod verified;
 
 pub use command_words::{
-    DriveWords, Job, LineFault, Paths, ShapeWords, ThreadWords, no_text, read_words,
+    DriveWords, Job, LineFault, Paths, RecordWords, ShapeWords, ThreadWords, no_text, read_words,
 };
 pub use driven::{Drive, drive_text};
 pub use explained::{Explanation, explain};
 pub use laws::{
     booted_invariants_hold, driven_runs_are_verified, kept_histories_are_runs, one_driven_run,
-    one_verification, threads_are_verified, threads_keep_a_run, verified_reports_are_true,
+    one_verification, recordings_are_verified, threads_are_verified, threads_keep_a_run,
+    verified_reports_are_true,
 };
 pub use pictured::picture_text;
 pub use script_replay::{
     BufferedOutput, READ_LIMIT, RunStop, Status, check_text, one_joined_output, one_output,
-    read_text, replay, replay_joined, replay_text, stretches_are_runs,
+    one_record, read_text, record_text, recordings_are_replays, replay, replay_joined, replay_text,
+    stretches_are_runs,
 };
 pub use shaped::write_shape;
 pub use tables::print_tables;

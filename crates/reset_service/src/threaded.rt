@@ -8,7 +8,7 @@ ghost use Rattle.reset_service.specs.Threaded.{IsKept, IsKeptFrom, IsKeptOf, IsT
 ghost use Rattle.reset_service.specs.Threaded.{LeavesBoth, told_history, told_output};
 ghost use Rattle.script_replay.specs.Stops.{IsRunStop};
 
-use crate::told::{Kept, Told, put_history, put_told, status_of, text_of};
+use crate::told::{Kept, Told, put_history, put_told, status_of};
 use app_interface::{Application, Idle};
 use app_mutex::EdgeReversal;
 use app_routes::Routes;
@@ -18,7 +18,7 @@ use history::{
 };
 use node_threads::{Gate, RunCause, run_nodes};
 use reset_machine::Config;
-use script_replay::{RunStop, Status};
+use script_replay::{RunStop, Status, text_of};
 use std::alloc::Global;
 use std::io::Write;
 use std::sync::Wait;

@@ -1,18 +1,13 @@
 // What a run comes to that keeps a history, before anything is written, and how it is written then.
 
-ghost use Rattle.std.specs.Prelude.{◌≡◌, IfErr, IfOk, Ok, OnErr, OnOk};
+ghost use Rattle.std.specs.Prelude.{◌≡◌, OnErr, OnOk};
 ghost use Rattle.std.specs.Io.KnownBytes.{Appends};
 ghost use Rattle.action_tables.specs.Written.{AppendsPrefix};
-ghost use Rattle.history.specs.HistoryText.{IsReadAs, history_text};
 ghost use Rattle.reset_service.specs.Drove.{drove_line};
-ghost use Rattle.script_replay.specs.Stops.{IsRunStop};
 ghost use Rattle.reset_service.specs.Threaded.{threads_line, told_history, told_output};
 
 use action_tables::{Part, WriteFault, put_bytes, put_parts};
-use app_interface::Application;
-use history::{Book, books_read_back, write_book};
-use script_replay::{RunStop, Status, put_topology_fault};
-use std::alloc::Global;
+use script_replay::{Status, put_topology_fault};
 use std::io::Write;
 use topology::ReadFault;
 
@@ -40,21 +35,6 @@ pub struct Driven {
     pub history: Vec<u8>,
     pub entries: usize,
     pub reports: usize,
-}
-
-// The text of a book's history.
-pub fn text_of<P: Application>(alloc: Global, book: &Book<P>) -> Result<Vec<u8>, RunStop>
-    ensures text { IfOk result (λ text. text.items ≡ history_text book.now.entries) }
-    ensures read { IfOk result (λ text. IsReadAs text.items (Ok book.now.entries)) }
-    ensures stop { IfErr result IsRunStop }
-{
-    book.lemma_is_book();
-    books_read_back::<P>();
-    let mut text = Vec::new(alloc);
-    match write_book(book, &mut text) {
-        Ok(()) => Ok(text),
-        Err(_) => Err(RunStop::NoMemory),
-    }
 }
 
 // Writes the history of a run that kept one.

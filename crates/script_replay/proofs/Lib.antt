@@ -11,3 +11,5 @@ pub mod ReadyTexts
 pub mod FaultTexts
 pub mod OneOutput
 pub mod Stretches
+pub mod Noting
+pub mod LeftRecords

@@ -54,7 +54,7 @@ told_twice {L = L} done text a =
     let with : List ℕ → Answer L = λ t. record { config = a.config; text = t; status = a.status } in
     ap with (sym (append_assoc done text a.text))
 
-if_bad : {A : Type 0} (s : Status) (next last : A) → s ≢ Good → if_good s next last ≡ last
+pub if_bad : {A : Type 0} (s : Status) (next last : A) → s ≢ Good → if_good s next last ≡ last
 if_bad Good next last bad = absurd (bad refl)
 if_bad FaultsFound next last bad = refl
 if_bad NotEnabled next last bad = refl

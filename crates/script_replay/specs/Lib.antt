@@ -7,3 +7,4 @@ pub mod Buffering
 pub mod StopText
 pub mod Stops
 pub mod Stretches
+pub mod Recorded

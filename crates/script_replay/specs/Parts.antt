@@ -1,6 +1,14 @@
 -- What the clauses of private functions cite.
 use Rattle.std.specs.Prelude.{◌≡◌, ℕ, List, ◌++◌, length, Option}
 use Rattle.std.specs.Io.KnownBytes.{Consumes}
+use Rattle.reset_model.specs.Configuration.{Configuration}
+use Rattle.history.specs.Book.{BookView}
+use Rattle.history.specs.declared.entry.Entry.{Entry}
+use Rattle.script_replay.specs.Meaning.{Meaning}
+use Rattle.script_replay.specs.Output.{answer_to}
+use Rattle.script_replay.specs.Recorded.{line_entries}
+use Rattle.script_replay.specs.declared.script.Line.{Line}
+use Rattle.script_replay.specs.declared.status.Status.{Status}
 
 -- a text grew by n bytes of a reader
 pub record ReadMore (before after : Option (List ℕ)) (old new : List ℕ) (n : ℕ) : Type 0 where
@@ -8,3 +16,13 @@ pub record ReadMore (before after : Option (List ℕ)) (old new : List ℕ) (n :
   pub consumed : Consumes before after bytes
   pub appended : new ≡ old ++ bytes
   pub count : length bytes ≡ n
+
+-- a book with these entries more, which left this
+abbrev pub with_entries : {L : Type 0} → BookView L → List Entry → Configuration L → BookView L
+with_entries b entries left =
+    record { opening = b.opening; entries = b.entries ++ entries; config = left; limit = b.limit }
+
+-- the entries of a line were added to a book, and this is whether the line is good; its number is told nowhere
+pub record IsNoted {L : Type 0} (m : Meaning L) (line : Line) (old new : BookView L) (status : Status) : Type 0 where
+  pub book : (n : ℕ) → new ≡ with_entries old (line_entries m old.config line) (answer_to m old.config n line).config
+  pub good : (n : ℕ) → status ≡ (answer_to m old.config n line).status

@@ -63,8 +63,8 @@ pub fn answer_draw<P: Application, W: Write>(
     answer_fault(alloc, config, &fault, out)
 }
 
-// The fault that a new generator with this seed draws.
-fn drawn<P: Application>(config: &Config<P>, seed: u32) -> Fault
+/// The fault that a new generator with this seed draws.
+pub fn drawn<P: Application>(config: &Config<P>, seed: u32) -> Fault
     ensures { result ≡ drawn config.now.graph.ids seed }
 {
     let mut random = Lcg64Xsh32::seed_from_u64(u64::from(seed));

@@ -6,6 +6,7 @@ ghost use Rattle.reset_model.specs.Configuration.{Configuration, IsShaped};
 ghost use Rattle.reset_model.specs.Sound.{IsSound};
 ghost use Rattle.script_replay.specs.Meaning.{meaning_of};
 ghost use Rattle.script_replay.specs.Output.{IsJoinedOutput, IsOutput};
+ghost use Rattle.script_replay.specs.Recorded.{IsRecorded};
 ghost use Rattle.script_replay.specs.Stretches.{AreUndisturbed, MakeRun, MakeSoundRun};
 ghost use Rattle.script_replay.specs.declared.status.Purpose.{Purpose};
 ghost use Rattle.script_replay.specs.declared.status.Status.{Status};
@@ -22,6 +23,18 @@ pub fn one_output()
 /// A joined text has at most one output, status included.
 pub fn one_joined_output()
     ensures { (joined : List ℕ) (o p : List ℕ × Status) → IsJoinedOutput joined o → IsJoinedOutput joined p → o ≡ p }
+{}
+
+/// The same topology and script leave one history and one output, status included.
+pub fn one_record()
+    ensures { (topology script h k : List ℕ) (o p : List ℕ × Status)
+        → IsRecorded topology script h o → IsRecorded topology script k p → (h ≡ k) × (o ≡ p) }
+{}
+
+/// What a recording writes, and its status, are those of a replay.
+pub fn recordings_are_replays()
+    ensures { (topology script history : List ℕ) (output : List ℕ × Status)
+        → IsRecorded topology script history output → IsOutput Purpose.Replay topology script output }
 {}
 
 /// Between two faults the lines of a script make a run happen: whatever the configuration, lines of which

@@ -8,6 +8,8 @@ mod faults;
 mod injected;
 mod input;
 mod laws;
+mod recorded;
+mod recording;
 mod replays;
 mod rows;
 mod script;
@@ -17,6 +19,10 @@ mod status;
 pub use answer::{put_numbered, put_topology_fault};
 pub use buffered_output::BufferedOutput;
 pub use input::{READ_LIMIT, read_text};
-pub use laws::{one_joined_output, one_output, stretches_are_runs};
+pub use laws::{
+    one_joined_output, one_output, one_record, recordings_are_replays, stretches_are_runs,
+};
+pub use recorded::record_text;
+pub use recording::text_of;
 pub use replays::{check_text, refuse_topology, replay, replay_joined, replay_text};
 pub use status::{RunStop, Status};

@@ -188,7 +188,8 @@ fn refuse_script<W: Write>(out: &mut W) -> Result<Status, RunStop>
     Ok(Status::BadInput)
 }
 
-fn run_script<P: Application, W: Write>(
+// Replays a script from this configuration on, and checks what it leaves if the run is for that.
+pub(crate) fn run_script<P: Application, W: Write>(
     alloc: Global,
     purpose: Purpose,
     mut config: Config<P>,

@@ -1,6 +1,6 @@
 //! The program of the distributed reset service: it replays a script of reset events on the booted
-//! configuration of a topology and writes an answer to each, runs a thread for each node, drives a network by a seeded
-//! scheduler, and verifies and draws histories. Here stand the files and the streams that it opens and its exit status;
+//! configuration of a topology and writes an answer to each, records what it did as a history, runs a thread for each
+//! node, drives a network by a seeded scheduler, and verifies and draws histories. Here stand the files and the streams that it opens and its exit status;
 //! all else is the library `reset_service`.
 #![tactic(auto)]
 
@@ -13,9 +13,9 @@ use crate::progress::{BelowLine, ProgressLine};
 use crate::status::exit_code;
 use action_tables::put_bytes;
 use reset_service::{
-    BufferedOutput, Drive, DriveWords, Job, LineFault, Paths, RunStop, ShapeWords, Status,
-    ThreadWords, check_text, drive_text, explain, no_text, picture_text, print_tables, read_words,
-    replay, replay_joined, threads_text, verify_text, write_shape,
+    BufferedOutput, Drive, DriveWords, Job, LineFault, Paths, RecordWords, RunStop, ShapeWords,
+    Status, ThreadWords, check_text, drive_text, explain, no_text, picture_text, print_tables,
+    read_words, record_text, replay, replay_joined, threads_text, verify_text, write_shape,
 };
 use std::env::Env;
 use std::io::{Stderr, Write};
@@ -126,12 +126,24 @@ fn job_output<R: Files + Input + AllocGlobal + Threads + Wait + Sync, W: Write>(
             let (topology, mut history) = open_texts(rt, paths)?;
             picture_text(rt.alloc(), &topology, &mut history, out)
         }
+        Job::Record(words) => run_record(rt, words, out),
         Job::Threads(words) => run_threads(rt, words, out),
         Job::Drive(words) => run_drive(rt, words, out),
         Job::Shape(words) => put_shape(rt, words, out),
         Job::Explain(word) => explain(word, out),
         Job::Tables => print_tables(out),
     }
+}
+
+fn run_record<R: Files + AllocGlobal, W: Write>(
+    rt: &R,
+    words: RecordWords<'_>,
+    out: &mut W,
+) -> Result<Status, RunStop> {
+    let topology = read_file(rt, words.topology)?;
+    let mut script = open_file(rt, words.script)?;
+    let mut history = create_file(rt, words.history)?;
+    record_text(rt.alloc(), &topology, &mut script, &mut history, out)
 }
 
 fn run_threads<R: Files + AllocGlobal + Threads + Wait + Sync, W: Write>(

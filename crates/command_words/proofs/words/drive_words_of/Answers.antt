@@ -1,10 +1,8 @@
-use Rattle.std.proofs.Common.{◌≡◌, ◌<◌, ◌^◌, ◌∙◌, arith, codes, sym, ap, subst, ℕ}
-use Rattle.std.specs.Prelude.{option_map}
+use Rattle.std.proofs.Common.{arith, codes, sym, subst, ℕ}
 use Rattle.std.specs.Str.Parse.{ExplainsUnsignedError, HasUnsignedDigitsIfOk, ParsesUnsigned}
 use Rattle.clap.specs.Words.{first_of, found_of, rows_of}
-use Rattle.clap.proofs.WalkLemmas.{first_value-rows}
 use Rattle.command_words.specs.Words.{IsNumberOr}
-use Rattle.command_words.proofs.Jobs.{number_found, number_is, number_or, some_text}
+use Rattle.command_words.proofs.Jobs.{number_found, number_is, number_or}
 use Rattle.command_words.proofs.words.drive_words_of.Goals as goal
 
 pub unwrap-requires : goal.unwrap-requires

@@ -1,4 +1,4 @@
-use Rattle.std.proofs.Common.{◌≡◌, ◌<◌, ◌^◌, ◌∙◌, arith, codes, sym, ap, subst, ℕ}
+use Rattle.std.proofs.Common.{◌∙◌, arith, codes, sym, ap, subst, ℕ}
 use Rattle.std.specs.Prelude.{option_map}
 use Rattle.std.specs.Str.Parse.{ExplainsUnsignedError, HasUnsignedDigitsIfOk, ParsesUnsigned}
 use Rattle.clap.specs.Words.{first_of, found_of, rows_of}

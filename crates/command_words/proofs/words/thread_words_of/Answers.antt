@@ -1,7 +1,6 @@
-use Rattle.std.proofs.Common.{◌≡◌, ◌<◌, ◌^◌, arith, codes, Option, Some, ℕ}
+use Rattle.std.proofs.Common.{arith, codes}
 use Rattle.std.specs.Str.Parse.{ExplainsUnsignedError, HasUnsignedDigitsIfOk, ParsesUnsigned}
-use Rattle.clap.specs.Words.{first_of, found_of, rows_of}
-use Rattle.command_words.specs.Words.{IsNumberWithin}
+use Rattle.clap.specs.Words.{found_of}
 use Rattle.command_words.proofs.Jobs.{number_found, number_is}
 use Rattle.command_words.proofs.words.thread_words_of.Goals as goal
 

@@ -1,0 +1,49 @@
+-- A verification takes the history of a script.
+use Rattle.std.proofs.Common.{◌≤◌, ℕ, List, arith, length, refl}
+use Rattle.topology.specs.Graph.{Graph}
+use Rattle.topology.specs.declared.text.AppName.{AppName}
+use Rattle.topology.specs.declared.text.AppName.TheVariants.{Idle, Token, Mutex, Routes}
+use Rattle.reset_model.specs.Configuration.{Configuration}
+use Rattle.history.specs.Reports.{reports_of}
+use Rattle.script_replay.specs.Meaning.{Meaning, idle_meaning, token_meaning, mutex_meaning, routes_meaning}
+use Rattle.script_replay.specs.Output.{Describes, IsJudged}
+use Rattle.script_replay.specs.Output.IsJudged.{bad_topology, good_topology}
+use Rattle.script_replay.specs.Recorded.{IsHistory, IsRecordFrom, IsRecordOf, IsRecorded}
+use Rattle.script_replay.specs.Recorded.IsHistory.{kept, too_long}
+use Rattle.script_replay.specs.declared.status.Status.{Status}
+use Rattle.script_replay.specs.declared.status.Status.TheVariants.{Good}
+use Rattle.script_replay.proofs.OneOutput.{bad_or_good}
+use Rattle.reset_service.specs.Verified.{IsVerification, IsVerified, IsVerifiedFrom, IsVerifiedOf, verified_text}
+use Rattle.reset_service.specs.Verified.IsVerified.{allowed}
+
+abbrev Output : Type 0
+Output = List ℕ × Status
+
+module _ (script history : List ℕ) (output : Output) (short : length script ≤ 1048576) where
+  verified : {L : Type 0} (m : Meaning L) (c : Configuration L) → IsHistory m c script history
+      → (written : List ℕ) × IsVerified m c history (written, Good)
+  verified m c (too_long long is) = absurd (omega (arith, long, short))
+  verified m c (kept es few are are_allowed read text) =
+      (verified_text (length es) (reports_of m.app m.from_text c es), allowed es read are_allowed refl)
+
+  verified_from : {L : Type 0} (m : Meaning L) (g : Graph) → IsRecordFrom m g script history output
+      → (written : List ℕ) × IsVerifiedFrom m g history (written, Good)
+  verified_from m g (c, boot, is) = let found = verified m c is.history_is in (found.0, (c, boot, found.1))
+
+  verified_of : (app : AppName) (g : Graph) → IsRecordOf app g script history output
+      → (written : List ℕ) × IsVerifiedOf app g history (written, Good)
+  verified_of Idle = verified_from idle_meaning
+  verified_of Token = verified_from token_meaning
+  verified_of Mutex = verified_from mutex_meaning
+  verified_of Routes = verified_from routes_meaning
+
+  pub recordings_verified : (topology : List ℕ) (g : Graph) (app : AppName) → Describes topology g app
+      → IsRecorded topology script history output
+      → (written : List ℕ) × IsVerification topology history (written, Good)
+  recordings_verified topology g app describes is = go is.judged
+    where
+      go : IsJudged (λ app g. IsRecordOf app g script history) topology output
+          → (written : List ℕ) × IsVerification topology history (written, Good)
+      go (bad_topology f bad is) = absurd (bad_or_good topology f g app bad describes)
+      go (good_topology h other good follows) =
+          let found = verified_of other h follows in (found.0, good_topology h other good found.1)

@@ -1,0 +1,10 @@
+use Rattle.script_replay.specs.Meaning.{meaning_of}
+use Rattle.script_replay.specs.Recorded.{IsRecord, IsRecordFrom}
+use Rattle.script_replay.proofs.LeftRecords.{record_weaker}
+use Rattle.script_replay.proofs.recorded.record_booted.Goals as goal
+
+pub returns-in-Ok : goal.returns-in-Ok
+returns-in-Ok g c =
+    let m = meaning_of g.P.Application.app g.P.Application.text g.P.Application.from_text g.P.Application.names in
+    record_weaker (IsRecord m c.in-Ok.opening c.args.script.now) (IsRecordFrom m c.args.topology c.args.script.now)
+    _ _ _ _ c.record_script.result (λ h o is. (c.in-Ok.opening, c.in-Ok.ensures.ok, is)) c.record_script.ensures

@@ -1,0 +1,102 @@
+// The replay of a script whose history is kept.
+
+ghost use Rattle.std.specs.Prelude.{◌≡◌, ℕ, List};
+ghost use Rattle.topology.specs.TopologyText.{IsReadFault};
+ghost use Rattle.script_replay.specs.Lines.{IsReadFrom};
+ghost use Rattle.script_replay.specs.Meaning.{meaning_of};
+ghost use Rattle.script_replay.specs.Recorded.{IsRecord, IsRecordFrom, IsRecordOf, IsRecorded, LeavesRecord};
+
+use crate::input::read_text;
+use crate::recording::history_of;
+use crate::replays::{refuse_topology, run_script};
+use crate::status::{Purpose, RunStop, Status};
+use action_tables::put_bytes;
+use app_interface::{Application, Idle};
+use app_mutex::EdgeReversal;
+use app_routes::Routes;
+use app_token::Token;
+use reset_machine::Config;
+use std::alloc::Global;
+use std::io::{Read, Write};
+use topology::{AppName, ReadFault, Topology, read_topology};
+
+/// Writes to one writer the history of the script of a reader, from the booted configuration of a topology text on, and
+/// then to the other what `replay` writes: each event that was applied and each fault that was done, in order, is an
+/// entry. What was refused, a question or a comment leaves none, and lines after the first bad one aren't reached.
+///
+/// The topology is judged before the reader is touched. It leaves no history where it is bad, nor does a script that is
+/// too long.
+pub fn record_text<R: Read, H: Write, W: Write>(
+    alloc: Global,
+    topology: &[u8],
+    script: &mut R,
+    history: &mut H,
+    out: &mut W,
+) -> Result<Status, RunStop>
+    ensures leaves { (text : List ℕ) × IsReadFrom (R.remaining script.old) text
+        × LeavesRecord (IsRecorded topology.now text) (H.contents history.old) (H.contents history.new)
+        (W.contents out.old) (W.contents out.new) result }
+    ensures untouched { (f : ReadFault) → IsReadFault topology.now f → script.new ≡ script.old }
+{
+    match read_topology(alloc, topology) {
+        Ok((topology, app)) => match read_text(alloc, script) {
+            Ok(text) => record_app(alloc, app, topology, &text, history, out),
+            Err(stop) => Err(stop),
+        },
+        Err(refused) => refuse_topology(refused, out),
+    }
+}
+
+// Records a script on the booted configuration of a topology, with the application of this name.
+fn record_app<H: Write, W: Write>(
+    alloc: Global,
+    app: AppName,
+    topology: Topology,
+    script: &[u8],
+    history: &mut H,
+    out: &mut W,
+) -> Result<Status, RunStop>
+    ensures { LeavesRecord (IsRecordOf app topology script.now) (H.contents history.old) (H.contents history.new)
+        (W.contents out.old) (W.contents out.new) result }
+{
+    match app {
+        AppName::Idle => record_booted::<Idle, H, W>(alloc, topology, script, history, out),
+        AppName::Token => record_booted::<Token, H, W>(alloc, topology, script, history, out),
+        AppName::Mutex => {
+            record_booted::<EdgeReversal, H, W>(alloc, topology, script, history, out)
+        }
+        AppName::Routes => record_booted::<Routes, H, W>(alloc, topology, script, history, out),
+    }
+}
+
+fn record_booted<P: Application, H: Write, W: Write>(
+    alloc: Global,
+    topology: Topology,
+    script: &[u8],
+    history: &mut H,
+    out: &mut W,
+) -> Result<Status, RunStop>
+    ensures { LeavesRecord (IsRecordFrom (meaning_of P.app P.text P.from_text P.names) topology script.now)
+        (H.contents history.old) (H.contents history.new) (W.contents out.old) (W.contents out.new) result }
+{
+    match Config::<P>::boot(alloc, topology) {
+        Ok(opening) => record_script(alloc, opening, script, history, out),
+        Err(_) => Err(RunStop::NoMemory),
+    }
+}
+
+// Records a script from this configuration on.
+fn record_script<P: Application, H: Write, W: Write>(
+    alloc: Global,
+    opening: Config<P>,
+    script: &[u8],
+    history: &mut H,
+    out: &mut W,
+) -> Result<Status, RunStop>
+    ensures { LeavesRecord (IsRecord (meaning_of P.app P.text P.from_text P.names) opening script.now)
+        (H.contents history.old) (H.contents history.new) (W.contents out.old) (W.contents out.new) result }
+{
+    let text = history_of(alloc, &opening, script)?;
+    put_bytes(history, &text)?;
+    run_script(alloc, Purpose::Replay, opening, script, out)
+}
