@@ -113,11 +113,12 @@ A history is what happened to a network, from the booted configuration of its to
 event that a node took, and each fault. For each reset that was completed there is a line `report
 NUMBER opened POSITION finished POSITION`: the number of the session, and the entries that opened
 and finished it, counted from 1 (`-` where it wasn't opened since the last fault). The last line is
-`verified E entries R reports`.
+`verified E entries R reports`. That every node has joined a reset is sure of a report before the
+first fault, and after a fault of a reset that opens where `check` tells no row of tree or wave.
 
 Where an entry isn't allowed where it stands, the answer is `not enabled at POSITION` of the first
-such entry, and the exit status is 1. A file that isn't a history is answered by `bad history` and
-its first bad line, and the exit status is 2.",
+such entry, and the exit status is 1; in the file it is one line further down. A file that isn't a
+history is answered by `bad history` and its first bad line, and the exit status is 2.",
     input: HISTORY_HELP,
     after_help: "\
 A history:
@@ -178,7 +179,8 @@ const FEW_NODES_HELP: &str =
 
 const TURNS_HELP: &str = "How many turns each node takes, from 1 to 100000";
 
-const HISTORY_FILE_HELP: &str = "The file that the history is written to";
+const HISTORY_FILE_HELP: &str =
+    "The file that the history is written to, emptied before: none of the files that are read";
 
 const TABLES_ABOUT: &str = "Prints the tables that the nodes act by";
 
@@ -228,7 +230,8 @@ Draws a history as a space-time diagram, in SVG, on standard output.
 A node is a lane, the leader first, and time goes down the page: each entry is a mark on the lane of
 its node, with its line as a text that shows where the pointer rests. A lane has the colour of the
 node's phase, and behind it that of its session, so that a reset is seen to go down the tree and to
-end. A line across all lanes is a completed reset. At most 64 nodes and 2,000 entries are drawn.",
+end. A line across all lanes is a completed reset. At most 64 nodes and 2,000 entries are drawn. What
+can't be drawn is answered in place of a picture: the exit status tells.",
     input: HISTORY_HELP,
     after_help: "\
 Example:
@@ -245,7 +248,9 @@ Writes the text of a topology of a standard shape, with the nodes 1 to N.
   star    node 1 is linked with each other one
   tree    a binary tree: node I is linked with the node at half of I
   grid    rows as wide as they are many, each node linked with the next one and the one below
-  random  each node is linked with one or two lesser ones, which are drawn by the seed";
+  random  each node is linked with one or two lesser ones, which are drawn by the seed
+
+A name that isn't known is answered in place of the text, and the exit status is 2.";
 
 const SHAPE_AFTER_HELP: &str = "\
 Example:
@@ -271,7 +276,8 @@ const EXPLAIN_AFTER_HELP: &str = "\
 Example:
   reset-service explain NotEnabled";
 
-const WORD_HELP: &str = "The word, as it is printed";
+const WORD_HELP: &str =
+    "One word of an answer or of a script, as `NotEnabled`, `complete` or `not`";
 
 /// The command line: the program and its subcommands.
 pub fn command_line<'a>(alloc: Global) -> Result<Command<'a>, AllocError>

@@ -43,7 +43,7 @@ again.\n",
         word: "NotEnabled",
         text: "\
 No row of the tables that stands behind the command holds at the node now. `enabled I` tells\n\
-which rows do, `reset-service tables` prints their guards.\n",
+which rows do, `reset-service tables` prints their guards, `show I` the registers that they read.\n",
     },
     Explanation {
         word: "SessionsSpent",
@@ -183,14 +183,15 @@ A script has at most 1,048,576 bytes, and a history at most 1,000,000 entries.\n
     Explanation {
         word: "TooLongForPicture",
         text: "\
-`picture` draws a history of at most 2,000 entries.\n",
+`picture` draws a history of at most 2,000 entries. The first 2,001 lines of a longer one are a\n\
+history too: `head -n 2001`.\n",
     },
     Explanation {
         word: "BadLine",
         text: "\
 The line with this number is no entry of a history, has over 256 bytes or lacks its line feed. A\n\
-history has no comments, no empty lines and no questions, and its first line is `reset-history\n\
-1`.\n",
+history has no comments, no empty lines, no questions and no carriage returns. Its first line is\n\
+`reset-history 1`, which an empty file lacks.\n",
     },
     Explanation {
         word: "BadVersion",
@@ -201,25 +202,28 @@ history 1`.\n",
     Explanation {
         word: "line",
         text: "\
-`bad line N`: the line with this number is no command, and the run ended there. Words have one\n\
-space between them, numbers no zero in front; `cat -A` shows what the eye misses. As an answer\n\
-of `check`, see `link`.\n",
+`bad line N`: the line with this number is no command, and the run ended there. Commands are in\n\
+small letters and have all their words, as `reset-service replay --help` lists them, with one\n\
+space between two; numbers have no zero in front, and cases are at most 255. `cat -A` shows what\n\
+the eye misses. Of a history see `BadLine`, as an answer of `check` see `link`.\n",
     },
     Explanation {
         word: "not",
         text: "\
-`not enabled at N`: the entry with this number isn't allowed where it stands in the history.\n\
-Replay the entries before it, and ask `enabled I`.\n",
+`not enabled at P`: entry P, which is line P + 1 of the file, isn't allowed where it stands. To see\n\
+why, replay the entries before it, `head -n P HISTORY | sed 1d`, and then `enabled I` and `show I`.\n",
     },
     Explanation {
         word: "read",
         text: "\
-`read fault`: a file or the standard input couldn't be opened or read. Status 3.\n",
+`read fault`: the topology, the script, the history or the standard input couldn't be opened or\n\
+read. Are the paths right, are they files, and may you read them? Status 3.\n",
     },
     Explanation {
         word: "write",
         text: "\
-`write fault`: a file or the standard output couldn't be created or written. Status 3.\n",
+`write fault`: the file for the history or the standard output couldn't be created or written.\n\
+Is the folder there, may you write to it, and has the device room? Status 3.\n",
     },
     Explanation {
         word: "thread",
@@ -274,7 +278,8 @@ The command was allowed, and was done.\n",
     Explanation {
         word: "complete",
         text: "\
-The reset with this session number is complete: every node has joined its session.\n",
+The reset with this session number is complete: every node has joined its session. After a fault\n\
+that is sure again of resets that open where `check` tells no row of tree or wave.\n",
     },
     Explanation {
         word: "refused",
@@ -312,7 +317,8 @@ OTHER, or of AT itself. `reset-service tables` prints the rows; the repairs are 
     Explanation {
         word: "faults",
         text: "\
-How many rows fail, node by node and link by link. With 0, tree and wave are whole.\n",
+How many rows fail, node by node and link by link. With 0, tree and wave are whole. Of the\n\
+application each link is looked at by itself: two tokens far apart are no fault, nor is none.\n",
     },
     Explanation {
         word: "verified",
@@ -324,7 +330,7 @@ complete a reset.\n",
         word: "report",
         text: "\
 A reset that was completed: its session number, and the entries that opened and finished it (`-`\n\
-where it wasn't opened since the last fault).\n",
+where it wasn't opened since the last fault). What is sure after a fault: see `complete`.\n",
     },
     Explanation {
         word: "drove",
