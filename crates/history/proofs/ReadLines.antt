@@ -1,7 +1,7 @@
 -- What a history's text is read as, line by line.
 use Rattle.std.proofs.Common.{◌≡◌, ◌≢◌, ℕ, ◌+◌, ◌<◌, ◌≤◌, ◌^◌, Bool, true, false, true≢false, if◌then◌else◌, List, []}
-use Rattle.std.proofs.Common.{◌∷◌, ◌++◌, Option, None, Some, IfErr, IfOk, IfSome, Result, Ok, Err, length, refl, sym}
-use Rattle.std.proofs.Common.{ap, subst, ◌∙◌, arith, Vec, Global, append_assoc, append-nil}
+use Rattle.std.proofs.Common.{◌∷◌, ◌++◌, Option, None, Some, IfErr, IfOk, IfSome, OnOk, Result, Ok, Err, length, refl}
+use Rattle.std.proofs.Common.{sym, ap, subst, ◌∙◌, arith, Vec, Global, append_assoc, append-nil}
 use Rattle.std.specs.Prelude.{codes}
 use Rattle.std.specs.Fmt.{decimal}
 use Rattle.std.specs.Io.KnownBytes.{Consumes, IsAtEnd}
@@ -342,3 +342,8 @@ pub kept_err : (a b : Option (List ℕ)) (given : List ℕ) (reading : Reading) 
 kept_err a b given reading (Ok entries) consumed end read kept = tt
 kept_err a b given reading (Err fault) consumed end read kept =
     λ memory device. all_given (λ text. IsReadAs text (Err fault)) a b given consumed end (kept given read)
+
+-- what ends at the end of its reader has read it whole
+pub read_whole : {T E : Type 0} (r : Result T E) (a : Option (List ℕ)) → IsAtEnd a → OnOk r (IsAtEnd a)
+read_whole (Ok x) a end = end
+read_whole (Err e) a end = tt

@@ -3,6 +3,7 @@
 ghost use Rattle.std.specs.Prelude.{◌≡◌, ◌≢◌, ℕ, ◌<◌, ◌^◌, ◌↔◌, IfErr, IfNone, IfOk, IfSome, IsTrue, OnOk, Ok};
 ghost use Rattle.std.specs.Prelude.{Err};
 ghost use Rattle.std.specs.Char.{is_ascii_graphic};
+ghost use Rattle.std.specs.Io.KnownBytes.{IsAtEnd};
 ghost use Rattle.std.specs.List.{list_all};
 ghost use Rattle.history.specs.declared.entry.Entry.{Entry};
 ghost use Rattle.history.specs.HistoryText.{HasLine, IsPrintable, IsReadAs, entry_line, first_line};
@@ -22,6 +23,7 @@ pub fn read_book<R: Read>(alloc: Global, reader: &mut R) -> Result<Vec<Entry>, B
     ensures ok { IfOk result (λ entries. IfSome (R.remaining reader.old) (λ text. IsReadAs text (Ok entries.items))) }
     ensures err { IfErr result (λ f. f ≢ BookFault.NoMemory → f ≢ BookFault.ReadFailed
         → IfSome (R.remaining reader.old) (λ text. IsReadAs text (Err f))) }
+    ensures end { OnOk result (IsAtEnd (R.remaining reader.new)) }
 {
     let mut reading = Reading::new(alloc);
     let mut room = [0; CHUNK];

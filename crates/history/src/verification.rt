@@ -1,6 +1,7 @@
 // Whether entries are a history.
 
-ghost use Rattle.std.specs.Prelude.{◌≡◌, [], length, IfOk, IfErr, IfSome, IsSome, List, Some, Result, ℕ};
+ghost use Rattle.std.specs.Prelude.{◌≡◌, [], length, IfOk, IfErr, IfSome, IsSome, List, OnOk, Some, Result, ℕ};
+ghost use Rattle.std.specs.Io.KnownBytes.{IsAtEnd};
 ghost use Rattle.reset_model.specs.Configuration.{Configuration};
 ghost use Rattle.history.specs.declared.entry.Report.{Report};
 ghost use Rattle.history.specs.declared.entry.Summary.{Summary};
@@ -47,7 +48,8 @@ pub fn verify_reader<P: Application, R: Read>(
     opening: Config<P>,
     reader: &mut R,
 ) -> Result<Summary, ReaderFault>
-    ensures { IfSome (R.remaining reader.old) (λ text. IsVerdict P.app P.from_text opening text result) }
+    ensures told { IfSome (R.remaining reader.old) (λ text. IsVerdict P.app P.from_text opening text result) }
+    ensures end { OnOk result (IsAtEnd (R.remaining reader.new)) }
 {
     let mut verifier = Verifier::new(alloc, opening);
     let mut reading = Reading::new(alloc);

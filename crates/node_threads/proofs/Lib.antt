@@ -1,5 +1,6 @@
 mod Entering
 mod Telling
 mod Comparing
-mod Gathering
+mod Collecting
 mod Crossing
+mod Turning

@@ -1,4 +1,5 @@
 pub mod Seats
 pub mod Locked
+pub mod Turns
 pub mod Told
 pub mod Closed

@@ -1,6 +1,7 @@
 // The turns of a node.
 
 ghost use Rattle.std.specs.Prelude.{◌≡◌, ◌+◌, ◌≤◌, length, take};
+ghost use Rattle.node_threads.specs.Turns.{AddsTurns, WasFull};
 
 use crate::refusal::{CommitRefusal, LookRefusal};
 use crate::round::Round;
@@ -63,6 +64,8 @@ pub fn node_turns<L: Round, P: Application, G: Gate, R: Wait>(
     ensures node { seat.new.node ≡ seat.old.node }
     ensures most { length seat.new.receipts ≤ length seat.old.receipts + turns }
     ensures kept { take (length seat.old.receipts) seat.new.receipts ≡ seat.old.receipts }
+    ensures turns { AddsTurns P.app P.from_text L.mark L.seats seat.old.node seat.old.receipts seat.new.receipts }
+    ensures full { result ≡ TurnsEnd.BookFull → WasFull P.app P.from_text L.mark L.seats }
 {
     let mut seen: Option<View<P>> = None;
     for _turn in 0..turns {
@@ -96,6 +99,8 @@ fn turn_on<L: Round, P: Application, G: Gate, R: Wait>(
     ensures node { seat.new.node ≡ seat.old.node }
     ensures most { length seat.new.receipts ≤ length seat.old.receipts + 1 }
     ensures kept { take (length seat.old.receipts) seat.new.receipts ≡ seat.old.receipts }
+    ensures turns { AddsTurns P.app P.from_text L.mark L.seats seat.old.node seat.old.receipts seat.new.receipts }
+    ensures full { result ≡ Turn.BookFull → WasFull P.app P.from_text L.mark L.seats }
 {
     let event = match next_event(alloc, &view) {
         Ok(Some(event)) => event,
@@ -118,7 +123,9 @@ fn turn_on<L: Round, P: Application, G: Gate, R: Wait>(
 }
 
 // What comes of a turn whose plan was refused.
-fn turn_of<P: Application>(refusal: CommitRefusal<P>) -> Turn<P> {
+fn turn_of<P: Application>(refusal: CommitRefusal<P>) -> Turn<P>
+    ensures { result ≡ Turn.BookFull → refusal ≡ CommitRefusal.Refused ApplyRefusal.BookFull }
+{
     match refusal {
         CommitRefusal::NotYours => Turn::Over,
         CommitRefusal::Refused(why) => match why {

@@ -1,12 +1,12 @@
 -- What a bounded reading has of a reader.
 use Rattle.std.proofs.Common.{◌≡◌, ℕ, ◌≤◌, List, [], ◌++◌, refl, sym, ap, ◌∙◌, append-nil, arith, length, take, Option}
-use Rattle.std.proofs.Common.{None, Some}
+use Rattle.std.proofs.Common.{None, Some, Result, Ok, Err, OnOk}
 use Rattle.std.specs.Io.KnownBytes.{Consumes, IsAtEnd}
 use Rattle.std.proofs.Math.Seq.{take-append_seam}
 use Rattle.std.proofs.lemmas.List.{take_all, length-append}
-use Rattle.std.proofs.KnownBytes.{Consumes-trans}
+use Rattle.std.proofs.KnownBytes.{Consumes-nil, Consumes-trans}
 use Rattle.script_replay.specs.declared.input.TheConstants.{READ_LIMIT}
-use Rattle.script_replay.specs.Lines.{IsReadFrom}
+use Rattle.script_replay.specs.Lines.{GaveText, IsReadFrom}
 use Rattle.script_replay.specs.Parts.{ReadMore}
 
 -- the reader is at its end
@@ -44,3 +44,13 @@ pub read_last : (a b d : Option (List ℕ)) (old new : List ℕ) (n : ℕ) → C
 read_last a b d old new n p more end zero short =
     read_to_end a d new (read_on a b d old new n p more) end
     (omega (arith, ap length more.appended, length-append old more.bytes, more.count))
+
+-- a text was read, of no more bytes than are read of one
+pub text_given : {T E : Type 0} (r : Result T E) (a b : Option (List ℕ)) (text : List ℕ) → Consumes a b text
+    → length text ≤ READ_LIMIT → OnOk r (GaveText a b)
+text_given (Ok x) a b text given few = record { bytes = text; given = given; few = few }
+text_given (Err e) a b text given few = tt
+
+-- nothing was read
+pub nothing_given : {T E : Type 0} (r : Result T E) (a : Option (List ℕ)) → OnOk r (GaveText a a)
+nothing_given r a = text_given r a a [] (Consumes-nil a) (omega arith)

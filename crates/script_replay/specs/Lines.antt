@@ -1,6 +1,8 @@
 -- The lines of a text.
-use Rattle.std.specs.Prelude.{◌≡◌, ◌≢◌, ℕ, Bool, ◌==◌, List, [], ◌∷◌, ◌++◌, codes, take, All, Option, IfSome}
+use Rattle.std.specs.Prelude.{◌≡◌, ◌≢◌, ◌≤◌, ℕ, Bool, ◌==◌, List, [], ◌∷◌, ◌++◌, codes, take, All, Option, IfSome}
+use Rattle.std.specs.Prelude.{length}
 use Rattle.std.specs.List.{flat_map, join_with_byte, slice_split}
+use Rattle.std.specs.Io.KnownBytes.{Consumes}
 use Rattle.history.specs.HistoryText.{ended}
 
 abbrev pub is_line_feed : ℕ → Bool
@@ -26,3 +28,9 @@ pub data IsCut (joined topology script : List ℕ) : Type 0 where
 -- the text is what a reader had, up to the limit, where it tells its bytes
 unfoldable pub IsReadFrom : Option (List ℕ) → List ℕ → Type 0
 IsReadFrom known text = IfSome known (λ bytes. text ≡ take 1048577 bytes)
+
+-- a reader gave some bytes, at most one more than a good text has, and no more
+pub record GaveText (old new : Option (List ℕ)) : Type 0 where
+  pub bytes : List ℕ
+  pub given : Consumes old new bytes
+  pub few : length bytes ≤ 1048577

@@ -7,6 +7,7 @@ ghost use Rattle.std.specs.Io.KnownBytes.{Consumes, IsAtEnd};
 ghost use Rattle.script_replay.specs.Lines.{is_line_feed, lines_of, separator, IsCut, IsReadFrom};
 ghost use Rattle.script_replay.specs.Parts.{ReadMore};
 ghost use Rattle.script_replay.specs.Stops.{IsInputStop};
+ghost use Rattle.script_replay.specs.declared.input.TheConstants.{READ_LIMIT};
 
 use crate::status::RunStop;
 use memchr::memchr;
@@ -25,6 +26,7 @@ const CHUNK: usize = 8192;
 pub fn read_text<R: Read>(alloc: Global, reader: &mut R) -> Result<Vec<u8>, RunStop>
     ensures ok { IfOk result (λ text. IsReadFrom (R.remaining reader.old) text.items) }
     ensures taken { IfOk result (λ text. Consumes (R.remaining reader.old) (R.remaining reader.new) text.items) }
+    ensures most { IfOk result (λ text. length text.items ≤ READ_LIMIT) }
     ensures err { IfErr result IsInputStop }
 {
     let mut text = Vec::new(alloc);

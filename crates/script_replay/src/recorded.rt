@@ -1,8 +1,8 @@
 // The replay of a script whose history is kept.
 
-ghost use Rattle.std.specs.Prelude.{◌≡◌, ℕ, List};
+ghost use Rattle.std.specs.Prelude.{◌≡◌, ℕ, List, OnOk};
 ghost use Rattle.topology.specs.TopologyText.{IsReadFault};
-ghost use Rattle.script_replay.specs.Lines.{IsReadFrom};
+ghost use Rattle.script_replay.specs.Lines.{GaveText, IsReadFrom};
 ghost use Rattle.script_replay.specs.Meaning.{meaning_of};
 ghost use Rattle.script_replay.specs.Recorded.{IsRecord, IsRecordFrom, IsRecordOf, IsRecorded, LeavesRecord};
 
@@ -36,6 +36,7 @@ pub fn record_text<R: Read, H: Write, W: Write>(
     ensures leaves { (text : List ℕ) × IsReadFrom (R.remaining script.old) text
         × LeavesRecord (IsRecorded topology.now text) (H.contents history.old) (H.contents history.new)
         (W.contents out.old) (W.contents out.new) result }
+    ensures taken { OnOk result (GaveText (R.remaining script.old) (R.remaining script.new)) }
     ensures untouched { (f : ReadFault) → IsReadFault topology.now f → script.new ≡ script.old }
 {
     match read_topology(alloc, topology) {

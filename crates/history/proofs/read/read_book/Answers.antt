@@ -1,6 +1,6 @@
 use Rattle.std.proofs.Common.{[], ◌++◌, Ok, ap}
 use Rattle.std.proofs.KnownBytes.{Consumes-trans}
-use Rattle.history.proofs.ReadLines.{fault_given, kept_err, kept_ok}
+use Rattle.history.proofs.ReadLines.{fault_given, kept_err, kept_ok, read_whole}
 use Rattle.history.proofs.read.read_book.Goals as goal
 
 pub returns-in-Ok-false-clause-ok : goal.returns-in-Ok-false-clause-ok
@@ -38,3 +38,8 @@ loop-preserved g c =
           (g.R.Read.remaining c.read_on.new.reader) given last consumed gave,
       on [] given read,
     )
+
+pub returns-in-Ok-false-clause-end : goal.returns-in-Ok-false-clause-end
+returns-in-Ok-false-clause-end g c =
+    read_whole c.into_entries.result (g.R.Read.remaining c.read_on.new.reader)
+    (c.in-Ok-false.ensures.end (ap Ok c.in-Ok-false.field-0-test)).0

@@ -1,13 +1,12 @@
-use Rattle.std.proofs.Common.{◌++◌, ◌∙◌, Ok, ap, length, arith}
-use Rattle.std.proofs.lemmas.List.{length-append}
+use Rattle.std.proofs.Common.{◌++◌, ◌∙◌, Ok, ap}
 use Rattle.std.proofs.KnownBytes.{Consumes-trans}
 use Rattle.history.specs.Verdict.{IsVerdict}
-use Rattle.history.proofs.ReadLines.{all_given, fault_given}
+use Rattle.history.proofs.ReadLines.{all_given, fault_given, read_whole}
 use Rattle.history.proofs.Verified.{fault_verdict}
 use Rattle.history.proofs.verification.verify_reader.Goals as goal
 
-pub returns-in-Ok-false : goal.returns-in-Ok-false
-returns-in-Ok-false g c =
+pub returns-in-Ok-false-clause-told : goal.returns-in-Ok-false-clause-told
+returns-in-Ok-false-clause-told g c =
     let app = g.P.Application.app in
     let from_text = g.P.Application.from_text in
     let (given, es, consumed, read, none, verified, counted) = c.loop.invariant in
@@ -19,8 +18,8 @@ returns-in-Ok-false g c =
     (c.in-Ok-false.ensures.end (ap Ok c.in-Ok-false.field-0-test)).0
     (c.verdict.ensures c.args.opening es (given ++ last) verified (on es given read))
 
-pub returns-in-Err : goal.returns-in-Err
-returns-in-Err g c =
+pub returns-in-Err-clause-told : goal.returns-in-Err-clause-told
+returns-in-Err-clause-told g c =
     let (given, es, consumed, read, none, verified, counted) = c.loop.invariant in
     let start = g.R.Read.remaining c.args.reader.now in
     fault_verdict g.P.Application.app g.P.Application.from_text c.args.opening start c.in-Err.fault
@@ -42,3 +41,8 @@ loop-preserved g c =
       rw c.entries.ensures at (c.take.ensures c.args.opening es verified counted),
       c.count-count.ensures ∙ more.lines.counted,
     )
+
+pub returns-in-Ok-false-clause-end : goal.returns-in-Ok-false-clause-end
+returns-in-Ok-false-clause-end g c =
+    read_whole c.verdict.result (g.R.Read.remaining c.read_on.new.reader)
+    (c.in-Ok-false.ensures.end (ap Ok c.in-Ok-false.field-0-test)).0

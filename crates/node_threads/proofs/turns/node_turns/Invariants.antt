@@ -1,9 +1,13 @@
--- No more receipts than turns were added, and none was taken away.
+-- No more receipts than turns were added, each of a turn, and none was taken away.
 use Rattle.std.proofs.Common.{◌≡◌, ◌+◌, ◌≤◌, length, take}
+use Rattle.node_threads.specs.Turns.{AddsTurns}
 use Rattle.node_threads.proofs.turns.node_turns.Given as goal
 
 abbrev pub invariant-loop-turn : goal.invariant-loop-turn
-invariant-loop-turn g l =
-    (length l.seat.receipts ≤ length l.fn.seat.receipts + l._turn)
-    × (take (length l.fn.seat.receipts) l.seat.receipts ≡ l.fn.seat.receipts)
-    × (l.seat.node ≡ l.fn.seat.node)
+invariant-loop-turn g l = record {
+  most : length l.seat.receipts ≤ length l.fn.seat.receipts + l._turn;
+  kept : take (length l.fn.seat.receipts) l.seat.receipts ≡ l.fn.seat.receipts;
+  node : l.seat.node ≡ l.fn.seat.node;
+  turns : AddsTurns g.P.Application.app g.P.Application.from_text g.L.Round.mark g.L.Round.seats l.fn.seat.node
+      l.fn.seat.receipts l.seat.receipts;
+}

@@ -12,7 +12,7 @@ returns-in-Ok-clause-ok g c =
     kept_by m c.args.opening c.one_reading_a_text.ensures history c.args.book.now.entries c.in-Ok.summary
     c.requires.few c.in_ok-history.ensures.read c.requires.steps
     (subst (λ text. IsVerdict m.app m.from_text c.args.opening text (Ok c.in-Ok.summary)) c.as_slice-rest.ensures.value
-    c.in-Ok.ensures)
+    c.in-Ok.ensures.told)
     c.len-nodes.result (length c.as_slice-reports.result.now)
     (c.len-nodes.ensures ∙ ap (λ (h : Graph). length h.ids) c.topology.ensures)
     (ap length c.as_slice-reports.ensures.value)

@@ -18,7 +18,7 @@ returns-in-Ok-clause-leaves g c =
     (λ o. o ≡ (verified_text s.entries s.reports.items, Good))
     (λ text. IsVerified m c.args.opening text) _ _ c.answer_summary.result
     (λ text o verdict is. of_summary m c.args.opening text s o verdict is)
-    c.in-Ok.ensures c.answer_summary.ensures.leaves
+    c.in-Ok.ensures.told c.answer_summary.ensures.leaves
 
 pub returns-in-Err-Text : goal.returns-in-Err-Text
 returns-in-Err-Text g c =
@@ -32,7 +32,7 @@ returns-in-Err-Text g c =
           (λ o. o ≡ (bad_history_text fault, BadInput))
           (λ text. IsVerified m c.args.opening text) _ _ c.refuse_history.result
           (λ text o verdict is. of_no_history m c.args.opening text fault o memory device verdict is)
-          (rw c.in-Err-Text.field-0-is at c.in-Err-Text.ensures) c.refuse_history.ensures.leaves;
+          (rw c.in-Err-Text.field-0-is at c.in-Err-Text.ensures.told) c.refuse_history.ensures.leaves;
       unread = search rules;
     }
 
@@ -46,4 +46,4 @@ returns-in-Err-Entries-NotEnabledAt-clause-leaves g c =
     (λ text. IsVerified m c.args.opening text) _ _ c.refuse_entry.result
     (λ text o verdict is. of_refused m c.args.opening text position o verdict is)
     (rw (c.in-Err-Entries-NotEnabledAt.field-0-is, c.in-Err-Entries-NotEnabledAt.field-0-0-is)
-    at c.in-Err-Entries-NotEnabledAt.ensures) c.refuse_entry.ensures.leaves
+    at c.in-Err-Entries-NotEnabledAt.ensures.told) c.refuse_entry.ensures.leaves

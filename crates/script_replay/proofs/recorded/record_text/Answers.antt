@@ -4,7 +4,7 @@ use Rattle.script_replay.specs.Output.{bad_topology_text}
 use Rattle.script_replay.specs.Recorded.{IsRecordOf, IsRecorded}
 use Rattle.script_replay.specs.declared.status.Status.TheVariants.{BadInput}
 use Rattle.script_replay.proofs.LeftRecords.{record_alone, record_unread, record_weaker, recorded, unrecorded}
-use Rattle.script_replay.proofs.Reading.{some_read}
+use Rattle.script_replay.proofs.Reading.{nothing_given, some_read, text_given}
 use Rattle.script_replay.proofs.recorded.record_text.Goals as goal
 
 pub returns-in-Err-clause-leaves : goal.returns-in-Err-clause-leaves
@@ -38,3 +38,11 @@ returns-in-Err-read_text-clause-leaves g c =
       record_unread (IsRecorded c.args.topology.now read.0) (g.H.Write.contents c.args.history.now)
           (g.W.Write.contents c.args.out.now) c.in-Err-read_text.stop c.in-Err-read_text.ensures.err,
     )
+
+pub returns-in-Err-clause-taken : goal.returns-in-Err-clause-taken
+returns-in-Err-clause-taken g c = nothing_given c.refuse_topology.result (g.R.Read.remaining c.args.script.now)
+
+pub returns-in-Ok-read_text-clause-taken : goal.returns-in-Ok-read_text-clause-taken
+returns-in-Ok-read_text-clause-taken g c =
+    text_given c.record_app.result _ _ c.in-Ok-read_text.text.items c.in-Ok-read_text.ensures.taken
+    c.in-Ok-read_text.ensures.most

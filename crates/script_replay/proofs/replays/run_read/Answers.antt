@@ -4,7 +4,7 @@ use Rattle.script_replay.specs.Output.IsJudged.{bad_topology, good_topology}
 use Rattle.script_replay.specs.declared.status.Status.TheVariants.{BadInput}
 use Rattle.topology.specs.declared.text.ReadFault.TheVariants.{NoMemory}
 use Rattle.script_replay.proofs.Runs.{leaves_unread, leaves_weaker}
-use Rattle.script_replay.proofs.Reading.{some_read}
+use Rattle.script_replay.proofs.Reading.{nothing_given, some_read, text_given}
 use Rattle.script_replay.proofs.replays.run_read.Goals as goal
 
 pub returns-in-Err-clause-leaves : goal.returns-in-Err-clause-leaves
@@ -34,3 +34,11 @@ returns-in-Err-read_text-clause-leaves g c =
       leaves_unread (IsOutput c.args.purpose c.args.topology.now read.0)
           (g.W.Write.contents c.args.out.now) c.in-Err-read_text.stop c.in-Err-read_text.ensures.err,
     )
+
+pub returns-in-Err-clause-taken : goal.returns-in-Err-clause-taken
+returns-in-Err-clause-taken g c = nothing_given c.refuse_topology.result (g.R.Read.remaining c.args.script.now)
+
+pub returns-in-Ok-read_text-clause-taken : goal.returns-in-Ok-read_text-clause-taken
+returns-in-Ok-read_text-clause-taken g c =
+    text_given c.run_app.result _ _ c.in-Ok-read_text.text.items c.in-Ok-read_text.ensures.taken
+    c.in-Ok-read_text.ensures.most
