@@ -1,7 +1,5 @@
 -- What a run of the seeded scheduler leaves: the history of what it did, and what is written of it.
-use Rattle.std.specs.Prelude.{◌≡◌, ℕ, List, [], ◌∷◌, length, codes, IsSome, Ok}
-use Rattle.std.specs.Fmt.{decimal}
-use Rattle.std.specs.List.{concat}
+use Rattle.std.specs.Prelude.{◌≡◌, ℕ, List, [], length, codes, IsSome, Ok}
 use Rattle.topology.specs.Graph.{Graph}
 use Rattle.topology.specs.declared.text.AppName.{AppName}
 use Rattle.topology.specs.declared.text.AppName.TheVariants.{Idle, Token, Mutex, Routes}
@@ -9,7 +7,7 @@ use Rattle.reset_model.specs.Configuration.{Configuration}
 use Rattle.reset_model.specs.Outcome.{IsBoot}
 use Rattle.history.specs.Book.{BookView}
 use Rattle.history.specs.Entries.{replayed}
-use Rattle.history.specs.HistoryText.{IsReadAs, ended, history_text}
+use Rattle.history.specs.HistoryText.{IsReadAs, history_text}
 use Rattle.history.specs.Reports.{reports_of}
 use Rattle.history.specs.declared.entry.Entry.{Entry}
 use Rattle.scheduler.specs.Driven.{driven}
@@ -17,11 +15,11 @@ use Rattle.script_replay.specs.Meaning.{Meaning, idle_meaning, token_meaning, mu
 use Rattle.script_replay.specs.Output.{IsJudged}
 use Rattle.script_replay.specs.declared.status.Status.{Status}
 use Rattle.script_replay.specs.declared.status.Status.TheVariants.{Good, BadInput}
+use Rattle.reset_service.specs.Counts.{counts_line}
 
 -- the line of the numbers of entries and of reports
 abbrev pub drove_line : ℕ → ℕ → List ℕ
-drove_line entries reports =
-    concat (codes "drove " ∷ decimal entries ∷ codes " entries " ∷ decimal reports ∷ ended (codes " reports") ∷ [])
+drove_line = counts_line (codes "drove ")
 
 -- the book that opens with a configuration and may have a million entries
 abbrev pub new_book : {L : Type 0} → Configuration L → BookView L

@@ -1,3 +1,4 @@
+pub mod Counts
 pub mod Verified
 pub mod Drove
 pub mod Threaded

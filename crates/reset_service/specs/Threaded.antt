@@ -1,5 +1,6 @@
 -- What a run of node threads leaves: the history that the threads keep, and what is written of it.
-use Rattle.std.specs.Prelude.{◌≡◌, ◌⊎◌, ◌<◌, ◌≤◌, ℕ, List, [], ◌∷◌, length, codes, All, Option, IsSome, Result, Ok, Err}
+use Rattle.std.specs.Prelude.{◌≡◌, ◌⊎◌, ◌<◌, ◌≤◌, ℕ, List, [], ◌∷◌, ◌++◌, length, codes, All, Option, IsSome, Result}
+use Rattle.std.specs.Prelude.{Ok, Err}
 use Rattle.std.specs.Fmt.{decimal}
 use Rattle.std.specs.List.{concat}
 use Rattle.std.specs.Io.KnownBytes.{Appends, Keeps}
@@ -19,6 +20,7 @@ use Rattle.history.specs.Entries.{replayed}
 use Rattle.history.specs.HistoryText.{IsReadAs, ended}
 use Rattle.history.specs.Reports.{reports_of}
 use Rattle.history.specs.Stretches.{IsSoundStretch, IsStretch, IsTrueReport, Stretch, steps}
+use Rattle.reset_service.specs.Counts.{counts_line}
 use Rattle.reset_service.specs.Drove.{drove_line}
 use Rattle.script_replay.specs.Meaning.{Meaning, idle_meaning, token_meaning, mutex_meaning, routes_meaning}
 use Rattle.script_replay.specs.Output.{IsJudged, bad_topology_text}
@@ -34,8 +36,7 @@ use Rattle.reset_service.specs.declared.told.Told.TheVariants.{BadTopology, TooM
 -- the line of the numbers of nodes, of entries and of reports
 abbrev pub threads_line : ℕ → ℕ → ℕ → List ℕ
 threads_line nodes entries reports =
-    concat (codes "threads " ∷ decimal nodes ∷ codes " nodes " ∷ decimal entries ∷ codes " entries " ∷ decimal reports
-    ∷ ended (codes " reports") ∷ [])
+    concat (codes "threads " ∷ decimal nodes ∷ []) ++ counts_line (codes " nodes ") entries reports
 
 -- the line of a topology that has more nodes than there may be threads
 abbrev pub too_many_text : List ℕ

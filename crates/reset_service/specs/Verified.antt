@@ -20,6 +20,7 @@ use Rattle.script_replay.specs.Meaning.{Meaning, idle_meaning, token_meaning, mu
 use Rattle.script_replay.specs.Output.{IsJudged, numbered}
 use Rattle.script_replay.specs.declared.status.Status.{Status}
 use Rattle.script_replay.specs.declared.status.Status.TheVariants.{Good, NotEnabled, BadInput}
+use Rattle.reset_service.specs.Counts.{counts_line}
 
 -- ---- lines
 
@@ -34,14 +35,10 @@ report_line report =
     concat (codes "report " ∷ decimal report.number ∷ codes " opened " ∷ position_text report.opened
     ∷ codes " finished " ∷ decimal report.finished ∷ ended [] ∷ [])
 
--- the line of the numbers of entries and of reports
-abbrev pub counts_line : ℕ → ℕ → List ℕ
-counts_line entries reports =
-    concat (codes "verified " ∷ decimal entries ∷ codes " entries " ∷ decimal reports ∷ ended (codes " reports") ∷ [])
-
 -- what a history with so many entries and these reports is answered with
 abbrev pub verified_text : ℕ → List Report → List ℕ
-verified_text entries reports = flat_map report_line reports ++ counts_line entries (length reports)
+verified_text entries reports =
+    flat_map report_line reports ++ counts_line (codes "verified ") entries (length reports)
 
 -- the line of the first entry that isn't allowed where it stands
 abbrev pub not_enabled_text : ℕ → List ℕ

@@ -7,6 +7,7 @@
 //! Scripts are replayed by the crate `script_replay`, and the command line is read by `command_words`.
 #![tactic(auto)]
 
+mod counts;
 mod driven;
 mod explained;
 mod explanations;

@@ -8,19 +8,18 @@ ghost use Rattle.history.specs.Reports.{reports_of};
 ghost use Rattle.script_replay.specs.Meaning.{meaning_of};
 ghost use Rattle.script_replay.specs.Output.{Leaves};
 ghost use Rattle.space_time_diagram.specs.Diagram.{diagram_text};
-ghost use Rattle.reset_service.specs.Pictured.{drawing, too_many_lanes_text, too_many_marks_text, IsDrawing, IsPicture};
+ghost use Rattle.reset_service.specs.Pictured.{drawing, IsDrawing, IsPicture};
 ghost use Rattle.reset_service.specs.Pictured.{IsPictureFrom, IsPictureOf, IsPictureText};
 ghost use Rattle.script_replay.specs.Stops.{IsOutputStop};
 
 use crate::verified::{refuse_entry, refuse_history};
-use action_tables::put_bytes;
 use app_interface::{Application, Idle};
 use app_mutex::EdgeReversal;
 use app_routes::Routes;
 use app_token::Token;
 use history::{BookFault, Entry, Report, VerifyFault, read_book, verify};
 use reset_machine::Config;
-use script_replay::{RunStop, Status, refuse_topology};
+use script_replay::{RunStop, Status, refuse_input, refuse_topology};
 use space_time_diagram::{DiagramStop, MAX_LANES, MAX_MARKS, put_diagram};
 use std::alloc::Global;
 use std::io::{Read, Write};
@@ -97,7 +96,7 @@ fn draw_from<P: Application, R: Read, W: Write>(
     ensures unread { result ≡ Err RunStop.ReadFailed → Keeps (W.contents out.old) (W.contents out.new) }
 {
     if opening.topology().len() > MAX_LANES {
-        return refuse_lanes(out);
+        return refuse_input(out, b"bad topology TooManyForPicture\n");
     }
     match read_book(alloc, history) {
         Ok(entries) => draw_entries(alloc, opening, &entries, out),
@@ -143,7 +142,7 @@ fn draw<P: Application, W: Write>(
     ensures stop { IfErr result IsOutputStop }
 {
     if entries.len() > MAX_MARKS {
-        refuse_marks(out)
+        refuse_input(out, b"bad history TooLongForPicture\n")
     } else {
         draw_few(alloc, opening, entries, reports, out)
     }
@@ -172,24 +171,4 @@ fn draw_few<P: Application, W: Write>(
         Err(DiagramStop::WriteFailed) => Err(RunStop::WriteFailed),
         Err(DiagramStop::NoMemory) => Err(RunStop::NoMemory),
     }
-}
-
-// Answers a topology of more nodes than a picture has lanes.
-fn refuse_lanes<W: Write>(out: &mut W) -> Result<Status, RunStop>
-    ensures leaves { Leaves (λ output. output ≡ (too_many_lanes_text, Status.BadInput)) (W.contents out.old)
-        (W.contents out.new) result }
-    ensures stop { IfErr result IsOutputStop }
-{
-    put_bytes(out, b"bad topology TooManyForPicture\n")?;
-    Ok(Status::BadInput)
-}
-
-// Answers a history of more entries than a picture has marks.
-fn refuse_marks<W: Write>(out: &mut W) -> Result<Status, RunStop>
-    ensures leaves { Leaves (λ output. output ≡ (too_many_marks_text, Status.BadInput)) (W.contents out.old)
-        (W.contents out.new) result }
-    ensures stop { IfErr result IsOutputStop }
-{
-    put_bytes(out, b"bad history TooLongForPicture\n")?;
-    Ok(Status::BadInput)
 }

@@ -1,20 +1,18 @@
 // Topology texts of standard shapes, as the words of the command line ask for them.
 
-ghost use Rattle.std.specs.Prelude.{◌≡◌, ◌≤◌, IfErr, codes, option_map};
-ghost use Rattle.topology.specs.TopologyText.{app_named};
+ghost use Rattle.std.specs.Prelude.{◌≡◌, ◌≤◌, IfErr, option_map};
 ghost use Rattle.network_shapes.specs.Shapes.{shape_description};
 ghost use Rattle.network_shapes.specs.TopologyTable.{description_text};
-ghost use Rattle.history.specs.HistoryText.{ended};
 ghost use Rattle.script_replay.specs.Output.{bad_topology_text, Leaves};
 ghost use Rattle.reset_service.specs.Shaped.{app_or_idle, shape_named, shaped};
 ghost use Rattle.script_replay.specs.Stops.{IsOutputStop};
 
 use action_tables::put_bytes;
 use network_shapes::{Shape, shape_text};
-use script_replay::{RunStop, Status, put_topology_fault};
+use script_replay::{RunStop, Status, put_topology_fault, refuse_input};
 use std::alloc::Global;
 use std::io::Write;
-use topology::{AppName, ReadFault};
+use topology::{AppName, ReadFault, app_named};
 
 /// Writes the topology text of a shape with so many nodes, from 1 to 1,024, or that one of the two names isn't known.
 /// Where no application is named, it is the one that idles. The seed matters to random shapes alone.
@@ -39,7 +37,7 @@ pub fn write_shape<W: Write>(
             Ok(app) => write_known(alloc, shape, nodes, seed, app, out),
             Err(fault) => refuse_app(fault, out),
         },
-        None => refuse_shape(out),
+        None => refuse_input(out, b"bad topology UnknownShape\n"),
     }
 }
 
@@ -62,16 +60,6 @@ fn write_known<W: Write>(
     let text = shape_text(alloc, shape, nodes, seed, app)?;
     put_bytes(out, text.as_bytes())?;
     Ok(Status::Good)
-}
-
-// Answers a name of no shape.
-fn refuse_shape<W: Write>(out: &mut W) -> Result<Status, RunStop>
-    ensures leaves { Leaves (λ output. output ≡ (ended (codes "bad topology UnknownShape"), Status.BadInput))
-        (W.contents out.old) (W.contents out.new) result }
-    ensures stop { IfErr result IsOutputStop }
-{
-    put_bytes(out, b"bad topology UnknownShape\n")?;
-    Ok(Status::BadInput)
 }
 
 // Answers a name of no application.
@@ -105,18 +93,5 @@ fn app_or_idle(name: Option<&str>) -> Result<AppName, ReadFault>
     match name {
         None => Ok(AppName::Idle),
         Some(name) => app_named(name),
-    }
-}
-
-#[tactic(auto, unfolding(topology::specs::TopologyText::app_named))]
-fn app_named(name: &str) -> Result<AppName, ReadFault>
-    ensures { result ≡ app_named name.now }
-{
-    match name {
-        "idle" => Ok(AppName::Idle),
-        "token" => Ok(AppName::Token),
-        "mutex" => Ok(AppName::Mutex),
-        "routes" => Ok(AppName::Routes),
-        _ => Err(ReadFault::UnknownApp),
     }
 }

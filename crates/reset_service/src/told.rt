@@ -3,9 +3,9 @@
 ghost use Rattle.std.specs.Prelude.{◌≡◌, OnErr, OnOk};
 ghost use Rattle.std.specs.Io.KnownBytes.{Appends};
 ghost use Rattle.action_tables.specs.Written.{AppendsPrefix};
-ghost use Rattle.reset_service.specs.Drove.{drove_line};
 ghost use Rattle.reset_service.specs.Threaded.{threads_line, told_history, told_output};
 
+use crate::counts::put_counts;
 use action_tables::{Part, WriteFault, put_bytes, put_parts};
 use script_replay::{Status, put_topology_fault};
 use std::io::Write;
@@ -58,12 +58,13 @@ pub fn put_told<W: Write>(out: &mut W, told: &Told) -> Result<(), WriteFault>
     match told {
         Told::BadTopology(fault) => put_topology_fault(out, *fault),
         Told::TooManyNodes => put_bytes(out, b"bad topology TooManyForThreads\n"),
-        Told::Kept(kept) => put_counts(out, kept.nodes, kept.entries, kept.reports),
-        Told::Driven(driven) => put_driven(out, driven.entries, driven.reports),
+        Told::Kept(kept) => put_threads(out, kept.nodes, kept.entries, kept.reports),
+        Told::Driven(driven) => put_counts(out, b"drove ", driven.entries, driven.reports),
     }
 }
 
-fn put_counts<W: Write>(
+// Writes the line of a run of node threads.
+fn put_threads<W: Write>(
     out: &mut W,
     nodes: usize,
     entries: usize,
@@ -75,32 +76,9 @@ fn put_counts<W: Write>(
 {
     put_parts(
         out,
-        &[
-            Part::Text(b"threads "),
-            Part::Number(nodes as u64),
-            Part::Text(b" nodes "),
-            Part::Number(entries as u64),
-            Part::Text(b" entries "),
-            Part::Number(reports as u64),
-            Part::Text(b" reports\n"),
-        ],
-    )
-}
-
-fn put_driven<W: Write>(out: &mut W, entries: usize, reports: usize) -> Result<(), WriteFault>
-    ensures ok { OnOk result (Appends (W.contents out.old) (W.contents out.new) (drove_line entries reports)) }
-    ensures err { OnErr result (AppendsPrefix (W.contents out.old) (W.contents out.new) (drove_line entries reports)) }
-{
-    put_parts(
-        out,
-        &[
-            Part::Text(b"drove "),
-            Part::Number(entries as u64),
-            Part::Text(b" entries "),
-            Part::Number(reports as u64),
-            Part::Text(b" reports\n"),
-        ],
-    )
+        &[Part::Text(b"threads "), Part::Number(nodes as u64)],
+    )?;
+    put_counts(out, b" nodes ", entries, reports)
 }
 
 // The status of a run.

@@ -7,14 +7,15 @@ ghost use Rattle.topology.specs.TopologyText.{IsReadFault};
 ghost use Rattle.action_tables.specs.Written.{AppendsPrefix};
 ghost use Rattle.script_replay.specs.Meaning.{meaning_of};
 ghost use Rattle.script_replay.specs.Output.{Leaves};
-ghost use Rattle.reset_service.specs.Verified.{bad_history_text, counts_line, not_enabled_text, position_text};
+ghost use Rattle.reset_service.specs.Verified.{bad_history_text, not_enabled_text, position_text};
 ghost use Rattle.reset_service.specs.Verified.{report_line, verified_text, IsVerification, IsVerified};
 ghost use Rattle.reset_service.specs.Verified.{IsVerifiedFrom, IsVerifiedOf};
 ghost use Rattle.reset_service.specs.declared.line.TheConstants.{ROOM};
 ghost use Rattle.script_replay.specs.Stops.{IsOutputStop};
 
+use crate::counts::put_counts;
 use crate::line::LineBuffer;
-use action_tables::{Part, WriteFault, put_bytes, put_parts};
+use action_tables::{WriteFault, put_bytes};
 use app_interface::{Application, Idle};
 use app_mutex::EdgeReversal;
 use app_routes::Routes;
@@ -170,23 +171,7 @@ fn put_summary<W: Write>(out: &mut W, entries: usize, reports: &[Report]) -> Res
         (AppendsPrefix (W.contents out.old) (W.contents out.new) (verified_text entries reports.now)) }
 {
     put_reports(out, reports)?;
-    put_counts(out, entries, reports.len())
-}
-
-fn put_counts<W: Write>(out: &mut W, entries: usize, reports: usize) -> Result<(), WriteFault>
-    ensures ok { OnOk result (Appends (W.contents out.old) (W.contents out.new) (counts_line entries reports)) }
-    ensures err { OnErr result (AppendsPrefix (W.contents out.old) (W.contents out.new) (counts_line entries reports)) }
-{
-    put_parts(
-        out,
-        &[
-            Part::Text(b"verified "),
-            Part::Number(entries as u64),
-            Part::Text(b" entries "),
-            Part::Number(reports as u64),
-            Part::Text(b" reports\n"),
-        ],
-    )
+    put_counts(out, b"verified ", entries, reports.len())
 }
 
 fn put_reports<W: Write>(out: &mut W, reports: &[Report]) -> Result<(), WriteFault>

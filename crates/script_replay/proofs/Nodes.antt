@@ -6,8 +6,7 @@ use Rattle.std.proofs.Common.{true≢false, Option, Some, None, IfSome, IfNone}
 use Rattle.std.specs.List.{list_any}
 use Rattle.std.proofs.lemmas.Bool.Decides.{nat_tests}
 use Rattle.std.proofs.lemmas.Grind.{get_or_default_zero}
-use Rattle.topology.specs.Graph.{IsNode}
-use Rattle.action_tables.specs.Numbers.{is_among}
+use Rattle.topology.specs.Graph.{IsNode, is_node}
 use Rattle.tree_layer.specs.declared.regs.TreeRegs.{TreeRegs}
 use Rattle.wave_layer.specs.declared.regs.WaveRegs.{WaveRegs}
 use Rattle.reset_model.specs.declared.step.StepRefusal.{StepRefusal}
@@ -53,13 +52,13 @@ absent (x ∷ xs) i h =
     or_neither (nat_eq x i) (list_any (λ n. nat_eq n i) xs) (grind (arith, nat_tests))
     (absent xs i (λ m. h (suc m.0, omega (arith, m.1), m.2)))
 
-pub node_there : {L : Type 0} (c : Configuration L) (i : ℕ) → IsNode c.graph i → is_among i c.graph.ids ≡ true
+pub node_there : {L : Type 0} (c : Configuration L) (i : ℕ) → IsNode c.graph i → is_node c.graph i ≡ true
 node_there c i node = present c.graph.ids i node.0 node.1 node.2
 
-pub no_node_there : {L : Type 0} (c : Configuration L) (i : ℕ) → (IsNode c.graph i → ⊥) → is_among i c.graph.ids ≡ false
+pub no_node_there : {L : Type 0} (c : Configuration L) (i : ℕ) → (IsNode c.graph i → ⊥) → is_node c.graph i ≡ false
 no_node_there c i none = absent c.graph.ids i none
 
-pub node_of : {L : Type 0} (c : Configuration L) (i : ℕ) → is_among i c.graph.ids ≡ true → IsNode c.graph i
+pub node_of : {L : Type 0} (c : Configuration L) (i : ℕ) → is_node c.graph i ≡ true → IsNode c.graph i
 node_of c i there = go (position (λ k. k == i) c.graph.ids) refl
   where
     go : (o : Option ℕ) → position (λ k. k == i) c.graph.ids ≡ o → IsNode c.graph i
@@ -157,7 +156,7 @@ unfolding alarm_line
 alarm_line-is m c i told is = ap alarm_text (sym is)
 
 pub alarm_node : {L : Type 0} (m : Meaning L) (c : Configuration L) (i : ℕ) (told : Option LinkFault)
-    → is_among i c.graph.ids ≡ true
+    → is_node c.graph i ≡ true
     → IfSome told (λ fault. IsNode c.graph i × (alarm_of m.app c i ≡ Some fault))
     → IfNone told (IsNode c.graph i → alarm_of m.app c i ≡ None)
     → at_node c i (alarm_line m c i) ≡ alarm_text told

@@ -5,8 +5,7 @@ use Rattle.std.proofs.Common.{append_assoc, arith, length, IfOk, IsSome}
 use Rattle.std.specs.List.{flat_map}
 use Rattle.std.proofs.lemmas.Bool.Decides.{nat_tests}
 use Rattle.std.proofs.lemmas.List.{length-append}
-use Rattle.topology.specs.Graph.{IsNode}
-use Rattle.action_tables.specs.Numbers.{is_among}
+use Rattle.topology.specs.Graph.{IsNode, is_node}
 use Rattle.fault_inject.specs.declared.fault.Fault.{Fault}
 use Rattle.fault_inject.specs.declared.refusal.FaultRefusal.{FaultRefusal}
 use Rattle.link_predicates.specs.Faults.{alarm_of}
@@ -83,11 +82,11 @@ module _ {L : Type 0} (m : Meaning L) (c : Configuration L) (i : ℕ) where
   abbrev left_if : Bool → Option LinkFault → Configuration L
   left_if b o = (told_if b o).0
 
-  events-is : watch_events m c i ≡ events_if (is_among i c.graph.ids) (alarm_of m.app c i)
+  events-is : watch_events m c i ≡ events_if (is_node c.graph i) (alarm_of m.app c i)
   unfolding watch_events
   events-is = refl
 
-  left-is : (answered m c (Watch i)).0 ≡ left_if (is_among i c.graph.ids) (alarm_of m.app c i)
+  left-is : (answered m c (Watch i)).0 ≡ left_if (is_node c.graph i) (alarm_of m.app c i)
   unfolding watched
   left-is = refl
 
@@ -102,16 +101,16 @@ module _ {L : Type 0} (m : Meaning L) (c : Configuration L) (i : ℕ) where
 
   -- and it does nothing where it has none
   pub no_alarm_events : (IsNode c.graph i → alarm_of m.app c i ≡ None) → watch_events m c i ≡ []
-  no_alarm_events none = events-is ∙ go (is_among i c.graph.ids) refl
+  no_alarm_events none = events-is ∙ go (is_node c.graph i) refl
     where
-      go : (b : Bool) → is_among i c.graph.ids ≡ b → events_if b (alarm_of m.app c i) ≡ []
+      go : (b : Bool) → is_node c.graph i ≡ b → events_if b (alarm_of m.app c i) ≡ []
       go true there = ap (events_if true) (none (node_of c i there))
       go false there = refl
 
   pub no_alarm_left : (IsNode c.graph i → alarm_of m.app c i ≡ None) → (answered m c (Watch i)).0 ≡ c
-  no_alarm_left none = left-is ∙ go (is_among i c.graph.ids) refl
+  no_alarm_left none = left-is ∙ go (is_node c.graph i) refl
     where
-      go : (b : Bool) → is_among i c.graph.ids ≡ b → left_if b (alarm_of m.app c i) ≡ c
+      go : (b : Bool) → is_node c.graph i ≡ b → left_if b (alarm_of m.app c i) ≡ c
       go true there = ap (left_if true) (none (node_of c i there))
       go false there = refl
 
@@ -162,7 +161,7 @@ module _ {L : Type 0} (m : Meaning L) where
       omega (arith, length-append (event_entries m c (Request i)) [])
 
   few_watched : (c : Configuration L) (i : ℕ) → length (flat_map (event_entries m c) (watch_events m c i)) ≤ 1
-  few_watched c i = go (is_among i c.graph.ids) (events-is m c i)
+  few_watched c i = go (is_node c.graph i) (events-is m c i)
     where
       go : (b : Bool) → watch_events m c i ≡ events_if m c i b (alarm_of m.app c i)
           → length (flat_map (event_entries m c) (watch_events m c i)) ≤ 1

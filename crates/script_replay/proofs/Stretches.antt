@@ -2,12 +2,12 @@
 use Rattle.std.proofs.Common.{◌≡◌, ℕ, ◌+◌, Bool, true, false, if◌then◌else◌, List, [], ◌∷◌, ◌++◌, Option, Some, None}
 use Rattle.std.proofs.Common.{Result, Ok, Err, refl, sym, subst, ◌∙◌}
 use Rattle.std.proofs.lemmas.List.Elements.{All-head, All-tail}
-use Rattle.action_tables.specs.Numbers.{is_among}
+use Rattle.topology.specs.Graph.{is_node}
 use Rattle.link_predicates.specs.Faults.{alarm_of}
 use Rattle.link_predicates.specs.declared.fault.LinkFault.{LinkFault}
 use Rattle.reset_model.specs.Configuration.{Configuration}
 use Rattle.reset_model.specs.Planned.{outcome_of}
-use Rattle.reset_model.specs.Runs.{Answers, IsRun}
+use Rattle.reset_model.specs.Runs.{IsDone, IsRun}
 use Rattle.reset_model.specs.declared.event.Event.{Event}
 use Rattle.reset_model.specs.declared.step.Reply.{Reply}
 use Rattle.reset_model.specs.declared.step.StepRefusal.{StepRefusal}
@@ -37,7 +37,7 @@ module _ {L : Type 0} (m : Meaning L) where
 
   is_answer : (c : Configuration L) (e : Event) (o : Result (Configuration L × Reply) StepRefusal)
       → outcome_of m.app c e ≡ o
-      → Answers m.app c e (event_answer o) (stepped c o).0
+      → IsDone m.app c e (event_answer o) (stepped c o).0
   is_answer c e (Ok r) is = is
   is_answer c e (Err refusal) is = ((λ memory. is), refl)
 
@@ -62,7 +62,7 @@ module _ {L : Type 0} (m : Meaning L) where
   watch_left : (c : Configuration L) (i : ℕ) (es : List Event)
       → left c (watch_events m c i ++ es) ≡ left (answered m c (Watch i)).0 es
   unfolding watch_events
-  watch_left c i es = watched_left c i (is_among i c.graph.ids) es
+  watch_left c i es = watched_left c i (is_node c.graph i) es
 
   -- ---- lines
 

@@ -4,7 +4,7 @@ use Rattle.std.specs.Prelude.{Option, Some, None, Result, Ok, Err}
 use Rattle.std.specs.Fmt.{decimal}
 use Rattle.std.specs.Io.KnownBytes.{Appends, Keeps}
 use Rattle.std.specs.List.{concat, flat_map}
-use Rattle.topology.specs.Graph.{Graph}
+use Rattle.topology.specs.Graph.{Graph, is_node}
 use Rattle.topology.specs.Faults.{IsTopologyOf}
 use Rattle.topology.specs.FaultText.{fault_text}
 use Rattle.topology.specs.ReadFaultText.{read_fault_text}
@@ -38,7 +38,6 @@ use Rattle.fault_inject.specs.declared.refusal.FaultRefusal.TheVariants as refus
 use Rattle.link_predicates.specs.Faults.{alarm_of, family_name, faults, node_faults}
 use Rattle.link_predicates.specs.declared.fault.LinkFault.{LinkFault}
 use Rattle.reset_machine.specs.declared.enabled.Enabled.{Enabled}
-use Rattle.action_tables.specs.Numbers.{is_among}
 use Rattle.action_tables.specs.RowText.{set_text}
 use Rattle.action_tables.specs.Written.{AppendsPrefix}
 use Rattle.history.specs.HistoryText.{ended}
@@ -222,7 +221,7 @@ watched m c i = let after = after_alarm m c i (alarm_of m.app c i) in (after.0, 
 
 -- the answer where the identifier is that of a node, and a refusal elsewhere
 abbrev pub at_node : {L : Type 0} → Configuration L → ℕ → List ℕ → List ℕ
-at_node c i text = if is_among i c.graph.ids then text else refusal_text StrangeNode
+at_node c i text = if is_node c.graph i then text else refusal_text StrangeNode
 
 -- the answer to a command
 abbrev pub answered : {L : Type 0} → Meaning L → Configuration L → Command → Configuration L × List ℕ
@@ -237,7 +236,7 @@ answered m c Ready = (c, ready_line m c)
 answered m c Check = (c, faults_lines m c)
 answered m c (CheckNode i) = (c, at_node c i (node_faults_lines m c i))
 answered m c (Alarm i) = (c, at_node c i (alarm_line m c i))
-answered m c (Watch i) = if is_among i c.graph.ids then watched m c i else (c, refusal_text StrangeNode)
+answered m c (Watch i) = if is_node c.graph i then watched m c i else (c, refusal_text StrangeNode)
 
 -- what lines leave: the configuration, what is written, and whether they are good
 pub record Answer (L : Type 0) : Type 0 where
@@ -252,6 +251,10 @@ answer_to m c n (Asks command) =
     record { config = (answered m c command).0; text = (answered m c command).1; status = Good }
 answer_to m c n Bad = record { config = c; text = bad_line_text n; status = BadInput }
 
+-- the answer to the text of the n-th line
+abbrev pub line_answer : {L : Type 0} → Meaning L → Configuration L → ℕ → List ℕ → Answer L
+line_answer m c n line = answer_to m c n (line_of m.names line)
+
 -- what follows where all was good, and what was where it wasn't
 abbrev pub if_good : {A : Type 0} → Status → A → A → A
 if_good Good next last = next
@@ -265,7 +268,7 @@ told_after text a = record { config = a.config; text = text ++ a.text; status = 
 unfoldable pub answers : {L : Type 0} → Meaning L → Configuration L → ℕ → List (List ℕ) → Answer L
 answers m c n [] = record { config = c; text = []; status = Good }
 answers m c n (line ∷ lines) =
-    let a = answer_to m c n (line_of m.names line) in if_good a.status
+    let a = line_answer m c n line in if_good a.status
     (told_after a.text (answers m a.config (n + 1) lines)) a
 
 -- what follows lines that ended so, and the status of the run: a check of what good lines left, or nothing

@@ -21,7 +21,7 @@ use Rattle.history.specs.declared.entry.Entry.{Entry}
 use Rattle.history.specs.declared.entry.Entry.TheVariants as entry
 use Rattle.script_replay.specs.Lines.{lines_of}
 use Rattle.script_replay.specs.Meaning.{Meaning, idle_meaning, token_meaning, mutex_meaning, routes_meaning}
-use Rattle.script_replay.specs.Output.{IsJudged, answer_to, drawn, if_good, script_output}
+use Rattle.script_replay.specs.Output.{IsJudged, line_answer, drawn, if_good, script_output}
 use Rattle.script_replay.specs.Script.{line_of}
 use Rattle.script_replay.specs.Stretches.{watch_events}
 use Rattle.script_replay.specs.declared.script.Command.TheVariants.{Step, Inject, Draw, Watch}
@@ -64,7 +64,7 @@ line_entries m c line = []
 unfoldable pub entries_of_lines : {L : Type 0} → Meaning L → Configuration L → ℕ → List (List ℕ) → List Entry
 entries_of_lines m c n [] = []
 entries_of_lines m c n (line ∷ lines) =
-    let a = answer_to m c n (line_of m.names line) in
+    let a = line_answer m c n line in
     line_entries m c (line_of m.names line) ++ if_good a.status (entries_of_lines m a.config (n + 1) lines) []
 
 -- ---- records

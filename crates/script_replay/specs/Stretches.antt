@@ -1,8 +1,7 @@
 -- The run that the lines of a script make happen between two faults.
 use Rattle.std.specs.Prelude.{ℕ, ◌+◌, if◌then◌else◌, List, [], ◌∷◌, ◌++◌, All, Option, Some, None, Result, Ok, Err}
-use Rattle.topology.specs.Graph.{Graph}
+use Rattle.topology.specs.Graph.{Graph, is_node}
 use Rattle.app_interface.specs.Application.{App}
-use Rattle.action_tables.specs.Numbers.{is_among}
 use Rattle.link_predicates.specs.Faults.{alarm_of}
 use Rattle.link_predicates.specs.declared.fault.LinkFault.{LinkFault}
 use Rattle.reset_model.specs.Configuration.{Configuration}
@@ -16,7 +15,7 @@ use Rattle.reset_model.specs.declared.step.Done.TheVariants.{Did, Refused}
 use Rattle.reset_model.specs.declared.step.Reply.{Reply}
 use Rattle.reset_model.specs.declared.step.StepRefusal.{StepRefusal}
 use Rattle.script_replay.specs.Meaning.{Meaning}
-use Rattle.script_replay.specs.Output.{answer_to, answers, if_good, stepped}
+use Rattle.script_replay.specs.Output.{line_answer, answers, if_good, stepped}
 use Rattle.script_replay.specs.Script.{line_of}
 use Rattle.script_replay.specs.declared.script.Command.TheVariants.{Step, Inject, Draw, Watch}
 use Rattle.script_replay.specs.declared.script.Line.{Line}
@@ -41,7 +40,7 @@ after_alarm_events i (Some fault) = Request i ∷ []
 
 -- the request of a node that watches, where it has an alarm. It stays folded: unfolded, it has all the tables
 unfoldable pub watch_events : {L : Type 0} → Meaning L → Configuration L → ℕ → List Event
-watch_events m c i = if is_among i c.graph.ids then after_alarm_events i (alarm_of m.app c i) else []
+watch_events m c i = if is_node c.graph i then after_alarm_events i (alarm_of m.app c i) else []
 
 -- the event that a line makes happen, where it makes one: its own, or the request of a node that watches
 abbrev pub line_events : {L : Type 0} → Meaning L → Configuration L → Line → List Event
@@ -53,7 +52,7 @@ line_events m c line = []
 unfoldable pub events_of_lines : {L : Type 0} → Meaning L → Configuration L → ℕ → List (List ℕ) → List Event
 events_of_lines m c n [] = []
 events_of_lines m c n (line ∷ lines) =
-    let a = answer_to m c n (line_of m.names line) in
+    let a = line_answer m c n line in
     line_events m c (line_of m.names line) ++ if_good a.status (events_of_lines m a.config (n + 1) lines) []
 
 -- ---- runs

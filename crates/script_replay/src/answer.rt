@@ -6,7 +6,7 @@ ghost use Rattle.action_tables.specs.Written.{AppendsPrefix};
 ghost use Rattle.reset_model.specs.Planned.{outcome_of};
 ghost use Rattle.script_replay.specs.Meaning.{meaning_of};
 ghost use Rattle.script_replay.specs.Output.{answered, stepped, bad_line_text, bad_topology_text, graph_fault_text};
-ghost use Rattle.script_replay.specs.Output.{numbered, refusal_text, reply_text, too_long_text, numbered_twice};
+ghost use Rattle.script_replay.specs.Output.{numbered, refusal_text, reply_text, numbered_twice};
 ghost use Rattle.script_replay.specs.Stops.{IsOutputStop};
 
 use crate::faults::{answer_alarm, answer_check, answer_check_node, answer_watch};
@@ -95,14 +95,6 @@ pub fn put_numbered<W: Write>(out: &mut W, text: &[u8], number: u64) -> Result<(
         out,
         &[Part::Text(text), Part::Number(number), Part::Text(b"\n")],
     )
-}
-
-/// Writes what a script that is too long is answered with.
-pub fn put_too_long<W: Write>(out: &mut W) -> Result<(), WriteFault>
-    ensures ok { OnOk result (Appends (W.contents out.old) (W.contents out.new) too_long_text) }
-    ensures err { OnErr result (AppendsPrefix (W.contents out.old) (W.contents out.new) too_long_text) }
-{
-    put_bytes(out, b"bad script TooLong\n")
 }
 
 /// Writes what a bad line is answered with.

@@ -24,5 +24,5 @@ pub use laws::{
 };
 pub use recorded::record_text;
 pub use recording::text_of;
-pub use replays::{check_text, refuse_topology, replay, replay_joined, replay_text};
+pub use replays::{check_text, refuse_input, refuse_topology, replay, replay_joined, replay_text};
 pub use status::{RunStop, Status};

@@ -4,18 +4,18 @@ ghost use Rattle.std.specs.Prelude.{◌≡◌, ◌≢◌, ℕ, ◌≤◌, List, 
 ghost use Rattle.std.specs.Io.KnownBytes.{Appends};
 ghost use Rattle.topology.specs.TopologyText.{IsReadFault};
 ghost use Rattle.action_tables.specs.Written.{AppendsPrefix};
-ghost use Rattle.script_replay.specs.Lines.{lines_of, IsReadFrom};
+ghost use Rattle.script_replay.specs.Lines.{lines_of, GaveText, IsReadFrom};
 ghost use Rattle.script_replay.specs.Meaning.{meaning_of};
-ghost use Rattle.script_replay.specs.Script.{line_of};
-ghost use Rattle.script_replay.specs.Output.{answer_to, answers, bad_topology_text, ending, script_output};
+ghost use Rattle.script_replay.specs.Output.{answers, bad_topology_text, ending, line_answer, script_output};
 ghost use Rattle.script_replay.specs.Output.{too_long_text, IsJoinedOutput, IsOutput, IsReplay, IsReplayOf, Leaves};
 ghost use Rattle.script_replay.specs.Stops.{IsOutputStop};
 
-use crate::answer::{answer, answer_step, put_bad_line, put_too_long, put_topology_fault};
+use crate::answer::{answer, answer_step, put_bad_line, put_topology_fault};
 use crate::faults::answer_check;
 use crate::input::{cut_joined, read_text, split_line};
 use crate::script::{Line, read_line};
 use crate::status::{Purpose, RunStop, Status};
+use action_tables::put_bytes;
 use app_interface::{Application, Idle};
 use app_mutex::EdgeReversal;
 use app_routes::Routes;
@@ -56,6 +56,7 @@ pub fn replay<R: Read, W: Write>(
 ) -> Result<Status, RunStop>
     ensures leaves { (text : List ℕ) × IsReadFrom (R.remaining script.old) text
         × Leaves (IsOutput Purpose.Replay topology.now text) (W.contents out.old) (W.contents out.new) result }
+    ensures taken { OnOk result (GaveText (R.remaining script.old) (R.remaining script.new)) }
     ensures untouched { (f : ReadFault) → IsReadFault topology.now f → script.new ≡ script.old }
 {
     run_read(alloc, Purpose::Replay, topology, script, out)
@@ -71,6 +72,7 @@ pub fn check_text<R: Read, W: Write>(
 ) -> Result<Status, RunStop>
     ensures leaves { (text : List ℕ) × IsReadFrom (R.remaining script.old) text
         × Leaves (IsOutput Purpose.Check topology.now text) (W.contents out.old) (W.contents out.new) result }
+    ensures taken { OnOk result (GaveText (R.remaining script.old) (R.remaining script.new)) }
     ensures untouched { (f : ReadFault) → IsReadFault topology.now f → script.new ≡ script.old }
 {
     run_read(alloc, Purpose::Check, topology, script, out)
@@ -86,6 +88,7 @@ fn run_read<R: Read, W: Write>(
 ) -> Result<Status, RunStop>
     ensures leaves { (text : List ℕ) × IsReadFrom (R.remaining script.old) text
         × Leaves (IsOutput purpose topology.now text) (W.contents out.old) (W.contents out.new) result }
+    ensures taken { OnOk result (GaveText (R.remaining script.old) (R.remaining script.new)) }
     ensures untouched { (f : ReadFault) → IsReadFault topology.now f → script.new ≡ script.old }
 {
     match read_topology(alloc, topology) {
@@ -105,8 +108,9 @@ pub fn replay_joined<R: Read, W: Write>(
     joined: &mut R,
     out: &mut W,
 ) -> Result<Status, RunStop>
-    ensures { (text : List ℕ) × IsReadFrom (R.remaining joined.old) text
+    ensures leaves { (text : List ℕ) × IsReadFrom (R.remaining joined.old) text
         × Leaves (IsJoinedOutput text) (W.contents out.old) (W.contents out.new) result }
+    ensures taken { OnOk result (GaveText (R.remaining joined.old) (R.remaining joined.new)) }
 {
     match read_text(alloc, joined) {
         Ok(text) => replay_whole(alloc, &text, out),
@@ -184,7 +188,16 @@ fn refuse_script<W: Write>(out: &mut W) -> Result<Status, RunStop>
         (W.contents out.new) result }
     ensures stop { IfErr result IsOutputStop }
 {
-    put_too_long(out)?;
+    refuse_input(out, b"bad script TooLong\n")
+}
+
+/// Answers an input that isn't taken by this text.
+pub fn refuse_input<W: Write>(out: &mut W, text: &[u8]) -> Result<Status, RunStop>
+    ensures leaves { Leaves (λ output. output ≡ (text.now, Status.BadInput)) (W.contents out.old) (W.contents out.new)
+        result }
+    ensures stop { IfErr result IsOutputStop }
+{
+    put_bytes(out, text)?;
     Ok(Status::BadInput)
 }
 
@@ -271,12 +284,11 @@ fn answer_line<P: Application, W: Write>(
     out: &mut W,
 ) -> Result<Status, RunStop>
     ensures ok { IfOk result
-        (λ status. let a = answer_to (meaning_of P.app P.text P.from_text P.names) config.old number
-        (line_of P.names line.now) in
+        (λ status. let a = line_answer (meaning_of P.app P.text P.from_text P.names) config.old number line.now in
         (status ≡ a.status) × (config.new ≡ a.config) × Appends (W.contents out.old) (W.contents out.new) a.text) }
     ensures err { OnErr result
         (AppendsPrefix (W.contents out.old) (W.contents out.new)
-        (answer_to (meaning_of P.app P.text P.from_text P.names) config.old number (line_of P.names line.now)).text) }
+        (line_answer (meaning_of P.app P.text P.from_text P.names) config.old number line.now).text) }
     ensures stop { IfErr result IsOutputStop }
 {
     match read_event(line) {
@@ -298,12 +310,11 @@ fn answer_any_line<P: Application, W: Write>(
     out: &mut W,
 ) -> Result<Status, RunStop>
     ensures ok { IfOk result
-        (λ status. let a = answer_to (meaning_of P.app P.text P.from_text P.names) config.old number
-        (line_of P.names line.now) in
+        (λ status. let a = line_answer (meaning_of P.app P.text P.from_text P.names) config.old number line.now in
         (status ≡ a.status) × (config.new ≡ a.config) × Appends (W.contents out.old) (W.contents out.new) a.text) }
     ensures err { OnErr result
         (AppendsPrefix (W.contents out.old) (W.contents out.new)
-        (answer_to (meaning_of P.app P.text P.from_text P.names) config.old number (line_of P.names line.now)).text) }
+        (line_answer (meaning_of P.app P.text P.from_text P.names) config.old number line.now).text) }
     ensures stop { IfErr result IsOutputStop }
 {
     match read_line::<P>(alloc, line)? {

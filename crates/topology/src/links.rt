@@ -1,6 +1,7 @@
 ghost use Rattle.std.specs.Prelude.{◌≡◌, ◌≢◌, ℕ, ◌<◌, ◌≤◌, List, [], true, All, None, Some, IfErr, IfOk, MatchOption};
 ghost use Rattle.std.specs.Prelude.{OnOk, length, map, slice_index};
-ghost use Rattle.topology.specs.Building.{AreApart, AreJoined, AreSorted, has};
+ghost use Rattle.topology.specs.Graph.{has};
+ghost use Rattle.topology.specs.Building.{AreApart, AreJoined, AreSorted};
 ghost use Rattle.topology.specs.Changing.{IsIndexOf, first_of, strange_ends};
 ghost use Rattle.topology.specs.Faults.{IsFirst, IsFirstFault, IsFirstRepeat, ends_of, ordered_links};
 

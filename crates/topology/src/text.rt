@@ -237,8 +237,9 @@ fn string(value: &Value) -> Result<&str, ReadFault>
     value.as_str().ok_or(ReadFault::WrongKind)
 }
 
+/// The application with this name, or `UnknownApp`.
 #[tactic(auto, unfolding(crate::specs::TopologyText::app_named))]
-fn app_named(name: &str) -> Result<AppName, ReadFault>
+pub fn app_named(name: &str) -> Result<AppName, ReadFault>
     ensures { result ≡ app_named name.now }
 {
     match name {
