@@ -108,7 +108,7 @@ pub trait Application: Send + Sync {
         ensures bad { result ≡ Err LocalFault.BadLocal → from_text bytes.now ≡ None };
 
     /// What holds of each local state.
-    fn known(local: &Self::Local)
+    fn lemma_is_local(local: &Self::Local)
         ensures { IsLocal local.now };
 
     // A case from 1 to the number of cases has a name and reads something, and no other number has.

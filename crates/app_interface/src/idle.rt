@@ -98,5 +98,5 @@ impl Application for Idle {
         }
     }
 
-    fn known(_local: &()) {}
+    fn lemma_is_local(_local: &()) {}
 }

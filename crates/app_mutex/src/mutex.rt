@@ -115,5 +115,5 @@ impl Application for EdgeReversal {
         text::read_local(bytes)
     }
 
-    fn known(_local: &MutexLocal) {}
+    fn lemma_is_local(_local: &MutexLocal) {}
 }

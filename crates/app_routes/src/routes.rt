@@ -115,7 +115,7 @@ impl Application for Routes {
         read::read_local(alloc, bytes)
     }
 
-    fn known(local: &RoutesLocal) {
+    fn lemma_is_local(local: &RoutesLocal) {
         let _ = local.entries();
     }
 }

@@ -6,12 +6,13 @@ use Rattle.std.specs.List.{filter, remove}
 use Rattle.std.specs.List.Sorted.{IsBinarySearchResult}
 use Rattle.std.proofs.lemmas.List.Elements.{All-append, All-filter}
 use Rattle.std.proofs.lemmas.List.Kept.{IsStrictlyIncreasing-filter}
+use Rattle.topology.specs.Graph.{has}
 use Rattle.topology.specs.Id.{IsId}
 use Rattle.topology.proofs.Ascending.{finds, member_by_search, index_once}
 use Rattle.topology.proofs.Inserting.{inserted}
 use Rattle.app_interface.proofs.KeptByIndex.{keeps_all, keeps_back, keeps_prefix}
 use Rattle.app_interface.proofs.ListEnds.{all_one}
-use Rattle.app_token.specs.Bits.{IsBits, bit_of, toggled, without_id}
+use Rattle.app_token.specs.Bits.{IsBits, toggled, without_id}
 
 -- what passes everywhere but at one place
 keeps_others : (p : ℕ → Bool) (xs : List ℕ) (i : ℕ) → i < length xs → p (get_or xs i 0) ≡ false →
@@ -28,7 +29,7 @@ module _ (xs : List ℕ) (x : ℕ) (are : IsBits xs) where
   pub removed : (i : ℕ) → IsBinarySearchResult {X = ℕ} (λ y. nat_cmp y x) xs (Ok i) → remove xs i ≡ toggled xs x
   removed i h =
       let place = finds xs x are.ascending (Ok i) h in
-      let there : true ≡ bit_of xs x = member_by_search xs x are.ascending (Ok i) h in
+      let there : true ≡ has xs x = member_by_search xs x are.ascending (Ok i) h in
       let left : without_id xs x ≡ remove xs i =
       keeps_others (λ y. not (eqb y x)) xs i place.0 (ap not (eq-eqb _ _ place.1))
       (λ k ne lt. ap not (ne_eqb _ _ (λ e. ne (index_once xs are.ascending k i lt place.0 (e ∙ sym place.1))))) in
@@ -36,7 +37,7 @@ module _ (xs : List ℕ) (x : ℕ) (are : IsBits xs) where
 
   pub IsBits-removed : (i : ℕ) → IsBinarySearchResult {X = ℕ} (λ y. nat_cmp y x) xs (Ok i) → IsBits (remove xs i)
   IsBits-removed i h =
-      let there : true ≡ bit_of xs x = member_by_search xs x are.ascending (Ok i) h in
+      let there : true ≡ has xs x = member_by_search xs x are.ascending (Ok i) h in
       let p : ℕ → Bool = λ y. not (eqb y x) in
       let kept : IsBits (without_id xs x) =
       record {
@@ -48,7 +49,7 @@ module _ (xs : List ℕ) (x : ℕ) (are : IsBits xs) where
   pub put_in : (i : ℕ) → IsBinarySearchResult {X = ℕ} (λ y. nat_cmp y x) xs (Err i) → insert xs i x ≡ toggled xs x
   put_in i h =
       let place = finds xs x are.ascending (Err i) h in
-      let absent : false ≡ bit_of xs x = member_by_search xs x are.ascending (Err i) h in
+      let absent : false ≡ has xs x = member_by_search xs x are.ascending (Err i) h in
       let lesser : filter (λ y. ltb y x) xs ≡ take i xs =
       keeps_prefix (λ y. ltb y x) xs i 0 place.0 (λ k lt. lt-ltb _ _ (place.1 k lt))
       (λ k ge lt. le-ltb _ _ (omega (arith, place.2 k ge lt))) in
@@ -60,7 +61,7 @@ module _ (xs : List ℕ) (x : ℕ) (are : IsBits xs) where
   pub IsBits-put_in : (i : ℕ) → IsId x → IsBinarySearchResult {X = ℕ} (λ y. nat_cmp y x) xs (Err i)
       → IsBits (insert xs i x)
   IsBits-put_in i id h =
-      let absent : false ≡ bit_of xs x = member_by_search xs x are.ascending (Err i) h in
+      let absent : false ≡ has xs x = member_by_search xs x are.ascending (Err i) h in
       let lesser : List ℕ = filter (λ y. ltb y x) xs in
       let greater : List ℕ = filter (λ y. ltb x y) xs in
       let all : All IsId (lesser ++ x ∷ greater) =

@@ -1,7 +1,8 @@
 -- One bit for each identifier, kept as the list of those whose bit is one.
 use Rattle.std.specs.Prelude.{ℕ, ◌==◌, ◌&&◌, if◌then◌else◌, Bool, true, false, not, List, ◌∷◌, ◌++◌, All, ltb}
-use Rattle.std.specs.List.{filter, list_all, list_any}
+use Rattle.std.specs.List.{filter, list_all}
 use Rattle.std.specs.List.Sorted.{IsStrictlyIncreasing}
+use Rattle.topology.specs.Graph.{has}
 use Rattle.topology.specs.Id.{IsId}
 use Rattle.app_interface.specs.Ids.{ascends, is_id}
 
@@ -19,10 +20,6 @@ abbrev pub differ : Bool → Bool → Bool
 differ true b = not b
 differ false b = b
 
--- the bit of j
-abbrev pub bit_of : List ℕ → ℕ → Bool
-bit_of ids j = list_any (λ i. i == j) ids
-
 -- the list without j
 abbrev pub without_id : List ℕ → ℕ → List ℕ
 without_id ids j = filter (λ i. not (i == j)) ids
@@ -33,4 +30,4 @@ with_id ids j = filter (λ i. ltb i j) ids ++ j ∷ filter (λ i. ltb j i) ids
 
 -- the list with the bit of j turned over
 abbrev pub toggled : List ℕ → ℕ → List ℕ
-toggled ids j = if bit_of ids j then without_id ids j else with_id ids j
+toggled ids j = if has ids j then without_id ids j else with_id ids j

@@ -10,14 +10,14 @@ use Rattle.std.proofs.lemmas.Bool.{cases_eq}
 use Rattle.std.specs.Option.{option_map_or}
 use Rattle.std.proofs.lemmas.List.{get_or_default}
 use Rattle.std.proofs.lemmas.List.Sums.{sum_by-cons}
-use Rattle.topology.specs.Graph.{Graph, IsGraph, IsNode, AreLinked, Changes, are_linked, greatest}
+use Rattle.topology.specs.Graph.{Graph, IsGraph, IsNode, AreLinked, Changes, are_linked, greatest, has}
 use Rattle.app_interface.specs.Application.{Action, Fits, is_read, seen}
 use Rattle.app_interface.specs.Ids.{is_id}
 use Rattle.app_interface.specs.Invariant.{Keeps, SameAtNodes}
 use Rattle.app_interface.specs.LawsOfViews.{seen_is}
 use Rattle.app_interface.specs.Views.{seen_at}
 use Rattle.app_interface.specs.declared.refusal.ClockRefusal.TheVariants.{NotEnabled}
-use Rattle.app_token.specs.Bits.{bit_of, differ, toggled}
+use Rattle.app_token.specs.Bits.{differ, toggled}
 use Rattle.app_token.specs.LawsOfBits.{toggled_same, toggled_other}
 use Rattle.app_token.specs.OneToken.{in_flight, holders, flights, HasOneToken}
 use Rattle.app_token.specs.LawsOfSums.{number_of, same_sum, sum_at, pairs_at}
@@ -116,8 +116,8 @@ module _ (g : Graph) (are : IsGraph g) (v v' : ℕ → TokenLocal) (i j : ℕ) (
       (λ k at ne. ap (λ s. number_of s.hold) (changes.others k at ne))
 
   module _ (held : (v i).hold ≡ true) (is : new ≡ passed (v i) j) where
-    given_after : (c : ℕ) → c ≢ j → bit_of (v' i).given c ≡ bit_of (v i).given c
-    given_after c ne = ap (λ s. bit_of s.given c) (changes.here ∙ is) ∙ toggled_other (v i).given j c ne
+    given_after : (c : ℕ) → c ≢ j → has (v' i).given c ≡ has (v i).given c
+    given_after c ne = ap (λ s. has s.given c) (changes.here ∙ is) ∙ toggled_other (v i).given j c ne
 
     taken_kept : (c : ℕ) → IsNode g c → (v' c).taken ≡ (v c).taken
     taken_kept = kept_all (λ s. s.taken) (ap (λ s. s.taken) is)
@@ -125,15 +125,15 @@ module _ (g : Graph) (are : IsGraph g) (v v' : ℕ → TokenLocal) (i j : ℕ) (
     sent : in_flight g v' i j ≡ not (in_flight g v i j)
     sent =
         rw (linked, taken_kept j to)
-        (ap (λ s. differ (bit_of s.given j) (bit_of (v j).taken i)) (changes.here ∙ is)
-        ∙ ap (λ b. differ b (bit_of (v j).taken i)) (toggled_same (v i).given j)
-        ∙ differ_first (bit_of (v i).given j) (bit_of (v j).taken i))
+        (ap (λ s. differ (has s.given j) (has (v j).taken i)) (changes.here ∙ is)
+        ∙ ap (λ b. differ b (has (v j).taken i)) (toggled_same (v i).given j)
+        ∙ differ_first (has (v i).given j) (has (v j).taken i))
 
     flights_sent : flights g v' + number_of (in_flight g v i j) ≡ flights g v + number_of (in_flight g v' i j)
     flights_sent =
         pairs_at g are (in_flight g v) (in_flight g v') i j node to
-        (λ c at ne. ap₂ (λ x y. are_linked g i c && differ x (bit_of y i)) (given_after c ne) (taken_kept c at))
-        (λ k c from at ne. ap₂ (λ x y. are_linked g k c && differ (bit_of x.given c) (bit_of y k))
+        (λ c at ne. ap₂ (λ x y. are_linked g i c && differ x (has y i)) (given_after c ne) (taken_kept c at))
+        (λ k c from at ne. ap₂ (λ x y. are_linked g k c && differ (has x.given c) (has y k))
         (changes.others k from ne) (taken_kept c at))
 
     -- the token goes on its way
@@ -145,19 +145,19 @@ module _ (g : Graph) (are : IsGraph g) (v v' : ℕ → TokenLocal) (i j : ℕ) (
         ap (λ b. number_of b + number_of (in_flight g v i j)) sent ∙ one_of_both (in_flight g v i j) in
         omega (arith, inv, was, now, holders_change, both, flights_sent)
 
-  module _ (free : (v i).hold ≡ false) (flying : differ (bit_of (v j).given i) (bit_of (v i).taken j) ≡ true)
+  module _ (free : (v i).hold ≡ false) (flying : differ (has (v j).given i) (has (v i).taken j) ≡ true)
       (is : new ≡ took (v i) j) where
     given_kept : (c : ℕ) → IsNode g c → (v' c).given ≡ (v c).given
     given_kept = kept_all (λ s. s.given) (ap (λ s. s.given) is)
 
-    taken_after : (k c : ℕ) → IsNode g c → k ≢ j → bit_of (v' c).taken k ≡ bit_of (v c).taken k
+    taken_after : (k c : ℕ) → IsNode g c → k ≢ j → has (v' c).taken k ≡ has (v c).taken k
     taken_after k c at ne =
         ⊎_elim
         (λ same.
-        let here : bit_of (v' i).taken k ≡ bit_of (v i).taken k =
-        ap (λ s. bit_of s.taken k) (changes.here ∙ is) ∙ toggled_other (v i).taken j k ne in
-        subst (λ n. bit_of (v' n).taken k ≡ bit_of (v n).taken k) (sym same) here)
-        (λ other. ap (λ s. bit_of s.taken k) (changes.others c at other))
+        let here : has (v' i).taken k ≡ has (v i).taken k =
+        ap (λ s. has s.taken k) (changes.here ∙ is) ∙ toggled_other (v i).taken j k ne in
+        subst (λ n. has (v' n).taken k ≡ has (v n).taken k) (sym same) here)
+        (λ other. ap (λ s. has s.taken k) (changes.others c at other))
         (cases_eq c i)
 
     flying_before : in_flight g v j i ≡ true
@@ -166,17 +166,17 @@ module _ (g : Graph) (are : IsGraph g) (v v' : ℕ → TokenLocal) (i j : ℕ) (
     landed : in_flight g v' j i ≡ false
     landed =
         rw (back, given_kept j to)
-        (ap (λ s. differ (bit_of (v j).given i) (bit_of s.taken j)) (changes.here ∙ is)
-        ∙ ap (differ (bit_of (v j).given i)) (toggled_same (v i).taken j)
-        ∙ differ_second (bit_of (v j).given i) (bit_of (v i).taken j)
+        (ap (λ s. differ (has (v j).given i) (has s.taken j)) (changes.here ∙ is)
+        ∙ ap (differ (has (v j).given i)) (toggled_same (v i).taken j)
+        ∙ differ_second (has (v j).given i) (has (v i).taken j)
         ∙ ap not flying)
 
     flights_landed : flights g v' + number_of (in_flight g v j i) ≡ flights g v + number_of (in_flight g v' j i)
     flights_landed =
         pairs_at g are (in_flight g v) (in_flight g v') j i to node
-        (λ c at ne. ap₂ (λ x y. are_linked g j c && differ (bit_of x c) (bit_of y.taken j)) (given_kept j to)
+        (λ c at ne. ap₂ (λ x y. are_linked g j c && differ (has x c) (has y.taken j)) (given_kept j to)
         (changes.others c at ne))
-        (λ k c from at ne. ap₂ (λ x y. are_linked g k c && differ (bit_of x c) y) (given_kept k from)
+        (λ k c from at ne. ap₂ (λ x y. are_linked g k c && differ (has x c) y) (given_kept k from)
         (taken_after k c at ne))
 
     -- the token comes to rest
@@ -206,10 +206,10 @@ acts g are bound i case (Some j) v v' h inv = moved (moves_toward i case j (v i)
         subst (λ c. arrives i j (v i) (seen (is_read g i (token_reads c) (Some j)) v g.ids) ≡ true) (sym two) comes
         in
         let from =
-        arrived (λ theirs. differ (bit_of theirs.given i) (bit_of (v i).taken j))
+        arrived (λ theirs. differ (has theirs.given i) (has (v i).taken j))
         (seen_at j (seen (λ k. k == j) v g.ids)) comes_two in
-        let flying : differ (bit_of (v j).given i) (bit_of (v i).taken j) ≡ true =
-        subst (λ w. differ (bit_of w.given i) (bit_of (v i).taken j) ≡ true) (seen_is j v g.ids from.0 from.1) from.2 in
+        let flying : differ (has (v j).given i) (has (v i).taken j) ≡ true =
+        subst (λ w. differ (has w.given i) (has (v i).taken j) ≡ true) (seen_is j v g.ids from.0 from.1) from.2 in
         take_keeps g are v v' i j h.node fits h.new h.changes free flying is inv
 
 -- ---- the start, and the same states
@@ -242,7 +242,7 @@ same_token g v v' same inv =
     let flown : flights g v' ≡ flights g v =
     same_sum g (λ a. count_by (λ b. in_flight g v a b) g.ids) (λ a. count_by (λ b. in_flight g v' a b) g.ids)
     (λ a from. same_sum g (λ b. number_of (in_flight g v a b)) (λ b. number_of (in_flight g v' a b))
-    (λ b to. ap₂ (λ x y. number_of (are_linked g a b && differ (bit_of x.given b) (bit_of y.taken a))) (same a from)
+    (λ b to. ap₂ (λ x y. number_of (are_linked g a b && differ (has x.given b) (has y.taken a))) (same a from)
     (same b to))) in
     omega (arith, inv, held, flown)
 

@@ -1,13 +1,14 @@
 -- The link table of the token: what no link shows where there is one token.
 use Rattle.std.specs.Prelude.{ℕ, ◌&&◌, ◌||◌, Bool, List, [], ◌∷◌, Option, codes}
+use Rattle.topology.specs.Graph.{has}
 use Rattle.action_tables.specs.Table.{Row}
 use Rattle.app_interface.specs.LinkTables.{least_fault, link_row}
-use Rattle.app_token.specs.Bits.{bit_of, differ}
+use Rattle.app_token.specs.Bits.{differ}
 use Rattle.app_token.specs.declared.local.TokenLocal.{TokenLocal}
 
 -- a bit is in flight from a to b: a's given bit for b and b's taken bit for a differ
 abbrev pub is_in_flight : ℕ → ℕ → TokenLocal → TokenLocal → Bool
-is_in_flight a b sender receiver = differ (bit_of sender.given b) (bit_of receiver.taken a)
+is_in_flight a b sender receiver = differ (has sender.given b) (has receiver.taken a)
 
 -- both ends hold the token
 abbrev pub two_hold : TokenLocal → TokenLocal → Bool

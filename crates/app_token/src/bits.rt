@@ -1,7 +1,8 @@
 // One bit for each identifier.
 ghost use Rattle.std.specs.Prelude.{◌≡◌, ◌↔◌, [], IfOk, IsTrue};
+ghost use Rattle.topology.specs.Graph.{has};
 ghost use Rattle.topology.specs.Id.{IsId};
-ghost use Rattle.app_token.specs.Bits.{IsBits, bit_of, toggled};
+ghost use Rattle.app_token.specs.Bits.{IsBits, toggled};
 
 use smallvec::SmallVec;
 use std::alloc::{AllocError, Global};
@@ -54,7 +55,7 @@ impl Bits {
 
     /// The bit of this identifier.
     pub(crate) fn has(&self, id: u32) -> bool
-        ensures { result ≡ bit_of self.now id }
+        ensures { result ≡ has self.now id }
     {
         self.ids().binary_search(&id).is_ok()
     }

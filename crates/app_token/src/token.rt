@@ -116,7 +116,7 @@ impl Application for Token {
         read::read_local(alloc, bytes)
     }
 
-    fn known(local: &TokenLocal) {
+    fn lemma_is_local(local: &TokenLocal) {
         local.lemma_is_local();
     }
 }

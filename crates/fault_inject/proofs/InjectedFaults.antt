@@ -5,12 +5,11 @@ use Rattle.std.proofs.Common.{true≢false, lt-ltb, le-ltb, ◌<◌, ◌≤◌, 
 use Rattle.std.proofs.lemmas.Bool.{false_from_ne_true}
 use Rattle.std.proofs.lemmas.List.Elements.{All-contains}
 use Rattle.std.proofs.lemmas.List.Sums.{AllPass-from_list_all}
-use Rattle.action_tables.specs.Numbers.{is_among}
 use Rattle.app_interface.specs.Ids.{is_id}
 use Rattle.topology.specs.Changing.{Reason, first_of, is_full, link_fault, strange_ends, unlink_fault, when, with_link}
 use Rattle.topology.specs.Changing.{without_link}
 use Rattle.topology.specs.Faults.{IsCutOff}
-use Rattle.topology.specs.Graph.{Graph, IsNode, are_linked}
+use Rattle.topology.specs.Graph.{Graph, IsNode, are_linked, is_node}
 use Rattle.topology.specs.Reaching.{is_connected, is_reached}
 use Rattle.topology.specs.declared.fault.TopoFault.{TopoFault}
 use Rattle.topology.specs.declared.fault.TopoFault.TheVariants.{StrangeNode as StrangeEnd, SelfLink, TooManyLinks}
@@ -60,12 +59,12 @@ module _ {L : Type 0} (from_text : List ℕ → Option L) (c : Configuration L) 
       → injected from_text c (SetWave at regs) ≡ Err StrangeNode
   wave_strange at regs none = refused (SetWave at regs) StrangeNode (rw (no_node c.graph.ids at none) refl)
 
-  pub tree_put : (at : ℕ) (regs : TreeRegs) (new : Configuration L) → is_among at c.graph.ids ≡ true
+  pub tree_put : (at : ℕ) (regs : TreeRegs) (new : Configuration L) → is_node c.graph at ≡ true
       → (is_id regs.root && is_id regs.father) ≡ true → new ≡ with_tree c at regs
       → injected from_text c (SetTree at regs) ≡ Ok new
   tree_put at regs new node ids made = allowed (SetTree at regs) new (rw (node, ids) refl) made
 
-  pub tree_strange : (at : ℕ) (regs : TreeRegs) → is_among at c.graph.ids ≡ false
+  pub tree_strange : (at : ℕ) (regs : TreeRegs) → is_node c.graph at ≡ false
       → injected from_text c (SetTree at regs) ≡ Err StrangeNode
   tree_strange at regs none = refused (SetTree at regs) StrangeNode (rw none refl)
 
@@ -73,14 +72,14 @@ module _ {L : Type 0} (from_text : List ℕ → Option L) (c : Configuration L) 
       → injected from_text c (SetTree at regs) ≡ Err StrangeNode
   tree_lost at regs none = tree_strange at regs (no_node c.graph.ids at none)
 
-  pub tree_bad : (at : ℕ) (regs : TreeRegs) → is_among at c.graph.ids ≡ true
+  pub tree_bad : (at : ℕ) (regs : TreeRegs) → is_node c.graph at ≡ true
       → (is_id regs.root && is_id regs.father) ≡ false
       → injected from_text c (SetTree at regs) ≡ Err BadValue
   tree_bad at regs node bad = refused (SetTree at regs) BadValue (rw (node, bad) refl)
 
   -- ---- local states
 
-  pub local_strange : (at : ℕ) (text : List ℕ) → is_among at c.graph.ids ≡ false
+  pub local_strange : (at : ℕ) (text : List ℕ) → is_node c.graph at ≡ false
       → injected from_text c (SetLocal at text) ≡ Err StrangeNode
   local_strange at text none = refused (SetLocal at text) StrangeNode (rw none refl)
 
@@ -88,16 +87,16 @@ module _ {L : Type 0} (from_text : List ℕ → Option L) (c : Configuration L) 
       → injected from_text c (SetLocal at text) ≡ Err StrangeNode
   local_lost at text none = local_strange at text (no_node c.graph.ids at none)
 
-  pub local_long : (at : ℕ) (text : List ℕ) → is_among at c.graph.ids ≡ true → 200 < length text
+  pub local_long : (at : ℕ) (text : List ℕ) → is_node c.graph at ≡ true → 200 < length text
       → injected from_text c (SetLocal at text) ≡ Err BadLocal
   local_long at text node long = refused (SetLocal at text) BadLocal (rw (node, lt-ltb 200 (length text) long) refl)
 
-  pub local_bad : (at : ℕ) (text : List ℕ) → is_among at c.graph.ids ≡ true → length text ≤ 200 → from_text text ≡ None
+  pub local_bad : (at : ℕ) (text : List ℕ) → is_node c.graph at ≡ true → length text ≤ 200 → from_text text ≡ None
       → injected from_text c (SetLocal at text) ≡ Err BadLocal
   local_bad at text node short bad =
       refused (SetLocal at text) BadLocal (rw (node, le-ltb 200 (length text) short, bad) refl)
 
-  pub local_put : (at : ℕ) (text : List ℕ) (local : L) (new : Configuration L) → is_among at c.graph.ids ≡ true
+  pub local_put : (at : ℕ) (text : List ℕ) (local : L) (new : Configuration L) → is_node c.graph at ≡ true
       → length text ≤ 200 → from_text text ≡ Some local → new ≡ with_local c at local
       → injected from_text c (SetLocal at text) ≡ Ok new
   local_put at text local new node short read made =

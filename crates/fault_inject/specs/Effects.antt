@@ -2,10 +2,9 @@
 use Rattle.std.specs.Prelude.{ℕ, ◌==◌, ◌&&◌, ◌||◌, not, nat_lt, List, [], ◌∷◌, length, Option, Some, None, Result, Ok}
 use Rattle.std.specs.Prelude.{Err}
 use Rattle.std.specs.Option.{is_none}
-use Rattle.action_tables.specs.Numbers.{is_among}
 use Rattle.app_interface.specs.Ids.{is_id}
 use Rattle.topology.specs.Changing.{Reason, first_of, is_full, when, with_link, without_link}
-use Rattle.topology.specs.Graph.{are_linked}
+use Rattle.topology.specs.Graph.{are_linked, is_node}
 use Rattle.topology.specs.Reaching.{is_connected}
 use Rattle.reset_model.specs.Configuration.{Configuration, with_graph, with_local, with_tree, with_wave}
 use Rattle.fault_inject.specs.declared.fault.Fault.{Fault}
@@ -16,7 +15,7 @@ use Rattle.fault_inject.specs.declared.refusal.FaultRefusal.TheVariants.{LinkIsT
 
 -- there is no node i
 abbrev pub strange : {L : Type 0} → Configuration L → ℕ → Reason FaultRefusal
-strange c i = when (not (is_among i c.graph.ids)) StrangeNode
+strange c i = when (not (is_node c.graph i)) StrangeNode
 
 -- the refusals of a fault, in their order; from_text gives the local state with a text, where there is one
 abbrev pub refusals : {L : Type 0} → (List ℕ → Option L) → Configuration L → Fault → List (Reason FaultRefusal)

@@ -1,7 +1,7 @@
 // Faults that are done to a configuration.
 
 ghost use Rattle.std.specs.Prelude.{◌≡◌, ◌≢◌, ◌&&◌, Ok, Err, IfErr, MatchResult, OnErr, OnOk};
-ghost use Rattle.action_tables.specs.Numbers.{is_among};
+ghost use Rattle.topology.specs.Graph.{is_node};
 ghost use Rattle.app_interface.specs.Ids.{is_id};
 ghost use Rattle.reset_model.specs.Configuration.{with_graph};
 ghost use Rattle.fault_inject.specs.Effects.{AsksForMemory, injected};
@@ -65,7 +65,7 @@ fn set_tree<P: Application>(
 
 /// Whether the identifier is that of a node.
 pub fn is_node<P: Application>(config: &Config<P>, at: u32) -> bool
-    ensures { result ≡ is_among at config.now.graph.ids }
+    ensures { result ≡ is_node config.now.graph at }
 {
     config.topology().index_of(at).is_some()
 }

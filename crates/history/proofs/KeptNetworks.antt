@@ -5,11 +5,10 @@ use Rattle.std.proofs.Common.{refl, sym, ap, ap₂, subst, ◌∙◌}
 use Rattle.std.specs.List.{AllByRecursion}
 use Rattle.std.specs.Option.{option_and_then}
 use Rattle.std.proofs.lemmas.Bool.{and_parts, both_ways, eq-eqb, or_cases, or_left}
-use Rattle.action_tables.specs.Numbers.{is_among}
 use Rattle.app_interface.specs.Application.{App}
 use Rattle.topology.specs.Building.{joins}
 use Rattle.topology.specs.Changing.{Reason, first_of, with_link, without_link}
-use Rattle.topology.specs.Graph.{AreLinked, Graph, IsConnected, IsGraph, IsNode, are_linked}
+use Rattle.topology.specs.Graph.{AreLinked, Graph, IsConnected, IsGraph, IsNode, are_linked, is_node}
 use Rattle.topology.specs.Reaching.{is_connected}
 use Rattle.topology.proofs.Changed.{has_fewer, has_more}
 use Rattle.topology.proofs.Inserting.{joins_back, joins_ends}
@@ -144,8 +143,8 @@ module _ {L : Type 0} (from_text : List ℕ → Option L) (c : Configuration L) 
     };
   }
 
-  is_there : (i : ℕ) → not (is_among i c.graph.ids) ≡ false → IsNode c.graph i
-  is_there i e = Contains-has c.graph.ids i (not_false (is_among i c.graph.ids) e)
+  is_there : (i : ℕ) → not (is_node c.graph i) ≡ false → IsNode c.graph i
+  is_there i e = Contains-has c.graph.ids i (not_false (is_node c.graph i) e)
 
   damaged_network : (f : Fault) → first_of (refusals from_text c f) ≡ None → IsNetwork (damaged from_text c f)
   damaged_network (SetTree at regs) none = record {

@@ -4,7 +4,6 @@ use Rattle.std.proofs.Common.{length, position, Option, Some, None, Ok, Err, is_
 use Rattle.std.proofs.Common.{append_assoc, append-nil, take, drop, slice_index_or, add-one, ◌≢◌}
 use Rattle.std.proofs.Math.Seq.{split_at, take-suc}
 use Rattle.std.proofs.lemmas.List.{length-append, length-take}
-use Rattle.std.specs.List.{list_any}
 use Rattle.std.specs.Option.{option_and_then, option_map_or}
 use Rattle.app_interface.specs.Application.{App}
 use Rattle.reset_model.specs.declared.event.Event.{Event}
@@ -16,7 +15,7 @@ use Rattle.reset_model.specs.Planned.{outcome_of, planned, written}
 use Rattle.reset_model.specs.View.{view_of}
 use Rattle.reset_model.specs.declared.step.StepRefusal.TheVariants.{StrangeNode}
 use Rattle.reset_model.proofs.Positions.{list_any-position}
-use Rattle.topology.specs.Graph.{Graph}
+use Rattle.topology.specs.Graph.{Graph, is_node}
 use Rattle.reset_model.specs.Steps.{event_node}
 use Rattle.fault_inject.specs.Effects.{injected}
 use Rattle.fault_inject.specs.declared.fault.Fault.{Fault}
@@ -110,7 +109,7 @@ module _ {L : Type 0} (app : App L) (from_text : List ℕ → Option L) where
       → is_some (position (λ i. i == event_node e) d.graph.ids) ≡ true
   step_found d left e reply is =
       sym (list_any-position d.graph.ids (event_node e))
-      ∙ (elim (list_any (λ k. k == event_node e) d.graph.ids) as (λ b. (if not b then Err StrangeNode else written d
+      ∙ (elim (is_node d.graph (event_node e)) as (λ b. (if not b then Err StrangeNode else written d
       (event_node e) (planned app (view_of app d (event_node e)) e)) ≡ Ok (left, reply) → b ≡ true)
       [ false ↦ λ err. cc | true ↦ λ ok. refl ] is)
 

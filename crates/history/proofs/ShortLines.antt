@@ -8,8 +8,8 @@ use Rattle.std.specs.Option.{is_none}
 use Rattle.std.proofs.lemmas.Bool.{ltb-false}
 use Rattle.std.proofs.lemmas.Fmt.{length-decimal-le}
 use Rattle.std.proofs.lemmas.List.{length-append}
-use Rattle.action_tables.specs.Numbers.{is_among}
 use Rattle.app_interface.specs.PrintableWord.{IsPrintableWord}
+use Rattle.topology.specs.Graph.{is_node}
 use Rattle.topology.specs.Changing.{first_of, when}
 use Rattle.tree_layer.specs.declared.regs.TreeRegs.{TreeRegs}
 use Rattle.wave_layer.specs.Names.{phase_name}
@@ -155,7 +155,7 @@ module _ {L : Type 0} (from_text : List ℕ → Option L) (c left : Configuratio
   read_local : (text : List ℕ) → injected from_text c (SetLocal at text) ≡ Ok left
       → (nat_lt 200 (length text) ≡ false) × ((local : L) × (from_text text ≡ Some local))
   unfolding injected
-  read_local text is = unrefused (not (is_among at c.graph.ids)) (nat_lt 200 (length text)) (from_text text) is
+  read_local text is = unrefused (not (is_node c.graph at)) (nat_lt 200 (length text)) (from_text text) is
 
   -- such a text is one printable word, where all are
   pub local_done : ((text : List ℕ) (local : L) → from_text text ≡ Some local → IsPrintableWord text)

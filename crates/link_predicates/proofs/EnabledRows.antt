@@ -9,7 +9,7 @@ use Rattle.tree_layer.specs.declared.regs.TreeRegs.{TreeRegs}
 use Rattle.tree_layer.specs.declared.regs.TreeRefusal.TheVariants.{NotEnabled}
 use Rattle.wave_layer.specs.declared.regs.WaveRegs.{WaveRegs}
 use Rattle.wave_layer.specs.declared.regs.Phase.TheVariants.{Normal}
-use Rattle.reset_model.specs.LocalSteps.{tree_answer}
+use Rattle.reset_model.specs.LocalSteps.{fired_tree}
 use Rattle.reset_model.specs.declared.plan.Fired.{Fired}
 use Rattle.reset_model.specs.declared.step.StepRefusal.{StepRefusal}
 use Rattle.link_predicates.specs.Faults.{first_enabled}
@@ -68,8 +68,8 @@ told_right None tells none = tells
 told_right (Some row) tells none = absurd (none-some row (sym none))
 
 -- what a row of the tree table that leaves these registers answers
-abbrev pub answer_if : Bool → TreeRegs → Result Fired StepRefusal
-answer_if holds regs = tree_answer (cond holds (Ok regs) (Err NotEnabled))
+abbrev pub fired_if : Bool → TreeRegs → Result Fired StepRefusal
+fired_if holds regs = fired_tree (cond holds (Ok regs) (Err NotEnabled))
 
 -- registers of the wave, at which the tree table doesn't look
 abbrev pub no_wave : ℕ → WaveRegs

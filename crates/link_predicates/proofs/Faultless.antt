@@ -8,8 +8,7 @@ use Rattle.std.proofs.lemmas.Bool.Decides.{eqb_tells}
 use Rattle.std.proofs.lemmas.List.Folds.{flat_map-map, list_all-append}
 use Rattle.std.proofs.lemmas.Option.{none-some}
 use Rattle.app_interface.specs.Application.{App}
-use Rattle.topology.specs.Building.{has}
-use Rattle.topology.specs.Graph.{Graph, AreLinked, IsGraph, IsNode, are_linked, neighbours_of}
+use Rattle.topology.specs.Graph.{Graph, AreLinked, IsGraph, IsNode, are_linked, neighbours_of, has}
 use Rattle.topology.proofs.Membership.{Contains-has, has-Contains, has-filter}
 use Rattle.tree_layer.specs.declared.regs.TreeRegs.{TreeRegs}
 use Rattle.tree_layer.specs.TreeRows.{Adopts, Follows, IsFather, adopt_root, adopt_short, follow_dist, follow_root}

@@ -13,13 +13,13 @@ use Rattle.wave_layer.specs.declared.regs.WaveRegs.{WaveRegs}
 use Rattle.wave_layer.specs.declared.regs.FatherSeen.TheVariants.{Is}
 use Rattle.wave_layer.specs.WaveTable as wave
 use Rattle.wave_layer.specs.WaveTable.{WaveHolds, is_reset, next_session, wave_table}
-use Rattle.reset_model.specs.LocalSteps.{or_next, tree_answer, tree_view_of}
+use Rattle.reset_model.specs.LocalSteps.{or_next, fired_tree, tree_view_of}
 use Rattle.reset_model.specs.declared.plan.Fired.{Fired}
 use Rattle.reset_model.specs.declared.step.StepRefusal.{StepRefusal}
 use Rattle.reset_model.specs.declared.step.StepRefusal.TheVariants.{NotEnabled}
-use Rattle.reset_model.proofs.TreePlans.{IsTreeAnswer, adopt_is, near_some}
+use Rattle.reset_model.proofs.TreePlans.{IsTreeFired, adopt_is, near_some}
 use Rattle.link_predicates.specs.Faults.{first_enabled, mending_row}
-use Rattle.link_predicates.proofs.EnabledRows.{Eq, Lt, Tells, answer_if, first_by, first_of, no_wave, row_holds}
+use Rattle.link_predicates.proofs.EnabledRows.{Eq, Lt, Tells, fired_if, first_by, first_of, no_wave, row_holds}
 
 -- the first of two numbers whose test holds
 abbrev pub first_of_two : ℕ → ℕ → Bool → Bool → Option ℕ
@@ -27,7 +27,7 @@ first_of_two a b p q = cond p (Some a) (cond q (Some b) None)
 
 -- what the first of two rows tells is what they answer, one after the other
 either_tells : (E : Type 0) (a b : ℕ) (regs : TreeRegs) (p q : Bool)
-    → IsTreeAnswer (or_next (answer_if p regs) (or_next (answer_if q regs) (Err NotEnabled))) E regs
+    → IsTreeFired (or_next (fired_if p regs) (or_next (fired_if q regs) (Err NotEnabled))) E regs
     → Tells E (first_of_two a b (p || false) (q || false))
 either_tells E a b regs true q is = is.0
 either_tells E a b regs false true is = is.0
@@ -62,11 +62,11 @@ module _ (g : Graph) (K : ℕ) (t : ℕ → TreeRegs) (graph : IsGraph g) (i j :
   follow_tells : Tells (IsOtherFather g K t i j) (first_of_two 5 6 (rows 5) (rows 6))
   follow_tells = father (eqb_tells j (t i).father)
     where
-      Answered : Type 0
-      Answered = Tells (IsOtherFather g K t i j) (first_of_two 5 6 (rows 5) (rows 6))
+      IsClaimed : Type 0
+      IsClaimed = Tells (IsOtherFather g K t i j) (first_of_two 5 6 (rows 5) (rows 6))
 
       up : nat_eq j (t i).father ≡ true → j ≡ (t i).father → Lt (t i).dist K → Eq (t i).root (t j).root
-          → Eq (t i).dist ((t j).dist + 1) → Answered
+          → Eq (t i).dist ((t j).dist + 1) → IsClaimed
       up test named (inr far) root dist = rw (test, far.0) rests
         where
           rests : IsOtherFather g K t i j → ⊥
@@ -91,7 +91,7 @@ module _ (g : Graph) (K : ℕ) (t : ℕ → TreeRegs) (graph : IsGraph g) (i j :
           rests (_, follow_dist k father _ _ apart) =
               apart (dist.1 ∙ ap (λ n. (t n).dist + 1) (sym (same k father named)))
 
-      father : Eq j (t i).father → Answered
+      father : Eq j (t i).father → IsClaimed
       father (inl named) = up named.0 named.1 (leb_tells (suc (t i).dist) K) (eqb_tells _ _) (eqb_tells _ _)
       father (inr other) = rw other.0 (λ told. other.1 (sym told.0.named))
 
@@ -99,14 +99,14 @@ module _ (g : Graph) (K : ℕ) (t : ℕ → TreeRegs) (graph : IsGraph g) (i j :
   adopt_tells =
       let v = tree_view_of g K t i in
       let row : Option TreeRegs → ℕ → Result Fired StepRefusal =
-      λ o n. tree_answer
+      λ o n. fired_tree
       (fired_toward TreeRefusal.StrangeNeighbour
       (λ asked. fired_of TreeRefusal.NoSuchCase TreeRefusal.NotEnabled (tree_table v asked) n) j o) in
       let near = nat_lt (t j).dist K in
       let higher = (near && nat_lt (t i).root (t j).root) || false in
       let shorter = (near && (t i).root == (t j).root && nat_lt ((t j).dist + 1) (t i).dist) || false in
       either_tells (Adopts g K t i j) 7 8 (adopted j (t j)) higher shorter
-      (subst (λ o. IsTreeAnswer (or_next (row o 7) (or_next (row o 8) (Err NotEnabled))) (Adopts g K t i j)
+      (subst (λ o. IsTreeFired (or_next (row o 7) (or_next (row o 8) (Err NotEnabled))) (Adopts g K t i j)
       (adopted j (t j)))
       (near_some g K t no_wave graph i j linked) (adopt_is g K t no_wave graph i j linked))
 
@@ -140,8 +140,8 @@ mending_tells own up =
     rows : ℕ → Bool
     rows n = row_holds n (wave_table seen_up [])
 
-    Answered : Type 0
-    Answered = Denies (WaveHolds own up) (first_of 8 9 10 11 (rows 8) (rows 9) (rows 10) (rows 11))
+    IsClaimed : Type 0
+    IsClaimed = Denies (WaveHolds own up) (first_of 8 9 10 11 (rows 8) (rows 9) (rows 10) (rows 11))
 
     awake_only : is_reset own.phase ≡ true → is_reset up.phase ≡ true → own.session ≢ up.session → WaveHolds own up → ⊥
     awake_only reset up_reset apart holds = fits (holds.resetting up_reset)
@@ -159,7 +159,7 @@ mending_tells own up =
         fits (inr behind) = beyond behind.1
 
     at : (p q : Bool) → is_reset own.phase ≡ p → is_reset up.phase ≡ q → Eq own.session up.session
-        → Eq up.session own.session → Eq up.session (next_session own.session) → Answered
+        → Eq up.session own.session → Eq up.session (next_session own.session) → IsClaimed
     at true false own_is up_is s back next =
         rw (own_is, up_is) (λ holds. true≢false (sym own_is ∙ (holds.awake up_is).0))
     at false false own_is up_is (inl s) back next =

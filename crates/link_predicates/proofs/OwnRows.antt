@@ -9,13 +9,13 @@ use Rattle.topology.specs.Graph.{Graph, IsGraph, are_linked, neighbours_of}
 use Rattle.tree_layer.specs.declared.regs.TreeRegs.{TreeRegs}
 use Rattle.tree_layer.specs.TreeRows.{Claims, claimed}
 use Rattle.tree_layer.specs.TreeTable.{LocalView, father_passes, tree_table}
-use Rattle.reset_model.proofs.TreePlans.{IsTreeAnswer, claim_is, regs_of-linked}
+use Rattle.reset_model.proofs.TreePlans.{IsTreeFired, claim_is, regs_of-linked}
 use Rattle.reset_model.specs.LocalSteps.{or_next}
 use Rattle.reset_model.specs.declared.step.StepRefusal.TheVariants.{NotEnabled}
 use Rattle.reset_model.specs.Configuration.{Configuration, tree_of}
 use Rattle.reset_model.specs.View.{Neighbour, near_of}
 use Rattle.link_predicates.specs.Faults.{first_enabled, own_row}
-use Rattle.link_predicates.proofs.EnabledRows.{Tells, answer_if, first_by, first_of, no_wave, row_holds}
+use Rattle.link_predicates.proofs.EnabledRows.{Tells, fired_if, first_by, first_of, no_wave, row_holds}
 
 abbrev pub seeing : ℕ → ℕ → TreeRegs → List (ℕ × TreeRegs) → LocalView
 seeing id bound own near = record { id = id; bound = bound; own = own; near = near }
@@ -45,8 +45,8 @@ first_own id bound own near =
 
 -- what the first of rows 1 to 4 tells is what they answer, one after the other
 first_tells : (E : Type 0) (regs : TreeRegs) (p q r s : Bool)
-    → IsTreeAnswer (or_next (answer_if p regs) (or_next (answer_if q regs)
-    (or_next (answer_if r regs) (or_next (answer_if s regs) (Err NotEnabled))))) E regs
+    → IsTreeFired (or_next (fired_if p regs) (or_next (fired_if q regs)
+    (or_next (fired_if r regs) (or_next (fired_if s regs) (Err NotEnabled))))) E regs
     → Tells E (first_of 1 2 3 4 (p || false) (q || false) (r || false) (s || false))
 first_tells E regs true q r s is = is.0
 first_tells E regs false true r s is = is.0

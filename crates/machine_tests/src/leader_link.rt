@@ -117,5 +117,5 @@ impl Application for LeaderLink {
         }
     }
 
-    fn known(_local: &bool) {}
+    fn lemma_is_local(_local: &bool) {}
 }

@@ -1,9 +1,10 @@
 -- What a step of a book leaves: the same graph, one entry more, and a receipt of it.
-use Rattle.std.proofs.Common.{◌≡◌, ℕ, ◌+◌, ◌≤◌, ◌==◌, Bool, true, false, not, cond, List, [], ◌∷◌, ◌++◌, length, drop}
+use Rattle.std.proofs.Common.{◌≡◌, ℕ, ◌+◌, ◌≤◌, Bool, true, false, not, cond, List, [], ◌∷◌, ◌++◌, length, drop}
 use Rattle.std.proofs.Common.{Option, Some, None, Result, Ok, Err, IfOk, IfErr, OnOk, MatchResult, refl, subst}
 use Rattle.std.proofs.lemmas.List.{drop-append-le}
 use Rattle.std.proofs.lemmas.List.Folds.{list_all-append}
-use Rattle.std.specs.List.{list_all, list_any}
+use Rattle.std.specs.List.{list_all}
+use Rattle.topology.specs.Graph.{is_node}
 use Rattle.app_interface.specs.Application.{App}
 use Rattle.reset_model.specs.declared.event.Event.{Event}
 use Rattle.reset_model.specs.declared.plan.Effect.{Effect}
@@ -41,7 +42,7 @@ module _ {L : Type 0} (app : App L) (c : Configuration L) where
   written_graph i true (Err f) = tt
 
   same_graph : (e : Event) → SameGraph (outcome_of app c e)
-  same_graph e = written_graph (event_node e) (list_any (λ k. k == event_node e) c.graph.ids)
+  same_graph e = written_graph (event_node e) (is_node c.graph (event_node e))
       (planned app (view_of app c (event_node e)) e)
 
   pub outcome_graph : (e : Event) (left : Configuration L) (reply : Reply) → outcome_of app c e ≡ Ok (left, reply)

@@ -78,7 +78,7 @@ pub fn close<L: Round, P: Application>(
         }
     }
     match Vec::with_capacity(alloc, seats.len()) {
-        Ok(lists) => Ok(gathered(locked, last, cut, seats, lists)),
+        Ok(lists) => Ok(outcome_of_seats(locked, last, cut, seats, lists)),
         Err(AllocError) => {
             let locked = Mutex::new(locked);
             Err((CloseFault::NoMemory, Shared { locked, last, cut }, seats))
@@ -240,7 +240,7 @@ fn push_after(told: &mut Vec<Receipt>, mark: usize, receipt: Receipt) -> Result<
 
 // The outcome of these seats, which close the book. The shares are put together to all parts of the ledger, so
 // that its total is seen to be the number of their receipts.
-fn gathered<L: Round, P: Application>(
+fn outcome_of_seats<L: Round, P: Application>(
     locked: Locked<L, P>,
     last: Share<L>,
     cut: Cut<L>,

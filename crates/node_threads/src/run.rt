@@ -194,7 +194,7 @@ fn sit<L: Round, P: Application, G: Gate, R: Wait>(
 }
 
 // What is shared may be seen by every thread.
-fn crosses<L: Round + Send + Sync, P: Application>(shared: &Shared<L, P>)
+fn lemma_is_sync<L: Round + Send + Sync, P: Application>(shared: &Shared<L, P>)
     ensures { IsSync (the_row (param 0 L.row) (param 1 P.row) (param 4 P.Local.row) L.Round.own L.Ledger.own
         P.Application.own) }
 {
@@ -212,7 +212,7 @@ fn in_threads<L: Round + Send + Sync, P: Application, G: Gate + Sync, R: Threads
     task: Task,
 ) -> Joined<L> {
     thread::scope(thread::scope_env(), rt, |scope| -> Joined<L> {
-        crosses(shared);
+        lemma_is_sync(shared);
         let mut handles = Vec::new(alloc);
         let mut back = Vec::new(alloc);
         if handles.reserve(seats.len()).is_err() || back.reserve(seats.len()).is_err() {

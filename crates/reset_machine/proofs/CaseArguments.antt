@@ -8,7 +8,7 @@ use Rattle.std.proofs.lemmas.Bool.{and_parts, eq-eqb, false≢true}
 use Rattle.action_tables.specs.Numbers.{all_cases, with_number}
 use Rattle.action_tables.specs.LawsOfNumbers.{Each}
 use Rattle.action_tables.proofs.NumberSets.{insert-more}
-use Rattle.topology.specs.Building.{has}
+use Rattle.topology.specs.Graph.{has}
 use Rattle.topology.proofs.Membership.{has-filter}
 
 -- the cases from n on

@@ -4,8 +4,7 @@ use Rattle.std.proofs.Common.{map, take}
 use Rattle.std.proofs.Common.{slice_index, slice_index_or, ⊎_elim, refl, sym, ap, subst, ◌∙◌, ◌&&◌, arith}
 use Rattle.std.proofs.lemmas.List.{get_or-map, get_or_default, length-map, take_more}
 use Rattle.std.proofs.lemmas.List.Elements.{Contains-push_cases}
-use Rattle.topology.specs.Building.{has}
-use Rattle.topology.specs.Graph.{Graph, IsGraph, are_linked, neighbours_of}
+use Rattle.topology.specs.Graph.{Graph, IsGraph, are_linked, neighbours_of, has}
 use Rattle.topology.proofs.Ascending.{index_once}
 use Rattle.topology.proofs.Membership.{Contains-has, has-Contains, has-filter}
 use Rattle.reset_machine.specs.ReadySet.{Doubts, DoubtsAll, DoubtsAround, IsApart, IsKnownIdle, IsKnownReady}

@@ -2,8 +2,7 @@
 use Rattle.std.proofs.Common.{◌≡◌, ℕ, ◌+◌, ◌<◌, ◌==◌, Bool, true, false, cond, ◌&&◌, List, [], ◌∷◌, Some, None, length}
 use Rattle.std.proofs.Common.{drop, map, slice_index, refl, sym, ap, ◌∙◌}
 use Rattle.std.proofs.lemmas.Bool.{eq-eqb}
-use Rattle.topology.specs.Building.{has}
-use Rattle.topology.specs.Graph.{Graph, are_linked}
+use Rattle.topology.specs.Graph.{Graph, are_linked, has}
 use Rattle.tree_layer.specs.declared.regs.TreeRegs.{TreeRegs}
 use Rattle.wave_layer.specs.declared.regs.WaveRegs.{WaveRegs}
 use Rattle.action_tables.specs.Nodes.{regs_of}

@@ -1,4 +1,4 @@
--- A view that shows the rows of an event the same is answered the same.
+-- On a view that shows the rows of an event the same they do the same.
 use Rattle.std.proofs.Common.{◌≡◌, ℕ, false, List, Option, Some, None, Result, nat_eq, refl, sym, subst, ◌∙◌, ◌⊎◌}
 use Rattle.std.proofs.Common.{⊎_elim, true≢false}
 use Rattle.topology.specs.Graph.{Graph}
@@ -13,51 +13,52 @@ use Rattle.reset_model.specs.declared.event.Event.TheVariants.{Mend, Act}
 use Rattle.reset_model.specs.declared.plan.Fired.{Fired}
 use Rattle.reset_model.specs.declared.step.StepRefusal.{StepRefusal}
 use Rattle.reset_model.specs.declared.plan.Seen.TheVariants.{Wave}
-use Rattle.reset_model.specs.LocalSteps.{first_answer, cases_of, view_of}
+use Rattle.reset_model.specs.LocalSteps.{first_fired, cases_of, view_of}
 use Rattle.reset_machine.specs.NarrowViews.{FatherSuffices, ChildrenSuffice, Suffices}
 use Rattle.reset_model.specs.Steps.{named_node, is_of_tree}
 use Rattle.reset_model.proofs.Seen.{is_root-father_seen}
 
 module _ (own : WaveRegs) (f f' : FatherSeen) (cs cs' : List (ℕ × WaveRegs)) where
-  -- what the rows of an event answer on a view of these parts
-  abbrev answer_on : FatherSeen → List (ℕ × WaveRegs) → Event → Result Fired StepRefusal
-  answer_on f cs e = first_answer (Wave (record { own = own; father = f; children = cs })) (named_node e) (cases_of e)
+  -- what the rows of an event do on a view of these parts
+  abbrev rows_fired_on : FatherSeen → List (ℕ × WaveRegs) → Event → Result Fired StepRefusal
+  rows_fired_on f cs e =
+      first_fired (Wave (record { own = own; father = f; children = cs })) (named_node e) (cases_of e)
 
   -- a relay looks at the child that it names
   relay_alike : (i c : ℕ) → regs_of c cs ≡ regs_of c cs'
-      → answer_on f cs (Relay i c) ≡ answer_on f' cs' (Relay i c)
+      → rows_fired_on f cs (Relay i c) ≡ rows_fired_on f' cs' (Relay i c)
   relay_alike i c same = at (regs_of c cs') same refl
     where
       at : (o : Option WaveRegs) → regs_of c cs ≡ o → regs_of c cs' ≡ o
-          → answer_on f cs (Relay i c) ≡ answer_on f' cs' (Relay i c)
+          → rows_fired_on f cs (Relay i c) ≡ rows_fired_on f' cs' (Relay i c)
       at None here there = rw (here, there) refl
       at (Some regs) here there = rw (here, there) refl
 
   -- to open, a node asks whether it is a root
-  open_alike : (i : ℕ) → is_root f ≡ is_root f' → answer_on f cs (Open i) ≡ answer_on f' cs' (Open i)
+  open_alike : (i : ℕ) → is_root f ≡ is_root f' → rows_fired_on f cs (Open i) ≡ rows_fired_on f' cs' (Open i)
   open_alike i root = rw root refl
 
   -- to finish, it asks whether all its children are done too
   finish_alike : (i : ℕ) → is_root f ≡ is_root f' → children_done own.session cs ≡ children_done own.session cs'
-      → answer_on f cs (Finish i) ≡ answer_on f' cs' (Finish i)
+      → rows_fired_on f cs (Finish i) ≡ rows_fired_on f' cs' (Finish i)
   finish_alike i root done = rw (root, done) refl
 
--- the rows of an event of the wave answer the same on a view that suffices
-pub narrow_answers : (e : Event) (v narrow : LocalView) → is_of_tree e ≡ false → Suffices e v narrow
-    → first_answer (Wave narrow) (named_node e) (cases_of e) ≡ first_answer (Wave v) (named_node e) (cases_of e)
-narrow_answers (Claim i) v narrow wave same = absurd (true≢false wave)
-narrow_answers (Follow i) v narrow wave same = absurd (true≢false wave)
-narrow_answers (Adopt i j) v narrow wave same = absurd (true≢false wave)
-narrow_answers (Request i) v narrow wave same = rw same.own refl
-narrow_answers (Relay i c) v narrow wave same =
+-- the rows of an event of the wave do the same on a view that suffices
+pub narrow_fires : (e : Event) (v narrow : LocalView) → is_of_tree e ≡ false → Suffices e v narrow
+    → first_fired (Wave narrow) (named_node e) (cases_of e) ≡ first_fired (Wave v) (named_node e) (cases_of e)
+narrow_fires (Claim i) v narrow wave same = absurd (true≢false wave)
+narrow_fires (Follow i) v narrow wave same = absurd (true≢false wave)
+narrow_fires (Adopt i j) v narrow wave same = absurd (true≢false wave)
+narrow_fires (Request i) v narrow wave same = rw same.own refl
+narrow_fires (Relay i c) v narrow wave same =
     rw same.own (relay_alike v.own narrow.father v.father narrow.children v.children i c same.children)
-narrow_answers (Open i) v narrow wave same =
+narrow_fires (Open i) v narrow wave same =
     rw same.own (open_alike v.own narrow.father v.father narrow.children v.children i same.father)
-narrow_answers (Join i) v narrow wave same = rw (same.own, same.father) refl
-narrow_answers (Finish i) v narrow wave same =
+narrow_fires (Join i) v narrow wave same = rw (same.own, same.father) refl
+narrow_fires (Finish i) v narrow wave same =
     rw same.own (finish_alike v.own narrow.father v.father narrow.children v.children i same.father same.children)
-narrow_answers (Mend i) v narrow wave same = rw (same.own, same.father) refl
-narrow_answers (Act i case with) v narrow wave same = refl
+narrow_fires (Mend i) v narrow wave same = rw (same.own, same.father) refl
+narrow_fires (Act i case with) v narrow wave same = refl
 
 -- the event asks of its father only whether i is its own
 abbrev pub AsksForRoot : Event → ℕ → Type 0

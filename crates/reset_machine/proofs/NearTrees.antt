@@ -4,9 +4,8 @@ use Rattle.std.specs.List.{list_any}
 use Rattle.std.specs.List.Sorted.{IsStrictlyIncreasing}
 use Rattle.std.proofs.lemmas.Bool.{and_parts}
 use Rattle.std.proofs.lemmas.List.Kept.{IsStrictlyIncreasing-filter}
-use Rattle.topology.specs.Building.{has}
 use Rattle.topology.proofs.Membership.{has-filter}
-use Rattle.topology.specs.Graph.{Graph, IsGraph, are_linked, neighbours_of}
+use Rattle.topology.specs.Graph.{Graph, IsGraph, are_linked, neighbours_of, has}
 use Rattle.tree_layer.specs.declared.regs.TreeRegs.{TreeRegs}
 use Rattle.tree_layer.specs.TreeTable.{IsView}
 

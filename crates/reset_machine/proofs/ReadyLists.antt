@@ -11,8 +11,7 @@ use Rattle.std.proofs.lemmas.List.Sorted.{Contains-permutation, IsPermutation-sy
 use Rattle.std.proofs.lemmas.Map.Keys.{IsDistinct-IsPermutation, IsDistinct-from_apart}
 use Rattle.std.proofs.lemmas.Map.Keys.{IsStrictlyIncreasing-from_distinct}
 use Rattle.app_interface.specs.Application.{App}
-use Rattle.topology.specs.Building.{has}
-use Rattle.topology.specs.Graph.{IsGraph}
+use Rattle.topology.specs.Graph.{IsGraph, has}
 use Rattle.topology.proofs.Ascending.{index_once}
 use Rattle.topology.proofs.Membership.{Contains-has, has-Contains, has-filter}
 use Rattle.topology.proofs.OneResult.{same_ascending}

@@ -5,13 +5,13 @@ use Rattle.app_interface.specs.Application.{App}
 use Rattle.reset_model.specs.declared.event.Event.{Event}
 use Rattle.reset_model.specs.declared.step.Done.{Done}
 use Rattle.reset_model.specs.Configuration.{Configuration}
-use Rattle.reset_model.specs.Runs.{Answers, IsRun}
+use Rattle.reset_model.specs.Runs.{IsDone, IsRun}
 
 -- a run goes on by one more event
 pub IsRun-more : {L : Type 0} (app : App L) (c m c' : Configuration L) (es : List Event) (ds : List Done) (e : Event)
-    (d : Done) → IsRun app c es ds m → Answers app m e d c' → IsRun app c (es ++ e ∷ []) (ds ++ d ∷ []) c'
+    (d : Done) → IsRun app c es ds m → IsDone app m e d c' → IsRun app c (es ++ e ∷ []) (ds ++ d ∷ []) c'
 IsRun-more {L} app c m c' [] [] e d is step =
-    (c', let P : Configuration L → Type 0 = λ k. Answers app k e d c' in subst P is step, refl)
+    (c', let P : Configuration L → Type 0 = λ k. IsDone app k e d c' in subst P is step, refl)
 IsRun-more app c m c' [] (x ∷ ds) e d is step = absurd is
 IsRun-more app c m c' (x ∷ es) [] e d is step = absurd is
 IsRun-more app c m c' (x ∷ es) (y ∷ ds) e d is step = (is.0, is.1, IsRun-more app is.0 m c' es ds e d is.2 step)
@@ -24,7 +24,7 @@ take_more d (x ∷ xs) (suc i) short = ap (λ l. x ∷ l) (take_more d xs i (ome
 
 -- the same of a list that is gone through by an index
 pub run_more : {L : Type 0} (app : App L) (c m c' : Configuration L) (es : List Event) (ds more : List Done) (i : ℕ)
-    (e : Event) (d : Done) → i < length es → IsRun app c (take i es) ds m → Answers app m (slice_index_or es i e) d c'
+    (e : Event) (d : Done) → i < length es → IsRun app c (take i es) ds m → IsDone app m (slice_index_or es i e) d c'
     → more ≡ ds ++ d ∷ [] → IsRun app c (take (i + 1) es) more c'
 run_more app c m c' es ds more i e d short so_far step pushed =
     let IsRunOf : List Event → List Done → Type 0 = λ es ds. IsRun app c es ds c' in

@@ -1,4 +1,4 @@
--- What the outcome of a step says of its answer.
+-- What the outcome of a step says of its result.
 use Rattle.std.proofs.Common.{◌≡◌, ◌≢◌, ℕ, false, ◌+◌, ◌<◌, List, [], ◌∷◌, ◌++◌, length}
 use Rattle.std.proofs.Common.{slice_get, slice_index, map, take, add-one, Option}
 use Rattle.std.proofs.Common.{IfSome, Result, Ok, Err, IfOk, IfErr, MatchResult, refl, sym, ap, ap₂, ◌∙◌}
@@ -16,7 +16,7 @@ use Rattle.reset_model.specs.declared.step.Reply.TheVariants.{Complete}
 use Rattle.reset_model.specs.declared.step.StepRefusal.{StepRefusal}
 use Rattle.reset_model.specs.declared.step.StepRefusal.TheVariants.{NoMemory}
 use Rattle.reset_model.specs.Configuration.{Configuration, IsShaped, tree_of, wave_of}
-use Rattle.reset_model.specs.LocalSteps.{planned_of}
+use Rattle.reset_model.specs.LocalSteps.{event_fired}
 use Rattle.reset_model.specs.MachineSteps.{IsStep, IsRefused}
 use Rattle.reset_model.specs.Outcome.{act_outcome, after_fired, fired_reply, row_outcome}
 use Rattle.reset_model.specs.Planned.{outcome_of}
@@ -41,7 +41,7 @@ no_act (Mend i) other = refl
 no_act (Act i case with) other = absurd (other i case with refl)
 
 module _ {L : Type 0} (app : App L) (c c' : Configuration L) (e : Event) where
-  -- the answer r, which leaves c', is the outcome
+  -- the result r, which leaves c', is the outcome
   abbrev pub IsOutcome : Result Reply StepRefusal → Type 0
   IsOutcome r =
       MatchResult r (λ reply. outcome_of app c e ≡ Ok (c', reply)) (λ f. f ≢ NoMemory → outcome_of app c e ≡ Err f)
@@ -62,38 +62,38 @@ module _ {L : Type 0} (app : App L) (c c' : Configuration L) (e : Event) where
   row_is_outcome graph row (Err f) h = λ other. outcome-rows app c e graph row ∙ h other
 
   module _ (graph : IsGraph c.graph) (shaped : IsShaped c) where
-    pub answer_step : (r : Result Reply StepRefusal) → IsOutcome r → IfOk r (λ reply. IsStep app c e c')
-    answer_step (Ok reply) is = (outcome_is_step app c graph shaped e c' reply is).0
-    answer_step (Err f) is = tt
+    pub done_step : (r : Result Reply StepRefusal) → IsOutcome r → IfOk r (λ reply. IsStep app c e c')
+    done_step (Ok reply) is = (outcome_is_step app c graph shaped e c' reply is).0
+    done_step (Err f) is = tt
 
-    pub answer_reply : (r : Result Reply StepRefusal) → IsOutcome r
+    pub done_reply : (r : Result Reply StepRefusal) → IsOutcome r
         → IfOk r (λ reply. reply ≡ reply_of (tree_of c) (wave_of c) e)
-    answer_reply (Ok reply) is = (outcome_is_step app c graph shaped e c' reply is).1
-    answer_reply (Err f) is = tt
+    done_reply (Ok reply) is = (outcome_is_step app c graph shaped e c' reply is).1
+    done_reply (Err f) is = tt
 
-    pub answer_refused : (r : Result Reply StepRefusal) → IsOutcome r
+    pub done_refused : (r : Result Reply StepRefusal) → IsOutcome r
         → IfErr r (λ f. f ≢ NoMemory → IsRefused app c e f)
-    answer_refused (Ok reply) is = tt
-    answer_refused (Err f) is = λ other. outcome_is_refused app c graph shaped e f (is other)
+    done_refused (Ok reply) is = tt
+    done_refused (Err f) is = λ other. outcome_is_refused app c graph shaped e f (is other)
 
-    pub answer_sound : (r : Result Reply StepRefusal) → IsOutcome r → IfOk r (λ reply. IsSound c → IsSound c')
-    answer_sound (Ok reply) is = step_sound app c c' e graph (outcome_is_step app c graph shaped e c' reply is).0
-    answer_sound (Err f) is = tt
+    pub done_sound : (r : Result Reply StepRefusal) → IsOutcome r → IfOk r (λ reply. IsSound c → IsSound c')
+    done_sound (Ok reply) is = step_sound app c c' e graph (outcome_is_step app c graph shaped e c' reply is).0
+    done_sound (Err f) is = tt
 
-    pub answer_quiet : (r : Result Reply StepRefusal) → IsOutcome r → IfOk r (λ reply. IsSound c → Repairs e → ⊥)
-    answer_quiet (Ok reply) is = step_quiet app c c' e (outcome_is_step app c graph shaped e c' reply is).0
-    answer_quiet (Err f) is = tt
+    pub done_quiet : (r : Result Reply StepRefusal) → IsOutcome r → IfOk r (λ reply. IsSound c → Repairs e → ⊥)
+    done_quiet (Ok reply) is = step_quiet app c c' e (outcome_is_step app c graph shaped e c' reply is).0
+    done_quiet (Err f) is = tt
 
-    pub answer_complete : IsConnected c.graph → (r : Result Reply StepRefusal) → IsOutcome r → (session : ℕ) → IsSound c
+    pub done_complete : IsConnected c.graph → (r : Result Reply StepRefusal) → IsOutcome r → (session : ℕ) → IsSound c
         → r ≡ Ok (Complete session) → IsComplete c' session
-    answer_complete whole (Ok reply) is session sound told =
+    done_complete whole (Ok reply) is session sound told =
         let step = outcome_is_step app c graph shaped e c' reply is in
         step_complete app c c' e session graph whole step.0 sound (sym step.1 ∙ same_value told)
-    answer_complete whole (Err f) is session sound told = absurd (cc)
+    done_complete whole (Err f) is session sound told = absurd (cc)
 
   -- what a row of the wave table leaves is the outcome
   pub wave_is_outcome : (move : WaveMove) (at : ℕ)
-      → planned_of c.graph (node_bound c.graph) (tree_of c) (wave_of c) e ≡ Ok (Wave move) → at ≡ event_node e
+      → event_fired c.graph (node_bound c.graph) (tree_of c) (wave_of c) e ≡ Ok (Wave move) → at ≡ event_node e
       → (r : Result Reply StepRefusal)
       → IfOk r (λ reply. (reply ≡ fired_reply (Wave move)) × (c' ≡ after_fired app c at (Wave move)))
       → IfErr r (λ f. f ≡ NoMemory)

@@ -14,7 +14,7 @@ use Rattle.reset_model.specs.Runs.{IsRun}
 use Rattle.reset_model.specs.Sound.{IsSound}
 use Rattle.reset_model.specs.SoundSteps.{IsSoundStep}
 use Rattle.reset_model.proofs.RunShadows.{run_shadow}
-use Rattle.reset_machine.proofs.StepClauses.{IsOutcome, answer_complete, answer_quiet, answer_sound}
+use Rattle.reset_machine.proofs.StepClauses.{IsOutcome, done_complete, done_quiet, done_sound}
 
 module _ {L : Type 0} (app : App L) (c c' : Configuration L) (e : Event) where
   -- what it does on the abstract machine is its shadow
@@ -48,10 +48,10 @@ module _ {L : Type 0} (app : App L) (Inv : Graph → (ℕ → L) → Type 0) (c 
     sound_step keeps opens (Ok reply) is = λ sound.
         let run : OneRun reply = (c', is, refl) in
         record {
-          sound = answer_sound app c c' e graph shaped (Ok reply) is sound;
-          quiet = answer_quiet app c c' e graph shaped (Ok reply) is sound;
+          sound = done_sound app c c' e graph shaped (Ok reply) is sound;
+          quiet = done_quiet app c c' e graph shaped (Ok reply) is sound;
           complete =
-              λ session told. answer_complete app c c' e graph shaped whole (Ok reply) is session sound (ap Ok told);
+              λ session told. done_complete app c c' e graph shaped whole (Ok reply) is session sound (ap Ok told);
           refines = step_refines app c c' e graph whole shaped reply run sound;
           invariant = keeps reply run sound;
           restored = λ opening. opens reply run sound (opened_once e reply opening);

@@ -9,7 +9,7 @@ use Rattle.wave_layer.specs.declared.regs.WaveRegs.{WaveRegs}
 use Rattle.reset_model.specs.Actions.{acted_of}
 use Rattle.reset_model.specs.Configuration.{Configuration, local_of, put_at, tree_of, wave_of, with_local, with_tree}
 use Rattle.reset_model.specs.Configuration.{start_list, with_locals, with_wave}
-use Rattle.reset_model.specs.LocalSteps.{planned_of}
+use Rattle.reset_model.specs.LocalSteps.{event_fired}
 use Rattle.reset_model.specs.Outcome.{act_outcome, acted, done, restarted, row_outcome}
 use Rattle.reset_model.specs.Steps.{event_node}
 use Rattle.reset_model.specs.declared.event.Event.{Event}
@@ -57,7 +57,7 @@ module _ {L : Type 0} (c d : Configuration L) (id index : ℕ) (found : position
 -- or of a row of the tree table
 pub tree_outcome : {L : Type 0} (app : App L) (c d : Configuration L) (e : Event) (index : ℕ) (regs : TreeRegs)
     → position (λ k. k == event_node e) c.graph.ids ≡ Some index
-    → planned_of c.graph (node_bound c.graph) (tree_of c) (wave_of c) e ≡ Ok (Tree regs)
+    → event_fired c.graph (node_bound c.graph) (tree_of c) (wave_of c) e ≡ Ok (Tree regs)
     → d ≡ with_tree c (slice_index c.graph.ids index) regs → row_outcome app c e ≡ Ok (d, Applied)
 tree_outcome {L} app c d e index regs found does written =
     let told : Configuration L → Result (Configuration L × Reply) StepRefusal = λ k. Ok (k, Applied) in

@@ -9,7 +9,7 @@ use Rattle.reset_model.specs.declared.plan.Fired.{Fired}
 use Rattle.reset_model.specs.declared.step.StepRefusal.{StepRefusal}
 use Rattle.reset_model.specs.Actions.{case_outcome_of}
 use Rattle.reset_model.specs.Configuration.{Configuration, local_of, tree_of, wave_of}
-use Rattle.reset_model.specs.LocalSteps.{answer_of, tree_view_of, view_of}
+use Rattle.reset_model.specs.LocalSteps.{rows_fired, tree_view_of, view_of}
 
 pub record NodePlace (L : Type 0) : Type 0 where
   pub config : Configuration L
@@ -42,9 +42,9 @@ tree_seen p = tree_view_of p.config.graph (node_bound p.config.graph) (tree_of p
 abbrev pub wave_seen : {L : Type 0} → NodePlace L → wave.LocalView
 wave_seen p = view_of p.config.graph (tree_of p.config) (wave_of p.config) p.id
 
--- what the rows of an event answer at its node
-abbrev pub answer_at : {L : Type 0} → NodePlace L → Event → Result Fired StepRefusal
-answer_at p e = answer_of p.config.graph (node_bound p.config.graph) (tree_of p.config) (wave_of p.config) e
+-- what the rows of an event do at its node
+abbrev pub rows_fired_at : {L : Type 0} → NodePlace L → Event → Result Fired StepRefusal
+rows_fired_at p e = rows_fired p.config.graph (node_bound p.config.graph) (tree_of p.config) (wave_of p.config) e
 
 -- what a case of the application does at the node, with this choice of a neighbour
 abbrev pub case_outcome_at : {L : Type 0} → App L → NodePlace L → ℕ → Option ℕ → Result L StepRefusal

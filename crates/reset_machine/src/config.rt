@@ -13,7 +13,7 @@ use crate::enabled::{Enabled, enabled_at};
 use crate::node_view::{is_of, read_view};
 use crate::nodes::Nodes;
 use crate::place::Place;
-use crate::plan::planned;
+use crate::plan::event_fired;
 use crate::ready::{ready_ids, settle_all};
 use crate::ready_set::ReadySet;
 use app_interface::Application;
@@ -61,7 +61,7 @@ impl<P: Application> Config<P> {
     ghost use Rattle.reset_model.specs.Configuration.{with_graph, with_local, with_tree, with_wave};
     ghost use Rattle.reset_machine.specs.Enabled.{enabled_rows, ready_of};
     ghost use Rattle.reset_model.specs.MachineSteps.{IsStep, IsRefused};
-    ghost use Rattle.reset_model.specs.Runs.{Answers, IsRun};
+    ghost use Rattle.reset_model.specs.Runs.{IsDone, IsRun};
     ghost use Rattle.reset_model.specs.Steps.{reply_of};
     ghost use Rattle.reset_model.specs.Outcome.{IsBoot, act_outcome, row_outcome};
     ghost use Rattle.reset_model.specs.Planned.{after_effect, outcome_of};
@@ -141,7 +141,7 @@ impl<P: Application> Config<P> {
         ensures outcome { MatchResult result (λ reply. row_outcome P.app self.old event ≡ Ok (self.new, reply))
             (λ f. f ≢ StepRefusal.NoMemory → row_outcome P.app self.old event ≡ Err f) }
     {
-        match planned(alloc, &self.nodes, event) {
+        match event_fired(alloc, &self.nodes, event) {
             Ok((ix, effect)) => match effect {
                 Fired::Tree(after) => {
                     self.set_tree(ix, after);
@@ -218,15 +218,15 @@ impl<P: Application> Config<P> {
         self.nodes.lemma_is_graph();
     }
 
-    /// Does what the events say, in turn, and tells how each was answered. A refused event changes
-    /// nothing, and the next one follows it. Where there is no memory for the answers nothing is done.
+    /// Does what the events say, in turn, and tells what came of each. A refused event changes nothing,
+    /// and the next one follows it. Where there is no memory to tell it nothing is done.
     pub fn run(&mut self, alloc: Global, events: &[Event]) -> Result<Vec<Done>, AllocError>
-        ensures ok { IfOk result (λ answers. IsRun P.app self.old events.now answers.items self.new) }
+        ensures ok { IfOk result (λ done. IsRun P.app self.old events.now done.items self.new) }
         ensures kept { OnErr result (self.new ≡ self.old) }
 
         // From a sound configuration it keeps what is to be kept, and each completion in it is true.
         ensures lawful { IfOk result
-            (λ answers. IsSound self.old → IsSoundRun P.app P.Inv self.old events.now answers.items self.new) }
+            (λ done. IsSound self.old → IsSoundRun P.app P.Inv self.old events.now done.items self.new) }
     {
         self.lemma_is_graph();
         completions::<P>();
@@ -237,20 +237,20 @@ impl<P: Application> Config<P> {
 
     // Does what the events say, in turn.
     fn run_all(&mut self, alloc: Global, events: &[Event]) -> Result<Vec<Done>, AllocError>
-        ensures ok { IfOk result (λ answers. IsRun P.app self.old events.now answers.items self.new) }
+        ensures ok { IfOk result (λ done. IsRun P.app self.old events.now done.items self.new) }
         ensures sound { IsSound self.old → IsSound self.new }
         ensures kept { OnErr result (self.new ≡ self.old) }
     {
-        let mut answers = Vec::with_capacity(alloc, events.len())?;
+        let mut done = Vec::with_capacity(alloc, events.len())?;
         for event in events {
-            answers.push(self.attempt(alloc, *event)).unwrap();
+            done.push(self.attempt(alloc, *event)).unwrap();
         }
-        Ok(answers)
+        Ok(done)
     }
 
-    // Does what the event says, and tells how it was answered.
+    // Does what the event says, and tells what came of it.
     fn attempt(&mut self, alloc: Global, event: Event) -> Done
-        ensures answered { Answers P.app self.old event result self.new }
+        ensures done { IsDone P.app self.old event result self.new }
         ensures sound { IsSound self.old → IsSound self.new }
     {
         match self.step(alloc, event) {

@@ -8,9 +8,8 @@ use Rattle.std.proofs.lemmas.List.Kept.{IsStrictlyIncreasing-filter}
 use Rattle.app_interface.specs.Application.{App, Fits, is_read, seen}
 use Rattle.app_interface.specs.declared.reads.Reads.{Reads}
 use Rattle.app_interface.specs.declared.reads.Reads.TheVariants.{Alone, Toward, One, All}
-use Rattle.topology.specs.Building.{has}
 use Rattle.topology.proofs.Membership.{has-Contains, Contains-has, has-filter}
-use Rattle.topology.specs.Graph.{Graph, IsGraph, IsNode, AreLinked, are_linked, neighbours_of}
+use Rattle.topology.specs.Graph.{Graph, IsGraph, IsNode, AreLinked, are_linked, neighbours_of, has}
 use Rattle.wave_layer.specs.declared.regs.WaveRegs.{WaveRegs}
 use Rattle.reset_model.specs.declared.step.StepRefusal.{StepRefusal}
 use Rattle.reset_model.specs.Actions.{AllAgree, IsFirstApart, ActRefused, strange_node, strange_neighbour, no_such_case}

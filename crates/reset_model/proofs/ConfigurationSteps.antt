@@ -24,7 +24,7 @@ use Rattle.reset_model.specs.Outcome.{map_outcome, row_outcome, act_outcome, act
 use Rattle.reset_model.specs.Outcome.{restarted}
 use Rattle.reset_model.specs.Actions.{acted_of}
 use Rattle.reset_model.specs.Planned.{outcome_of}
-use Rattle.reset_model.specs.LocalSteps.{planned_of}
+use Rattle.reset_model.specs.LocalSteps.{event_fired}
 use Rattle.reset_model.proofs.Positions.{value_at-put_at, value_at-put_at_other, put_at-position}
 use Rattle.reset_model.proofs.PlannedSteps.{IsPlannedStep, planned_steps}
 use Rattle.reset_model.proofs.WavePlans.{restarts_of}
@@ -118,7 +118,8 @@ module _ {L : Type 0} (app : App L) (c : Configuration L) (graph : IsGraph c.gra
       (IsRefused app c e)
 
   done_steps : (e : Event) (r : Result Fired StepRefusal) → is_act e ≡ false
-      → planned_of c.graph (node_bound c.graph) (tree_of c) (wave_of c) e ≡ r → IsJudged e (done app c (event_node e) r)
+      → event_fired c.graph (node_bound c.graph) (tree_of c) (wave_of c) e ≡ r
+      → IsJudged e (done app c (event_node e) r)
   done_steps e (Err f) row planned =
       row_refused row (planned_steps c.graph (node_bound c.graph) (tree_of c) (wave_of c) graph e (Err f) planned)
   done_steps e (Ok does) row planned =
@@ -127,7 +128,7 @@ module _ {L : Type 0} (app : App L) (c : Configuration L) (graph : IsGraph c.gra
       (row_step (fired_is_step e does step), step.leaves.reply)
 
   row_steps : (e : Event) → is_act e ≡ false → IsJudged e (row_outcome app c e)
-  row_steps e row = done_steps e (planned_of c.graph (node_bound c.graph) (tree_of c) (wave_of c) e) row refl
+  row_steps e row = done_steps e (event_fired c.graph (node_bound c.graph) (tree_of c) (wave_of c) e) row refl
 
   -- ---- the actions
 
@@ -207,7 +208,7 @@ outcome-rows app c e graph row = outcome-is app c graph e ∙ map-rows app c e r
 pub put_tree_outcome : {L : Type 0} (app : App L) (g : Graph) (trees : List TreeRegs) (waves : List WaveRegs)
     (locals : List L) (e : Event) (ix : ℕ) (regs : TreeRegs) → length trees ≡ length g.ids
     → position (λ k. k == event_node e) g.ids ≡ Some ix →
-    planned_of g (node_bound g) (tree_map g trees) (wave_map g waves) e ≡ Ok (Tree regs)
+    event_fired g (node_bound g) (tree_map g trees) (wave_map g waves) e ≡ Ok (Tree regs)
     → row_outcome app (record { graph = g; trees = trees; waves = waves; locals = locals }) e
     ≡ Ok (record { graph = g; trees = slice_set trees ix regs; waves = waves; locals = locals }, Applied)
 put_tree_outcome {L} app g trees waves locals e ix regs same found planned =
@@ -217,7 +218,7 @@ put_tree_outcome {L} app g trees waves locals e ix regs same found planned =
     ∙ ap after (put_at-position g.ids trees ix (event_node e) regs same found)
 
 pub put_wave_outcome : {L : Type 0} (app : App L) (c c' : Configuration L) (e : Event) (move : WaveMove) (reply : Reply)
-    → planned_of c.graph (node_bound c.graph) (tree_of c) (wave_of c) e ≡ Ok (Wave move)
+    → event_fired c.graph (node_bound c.graph) (tree_of c) (wave_of c) e ≡ Ok (Wave move)
     → reply ≡ fired_reply (Wave move) → c' ≡ after_fired app c (event_node e) (Wave move)
     → row_outcome app c e ≡ Ok (c', reply)
 put_wave_outcome {L} app c c' e move reply planned replied written =
@@ -227,7 +228,7 @@ put_wave_outcome {L} app c c' e move reply planned replied written =
     ∙ ap (λ d. after d reply) (sym written)
 
 pub refused_outcome : {L : Type 0} (app : App L) (c : Configuration L) (e : Event) (f : StepRefusal)
-    → planned_of c.graph (node_bound c.graph) (tree_of c) (wave_of c) e ≡ Err f → row_outcome app c e ≡ Err f
+    → event_fired c.graph (node_bound c.graph) (tree_of c) (wave_of c) e ≡ Err f → row_outcome app c e ≡ Err f
 refused_outcome app c e f planned = ap (done app c (event_node e)) planned
 
 pub put_local_outcome : {L : Type 0} (app : App L) (g : Graph) (trees : List TreeRegs) (waves : List WaveRegs)

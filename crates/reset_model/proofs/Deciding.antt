@@ -11,7 +11,7 @@ use Rattle.std.proofs.lemmas.Bool.Decides.{eqb_tells}
 use Rattle.std.proofs.lemmas.List.{get_or-map, length-map}
 use Rattle.std.proofs.lemmas.List.Kept.{AllPairs-filter, AllPairs-from_increasing}
 use Rattle.std.proofs.lemmas.Simd.{map-map}
-use Rattle.topology.specs.Building.{has}
+use Rattle.topology.specs.Graph.{has}
 use Rattle.topology.proofs.Membership.{has-Contains}
 use Rattle.app_interface.specs.Application.{App}
 use Rattle.app_interface.specs.declared.reads.Reads.{Reads}

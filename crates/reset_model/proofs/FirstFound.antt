@@ -9,7 +9,7 @@ use Rattle.std.proofs.lemmas.Bool.{cases_lt}
 use Rattle.std.proofs.lemmas.Bool.Decides.{eqb_tells}
 use Rattle.std.proofs.lemmas.List.{get_or_default}
 use Rattle.std.proofs.lemmas.List.Kept.{AllPairs-from_increasing}
-use Rattle.topology.specs.Building.{has}
+use Rattle.topology.specs.Graph.{has}
 use Rattle.topology.proofs.Membership.{has-Contains, Contains-has}
 
 -- j stands at place n, passes the test, and is the first to

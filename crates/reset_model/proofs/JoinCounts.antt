@@ -18,7 +18,7 @@ use Rattle.reset_model.specs.Completion.{applied, is_join_at, is_open, is_open_a
 use Rattle.reset_model.specs.Configuration.{Configuration, IsShaped, local_of, tree_of, wave_of}
 use Rattle.reset_model.specs.MachineSteps.{IsStep, row_step, act_step}
 use Rattle.reset_model.specs.Refinement.{has_joined}
-use Rattle.reset_model.specs.Runs.{Answers, IsRun}
+use Rattle.reset_model.specs.Runs.{IsDone, IsRun}
 use Rattle.reset_model.specs.Sound.{IsSound, Sound, claims, follows, adopts, mends}
 use Rattle.reset_model.specs.Steps.{RegsStep, reply_of}
 use Rattle.reset_model.proofs.Abstractions.{joined_stays, joins_after, joins_apart, joins_others, opened_apart}
@@ -210,8 +210,8 @@ module _ {L : Type 0} (app : App L) where
 
   module _ (c c1 c2 c3 : Configuration L) (o p x : ℕ) (reply : Reply) (es : List Event) (ds : List Done)
       (graph : IsGraph c.graph) (whole : IsConnected c.graph) (shaped : IsShaped c) (sound : IsSound c) where
-    pub joins_once : Answers app c (Open o) (Did reply) c1 → IsRun app c1 es ds c2
-        → times (is_open_at p) (applied es ds) ≡ 0 → Answers app c2 (Finish p) (Did (Complete x)) c3
+    pub joins_once : IsDone app c (Open o) (Did reply) c1 → IsRun app c1 es ds c2
+        → times (is_open_at p) (applied es ds) ≡ 0 → IsDone app c2 (Finish p) (Did (Complete x)) c3
         → (o ≡ p) × JoinsOnce c.graph p (applied es ds)
     joins_once opens run none finishes =
         let Numbers : Graph → Type 0 =

@@ -1,14 +1,14 @@
 -- How the node judges an action of the application: the neighbours that it reads, and the ends.
-use Rattle.std.proofs.Common.{◌≡◌, ◌≢◌, ℕ, suc, ◌+◌, ◌<◌, ◌==◌, not, Bool, true, false, cond, List, ◌∷◌, map, filter}
+use Rattle.std.proofs.Common.{◌≡◌, ◌≢◌, ℕ, suc, ◌+◌, ◌<◌, not, Bool, true, false, cond, List, ◌∷◌, map, filter}
 use Rattle.std.proofs.Common.{length, drop, slice_index, slice_index_or, drop-cons, arith, add-one, Option, Some, None}
 use Rattle.std.proofs.Common.{Result, Ok, Err, MatchResult, is_ok, refl, sym, ap, ◌∙◌, true≢false}
-use Rattle.std.specs.List.{find, list_any}
+use Rattle.std.specs.List.{find}
 use Rattle.std.specs.List.Sorted.{IsStrictlyIncreasing}
 use Rattle.std.specs.Option.{is_some}
 use Rattle.std.proofs.lemmas.List.{get_or_default}
 use Rattle.app_interface.specs.Application.{App}
 use Rattle.app_interface.specs.declared.reads.Reads.{Reads}
-use Rattle.topology.specs.Graph.{Graph, neighbours_of}
+use Rattle.topology.specs.Graph.{Graph, neighbours_of, is_node}
 use Rattle.wave_layer.specs.declared.regs.WaveRegs.{WaveRegs}
 use Rattle.reset_model.specs.declared.step.StepRefusal.{StepRefusal}
 use Rattle.reset_model.specs.declared.step.StepRefusal.TheVariants.{StrangeNode, StrangeNeighbour, NotEnabled, NoMemory}
@@ -127,20 +127,20 @@ module _ {L : Type 0} (app : App L) (g : Graph) (K : ℕ) (w : ℕ → WaveRegs)
             judged (misfit o with) (first_apart w i (read_by o))
             (app.next i K case with (l i) (map (λ j. (j, l j)) (read_by o)))
 
-    pub acted_of-strange_node : list_any (λ k. k == i) g.ids ≡ false
+    pub acted_of-strange_node : is_node g i ≡ false
         → acted_of app g K w l i case with ≡ Err StrangeNode
     acted_of-strange_node none =
         ap (λ b. cond (not b) (Err StrangeNode)
         (cond (not (is_neighbour g i with)) (Err StrangeNeighbour) (case_outcome_of app g K w l i case with))) none
 
-    pub acted_of-strange_neighbour : list_any (λ k. k == i) g.ids ≡ true → is_neighbour g i with ≡ false
+    pub acted_of-strange_neighbour : is_node g i ≡ true → is_neighbour g i with ≡ false
         → acted_of app g K w l i case with ≡ Err StrangeNeighbour
     acted_of-strange_neighbour node stranger =
         ap (λ b. cond (not b) (Err StrangeNode)
         (cond (not (is_neighbour g i with)) (Err StrangeNeighbour) (case_outcome_of app g K w l i case with))) node
         ∙ ap (λ b. cond (not b) (Err StrangeNeighbour) (case_outcome_of app g K w l i case with)) stranger
 
-    pub acted_of-outcome : list_any (λ k. k == i) g.ids ≡ true → is_neighbour g i with ≡ true
+    pub acted_of-outcome : is_node g i ≡ true → is_neighbour g i with ≡ true
         → acted_of app g K w l i case with ≡ case_outcome_of app g K w l i case with
     acted_of-outcome node neighbour =
         ap (λ b. cond (not b) (Err StrangeNode)

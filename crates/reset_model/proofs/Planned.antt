@@ -1,8 +1,7 @@
--- The three ends of planning an event: a strange node, a strange neighbour, and what the rows answer.
-use Rattle.std.proofs.Common.{◌≡◌, ◌≢◌, ℕ, ◌==◌, not, true, false, cond, Result, Ok, Err, MatchResult, List, Option}
+-- The three ends of planning an event: a strange node, a strange neighbour, and what the rows do.
+use Rattle.std.proofs.Common.{◌≡◌, ◌≢◌, ℕ, not, true, false, cond, Result, Ok, Err, MatchResult, List, Option}
 use Rattle.std.proofs.Common.{map, subst, sym, ap, ◌∙◌}
-use Rattle.std.specs.List.{list_any}
-use Rattle.topology.specs.Graph.{Graph, IsNode, neighbours_of, node_bound}
+use Rattle.topology.specs.Graph.{Graph, IsNode, neighbours_of, node_bound, is_node}
 use Rattle.tree_layer.specs.declared.regs.TreeRegs.{TreeRegs}
 use Rattle.wave_layer.specs.declared.regs.WaveRegs.{WaveRegs}
 use Rattle.wave_layer.specs.declared.regs.FatherSeen.{FatherSeen}
@@ -14,41 +13,42 @@ use Rattle.reset_model.specs.declared.plan.Fired.{Fired}
 use Rattle.reset_model.specs.Configuration.{Configuration, tree_of, wave_of}
 use Rattle.reset_model.specs.Steps.{event_node, named_node}
 use Rattle.tree_layer.specs.TreeTable as tree
-use Rattle.reset_model.specs.LocalSteps.{planned_of, answer_of, is_neighbour, father_seen, children_of, view_of}
+use Rattle.reset_model.specs.LocalSteps.{event_fired, rows_fired, is_neighbour, father_seen, children_of, view_of}
 use Rattle.reset_model.specs.LocalSteps.{tree_view_of}
 use Rattle.reset_model.proofs.NodePositions.{a_node}
 
 module _ (g : Graph) (K : ℕ) (t : ℕ → TreeRegs) (w : ℕ → WaveRegs) (e : Event) where
-  pub planned_of-strange_node : list_any (λ i. i == event_node e) g.ids ≡ false → planned_of g K t w e ≡ Err StrangeNode
-  planned_of-strange_node none =
+  pub event_fired-strange_node : is_node g (event_node e) ≡ false
+      → event_fired g K t w e ≡ Err StrangeNode
+  event_fired-strange_node none =
       ap (λ b. cond (not b) (Err StrangeNode)
-      (cond (not (is_neighbour g (event_node e) (named_node e))) (Err StrangeNeighbour) (answer_of g K t w e))) none
+      (cond (not (is_neighbour g (event_node e) (named_node e))) (Err StrangeNeighbour) (rows_fired g K t w e))) none
 
-  pub planned_of-strange_neighbour : list_any (λ i. i == event_node e) g.ids ≡ true
-      → is_neighbour g (event_node e) (named_node e) ≡ false → planned_of g K t w e ≡ Err StrangeNeighbour
-  planned_of-strange_neighbour node stranger =
+  pub event_fired-strange_neighbour : is_node g (event_node e) ≡ true
+      → is_neighbour g (event_node e) (named_node e) ≡ false → event_fired g K t w e ≡ Err StrangeNeighbour
+  event_fired-strange_neighbour node stranger =
       ap (λ b. cond (not b) (Err StrangeNode)
-      (cond (not (is_neighbour g (event_node e) (named_node e))) (Err StrangeNeighbour) (answer_of g K t w e))) node
-      ∙ ap (λ b. cond (not b) (Err StrangeNeighbour) (answer_of g K t w e)) stranger
+      (cond (not (is_neighbour g (event_node e) (named_node e))) (Err StrangeNeighbour) (rows_fired g K t w e))) node
+      ∙ ap (λ b. cond (not b) (Err StrangeNeighbour) (rows_fired g K t w e)) stranger
 
-  pub planned_of-named : list_any (λ i. i == event_node e) g.ids ≡ true
-      → is_neighbour g (event_node e) (named_node e) ≡ true → planned_of g K t w e ≡ answer_of g K t w e
-  planned_of-named node neighbour =
+  pub event_fired-named : is_node g (event_node e) ≡ true
+      → is_neighbour g (event_node e) (named_node e) ≡ true → event_fired g K t w e ≡ rows_fired g K t w e
+  event_fired-named node neighbour =
       ap (λ b. cond (not b) (Err StrangeNode)
-      (cond (not (is_neighbour g (event_node e) (named_node e))) (Err StrangeNeighbour) (answer_of g K t w e))) node
-      ∙ ap (λ b. cond (not b) (Err StrangeNeighbour) (answer_of g K t w e)) neighbour
+      (cond (not (is_neighbour g (event_node e) (named_node e))) (Err StrangeNeighbour) (rows_fired g K t w e))) node
+      ∙ ap (λ b. cond (not b) (Err StrangeNeighbour) (rows_fired g K t w e)) neighbour
 
--- the plan of an event at its node, where the neighbour that it names is one: what its rows answer there
-pub planned_at : {L : Type 0} (c at : Configuration L) (e : Event) (id : ℕ) (named : Option ℕ) → at ≡ c
+-- the plan of an event at its node, where the neighbour that it names is one: what its rows do there
+pub event_fired_at : {L : Type 0} (c at : Configuration L) (e : Event) (id : ℕ) (named : Option ℕ) → at ≡ c
     → id ≡ event_node e → named ≡ named_node e
     → IsNode c.graph (event_node e) → is_neighbour at.graph id named ≡ true
-    → planned_of c.graph (node_bound c.graph) (tree_of c) (wave_of c) e
-    ≡ answer_of at.graph (node_bound at.graph) (tree_of at) (wave_of at) e
-planned_at {L = L} c at e id named same id_is named_is node near =
-    planned_of-named c.graph (node_bound c.graph) (tree_of c) (wave_of c) e (a_node c.graph.ids (event_node e) node)
+    → event_fired c.graph (node_bound c.graph) (tree_of c) (wave_of c) e
+    ≡ rows_fired at.graph (node_bound at.graph) (tree_of at) (wave_of at) e
+event_fired_at {L = L} c at e id named same id_is named_is node near =
+    event_fired-named c.graph (node_bound c.graph) (tree_of c) (wave_of c) e (a_node c.graph.ids (event_node e) node)
     (ap (is_neighbour c.graph (event_node e)) (sym named_is) ∙ ap (λ i. is_neighbour c.graph i named) (sym id_is)
     ∙ ap (λ (k : Configuration L). is_neighbour k.graph id named) (sym same) ∙ near)
-    ∙ ap (λ (k : Configuration L). answer_of k.graph (node_bound k.graph) (tree_of k) (wave_of k) e) (sym same)
+    ∙ ap (λ (k : Configuration L). rows_fired k.graph (node_bound k.graph) (tree_of k) (wave_of k) e) (sym same)
 
 -- a view of these parts is what the node sees
 pub view_of-parts : (g : Graph) (t : ℕ → TreeRegs) (w : ℕ → WaveRegs) (at id : ℕ) (v : LocalView) (own : WaveRegs)
@@ -60,7 +60,7 @@ view_of-parts g t w at id v own father children same is own_is father_is childre
     let parts : view_of g t w at ≡ v = cc in
     subst P same parts
 
--- what is answered is exactly what is
+-- what is told is exactly what is
 pub exact_of : (r r' : Result Fired StepRefusal) → r ≡ r'
     → MatchResult r' (λ does. r ≡ Ok does) (λ f. f ≢ NoMemory → r ≡ Err f)
 exact_of r (Ok does) is = is

@@ -1,8 +1,7 @@
 -- What is planned on a node's view is a step of the whole configuration, or its first refusal.
 use Rattle.std.proofs.Common.{◌≡◌, ℕ, Bool, true, false, cond, Option, Some, None, Result, Ok, Err, MatchResult, refl}
 use Rattle.std.proofs.Common.{sym, ap, subst, ◌∙◌, true≢false}
-use Rattle.topology.specs.Graph.{Graph, IsGraph, IsNode, AreLinked}
-use Rattle.topology.specs.Building.{has}
+use Rattle.topology.specs.Graph.{Graph, IsGraph, IsNode, AreLinked, has}
 use Rattle.topology.proofs.Membership.{has-Contains, Contains-has}
 use Rattle.tree_layer.specs.declared.regs.TreeRegs.{TreeRegs}
 use Rattle.wave_layer.specs.declared.regs.WaveRegs.{WaveRegs}
@@ -19,13 +18,13 @@ use Rattle.reset_model.specs.declared.step.StepRefusal.TheVariants.{NotEnabled, 
 use Rattle.reset_model.specs.Steps.{strange_node, strange_neighbour, not_enabled, sessions_spent, event_node}
 use Rattle.reset_model.specs.Steps.{named_node, IsEnabled, IsSpent, IsNamed, RowRefused, reply_of, tree_effect}
 use Rattle.reset_model.specs.Steps.{wave_effect}
-use Rattle.reset_model.specs.LocalSteps.{is_neighbour, answer_of, planned_of}
+use Rattle.reset_model.specs.LocalSteps.{is_neighbour, rows_fired, event_fired}
 use Rattle.reset_model.specs.Outcome.{tree_left, wave_left, fired_reply, fired_restarts}
-use Rattle.reset_model.proofs.Planned.{planned_of-strange_node, planned_of-strange_neighbour, planned_of-named}
-use Rattle.reset_model.proofs.WaveRows.{IsAnswer}
+use Rattle.reset_model.proofs.Planned.{event_fired-strange_node, event_fired-strange_neighbour, event_fired-named}
+use Rattle.reset_model.proofs.WaveRows.{IsWaveFired}
 use Rattle.reset_model.proofs.WavePlans.{completes_of, restarts_of, request_is, relay_is, open_is, join_is, finish_is}
 use Rattle.reset_model.proofs.WavePlans.{mend_is}
-use Rattle.reset_model.proofs.TreePlans.{IsTreeAnswer, claim_is, follow_is, adopt_is}
+use Rattle.reset_model.proofs.TreePlans.{IsTreeFired, claim_is, follow_is, adopt_is}
 
 module _ (g : Graph) (K : ℕ) (t : ℕ → TreeRegs) (w : ℕ → WaveRegs) (graph : IsGraph g) where
   -- what an effect leaves is what the event leaves
@@ -35,25 +34,25 @@ module _ (g : Graph) (K : ℕ) (t : ℕ → TreeRegs) (w : ℕ → WaveRegs) (gr
     pub reply : fired_reply does ≡ reply_of t w e
     pub restarts : fired_restarts does ≡ restarts_of e
 
-  -- what an event's rows answer, of an event that names nodes of the graph
-  abbrev IsAnswered : Event → Result Fired StepRefusal → Type 0
-  IsAnswered e (Ok does) = IsEnabled g K t w e × (IsSpent w e → ⊥) × IsFired e does
-  IsAnswered e (Err StrangeNode) = ⊥
-  IsAnswered e (Err StrangeNeighbour) = ⊥
-  IsAnswered e (Err NoSuchCase) = ⊥
-  IsAnswered e (Err WantsNeighbour) = ⊥
-  IsAnswered e (Err TakesNoNeighbour) = ⊥
-  IsAnswered e (Err (Disagrees j)) = ⊥
-  IsAnswered e (Err NotEnabled) = IsEnabled g K t w e → ⊥
-  IsAnswered e (Err SessionsSpent) = IsEnabled g K t w e × IsSpent w e
-  IsAnswered e (Err NoMemory) = ⊥
+  -- what an event's rows do, of an event that names nodes of the graph
+  abbrev FiresEvent : Event → Result Fired StepRefusal → Type 0
+  FiresEvent e (Ok does) = IsEnabled g K t w e × (IsSpent w e → ⊥) × IsFired e does
+  FiresEvent e (Err StrangeNode) = ⊥
+  FiresEvent e (Err StrangeNeighbour) = ⊥
+  FiresEvent e (Err NoSuchCase) = ⊥
+  FiresEvent e (Err WantsNeighbour) = ⊥
+  FiresEvent e (Err TakesNoNeighbour) = ⊥
+  FiresEvent e (Err (Disagrees j)) = ⊥
+  FiresEvent e (Err NotEnabled) = IsEnabled g K t w e → ⊥
+  FiresEvent e (Err SessionsSpent) = IsEnabled g K t w e × IsSpent w e
+  FiresEvent e (Err NoMemory) = ⊥
 
   -- a wave event leaves the tree registers, and its reply says whether it completes a reset
   by_wave : (e : Event) → tree_effect K t e ≡ t (event_node e)
       → reply_of t w e ≡ cond (completes_of t e) (Complete (wave_effect t w e).session) Applied
       → (r : Result Fired StepRefusal)
-      → IsAnswer r (IsEnabled g K t w e) (IsSpent w e) (wave_effect t w e) (completes_of t e) (restarts_of e)
-      → IsAnswered e r
+      → IsWaveFired r (IsEnabled g K t w e) (IsSpent w e) (wave_effect t w e) (completes_of t e) (restarts_of e)
+      → FiresEvent e r
   by_wave e stays reply (Ok (Tree regs)) h = absurd h
   by_wave e stays reply (Ok (Wave move)) h = (
     h.0,
@@ -79,7 +78,7 @@ module _ (g : Graph) (K : ℕ) (t : ℕ → TreeRegs) (w : ℕ → WaveRegs) (gr
   -- a tree event leaves the wave registers, and opens no session
   by_tree : (e : Event) → wave_effect t w e ≡ w (event_node e) → reply_of t w e ≡ Applied → restarts_of e ≡ false
       → (IsSpent w e → ⊥)
-      → (r : Result Fired StepRefusal) → IsTreeAnswer r (IsEnabled g K t w e) (tree_effect K t e) → IsAnswered e r
+      → (r : Result Fired StepRefusal) → IsTreeFired r (IsEnabled g K t w e) (tree_effect K t e) → FiresEvent e r
   by_tree e stays reply kept unspent (Ok (Tree regs)) h =
       (h.0, unspent, record { tree = h.1; wave = sym stays; reply = sym reply; restarts = sym kept })
   by_tree e stays reply kept unspent (Ok (Wave move)) h = absurd h
@@ -93,18 +92,18 @@ module _ (g : Graph) (K : ℕ) (t : ℕ → TreeRegs) (w : ℕ → WaveRegs) (gr
   by_tree e stays reply kept unspent (Err SessionsSpent) h = absurd h
   by_tree e stays reply kept unspent (Err NoMemory) h = h
 
-  answered : (e : Event) → IsNamed g e → IsAnswered e (answer_of g K t w e)
-  answered (Claim i) named = by_tree (Claim i) refl refl refl (λ h. h) _ (claim_is g K t w graph i)
-  answered (Follow i) named = by_tree (Follow i) refl refl refl (λ h. h) _ (follow_is g K t w graph i)
-  answered (Adopt i j) named =
+  event_fires : (e : Event) → IsNamed g e → FiresEvent e (rows_fired g K t w e)
+  event_fires (Claim i) named = by_tree (Claim i) refl refl refl (λ h. h) _ (claim_is g K t w graph i)
+  event_fires (Follow i) named = by_tree (Follow i) refl refl refl (λ h. h) _ (follow_is g K t w graph i)
+  event_fires (Adopt i j) named =
       by_tree (Adopt i j) refl refl refl (λ h. h) _ (adopt_is g K t w graph i j (named.neighbour j refl))
-  answered (Request i) named = by_wave (Request i) refl refl _ (request_is g K t w graph i)
-  answered (Relay i c) named = by_wave (Relay i c) refl refl _ (relay_is g K t w graph i c _ refl)
-  answered (Open i) named = by_wave (Open i) refl refl _ (open_is g K t w graph i)
-  answered (Join i) named = by_wave (Join i) refl refl _ (join_is g K t w graph i)
-  answered (Finish i) named = by_wave (Finish i) refl refl _ (finish_is g K t w graph i)
-  answered (Mend i) named = by_wave (Mend i) refl refl _ (mend_is g K t w graph i)
-  answered (Act i case with) named = λ enabled. enabled
+  event_fires (Request i) named = by_wave (Request i) refl refl _ (request_is g K t w graph i)
+  event_fires (Relay i c) named = by_wave (Relay i c) refl refl _ (relay_is g K t w graph i c _ refl)
+  event_fires (Open i) named = by_wave (Open i) refl refl _ (open_is g K t w graph i)
+  event_fires (Join i) named = by_wave (Join i) refl refl _ (join_is g K t w graph i)
+  event_fires (Finish i) named = by_wave (Finish i) refl refl _ (finish_is g K t w graph i)
+  event_fires (Mend i) named = by_wave (Mend i) refl refl _ (mend_is g K t w graph i)
+  event_fires (Act i case with) named = λ enabled. enabled
 
   -- what a plan does is a step
   pub record IsPlannedStep (e : Event) (does : Fired) : Type 0 where
@@ -113,7 +112,7 @@ module _ (g : Graph) (K : ℕ) (t : ℕ → TreeRegs) (w : ℕ → WaveRegs) (gr
     pub unspent : IsSpent w e → ⊥
     pub leaves : IsFired e does
 
-  step_of : (e : Event) → IsNamed g e → (r : Result Fired StepRefusal) → IsAnswered e r
+  step_of : (e : Event) → IsNamed g e → (r : Result Fired StepRefusal) → FiresEvent e r
       → MatchResult r (IsPlannedStep e) (RowRefused g K t w e)
   step_of e named (Ok does) h = record { node = named.node; enabled = h.0; unspent = h.1; leaves = h.2 }
   step_of e named (Err StrangeNode) h = absurd h
@@ -133,7 +132,7 @@ module _ (g : Graph) (K : ℕ) (t : ℕ → TreeRegs) (w : ℕ → WaveRegs) (gr
   neighbour : (i : ℕ) (o : Option ℕ) → is_neighbour g i o ≡ true → (j : ℕ) → o ≡ Some j → AreLinked g i j
   neighbour i o is j named = let P : Option ℕ → Type 0 = λ o. is_neighbour g i o ≡ true in subst P named is
 
-  pub planned_steps : (e : Event) (r : Result Fired StepRefusal) → planned_of g K t w e ≡ r
+  pub planned_steps : (e : Event) (r : Result Fired StepRefusal) → event_fired g K t w e ≡ r
       → MatchResult r (IsPlannedStep e) (RowRefused g K t w e)
   planned_steps e r is = at (has g.ids (event_node e)) (is_neighbour g (event_node e) (named_node e)) refl refl
     where
@@ -143,16 +142,16 @@ module _ (g : Graph) (K : ℕ) (t : ℕ → TreeRegs) (w : ℕ → WaveRegs) (gr
       at : (b d : Bool) → has g.ids (event_node e) ≡ b → is_neighbour g (event_node e) (named_node e) ≡ d
           → MatchResult r (IsPlannedStep e) (RowRefused g K t w e)
       at false d node named =
-          subst Steps (sym (planned_of-strange_node g K t w e node) ∙ is)
+          subst Steps (sym (event_fired-strange_node g K t w e node) ∙ is)
           (strange_node (λ there. true≢false (sym (has-Contains g.ids (event_node e) there) ∙ node)))
       at true false node named =
           let other = stranger (event_node e) (named_node e) named in
-          subst Steps (sym (planned_of-strange_neighbour g K t w e node named) ∙ is)
+          subst Steps (sym (event_fired-strange_neighbour g K t w e node named) ∙ is)
           (strange_neighbour other.0 (Contains-has g.ids (event_node e) node) other.1 other.2)
       at true true node named =
-          subst Steps (sym (planned_of-named g K t w e node named) ∙ is)
+          subst Steps (sym (event_fired-named g K t w e node named) ∙ is)
           (let named_nodes : IsNamed g e = record {
             node = Contains-has g.ids (event_node e) node;
             neighbour = neighbour (event_node e) (named_node e) named;
           } in
-          step_of e named_nodes (answer_of g K t w e) (answered e named_nodes))
+          step_of e named_nodes (rows_fired g K t w e) (event_fires e named_nodes))

@@ -14,7 +14,7 @@ use Rattle.reset_model.specs.Configuration.{Configuration, IsShaped, wave_of}
 use Rattle.reset_model.specs.MachineSteps.{IsStep}
 use Rattle.reset_model.specs.Refinement.{AbstractStep, Reset_all, Do, IsAbstractRun, abstract_of, after, has_joined}
 use Rattle.reset_model.specs.Refinement.{shadow}
-use Rattle.reset_model.specs.Runs.{Answers, IsRun}
+use Rattle.reset_model.specs.Runs.{IsDone, IsRun}
 use Rattle.reset_model.specs.Sound.{IsSound}
 use Rattle.reset_model.proofs.ConfigurationSteps.{outcome_is_step}
 use Rattle.reset_model.proofs.RunShadows.{run_shadow, step_graph}
@@ -31,7 +31,7 @@ pub record IsKept {L : Type 0} (c c' : Configuration L) : Type 0 where
 
 module _ {L : Type 0} (app : App L) where
   pub did_keeps : (c c' : Configuration L) (e : Event) (d : Done) → IsGraph c.graph → IsShaped c → IsSound c
-      → Answers app c e d c' → IsKept c c'
+      → IsDone app c e d c' → IsKept c c'
   did_keeps c c' e (Did reply) graph shaped sound is =
       let step : IsStep app c e c' = (outcome_is_step app c graph shaped e c' reply is).0 in
       record {

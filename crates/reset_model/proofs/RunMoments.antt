@@ -13,7 +13,7 @@ use Rattle.reset_model.specs.Completion.{applied, CompletionsHold, events_of, is
 use Rattle.reset_model.specs.Completion.{times}
 use Rattle.reset_model.specs.Configuration.{Configuration, IsShaped, local_of}
 use Rattle.reset_model.specs.Refinement.{after, left_of}
-use Rattle.reset_model.specs.Runs.{Answers, IsRun}
+use Rattle.reset_model.specs.Runs.{IsDone, IsRun}
 use Rattle.reset_model.specs.Sound.{IsComplete, IsSound}
 use Rattle.reset_model.proofs.ConfigurationSteps.{outcome_is_step}
 use Rattle.reset_model.proofs.JoinCounts.{joined_restarted, joins_once}
@@ -28,7 +28,7 @@ module _ {L : Type 0} (app : App L) where
 
   module _ (g : Graph) (graph : IsGraph g) (P : Moment L → Type 0)
       (steps : (c c' : Configuration L) (e : Event) (reply : Reply) → c.graph ≡ g → IsShaped c → IsSound c
-      → Answers app c e (Did reply) c' → P (moment e reply c')) where
+      → IsDone app c e (Did reply) c' → P (moment e reply c')) where
     -- what holds of each step from a sound configuration holds of each moment
     each_moment : (es : List Event) (ds : List Done) (c c' : Configuration L) → c.graph ≡ g → IsShaped c → IsSound c
         → IsRun app c es ds c' → All P (moments app c es ds)
@@ -56,7 +56,7 @@ module _ {L : Type 0} (app : App L) where
       here : Configuration L
       run : IsRun app c done told here
       moments_before : moments app c done told ≡ before
-      step : Answers app here m.event (Did m.reply) m.left
+      step : IsDone app here m.event (Did m.reply) m.left
       todo : List Event
       to_tell : List Done
       goes_on : IsRun app m.left todo to_tell c'
@@ -139,7 +139,7 @@ module _ {L : Type 0} (app : App L) where
   -- ---- its completions
 
   module _ (g : Graph) (graph : IsGraph g) (whole : IsConnected g) (c c' : Configuration L) (e : Event) (reply : Reply)
-      (on : c.graph ≡ g) (shaped : IsShaped c) (sound : IsSound c) (is : Answers app c e (Did reply) c') where
+      (on : c.graph ≡ g) (shaped : IsShaped c) (sound : IsSound c) (is : IsDone app c e (Did reply) c') where
     completes : (x : ℕ) → reply ≡ Complete x → IsComplete c' x
     completes x told =
         let there = subst IsGraph (sym on) graph in
@@ -148,7 +148,7 @@ module _ {L : Type 0} (app : App L) where
 
     restarts : (i : ℕ) → e ≡ Join i → local_of app c' i ≡ app.start g i
     restarts i joins =
-        let Joins : Event → Type 0 = λ d. Answers app c d (Did reply) c' in
+        let Joins : Event → Type 0 = λ d. IsDone app c d (Did reply) c' in
         let Starts : Graph → Type 0 = λ h. local_of app c' i ≡ app.start h i in
         subst Starts on
         (joined_restarted app c c' i
@@ -169,8 +169,8 @@ module _ {L : Type 0} (app : App L) where
         let same : events_of between ≡ applied second.done second.told =
         ap events_of (sym second.moments_before) ∙ events-applied second.done second.told o.left in
         let None : List Event → Type 0 = λ xs. times (is_open_at p) xs ≡ 0 in
-        let Opens : Event → Type 0 = λ e. Answers app first.here e (Did o.reply) o.left in
-        let Finishes : Event → Reply → Type 0 = λ e reply. Answers app second.here e (Did reply) m.left in
+        let Opens : Event → Type 0 = λ e. IsDone app first.here e (Did o.reply) o.left in
+        let Finishes : Event → Reply → Type 0 = λ e reply. IsDone app second.here e (Did reply) m.left in
         let Once : Graph → List Event → Type 0 = λ g xs. JoinsOnce g p xs in
         let last : Finishes (Finish p) (Complete x) =
         subst (Finishes (Finish p)) told (subst (λ e. Finishes e m.reply) finishes second.step) in

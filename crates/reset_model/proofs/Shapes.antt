@@ -1,7 +1,7 @@
 -- What an event leaves keeps the graph and a place for each node.
-use Rattle.std.proofs.Common.{◌≡◌, ℕ, ◌==◌, not, Bool, true, false, cond, nat_eq, List, [], ◌∷◌, length, Some, None}
+use Rattle.std.proofs.Common.{◌≡◌, ℕ, not, Bool, true, false, cond, nat_eq, List, [], ◌∷◌, length, Some, None}
 use Rattle.std.proofs.Common.{Result, Ok, Err, MatchResult, subst, arith}
-use Rattle.std.specs.List.{list_any}
+use Rattle.topology.specs.Graph.{is_node}
 use Rattle.app_interface.specs.Application.{App}
 use Rattle.reset_model.specs.declared.event.Event.{Event}
 use Rattle.reset_model.specs.declared.step.Reply.{Reply}
@@ -61,7 +61,7 @@ module _ {L : Type 0} (app : App L) (c : Configuration L) (shaped : IsShaped c) 
 
   shaped_outcome : (e : Event) → LeavesShaped (outcome_of app c e)
   shaped_outcome e =
-      written_shaped (event_node e) (list_any (λ k. k == event_node e) c.graph.ids)
+      written_shaped (event_node e) (is_node c.graph (event_node e))
       (planned app (view_of app c (event_node e)) e)
 
   pub outcome_shaped : (e : Event) (c' : Configuration L) (reply : Reply) → outcome_of app c e ≡ Ok (c', reply)

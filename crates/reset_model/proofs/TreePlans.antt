@@ -1,11 +1,10 @@
--- What the rows of the tree table answer on a node's view is what the event does to the tree's registers.
+-- What the rows of the tree table do on a node's view is what the event does to the tree's registers.
 use Rattle.std.proofs.Common.{arith, ◌≡◌, ◌≢◌, ℕ, suc, ◌+◌, ◌<◌, ◌≤◌, Bool, true, false, cond, ◌&&◌, nat_eq, nat_lt}
 use Rattle.std.proofs.Common.{nat_le, map, Some, None, Result, Ok, Err, refl, sym, ap, subst, ◌∙◌, ◌⊎◌, inl, inr}
 use Rattle.std.proofs.Common.{true≢false}
 use Rattle.std.proofs.lemmas.Bool.Decides.{eqb_tells, leb_tells}
-use Rattle.topology.specs.Building.{has}
 use Rattle.topology.proofs.Membership.{has-Contains, has-filter}
-use Rattle.topology.specs.Graph.{Graph, IsGraph, AreLinked, are_linked, neighbours_of}
+use Rattle.topology.specs.Graph.{Graph, IsGraph, AreLinked, are_linked, neighbours_of, has}
 use Rattle.tree_layer.specs.declared.regs.TreeRegs.{TreeRegs}
 use Rattle.tree_layer.specs.TreeRows.{IsFather, Claims, claim_low, claim_self, claim_stray, claim_far, Follows}
 use Rattle.tree_layer.specs.TreeRows.{follow_root, follow_dist, Adopts, adopt_root, adopt_short, claimed, followed}
@@ -19,22 +18,22 @@ use Rattle.reset_model.specs.declared.step.StepRefusal.{StepRefusal}
 use Rattle.reset_model.specs.declared.step.StepRefusal.TheVariants.{StrangeNode, StrangeNeighbour, NoSuchCase}
 use Rattle.reset_model.specs.declared.step.StepRefusal.TheVariants.{WantsNeighbour, TakesNoNeighbour, Disagrees}
 use Rattle.reset_model.specs.declared.step.StepRefusal.TheVariants.{NotEnabled, SessionsSpent, NoMemory}
-use Rattle.reset_model.specs.LocalSteps.{answer_of}
+use Rattle.reset_model.specs.LocalSteps.{rows_fired}
 use Rattle.reset_model.proofs.Seen.{lookup-among}
 
 -- an event that is enabled where E holds leaves these registers
-abbrev pub IsTreeAnswer : Result Fired StepRefusal → Type 0 → TreeRegs → Type 0
-IsTreeAnswer (Ok (Tree own)) E regs = E × (own ≡ regs)
-IsTreeAnswer (Ok (Wave move)) E regs = ⊥
-IsTreeAnswer (Err StrangeNode) E regs = ⊥
-IsTreeAnswer (Err StrangeNeighbour) E regs = ⊥
-IsTreeAnswer (Err NoSuchCase) E regs = ⊥
-IsTreeAnswer (Err WantsNeighbour) E regs = ⊥
-IsTreeAnswer (Err TakesNoNeighbour) E regs = ⊥
-IsTreeAnswer (Err (Disagrees j)) E regs = ⊥
-IsTreeAnswer (Err NotEnabled) E regs = E → ⊥
-IsTreeAnswer (Err SessionsSpent) E regs = ⊥
-IsTreeAnswer (Err NoMemory) E regs = ⊥
+abbrev pub IsTreeFired : Result Fired StepRefusal → Type 0 → TreeRegs → Type 0
+IsTreeFired (Ok (Tree own)) E regs = E × (own ≡ regs)
+IsTreeFired (Ok (Wave move)) E regs = ⊥
+IsTreeFired (Err StrangeNode) E regs = ⊥
+IsTreeFired (Err StrangeNeighbour) E regs = ⊥
+IsTreeFired (Err NoSuchCase) E regs = ⊥
+IsTreeFired (Err WantsNeighbour) E regs = ⊥
+IsTreeFired (Err TakesNoNeighbour) E regs = ⊥
+IsTreeFired (Err (Disagrees j)) E regs = ⊥
+IsTreeFired (Err NotEnabled) E regs = E → ⊥
+IsTreeFired (Err SessionsSpent) E regs = ⊥
+IsTreeFired (Err NoMemory) E regs = ⊥
 
 abbrev Eq : ℕ → ℕ → Type 0
 Eq a b = ((nat_eq a b ≡ true) × (a ≡ b)) ⊎ ((nat_eq a b ≡ false) × (a ≢ b))
@@ -66,15 +65,15 @@ module _ (g : Graph) (K : ℕ) (t : ℕ → TreeRegs) (w : ℕ → WaveRegs) (gr
   far_tells : (i : ℕ) → Lt (t i).dist K
   far_tells i = leb_tells (suc (t i).dist) K
 
-  pub claim_is : (i : ℕ) → IsTreeAnswer (answer_of g K t w (Claim i)) (Claims g K t i) (claimed i)
+  pub claim_is : (i : ℕ) → IsTreeFired (rows_fired g K t w (Claim i)) (Claims g K t i) (claimed i)
   claim_is i = low (leb_tells (suc (t i).root) i)
     where
-      Answered : Type 0
-      Answered = IsTreeAnswer (answer_of g K t w (Claim i)) (Claims g K t i) (claimed i)
+      IsClaimed : Type 0
+      IsClaimed = IsTreeFired (rows_fired g K t w (Claim i)) (Claims g K t i) (claimed i)
 
       -- a node that is its own father has a root of its own at distance 0
       rooted : nat_lt (t i).root i ≡ false → i ≤ (t i).root → (t i).father ≡ i → nat_eq (t i).father i ≡ true
-          → Eq (t i).root i → Eq (t i).dist 0 → Le K (t i).dist → Answered
+          → Eq (t i).root i → Eq (t i).dist 0 → Le K (t i).dist → IsClaimed
       rooted low high named own (inr r) d far = rw (low, own, r.0) (claim_self named (inl r.1), refl)
       rooted low high named own (inl r) (inr d) far = rw (low, own, r.0, d.0) (claim_self named (inr d.1), refl)
       rooted low high named own (inl r) (inl d) (inl far) = rw (low, own, r.0, d.0, far.0) (claim_far far.1, refl)
@@ -89,7 +88,7 @@ module _ (g : Graph) (K : ℕ) (t : ℕ → TreeRegs) (w : ℕ → WaveRegs) (gr
 
       -- another node has a neighbour as its father
       led : nat_lt (t i).root i ≡ false → i ≤ (t i).root → (t i).father ≢ i → nat_eq (t i).father i ≡ false → (b : Bool)
-          → are_linked g i (t i).father ≡ b → Le K (t i).dist → Answered
+          → are_linked g i (t i).father ≡ b → Le K (t i).dist → IsClaimed
       led low high other own false stray far =
           rw (low, own, near_none i (t i).father stray)
           (claim_stray other (λ linked. true≢false (sym linked ∙ stray)), refl)
@@ -103,29 +102,29 @@ module _ (g : Graph) (K : ℕ) (t : ℕ → TreeRegs) (w : ℕ → WaveRegs) (gr
           rests (claim_stray _ stray) = stray linked
           rests (claim_far beyond) = absurd (omega (arith, beyond, far.1))
 
-      high_root : nat_lt (t i).root i ≡ false → i ≤ (t i).root → Eq (t i).father i → Answered
+      high_root : nat_lt (t i).root i ≡ false → i ≤ (t i).root → Eq (t i).father i → IsClaimed
       high_root low high (inl own) =
           rooted low high own.1 own.0 (eqb_tells (t i).root i) (eqb_tells (t i).dist 0) (leb_tells K (t i).dist)
       high_root low high (inr own) =
           led low high own.1 own.0 (are_linked g i (t i).father) refl (leb_tells K (t i).dist)
 
-      low : Lt (t i).root i → Answered
+      low : Lt (t i).root i → IsClaimed
       low (inl below) = rw below.0 (claim_low below.1, refl)
       low (inr high) = high_root high.0 (omega (arith, high.1)) (eqb_tells (t i).father i)
 
   pub follow_is : (i : ℕ)
-      → IsTreeAnswer (answer_of g K t w (Follow i)) (Follows g K t i) (followed K (t i).father (t (t i).father))
+      → IsTreeFired (rows_fired g K t w (Follow i)) (Follows g K t i) (followed K (t i).father (t (t i).father))
   follow_is i = led (are_linked g i (t i).father) refl
     where
-      Answered : Type 0
-      Answered =
-          IsTreeAnswer (answer_of g K t w (Follow i)) (Follows g K t i) (followed K (t i).father (t (t i).father))
+      IsFollowed : Type 0
+      IsFollowed =
+          IsTreeFired (rows_fired g K t w (Follow i)) (Follows g K t i) (followed K (t i).father (t (t i).father))
 
       same : (j : ℕ) → IsFather g t i j → j ≡ (t i).father
       same j father = sym father.named
 
       up : AreLinked g i (t i).father → Lt (t i).dist K → Eq (t i).root (t (t i).father).root
-          → Eq (t i).dist ((t (t i).father).dist + 1) → Answered
+          → Eq (t i).dist ((t (t i).father).dist + 1) → IsFollowed
       up linked (inr far) r d = rw (near_some i (t i).father linked, far.0) rests
         where
           rests : Follows g K t i → ⊥
@@ -143,7 +142,7 @@ module _ (g : Graph) (K : ℕ) (t : ℕ → TreeRegs) (w : ℕ → WaveRegs) (gr
           rests (follow_root j father near other) = other (r.1 ∙ ap (λ k. (t k).root) (sym (same j father)))
           rests (follow_dist j father near root other) = other (d.1 ∙ ap (λ k. (t k).dist + 1) (sym (same j father)))
 
-      led : (b : Bool) → are_linked g i (t i).father ≡ b → Answered
+      led : (b : Bool) → are_linked g i (t i).father ≡ b → IsFollowed
       led true linked = up linked (far_tells i) (eqb_tells _ _) (eqb_tells _ _)
       led false stray = rw (near_none i (t i).father stray) rests
         where
@@ -157,13 +156,13 @@ module _ (g : Graph) (K : ℕ) (t : ℕ → TreeRegs) (w : ℕ → WaveRegs) (gr
           rests (follow_dist j father _ _ _) = none j father
 
   pub adopt_is : (i j : ℕ) → AreLinked g i j
-      → IsTreeAnswer (answer_of g K t w (Adopt i j)) (Adopts g K t i j) (adopted j (t j))
+      → IsTreeFired (rows_fired g K t w (Adopt i j)) (Adopts g K t i j) (adopted j (t j))
   adopt_is i j linked =
       at (far_tells j) (leb_tells (suc (t i).root) (t j).root) (eqb_tells (t i).root (t j).root)
       (leb_tells (suc ((t j).dist + 1)) (t i).dist)
     where
       at : Lt (t j).dist K → Lt (t i).root (t j).root → Eq (t i).root (t j).root → Lt ((t j).dist + 1) (t i).dist
-          → IsTreeAnswer (answer_of g K t w (Adopt i j)) (Adopts g K t i j) (adopted j (t j))
+          → IsTreeFired (rows_fired g K t w (Adopt i j)) (Adopts g K t i j) (adopted j (t j))
       at (inl near) (inl higher) r s =
           rw (near_some i j linked, near.0, higher.0) (adopt_root linked near.1 higher.1, refl)
       at (inl near) (inr higher) (inl r) (inl s) =

@@ -7,8 +7,7 @@ use Rattle.std.specs.Option.{option_map, option_map_or}
 use Rattle.std.proofs.lemmas.Bool.{eq-eqb}
 use Rattle.std.proofs.lemmas.Simd.{map-map}
 use Rattle.app_interface.specs.Application.{App}
-use Rattle.topology.specs.Building.{has}
-use Rattle.topology.specs.Graph.{IsGraph, are_linked, neighbours_of, node_bound}
+use Rattle.topology.specs.Graph.{IsGraph, are_linked, neighbours_of, node_bound, has, is_node}
 use Rattle.topology.proofs.Membership.{has-Contains, has-filter}
 use Rattle.wave_layer.specs.declared.regs.WaveRegs.{WaveRegs}
 use Rattle.wave_layer.specs.declared.regs.FatherSeen.{FatherSeen}
@@ -23,8 +22,7 @@ use Rattle.reset_model.specs.declared.step.StepRefusal.{StepRefusal}
 use Rattle.reset_model.specs.declared.step.StepRefusal.TheVariants.{StrangeNode, StrangeNeighbour}
 use Rattle.reset_model.specs.Actions.{case_outcome_of, first_apart, judged, misfit, reads_near}
 use Rattle.reset_model.specs.Configuration.{Configuration, tree_of, wave_of, local_of}
-use Rattle.reset_model.specs.LocalSteps.{answer_of, cases_of, children_of, father_seen, first_answer, is_neighbour}
-use Rattle.reset_model.specs.LocalSteps.{planned_of}
+use Rattle.reset_model.specs.LocalSteps.{rows_fired, cases_of, children_of, father_seen, first_fired, is_neighbour}
 use Rattle.reset_model.specs.LocalSteps as maps
 use Rattle.reset_model.specs.Outcome.{acted, done, map_outcome, row_outcome}
 use Rattle.reset_model.specs.Steps.{event_node, is_of_tree, named_node}
@@ -105,9 +103,9 @@ module _ {L : Type 0} (app : App L) (c : Configuration L) where
     wave_view-is i = ap₂ (λ f cs. record { own = wave_of c i; father = f; children = cs }) (father-is i) (children-is i)
 
     rows-is : (e : Event)
-        → row_fired (view_of app c (event_node e)) e ≡ answer_of c.graph (node_bound c.graph) (tree_of c) (wave_of c) e
+        → row_fired (view_of app c (event_node e)) e ≡ rows_fired c.graph (node_bound c.graph) (tree_of c) (wave_of c) e
     rows-is e =
-        ap₂ (λ v w. first_answer (cond (is_of_tree e) (layer.Tree v) (layer.Wave w)) (named_node e) (cases_of e))
+        ap₂ (λ v w. first_fired (cond (is_of_tree e) (layer.Tree v) (layer.Wave w)) (named_node e) (cases_of e))
         (tree_view-is (event_node e)) (wave_view-is (event_node e))
 
     -- ---- what an action reads
@@ -138,12 +136,12 @@ module _ {L : Type 0} (app : App L) (c : Configuration L) where
 
     -- at a node, and with a neighbour if it names one, the event does what its layer says
     at_node : (e : Event)
-        → outcome_of app c e ≡ cond (not (list_any (λ k. k == event_node e) c.graph.ids)) (Err StrangeNode)
+        → outcome_of app c e ≡ cond (not (is_node c.graph (event_node e))) (Err StrangeNode)
         (cond (not (is_neighbour c.graph (event_node e) (named_node e))) (Err StrangeNeighbour)
         (written c (event_node e) (named_planned app (view_of app c (event_node e)) e)))
     at_node e =
         let i = event_node e in
-        let there = list_any (λ k. k == i) c.graph.ids in
+        let there = is_node c.graph i in
         ap₂ (λ own near. cond (not there) (Err StrangeNode)
         (written c i
         (cond (not own) (Err StrangeNode)
@@ -188,13 +186,13 @@ module _ {L : Type 0} (app : App L) (c : Configuration L) where
         → outcome_of app c e ≡ row_outcome app c e
     row-is e row =
         let i = event_node e in
-        let there = list_any (λ k. k == i) c.graph.ids in
+        let there = is_node c.graph i in
         let near = is_neighbour c.graph i (named_node e) in
         at_node e
         ∙ ap (λ r. cond (not there) (Err StrangeNode) (cond (not near) (Err StrangeNeighbour) r))
         (ap (written c i) (row ∙ ap (row_planned (view_of app c i)) (rows-is e))
-        ∙ row_written i (answer_of c.graph (node_bound c.graph) (tree_of c) (wave_of c) e))
-        ∙ done-ends i there near (answer_of c.graph (node_bound c.graph) (tree_of c) (wave_of c) e)
+        ∙ row_written i (rows_fired c.graph (node_bound c.graph) (tree_of c) (wave_of c) e))
+        ∙ done-ends i there near (rows_fired c.graph (node_bound c.graph) (tree_of c) (wave_of c) e)
 
     pub outcome-is : (e : Event) → outcome_of app c e ≡ map_outcome app c e
     outcome-is (Claim i) = row-is (Claim i) refl
@@ -207,7 +205,7 @@ module _ {L : Type 0} (app : App L) (c : Configuration L) where
     outcome-is (Finish i) = row-is (Finish i) refl
     outcome-is (Mend i) = row-is (Mend i) refl
     outcome-is (Act i case with) =
-        let there = list_any (λ k. k == i) c.graph.ids in
+        let there = is_node c.graph i in
         let near = is_neighbour c.graph i with in
         at_node (Act i case with)
         ∙ ap (λ r. cond (not there) (Err StrangeNode)

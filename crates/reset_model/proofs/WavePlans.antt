@@ -1,8 +1,8 @@
--- What the rows of the wave table answer on a node's view is what the event does to the wave's registers.
+-- What the rows of the wave table do on a node's view is what the event does to the wave's registers.
 use Rattle.std.proofs.Common.{◌≡◌, ℕ, ◌≤◌, Bool, true, false, cond, nat_eq, List, map, Some, None, Result, Ok, Err}
 use Rattle.std.proofs.Common.{refl, sym, ap, subst, ◌∙◌, ◌⊎◌, inl, inr, ⊎_elim, true≢false}
 use Rattle.std.proofs.lemmas.Bool.{eqb-true, eq-eqb}
-use Rattle.topology.specs.Graph.{Graph, IsGraph}
+use Rattle.topology.specs.Graph.{Graph, IsGraph, has}
 use Rattle.tree_layer.specs.declared.regs.TreeRegs.{TreeRegs}
 use Rattle.wave_layer.specs.declared.regs.WaveRegs.{WaveRegs}
 use Rattle.wave_layer.specs.declared.regs.Phase.{Phase}
@@ -21,29 +21,28 @@ use Rattle.reset_model.specs.declared.plan.Fired.{Fired}
 use Rattle.reset_model.specs.declared.plan.Fired.TheVariants as fired
 use Rattle.reset_model.specs.Steps.{join_normal, join_asked, mend_reset, mend_number, mend_both, mend_late, IsEnabled}
 use Rattle.reset_model.specs.Steps.{IsSpent, Joins, Finishes, Mends, wave_effect}
-use Rattle.reset_model.specs.LocalSteps.{father_seen, children_of, answer_of}
-use Rattle.reset_model.proofs.WaveRows.{IsAnswer, IsInvited, IsTorn, Contradict, one_reset, other_number, both_reset}
-use Rattle.reset_model.proofs.WaveRows.{too_late, request_answers, relay_answers, relay_answers-stranger, open_answers}
-use Rattle.reset_model.proofs.WaveRows.{join_answers, finish_answers, mend_answers}
-use Rattle.topology.specs.Building.{has}
+use Rattle.reset_model.specs.LocalSteps.{father_seen, children_of, rows_fired}
+use Rattle.reset_model.proofs.WaveRows.{IsWaveFired, IsInvited, IsTorn, Contradict, one_reset, other_number, both_reset}
+use Rattle.reset_model.proofs.WaveRows.{too_late, request_fired, relay_fired, relay_fired-stranger, open_fired}
+use Rattle.reset_model.proofs.WaveRows.{join_fired, finish_fired, mend_fired}
 use Rattle.reset_model.proofs.Seen.{father_seen-itself, father_seen-IsFather, IsFather-father_seen, is_root-father_seen}
 use Rattle.reset_model.proofs.Seen.{itself-father_seen, lookup-among, children_done-each, each-children_done}
 use Rattle.reset_model.proofs.Seen.{IsFather-is_child, is_child-IsFather}
 
--- an answer under other names of its parts
-answer_as : (r : Result Fired StepRefusal) (S : Type 0) (d : Bool) {E E' : Type 0} {regs regs' : WaveRegs} {b b' : Bool}
-    → IsAnswer r E S regs b d → (E → E') → (E' → E) → (E → regs ≡ regs') → b ≡ b' → IsAnswer r E' S regs' b' d
-answer_as (Ok (fired.Tree regs)) S d h there back same flag = h
-answer_as (Ok (fired.Wave move)) S d h there back same flag = (there h.0, h.1, h.2 ∙ same h.0, h.3 ∙ flag, h.4)
-answer_as (Err NotEnabled) S d h there back same flag = λ e. h (back e)
-answer_as (Err SessionsSpent) S d h there back same flag = (there h.0, h.1)
-answer_as (Err StrangeNode) S d h there back same flag = h
-answer_as (Err StrangeNeighbour) S d h there back same flag = h
-answer_as (Err NoSuchCase) S d h there back same flag = h
-answer_as (Err WantsNeighbour) S d h there back same flag = h
-answer_as (Err TakesNoNeighbour) S d h there back same flag = h
-answer_as (Err (Disagrees j)) S d h there back same flag = h
-answer_as (Err NoMemory) S d h there back same flag = h
+-- what was fired, under other names of its parts
+fired_as : (r : Result Fired StepRefusal) (S : Type 0) (d : Bool) {E E' : Type 0} {regs regs' : WaveRegs} {b b' : Bool}
+    → IsWaveFired r E S regs b d → (E → E') → (E' → E) → (E → regs ≡ regs') → b ≡ b' → IsWaveFired r E' S regs' b' d
+fired_as (Ok (fired.Tree regs)) S d h there back same flag = h
+fired_as (Ok (fired.Wave move)) S d h there back same flag = (there h.0, h.1, h.2 ∙ same h.0, h.3 ∙ flag, h.4)
+fired_as (Err NotEnabled) S d h there back same flag = λ e. h (back e)
+fired_as (Err SessionsSpent) S d h there back same flag = (there h.0, h.1)
+fired_as (Err StrangeNode) S d h there back same flag = h
+fired_as (Err StrangeNeighbour) S d h there back same flag = h
+fired_as (Err NoSuchCase) S d h there back same flag = h
+fired_as (Err WantsNeighbour) S d h there back same flag = h
+fired_as (Err TakesNoNeighbour) S d h there back same flag = h
+fired_as (Err (Disagrees j)) S d h there back same flag = h
+fired_as (Err NoMemory) S d h there back same flag = h
 
 -- whether the event completes a reset
 abbrev pub completes_of : (ℕ → TreeRegs) → Event → Bool
@@ -77,15 +76,15 @@ awake_phase Initiate is = inr refl
 awake_phase Reset is = absurd (true≢false is)
 
 module _ (g : Graph) (K : ℕ) (t : ℕ → TreeRegs) (w : ℕ → WaveRegs) (graph : IsGraph g) where
-  abbrev answer : Event → Result Fired StepRefusal
-  answer e = answer_of g K t w e
+  abbrev fires : Event → Result Fired StepRefusal
+  fires e = rows_fired g K t w e
 
   abbrev children : ℕ → List (ℕ × WaveRegs)
   children i = map (λ c. (c, w c)) (children_of g t i)
 
-  abbrev pub WaveAnswers : Event → Type 0
-  WaveAnswers e =
-      IsAnswer (answer e) (IsEnabled g K t w e) (IsSpent w e) (wave_effect t w e) (completes_of t e) (restarts_of e)
+  abbrev pub FiresWave : Event → Type 0
+  FiresWave e =
+      IsWaveFired (fires e) (IsEnabled g K t w e) (IsSpent w e) (wave_effect t w e) (completes_of t e) (restarts_of e)
 
   mended : {i : ℕ} (j : ℕ) → IsFather g t i j → Contradict (w i).phase (w i).session (w j) → Mends g t w i
   mended j father (one_reset above own) = mend_reset j father above own
@@ -98,21 +97,21 @@ module _ (g : Graph) (K : ℕ) (t : ℕ → TreeRegs) (w : ℕ → WaveRegs) (gr
   parts true is done = absurd (true≢false (sym (rw is at done)))
   parts false is done = (is, eqb-true _ _ (rw is at done))
 
-  pub relay_is : (i c : ℕ) → (b : Bool) → has (children_of g t i) c ≡ b → WaveAnswers (Relay i c)
+  pub relay_is : (i c : ℕ) → (b : Bool) → has (children_of g t i) c ≡ b → FiresWave (Relay i c)
   relay_is i c true among =
       let regs : regs_of c (children i) ≡ Some (record { phase = (w c).phase; session = (w c).session }) =
       lookup-among w (children_of g t i) c ∙ ap (λ b. cond b (Some (w c)) None) among in
-      answer_as (answer (Relay i c)) ⊥ false
-      (relay_answers (w i).phase (w i).session (father_seen g t w i) (children i) c (w c).phase (w c).session regs)
+      fired_as (fires (Relay i c)) ⊥ false
+      (relay_fired (w i).phase (w i).session (father_seen g t w i) (children i) c (w c).phase (w c).session regs)
       (λ h. (h.0, is_child-IsFather g t i c graph among, h.1)) (λ h. (h.0, h.2)) (λ _. refl) refl
   relay_is i c false among =
-      relay_answers-stranger (w i).phase (w i).session (father_seen g t w i) (children i) c _ _
+      relay_fired-stranger (w i).phase (w i).session (father_seen g t w i) (children i) c _ _
       (lookup-among w (children_of g t i) c ∙ ap (λ b. cond b (Some (w c)) None) among)
       (λ h. absurd (true≢false (sym (IsFather-is_child g t i c graph h.1) ∙ among)))
 
-  pub join_is : (i : ℕ) → WaveAnswers (Join i)
+  pub join_is : (i : ℕ) → FiresWave (Join i)
   join_is i =
-      answer_as (answer (Join i)) ⊥ true (join_answers (w i).phase (w i).session (father_seen g t w i) (children i))
+      fired_as (fires (Join i)) ⊥ true (join_fired (w i).phase (w i).session (father_seen g t w i) (children i))
       there back same refl
     where
       there : IsInvited (w i).phase (w i).session (father_seen g t w i) → Joins g t w i
@@ -149,10 +148,10 @@ module _ (g : Graph) (K : ℕ) (t : ℕ → TreeRegs) (w : ℕ → WaveRegs) (gr
           let after : WaveRegs → WaveRegs = λ r. record { phase = Reset; session = r.session } in
           ap (λ f. after (father_regs (w i) f)) h.father ∙ ap after (IsFather-father_seen g t w i h.up h.father).1
 
-  pub finish_is : (i : ℕ) → WaveAnswers (Finish i)
+  pub finish_is : (i : ℕ) → FiresWave (Finish i)
   finish_is i =
-      answer_as (answer (Finish i)) ⊥ false
-      (finish_answers (w i).phase (w i).session (father_seen g t w i) (children i) _ refl) there back (λ _. refl)
+      fired_as (fires (Finish i)) ⊥ false
+      (finish_fired (w i).phase (w i).session (father_seen g t w i) (children i) _ refl) there back (λ _. refl)
       (is_root-father_seen g t w i)
     where
       there : ((w i).phase ≡ Reset) × (children_done (w i).session (children i) ≡ true) → Finishes g t w i
@@ -174,9 +173,9 @@ module _ (g : Graph) (K : ℕ) (t : ℕ → TreeRegs) (w : ℕ → WaveRegs) (gr
             rw (awake, number) refl),
       )
 
-  pub mend_is : (i : ℕ) → WaveAnswers (Mend i)
+  pub mend_is : (i : ℕ) → FiresWave (Mend i)
   mend_is i =
-      answer_as (answer (Mend i)) ⊥ false (mend_answers (w i).phase (w i).session (father_seen g t w i) (children i))
+      fired_as (fires (Mend i)) ⊥ false (mend_fired (w i).phase (w i).session (father_seen g t w i) (children i))
       there back same refl
     where
       there : IsTorn (w i).phase (w i).session (father_seen g t w i) → Mends g t w i
@@ -210,11 +209,11 @@ module _ (g : Graph) (K : ℕ) (t : ℕ → TreeRegs) (w : ℕ → WaveRegs) (gr
           → father_regs (w i) (father_seen g t w i) ≡ w (t i).father
       same h = ap (father_regs (w i)) h.father ∙ (IsFather-father_seen g t w i h.up h.father).1
 
-  pub request_is : (i : ℕ) → WaveAnswers (Request i)
-  request_is i = request_answers (w i).phase (w i).session (father_seen g t w i) (children i)
+  pub request_is : (i : ℕ) → FiresWave (Request i)
+  request_is i = request_fired (w i).phase (w i).session (father_seen g t w i) (children i)
 
-  pub open_is : (i : ℕ) → WaveAnswers (Open i)
+  pub open_is : (i : ℕ) → FiresWave (Open i)
   open_is i =
-      answer_as (answer (Open i)) (4294967295 ≤ (w i).session) true
-      (open_answers (w i).phase (w i).session (father_seen g t w i) (children i))
+      fired_as (fires (Open i)) (4294967295 ≤ (w i).session) true
+      (open_fired (w i).phase (w i).session (father_seen g t w i) (children i))
       (λ h. (itself-father_seen g t w i h.0, h.1)) (λ h. (father_seen-itself g t w i h.0, h.1)) (λ _. refl) refl

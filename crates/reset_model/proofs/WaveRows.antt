@@ -1,4 +1,4 @@
--- What the rows of each event of the wave answer on a view, in terms of the view's parts.
+-- What the rows of each event of the wave do on a view, in terms of the view's parts.
 use Rattle.std.proofs.Common.{◌≡◌, ◌≢◌, ℕ, ◌≤◌, Bool, true, false, nat_eq, nat_lt, List, [], ◌∷◌, Some, None, Result}
 use Rattle.std.proofs.Common.{Ok, Err, refl, sym, ap, subst, ◌∙◌, ◌⊎◌, inl, inr, arith}
 use Rattle.std.proofs.lemmas.Bool.{true≢false, ltb-true, ltb-false}
@@ -18,72 +18,72 @@ use Rattle.reset_model.specs.declared.step.StepRefusal.TheVariants.{NotEnabled, 
 use Rattle.reset_model.specs.declared.plan.Fired.{Fired}
 use Rattle.reset_model.specs.declared.plan.Fired.TheVariants as fired
 use Rattle.reset_model.specs.declared.plan.Seen.TheVariants.{Wave}
-use Rattle.reset_model.specs.LocalSteps.{first_answer}
+use Rattle.reset_model.specs.LocalSteps.{first_fired}
 
 -- an event that is enabled where E holds and spent where S does leaves these registers, and completes a reset, and
 -- restarts the local state, or not
-abbrev pub IsAnswer : Result Fired StepRefusal → Type 0 → Type 0 → WaveRegs → Bool → Bool → Type 0
-IsAnswer (Ok (fired.Tree own)) E S regs completes restarts = ⊥
-IsAnswer (Ok (fired.Wave move)) E S regs completes restarts =
+abbrev pub IsWaveFired : Result Fired StepRefusal → Type 0 → Type 0 → WaveRegs → Bool → Bool → Type 0
+IsWaveFired (Ok (fired.Tree own)) E S regs completes restarts = ⊥
+IsWaveFired (Ok (fired.Wave move)) E S regs completes restarts =
     E × (S → ⊥) × (move.regs ≡ regs) × (move.completes ≡ completes) × (move.restarts ≡ restarts)
-IsAnswer (Err NotEnabled) E S regs completes restarts = E → ⊥
-IsAnswer (Err SessionsSpent) E S regs completes restarts = E × S
-IsAnswer (Err StrangeNode) E S regs completes restarts = ⊥
-IsAnswer (Err StrangeNeighbour) E S regs completes restarts = ⊥
-IsAnswer (Err NoSuchCase) E S regs completes restarts = ⊥
-IsAnswer (Err WantsNeighbour) E S regs completes restarts = ⊥
-IsAnswer (Err TakesNoNeighbour) E S regs completes restarts = ⊥
-IsAnswer (Err (Disagrees j)) E S regs completes restarts = ⊥
-IsAnswer (Err NoMemory) E S regs completes restarts = ⊥
+IsWaveFired (Err NotEnabled) E S regs completes restarts = E → ⊥
+IsWaveFired (Err SessionsSpent) E S regs completes restarts = E × S
+IsWaveFired (Err StrangeNode) E S regs completes restarts = ⊥
+IsWaveFired (Err StrangeNeighbour) E S regs completes restarts = ⊥
+IsWaveFired (Err NoSuchCase) E S regs completes restarts = ⊥
+IsWaveFired (Err WantsNeighbour) E S regs completes restarts = ⊥
+IsWaveFired (Err TakesNoNeighbour) E S regs completes restarts = ⊥
+IsWaveFired (Err (Disagrees j)) E S regs completes restarts = ⊥
+IsWaveFired (Err NoMemory) E S regs completes restarts = ⊥
 
 -- the view of these parts
 abbrev pub parts : Phase → ℕ → FatherSeen → List (ℕ × WaveRegs) → LocalView
 parts p s f cs = record { own = record { phase = p; session = s }; father = f; children = cs }
 
-pub request_answers : (p : Phase) (s : ℕ) (f : FatherSeen) (cs : List (ℕ × WaveRegs)) →
-    IsAnswer (first_answer (Wave (parts p s f cs)) None (1 ∷ [])) (p ≡ Normal) ⊥
+pub request_fired : (p : Phase) (s : ℕ) (f : FatherSeen) (cs : List (ℕ × WaveRegs)) →
+    IsWaveFired (first_fired (Wave (parts p s f cs)) None (1 ∷ [])) (p ≡ Normal) ⊥
     (record { phase = Initiate; session = s }) false false
-request_answers Normal s f cs = (refl, λ h. h, refl, refl, refl)
-request_answers Initiate s f cs = λ e. cc
-request_answers Reset s f cs = λ e. cc
+request_fired Normal s f cs = (refl, λ h. h, refl, refl, refl)
+request_fired Initiate s f cs = λ e. cc
+request_fired Reset s f cs = λ e. cc
 
 -- the named node is no child
-pub relay_answers-stranger : (p : Phase) (s : ℕ) (f : FatherSeen) (cs : List (ℕ × WaveRegs)) (c : ℕ) (E : Type 0)
+pub relay_fired-stranger : (p : Phase) (s : ℕ) (f : FatherSeen) (cs : List (ℕ × WaveRegs)) (c : ℕ) (E : Type 0)
     (regs : WaveRegs) → regs_of c cs ≡ None → (E → ⊥) →
-    IsAnswer (first_answer (Wave (parts p s f cs)) (Some c) (2 ∷ [])) E ⊥ regs false false
-relay_answers-stranger p s f cs c E regs is none = rw is none
+    IsWaveFired (first_fired (Wave (parts p s f cs)) (Some c) (2 ∷ [])) E ⊥ regs false false
+relay_fired-stranger p s f cs c E regs is none = rw is none
 
 -- the named child is in phase q
-pub relay_answers : (p : Phase) (s : ℕ) (f : FatherSeen) (cs : List (ℕ × WaveRegs)) (c : ℕ) (q : Phase) (u : ℕ)
+pub relay_fired : (p : Phase) (s : ℕ) (f : FatherSeen) (cs : List (ℕ × WaveRegs)) (c : ℕ) (q : Phase) (u : ℕ)
     → regs_of c cs ≡ Some (record { phase = q; session = u }) →
-    IsAnswer (first_answer (Wave (parts p s f cs)) (Some c) (2 ∷ [])) ((p ≡ Normal) × (q ≡ Initiate)) ⊥
+    IsWaveFired (first_fired (Wave (parts p s f cs)) (Some c) (2 ∷ [])) ((p ≡ Normal) × (q ≡ Initiate)) ⊥
     (record { phase = Initiate; session = s }) false false
-relay_answers Normal s f cs c Initiate u is = rw is ((refl, refl), λ h. h, refl, refl, refl)
-relay_answers Normal s f cs c Normal u is = rw is (λ e. let h = e.1 in cc)
-relay_answers Normal s f cs c Reset u is = rw is (λ e. let h = e.1 in cc)
-relay_answers Initiate s f cs c q u is = rw is (λ e. let h = e.0 in cc)
-relay_answers Reset s f cs c q u is = rw is (λ e. let h = e.0 in cc)
+relay_fired Normal s f cs c Initiate u is = rw is ((refl, refl), λ h. h, refl, refl, refl)
+relay_fired Normal s f cs c Normal u is = rw is (λ e. let h = e.1 in cc)
+relay_fired Normal s f cs c Reset u is = rw is (λ e. let h = e.1 in cc)
+relay_fired Initiate s f cs c q u is = rw is (λ e. let h = e.0 in cc)
+relay_fired Reset s f cs c q u is = rw is (λ e. let h = e.0 in cc)
 
-pub open_answers : (p : Phase) (s : ℕ) (f : FatherSeen) (cs : List (ℕ × WaveRegs)) →
-    IsAnswer (first_answer (Wave (parts p s f cs)) None (3 ∷ [])) ((f ≡ Itself) × (p ≡ Initiate)) (4294967295 ≤ s)
+pub open_fired : (p : Phase) (s : ℕ) (f : FatherSeen) (cs : List (ℕ × WaveRegs)) →
+    IsWaveFired (first_fired (Wave (parts p s f cs)) None (3 ∷ [])) ((f ≡ Itself) × (p ≡ Initiate)) (4294967295 ≤ s)
     (record { phase = Reset; session = next_session s }) false true
-open_answers Initiate s Itself cs = first (nat_lt s 4294967295) refl
+open_fired Initiate s Itself cs = first (nat_lt s 4294967295) refl
   where
     first : (b : Bool) → nat_lt s 4294967295 ≡ b
-        → IsAnswer (first_answer (Wave (parts Initiate s Itself cs)) None (3 ∷ []))
+        → IsWaveFired (first_fired (Wave (parts Initiate s Itself cs)) None (3 ∷ []))
         ((Itself ≡ Itself) × (Initiate ≡ Initiate)) (4294967295 ≤ s)
         (record { phase = Reset; session = next_session s }) false true
     first true below =
         rw below ((refl, refl), λ h. absurd (omega (arith, ltb-true s 4294967295 below)), refl, refl, refl)
     first false below = rw below ((refl, refl), omega (arith, ltb-false s 4294967295 below))
-open_answers Initiate s Lost cs = λ e. let h = e.0 in cc
-open_answers Initiate s (Is up) cs = λ e. let h = e.0 in cc
-open_answers Normal s Itself cs = λ e. let h = e.1 in cc
-open_answers Normal s Lost cs = λ e. let h = e.1 in cc
-open_answers Normal s (Is up) cs = λ e. let h = e.1 in cc
-open_answers Reset s Itself cs = λ e. let h = e.1 in cc
-open_answers Reset s Lost cs = λ e. let h = e.1 in cc
-open_answers Reset s (Is up) cs = λ e. let h = e.1 in cc
+open_fired Initiate s Lost cs = λ e. let h = e.0 in cc
+open_fired Initiate s (Is up) cs = λ e. let h = e.0 in cc
+open_fired Normal s Itself cs = λ e. let h = e.1 in cc
+open_fired Normal s Lost cs = λ e. let h = e.1 in cc
+open_fired Normal s (Is up) cs = λ e. let h = e.1 in cc
+open_fired Reset s Itself cs = λ e. let h = e.1 in cc
+open_fired Reset s Lost cs = λ e. let h = e.1 in cc
+open_fired Reset s (Is up) cs = λ e. let h = e.1 in cc
 
 -- the father is reset in the next session
 pub record IsInvited (p : Phase) (s : ℕ) (f : FatherSeen) : Type 0 where
@@ -93,12 +93,12 @@ pub record IsInvited (p : Phase) (s : ℕ) (f : FatherSeen) : Type 0 where
   pub awake : is_reset p ≡ false
   pub next : up.session ≡ next_session s
 
-pub join_answers : (p : Phase) (s : ℕ) (f : FatherSeen) (cs : List (ℕ × WaveRegs)) →
-    IsAnswer (first_answer (Wave (parts p s f cs)) None (4 ∷ 5 ∷ [])) (IsInvited p s f) ⊥
+pub join_fired : (p : Phase) (s : ℕ) (f : FatherSeen) (cs : List (ℕ × WaveRegs)) →
+    IsWaveFired (first_fired (Wave (parts p s f cs)) None (4 ∷ 5 ∷ [])) (IsInvited p s f) ⊥
     (record { phase = Reset; session = (father_regs (record { phase = p; session = s }) f).session }) false true
-join_answers p s Itself cs = λ e. let h = e.father in cc
-join_answers p s Lost cs = λ e. let h = e.father in cc
-join_answers p s (Is up) cs = at p up.phase up.session (eqb_tells up.session (next_session s))
+join_fired p s Itself cs = λ e. let h = e.father in cc
+join_fired p s Lost cs = λ e. let h = e.father in cc
+join_fired p s (Is up) cs = at p up.phase up.session (eqb_tells up.session (next_session s))
   where
     up_of : {q : Phase} {u : ℕ} {p : Phase} (e : IsInvited p s (Is (record { phase = q; session = u })))
         → record { phase = q; session = u } ≡ e.up
@@ -111,7 +111,7 @@ join_answers p s (Is up) cs = at p up.phase up.session (eqb_tells up.session (ne
     at : (p q : Phase) (u : ℕ)
         → ((nat_eq u (next_session s) ≡ true) × (u ≡ next_session s))
         ⊎ ((nat_eq u (next_session s) ≡ false) × (u ≢ next_session s)) →
-        IsAnswer (first_answer (Wave (parts p s (Is (record { phase = q; session = u })) cs)) None (4 ∷ 5 ∷ []))
+        IsWaveFired (first_fired (Wave (parts p s (Is (record { phase = q; session = u })) cs)) None (4 ∷ 5 ∷ []))
         (IsInvited p s (Is (record { phase = q; session = u }))) ⊥ (record { phase = Reset; session = u }) false
         true
     at p Normal u t = λ e. asleep e refl
@@ -148,32 +148,33 @@ join_answers p s (Is up) cs = at p up.phase up.session (eqb_tells up.session (ne
     at Initiate Reset u (inr t) = rw t.0 (λ e. t.1 (ap (λ r. r.session) (up_of e) ∙ e.next))
     at Reset Reset u t = λ e. absurd (true≢false e.awake)
 
-pub finish_answers : (p : Phase) (s : ℕ) (f : FatherSeen) (cs : List (ℕ × WaveRegs)) (done : Bool)
+pub finish_fired : (p : Phase) (s : ℕ) (f : FatherSeen) (cs : List (ℕ × WaveRegs)) (done : Bool)
     → children_done s cs ≡ done →
-    IsAnswer (first_answer (Wave (parts p s f cs)) None (6 ∷ 7 ∷ [])) ((p ≡ Reset) × (done ≡ true)) ⊥
+    IsWaveFired (first_fired (Wave (parts p s f cs)) None (6 ∷ 7 ∷ [])) ((p ≡ Reset) × (done ≡ true)) ⊥
     (record { phase = Normal; session = s }) (is_root f) false
-finish_answers Normal s f cs done is = idle f
+finish_fired Normal s f cs done is = idle f
   where
     idle : (f : FatherSeen)
-        → IsAnswer (first_answer (Wave (parts Normal s f cs)) None (6 ∷ 7 ∷ [])) ((Normal ≡ Reset) × (done ≡ true)) ⊥
+        → IsWaveFired (first_fired (Wave (parts Normal s f cs)) None (6 ∷ 7 ∷ [])) ((Normal ≡ Reset) × (done ≡ true)) ⊥
         (record { phase = Normal; session = s }) (is_root f) false
     idle Itself = λ e. let h = e.0 in cc
     idle Lost = λ e. let h = e.0 in cc
     idle (Is up) = λ e. let h = e.0 in cc
-finish_answers Initiate s f cs done is = idle f
+finish_fired Initiate s f cs done is = idle f
   where
     idle : (f : FatherSeen)
-        → IsAnswer (first_answer (Wave (parts Initiate s f cs)) None (6 ∷ 7 ∷ [])) ((Initiate ≡ Reset) × (done ≡ true))
+        → IsWaveFired (first_fired (Wave (parts Initiate s f cs)) None (6 ∷ 7 ∷ []))
+        ((Initiate ≡ Reset) × (done ≡ true))
         ⊥ (record { phase = Normal; session = s }) (is_root f) false
     idle Itself = λ e. let h = e.0 in cc
     idle Lost = λ e. let h = e.0 in cc
     idle (Is up) = λ e. let h = e.0 in cc
-finish_answers Reset s Itself cs true is = rw is ((refl, refl), λ h. h, refl, refl, refl)
-finish_answers Reset s Lost cs true is = rw is ((refl, refl), λ h. h, refl, refl, refl)
-finish_answers Reset s (Is up) cs true is = rw is ((refl, refl), λ h. h, refl, refl, refl)
-finish_answers Reset s Itself cs false is = rw is (λ e. let h = e.1 in cc)
-finish_answers Reset s Lost cs false is = rw is (λ e. let h = e.1 in cc)
-finish_answers Reset s (Is up) cs false is = rw is (λ e. let h = e.1 in cc)
+finish_fired Reset s Itself cs true is = rw is ((refl, refl), λ h. h, refl, refl, refl)
+finish_fired Reset s Lost cs true is = rw is ((refl, refl), λ h. h, refl, refl, refl)
+finish_fired Reset s (Is up) cs true is = rw is ((refl, refl), λ h. h, refl, refl, refl)
+finish_fired Reset s Itself cs false is = rw is (λ e. let h = e.1 in cc)
+finish_fired Reset s Lost cs false is = rw is (λ e. let h = e.1 in cc)
+finish_fired Reset s (Is up) cs false is = rw is (λ e. let h = e.1 in cc)
 
 -- the registers of a node, and the father's, contradict the wave
 pub data Contradict (p : Phase) (s : ℕ) (up : WaveRegs) : Type 0 where
@@ -215,12 +216,12 @@ agree_late own above same (both_reset f g h) = clash g own
 agree_late own above (inl same) (too_late f g h k) = h same
 agree_late own above (inr same) (too_late f g h k) = k same
 
-pub mend_answers : (p : Phase) (s : ℕ) (f : FatherSeen) (cs : List (ℕ × WaveRegs)) →
-    IsAnswer (first_answer (Wave (parts p s f cs)) None (8 ∷ 9 ∷ 10 ∷ 11 ∷ [])) (IsTorn p s f) ⊥
+pub mend_fired : (p : Phase) (s : ℕ) (f : FatherSeen) (cs : List (ℕ × WaveRegs)) →
+    IsWaveFired (first_fired (Wave (parts p s f cs)) None (8 ∷ 9 ∷ 10 ∷ 11 ∷ [])) (IsTorn p s f) ⊥
     (father_regs (record { phase = p; session = s }) f) false false
-mend_answers p s Itself cs = λ e. let h = e.father in cc
-mend_answers p s Lost cs = λ e. let h = e.father in cc
-mend_answers p s (Is up) cs =
+mend_fired p s Itself cs = λ e. let h = e.father in cc
+mend_fired p s Lost cs = λ e. let h = e.father in cc
+mend_fired p s (Is up) cs =
     at (is_reset p) (is_reset up.phase) refl refl (eqb_tells s up.session) (eqb_tells up.session s)
     (eqb_tells up.session (next_session s))
   where
@@ -235,7 +236,7 @@ mend_answers p s (Is up) cs =
         → ((nat_eq up.session s ≡ true) × (up.session ≡ s)) ⊎ ((nat_eq up.session s ≡ false) × (up.session ≢ s))
         → ((nat_eq up.session (next_session s) ≡ true) × (up.session ≡ next_session s))
         ⊎ ((nat_eq up.session (next_session s) ≡ false) × (up.session ≢ next_session s))
-        → IsAnswer (first_answer (Wave (parts p s (Is up) cs)) None (8 ∷ 9 ∷ 10 ∷ 11 ∷ [])) (IsTorn p s (Is up)) ⊥ up
+        → IsWaveFired (first_fired (Wave (parts p s (Is up) cs)) None (8 ∷ 9 ∷ 10 ∷ 11 ∷ [])) (IsTorn p s (Is up)) ⊥ up
         false false
     at true false own above t u v = rw (own, above) (tear (one_reset above own), λ h. h, refl, refl, refl)
     at false false own above (inl t) u v = rw (own, above, t.0) (torn (agree_awake own above t.1))

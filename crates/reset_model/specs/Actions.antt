@@ -1,11 +1,10 @@
 -- The actions of the application: between whole configurations, and as the node judges them.
 use Rattle.std.specs.Prelude.{◌≡◌, ℕ, ◌<◌, Bool, true, false, not, ◌==◌, if◌then◌else◌, List, Option, Some, None}
 use Rattle.std.specs.Prelude.{Result, Ok, Err, map, filter, find}
-use Rattle.std.specs.List.{list_any}
 use Rattle.app_interface.specs.Application.{App, Action, Fits, is_read, seen}
 use Rattle.app_interface.specs.declared.reads.Reads.{Reads}
 use Rattle.app_interface.specs.declared.reads.Reads.TheVariants.{Alone, Toward, One, All}
-use Rattle.topology.specs.Graph.{Graph, IsNode, AreLinked, neighbours_of}
+use Rattle.topology.specs.Graph.{Graph, IsNode, AreLinked, neighbours_of, is_node}
 use Rattle.wave_layer.specs.declared.regs.WaveRegs.{WaveRegs}
 use Rattle.reset_model.specs.declared.step.StepRefusal.{StepRefusal}
 use Rattle.reset_model.specs.declared.step.StepRefusal.TheVariants.{StrangeNode, StrangeNeighbour, NoSuchCase}
@@ -101,6 +100,6 @@ case_outcome_of app g K w l i case with =
 abbrev pub acted_of : {L : Type 0} → App L → Graph → ℕ → (ℕ → WaveRegs) → (ℕ → L) → ℕ → ℕ → Option ℕ
     → Result L StepRefusal
 acted_of app g K w l i case with =
-    if not (list_any (λ k. k == i) g.ids) then Err StrangeNode
+    if not (is_node g i) then Err StrangeNode
     else (if not (is_neighbour g i with) then Err StrangeNeighbour
     else case_outcome_of app g K w l i case with)

@@ -12,7 +12,7 @@ use Rattle.reset_model.specs.Configuration.{Configuration, local_of}
 use Rattle.reset_model.specs.Refinement.{after}
 use Rattle.reset_model.specs.Sound.{IsComplete}
 
--- the events of a list that were applied, from their answers
+-- the events of a list that were applied, by what came of them
 abbrev pub applied : List Event → List Done → List Event
 applied [] ds = []
 applied (e ∷ es) [] = []
@@ -48,7 +48,7 @@ pub record Moment (L : Type 0) : Type 0 where
   pub reply : Reply
   pub left : Configuration L
 
--- the moments of the events that were applied, from their answers, in turn from c on
+-- the moments of the events that were applied, by what came of them, in turn from c on
 abbrev pub moments : {L : Type 0} → App L → Configuration L → List Event → List Done → List (Moment L)
 moments app c [] ds = []
 moments app c (e ∷ es) [] = []

@@ -1,8 +1,7 @@
 -- The same steps as one node sees them: the rows of an event are tried on its local view.
 use Rattle.std.specs.Prelude.{ℕ, Bool, true, not, ◌==◌, if◌then◌else◌, List, [], ◌∷◌, Option, Some, None, Result, Ok}
 use Rattle.std.specs.Prelude.{Err, map, filter}
-use Rattle.std.specs.List.{list_any}
-use Rattle.topology.specs.Graph.{Graph, are_linked, neighbours_of}
+use Rattle.topology.specs.Graph.{Graph, are_linked, neighbours_of, is_node}
 use Rattle.tree_layer.specs.declared.regs.TreeRegs.{TreeRegs}
 use Rattle.tree_layer.specs.declared.regs.TreeRefusal.{TreeRefusal}
 use Rattle.tree_layer.specs.declared.regs.TreeRefusal.TheVariants as tree_refusal
@@ -63,27 +62,27 @@ cases_of (Finish i) = 6 ∷ 7 ∷ []
 cases_of (Mend i) = 8 ∷ 9 ∷ 10 ∷ 11 ∷ []
 cases_of (Act i case with) = []
 
--- an answer of the tree table
-abbrev pub tree_answer : Result TreeRegs TreeRefusal → Result Fired StepRefusal
-tree_answer (Ok regs) = Ok (fired.Tree regs)
-tree_answer (Err tree_refusal.NoSuchCase) = Err NotEnabled
-tree_answer (Err tree_refusal.StrangeNeighbour) = Err StrangeNeighbour
-tree_answer (Err tree_refusal.NotEnabled) = Err NotEnabled
+-- what a row of the tree table fired
+abbrev pub fired_tree : Result TreeRegs TreeRefusal → Result Fired StepRefusal
+fired_tree (Ok regs) = Ok (fired.Tree regs)
+fired_tree (Err tree_refusal.NoSuchCase) = Err NotEnabled
+fired_tree (Err tree_refusal.StrangeNeighbour) = Err StrangeNeighbour
+fired_tree (Err tree_refusal.NotEnabled) = Err NotEnabled
 
--- an answer of the wave table. A neighbour that is no child can't have asked
-abbrev pub wave_answer : Result WaveMove WaveRefusal → Result Fired StepRefusal
-wave_answer (Ok move) = Ok (fired.Wave move)
-wave_answer (Err wave_refusal.NoSuchCase) = Err NotEnabled
-wave_answer (Err wave_refusal.NotChild) = Err NotEnabled
-wave_answer (Err wave_refusal.NotEnabled) = Err NotEnabled
-wave_answer (Err wave_refusal.SessionsSpent) = Err SessionsSpent
+-- what a row of the wave table fired. A neighbour that is no child can't have asked
+abbrev pub fired_wave : Result WaveMove WaveRefusal → Result Fired StepRefusal
+fired_wave (Ok move) = Ok (fired.Wave move)
+fired_wave (Err wave_refusal.NoSuchCase) = Err NotEnabled
+fired_wave (Err wave_refusal.NotChild) = Err NotEnabled
+fired_wave (Err wave_refusal.NotEnabled) = Err NotEnabled
+fired_wave (Err wave_refusal.SessionsSpent) = Err SessionsSpent
 
 -- row n of the layer's table
-abbrev pub row_answer : Seen → Option ℕ → ℕ → Result Fired StepRefusal
-row_answer (Tree v) named n = tree_answer (tree_fired v n named)
-row_answer (Wave v) named n = wave_answer (wave_fired v n named)
+abbrev pub fired_row : Seen → Option ℕ → ℕ → Result Fired StepRefusal
+fired_row (Tree v) named n = fired_tree (tree_fired v n named)
+fired_row (Wave v) named n = fired_wave (wave_fired v n named)
 
--- the answer, unless no guard held
+-- what was fired, unless no guard held
 abbrev pub or_next : Result Fired StepRefusal → Result Fired StepRefusal → Result Fired StepRefusal
 or_next (Ok does) next = Ok does
 or_next (Err StrangeNode) next = Err StrangeNode
@@ -97,22 +96,22 @@ or_next (Err SessionsSpent) next = Err SessionsSpent
 or_next (Err NoMemory) next = Err NoMemory
 
 -- the first of these rows whose guard holds
-abbrev pub first_answer : Seen → Option ℕ → List ℕ → Result Fired StepRefusal
-first_answer v named [] = Err NotEnabled
-first_answer v named (n ∷ ns) = or_next (row_answer v named n) (first_answer v named ns)
+abbrev pub first_fired : Seen → Option ℕ → List ℕ → Result Fired StepRefusal
+first_fired v named [] = Err NotEnabled
+first_fired v named (n ∷ ns) = or_next (fired_row v named n) (first_fired v named ns)
 
 -- the named node, if there is one, is a neighbour of i
 abbrev pub is_neighbour : Graph → ℕ → Option ℕ → Bool
 is_neighbour g i None = true
 is_neighbour g i (Some j) = are_linked g i j
 
--- what the rows of the event answer at its node
-abbrev pub answer_of : Graph → ℕ → (ℕ → TreeRegs) → (ℕ → WaveRegs) → Event → Result Fired StepRefusal
-answer_of g K t w e = first_answer (seen_of g K t w e) (named_node e) (cases_of e)
+-- what the rows of the event do at its node
+abbrev pub rows_fired : Graph → ℕ → (ℕ → TreeRegs) → (ℕ → WaveRegs) → Event → Result Fired StepRefusal
+rows_fired g K t w e = first_fired (seen_of g K t w e) (named_node e) (cases_of e)
 
 -- what the event's node does, or the first refusal
-abbrev pub planned_of : Graph → ℕ → (ℕ → TreeRegs) → (ℕ → WaveRegs) → Event → Result Fired StepRefusal
-planned_of g K t w e =
-    if not (list_any (λ i. i == event_node e) g.ids) then Err StrangeNode
+abbrev pub event_fired : Graph → ℕ → (ℕ → TreeRegs) → (ℕ → WaveRegs) → Event → Result Fired StepRefusal
+event_fired g K t w e =
+    if not (is_node g (event_node e)) then Err StrangeNode
     else (if not (is_neighbour g (event_node e) (named_node e)) then Err StrangeNeighbour
-    else answer_of g K t w e)
+    else rows_fired g K t w e)

@@ -18,7 +18,7 @@ use Rattle.reset_model.specs.Actions.{acted_of}
 use Rattle.reset_model.specs.Configuration.{Configuration, start_list, tree_of, wave_of, local_of, put_at, with_tree}
 use Rattle.reset_model.specs.Configuration.{with_wave, with_local, with_locals}
 use Rattle.reset_model.specs.Steps.{event_node}
-use Rattle.reset_model.specs.LocalSteps.{planned_of}
+use Rattle.reset_model.specs.LocalSteps.{event_fired}
 
 -- the local states in which i, if it restarts, has its start state again
 abbrev pub restarted : {L : Type 0} → App L → Configuration L → ℕ → Bool → List L
@@ -56,7 +56,7 @@ done app c i (Err refusal) = Err refusal
 
 -- the outcome of an event of the two tables
 abbrev pub row_outcome : {L : Type 0} → App L → Configuration L → Event → Result (Configuration L × Reply) StepRefusal
-row_outcome app c e = done app c (event_node e) (planned_of c.graph (node_bound c.graph) (tree_of c) (wave_of c) e)
+row_outcome app c e = done app c (event_node e) (event_fired c.graph (node_bound c.graph) (tree_of c) (wave_of c) e)
 
 abbrev pub acted : {L : Type 0} → Configuration L → ℕ → Result L StepRefusal
     → Result (Configuration L × Reply) StepRefusal

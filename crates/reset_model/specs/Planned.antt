@@ -3,6 +3,7 @@ use Rattle.std.specs.Prelude.{◌≡◌, ℕ, Bool, true, not, ◌==◌, if◌th
 use Rattle.std.specs.Prelude.{Option, Some, None, Result, Ok, Err}
 use Rattle.std.specs.List.{list_any}
 use Rattle.std.specs.Option.{option_map}
+use Rattle.topology.specs.Graph.{is_node}
 use Rattle.app_interface.specs.Application.{App}
 use Rattle.reset_model.specs.declared.event.Event.{Event}
 use Rattle.reset_model.specs.declared.event.Event.TheVariants.{Act}
@@ -16,7 +17,7 @@ use Rattle.reset_model.specs.declared.step.StepRefusal.{StepRefusal}
 use Rattle.reset_model.specs.declared.step.StepRefusal.TheVariants.{StrangeNode, StrangeNeighbour}
 use Rattle.reset_model.specs.Actions.{misfit, reads_near, judged}
 use Rattle.reset_model.specs.Configuration.{Configuration, with_tree, with_wave, with_local}
-use Rattle.reset_model.specs.LocalSteps.{cases_of, first_answer}
+use Rattle.reset_model.specs.LocalSteps.{cases_of, first_fired}
 use Rattle.reset_model.specs.Outcome.{fired_reply}
 use Rattle.reset_model.specs.Steps.{event_node, named_node}
 use Rattle.reset_model.specs.View.{Neighbour, NodeView, layer_view, view_of}
@@ -29,7 +30,7 @@ Planned L = Result (Effect L × Reply) StepRefusal
 
 -- the first of the event's rows whose guard holds
 abbrev pub row_fired : {L : Type 0} → NodeView L → Event → Result Fired StepRefusal
-row_fired v e = first_answer (layer_view v e) (named_node e) (cases_of e)
+row_fired v e = first_fired (layer_view v e) (named_node e) (cases_of e)
 
 -- what it does: a node that restarts has its start state again
 abbrev pub row_effect : {L : Type 0} → NodeView L → Fired → Effect L
@@ -109,5 +110,5 @@ written c i (Err f) = Err f
 -- what the view of the event's node says, written there
 abbrev pub outcome_of : {L : Type 0} → App L → Configuration L → Event → Outcome L
 outcome_of app c e =
-    if not (list_any (λ k. k == event_node e) c.graph.ids) then Err StrangeNode
+    if not (is_node c.graph (event_node e)) then Err StrangeNode
     else written c (event_node e) (planned app (view_of app c (event_node e)) e)

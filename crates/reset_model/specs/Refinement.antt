@@ -56,17 +56,17 @@ abbrev pub left_of : {L : Type 0} → Configuration L → Result (Configuration 
 left_of c (Ok after) = after.0
 left_of c (Err f) = c
 
--- the configuration after an event that was answered so: what is refused changes nothing
+-- the configuration after an event of which this came: what is refused changes nothing
 abbrev pub after : {L : Type 0} → App L → Configuration L → Event → Done → Configuration L
 after app c e (Did reply) = left_of c (outcome_of app c e)
 after app c e (Refused f) = c
 
--- the shadow of an event that was answered so
+-- the shadow of an event of which this came
 abbrev pub done_shadow : {L : Type 0} → Configuration L → Event → Done → List AbstractStep
 done_shadow c e (Did reply) = shadow_of c e
 done_shadow c e (Refused f) = []
 
--- the shadow of a list of events that were answered so, in turn, from c on
+-- the shadow of a list of events of which this came, in turn from c on
 abbrev pub shadow : {L : Type 0} → App L → Configuration L → List Event → List Done → List AbstractStep
 shadow app c [] ds = []
 shadow app c (e ∷ es) [] = []

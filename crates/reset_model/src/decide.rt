@@ -11,7 +11,7 @@ ghost use Rattle.reset_model.specs.View.{children_of, father_of, near_trees, nea
 use crate::action::{Arguments, misfit, on_clock, reads_near};
 use crate::event::Event;
 use crate::node_view::{Near, View};
-use crate::plan::{Effect, Fired, Seen, first_answer};
+use crate::plan::{Effect, Fired, Seen, first_fired};
 use crate::step::{Reply, StepRefusal, reply_to};
 use app_interface::{Application, Here, Reads};
 use std::alloc::{AllocError, Global};
@@ -114,7 +114,7 @@ fn row_fired<P: Application>(
     }
 }
 
-// What the rows of an event of the tree answer.
+// What the rows of an event of the tree do.
 fn tree_row<P: Application>(
     alloc: Global,
     view: &View<P>,
@@ -126,12 +126,12 @@ fn tree_row<P: Application>(
 {
     let near = near_trees(alloc, view.neighbours())?;
     match TreeView::new(view.id(), view.k(), view.tree(), &near) {
-        Some(tree) => first_answer(&Seen::Tree(tree), event.named(), event.cases()),
+        Some(tree) => first_fired(&Seen::Tree(tree), event.named(), event.cases()),
         None => unreachable!(),
     }
 }
 
-// What the rows of an event of the wave answer.
+// What the rows of an event of the wave do.
 fn wave_row<P: Application>(
     alloc: Global,
     view: &View<P>,
@@ -143,7 +143,7 @@ fn wave_row<P: Application>(
 {
     let children = child_waves(alloc, view.neighbours(), view.id())?;
     match WaveView::new(view.wave(), father(view), &children) {
-        Some(wave) => first_answer(&Seen::Wave(wave), event.named(), event.cases()),
+        Some(wave) => first_fired(&Seen::Wave(wave), event.named(), event.cases()),
         None => unreachable!(),
     }
 }

@@ -1,7 +1,7 @@
-// What the rows of an event answer to what a node sees.
+// What the rows of an event do, by what a node sees.
 
 ghost use Rattle.std.specs.Prelude.{◌≡◌};
-ghost use Rattle.reset_model.specs.LocalSteps.{first_answer, row_answer};
+ghost use Rattle.reset_model.specs.LocalSteps.{first_fired, fired_row};
 
 use crate::step::StepRefusal;
 use tree_layer::{TreeRefusal, TreeRegs, TreeView, tree_fire};
@@ -39,13 +39,13 @@ pub enum Seen<'a> {
 /// Fires the first of the rows whose guard holds, or names the first refusal but `NotEnabled`. Where no
 /// guard holds it is `NotEnabled`.
 #[inline(always)]
-pub fn first_answer(seen: &Seen<'_>, named: Option<u32>, cases: &[u8]) -> Result<Fired, StepRefusal>
-    ensures { result ≡ first_answer seen.now named cases.now }
+pub fn first_fired(seen: &Seen<'_>, named: Option<u32>, cases: &[u8]) -> Result<Fired, StepRefusal>
+    ensures { result ≡ first_fired seen.now named cases.now }
 {
     for case in cases {
-        match row_answer(seen, named, *case) {
+        match fired_row(seen, named, *case) {
             Err(StepRefusal::NotEnabled) => {}
-            answer => return answer,
+            fired => return fired,
         }
     }
     Err(StepRefusal::NotEnabled)
@@ -53,8 +53,8 @@ pub fn first_answer(seen: &Seen<'_>, named: Option<u32>, cases: &[u8]) -> Result
 
 // Fires a row of the layer's table.
 #[inline(always)]
-fn row_answer(seen: &Seen<'_>, named: Option<u32>, case: u8) -> Result<Fired, StepRefusal>
-    ensures { result ≡ row_answer seen.now named case }
+fn fired_row(seen: &Seen<'_>, named: Option<u32>, case: u8) -> Result<Fired, StepRefusal>
+    ensures { result ≡ fired_row seen.now named case }
 {
     match seen {
         Seen::Tree(view) => match tree_fire(view, case, named) {

@@ -12,12 +12,12 @@ ghost use Rattle.reset_model.specs.Completion.{applied, CompletionsHold, is_open
 ghost use Rattle.reset_model.specs.Completion.{times};
 ghost use Rattle.reset_model.specs.Configuration.{Configuration, IsShaped, local_of};
 ghost use Rattle.reset_model.specs.Refinement.{abstract_of, IsAbstractRun, shadow};
-ghost use Rattle.reset_model.specs.Runs.{Answers, IsRun};
+ghost use Rattle.reset_model.specs.Runs.{IsDone, IsRun};
 ghost use Rattle.reset_model.specs.Sound.{IsSound};
 
 use app_interface::Application;
 
-/// From a sound configuration, whatever events are tried and however they are answered, the abstract
+/// From a sound configuration, whatever events are tried and whatever comes of them, the abstract
 /// machine goes from the abstract state before to the one after by exactly the shadow of the run: a
 /// reset of all nodes at once for each session that is opened, and the actions of the nodes that have
 /// joined.
@@ -28,7 +28,7 @@ pub fn refinement<P: Application>()
         (abstract_of P.app c') }
 {}
 
-/// Whatever events are tried and however they are answered, the graph stays, no node loses its
+/// Whatever events are tried and whatever comes of them, the graph stays, no node loses its
 /// registers or its local state, and sound registers stay sound.
 pub fn runs_stay_sound<P: Application>()
     ensures { (c c' : Configuration P.Local) (es : List Event) (ds : List Done) → IsGraph c.graph
@@ -56,14 +56,14 @@ pub fn joins_once<P: Application>()
     ensures once { (c c1 c2 c3 : Configuration P.Local) (o p session : ℕ) (reply : Reply) (es : List Event)
         (ds : List Done)
         → IsGraph c.graph → IsConnected c.graph → IsShaped c → IsSound c
-        → Answers P.app c (Open o) (Did reply) c1 → IsRun P.app c1 es ds c2 → times (is_open_at p) (applied es ds) ≡ 0
-        → Answers P.app c2 (Finish p) (Did (Complete session)) c3
+        → IsDone P.app c (Open o) (Did reply) c1 → IsRun P.app c1 es ds c2 → times (is_open_at p) (applied es ds) ≡ 0
+        → IsDone P.app c2 (Finish p) (Did (Complete session)) c3
         → (o ≡ p) × JoinsOnce c.graph p (applied es ds) }
     ensures restarts { (c c' : Configuration P.Local) (i : ℕ) (reply : Reply) → IsGraph c.graph → IsShaped c
-        → Answers P.app c (Join i) (Did reply) c' → local_of P.app c' i ≡ P.app.start c.graph i }
+        → IsDone P.app c (Join i) (Did reply) c' → local_of P.app c' i ≡ P.app.start c.graph i }
 {}
 
-/// Whatever events are tried and however they are answered, each completion is true: right after it
+/// Whatever events are tried and whatever comes of them, each completion is true: right after it
 /// every node is in its session and none is reset. Between the opening and it each other node joined
 /// exactly once, and nobody opened another session. Right after it joins, a node has its start state.
 pub fn completions<P: Application>()

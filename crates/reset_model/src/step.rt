@@ -1,4 +1,4 @@
-// What a step answers.
+// What comes of a step.
 
 ghost use Rattle.std.specs.Prelude.{◌≡◌};
 ghost use Rattle.reset_model.specs.declared.step.StepRefusal.TheVariants.{NoMemory};
@@ -40,7 +40,7 @@ pub enum StepRefusal {
     NoMemory,
 }
 
-/// How an event of a list was answered.
+/// What came of an event of a list.
 #[derive(Clone, Copy, Debug, PartialEq, Eq)]
 pub enum Done {
     /// It was applied, with this reply.

@@ -1,13 +1,13 @@
 -- What a node sees allows exactly those of its candidates that its configuration doesn't refuse.
-use Rattle.std.proofs.Common.{◌≡◌, ℕ, ◌==◌, Bool, true, false, not, cond, List, [], ◌∷◌, ◌++◌, map, filter, is_ok, All}
+use Rattle.std.proofs.Common.{◌≡◌, ℕ, Bool, true, false, not, cond, List, [], ◌∷◌, ◌++◌, map, filter, is_ok, All}
 use Rattle.std.proofs.Common.{Ok, Err, refl, ap, ◌∙◌, Some, None}
-use Rattle.std.specs.List.{flat_map, list_any}
+use Rattle.std.specs.List.{flat_map}
 use Rattle.std.proofs.lemmas.List.Concat.{flat_map-cons}
 use Rattle.std.proofs.lemmas.List.Elements.{All-append, All-cons, All-from_recursion, All-head, All-nil, All-same}
 use Rattle.std.proofs.lemmas.List.Elements.{All-tail, All-weaker}
 use Rattle.action_tables.specs.Numbers.{all_cases}
 use Rattle.app_interface.specs.Application.{App}
-use Rattle.topology.specs.Graph.{IsNode}
+use Rattle.topology.specs.Graph.{IsNode, is_node}
 use Rattle.reset_model.proofs.NodePositions.{a_node, no_node}
 use Rattle.reset_model.specs.declared.event.Event.{Event}
 use Rattle.reset_model.specs.declared.event.Event.TheVariants.{Claim, Follow, Adopt, Request, Relay, Open, Join, Finish}
@@ -82,11 +82,11 @@ module _ {L : Type 0} (app : App L) (c : Configuration L) (i : ℕ) where
   ok_written (Err f) = refl
 
   -- an event of i, where i is a node or is none
-  ok_outcome : (e : Event) (there : Bool) → list_any (λ k. k == i) c.graph.ids ≡ there → event_node e ≡ i
+  ok_outcome : (e : Event) (there : Bool) → is_node c.graph i ≡ there → event_node e ≡ i
       → is_ok (outcome_of app c e)
       ≡ is_ok (cond (not there) (Err StrangeNode) (written c i (planned app (view_of app c i) e)))
   ok_outcome e there here own =
-      let at : ℕ → Bool = λ j. is_ok (cond (not (list_any (λ k. k == j) c.graph.ids)) (Err StrangeNode)
+      let at : ℕ → Bool = λ j. is_ok (cond (not (is_node c.graph j)) (Err StrangeNode)
       (written c j (planned app (view_of app c j) e))) in
       let by : Bool → Bool = λ b. is_ok (cond (not b) (Err StrangeNode)
       (written c i (planned app (view_of app c i) e))) in

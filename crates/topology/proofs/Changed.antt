@@ -8,10 +8,10 @@ use Rattle.std.specs.Ordering.{eq_by_cmp}
 use Rattle.std.specs.Vec.{with_items}
 use Rattle.std.proofs.lemmas.Bool.{cases_Bool, both_ways, false_from_ne_true, or_left}
 use Rattle.std.proofs.lemmas.List.{length-map, with_items_is}
-use Rattle.topology.specs.Building.{has, joins, Links, Unlinks}
+use Rattle.topology.specs.Building.{joins, Links, Unlinks}
 use Rattle.topology.specs.Changing.{with_link, without_link, IsIndexOf}
 use Rattle.topology.specs.Faults.{IsCutOff}
-use Rattle.topology.specs.Graph.{Graph, pair_cmp, are_linked, IsConnected}
+use Rattle.topology.specs.Graph.{Graph, pair_cmp, are_linked, IsConnected, has}
 use Rattle.topology.specs.Rows.{near_has, links_of, graph_of, AreIds, AreRows, AreParts}
 use Rattle.topology.specs.Searching.{AreDistances}
 use Rattle.topology.proofs.Ascending.{member_at, index_of_member, index_once}

@@ -6,10 +6,10 @@ use Rattle.std.proofs.lemmas.List.{get_or_default, nil_from_length}
 use Rattle.std.proofs.lemmas.Bool.{cases_lt}
 use Rattle.std.proofs.lemmas.List.Elements.{All-contains, All-weaker, Contains-get_or}
 use Rattle.std.proofs.lemmas.List.Folds.{Any-from_list_any, list_any-from_Any}
-use Rattle.topology.specs.Building.{has, AreSorted, AreApart, AreJoined, joins}
+use Rattle.topology.specs.Building.{AreSorted, AreApart, AreJoined, joins}
 use Rattle.topology.specs.Faults.{IsFirst, IsFirstRepeat, IsGraphOf, ends_of, ordered_links, HasFault, rank_of}
 use Rattle.topology.specs.Faults.{IsFirstFault}
-use Rattle.topology.specs.Graph.{AreLinked}
+use Rattle.topology.specs.Graph.{AreLinked, has}
 use Rattle.topology.specs.Id.{IsId}
 use Rattle.topology.specs.Rows.{near_has, graph_of, AreIds}
 use Rattle.topology.specs.declared.fault.TopoFault.{TopoFault}

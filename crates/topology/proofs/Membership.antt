@@ -2,10 +2,10 @@
 use Rattle.std.proofs.Common.{◌≡◌, ◌≢◌, ℕ, suc, ◌==◌, Bool, true, false, ◌&&◌, nat_eq, List, [], ◌∷◌, filter, Contains}
 use Rattle.std.proofs.Common.{refl, sym, ap, ◌∙◌, ◌⊎◌, inl, inr, arith, true≢false}
 use Rattle.std.specs.List.{list_any}
-use Rattle.topology.specs.Building.{has}
 use Rattle.std.proofs.lemmas.Bool.{eq-eqb}
 use Rattle.std.proofs.lemmas.Bool.Decides.{eqb_tells}
 use Rattle.std.proofs.lemmas.List.Recursion.{or_at}
+use Rattle.topology.specs.Graph.{has}
 
 pub has-Contains : (xs : List ℕ) (x : ℕ) → Contains xs x → has xs x ≡ true
 has-Contains xs x there =

@@ -5,7 +5,8 @@ use Rattle.std.specs.List.Sorted.{IsStrictlyIncreasing}
 use Rattle.std.proofs.lemmas.Bool.{cases_eq, and_parts}
 use Rattle.std.proofs.lemmas.List.{length-set, get_or-set_same, get_or-set_other, get_or-map, map-set}
 use Rattle.std.proofs.lemmas.List.Kept.{IsStrictlyIncreasing-filter}
-use Rattle.topology.specs.Building.{has, Unlinks, joins}
+use Rattle.topology.specs.Graph.{has}
+use Rattle.topology.specs.Building.{Unlinks, joins}
 use Rattle.topology.specs.Rows.{row_at, near_has, AreRows}
 use Rattle.topology.proofs.Inserting.{rows_of, row_items, joins_back}
 use Rattle.topology.proofs.Membership.{has-filter}

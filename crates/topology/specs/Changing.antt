@@ -2,9 +2,8 @@
 use Rattle.std.specs.Prelude.{◌≡◌, ℕ, ◌<◌, ◌*◌, Bool, not, nat_lt, List, [], ◌∷◌, ◌++◌, Option, Some, None, length}
 use Rattle.std.specs.Prelude.{slice_index, ◌==◌, if◌then◌else◌}
 use Rattle.std.specs.FinSet as set
-use Rattle.topology.specs.Building.{has}
 use Rattle.topology.specs.Faults.{IsCutOff}
-use Rattle.topology.specs.Graph.{Graph, are_linked}
+use Rattle.topology.specs.Graph.{Graph, are_linked, has}
 use Rattle.topology.specs.declared.fault.TopoFault.{TopoFault}
 use Rattle.topology.specs.declared.fault.TopoFault.TheVariants.{TooManyLinks, StrangeNode, SelfLink, Disconnected}
 use Rattle.topology.specs.declared.fault.TopoFault.TheVariants.{NoSuchLink, LinkIsThere}

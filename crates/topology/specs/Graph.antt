@@ -1,6 +1,7 @@
 -- Graphs, their walks, their distances and their leaders.
-use Rattle.std.specs.Prelude.{◌≡◌, ◌≢◌, ℕ, ◌-◌, ◌<◌, ◌≤◌, Bool, true, List, [], ◌∷◌, length, slice_index, Contains}
-use Rattle.std.specs.Prelude.{filter, refl}
+use Rattle.std.specs.Prelude.{◌≡◌, ◌≢◌, ℕ, ◌-◌, ◌<◌, ◌≤◌, ◌==◌, Bool, true, List, [], ◌∷◌, length, slice_index}
+use Rattle.std.specs.Prelude.{Contains, filter, refl}
+use Rattle.std.specs.List.{list_any}
 use Rattle.std.specs.List.Sorted.{IsStrictlyIncreasing}
 use Rattle.std.specs.Ordering.{nat_cmp}
 use Rattle.std.specs.declared.cmp.Ordering.{Ordering}
@@ -26,8 +27,16 @@ graph_code =
     (coded× (coded_list coded_ℕ) (coded× coded_ℕ (set.code (coded× coded_ℕ coded_ℕ))))
     (λ g. (g.ids, (g.bound, g.links))) (λ p. record { ids = p.0; bound = p.1.0; links = p.1.1 }) (λ _. refl)
 
+-- whether the list has x
+abbrev pub has : List ℕ → ℕ → Bool
+has xs x = list_any (λ y. y == x) xs
+
 abbrev pub IsNode : Graph → ℕ → Type 0
 IsNode g i = Contains g.ids i
+
+-- the same as a test
+abbrev pub is_node : Graph → ℕ → Bool
+is_node g i = has g.ids i
 
 abbrev pub are_linked : Graph → ℕ → ℕ → Bool
 are_linked g a b = set.contains g.links (a, b)

@@ -1,10 +1,10 @@
 -- A graph kept as rows: for each index of an id, the indexes of its neighbours.
 use Rattle.std.specs.Prelude.{◌≡◌, ℕ, ◌<◌, ◌≤◌, Bool, true, false, List, [], All, Option, None, map, length, position}
 use Rattle.std.specs.Prelude.{slice_index, slice_index_or, ◌==◌, ◌*◌}
-use Rattle.std.specs.List.{list_any, flat_map, range_with_len}
+use Rattle.std.specs.List.{flat_map, range_with_len}
 use Rattle.std.specs.List.Sorted.{IsStrictlyIncreasing}
 use Rattle.std.specs.FinSet as set
-use Rattle.topology.specs.Graph.{Graph, pair_cmp, IsConnected}
+use Rattle.topology.specs.Graph.{Graph, pair_cmp, IsConnected, has}
 use Rattle.topology.specs.Id.{IsId}
 use Rattle.topology.specs.declared.fault.TheConstants.{MAX_NODES}
 
@@ -14,7 +14,7 @@ row_at rows i = slice_index_or rows i []
 
 -- whether the row of i has j
 abbrev pub near_has : List (List ℕ) → ℕ → ℕ → Bool
-near_has rows i j = list_any (λ y. y == j) (row_at rows i)
+near_has rows i j = has (row_at rows i) j
 
 -- the id at i with each id of its row
 abbrev pub pairs_at : List ℕ → List (List ℕ) → ℕ → List (ℕ × ℕ)

@@ -1,6 +1,6 @@
 -- What a breadth-first search leaves: at each index its distance to the start, or n where no walk leads there.
 use Rattle.std.specs.Prelude.{◌≡◌, ◌≢◌, ℕ, ◌+◌, ◌<◌, ◌≤◌, true, false, ◌⊎◌, List, length, count_by, slice_index, ◌==◌}
-use Rattle.topology.specs.Building.{has}
+use Rattle.topology.specs.Graph.{has}
 use Rattle.topology.specs.Rows.{near_has}
 
 -- how many indexes have no mark yet

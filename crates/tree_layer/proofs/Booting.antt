@@ -7,9 +7,9 @@ use Rattle.std.proofs.lemmas.Bool.{cases_lt}
 use Rattle.std.proofs.lemmas.List.{get_or_default, get_or-map, length-map, get_or_append_left}
 use Rattle.std.proofs.Math.Seq.{get_or-append_seam}
 use Rattle.std.proofs.lemmas.List.Kept.{AllPairs-from_increasing}
-use Rattle.topology.specs.Building.{has}
 use Rattle.topology.proofs.Membership.{has-Contains, Contains-has, has-filter}
 use Rattle.topology.specs.Graph.{Graph, IsGraph, IsConnected, IsNode, AreLinked, are_linked, neighbours_of, greatest}
+use Rattle.topology.specs.Graph.{has}
 use Rattle.topology.specs.Graph.{IsWalk, IsDistance, IsLeader}
 use Rattle.tree_layer.specs.declared.regs.TreeRegs.{TreeRegs}
 use Rattle.tree_layer.specs.BootTree.{IsNearer, IsBooted, AreDistances, IsFirstNearer, NoneNearer}

@@ -2,7 +2,7 @@ use Rattle.std.proofs.Common.{◌==◌, cond, ℕ, List, map, subst, sym, ap, ap
 use Rattle.std.specs.List.Sorted.{IsStrictlyIncreasing}
 use Rattle.wave_layer.specs.declared.regs.WaveRegs.{WaveRegs}
 use Rattle.reset_model.specs.declared.plan.Seen.TheVariants.{Tree, Wave}
-use Rattle.reset_model.specs.LocalSteps.{cases_of, first_answer}
+use Rattle.reset_model.specs.LocalSteps.{cases_of, first_fired}
 use Rattle.reset_model.specs.Steps.{named_node}
 use Rattle.reset_model.specs.View.{near_waves, tree_view, wave_view}
 use Rattle.reset_model.proofs.Deciding.{kept_ascend, wave_view-parts}
@@ -30,13 +30,13 @@ returns g c =
     c.deref.ensures.value ∙ c.in_ok-children.ensures
     ∙ ap₂ (λ i ns. near_waves (filter (λ n. n.tree.father == i) ns)) c.id.ensures c.neighbours.ensures.value in
     let layer =
-    ap (λ b. first_answer (cond b (Tree (tree_view v)) (Wave (wave_view v))) (named_node e) (cases_of e)) c.requires
+    ap (λ b. first_fired (cond b (Tree (tree_view v)) (Wave (wave_view v))) (named_node e) (cases_of e)) c.requires
     in
     let view =
     wave_view-parts v c.in-Some.wave _ _ _ c.in-Some.ensures.value c.wave.ensures c.father.ensures children in
-    let rows = ap₂ (λ n cs. first_answer (Wave c.in-Some.wave) n cs) (sym c.named.ensures) (sym c.cases.ensures) in
+    let rows = ap₂ (λ n cs. first_fired (Wave c.in-Some.wave) n cs) (sym c.named.ensures) (sym c.cases.ensures) in
     record {
       exact = exact_of _ _
-          (layer ∙ ap (λ w. first_answer (Wave w) (named_node e) (cases_of e)) view ∙ rows
-          ∙ sym c.first_answer.ensures);
+          (layer ∙ ap (λ w. first_fired (Wave w) (named_node e) (cases_of e)) view ∙ rows
+          ∙ sym c.first_fired.ensures);
     }

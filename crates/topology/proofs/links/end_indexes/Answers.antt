@@ -1,7 +1,7 @@
 use Rattle.std.proofs.Common.{◌≡◌, ◌==◌, true, false, ℕ, List, Some, None, not, get_or, position, ap, refl, sym, ◌∙◌}
 use Rattle.std.proofs.lemmas.Bool.{eqb-true}
 use Rattle.std.proofs.lemmas.List.Quantifiers.{position-Some}
-use Rattle.topology.specs.Building.{has}
+use Rattle.topology.specs.Graph.{has}
 use Rattle.topology.specs.Changing.{IsIndexOf}
 use Rattle.topology.proofs.Ascending.{member_by_index}
 use Rattle.topology.proofs.links.end_indexes.Goals as goal

@@ -2,7 +2,7 @@ use Rattle.std.proofs.Common.{◌≡◌, true, false, All, get_or, take, subst, 
 use Rattle.std.proofs.lemmas.Bool.{both_ways}
 use Rattle.std.proofs.lemmas.List.{take_all}
 use Rattle.std.proofs.lemmas.List.Elements.{All-weaker}
-use Rattle.topology.specs.Building.{has}
+use Rattle.topology.specs.Graph.{has}
 use Rattle.topology.specs.Faults.{ends_of}
 use Rattle.topology.proofs.Ascending.{member_by_index}
 use Rattle.topology.proofs.FirstItems.{first_end, second_end, both_ends}

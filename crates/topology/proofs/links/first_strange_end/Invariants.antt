@@ -1,5 +1,5 @@
 use Rattle.std.proofs.Common.{◌≡◌, true, All, take}
-use Rattle.topology.specs.Building.{has}
+use Rattle.topology.specs.Graph.{has}
 use Rattle.topology.specs.Faults.{ends_of}
 use Rattle.topology.proofs.links.first_strange_end.Given as goal
 

@@ -1,7 +1,8 @@
 use Rattle.std.proofs.Common.{◌≡◌, ℕ, ◌+◌, true, false, List, Contains, min, max, length, take, drop, get_or, sym, ap₂}
 use Rattle.std.proofs.Common.{subst, subst₂, ◌∙◌}
 use Rattle.std.proofs.lemmas.List.{take_more, length-map}
-use Rattle.topology.specs.Building.{has, Links, AreJoined}
+use Rattle.topology.specs.Graph.{has}
+use Rattle.topology.specs.Building.{Links, AreJoined}
 use Rattle.topology.specs.Faults.{ordered_links, IsFirstRepeat}
 use Rattle.topology.specs.declared.fault.TopoFault.TheVariants.{TwiceLink}
 use Rattle.topology.proofs.FirstItems.{ends_known, first_repeat_at}

@@ -1,7 +1,7 @@
 use Rattle.std.proofs.Common.{◌≡◌, None, ap, sym, ◌∙◌}
 use Rattle.topology.specs.Graph.{Graph}
 use Rattle.node_threads.specs.Closed.{first_missing}
-use Rattle.node_threads.proofs.Gathering.{decides, seated}
+use Rattle.node_threads.proofs.Collecting.{decides, seated}
 use Rattle.node_threads.proofs.locked.Locked.close_in.Goals as goal
 
 pub returns-in-Ok : goal.returns-in-Ok

@@ -3,7 +3,7 @@ use Rattle.reset_model.specs.declared.step.Done.TheVariants.{Did}
 use Rattle.reset_model.specs.Planned.{after_effect}
 use Rattle.reset_model.specs.View.{IsSeen}
 use Rattle.reset_model.proofs.Deciding.{put-planned}
-use Rattle.reset_machine.proofs.StepClauses.{answer_step}
+use Rattle.reset_machine.proofs.StepClauses.{done_step}
 use Rattle.reset_machine.proofs.StepShadows.{sound_step}
 use Rattle.reset_machine.proofs.Writing.{at_id}
 use Rattle.reset_machine.proofs.config.Config.put_plan.Goals as goal
@@ -18,7 +18,7 @@ returns-clause-ok g c =
     let is =
     put-planned app now c.args.plan.view c.args.plan.event c.into_effect.result c.args.plan.reply seen
     c.into_effect.ensures ∙ ap₂ (λ d r. Ok (d, r)) (sym written) (sym c.reply-reply.ensures) in (
-      answer_step app now c.write.new.self c.args.plan.event c.lemma_is_graph.ensures.graph
+      done_step app now c.write.new.self c.args.plan.event c.lemma_is_graph.ensures.graph
           c.lemma_is_graph.ensures.shaped
           (Ok c.reply-reply.result) is,
       c.reply-reply.ensures,

@@ -1,6 +1,6 @@
 use Rattle.std.proofs.Common.{[], ◌∷◌}
 use Rattle.reset_model.specs.declared.step.Done.TheVariants.{Did}
-use Rattle.reset_machine.proofs.StepClauses.{act_is_outcome, answer_refused, answer_reply, answer_step, no_act}
+use Rattle.reset_machine.proofs.StepClauses.{act_is_outcome, done_refused, done_reply, done_step, no_act}
 use Rattle.reset_machine.proofs.StepClauses.{row_is_outcome}
 use Rattle.reset_machine.proofs.StepShadows.{sound_step}
 use Rattle.reset_machine.proofs.config.Config.step.Goals as goal
@@ -20,9 +20,9 @@ returns-in-Act g c =
     act_is_outcome app now new e graph c.in-Act.at c.in-Act.case c.in-Act.with c.in-Act.is r c.act.ensures.outcome
     in
     record {
-      ok = answer_step app now new e graph shaped r is;
-      reply = answer_reply app now new e graph shaped r is;
-      err = answer_refused app now new e graph shaped r is;
+      ok = done_step app now new e graph shaped r is;
+      reply = done_reply app now new e graph shaped r is;
+      err = done_refused app now new e graph shaped r is;
       kept = c.act.ensures.kept;
       lawful = sound_step app Inv now new e graph whole shaped
           (λ reply run sound inv. c.invariants.ensures.kept now new (e ∷ []) (Did reply ∷ []) graph whole shaped sound
@@ -45,9 +45,9 @@ returns-in_default g c =
     let shaped = c.lemma_is_graph.ensures.shaped in
     let is = row_is_outcome app now new e graph (no_act e c.in_default.not-Act) r c.fire.ensures.outcome in
     record {
-      ok = answer_step app now new e graph shaped r is;
-      reply = answer_reply app now new e graph shaped r is;
-      err = answer_refused app now new e graph shaped r is;
+      ok = done_step app now new e graph shaped r is;
+      reply = done_reply app now new e graph shaped r is;
+      err = done_refused app now new e graph shaped r is;
       kept = c.fire.ensures.kept;
       lawful = sound_step app Inv now new e graph whole shaped
           (λ reply run sound inv. c.invariants.ensures.kept now new (e ∷ []) (Did reply ∷ []) graph whole shaped sound

@@ -1,4 +1,4 @@
--- What is gathered of the seats, where each node has one of them.
+-- What is collected of the seats, where each node has one of them.
 use Rattle.std.proofs.Common.{◌≡◌, ℕ, suc, ◌+◌, ◌<◌, ◌≤◌, ◌==◌, ◌&&◌, ◌||◌, Bool, true, false, not}
 use Rattle.std.proofs.Common.{All, Contains, List, [], ◌∷◌, ◌++◌, append_assoc, append-nil}
 use Rattle.std.proofs.Common.{◌≢◌, IfErr, OnOk, Result, Ok, Err}
@@ -11,7 +11,7 @@ use Rattle.std.proofs.lemmas.Bool.{eq-eqb}
 use Rattle.std.proofs.lemmas.List.{get_or_default}
 use Rattle.std.proofs.lemmas.List.Elements.{All-map}
 use Rattle.std.proofs.lemmas.List.Filters.{length-filter_both}
-use Rattle.topology.specs.Building.{has}
+use Rattle.topology.specs.Graph.{has}
 use Rattle.topology.proofs.Ascending.{rises}
 use Rattle.topology.proofs.Membership.{Contains-has, has-Contains, has-filter}
 use Rattle.reset_model.proofs.FirstFound.{find-none}
@@ -119,8 +119,8 @@ as_many ids seats up all = omega (
 
 -- ---- the shares of the seats, put together
 
--- what was gathered so far of the seats, and what is left
-pub record IsGathered (parts amount : ℕ) (lists : List NodeList) (rest seats : List SeatView) : Type 0 where
+-- what was collected so far of the seats, and what is left
+pub record IsCollected (parts amount : ℕ) (lists : List NodeList) (rest seats : List SeatView) : Type 0 where
   pub has_parts : parts ≡ 1 + length lists
   pub counts : amount ≡ sum_by (λ l. length l.1) lists
   pub whole : lists ++ map list_of rest ≡ map list_of seats
@@ -179,19 +179,19 @@ pub left_over : (lists : List NodeList) (s : SeatView) (rest seats : List SeatVi
 left_over lists s rest seats whole =
     omega (arith, ap length whole, length-append lists (map list_of (s ∷ rest)), length-map seats)
 
-pub gathered_first : (parts amount : ℕ) (lists : List NodeList) (rest seats : List SeatView) → parts ≡ 1 → amount ≡ 0
-    → lists ≡ [] → rest ≡ seats → IsGathered parts amount lists rest seats
-gathered_first parts amount lists rest seats one none empty all = rw empty (record {
+pub collected_first : (parts amount : ℕ) (lists : List NodeList) (rest seats : List SeatView) → parts ≡ 1 → amount ≡ 0
+    → lists ≡ [] → rest ≡ seats → IsCollected parts amount lists rest seats
+collected_first parts amount lists rest seats one none empty all = rw empty (record {
   has_parts = one;
   counts = none;
   whole = ap (map list_of) all;
 })
 
-pub gathered_next : (parts amount more added : ℕ) (lists longer : List NodeList) (s : SeatView)
+pub collected_next : (parts amount more added : ℕ) (lists longer : List NodeList) (s : SeatView)
     (before rest seats : List SeatView) → before ≡ s ∷ rest → longer ≡ lists ++ list_of s ∷ [] → more ≡ parts + 1
-    → added ≡ amount + length s.receipts → IsGathered parts amount lists before seats
-    → IsGathered more added longer rest seats
-gathered_next parts amount more added lists longer s before rest seats step put one plus so_far =
+    → added ≡ amount + length s.receipts → IsCollected parts amount lists before seats
+    → IsCollected more added longer rest seats
+collected_next parts amount more added lists longer s before rest seats step put one plus so_far =
     let whole : lists ++ map list_of (s ∷ rest) ≡ map list_of seats =
     subst (λ xs. lists ++ map list_of xs ≡ map list_of seats) step so_far.whole in
     rw put (record {
@@ -206,9 +206,9 @@ nothing : (xs : List SeatView) → length xs ≡ 0 → xs ≡ []
 nothing [] none = refl
 nothing (x ∷ xs) none = absurd (omega (arith, none))
 
-pub gathered_all : (parts amount : ℕ) (lists : List NodeList) (rest seats : List SeatView) → length lists ≡ length seats
-    → IsGathered parts amount lists rest seats → lists ≡ map list_of seats
-gathered_all parts amount lists rest seats same so_far =
+pub collected_all : (parts amount : ℕ) (lists : List NodeList) (rest seats : List SeatView) → length lists ≡ length seats
+    → IsCollected parts amount lists rest seats → lists ≡ map list_of seats
+collected_all parts amount lists rest seats same so_far =
     let none : length rest ≡ 0 = omega (
       arith,
       same,

@@ -4,14 +4,14 @@ use Rattle.std.proofs.lemmas.List.{length-append}
 use Rattle.reset_model.specs.Configuration.{Configuration}
 use Rattle.node_threads.specs.Closed.{AreSeatLists, list_of}
 use Rattle.node_threads.specs.Seats.{SeatView}
-use Rattle.node_threads.proofs.Gathering.{closes, gathered_all, gathered_first, gathered_next, left_over}
-use Rattle.node_threads.proofs.closing.gathered.Goals as goal
+use Rattle.node_threads.proofs.Collecting.{closes, collected_all, collected_first, collected_next, left_over}
+use Rattle.node_threads.proofs.closing.outcome_of_seats.Goals as goal
 
 pub loop-seat-init : goal.loop-seat-init
 loop-seat-init g c =
     let none = c.requires.room.0 in
     let gives = c.into_iter-seat-iterator.ensures.into_iter_gives in (
-      gathered_first _ _ _ _ _ c.requires.last.0 c.requires.last.1 none gives.0,
+      collected_first _ _ _ _ _ c.requires.last.0 c.requires.last.1 none gives.0,
       omega (arith, c.requires.last.0, c.lemma_one_more.ensures),
       omega (arith, gives.1, ap length none, c.args.seats.ok.0),
       c.requires.room.1,
@@ -22,7 +22,7 @@ loop-seat-preserved g c =
     let l = c.loop-seat in
     let steps = c.in-Some.ensures.steps in
     let put = c.push_reserved.ensures.items ∙ ap (λ (s : SeatView). l.lists.items ++ list_of s ∷ []) c.seat.view_is in (
-      gathered_next _ _ _ _ l.lists.items _ c.in-Some.seat _ _ c.args.seats.items steps.0 put (c.merge.ensures.parts
+      collected_next _ _ _ _ l.lists.items _ c.in-Some.seat _ _ c.args.seats.items steps.0 put (c.merge.ensures.parts
           ∙ ap (λ k. l.all.parts + k) c.seat.invariant.0) (c.merge.ensures.amount
           ∙ ap (λ k. l.all.amount + k) (c.seat.invariant.1 ∙ ap (λ (s : SeatView). length s.receipts) c.seat.view_is))
           l.invariant.0,
@@ -53,7 +53,7 @@ returns-clause-closed g c =
     (subst (λ (k : Configuration g.row.P-Local.Denot). IsStrictlyIncreasing k.graph.ids) c.config.ensures
     c.lemma_is_graph.ensures.graph.ascending)
     (subst (λ m. AreSeatLists app from_text b m (map list_of seats)) c.lemma_is_locked.ensures.mark c.requires.seats)
-    (gathered_all _ _ _ _ _ same l.invariant.0) l.invariant.0.has_parts l.invariant.0.counts l.invariant.1
+    (collected_all _ _ _ _ _ same l.invariant.0) l.invariant.0.has_parts l.invariant.0.counts l.invariant.1
     c.lemma_one_more.ensures c.audit.ensures.whole
 
 pub returns-clause-lists : goal.returns-clause-lists
@@ -64,4 +64,4 @@ returns-clause-lists g c =
       c.in-None.ensures.steps.0,
       l.invariant.2,
     ) in
-    gathered_all _ _ _ _ _ same l.invariant.0
+    collected_all _ _ _ _ _ same l.invariant.0
