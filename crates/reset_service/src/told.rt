@@ -74,10 +74,7 @@ fn put_threads<W: Write>(
     ensures err { OnErr result
         (AppendsPrefix (W.contents out.old) (W.contents out.new) (threads_line nodes entries reports)) }
 {
-    put_parts(
-        out,
-        &[Part::Text(b"threads "), Part::Number(nodes as u64)],
-    )?;
+    put_parts(out, &[Part::Text(b"threads "), Part::Number(nodes as u64)])?;
     put_counts(out, b" nodes ", entries, reports)
 }
 
