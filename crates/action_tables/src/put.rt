@@ -27,11 +27,28 @@ impl Error for WriteFault {}
 ///
 /// A call that fails or takes no byte is a fault, whatever its reason. It ends the writing, and
 /// nothing is tried again, so that no byte is written twice or out of its turn.
+// Nearly each piece is taken whole by the first call, of which the compiler knows how long the piece is.
 #[inline(always)]
 pub fn put_bytes<W: Write>(out: &mut W, bytes: &[u8]) -> Result<(), WriteFault>
     ensures ok { OnOk result (Appends (W.contents out.old) (W.contents out.new) bytes.now) }
     ensures err { OnErr result (AppendsPrefix (W.contents out.old) (W.contents out.new) bytes.now) }
     ensures none { bytes.now ≡ [] → IsOk result }
+{
+    if bytes.is_empty() {
+        return Ok(());
+    }
+    match out.write(bytes) {
+        Ok(0) | Err(_) => Err(WriteFault),
+        Ok(count) if count == bytes.len() => Ok(()),
+        Ok(count) => put_rest(out, &bytes[count..]),
+    }
+}
+
+// Writes the bytes that the first call left.
+#[inline(never)]
+fn put_rest<W: Write>(out: &mut W, bytes: &[u8]) -> Result<(), WriteFault>
+    ensures ok { OnOk result (Appends (W.contents out.old) (W.contents out.new) bytes.now) }
+    ensures err { OnErr result (AppendsPrefix (W.contents out.old) (W.contents out.new) bytes.now) }
 {
     let mut rest = bytes;
     while !rest.is_empty() {

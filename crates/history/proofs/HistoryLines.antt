@@ -1,13 +1,12 @@
 -- The line of an entry is its own, and has no line feed.
-use Rattle.std.proofs.Common.{◌≡◌, ℕ, ◌<◌, ◌^◌, nat_lt, true, true≢false, List, [], ◌∷◌, get_or, refl, sym, ap, ◌∙◌}
+use Rattle.std.proofs.Common.{◌≡◌, ℕ, true, true≢false, List, [], ◌∷◌, get_or, refl, sym, ap, ◌∙◌}
 use Rattle.std.proofs.Common.{arith}
-use Rattle.std.specs.Prelude.{codes, Some, None}
+use Rattle.std.specs.Prelude.{codes}
 use Rattle.std.specs.Char.{is_ascii_graphic}
 use Rattle.std.specs.Fmt.{decimal}
-use Rattle.std.specs.List.{AllByRecursion, join_with_byte, list_all}
+use Rattle.std.specs.List.{list_all}
 use Rattle.std.proofs.lemmas.Bool.{and_parts}
 use Rattle.action_tables.specs.Cuts.{HasNo}
-use Rattle.action_tables.specs.LawsOfCuts.{HasNo-append, HasNo-decimal}
 use Rattle.wave_layer.specs.Names.{phase_name}
 use Rattle.wave_layer.specs.declared.regs.Phase.{Phase}
 use Rattle.wave_layer.specs.declared.regs.Phase.TheVariants.{Normal, Initiate, Reset}
@@ -16,6 +15,7 @@ use Rattle.reset_model.specs.declared.event.Event.{Event}
 use Rattle.reset_model.specs.declared.event.Event.TheVariants.{Claim, Follow, Adopt, Request, Relay, Open, Join, Finish}
 use Rattle.reset_model.specs.declared.event.Event.TheVariants.{Mend, Act}
 use Rattle.reset_model.proofs.EventLines.{one_event}
+use Rattle.reset_model.proofs.PlainLines.{event_plain, joined, letters, number}
 use Rattle.fault_inject.specs.FaultText as fault
 use Rattle.fault_inject.specs.declared.fault.Fault.{Fault}
 use Rattle.fault_inject.specs.declared.fault.Fault.TheVariants.{SetTree, SetWave, SetLocal, LinkDown, LinkUp}
@@ -25,12 +25,6 @@ use Rattle.history.specs.declared.entry.Entry.TheVariants.{Step, Disturbed}
 use Rattle.history.specs.HistoryText.{Fits, IsPrintable, entry_line}
 
 -- ---- no line feed
-
-pub letters : (word : List ℕ) → list_all (λ b. nat_lt 10 b) word ≡ true → HasNo 10 word
-letters [] h = tt
-letters (b ∷ word) h =
-    let parts = and_parts (nat_lt 10 b) (list_all (λ b. nat_lt 10 b) word) h in
-    ((λ is. true≢false (sym parts.0 ∙ ap (nat_lt 10) is)), letters word parts.1)
 
 printed : (word : List ℕ) → list_all is_ascii_graphic word ≡ true → HasNo 10 word
 printed [] h = tt
@@ -44,38 +38,6 @@ printed_word [] h = tt
 printed_word (b ∷ word) h =
     let parts = and_parts (is_ascii_graphic b) (list_all is_ascii_graphic word) h in
     ((λ is. true≢false (sym parts.0 ∙ ap is_ascii_graphic is)), printed_word word parts.1)
-
-pub number : (n : ℕ) → n < 2 ^ 32 → HasNo 10 (decimal n)
-number n small = HasNo-decimal 10 n (λ digit. omega (arith, digit.0)) (omega (arith, small))
-
-joined : (word : List ℕ) (words : List (List ℕ)) → AllByRecursion (HasNo 10) (word ∷ words)
-    → HasNo 10 (join_with_byte 32 (word ∷ words))
-joined word [] all = all.0
-joined word (next ∷ words) all =
-    HasNo-append 10 word (32 ∷ join_with_byte 32 (next ∷ words)) all.0
-    ((λ e. absurd (omega (arith, e))), joined next words all.1)
-
-event_plain : (e : Event) → event.Fits e → HasNo 10 (event.event_line e)
-event_plain (Claim at) h = joined (codes "claim") (decimal at ∷ []) (letters (codes "claim") refl, (number at h, tt))
-event_plain (Follow at) h = joined (codes "follow") (decimal at ∷ []) (letters (codes "follow") refl, (number at h, tt))
-event_plain (Adopt at from) h =
-    joined (codes "adopt") (decimal at ∷ decimal from ∷ [])
-    (letters (codes "adopt") refl, (number at h.0, (number from h.1, tt)))
-event_plain (Request at) h =
-    joined (codes "request") (decimal at ∷ []) (letters (codes "request") refl, (number at h, tt))
-event_plain (Relay at child) h =
-    joined (codes "relay") (decimal at ∷ decimal child ∷ [])
-    (letters (codes "relay") refl, (number at h.0, (number child h.1, tt)))
-event_plain (Open at) h = joined (codes "open") (decimal at ∷ []) (letters (codes "open") refl, (number at h, tt))
-event_plain (Join at) h = joined (codes "join") (decimal at ∷ []) (letters (codes "join") refl, (number at h, tt))
-event_plain (Finish at) h = joined (codes "finish") (decimal at ∷ []) (letters (codes "finish") refl, (number at h, tt))
-event_plain (Mend at) h = joined (codes "mend") (decimal at ∷ []) (letters (codes "mend") refl, (number at h, tt))
-event_plain (Act at case None) h =
-    joined (codes "act") (decimal at ∷ decimal case ∷ [])
-    (letters (codes "act") refl, (number at h.0, (number case (omega (arith, h.1)), tt)))
-event_plain (Act at case (Some j)) h =
-    joined (codes "act") (decimal at ∷ decimal case ∷ decimal j ∷ [])
-    (letters (codes "act") refl, (number at h.0, (number case (omega (arith, h.1)), (number j h.2, tt))))
 
 phase_plain : (phase : Phase) → HasNo 10 (phase_name phase)
 phase_plain Normal = letters (codes "normal") refl

@@ -14,7 +14,8 @@ use Rattle.history.specs.declared.text.BookFault.{BookFault}
 use Rattle.history.specs.declared.text.BookFault.TheVariants.{BadLine}
 use Rattle.history.specs.HistoryText.{Begins, BeginsWith, HasLine, IsReadAs, ended, entries_text, entry_line}
 use Rattle.history.specs.HistoryText.{first_line, history_text, version_line}
-use Rattle.history.proofs.HistoryLines.{entry_plain, letters, number, one_entry}
+use Rattle.reset_model.proofs.PlainLines.{letters, number}
+use Rattle.history.proofs.HistoryLines.{entry_plain, one_entry}
 
 pub same_ended : (line line' xs ys : List ℕ) → HasNo 10 line → HasNo 10 line' → ended line ++ xs ≡ ended line' ++ ys
     → SameCut line line' xs ys

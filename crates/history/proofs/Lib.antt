@@ -8,7 +8,7 @@ mod Books
 pub mod HistoryLines
 mod HistoryReadings
 mod LineCuts
-mod ReadLines
+pub mod ReadLines
 mod ShortLines
 mod KeptNetworks
 mod LatestOpenings

@@ -1,6 +1,6 @@
 -- What a history's text is read as, line by line.
 use Rattle.std.proofs.Common.{◌≡◌, ◌≢◌, ℕ, ◌+◌, ◌<◌, ◌≤◌, ◌^◌, Bool, true, false, true≢false, if◌then◌else◌, List, []}
-use Rattle.std.proofs.Common.{◌∷◌, ◌++◌, Option, None, Some, IfErr, IfOk, IfSome, OnOk, Result, Ok, Err, length, refl}
+use Rattle.std.proofs.Common.{◌∷◌, ◌++◌, Option, None, Some, IfErr, IfOk, OnOk, Result, Ok, Err, length, refl}
 use Rattle.std.proofs.Common.{sym, ap, subst, ◌∙◌, arith, Vec, Global, append_assoc, append-nil}
 use Rattle.std.specs.Prelude.{codes}
 use Rattle.std.specs.Fmt.{decimal}
@@ -21,8 +21,8 @@ use Rattle.history.specs.declared.lines.Lines.{Lines}
 use Rattle.history.specs.declared.lines.Reading.{Reading}
 use Rattle.history.specs.declared.text.BookFault.{BookFault}
 use Rattle.history.specs.declared.text.BookFault.TheVariants.{BadLine, BadVersion, TooLong, NoMemory, ReadFailed}
-use Rattle.history.specs.HistoryText.{Begins, BeginsWith, HasLine, IsPrintable, IsReadAs, ended, entries_text}
-use Rattle.history.specs.HistoryText.{entry_line, first_line, history_text, version_line}
+use Rattle.history.specs.HistoryText.{Begins, BeginsWith, HasLine, IsPrintable, IsReadAs, IsReadWhole, ended}
+use Rattle.history.specs.HistoryText.{entries_text, entry_line, first_line, history_text, version_line}
 use Rattle.history.specs.Reading.{GoesOn, HasRead, IsBadVersion, IsFaulty, IsSoFar}
 use Rattle.history.proofs.HistoryLines.{entry_plain}
 use Rattle.history.proofs.HistoryReadings.{IsStuck, same_ended, version_plain}
@@ -302,46 +302,59 @@ is_unprintable line g fits spelled not f fits' printable is =
 -- ---- what a reader gives
 
 -- all was given
-pub all_given : (Is : List ℕ → Type 0) (a b : Option (List ℕ)) (given : List ℕ) → Consumes a b given → IsAtEnd b
-    → Is given → IfSome a Is
-all_given Is None b given consumed end read = tt
-all_given Is (Some x) None given consumed end read = absurd consumed
-all_given Is (Some x) (Some y) given consumed end read =
-    subst Is (sym (consumed ∙ ap (λ t. given ++ t) end ∙ append-nil given)) read
+pub all_given : (a b : Option (List ℕ)) (given : List ℕ) → Consumes a b given → IsAtEnd b → IsReadWhole a given
+all_given None b given consumed end = tt
+all_given (Some x) None given consumed end = absurd consumed
+all_given (Some x) (Some y) given consumed end = sym (consumed ∙ ap (λ t. given ++ t) end ∙ append-nil given)
 
 -- what was given is a fault however it goes on
-pub some_given : (a b : Option (List ℕ)) (text given : List ℕ) (fault : BookFault) → Consumes a b given
-    → IsFaulty (text ++ given) fault
-    → IfSome a (λ rest. IsReadAs (text ++ rest) (Err fault))
-some_given None b text given fault consumed faulty = tt
-some_given (Some x) None text given fault consumed faulty = absurd consumed
-some_given (Some x) (Some y) text given fault consumed faulty =
-    subst (λ t. IsReadAs t (Err fault))
-    (append_assoc text given y ∙ ap (λ t. text ++ t) (sym consumed)) (faulty y)
+pub some_given : (a b : Option (List ℕ)) (given : List ℕ) (fault : BookFault) (reading : Reading)
+    → Consumes a b given
+    → ((before : List Entry) (text : List ℕ) → HasRead reading before text → IsFaulty (text ++ given) fault)
+    → (rest : List ℕ) × IsReadWhole a rest
+    × ((before : List Entry) (text : List ℕ) → HasRead reading before text → IsReadAs (text ++ rest) (Err fault))
+some_given None b given fault reading consumed faulty = (
+  given,
+  tt,
+  λ before text read. subst (λ t. IsReadAs t (Err fault)) (append-nil (text ++ given)) (faulty before text read []),
+)
+some_given (Some x) None given fault reading consumed faulty = absurd consumed
+some_given (Some x) (Some y) given fault reading consumed faulty = (
+  x,
+  refl,
+  λ before text read. subst (λ t. IsReadAs t (Err fault))
+      (append_assoc text given y ∙ ap (λ t. text ++ t) (sym consumed)) (faulty before text read y),
+)
 
--- so it is of what was given before
-pub fault_given : (a b : Option (List ℕ)) (given : List ℕ) (fault : BookFault) → Consumes a b given
-    → IfSome b (λ rest. IsReadAs (given ++ rest) (Err fault)) → IfSome a (λ text. IsReadAs text (Err fault))
-fault_given None b given fault consumed read = tt
-fault_given (Some x) None given fault consumed read = absurd consumed
-fault_given (Some x) (Some y) given fault consumed read = subst (λ t. IsReadAs t (Err fault)) (sym consumed) read
+-- all that the reader has left follows what it gave
+pub whole_before : (a b : Option (List ℕ)) (given rest : List ℕ) → Consumes a b given → IsReadWhole b rest
+    → IsReadWhole a (given ++ rest)
+whole_before None b given rest consumed is = tt
+whole_before (Some x) None given rest consumed is = absurd consumed
+whole_before (Some x) (Some y) given rest consumed is = ap (λ t. given ++ t) is ∙ sym consumed
+
+-- some text is all that a reader has
+pub some_whole : (a : Option (List ℕ)) → (text : List ℕ) × IsReadWhole a text
+some_whole None = ([], tt)
+some_whole (Some x) = (x, refl)
 
 -- all entries of what was given are kept
 pub kept_ok : (a b : Option (List ℕ)) (given : List ℕ) (reading : Reading) (r : Result (Vec Entry Global) BookFault)
     → Consumes a b given → IsAtEnd b → HasRead reading [] given
     → IfOk r (λ entries. (text : List ℕ) → HasRead reading [] text → IsReadAs text (Ok entries.items))
-    → IfOk r (λ entries. IfSome a (λ text. IsReadAs text (Ok entries.items)))
+    → IfOk r (λ entries. (text : List ℕ) × IsReadWhole a text × IsReadAs text (Ok entries.items))
 kept_ok a b given reading (Ok entries) consumed end read kept =
-    all_given (λ text. IsReadAs text (Ok entries.items)) a b given consumed end (kept given read)
+    (given, all_given a b given consumed end, kept given read)
 kept_ok a b given reading (Err fault) consumed end read kept = tt
 
 pub kept_err : (a b : Option (List ℕ)) (given : List ℕ) (reading : Reading) (r : Result (Vec Entry Global) BookFault)
     → Consumes a b given → IsAtEnd b → HasRead reading [] given
     → IfErr r (λ fault. (text : List ℕ) → HasRead reading [] text → IsReadAs text (Err fault))
-    → IfErr r (λ fault. fault ≢ NoMemory → fault ≢ ReadFailed → IfSome a (λ text. IsReadAs text (Err fault)))
+    → IfErr r (λ fault. fault ≢ NoMemory → fault ≢ ReadFailed
+    → (text : List ℕ) × IsReadWhole a text × IsReadAs text (Err fault))
 kept_err a b given reading (Ok entries) consumed end read kept = tt
 kept_err a b given reading (Err fault) consumed end read kept =
-    λ memory device. all_given (λ text. IsReadAs text (Err fault)) a b given consumed end (kept given read)
+    λ memory device. (given, all_given a b given consumed end, kept given read)
 
 -- what ends at the end of its reader has read it whole
 pub read_whole : {T E : Type 0} (r : Result T E) (a : Option (List ℕ)) → IsAtEnd a → OnOk r (IsAtEnd a)

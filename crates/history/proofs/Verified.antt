@@ -1,6 +1,6 @@
 -- Entries that are played up to the first that isn't allowed where it stands.
-use Rattle.std.proofs.Common.{◌≡◌, ◌≢◌, ℕ, Bool, true, false, true≢false, sym, ◌+◌, List, [], ◌∷◌, ◌++◌, Option, None}
-use Rattle.std.proofs.Common.{Some, length, refl, ap, ◌∙◌, append_assoc, Result, Ok, Err, OnOk, IfErr, IfSome}
+use Rattle.std.proofs.Common.{◌≡◌, ◌≢◌, ℕ, true, false, true≢false, ◌+◌, List, ◌∷◌, ◌++◌, Option, None}
+use Rattle.std.proofs.Common.{Some, refl, ap, ◌∙◌, append_assoc, Result, Ok, Err, OnOk, IfErr}
 use Rattle.std.specs.Option.{is_none}
 use Rattle.std.specs.Result.{result_err}
 use Rattle.app_interface.specs.Application.{App}
@@ -9,13 +9,14 @@ use Rattle.history.specs.declared.entry.Entry.{Entry}
 use Rattle.history.specs.declared.entry.VerifyFault.{VerifyFault}
 use Rattle.history.specs.declared.entry.VerifyFault.TheVariants.{NotEnabledAt, NoMemory}
 use Rattle.history.specs.declared.player.Player.{Player}
-use Rattle.history.specs.Entries.{IsFirstRefused, entered}
+use Rattle.history.specs.Entries.{IsFirstRefused}
 use Rattle.history.specs.declared.text.BookFault.{BookFault}
 use Rattle.history.specs.declared.text.BookFault.TheVariants as book
 use Rattle.history.specs.declared.verification.ReaderFault.TheVariants as reader
-use Rattle.history.specs.HistoryText.{IsReadAs}
+use Rattle.history.specs.HistoryText.{IsReadAs, IsReadWhole}
 use Rattle.history.specs.Played.{HasPlayed, IsPlayedTo}
 use Rattle.history.specs.Verdict.{IsVerdict}
+use Rattle.history.proofs.ReadLines.{some_whole}
 
 module _ {L : Type 0} (app : App L) (from_text : List ℕ → Option L) (c : Configuration L) where
   -- what follows the first refused entry changes nothing
@@ -33,21 +34,25 @@ module _ {L : Type 0} (app : App L) (from_text : List ℕ → Option L) (c : Con
   }
 
 module _ {L : Type 0} (app : App L) (from_text : List ℕ → Option L) (c : Configuration L) where
-  -- a fault of the text is told as it is
-  text_verdict : (text : List ℕ) (fault : BookFault)
-      → (fault ≢ book.NoMemory → fault ≢ book.ReadFailed → IsReadAs text (Err fault))
-      → IsVerdict app from_text c text (Err (reader.Text fault))
-  text_verdict text (book.BadLine n) read = read (λ e. cc) (λ e. cc)
-  text_verdict text book.BadVersion read = read (λ e. cc) (λ e. cc)
-  text_verdict text book.TooLong read = read (λ e. cc) (λ e. cc)
-  text_verdict text book.NoMemory read = tt
-  text_verdict text book.ReadFailed read = tt
+  abbrev IsTold : Option (List ℕ) → BookFault → Type 0
+  IsTold a fault =
+      (text : List ℕ) × IsReadWhole a text × IsVerdict app from_text c text (Err (reader.Text fault))
 
+  -- of any text, as the fault tells nothing of it
+  untold : (a : Option (List ℕ)) (fault : BookFault)
+      → ((text : List ℕ) → IsVerdict app from_text c text (Err (reader.Text fault))) → IsTold a fault
+  untold a fault anyway = let (text, whole) = some_whole a in (text, whole, anyway text)
+
+  -- a fault of the text is told as it is
   pub fault_verdict : (a : Option (List ℕ)) (fault : BookFault)
-      → (fault ≢ book.NoMemory → fault ≢ book.ReadFailed → IfSome a (λ text. IsReadAs text (Err fault)))
-      → IfSome a (λ text. IsVerdict app from_text c text (Err (reader.Text fault)))
-  fault_verdict None fault read = tt
-  fault_verdict (Some text) fault read = text_verdict text fault read
+      → (fault ≢ book.NoMemory → fault ≢ book.ReadFailed
+      → (text : List ℕ) × IsReadWhole a text × IsReadAs text (Err fault))
+      → IsTold a fault
+  fault_verdict a (book.BadLine n) read = read (λ e. cc) (λ e. cc)
+  fault_verdict a book.BadVersion read = read (λ e. cc) (λ e. cc)
+  fault_verdict a book.TooLong read = read (λ e. cc) (λ e. cc)
+  fault_verdict a book.NoMemory read = untold a book.NoMemory (λ text. tt)
+  fault_verdict a book.ReadFailed read = untold a book.ReadFailed (λ text. tt)
 
 module _ {P L : Type 0} (app : App L) (from_text : List ℕ → Option L) (c : Configuration L) where
   -- after a fault no entry is played

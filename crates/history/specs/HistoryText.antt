@@ -1,6 +1,6 @@
 -- The texts of histories.
 use Rattle.std.specs.Prelude.{◌≡◌, ◌≢◌, ℕ, ◌+◌, ◌<◌, ◌≤◌, ◌^◌, IsTrue, All, List, [], ◌∷◌, ◌++◌, length, codes, Result}
-use Rattle.std.specs.Prelude.{Ok, Err}
+use Rattle.std.specs.Prelude.{Ok, Err, Option, IfSome}
 use Rattle.std.specs.Char.{is_ascii_graphic}
 use Rattle.std.specs.Fmt.{decimal}
 use Rattle.std.specs.List.{flat_map, list_all}
@@ -62,6 +62,10 @@ pub record Begins (text : List ℕ) (es : List Entry) (rest : List ℕ) : Type 0
   pub lines : All HasLine es
   pub few : length es ≤ 1000000
   pub spelled : text ≡ history_text es ++ rest
+
+-- the text is all that a reader had, where it tells its bytes
+abbrev pub IsReadWhole : Option (List ℕ) → List ℕ → Type 0
+IsReadWhole known text = IfSome known (λ bytes. text ≡ bytes)
 
 -- what a text is read as: the entries of the history that it is, or the first of its lines that a history can't have
 -- there

@@ -5,7 +5,7 @@ ghost use Rattle.std.specs.Prelude.{OnOk, Ok, Err, IfNone, IfSome, false};
 ghost use Rattle.std.specs.Io.KnownBytes.{Consumes, IsAtEnd};
 ghost use Rattle.history.specs.declared.entry.Entry.{Entry};
 ghost use Rattle.action_tables.specs.Cuts.{HasNo};
-ghost use Rattle.history.specs.HistoryText.{IsReadAs, ended};
+ghost use Rattle.history.specs.HistoryText.{IsReadAs, IsReadWhole, ended};
 
 use crate::book::MAX_ENTRIES;
 use crate::entry::Entry;
@@ -71,8 +71,9 @@ impl Reading {
             → HasRead self.new before (text ++ given))) }
         ensures end { result ≡ Ok false → IsAtEnd (R.remaining reader.new) × (self.new ≡ self.old) }
         ensures err { IfErr result (λ f. f ≢ BookFault.NoMemory → f ≢ BookFault.ReadFailed
-            → (before : List Entry) (text : List ℕ) → HasRead self.old before text
-            → IfSome (R.remaining reader.old) (λ rest. IsReadAs (text ++ rest) (Err f))) }
+            → (rest : List ℕ) × IsReadWhole (R.remaining reader.old) rest
+            × ((before : List Entry) (text : List ℕ) → HasRead self.old before text
+            → IsReadAs (text ++ rest) (Err f))) }
     {
         let Ok(count) = reader.read(room) else {
             return Err(BookFault::ReadFailed);

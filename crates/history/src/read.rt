@@ -1,12 +1,12 @@
 // Reading the text of a history.
 
-ghost use Rattle.std.specs.Prelude.{◌≡◌, ◌≢◌, ℕ, ◌<◌, ◌^◌, ◌↔◌, IfErr, IfNone, IfOk, IfSome, IsTrue, OnOk, Ok};
-ghost use Rattle.std.specs.Prelude.{Err};
+ghost use Rattle.std.specs.Prelude.{◌≡◌, ◌≢◌, ℕ, ◌↔◌, IfErr, IfNone, IfOk, IfSome, IsTrue, OnOk, Ok};
+ghost use Rattle.std.specs.Prelude.{Err, List};
 ghost use Rattle.std.specs.Char.{is_ascii_graphic};
 ghost use Rattle.std.specs.Io.KnownBytes.{IsAtEnd};
 ghost use Rattle.std.specs.List.{list_all};
 ghost use Rattle.history.specs.declared.entry.Entry.{Entry};
-ghost use Rattle.history.specs.HistoryText.{HasLine, IsPrintable, IsReadAs, entry_line, first_line};
+ghost use Rattle.history.specs.HistoryText.{HasLine, IsPrintable, IsReadAs, IsReadWhole, entry_line, first_line};
 ghost use Rattle.history.specs.Reading.{IsBadVersion};
 
 use crate::entry::Entry;
@@ -20,9 +20,10 @@ use std::io::Read;
 
 /// Reads a history to its end, or to the first line that it can't have.
 pub fn read_book<R: Read>(alloc: Global, reader: &mut R) -> Result<Vec<Entry>, BookFault>
-    ensures ok { IfOk result (λ entries. IfSome (R.remaining reader.old) (λ text. IsReadAs text (Ok entries.items))) }
+    ensures ok { IfOk result (λ entries. (text : List ℕ) × IsReadWhole (R.remaining reader.old) text
+        × IsReadAs text (Ok entries.items)) }
     ensures err { IfErr result (λ f. f ≢ BookFault.NoMemory → f ≢ BookFault.ReadFailed
-        → IfSome (R.remaining reader.old) (λ text. IsReadAs text (Err f))) }
+        → (text : List ℕ) × IsReadWhole (R.remaining reader.old) text × IsReadAs text (Err f)) }
     ensures end { OnOk result (IsAtEnd (R.remaining reader.new)) }
 {
     let mut reading = Reading::new(alloc);

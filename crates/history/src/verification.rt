@@ -1,6 +1,6 @@
 // Whether entries are a history.
 
-ghost use Rattle.std.specs.Prelude.{◌≡◌, [], length, IfOk, IfErr, IfSome, IsSome, List, OnOk, Some, Result, ℕ};
+ghost use Rattle.std.specs.Prelude.{◌≡◌, [], length, IfOk, IfErr, IsSome, List, OnOk, Some, Result, ℕ};
 ghost use Rattle.std.specs.Io.KnownBytes.{IsAtEnd};
 ghost use Rattle.reset_model.specs.Configuration.{Configuration};
 ghost use Rattle.history.specs.declared.entry.Report.{Report};
@@ -8,6 +8,7 @@ ghost use Rattle.history.specs.declared.entry.Summary.{Summary};
 ghost use Rattle.history.specs.declared.verification.ReaderFault.{ReaderFault};
 ghost use Rattle.history.specs.declared.entry.Entry.{Entry};
 ghost use Rattle.history.specs.Entries.{IsFirstRefused, replayed};
+ghost use Rattle.history.specs.HistoryText.{IsReadWhole};
 ghost use Rattle.history.specs.Played.{HasVerified};
 ghost use Rattle.history.specs.Reading.{HasRead};
 ghost use Rattle.history.specs.Reports.{reports_of};
@@ -48,7 +49,8 @@ pub fn verify_reader<P: Application, R: Read>(
     opening: Config<P>,
     reader: &mut R,
 ) -> Result<Summary, ReaderFault>
-    ensures told { IfSome (R.remaining reader.old) (λ text. IsVerdict P.app P.from_text opening text result) }
+    ensures told { (text : List ℕ) × IsReadWhole (R.remaining reader.old) text
+        × IsVerdict P.app P.from_text opening text result }
     ensures end { OnOk result (IsAtEnd (R.remaining reader.new)) }
 {
     let mut verifier = Verifier::new(alloc, opening);

@@ -1,7 +1,7 @@
 // The lines of events.
 
 use action_tables::WriteFault;
-use reset_machine::{Event, read_event, split_word, write_event};
+use reset_machine::{Event, read_event, split_event, split_word, write_event};
 use std::test::Fail;
 use test_devices::{FailingWriter, Fault};
 
@@ -49,6 +49,15 @@ fn cuts_at_the_first_space(rt: HostRuntime) {
     assert_eq!(rt; split_word(b"  a "), Some(cut));
     assert_eq!(rt; split_word(b"show"), None);
     assert_eq!(rt; split_word(b""), None);
+}
+
+#[test]
+fn splits_off_the_line_of_an_event(rt: HostRuntime) {
+    let relay = Event::Relay { at: 2, child: 1 };
+    let split = (relay, b"open 3\n".as_slice());
+    assert_eq!(rt; split_event(b"relay 2 1\nopen 3\n"), Some(split));
+    assert_eq!(rt; split_event(b"relay 2 1"), None);
+    assert_eq!(rt; split_event(b"relay 2\n1\n"), None);
 }
 
 #[test]

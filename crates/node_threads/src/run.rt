@@ -6,6 +6,7 @@ ghost use denote.Param.{param};
 ghost use denote.Param.Send.{IsSync};
 ghost use Rattle.topology.specs.Graph.{IsNode};
 ghost use Rattle.node_threads.specs.Closed.{IsClosed};
+ghost use Rattle.node_threads.specs.Locked.{WasLocked};
 ghost use Rattle.node_threads.specs.contracts.sharing.Shared.{the_row};
 
 use crate::closing::{CloseFault, Outcome, close};
@@ -81,7 +82,10 @@ pub fn run_nodes<P: Application, G: Gate + Sync, R: Threads + Wait + Sync>(
     ensures many { IfErr result (λ e. e.cause ≡ RunCause.TooManyForThreads → 64 < length book.config.graph.ids) }
     ensures back { IfErr result (λ e. (e.cause ≡ RunCause.StrangeNode → e.book ≡ book)
         × (e.cause ≡ RunCause.TooManyForThreads → e.book ≡ book)) }
+    ensures stands { IfErr result (λ e. WasLocked P.app P.from_text (length book.entries)
+        (length book.config.graph.ids) (λ b. e.book ≡ b)) }
 {
+    lemma_stands(&book);
     if !is_there(&book, selected) {
         let cause = RunCause::StrangeNode;
         return Err(RunFault { cause, book });
@@ -120,10 +124,12 @@ fn run_round<L: Round + Send + Sync, P: Application, G: Gate + Sync, R: Threads 
     requires one_more { L.parts ≡ L.seats + 1 }
     requires mark { length book.entries ≡ L.mark }
     requires nodes { length book.config.graph.ids ≡ L.seats }
+    requires stands { WasLocked P.app P.from_text L.mark L.seats (λ b. book ≡ b) }
     ensures closed { IfOk result (λ o. IsClosed P.app P.from_text o.book L.mark o.seats.items) }
     ensures strange { IfErr result (λ e. e.cause ≢ RunCause.StrangeNode) }
     ensures many { IfErr result (λ e. e.cause ≡ RunCause.TooManyForThreads → 64 < L.seats) }
     ensures back { IfErr result (λ e. e.cause ≡ RunCause.TooManyForThreads → e.book ≡ book) }
+    ensures stands { IfErr result (λ e. WasLocked P.app P.from_text L.mark L.seats (λ b. e.book ≡ b)) }
 {
     let (shared, seats) = match share::<L, P>(alloc, blank, book) {
         Ok(both) => both,
@@ -161,6 +167,14 @@ fn run_round<L: Round + Send + Sync, P: Application, G: Gate + Sync, R: Threads 
             Err(RunFault { cause, book })
         }
     }
+}
+
+// A book that was never under a lock stands as one that lay there, with no entry since.
+fn lemma_stands<P: Application>(book: &Book<P>)
+    ensures { WasLocked P.app P.from_text (length book.now.entries) (length book.now.config.graph.ids)
+        (λ b. book.now ≡ b) }
+{
+    book.lemma_is_book();
 }
 
 // A fault of sharing as a run tells it.

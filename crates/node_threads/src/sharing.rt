@@ -92,17 +92,21 @@ fn seat_all<L: Round>(
 
 impl<L: Round, P: Application> Shared<L, P> {
     // The book as it stands.
-    pub(crate) fn into_book(self) -> Book<P> {
+    pub(crate) fn into_book(self) -> Book<P>
+        ensures { WasLocked P.app P.from_text L.mark L.seats (λ b. result ≡ b) }
+    {
         let Shared {
             locked,
             last: _,
             cut: _,
         } = self;
+        let locked = locked.into_inner();
+        locked.lemma_is_locked();
         let Locked {
             book,
             mark: _,
             tally: _,
-        } = locked.into_inner();
+        } = locked;
         book
     }
 

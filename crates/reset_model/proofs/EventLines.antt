@@ -115,7 +115,7 @@ pub begun : (line : List ℕ) (kind : EventKind) (rest : List ℕ) → line ≡ 
 begun line kind rest is = ap words_of is ∙ words_of-command kind rest
 
 -- the line of an event begins with the command of its kind
-begins : (e : Event) → (kind : EventKind) × (rest : List ℕ) × (event_line e ≡ command_of kind ++ 32 ∷ rest)
+pub begins : (e : Event) → (kind : EventKind) × (rest : List ℕ) × (event_line e ≡ command_of kind ++ 32 ∷ rest)
 begins (Claim at) = (EventKind.Claim, decimal at, refl)
 begins (Follow at) = (EventKind.Follow, decimal at, refl)
 begins (Adopt at from) = (EventKind.Adopt, decimal at ++ 32 ∷ decimal from, refl)

@@ -11,6 +11,8 @@ pub mod ActionSteps
 pub mod ConfigurationSteps
 pub mod WordLines
 pub mod EventLines
+pub mod PlainLines
+pub mod EventCuts
 mod Mending
 pub mod Fathers
 mod WavePictures

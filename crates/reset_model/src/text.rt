@@ -39,6 +39,21 @@ pub fn read_event(line: &[u8]) -> Option<Event>
     event_of(kind, rest)
 }
 
+/// The event whose line, with its line feed, a text begins with, and what follows it. The end of the line is looked
+/// for behind the command alone.
+#[inline(always)]
+pub fn split_event(text: &[u8]) -> Option<(Event, &[u8])>
+    ensures found { IfSome result (λ r. text.now ≡ event_line r.0 ++ 10 ∷ r.1.now) }
+    ensures fits { IfSome result (λ r. Fits r.0) }
+    ensures only { IfNone result
+        ((e : Event) (rest : List ℕ) → Fits e → text.now ≡ event_line e ++ 10 ∷ rest → ⊥) }
+{
+    let (kind, rest) = cut_kind(text)?;
+    let (numbers, after) = cut(rest, b'\n')?;
+    let event = event_of(kind, numbers)?;
+    Some((event, after))
+}
+
 // The event of this kind whose numbers stand in what follows its command.
 fn event_of(kind: EventKind, rest: &[u8]) -> Option<Event>
     ensures found { IfSome result (λ e. command_of kind ∷ words_of rest.now ≡ event_words e) }

@@ -1,6 +1,6 @@
 -- What node threads keep is a run of the abstract machine, whose reports are true.
-use Rattle.std.proofs.Common.{◌≡◌, ◌<◌, ◌≤◌, ◌+◌, ℕ, Bool, true, false, if◌then◌else◌, nat_eq, List, [], ◌∷◌, ◌++◌}
-use Rattle.std.proofs.Common.{All, Contains, IsSome, Option, Some, None, Ok, ◌↔◌, ◌==◌, arith, length, map, refl, sym}
+use Rattle.std.proofs.Common.{◌≡◌, ◌≤◌, ◌+◌, ℕ, Bool, true, false, if◌then◌else◌, nat_eq, List, [], ◌∷◌}
+use Rattle.std.proofs.Common.{All, Contains, IsSome, Option, Some, None, ◌↔◌, arith, length, map, refl, sym}
 use Rattle.std.proofs.Common.{ap, ◌∙◌, subst, append-nil}
 use Rattle.std.proofs.lemmas.Bool.{eqb-true}
 use Rattle.std.proofs.lemmas.List.{length-append, length-map}
@@ -14,12 +14,11 @@ use Rattle.topology.specs.Graph.{Graph, IsConnected, IsGraph}
 use Rattle.topology.specs.declared.text.AppName.{AppName}
 use Rattle.topology.specs.declared.text.AppName.TheVariants.{Idle, Token, Mutex, Routes}
 use Rattle.reset_model.specs.declared.event.Event.{Event}
-use Rattle.reset_model.specs.Configuration.{Configuration, IsShaped, local_of, value_at, wave_of}
+use Rattle.reset_model.specs.Configuration.{Configuration, IsShaped, local_of, value_at}
 use Rattle.reset_model.specs.Outcome.{IsBoot}
 use Rattle.reset_model.specs.Refinement.{abstract_of}
 use Rattle.reset_model.specs.Sound.{IsSound}
 use Rattle.history.specs.Entries.{replayed}
-use Rattle.history.specs.HistoryText.{IsReadAs}
 use Rattle.history.specs.Reports.{reports_of}
 use Rattle.history.specs.Stretches.{IsIn, IsReport, IsSoundStretch, IsStretch, IsTrueReport, Stretch, steps}
 use Rattle.history.specs.declared.entry.Entry.{Entry}

@@ -1,13 +1,13 @@
 -- What drawing a history leaves.
-use Rattle.std.proofs.Common.{◌≡◌, ◌≤◌, ℕ, List, length, refl}
+use Rattle.std.proofs.Common.{◌≡◌, ◌≤◌, List, length, refl}
 use Rattle.std.proofs.lemmas.Bool.{le-ltb}
 use Rattle.reset_model.specs.Configuration.{Configuration}
 use Rattle.history.specs.Reports.{reports_of}
 use Rattle.history.specs.declared.entry.Entry.{Entry}
 use Rattle.space_time_diagram.specs.Diagram.{diagram_text}
 use Rattle.script_replay.specs.Meaning.{Meaning}
-use Rattle.reset_service.specs.Pictured.{drawing, too_many_marks_text}
-use Rattle.script_replay.specs.declared.status.Status.TheVariants.{Good, BadInput}
+use Rattle.reset_service.specs.Pictured.{drawing}
+use Rattle.script_replay.specs.declared.status.Status.TheVariants.{Good}
 
 -- entries that aren't too many are drawn
 pub drawing_few : {L : Type 0} (m : Meaning L) (c : Configuration L) (es : List Entry) → length es ≤ 2000

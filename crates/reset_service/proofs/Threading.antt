@@ -3,7 +3,7 @@ use Rattle.std.proofs.Common.{◌≡◌, ◌<◌, ◌≤◌, ℕ, suc, true, Lis
 use Rattle.std.proofs.Common.{IfOk, IsSome, length, refl, sym, ap, ◌∙◌, subst, inl, inr}
 use Rattle.std.specs.Prelude.{IsErrAnd}
 use Rattle.std.specs.List.{list_all}
-use Rattle.std.specs.Io.KnownBytes.{Appends, Keeps}
+use Rattle.std.specs.Io.KnownBytes.{Appends}
 use Rattle.std.proofs.KnownBytes.{Keeps-refl}
 use Rattle.action_tables.specs.Written.{AppendsPrefix}
 use Rattle.topology.specs.Graph.{Graph}
@@ -12,7 +12,6 @@ use Rattle.topology.specs.declared.text.AppName.{AppName}
 use Rattle.topology.specs.declared.text.ReadFault.{ReadFault}
 use Rattle.reset_model.specs.declared.event.Event.{Event}
 use Rattle.reset_model.specs.Configuration.{Configuration}
-use Rattle.reset_model.specs.Outcome.{IsBoot}
 use Rattle.history.specs.Entries.{replayed}
 use Rattle.history.specs.HistoryText.{IsReadAs}
 use Rattle.history.specs.Reports.{reports_of}
@@ -29,8 +28,8 @@ use Rattle.script_replay.specs.Meaning.{Meaning}
 use Rattle.script_replay.specs.Output.{Describes, bad_topology_text}
 use Rattle.script_replay.specs.Output.IsJudged.{bad_topology, good_topology}
 use Rattle.script_replay.specs.Stops.{IsRunStop}
-use Rattle.reset_service.specs.Threaded.{IsKept, IsKeptFrom, IsKeptOf, IsThreaded, LeavesBoth, threads_line}
-use Rattle.reset_service.specs.Threaded.{told_history, told_output, too_many_text}
+use Rattle.reset_service.specs.Threaded.{IsKept, IsKeptOf, IsThreaded, LeavesBoth, threads_line}
+use Rattle.reset_service.specs.Threaded.{told_history, told_output}
 use Rattle.reset_service.specs.Threaded.IsKept.{too_many, kept}
 use Rattle.script_replay.specs.declared.status.RunStop.{RunStop}
 use Rattle.script_replay.specs.declared.status.RunStop.TheVariants.{ReadFailed, WriteFailed, NoMemory}
@@ -38,7 +37,7 @@ use Rattle.script_replay.specs.declared.status.RunStop.TheVariants.{ThreadFailed
 use Rattle.script_replay.specs.declared.status.Status.{Status}
 use Rattle.script_replay.specs.declared.status.Status.TheVariants.{BadInput, Good}
 use Rattle.reset_service.specs.declared.told.Told.{Told}
-use Rattle.reset_service.specs.declared.told.Told.TheVariants.{BadTopology, TooManyNodes, Kept}
+use Rattle.reset_service.specs.declared.told.Told.TheVariants.{TooManyNodes}
 
 abbrev Output : Type 0
 Output = List ℕ × Status

@@ -1,16 +1,15 @@
 -- What a verification leaves, and that it writes one thing.
-use Rattle.std.proofs.Common.{◌≡◌, ◌≢◌, ◌+◌, ℕ, suc, List, [], ◌∷◌, ◌++◌, Option, Some, None, Result, Ok, Err, IfSome}
+use Rattle.std.proofs.Common.{◌≡◌, ◌≢◌, ℕ, List, Option, Result, Ok, Err}
 use Rattle.std.proofs.Common.{IsSome, length, refl, sym, ap, ap₂, ◌∙◌, subst}
-use Rattle.std.specs.Option.{option_and_then}
 use Rattle.topology.specs.Graph.{Graph}
 use Rattle.topology.specs.declared.text.AppName.{AppName}
 use Rattle.topology.specs.declared.text.AppName.TheVariants.{Idle, Token, Mutex, Routes}
-use Rattle.app_interface.specs.Application.{App}
 use Rattle.reset_model.specs.Configuration.{Configuration}
 use Rattle.reset_model.proofs.OneBoot.{one_boot}
 use Rattle.history.proofs.FirstRefused.{not_allowed, one_first_refused}
 use Rattle.history.specs.Entries.{IsFirstRefused, replayed}
-use Rattle.history.specs.HistoryText.{IsReadAs}
+use Rattle.history.specs.HistoryText.{IsReadAs, IsReadWhole}
+use Rattle.history.proofs.ReadLines.{some_whole}
 use Rattle.history.specs.Reports.{reports_of}
 use Rattle.history.specs.Verdict.{IsVerdict}
 use Rattle.history.specs.declared.entry.Entry.{Entry}
@@ -23,42 +22,44 @@ use Rattle.history.specs.declared.verification.ReaderFault.{ReaderFault}
 use Rattle.history.specs.declared.verification.ReaderFault.TheVariants.{Entries, Text}
 use Rattle.script_replay.specs.Meaning.{Meaning, idle_meaning, token_meaning, mutex_meaning, routes_meaning}
 use Rattle.script_replay.specs.Output.{Leaves}
-use Rattle.reset_service.specs.Verified.{IsVerification, IsVerified, IsVerifiedFrom, IsVerifiedOf}
+use Rattle.reset_service.specs.Verified.{IsVerification, IsVerified, IsVerifiedFrom, IsVerifiedOf, LeavesOfReader}
 use Rattle.reset_service.specs.Verified.{bad_history_text, not_enabled_text, verified_text}
 use Rattle.reset_service.specs.Verified.IsVerified.{allowed, bad_history, not_enabled}
 use Rattle.script_replay.specs.declared.status.Status.{Status}
 use Rattle.script_replay.specs.declared.status.Status.TheVariants.{BadInput, Good, NotEnabled}
 use Rattle.script_replay.specs.declared.status.RunStop.{RunStop}
-use Rattle.script_replay.proofs.Runs.{leaves_weaker}
+use Rattle.script_replay.specs.Stops.{IsInputStop}
+use Rattle.script_replay.proofs.Runs.{leaves_unread, leaves_weaker}
 use Rattle.script_replay.proofs.OneOutput.{one_judged}
 
 abbrev Output : Type 0
 Output = List ℕ × Status
 
--- ---- what is left, of the text of a reader that tells its bytes
+-- ---- what is left, of the text of a reader
 
--- said of another output
-pub known_weaker : (known : Option (List ℕ)) (O P : List ℕ → Output → Type 0) (old new : Option (List ℕ))
-    (r : Result Status RunStop)
-    → ((text : List ℕ) (o : Output) → O text o → P text o) → IfSome known (λ text. Leaves (O text) old new r)
-    → IfSome known (λ text. Leaves (P text) old new r)
-known_weaker None O P old new r f left = tt
-known_weaker (Some text) O P old new r f left = leaves_weaker (O text) (P text) old new r (f text) left
+module _ (known : Option (List ℕ)) (P : List ℕ → Output → Type 0) where
+  -- said of another output
+  pub read_weaker : (O : List ℕ → Output → Type 0) (old new : Option (List ℕ)) (r : Result Status RunStop)
+      → ((text : List ℕ) (o : Output) → O text o → P text o) → LeavesOfReader known O old new r
+      → LeavesOfReader known P old new r
+  read_weaker O old new r f (text, whole, left) = (text, whole, leaves_weaker (O text) (P text) old new r (f text) left)
 
--- whatever the text, if it has this property
-pub known_leaves : (known : Option (List ℕ)) (Is : List ℕ → Type 0) (O : Output → Type 0) (P : List ℕ → Output → Type 0)
-    (old new : Option (List ℕ)) (r : Result Status RunStop) → ((text : List ℕ) (o : Output) → Is text → O o → P text o)
-    → IfSome known Is → Leaves O old new r → IfSome known (λ text. Leaves (P text) old new r)
-known_leaves None Is O P old new r f is left = tt
-known_leaves (Some text) Is O P old new r f is left = leaves_weaker O (P text) old new r (λ o. f text o is) left
+  -- of a text that has this property
+  pub read_leaves : (Is : List ℕ → Type 0) (O : Output → Type 0) (old new : Option (List ℕ)) (r : Result Status RunStop)
+      → ((text : List ℕ) (o : Output) → Is text → O o → P text o) → (text : List ℕ) × IsReadWhole known text × Is text
+      → Leaves O old new r → LeavesOfReader known P old new r
+  read_leaves Is O old new r f (text, whole, is) left =
+      (text, whole, leaves_weaker O (P text) old new r (λ o. f text o is) left)
 
--- whatever the text
-pub known_anyway : (known : Option (List ℕ)) (O : Output → Type 0) (P : List ℕ → Output → Type 0)
-    (old new : Option (List ℕ)) (r : Result Status RunStop)
-    → ((text : List ℕ) (o : Output) → O o → P text o) → Leaves O old new r
-    → IfSome known (λ text. Leaves (P text) old new r)
-known_anyway None O P old new r f left = tt
-known_anyway (Some text) O P old new r f left = leaves_weaker O (P text) old new r (f text) left
+  -- whatever the text
+  pub read_anyway : (O : Output → Type 0) (old new : Option (List ℕ)) (r : Result Status RunStop)
+      → ((text : List ℕ) (o : Output) → O o → P text o) → Leaves O old new r → LeavesOfReader known P old new r
+  read_anyway O old new r f left =
+      let (text, whole) = some_whole known in (text, whole, leaves_weaker O (P text) old new r (f text) left)
+
+  -- before anything is written
+  pub read_unread : (a : Option (List ℕ)) (stop : RunStop) → IsInputStop stop → LeavesOfReader known P a a (Err stop)
+  read_unread a stop is = let (text, whole) = some_whole known in (text, whole, leaves_unread (P text) a stop is)
 
 -- ---- what a verdict is answered with
 

@@ -1,5 +1,6 @@
 -- What a verification of a history writes.
 use Rattle.std.specs.Prelude.{◌≡◌, ℕ, List, [], ◌∷◌, ◌++◌, length, codes, All, Option, Some, None, IsSome, Ok, Err}
+use Rattle.std.specs.Prelude.{Result}
 use Rattle.std.specs.Fmt.{decimal}
 use Rattle.std.specs.List.{concat, flat_map}
 use Rattle.topology.specs.Graph.{Graph}
@@ -9,7 +10,7 @@ use Rattle.reset_model.specs.Configuration.{Configuration}
 use Rattle.reset_model.specs.Outcome.{IsBoot}
 use Rattle.reset_model.specs.Sound.{IsSound}
 use Rattle.history.specs.Entries.{IsFirstRefused, replayed}
-use Rattle.history.specs.HistoryText.{IsReadAs, ended}
+use Rattle.history.specs.HistoryText.{IsReadAs, IsReadWhole, ended}
 use Rattle.history.specs.Reports.{reports_of}
 use Rattle.history.specs.Stretches.{IsIn, IsStretch, IsTrueReport, Stretch}
 use Rattle.history.specs.declared.entry.Entry.{Entry}
@@ -17,7 +18,8 @@ use Rattle.history.specs.declared.entry.Report.{Report}
 use Rattle.history.specs.declared.text.BookFault.{BookFault}
 use Rattle.history.specs.declared.text.BookFault.TheVariants.{BadLine, BadVersion, TooLong, NoMemory, ReadFailed}
 use Rattle.script_replay.specs.Meaning.{Meaning, idle_meaning, token_meaning, mutex_meaning, routes_meaning}
-use Rattle.script_replay.specs.Output.{IsJudged, numbered}
+use Rattle.script_replay.specs.Output.{IsJudged, Leaves, numbered}
+use Rattle.script_replay.specs.declared.status.RunStop.{RunStop}
 use Rattle.script_replay.specs.declared.status.Status.{Status}
 use Rattle.script_replay.specs.declared.status.Status.TheVariants.{Good, NotEnabled, BadInput}
 use Rattle.reset_service.specs.Counts.{counts_line}
@@ -81,6 +83,11 @@ IsVerifiedOf Routes = IsVerifiedFrom routes_meaning
 -- what a verification writes, and its status: the topology is judged before the history
 abbrev pub IsVerification : List ℕ → List ℕ → List ℕ × Status → Type 0
 IsVerification topology history = IsJudged (λ app g. IsVerifiedOf app g history) topology
+
+-- the run leaves what all is answered with that a reader had
+abbrev pub LeavesOfReader : Option (List ℕ) → (List ℕ → List ℕ × Status → Type 0) → Option (List ℕ) → Option (List ℕ)
+    → Result Status RunStop → Type 0
+LeavesOfReader known O old new result = (text : List ℕ) × IsReadWhole known text × Leaves (O text) old new result
 
 -- ---- what the reports mean
 

@@ -1,7 +1,6 @@
 // The picture of a history from a booted configuration.
 
-ghost use Rattle.std.specs.Prelude.{◌≡◌, ◌≤◌, IfErr, IfSome, IsSome, length};
-ghost use Rattle.std.specs.Io.KnownBytes.{Keeps};
+ghost use Rattle.std.specs.Prelude.{◌≡◌, ◌≤◌, IfErr, IsSome, length};
 ghost use Rattle.topology.specs.TopologyText.{IsReadFault};
 ghost use Rattle.history.specs.Entries.{replayed};
 ghost use Rattle.history.specs.Reports.{reports_of};
@@ -10,6 +9,7 @@ ghost use Rattle.script_replay.specs.Output.{Leaves};
 ghost use Rattle.space_time_diagram.specs.Diagram.{diagram_text};
 ghost use Rattle.reset_service.specs.Pictured.{drawing, IsDrawing, IsPicture};
 ghost use Rattle.reset_service.specs.Pictured.{IsPictureFrom, IsPictureOf, IsPictureText};
+ghost use Rattle.reset_service.specs.Verified.{LeavesOfReader};
 ghost use Rattle.script_replay.specs.Stops.{IsOutputStop};
 
 use crate::verified::{refuse_entry, refuse_history};
@@ -35,9 +35,8 @@ pub fn picture_text<R: Read, W: Write>(
     history: &mut R,
     out: &mut W,
 ) -> Result<Status, RunStop>
-    ensures leaves { IfSome (R.remaining history.old)
-        (λ text. Leaves (IsPictureText topology.now text) (W.contents out.old) (W.contents out.new) result) }
-    ensures unread { result ≡ Err RunStop.ReadFailed → Keeps (W.contents out.old) (W.contents out.new) }
+    ensures leaves { LeavesOfReader (R.remaining history.old) (IsPictureText topology.now)
+        (W.contents out.old) (W.contents out.new) result }
     ensures untouched { (f : ReadFault) → IsReadFault topology.now f → history.new ≡ history.old }
 {
     match read_topology(alloc, topology) {
@@ -54,9 +53,8 @@ fn draw_app<R: Read, W: Write>(
     history: &mut R,
     out: &mut W,
 ) -> Result<Status, RunStop>
-    ensures leaves { IfSome (R.remaining history.old)
-        (λ text. Leaves (IsPictureOf app topology text) (W.contents out.old) (W.contents out.new) result) }
-    ensures unread { result ≡ Err RunStop.ReadFailed → Keeps (W.contents out.old) (W.contents out.new) }
+    ensures leaves { LeavesOfReader (R.remaining history.old) (IsPictureOf app topology)
+        (W.contents out.old) (W.contents out.new) result }
 {
     match app {
         AppName::Idle => draw_booted::<Idle, R, W>(alloc, topology, history, out),
@@ -72,10 +70,8 @@ fn draw_booted<P: Application, R: Read, W: Write>(
     history: &mut R,
     out: &mut W,
 ) -> Result<Status, RunStop>
-    ensures leaves { IfSome (R.remaining history.old)
-        (λ text. Leaves (IsPictureFrom (meaning_of P.app P.text P.from_text P.names) topology text)
-        (W.contents out.old) (W.contents out.new) result) }
-    ensures unread { result ≡ Err RunStop.ReadFailed → Keeps (W.contents out.old) (W.contents out.new) }
+    ensures leaves { LeavesOfReader (R.remaining history.old)
+        (IsPictureFrom (meaning_of P.app P.text P.from_text P.names) topology) (W.contents out.old) (W.contents out.new) result }
 {
     match Config::<P>::boot(alloc, topology) {
         Ok(opening) => draw_from(alloc, &opening, history, out),
@@ -90,10 +86,8 @@ fn draw_from<P: Application, R: Read, W: Write>(
     history: &mut R,
     out: &mut W,
 ) -> Result<Status, RunStop>
-    ensures leaves { IfSome (R.remaining history.old)
-        (λ text. Leaves (IsPicture (meaning_of P.app P.text P.from_text P.names) opening.now text)
-        (W.contents out.old) (W.contents out.new) result) }
-    ensures unread { result ≡ Err RunStop.ReadFailed → Keeps (W.contents out.old) (W.contents out.new) }
+    ensures leaves { LeavesOfReader (R.remaining history.old)
+        (IsPicture (meaning_of P.app P.text P.from_text P.names) opening.now) (W.contents out.old) (W.contents out.new) result }
 {
     if opening.topology().len() > MAX_LANES {
         return refuse_input(out, b"bad topology TooManyForPicture\n");

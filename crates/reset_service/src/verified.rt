@@ -1,15 +1,15 @@
 // The verification of a history from a booted configuration.
 
-ghost use Rattle.std.specs.Prelude.{◌≡◌, ◌+◌, ◌≤◌, ◌++◌, length, Err, IfErr, IfSome, OnErr, OnOk};
+ghost use Rattle.std.specs.Prelude.{◌≡◌, ◌+◌, ◌≤◌, ◌++◌, length, IfErr, OnErr, OnOk};
 ghost use Rattle.std.specs.List.{flat_map};
-ghost use Rattle.std.specs.Io.KnownBytes.{Appends, Keeps};
+ghost use Rattle.std.specs.Io.KnownBytes.{Appends};
 ghost use Rattle.topology.specs.TopologyText.{IsReadFault};
 ghost use Rattle.action_tables.specs.Written.{AppendsPrefix};
 ghost use Rattle.script_replay.specs.Meaning.{meaning_of};
 ghost use Rattle.script_replay.specs.Output.{Leaves};
 ghost use Rattle.reset_service.specs.Verified.{bad_history_text, not_enabled_text, position_text};
 ghost use Rattle.reset_service.specs.Verified.{report_line, verified_text, IsVerification, IsVerified};
-ghost use Rattle.reset_service.specs.Verified.{IsVerifiedFrom, IsVerifiedOf};
+ghost use Rattle.reset_service.specs.Verified.{IsVerifiedFrom, IsVerifiedOf, LeavesOfReader};
 ghost use Rattle.reset_service.specs.declared.line.TheConstants.{ROOM};
 ghost use Rattle.script_replay.specs.Stops.{IsOutputStop};
 
@@ -39,9 +39,8 @@ pub fn verify_text<R: Read, W: Write>(
     history: &mut R,
     out: &mut W,
 ) -> Result<Status, RunStop>
-    ensures leaves { IfSome (R.remaining history.old)
-        (λ text. Leaves (IsVerification topology.now text) (W.contents out.old) (W.contents out.new) result) }
-    ensures unread { result ≡ Err RunStop.ReadFailed → Keeps (W.contents out.old) (W.contents out.new) }
+    ensures leaves { LeavesOfReader (R.remaining history.old) (IsVerification topology.now)
+        (W.contents out.old) (W.contents out.new) result }
     ensures untouched { (f : ReadFault) → IsReadFault topology.now f → history.new ≡ history.old }
 {
     match read_topology(alloc, topology) {
@@ -58,9 +57,8 @@ fn verify_app<R: Read, W: Write>(
     history: &mut R,
     out: &mut W,
 ) -> Result<Status, RunStop>
-    ensures leaves { IfSome (R.remaining history.old)
-        (λ text. Leaves (IsVerifiedOf app topology text) (W.contents out.old) (W.contents out.new) result) }
-    ensures unread { result ≡ Err RunStop.ReadFailed → Keeps (W.contents out.old) (W.contents out.new) }
+    ensures leaves { LeavesOfReader (R.remaining history.old) (IsVerifiedOf app topology)
+        (W.contents out.old) (W.contents out.new) result }
 {
     match app {
         AppName::Idle => verify_booted::<Idle, R, W>(alloc, topology, history, out),
@@ -76,10 +74,8 @@ fn verify_booted<P: Application, R: Read, W: Write>(
     history: &mut R,
     out: &mut W,
 ) -> Result<Status, RunStop>
-    ensures leaves { IfSome (R.remaining history.old)
-        (λ text. Leaves (IsVerifiedFrom (meaning_of P.app P.text P.from_text P.names) topology text)
-        (W.contents out.old) (W.contents out.new) result) }
-    ensures unread { result ≡ Err RunStop.ReadFailed → Keeps (W.contents out.old) (W.contents out.new) }
+    ensures leaves { LeavesOfReader (R.remaining history.old)
+        (IsVerifiedFrom (meaning_of P.app P.text P.from_text P.names) topology) (W.contents out.old) (W.contents out.new) result }
 {
     match Config::<P>::boot(alloc, topology) {
         Ok(opening) => verify_from(alloc, opening, history, out),
@@ -94,10 +90,8 @@ fn verify_from<P: Application, R: Read, W: Write>(
     history: &mut R,
     out: &mut W,
 ) -> Result<Status, RunStop>
-    ensures leaves { IfSome (R.remaining history.old)
-        (λ text. Leaves (IsVerified (meaning_of P.app P.text P.from_text P.names) opening text) (W.contents out.old)
-        (W.contents out.new) result) }
-    ensures unread { result ≡ Err RunStop.ReadFailed → Keeps (W.contents out.old) (W.contents out.new) }
+    ensures leaves { LeavesOfReader (R.remaining history.old)
+        (IsVerified (meaning_of P.app P.text P.from_text P.names) opening) (W.contents out.old) (W.contents out.new) result }
 {
     match verify_reader(alloc, opening, history) {
         Ok(summary) => answer_summary(&summary, out),

@@ -1,17 +1,18 @@
 -- The lines of a text that is cut at its first line feed.
 use Rattle.std.proofs.Common.{◌≡◌, ◌≢◌, append-nil, ℕ, ◌+◌, ◌-◌, ◌<◌, ◌≤◌, Bool, true, false, List, [], ◌∷◌, ◌++◌, refl}
 use Rattle.std.proofs.Common.{sym, ap, ◌∙◌, subst, append_assoc, arith, length, take, drop, Option, None, Some, cond}
-use Rattle.std.proofs.Common.{ltb}
-use Rattle.std.specs.List.{position, position_or_len, join_with_byte, flat_map}
+use Rattle.std.proofs.Common.{ltb, ne_eqb}
+use Rattle.std.specs.List.{position, position_or_len, join_with_byte, flat_map, onto_first}
 use Rattle.std.proofs.Math.Seq.{take-append_seam}
 use Rattle.std.proofs.lemmas.Bool.Decides.{nat_tests}
 use Rattle.std.proofs.lemmas.Grind.{flat_map-append}
 use Rattle.std.proofs.lemmas.List.{length-append}
 use Rattle.std.proofs.lemmas.List.Elements.{All-append, All-cons, All-nil}
-use Rattle.std.proofs.lemmas.List.Splits.{slice_split_none, slice_split_first, length-slice_split}
+use Rattle.std.proofs.lemmas.List.Splits.{slice_split_none, slice_split_first, slice_split-cons_no, length-slice_split}
 use Rattle.std.proofs.lemmas.List.Splits.{join_with_byte-slice_split}
 use Rattle.std.proofs.lemmas.List.Sums.{fails_before_first, position_or_len_is}
 use Rattle.memchr.specs.Find.{is_byte, IsFirstByte}
+use Rattle.action_tables.specs.Cuts.{HasNo}
 use Rattle.history.specs.HistoryText.{ended}
 use Rattle.script_replay.specs.Lines.{is_line_feed, lines_of, separator, HasNoSeparator}
 
@@ -64,6 +65,18 @@ cut text i h =
     let place =
     some_at (ltb (position_or_len is_line_feed text) (length text)) (position_or_len is_line_feed text) i h in
     cut_at text i place.1 (grind (arith, nat_tests))
+
+-- ---- a text that begins with a line and its line feed
+
+lines_more : (line after : List ℕ) → HasNo 10 line → lines_of (line ++ (10 ∷ after)) ≡ line ∷ lines_of after
+lines_more [] after none = refl
+lines_more (b ∷ bs) after none =
+    slice_split-cons_no is_line_feed b (bs ++ (10 ∷ after)) (ne_eqb b 10 none.0)
+    ∙ ap (onto_first b) (lines_more bs after none.1)
+
+pub lines_cut : (text line after : List ℕ) → HasNo 10 line → text ≡ line ++ 10 ∷ after
+    → lines_of text ≡ line ∷ lines_of after
+lines_cut text line after none is = ap lines_of is ∙ lines_more line after none
 
 -- ---- a text is its lines, joined by line feeds
 

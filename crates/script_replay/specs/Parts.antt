@@ -2,11 +2,14 @@
 use Rattle.std.specs.Prelude.{◌≡◌, ℕ, List, ◌++◌, length, Option}
 use Rattle.std.specs.Io.KnownBytes.{Consumes}
 use Rattle.reset_model.specs.Configuration.{Configuration}
+use Rattle.reset_model.specs.EventText.{event_line, Fits}
 use Rattle.history.specs.Book.{BookView}
 use Rattle.history.specs.declared.entry.Entry.{Entry}
 use Rattle.script_replay.specs.Meaning.{Meaning}
 use Rattle.script_replay.specs.Output.{answer_to}
 use Rattle.script_replay.specs.Recorded.{line_entries}
+use Rattle.script_replay.specs.declared.next_line.NextLine.{NextLine}
+use Rattle.script_replay.specs.declared.next_line.NextLine.TheVariants.{Event, Text}
 use Rattle.script_replay.specs.declared.script.Line.{Line}
 use Rattle.script_replay.specs.declared.status.Status.{Status}
 
@@ -16,6 +19,16 @@ pub record ReadMore (before after : Option (List ℕ)) (old new : List ℕ) (n :
   pub consumed : Consumes before after bytes
   pub appended : new ≡ old ++ bytes
   pub count : length bytes ≡ n
+
+-- the text of a line
+abbrev pub next_text : NextLine → List ℕ
+next_text (Event e) = event_line e
+next_text (Text text) = text.now
+
+-- the numbers of the event of a line, if it stands for one, are in their range
+abbrev pub HasFitting : NextLine → Type 0
+HasFitting (Event e) = Fits e
+HasFitting (Text text) = Unit {0}
 
 -- a book with these entries more, which left this
 abbrev pub with_entries : {L : Type 0} → BookView L → List Entry → Configuration L → BookView L

@@ -1,6 +1,6 @@
 // What the run writes.
 
-ghost use Rattle.std.specs.Prelude.{◌≡◌, ℕ, [], ◌∷◌, ◌++◌, codes, List, Err, IfErr, OnOk, OnErr};
+ghost use Rattle.std.specs.Prelude.{◌≡◌, Err, IfErr, OnOk, OnErr};
 ghost use Rattle.std.specs.Io.KnownBytes.{Appends, Keeps};
 ghost use Rattle.action_tables.specs.Written.{AppendsPrefix};
 ghost use Rattle.reset_model.specs.Planned.{outcome_of};
@@ -15,7 +15,7 @@ use crate::rows::{answer_enabled, answer_ready};
 use crate::script::Command;
 use crate::show::{show_all, show_newest, show_node};
 use crate::status::RunStop;
-use action_tables::{Part, WriteFault, put_bytes, put_parts};
+use action_tables::{Part, WriteFault, put_bytes, put_number, put_parts};
 use app_interface::Application;
 use reset_machine::{Config, Event, Reply, StepRefusal};
 use std::alloc::Global;
@@ -91,10 +91,9 @@ pub fn put_numbered<W: Write>(out: &mut W, text: &[u8], number: u64) -> Result<(
     ensures ok { OnOk result (Appends (W.contents out.old) (W.contents out.new) (numbered text.now number)) }
     ensures err { OnErr result (AppendsPrefix (W.contents out.old) (W.contents out.new) (numbered text.now number)) }
 {
-    put_parts(
-        out,
-        &[Part::Text(text), Part::Number(number), Part::Text(b"\n")],
-    )
+    put_bytes(out, text)?;
+    put_number(out, number)?;
+    put_bytes(out, b"\n")
 }
 
 /// Writes what a bad line is answered with.

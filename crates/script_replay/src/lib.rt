@@ -8,6 +8,7 @@ mod faults;
 mod injected;
 mod input;
 mod laws;
+mod next_line;
 mod recorded;
 mod recording;
 mod replays;

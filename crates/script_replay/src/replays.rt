@@ -8,11 +8,13 @@ ghost use Rattle.script_replay.specs.Lines.{lines_of, GaveText, IsReadFrom};
 ghost use Rattle.script_replay.specs.Meaning.{meaning_of};
 ghost use Rattle.script_replay.specs.Output.{answers, bad_topology_text, ending, line_answer, script_output};
 ghost use Rattle.script_replay.specs.Output.{too_long_text, IsJoinedOutput, IsOutput, IsReplay, IsReplayOf, Leaves};
+ghost use Rattle.script_replay.specs.Parts.{next_text, HasFitting};
 ghost use Rattle.script_replay.specs.Stops.{IsOutputStop};
 
 use crate::answer::{answer, answer_step, put_bad_line, put_topology_fault};
 use crate::faults::answer_check;
-use crate::input::{cut_joined, read_text, split_line};
+use crate::input::{cut_joined, read_text};
+use crate::next_line::{NextLine, next_line};
 use crate::script::{Line, read_line};
 use crate::status::{Purpose, RunStop, Status};
 use action_tables::put_bytes;
@@ -20,7 +22,7 @@ use app_interface::{Application, Idle};
 use app_mutex::EdgeReversal;
 use app_routes::Routes;
 use app_token::Token;
-use reset_machine::{Config, read_event};
+use reset_machine::Config;
 use std::alloc::Global;
 use std::io::{Read, Write};
 use topology::{AppName, MAX_TEXT, ReadFault, Topology, read_topology};
@@ -261,8 +263,8 @@ fn answer_lines<P: Application, W: Write>(
 {
     let mut rest = script;
     let mut number = 1;
-    while let Some((line, after)) = split_line(rest) {
-        match answer_line(alloc, config, number, line, out) {
+    while let Some((line, after)) = next_line(rest) {
+        match answer_next(alloc, config, number, line, out) {
             Ok(Status::Good) => {}
             Ok(ended) => return Ok(ended),
             Err(stop) => return Err(stop),
@@ -273,36 +275,38 @@ fn answer_lines<P: Application, W: Write>(
     answer_line(alloc, config, number, rest, out)
 }
 
-// Answers the line with this number. Most lines are events: they are read first and by themselves,
-// since a command of any kind may hold the text of a fault, with which it is slow to move.
+// Answers the line with this number. An event is answered by itself, since a command of any kind may hold the text of
+// a fault, with which it is slow to move.
 #[inline(always)]
-fn answer_line<P: Application, W: Write>(
+fn answer_next<P: Application, W: Write>(
     alloc: Global,
     config: &mut Config<P>,
     number: u64,
-    line: &[u8],
+    line: NextLine<'_>,
     out: &mut W,
 ) -> Result<Status, RunStop>
+    requires { HasFitting line }
     ensures ok { IfOk result
-        (λ status. let a = line_answer (meaning_of P.app P.text P.from_text P.names) config.old number line.now in
+        (λ status. let a =
+        line_answer (meaning_of P.app P.text P.from_text P.names) config.old number (next_text line.entry) in
         (status ≡ a.status) × (config.new ≡ a.config) × Appends (W.contents out.old) (W.contents out.new) a.text) }
     ensures err { OnErr result
         (AppendsPrefix (W.contents out.old) (W.contents out.new)
-        (line_answer (meaning_of P.app P.text P.from_text P.names) config.old number line.now).text) }
+        (line_answer (meaning_of P.app P.text P.from_text P.names) config.old number (next_text line.entry)).text) }
     ensures stop { IfErr result IsOutputStop }
 {
-    match read_event(line) {
-        Some(event) => {
+    match line {
+        NextLine::Event(event) => {
             answer_step(alloc, config, event, out)?;
             Ok(Status::Good)
         }
-        None => answer_any_line(alloc, config, number, line, out),
+        NextLine::Text(text) => answer_line(alloc, config, number, text, out),
     }
 }
 
-// Answers the line with this number, whatever it is.
+// Answers the line with this number and text.
 #[inline(never)]
-fn answer_any_line<P: Application, W: Write>(
+fn answer_line<P: Application, W: Write>(
     alloc: Global,
     config: &mut Config<P>,
     number: u64,

@@ -1,19 +1,13 @@
-use Rattle.std.proofs.Common.{◌≡◌, ℕ, ◌-◌, List, ◌++◌, length, take, drop, sym, ap, ◌∙◌, append_assoc, take-append-drop}
+use Rattle.std.proofs.Common.{◌-◌, ◌++◌, length, take, drop, sym, ap, ◌∙◌, take-append-drop}
 use Rattle.std.proofs.lemmas.List.{take_rest}
-use Rattle.std.proofs.KnownBytes.{Appends-trans}
+use Rattle.action_tables.proofs.Prefixes.{OnErr-then}
 use Rattle.action_tables.proofs.put.put_bytes.Goals as goal
 
-moved : (all prefix rest : List ℕ) (n : ℕ) → all ≡ prefix ++ rest
-    → all ≡ (prefix ++ take n rest) ++ take (length rest - n) (drop n rest)
-moved all prefix rest n e =
-    e ∙ ap (λ l. prefix ++ l) (sym (take-append-drop n rest)) ∙ sym (append_assoc prefix (take n rest) (drop n rest))
-    ∙ ap (λ l. (prefix ++ take n rest) ++ l) (sym (take_rest rest n))
-
-pub loop-rest-preserved : goal.loop-rest-preserved
-loop-rest-preserved g c =
-    let (prefix, cut, appended) = c.loop-rest.invariant in (
-      prefix ++ take c.in-Ok.count c.loop-rest.rest.now,
-      moved _ prefix _ _ cut,
-      Appends-trans _ _ _ prefix _ appended
-          c.in-Ok.ensures.bytes,
-    )
+pub returns-in-Ok-2-clause-err : goal.returns-in-Ok-2-clause-err
+returns-in-Ok-2-clause-err g c =
+    let bytes = c.args.bytes.now in
+    let n = c.in-Ok.count in
+    OnErr-then c.put_rest.result (g.W.Write.contents c.args.out.now) (g.W.Write.contents c.write.new.self)
+    (g.W.Write.contents c.put_rest.new.out) (take n bytes) (take (length bytes - n) (drop n bytes)) bytes
+    (sym (take-append-drop n bytes) ∙ ap (λ l. take n bytes ++ l) (sym (take_rest bytes n)))
+    c.in-Ok.ensures.bytes c.put_rest.ensures.err

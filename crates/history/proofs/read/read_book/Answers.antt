@@ -1,6 +1,6 @@
 use Rattle.std.proofs.Common.{[], ◌++◌, Ok, ap}
 use Rattle.std.proofs.KnownBytes.{Consumes-trans}
-use Rattle.history.proofs.ReadLines.{fault_given, kept_err, kept_ok, read_whole}
+use Rattle.history.proofs.ReadLines.{kept_err, kept_ok, read_whole, whole_before}
 use Rattle.history.proofs.read.read_book.Goals as goal
 
 pub returns-in-Ok-false-clause-ok : goal.returns-in-Ok-false-clause-ok
@@ -26,8 +26,11 @@ returns-in-Ok-false-clause-err g c =
 pub returns-in-Err-clause-err : goal.returns-in-Err-clause-err
 returns-in-Err-clause-err g c memory device =
     let (given, consumed, read) = c.loop.invariant in
-    fault_given (g.R.Read.remaining c.args.reader.now) (g.R.Read.remaining c.loop.reader) given c.in-Err.fault consumed
-    (c.in-Err.ensures.err memory device [] given read)
+    let (rest, whole, faulty) = c.in-Err.ensures.err memory device in (
+      given ++ rest,
+      whole_before (g.R.Read.remaining c.args.reader.now) (g.R.Read.remaining c.loop.reader) given rest consumed whole,
+      faulty [] given read,
+    )
 
 pub loop-preserved : goal.loop-preserved
 loop-preserved g c =

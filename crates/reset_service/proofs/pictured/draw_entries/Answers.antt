@@ -1,4 +1,4 @@
-use Rattle.std.proofs.Common.{◌≡◌, refl, subst}
+use Rattle.std.proofs.Common.{◌≡◌, subst}
 use Rattle.history.specs.Entries.{IsFirstRefused}
 use Rattle.script_replay.specs.Meaning.{meaning_of}
 use Rattle.reset_service.specs.Pictured.{IsDrawing}

@@ -4,18 +4,18 @@ use Rattle.script_replay.specs.Output.{bad_topology_text}
 use Rattle.script_replay.specs.Output.IsJudged.{bad_topology, good_topology}
 use Rattle.reset_service.specs.Pictured.{IsPictureOf, IsPictureText}
 use Rattle.script_replay.specs.declared.status.Status.TheVariants.{BadInput}
-use Rattle.reset_service.proofs.Verifying.{known_anyway, known_weaker}
+use Rattle.reset_service.proofs.Verifying.{read_anyway, read_weaker}
 use Rattle.reset_service.proofs.pictured.picture_text.Goals as goal
 
 pub returns-in-Ok-clause-leaves : goal.returns-in-Ok-clause-leaves
 returns-in-Ok-clause-leaves g c =
-    known_weaker (g.R.Read.remaining c.args.history.now) (λ text. IsPictureOf c.in-Ok.app c.in-Ok.topology text)
-    (λ text. IsPictureText c.args.topology.now text) _ _ c.draw_app.result
+    read_weaker (g.R.Read.remaining c.args.history.now) (IsPictureText c.args.topology.now)
+    (IsPictureOf c.in-Ok.app c.in-Ok.topology) _ _ c.draw_app.result
     (λ text o is. good_topology c.in-Ok.topology c.in-Ok.app c.in-Ok.ensures.ok is) c.draw_app.ensures.leaves
 
 pub returns-in-Err-clause-leaves : goal.returns-in-Err-clause-leaves
 returns-in-Err-clause-leaves g c =
-    known_anyway (g.R.Read.remaining c.args.history.now)
-    (λ o. (c.in-Err.fault ≢ NoMemory) × (o ≡ (bad_topology_text c.in-Err.fault, BadInput)))
-    (λ text. IsPictureText c.args.topology.now text) _ _ c.refuse_topology.result
+    read_anyway (g.R.Read.remaining c.args.history.now) (IsPictureText c.args.topology.now)
+    (λ o. (c.in-Err.fault ≢ NoMemory) × (o ≡ (bad_topology_text c.in-Err.fault, BadInput))) _ _
+    c.refuse_topology.result
     (λ text o is. bad_topology c.in-Err.fault (c.in-Err.ensures.err is.0) is.1) c.refuse_topology.ensures.leaves

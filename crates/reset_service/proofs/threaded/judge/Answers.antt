@@ -9,10 +9,11 @@ pub returns-in-Ok-clause-ok : goal.returns-in-Ok-clause-ok
 returns-in-Ok-clause-ok g c =
     let m = meaning_of g.P.Application.app g.P.Application.text g.P.Application.from_text g.P.Application.names in
     let history = c.in_ok-history.history.items in
+    let (text, whole, verdict) = c.in-Ok.ensures.told in
     kept_by m c.args.opening c.one_reading_a_text.ensures history c.args.book.now.entries c.in-Ok.summary
     c.requires.few c.in_ok-history.ensures.read c.requires.steps
-    (subst (λ text. IsVerdict m.app m.from_text c.args.opening text (Ok c.in-Ok.summary)) c.as_slice-rest.ensures.value
-    c.in-Ok.ensures.told)
+    (subst (λ t. IsVerdict m.app m.from_text c.args.opening t (Ok c.in-Ok.summary))
+    (whole ∙ c.as_slice-rest.ensures.value) verdict)
     c.len-nodes.result (length c.as_slice-reports.result.now)
     (c.len-nodes.ensures ∙ ap (λ (h : Graph). length h.ids) c.topology.ensures)
     (ap length c.as_slice-reports.ensures.value)

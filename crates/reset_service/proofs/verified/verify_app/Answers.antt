@@ -1,13 +1,13 @@
 use Rattle.reset_service.proofs.verified.verify_app.Goals as goal
 
-pub returns-in-Idle-clause-leaves : goal.returns-in-Idle-clause-leaves
-returns-in-Idle-clause-leaves g c = rw c.in-Idle.is c.verify_booted.ensures.leaves
+pub returns-in-Idle : goal.returns-in-Idle
+returns-in-Idle g c = record { leaves = rw c.in-Idle.is c.verify_booted.ensures.leaves }
 
-pub returns-in-Token-clause-leaves : goal.returns-in-Token-clause-leaves
-returns-in-Token-clause-leaves g c = rw c.in-Token.is c.verify_booted-in-Token.ensures.leaves
+pub returns-in-Token : goal.returns-in-Token
+returns-in-Token g c = record { leaves = rw c.in-Token.is c.verify_booted-in-Token.ensures.leaves }
 
-pub returns-in-Mutex-clause-leaves : goal.returns-in-Mutex-clause-leaves
-returns-in-Mutex-clause-leaves g c = rw c.in-Mutex.is c.verify_booted-in-Mutex.ensures.leaves
+pub returns-in-Mutex : goal.returns-in-Mutex
+returns-in-Mutex g c = record { leaves = rw c.in-Mutex.is c.verify_booted-in-Mutex.ensures.leaves }
 
-pub returns-in-Routes-clause-leaves : goal.returns-in-Routes-clause-leaves
-returns-in-Routes-clause-leaves g c = rw c.in-Routes.is c.verify_booted-in-Routes.ensures.leaves
+pub returns-in-Routes : goal.returns-in-Routes
+returns-in-Routes g c = record { leaves = rw c.in-Routes.is c.verify_booted-in-Routes.ensures.leaves }

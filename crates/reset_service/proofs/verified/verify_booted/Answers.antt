@@ -1,11 +1,22 @@
 use Rattle.script_replay.specs.Meaning.{meaning_of}
+use Rattle.script_replay.specs.declared.status.RunStop.TheVariants.{NoMemory}
 use Rattle.reset_service.specs.Verified.{IsVerified, IsVerifiedFrom}
-use Rattle.reset_service.proofs.Verifying.{known_weaker}
+use Rattle.reset_service.proofs.Verifying.{read_unread, read_weaker}
 use Rattle.reset_service.proofs.verified.verify_booted.Goals as goal
 
-pub returns-in-Ok-clause-leaves : goal.returns-in-Ok-clause-leaves
-returns-in-Ok-clause-leaves g c =
+pub returns-in-Ok : goal.returns-in-Ok
+returns-in-Ok g c =
     let m = meaning_of g.P.Application.app g.P.Application.text g.P.Application.from_text g.P.Application.names in
-    known_weaker (g.R.Read.remaining c.args.history.now) (λ text. IsVerified m c.in-Ok.opening text)
-    (λ text. IsVerifiedFrom m c.args.topology text) _ _ c.verify_from.result
-    (λ text o is. (c.in-Ok.opening, c.in-Ok.ensures.ok, is)) c.verify_from.ensures.leaves
+    record {
+      leaves = read_weaker (g.R.Read.remaining c.args.history.now) (IsVerifiedFrom m c.args.topology)
+          (IsVerified m c.in-Ok.opening) _ _ c.verify_from.result
+          (λ text o is. (c.in-Ok.opening, c.in-Ok.ensures.ok, is)) c.verify_from.ensures.leaves;
+    }
+
+pub returns : goal.returns
+returns g c =
+    let m = meaning_of g.P.Application.app g.P.Application.text g.P.Application.from_text g.P.Application.names in
+    record {
+      leaves = read_unread (g.R.Read.remaining c.args.history.now) (IsVerifiedFrom m c.args.topology)
+          (g.W.Write.contents c.args.out.now) NoMemory tt;
+    }

@@ -1,7 +1,7 @@
 -- What is gone from the rest was appended.
 use Rattle.std.proofs.Common.{◌≡◌, ℕ, List, ◌++◌, length}
 use Rattle.std.specs.Io.KnownBytes.{Appends}
-use Rattle.action_tables.proofs.put.put_bytes.Given as goal
+use Rattle.action_tables.proofs.put.put_rest.Given as goal
 
 abbrev pub invariant-loop-rest : goal.invariant-loop-rest
 invariant-loop-rest g l =
