@@ -1,5 +1,5 @@
 -- Entries that are played up to the first that isn't allowed where it stands.
-use Rattle.std.proofs.Common.{◌≡◌, ◌≢◌, ℕ, true, false, true≢false, ◌+◌, List, ◌∷◌, ◌++◌, Option, None}
+use Rattle.std.proofs.Common.{◌≡◌, ◌≢◌, ℕ, false, true≢false, List, ◌∷◌, ◌++◌, Option, None}
 use Rattle.std.proofs.Common.{Some, refl, ap, ◌∙◌, append_assoc, Result, Ok, Err, OnOk, IfErr}
 use Rattle.std.specs.Option.{is_none}
 use Rattle.std.specs.Result.{result_err}

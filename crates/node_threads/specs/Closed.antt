@@ -1,5 +1,5 @@
 -- A closed sharing: a list for each node, and each the seat list of its node.
-use Rattle.std.specs.Prelude.{◌≡◌, ◌≢◌, ⊤, ℕ, Bool, ◌==◌, not, All, Contains, List, ◌∷◌, ◌++◌, length}
+use Rattle.std.specs.Prelude.{◌≡◌, ◌≢◌, ℕ, Bool, ◌==◌, not, All, Contains, List, ◌∷◌, ◌++◌, length}
 use Rattle.std.specs.Prelude.{map, find, sum_by}
 use Rattle.std.specs.Prelude.{Option, Some, None}
 use Rattle.std.specs.List.{list_any}
