@@ -6,5 +6,6 @@ pub mod EnabledSets
 pub mod ListTexts
 pub mod SetTexts
 mod NumberWords
+mod LeadingDigits
 mod CutTexts
 pub mod Ascending

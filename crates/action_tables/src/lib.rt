@@ -19,7 +19,7 @@ pub use case_set::{CaseSet, MOST_CASES};
 pub use cutting::cut;
 pub use list::{ListItem, put_list};
 pub use nodes::{ids_ascend, regs_of};
-pub use number::read_number;
+pub use number::{read_number, split_number};
 pub use part::{Part, put_parts};
 pub use put::{WriteFault, put_bytes, put_number};
 pub use row::{CaseRow, print_rows};

@@ -1,13 +1,9 @@
 // Reading numbers.
 ghost use Rattle.std.specs.Prelude.{◌≡◌, ℕ, ◌+◌, ◌*◌, ◌<◌, ◌≤◌, ◌^◌, ◌↔◌, ◌⊎◌, IfNone, IfSome, IsTrue, length};
-ghost use Rattle.std.specs.Prelude.{slice_index};
+ghost use Rattle.std.specs.Prelude.{slice_index, List, ◌∷◌, ◌++◌};
 ghost use Rattle.std.specs.Char.{digit_value};
 ghost use Rattle.std.specs.Fmt.{decimal};
-ghost use Rattle.std.specs.Str.Parse.{AllDigits, digits_value};
-ghost use Rattle.action_tables.specs.declared.number.TheConstants.{MAX_DIGITS};
-
-// The most digits of a number of 32 bits.
-const MAX_DIGITS: usize = 10;
+ghost use Rattle.action_tables.specs.Cuts.{AreLeadingDigits};
 
 /// The number that a word spells: decimal digits, without leading zeros, at most 4294967295.
 pub fn read_number(word: &[u8]) -> Option<u32>
@@ -15,17 +11,62 @@ pub fn read_number(word: &[u8]) -> Option<u32>
     ensures small { IfSome result (λ n. n < 2 ^ 32) }
     ensures only { IfNone result ((n : ℕ) → n < 2 ^ 32 → word.now ≡ decimal n → ⊥) }
 {
-    if word.len() > MAX_DIGITS {
-        return None;
-    }
+    let (value, rest) = leading_value(word)?;
     if is_empty_or_padded(word) {
         return None;
     }
-    let value = value_of(word)?;
-    if value > u64::from(u32::MAX) {
+    if !rest.is_empty() {
         return None;
     }
-    Some(value as u32)
+    Some(value)
+}
+
+/// The number that a text begins with, as a word that this byte ends, and what follows the byte. It is a byte below
+/// the digits.
+#[inline(always)]
+pub fn split_number(text: &[u8], end: u8) -> Option<(u32, &[u8])>
+    requires { end < 48 }
+    ensures found { IfSome result (λ r. text.now ≡ decimal r.0 ++ end ∷ r.1.now) }
+    ensures small { IfSome result (λ r. r.0 < 2 ^ 32) }
+    ensures only { IfNone result
+        ((n : ℕ) (rest : List ℕ) → n < 2 ^ 32 → text.now ≡ decimal n ++ end ∷ rest → ⊥) }
+{
+    let (value, rest) = leading_value(text)?;
+    let digits = &text[..text.len() - rest.len()];
+    if is_empty_or_padded(digits) {
+        return None;
+    }
+    let [byte, after @ ..] = rest else {
+        return None;
+    };
+    if *byte != end {
+        return None;
+    }
+    Some((value, after))
+}
+
+// The value of the digits that a text begins with, if it has 32 bits, and what follows them. `parse` takes a text,
+// would look at each byte twice, and takes a sign.
+#[inline(always)]
+fn leading_value(text: &[u8]) -> Option<(u32, &[u8])>
+    ensures found { IfSome result (λ r. AreLeadingDigits text.now r.0 r.1.now) }
+    ensures small { IfSome result (λ r. r.0 < 2 ^ 32) }
+    ensures only { IfNone result
+        ((n : ℕ) (rest : List ℕ) → n < 2 ^ 32 → AreLeadingDigits text.now n rest → ⊥) }
+{
+    let mut value = 0;
+    let mut rest = text;
+    while let [byte, after @ ..] = rest {
+        let Some(digit) = digit_of(*byte) else {
+            return Some((value as u32, rest));
+        };
+        value = value * 10 + digit;
+        if value > u64::from(u32::MAX) {
+            return None;
+        }
+        rest = after;
+    }
+    Some((value as u32, rest))
 }
 
 // Whether a word is empty, or has a zero before its digits.
@@ -33,22 +74,6 @@ fn is_empty_or_padded(word: &[u8]) -> bool
     ensures { IsTrue result ↔ (length word.now ≡ 0) ⊎ ((slice_index word.now 0 ≡ 48) × (1 < length word.now)) }
 {
     matches!(word, [] | [b'0', _, ..])
-}
-
-// The number that so few digits write that it has 64 bits, which isn't asked digit by digit. `parse` takes a text,
-// would look at each byte twice, and takes a sign.
-fn value_of(digits: &[u8]) -> Option<u64>
-    requires { length digits.now ≤ MAX_DIGITS }
-    ensures found { IfSome result (λ n. AllDigits 10 digits.now × (n ≡ digits_value 10 digits.now)) }
-    ensures only { IfNone result (AllDigits 10 digits.now → ⊥) }
-{
-    let mut value = 0;
-    let mut rest = digits;
-    while let [byte, after @ ..] = rest {
-        value = value * 10 + digit_of(*byte)?;
-        rest = after;
-    }
-    Some(value)
 }
 
 // The digit that a byte is.

@@ -1,6 +1,6 @@
 // Sets of cases, and what is read of numbers and lists.
 
-use action_tables::{CaseSet, cut, read_number};
+use action_tables::{CaseSet, cut, read_number, split_number};
 
 #[test]
 fn holds_its_cases(rt: HostRuntime) {
@@ -24,6 +24,17 @@ fn reads_numbers(rt: HostRuntime) {
     assert_eq!(rt; read_number(b"0"), Some(0));
     assert_eq!(rt; read_number(b"10"), Some(10));
     assert_eq!(rt; read_number(b"4294967295"), Some(u32::MAX));
+}
+
+#[test]
+fn splits_numbers_off(rt: HostRuntime) {
+    let split = (4_294_967_295, b"1".as_slice());
+    assert_eq!(rt; split_number(b"4294967295 1", b' '), Some(split));
+    assert_eq!(rt; split_number(b"4294967296 1", b' '), None);
+    assert_eq!(rt; split_number(b"01 1", b' '), None);
+    assert_eq!(rt; split_number(b" 1", b' '), None);
+    assert_eq!(rt; split_number(b"7,1", b' '), None);
+    assert_eq!(rt; split_number(b"7", b' '), None);
 }
 
 #[test]

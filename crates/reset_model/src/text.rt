@@ -12,7 +12,7 @@ ghost use Rattle.reset_model.specs.declared.event.Event.TheVariants.{Act};
 
 use crate::event::Event;
 use crate::event_kind::{EventKind, cut_kind};
-use action_tables::{WriteFault, cut, put_bytes, put_number, read_number};
+use action_tables::{WriteFault, cut, put_bytes, put_number, read_number, split_number};
 use std::io::Write;
 
 /// Two events below 2 ^ 32 in their numbers that have one line are the same event.
@@ -39,8 +39,7 @@ pub fn read_event(line: &[u8]) -> Option<Event>
     event_of(kind, rest)
 }
 
-/// The event whose line, with its line feed, a text begins with, and what follows it. The end of the line is looked
-/// for behind the command alone.
+/// The event whose line, with its line feed, a text begins with, and what follows it.
 #[inline(always)]
 pub fn split_event(text: &[u8]) -> Option<(Event, &[u8])>
     ensures found { IfSome result (λ r. text.now ≡ event_line r.0 ++ 10 ∷ r.1.now) }
@@ -49,8 +48,71 @@ pub fn split_event(text: &[u8]) -> Option<(Event, &[u8])>
         ((e : Event) (rest : List ℕ) → Fits e → text.now ≡ event_line e ++ 10 ∷ rest → ⊥) }
 {
     let (kind, rest) = cut_kind(text)?;
-    let (numbers, after) = cut(rest, b'\n')?;
-    let event = event_of(kind, numbers)?;
+    match kind {
+        EventKind::Claim => {
+            let (at, after) = split_number(rest, b'\n')?;
+            Some((Event::Claim { at }, after))
+        }
+        EventKind::Follow => {
+            let (at, after) = split_number(rest, b'\n')?;
+            Some((Event::Follow { at }, after))
+        }
+        EventKind::Adopt => {
+            let (at, from, after) = split_two_numbers(rest)?;
+            Some((Event::Adopt { at, from }, after))
+        }
+        EventKind::Request => {
+            let (at, after) = split_number(rest, b'\n')?;
+            Some((Event::Request { at }, after))
+        }
+        EventKind::Relay => {
+            let (at, child, after) = split_two_numbers(rest)?;
+            Some((Event::Relay { at, child }, after))
+        }
+        EventKind::Open => {
+            let (at, after) = split_number(rest, b'\n')?;
+            Some((Event::Open { at }, after))
+        }
+        EventKind::Join => {
+            let (at, after) = split_number(rest, b'\n')?;
+            Some((Event::Join { at }, after))
+        }
+        EventKind::Finish => {
+            let (at, after) = split_number(rest, b'\n')?;
+            Some((Event::Finish { at }, after))
+        }
+        EventKind::Mend => {
+            let (at, after) = split_number(rest, b'\n')?;
+            Some((Event::Mend { at }, after))
+        }
+        EventKind::Act => split_action(rest),
+    }
+}
+
+// Two numbers with a space between them, which a line feed ends, and what follows it.
+#[inline(always)]
+fn split_two_numbers(text: &[u8]) -> Option<(u32, u32, &[u8])>
+    ensures found { IfSome result (λ r. text.now ≡ (decimal r.0 ++ 32 ∷ decimal r.1) ++ 10 ∷ r.2.now) }
+    ensures small { IfSome result (λ r. (r.0 < 2 ^ 32) × (r.1 < 2 ^ 32)) }
+    ensures only { IfNone result ((m n : ℕ) (rest : List ℕ) → m < 2 ^ 32 → n < 2 ^ 32
+        → text.now ≡ (decimal m ++ 32 ∷ decimal n) ++ 10 ∷ rest → ⊥) }
+{
+    let (first, rest) = split_number(text, b' ')?;
+    let (second, after) = split_number(rest, b'\n')?;
+    Some((first, second, after))
+}
+
+// The action whose numbers stand in a line that a line feed ends, and what follows it.
+#[inline(never)]
+fn split_action(text: &[u8]) -> Option<(Event, &[u8])>
+    ensures found { IfSome result
+        (λ r. command_of EventKind.Act ++ 32 ∷ text.now ≡ event_line r.0 ++ 10 ∷ r.1.now) }
+    ensures fits { IfSome result (λ r. Fits r.0) }
+    ensures only { IfNone result ((e : Event) (rest : List ℕ) → Fits e
+        → command_of EventKind.Act ++ 32 ∷ text.now ≡ event_line e ++ 10 ∷ rest → ⊥) }
+{
+    let (numbers, after) = cut(text, b'\n')?;
+    let event = action_of(numbers)?;
     Some((event, after))
 }
 

@@ -1,26 +1,25 @@
-use Rattle.std.proofs.Common.{arith, subst}
-use Rattle.action_tables.proofs.NumberWords.{IsEmptyOrPadded, decimal_plain, found_number, no_digits, only_number}
-use Rattle.action_tables.proofs.NumberWords.{too_long}
+use Rattle.std.proofs.Common.{true≢false, sym, ◌∙◌, length, rules, subst}
+use Rattle.std.proofs.lemmas.Bool.{eq-eqb}
+use Rattle.action_tables.proofs.LeadingDigits.{no_number, not_whole, whole_found}
+use Rattle.action_tables.proofs.NumberWords.{IsEmptyOrPadded, decimal_plain}
 use Rattle.action_tables.proofs.number.read_number.Goals as goal
 
-pub returns-then-word-gt-MAX_DIGITS-clause-only : goal.returns-then-word-gt-MAX_DIGITS-clause-only
-returns-then-word-gt-MAX_DIGITS-clause-only c = too_long c.args.word.now c.if-word-gt-MAX_DIGITS.true
+pub returns-in_err-value-clause-only : goal.returns-in_err-value-clause-only
+returns-in_err-value-clause-only c =
+    rw c.from_residual.ensures (no_number c.args.word.now c.in_err-value.ensures.only)
 
 pub returns-then-is_empty_or_padded-clause-only : goal.returns-then-is_empty_or_padded-clause-only
 returns-then-is_empty_or_padded-clause-only c =
     λ n small is. decimal_plain n small
     (subst IsEmptyOrPadded is (c.is_empty_or_padded.ensures.0 c.if-is_empty_or_padded.true))
 
-pub returns-in_err-value-clause-only : goal.returns-in_err-value-clause-only
-returns-in_err-value-clause-only c = rw c.from_residual.ensures (no_digits c.args.word.now c.in_err-value.ensures.only)
-
-pub returns-then-value-from-clause-only : goal.returns-then-value-from-clause-only
-returns-then-value-from-clause-only c =
-    only_number c.args.word.now c.in_ok-value.value c.in_ok-value.ensures.found.1
-    (omega (arith, c.if-value-from.true, c.from.ensures))
+pub returns-then-not-is_empty-clause-only : goal.returns-then-not-is_empty-clause-only
+returns-then-not-is_empty-clause-only c =
+    not_whole c.args.word.now c.in_ok-value.value c.in_ok-value.rest.now c.in_ok-value.ensures.found
+    (λ none. true≢false (sym (eq-eqb (length c.in_ok-value.rest.now) 0 none) ∙ sym c.if-not-is_empty.ensures))
 
 pub returns-clause-found : goal.returns-clause-found
 returns-clause-found c =
-    found_number c.args.word.now c.in_ok-value.value
-    (λ h. cc (c.if-is_empty_or_padded.false, c.is_empty_or_padded.ensures.1 h)) c.in_ok-value.ensures.found
-    (omega (arith, c.if-value-from.false, c.from.ensures))
+    whole_found c.args.word.now c.in_ok-value.value c.in_ok-value.rest.now c.in_ok-value.ensures.found
+    (search rules) c.in_ok-value.ensures.small
+    (λ padded. cc (c.if-is_empty_or_padded.false, c.is_empty_or_padded.ensures.1 padded))

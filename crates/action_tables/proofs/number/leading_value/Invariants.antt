@@ -1,0 +1,10 @@
+-- The digits up to here have the value.
+use Rattle.std.proofs.Common.{◌<◌, ◌^◌, length}
+use Rattle.action_tables.proofs.LeadingDigits.{IsLedBy}
+use Rattle.action_tables.proofs.number.leading_value.Given as goal
+
+abbrev pub invariant-loop-rest : goal.invariant-loop-rest
+invariant-loop-rest l = IsLedBy l.text l.value l.rest × (l.value < 2 ^ 32)
+
+abbrev pub decreases-loop-rest : goal.decreases-loop-rest
+decreases-loop-rest l = length l.rest
