@@ -1,8 +1,4 @@
-use Rattle.std.proofs.Common.{◌≡◌, ◌∷◌, ◌++◌, refl, subst}
-use Rattle.std.specs.Fmt.{decimal}
-use Rattle.reset_model.specs.EventCommands.{command_of}
-use Rattle.reset_model.specs.declared.event_kind.EventKind.{EventKind}
-use Rattle.reset_model.proofs.EventCuts.{none_begun, none_of_one, none_of_two, pieced}
+use Rattle.reset_model.proofs.EventCuts.{none_begun}
 use Rattle.reset_model.proofs.text.split_event.Goals as goal
 
 pub returns-in_err-kind-clause-only : goal.returns-in_err-kind-clause-only
