@@ -1,5 +1,5 @@
 -- Lines without a line feed.
-use Rattle.std.proofs.Common.{◌≡◌, ℕ, ◌<◌, ◌^◌, nat_lt, true, true≢false, List, [], ◌∷◌, refl, sym, ap, ◌∙◌, arith, le-ltb}
+use Rattle.std.proofs.Common.{◌≡◌, ℕ, ◌<◌, ◌^◌, nat_lt, true, true≢false, List, [], ◌∷◌, refl, sym, ap, ◌∙◌, arith}
 use Rattle.std.specs.Prelude.{codes, Some, None}
 use Rattle.std.specs.Fmt.{decimal}
 use Rattle.std.specs.List.{AllByRecursion, join_with_byte, list_all}
@@ -13,14 +13,11 @@ use Rattle.reset_model.specs.declared.event.Event.TheVariants.{Claim, Follow, Ad
 use Rattle.reset_model.specs.declared.event.Event.TheVariants.{Mend, Act}
 use Rattle.reset_model.specs.declared.event_kind.EventKind.{EventKind}
 
-above : (byte : ℕ) (word : List ℕ) → list_all (λ b. nat_lt byte b) word ≡ true → HasNo byte word
-above byte [] h = tt
-above byte (b ∷ word) h =
-    let parts = and_parts (nat_lt byte b) (list_all (λ b. nat_lt byte b) word) h in
-    ((λ is. true≢false (sym parts.0 ∙ ap (nat_lt byte) is ∙ le-ltb byte byte (omega arith))), above byte word parts.1)
-
 pub letters : (word : List ℕ) → list_all (λ b. nat_lt 10 b) word ≡ true → HasNo 10 word
-letters = above 10
+letters [] h = tt
+letters (b ∷ word) h =
+    let parts = and_parts (nat_lt 10 b) (list_all (λ b. nat_lt 10 b) word) h in
+    ((λ is. true≢false (sym parts.0 ∙ ap (nat_lt 10) is)), letters word parts.1)
 
 -- the command of a kind of events has none
 pub command_plain : (kind : EventKind) → HasNo 10 (command_of kind)
@@ -34,19 +31,6 @@ command_plain EventKind.Join = letters (codes "join") refl
 command_plain EventKind.Finish = letters (codes "finish") refl
 command_plain EventKind.Mend = letters (codes "mend") refl
 command_plain EventKind.Act = letters (codes "act") refl
-
--- nor a space
-pub command_word : (kind : EventKind) → HasNo 32 (command_of kind)
-command_word EventKind.Claim = above 32 (codes "claim") refl
-command_word EventKind.Follow = above 32 (codes "follow") refl
-command_word EventKind.Adopt = above 32 (codes "adopt") refl
-command_word EventKind.Request = above 32 (codes "request") refl
-command_word EventKind.Relay = above 32 (codes "relay") refl
-command_word EventKind.Open = above 32 (codes "open") refl
-command_word EventKind.Join = above 32 (codes "join") refl
-command_word EventKind.Finish = above 32 (codes "finish") refl
-command_word EventKind.Mend = above 32 (codes "mend") refl
-command_word EventKind.Act = above 32 (codes "act") refl
 
 pub number : (n : ℕ) → n < 2 ^ 32 → HasNo 10 (decimal n)
 number n small = HasNo-decimal 10 n (λ digit. omega (arith, digit.0)) (omega (arith, small))
