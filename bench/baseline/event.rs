@@ -18,6 +18,61 @@ pub enum Event {
     Mend(u32),
 }
 
+/// The event whose line a text begins with, and what follows its line feed: read where it stands, without a search for
+/// the end of the line. The commands of a wave come first.
+pub fn split_event(text: &[u8]) -> Option<(Event, &[u8])> {
+    if let Some(rest) = text.strip_prefix(b"finish ") {
+        return split_one(rest, Event::Finish);
+    }
+    if let Some(rest) = text.strip_prefix(b"relay ") {
+        return split_two(rest, Event::Relay);
+    }
+    if let Some(rest) = text.strip_prefix(b"join ") {
+        return split_one(rest, Event::Join);
+    }
+    if let Some(rest) = text.strip_prefix(b"request ") {
+        return split_one(rest, Event::Request);
+    }
+    if let Some(rest) = text.strip_prefix(b"open ") {
+        return split_one(rest, Event::Open);
+    }
+    if let Some(rest) = text.strip_prefix(b"adopt ") {
+        return split_two(rest, Event::Adopt);
+    }
+    if let Some(rest) = text.strip_prefix(b"claim ") {
+        return split_one(rest, Event::Claim);
+    }
+    if let Some(rest) = text.strip_prefix(b"follow ") {
+        return split_one(rest, Event::Follow);
+    }
+    split_one(text.strip_prefix(b"mend ")?, Event::Mend)
+}
+
+fn split_one(text: &[u8], event: impl FnOnce(u32) -> Event) -> Option<(Event, &[u8])> {
+    let (at, after) = split_number(text, b'\n')?;
+    Some((event(at), after))
+}
+
+fn split_two(text: &[u8], event: impl FnOnce(u32, u32) -> Event) -> Option<(Event, &[u8])> {
+    let (at, rest) = split_number(text, b' ')?;
+    let (other, after) = split_number(rest, b'\n')?;
+    Some((event(at, other), after))
+}
+
+/// The number that a text begins with, as a word that this byte ends, and what follows the byte.
+fn split_number(text: &[u8], end: u8) -> Option<(u32, &[u8])> {
+    let mut value = 0u32;
+    for (length, byte) in text.iter().enumerate() {
+        let digit = byte.wrapping_sub(b'0');
+        if digit > 9 {
+            let is_number = length == 1 || length > 1 && text[0] != b'0';
+            return (*byte == end && is_number).then(|| (value, &text[length + 1..]));
+        }
+        value = value.checked_mul(10)?.checked_add(u32::from(digit))?;
+    }
+    None
+}
+
 /// The event of a command with its numbers.
 pub fn read_event(command: &[u8], at: u32, other: Option<u32>) -> Option<Event> {
     Some(match (command, other) {

@@ -2,6 +2,7 @@
 
 use crate::MAX_TEXT;
 use crate::draw::draw;
+use crate::event::split_event;
 use crate::faults::check;
 use crate::inject::{Fault, put_fault, read_fault};
 use crate::network::{App, Network, Node, Tree, Wave};
@@ -19,15 +20,22 @@ pub fn replay(network: &mut Network, script: &[u8], out: &mut impl Write) -> io:
         out.write_all(b"bad script TooLong\n")?;
         return Ok(false);
     }
-    for (before, line) in script.split(|byte| *byte == b'\n').enumerate() {
-        let bad = line.len() > MAX_LINE;
-        if !bad && (line.is_empty() || line[0] == b'#') {
+    let mut rest = script;
+    for number in 1.. {
+        if let Some((event, after)) = split_event(rest) {
+            put_answer(network.step(event), out)?;
+            rest = after;
             continue;
         }
-        if bad || !answer(network, line, out)? {
-            writeln!(out, "bad line {}", before + 1)?;
+        let end = rest.iter().position(|byte| *byte == b'\n');
+        let line = &rest[..end.unwrap_or(rest.len())];
+        let silent = line.is_empty() || line[0] == b'#';
+        if line.len() > MAX_LINE || !silent && !answer(network, line, out)? {
+            writeln!(out, "bad line {number}")?;
             return Ok(false);
         }
+        let Some(end) = end else { break };
+        rest = &rest[end + 1..];
     }
     Ok(true)
 }
