@@ -61,16 +61,23 @@ fn split_two(text: &[u8], event: impl FnOnce(u32, u32) -> Event) -> Option<(Even
 
 /// The number that a text begins with, as a word that this byte ends, and what follows the byte.
 fn split_number(text: &[u8], end: u8) -> Option<(u32, &[u8])> {
-    let mut value = 0u32;
-    for (length, byte) in text.iter().enumerate() {
-        let digit = byte.wrapping_sub(b'0');
-        if digit > 9 {
-            let is_number = length == 1 || length > 1 && text[0] != b'0';
-            return (*byte == end && is_number).then(|| (value, &text[length + 1..]));
+    let (first, mut rest) = split_digit(text)?;
+    let mut value = first;
+    if first != 0 {
+        while let Some((digit, after)) = split_digit(rest) {
+            value = value.checked_mul(10)?.checked_add(digit)?;
+            rest = after;
         }
-        value = value.checked_mul(10)?.checked_add(u32::from(digit))?;
     }
-    None
+    let (byte, after) = rest.split_first()?;
+    (*byte == end).then_some((value, after))
+}
+
+/// The digit that a text begins with, and what follows it.
+fn split_digit(text: &[u8]) -> Option<(u32, &[u8])> {
+    let (byte, after) = text.split_first()?;
+    let digit = byte.wrapping_sub(b'0');
+    (digit < 10).then(|| (u32::from(digit), after))
 }
 
 /// The event of a command with its numbers.
