@@ -13,7 +13,7 @@ use test_networks::WHOLE_RESET;
 use wave_layer::{Phase, WaveRegs};
 
 // What the node does by itself.
-pub fn next_at<P: Application>(
+pub(crate) fn next_at<P: Application>(
     rt: &impl Abort,
     alloc: Global,
     config: &Config<P>,
@@ -26,7 +26,7 @@ pub fn next_at<P: Application>(
 }
 
 // Puts wave registers at a node.
-pub fn put_wave<P: Application>(
+pub(crate) fn put_wave<P: Application>(
     rt: &impl Abort,
     config: &mut Config<P>,
     at: u32,
@@ -44,7 +44,7 @@ fn first_choices<P: Application>(rt: &impl Abort, alloc: Global) -> [Option<Even
 }
 
 // The action that names this neighbour, if it names one.
-pub fn act(at: u32, case: u8, with: Option<u32>) -> Option<Event> {
+pub(crate) fn act(at: u32, case: u8, with: Option<u32>) -> Option<Event> {
     Some(Event::Act { at, case, with })
 }
 

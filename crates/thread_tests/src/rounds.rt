@@ -15,7 +15,7 @@ use wave_layer::Phase;
 
 // What a test does with what is shared and its seats. The name of the sharing is a parameter, so that it is
 // written for each.
-pub trait Scene {
+pub(crate) trait Scene {
     fn play<L: Round, R: Wait + Abort>(
         rt: &R,
         alloc: Global,
@@ -25,7 +25,7 @@ pub trait Scene {
 }
 
 // Shares the book and plays the scene. Or the fault, and the book that came back.
-pub fn play<S: Scene, R: Wait + Abort>(
+pub(crate) fn play<S: Scene, R: Wait + Abort>(
     rt: &R,
     alloc: Global,
     book: Book<Idle>,
@@ -57,7 +57,10 @@ fn play_round<L: Round, S: Scene, R: Wait + Abort>(
 }
 
 // The seats of the nodes 1, 2, 3.
-pub fn three<L: Round>(rt: &impl Abort, mut seats: Vec<Seat<L>>) -> (Seat<L>, Seat<L>, Seat<L>) {
+pub(crate) fn three<L: Round>(
+    rt: &impl Abort,
+    mut seats: Vec<Seat<L>>,
+) -> (Seat<L>, Seat<L>, Seat<L>) {
     assert_eq!(rt; seats.len(), 3);
     let third = seat_of(rt, seats.pop(), 3);
     let second = seat_of(rt, seats.pop(), 2);
@@ -77,7 +80,7 @@ fn seat_of<L: Round>(rt: &impl Abort, seat: Option<Seat<L>>, node: u32) -> Seat<
 }
 
 // What the seat's node sees.
-pub fn seen<L: Round, R: Wait + Abort>(
+pub(crate) fn seen<L: Round, R: Wait + Abort>(
     rt: &R,
     alloc: Global,
     shared: &Shared<L, Idle>,
@@ -90,7 +93,7 @@ pub fn seen<L: Round, R: Wait + Abort>(
 }
 
 // What the event would do now at the seat's node.
-pub fn planned<L: Round, R: Wait + Abort>(
+pub(crate) fn planned<L: Round, R: Wait + Abort>(
     rt: &R,
     alloc: Global,
     shared: &Shared<L, Idle>,
@@ -104,14 +107,14 @@ pub fn planned<L: Round, R: Wait + Abort>(
 }
 
 // Whether the node with this view sees that this neighbour is initiate.
-pub fn sees_initiate(view: &View<Idle>, at: u32) -> bool {
+pub(crate) fn sees_initiate(view: &View<Idle>, at: u32) -> bool {
     view.neighbours()
         .iter()
         .any(|near| near.id == at && near.wave.phase == Phase::Initiate)
 }
 
 // That the event was applied at this position.
-pub fn applied(position: usize, event: Event) -> Receipt {
+pub(crate) fn applied(position: usize, event: Event) -> Receipt {
     Receipt {
         position,
         event,
@@ -120,7 +123,7 @@ pub fn applied(position: usize, event: Event) -> Receipt {
 }
 
 // The outcome of the sharing with these seats, which close it.
-pub fn closed<L: Round>(
+pub(crate) fn closed<L: Round>(
     rt: &impl Abort,
     alloc: Global,
     shared: Shared<L, Idle>,

@@ -10,12 +10,12 @@ use std::process::Abort;
 use topology::Topology;
 
 // The line of the nodes 1, 2, 3.
-pub fn line(rt: &impl Abort, alloc: Global) -> Topology {
+pub(crate) fn line(rt: &impl Abort, alloc: Global) -> Topology {
     built(rt, alloc, &[1, 2, 3], &[(1, 2), (2, 3)])
 }
 
 // The ring of the nodes 1 to 8.
-pub fn ring(rt: &impl Abort, alloc: Global) -> Topology {
+pub(crate) fn ring(rt: &impl Abort, alloc: Global) -> Topology {
     let mut nodes = Vec::new(alloc);
     let mut links = Vec::new(alloc);
     for id in 1..=8 {
@@ -27,7 +27,7 @@ pub fn ring(rt: &impl Abort, alloc: Global) -> Topology {
 }
 
 // The nodes 1 to 16 in four rows of four, each linked to the next of its row and the next of its column.
-pub fn grid(rt: &impl Abort, alloc: Global) -> Topology {
+pub(crate) fn grid(rt: &impl Abort, alloc: Global) -> Topology {
     let mut nodes = Vec::new(alloc);
     let mut links = Vec::new(alloc);
     for id in 1..=16 {
@@ -43,7 +43,7 @@ pub fn grid(rt: &impl Abort, alloc: Global) -> Topology {
 }
 
 // The nodes from 1 to the number of them, each linked to node 1.
-pub fn star(rt: &impl Abort, alloc: Global, count: u32) -> Topology {
+pub(crate) fn star(rt: &impl Abort, alloc: Global, count: u32) -> Topology {
     let mut nodes = Vec::new(alloc);
     let mut links = Vec::new(alloc);
     for id in 1..=count {
@@ -60,7 +60,11 @@ fn built(rt: &impl Abort, alloc: Global, nodes: &[u32], links: &[(u32, u32)]) ->
 }
 
 // The topology, booted.
-pub fn booted<P: Application>(rt: &impl Abort, alloc: Global, topology: Topology) -> Config<P> {
+pub(crate) fn booted<P: Application>(
+    rt: &impl Abort,
+    alloc: Global,
+    topology: Topology,
+) -> Config<P> {
     match Config::<P>::boot(alloc, topology) {
         Ok(config) => config,
         Err(_) => panic!(rt; "memory for a configuration"),
@@ -68,12 +72,16 @@ pub fn booted<P: Application>(rt: &impl Abort, alloc: Global, topology: Topology
 }
 
 // A book that opens with the booted topology.
-pub fn opened<P: Application>(rt: &impl Abort, alloc: Global, topology: Topology) -> Book<P> {
+pub(crate) fn opened<P: Application>(
+    rt: &impl Abort,
+    alloc: Global,
+    topology: Topology,
+) -> Book<P> {
     Book::open_book(alloc, booted::<P>(rt, alloc, topology), MAX_ENTRIES)
 }
 
 // A book of the booted line that has room for that many entries.
-pub fn small<P: Application>(rt: &impl Abort, alloc: Global, limit: usize) -> Book<P>
+pub(crate) fn small<P: Application>(rt: &impl Abort, alloc: Global, limit: usize) -> Book<P>
     requires { limit ≤ 1000000 }
 {
     Book::open_book(alloc, booted::<P>(rt, alloc, line(rt, alloc)), limit)
