@@ -1,5 +1,4 @@
-//! The steps of the tables as values, which a history keeps. A script does its commands as it reads them, by
-//! arms of its own: by way of such a value it would need 8 % more instructions.
+//! The steps of the tables as values, which a script's lines are read as and a history keeps.
 
 use crate::network::Network;
 use crate::tables::Answer;
