@@ -1,16 +1,17 @@
 -- The digits that a text begins with.
-use Rattle.std.proofs.Common.{◌≡◌, ℕ, ◌+◌, ◌*◌, ◌-◌, ◌<◌, ◌≤◌, ◌^◌, List, [], ◌∷◌, ◌++◌, refl, sym, ap, ap₂, ◌∙◌, subst}
-use Rattle.std.proofs.Common.{arith, length, get_or, take, drop, append_assoc, append-nil}
-use Rattle.std.specs.Char.{digit_value}
+use Rattle.std.proofs.Common.{◌≡◌, ℕ, zero, suc, ◌+◌, ◌*◌, ◌-◌, ◌<◌, ◌≤◌, ◌^◌, inl, inr, List, [], ◌∷◌, ◌++◌, Bor}
+use Rattle.std.proofs.Common.{Option, None, Some, IfNone, refl, sym, ap, ap₂, ◌∙◌, subst, arith, rules, length, get_or}
+use Rattle.std.proofs.Common.{take, drop, append_assoc, append-nil}
+use Rattle.std.specs.Char.{digit_char, digit_value}
 use Rattle.std.specs.Fmt.{decimal}
 use Rattle.std.specs.Str.Parse.{AllDigits, digits_value, digits_value_after}
-use Rattle.std.proofs.Math.Seq.{take-append_seam}
-use Rattle.std.proofs.lemmas.Fmt.{decimal_is_IsNumeral}
-use Rattle.std.proofs.lemmas.List.{length-append, take_all}
+use Rattle.std.proofs.lemmas.Fmt.{decimal_digit, decimal_is_IsNumeral, first_decimal}
+use Rattle.std.proofs.lemmas.List.{take_all}
 use Rattle.std.proofs.lemmas.Str.Parse.{digit_from_value}
+use Rattle.std.proofs.lemmas.Str.{digit_value-digit_char, digit_value_digit}
 use Rattle.action_tables.specs.Cuts.{AreLeadingDigits, BeginsWithNoDigit}
 use Rattle.action_tables.specs.LawsOfCuts.{SameCut}
-use Rattle.action_tables.proofs.NumberWords.{IsEmptyOrPadded, decimal_plain, found_number}
+use Rattle.action_tables.proofs.NumberWords.{IsEmptyOrPadded, found_number, positive}
 
 first_of : (x y : ℕ) (xs ys : List ℕ) → ◌≡◌ {A = List ℕ} (x ∷ xs) (y ∷ ys) → x ≡ y
 first_of x y xs ys e = cc
@@ -79,24 +80,21 @@ led_next text (c ∷ cs) value digit (digits, split, all, worth) some is small =
       ap₂ (λ v d. v * 10 + d) worth is ∙ sym (digits_then 0 digits (c ∷ [])),
     )
 
-pub led_to_end : (text left : List ℕ) (value : ℕ) → IsLedBy text value left → length left ≡ 0
+pub led_ends : (text left : List ℕ) (value : ℕ) → IsLedBy text value left → BeginsWithNoDigit left
     → AreLeadingDigits text value left
-led_to_end text [] value (digits, split, all, worth) none =
-    record { digits = digits; split = split; all = all; worth = worth; ends = tt }
-led_to_end text (c ∷ cs) value led none = absurd (omega (arith, none))
+led_ends text left value (digits, split, all, worth) ends =
+    record { digits = digits; split = split; all = all; worth = worth; ends = ends }
 
-pub led_to_other : (text left : List ℕ) (value : ℕ) → IsLedBy text value left → 1 ≤ length left
-    → (digit_value (get_or left 0 0) < 10 → ⊥) → AreLeadingDigits text value left
-led_to_other text [] value led some other = absurd (omega (arith, some))
-led_to_other text (c ∷ cs) value (digits, split, all, worth) some other =
-    record { digits = digits; split = split; all = all; worth = worth; ends = other }
+pub led_by_digit : (digit : ℕ) (text : List ℕ) → digit < 10 → IsLedBy (digit_char digit ∷ text) digit text
+led_by_digit digit text small =
+    let worth = digit_value-digit_char digit (omega (arith, small)) in
+    (digit_char digit ∷ [], refl, (omega (arith, worth, small), tt), omega (arith, worth))
 
 -- the value of more digits is greater
 pub too_large : (text left : List ℕ) (value : ℕ) → IsLedBy text value left → 2 ^ 32 ≤ value → (n : ℕ) (rest : List ℕ)
     → n < 2 ^ 32 → AreLeadingDigits text n rest → ⊥
 too_large text left value (digits, split, all, worth) large n rest small leading =
-    let (more, is) =
-    more_digits digits left leading.digits rest all leading.ends (sym split ∙ leading.split) in
+    let (more, is) = more_digits digits left leading.digits rest all leading.ends (sym split ∙ leading.split) in
     omega (
       arith,
       large,
@@ -107,6 +105,46 @@ too_large text left value (digits, split, all, worth) large n rest small leading
       digits_then 0 digits more,
       value_grows (digits_value 10 digits) more,
     )
+
+-- ---- a zero before a text
+
+without_zero : (text digits left : List ℕ) (value : ℕ) → 48 ∷ text ≡ digits ++ left → AllDigits 10 digits
+    → value ≡ digits_value 10 digits → BeginsWithNoDigit left → AreLeadingDigits text value left
+without_zero text [] [] value is all worth ends = absurd (cc)
+without_zero text [] (b ∷ bs) value is all worth ends =
+    absurd (ends (subst (λ x. digit_value x < 10) (first_of 48 b text bs is) (omega arith)))
+without_zero text (c ∷ cs) left value is all worth ends =
+    let none : digit_value c ≡ 0 = ap digit_value (sym (first_of 48 c text (cs ++ left) is)) in
+    record {
+      digits = cs;
+      split = rest_of 48 c text (cs ++ left) is;
+      all = all.1;
+      worth = worth ∙ ap (λ v. digits_value_after 10 (0 * 10 + v) cs) none;
+      ends = ends;
+    }
+
+pub zero_found : (text left : List ℕ) (value : ℕ) → AreLeadingDigits (48 ∷ text) value left
+    → AreLeadingDigits text value left
+zero_found text left value leading =
+    without_zero text leading.digits left value leading.split leading.all leading.worth leading.ends
+
+pub zero_leads : (text left : List ℕ) (value : ℕ) → AreLeadingDigits text value left
+    → AreLeadingDigits (48 ∷ text) value left
+zero_leads text left value leading =
+    record {
+      digits = 48 ∷ leading.digits;
+      split = ap (λ l. 48 ∷ l) leading.split;
+      all = (omega arith, leading.all);
+      worth = leading.worth;
+      ends = leading.ends;
+    }
+
+-- where they don't have 32 bits with it, they don't without
+pub none_without_zero : (r : Option (ℕ × Bor (List ℕ))) (text : List ℕ)
+    → IfNone r ((n : ℕ) (rest : List ℕ) → n < 2 ^ 32 → AreLeadingDigits (48 ∷ text) n rest → ⊥)
+    → IfNone r ((n : ℕ) (rest : List ℕ) → n < 2 ^ 32 → AreLeadingDigits text n rest → ⊥)
+none_without_zero None text none = λ n rest small leading. none n rest small (zero_leads text rest n leading)
+none_without_zero (Some r) text none = tt
 
 -- ---- a number that a byte ends
 
@@ -126,6 +164,84 @@ pub none_leads : (text : List ℕ) (end : ℕ) → end < 48
     → ((n : ℕ) (rest : List ℕ) → n < 2 ^ 32 → AreLeadingDigits text n rest → ⊥)
     → (n : ℕ) (rest : List ℕ) → n < 2 ^ 32 → text ≡ decimal n ++ end ∷ rest → ⊥
 none_leads text end below none n rest small is = none n (end ∷ rest) small (spelled text end n rest below small is)
+
+pub none_ended : (text : List ℕ) (end value : ℕ) (left : List ℕ) → end < 48 → AreLeadingDigits text value left
+    → ((rest : List ℕ) → left ≡ end ∷ rest → ⊥) → (n : ℕ) (rest : List ℕ) → n < 2 ^ 32
+    → text ≡ decimal n ++ end ∷ rest → ⊥
+unfolding spelled
+none_ended text end value left below leading other n rest small is =
+    let spelt = spelled text end n rest below small is in
+    let cut =
+    same_digits leading.digits (decimal n) left (end ∷ rest) leading.all spelt.all leading.ends spelt.ends
+    (sym leading.split ∙ is) in
+    other rest cut.back
+
+-- ---- a number that a byte ends, and its first digit
+
+-- a text that has a byte begins with its first
+begins_with : (left : List ℕ) (b : ℕ) → 1 ≤ length left → get_or left 0 0 ≡ b
+    → left ≡ b ∷ take (length left - 1) (drop 1 left)
+begins_with [] b some is = absurd (omega (arith, some))
+begins_with (c ∷ cs) b some is =
+    ap (λ x. x ∷ cs) is ∙ ap (λ l. b ∷ l) (sym (take_all (length (c ∷ cs) - 1) cs (omega arith)))
+
+digit_char_of : (digit : ℕ) → digit < 10 → digit_char digit ≡ 48 + digit
+digit_char_of digit small = search (arith, rules, small)
+
+pub begins_with_digit : (text : List ℕ) (digit : ℕ) → 1 ≤ length text → digit ≡ digit_value (get_or text 0 0)
+    → digit < 10 → text ≡ digit_char digit ∷ take (length text - 1) (drop 1 text)
+begins_with_digit text digit some is small =
+    let first = get_or text 0 0 in
+    let code = digit_value_digit first (digit_from_value first (omega (arith, is, small))) in
+    begins_with text (digit_char digit) some (omega (arith, is, code, digit_char_of digit small))
+
+first_is_digit : (digits rest : List ℕ) → 0 < length digits → AllDigits 10 digits
+    → digit_value (get_or (digits ++ rest) 0 0) < 10
+first_is_digit [] rest some all = absurd (omega (arith, some))
+first_is_digit (c ∷ cs) rest some all = all.0
+
+pub none_begun : (text : List ℕ) (end : ℕ) → (digit_value (get_or text 0 0) < 10 → ⊥) → (n : ℕ) (rest : List ℕ)
+    → n < 2 ^ 32 → text ≡ decimal n ++ end ∷ rest → ⊥
+none_begun text end other n rest small is =
+    let numeral = decimal_is_IsNumeral n (omega (arith, small)) in
+    other (subst (λ t. digit_value (get_or t 0 0) < 10) (sym is)
+    (first_is_digit (decimal n) (end ∷ rest) numeral.0.0 numeral.0.1))
+
+pub one_digit : (digit end : ℕ) (rest after : List ℕ) → digit < 10 → rest ≡ end ∷ after
+    → ◌≡◌ {A = List ℕ} (digit_char digit ∷ rest) (decimal digit ++ end ∷ after)
+one_digit digit end rest after small is =
+    rw (is, decimal_digit digit small, digit_char_of digit small) refl
+
+zero_first : (rest digits left : List ℕ) → 48 ∷ rest ≡ digits ++ left → 48 < get_or digits 0 0 → ⊥
+zero_first rest [] left is great = omega (arith, great)
+zero_first rest (c ∷ cs) left is great = omega (arith, great, first_of 48 c rest (cs ++ left) is)
+
+-- a zero is all of its number
+pub none_padded : (rest : List ℕ) (end : ℕ) → ((after : List ℕ) → rest ≡ end ∷ after → ⊥) → (n : ℕ) (after : List ℕ)
+    → n < 2 ^ 32 → 48 ∷ rest ≡ decimal n ++ end ∷ after → ⊥
+none_padded rest end other zero after small is =
+    other after
+    (rest_of 48 48 rest (end ∷ after) (is ∙ ap (λ ds. ds ++ end ∷ after) (decimal_digit 0 (omega arith))))
+none_padded rest end other (suc n) after small is =
+    zero_first rest (decimal (suc n)) (end ∷ after) is (first_decimal (suc n) (omega arith) (omega (arith, small)))
+
+not_padded : (first end : ℕ) (rest digits after : List ℕ) → 48 < first → end < 48
+    → first ∷ rest ≡ digits ++ end ∷ after → IsEmptyOrPadded digits → ⊥
+not_padded first end rest [] after great below is padded = omega (arith, great, below, first_of first end rest after is)
+not_padded first end rest (c ∷ cs) after great below is (inl none) = omega (arith, none)
+not_padded first end rest (c ∷ cs) after great below is (inr zeros) =
+    omega (arith, great, zeros.0, first_of first c rest (cs ++ end ∷ after) is)
+
+pub found_ended : (digit end value : ℕ) (rest left after : List ℕ) → digit < 10 → (digit ≡ 0 → ⊥) → end < 48
+    → value < 2 ^ 32 → AreLeadingDigits (digit_char digit ∷ rest) value left → left ≡ end ∷ after
+    → digit_char digit ∷ rest ≡ decimal value ++ end ∷ after
+found_ended digit end value rest left after few some below small leading is =
+    let split = leading.split ∙ ap (λ l. leading.digits ++ l) is in
+    let great : 48 < digit_char digit = omega (arith, positive digit some, digit_char_of digit few) in
+    let digits =
+    found_number leading.digits value (not_padded (digit_char digit) end rest leading.digits after great below split)
+    (leading.all, leading.worth) small in
+    split ∙ ap (λ ds. ds ++ end ∷ after) digits
 
 -- ---- a number that is a whole word
 
@@ -161,48 +277,3 @@ whole_found word value [] leading none small plain =
     is ∙ found_number leading.digits value (λ padded. plain (subst IsEmptyOrPadded (sym is) padded))
     (leading.all, leading.worth) small
 whole_found word value (c ∷ cs) leading none small plain = absurd (omega (arith, none))
-
--- the digits of a text that was cut behind them
-before : (text digits rest : List ℕ) → text ≡ digits ++ rest → take (length text - length rest) text ≡ digits
-before text digits rest h =
-    let count : length (digits ++ rest) - length rest ≡ length digits = omega (arith, length-append digits rest) in
-    rw h (rw count (take-append_seam digits rest))
-
-module _ (text : List ℕ) (end value : ℕ) (left : List ℕ) (below : end < 48)
-    (leading : AreLeadingDigits text value left) where
-  same : (n : ℕ) (rest : List ℕ) → n < 2 ^ 32 → text ≡ decimal n ++ end ∷ rest
-      → SameCut leading.digits (decimal n) left (end ∷ rest)
-  unfolding spelled
-  same n rest small is =
-      let other = spelled text end n rest below small is in
-      same_digits leading.digits (decimal n) left (end ∷ rest) leading.all other.all leading.ends other.ends
-      (sym leading.split ∙ is)
-
-  pub none_plain : IsEmptyOrPadded (take (length text - length left) text) → (n : ℕ) (rest : List ℕ) → n < 2 ^ 32
-      → text ≡ decimal n ++ end ∷ rest → ⊥
-  none_plain padded n rest small is =
-      decimal_plain n small
-      (subst IsEmptyOrPadded (before text leading.digits left leading.split ∙ (same n rest small is).prefix) padded)
-
-  pub none_ended : ((rest : List ℕ) → left ≡ end ∷ rest → ⊥) → (n : ℕ) (rest : List ℕ) → n < 2 ^ 32
-      → text ≡ decimal n ++ end ∷ rest → ⊥
-  none_ended other n rest small is = other rest (same n rest small is).back
-
-  pub found_ended : value < 2 ^ 32 → (IsEmptyOrPadded (take (length text - length left) text) → ⊥) → (rest : List ℕ)
-      → left ≡ end ∷ rest → text ≡ decimal value ++ end ∷ rest
-  found_ended small plain rest is =
-      let digits =
-      found_number leading.digits value
-      (λ padded. plain (subst IsEmptyOrPadded (sym (before text leading.digits left leading.split)) padded))
-      (leading.all, leading.worth) small in
-      leading.split ∙ ap₂ (λ ds l. ds ++ l) digits is
-
--- a text that has a byte begins with its first
-pub begins_with : (left : List ℕ) (b : ℕ) → 1 ≤ length left → get_or left 0 0 ≡ b
-    → left ≡ b ∷ take (length left - 1) (drop 1 left)
-begins_with [] b some is = absurd (omega (arith, some))
-begins_with (c ∷ cs) b some is =
-    ap (λ x. x ∷ cs) is ∙ ap (λ l. b ∷ l) (sym (take_all (length (c ∷ cs) - 1) cs (omega arith)))
-
-pub begins_so : (left rest : List ℕ) (b : ℕ) → left ≡ b ∷ rest → (1 ≤ length left) × (get_or left 0 0 ≡ b)
-begins_so left rest b is = rw is (omega arith, refl)

@@ -22,7 +22,7 @@ pub decimal_plain : (n : ℕ) → n < 2 ^ 32 → IsEmptyOrPadded (decimal n) →
 decimal_plain n h (inl none) = omega (arith, none, (decimal_is_IsNumeral n (omega arith)).0.0)
 decimal_plain n h (inr zeros) = decimal_short n (omega arith) zeros.0 zeros.1
 
-positive : (n : ℕ) → (n ≡ 0 → ⊥) → 0 < n
+pub positive : (n : ℕ) → (n ≡ 0 → ⊥) → 0 < n
 positive zero some = absurd (some refl)
 positive (suc n) some = omega arith
 
