@@ -1,9 +1,8 @@
 // Buffered output.
 
-ghost use Rattle.std.specs.Prelude.{◌≡◌, ◌<◌, ◌≤◌, ◌⊎◌, [], drop, length, vec_capacity, vec_len, Err, IfErr, IfOk};
-ghost use Rattle.std.specs.Prelude.{OnOk};
-ghost use Rattle.std.specs.Io.{WritesAtMost};
-ghost use Rattle.std.specs.Io.KnownBytes.{Keeps, WriteAppends};
+ghost use Rattle.std.specs.Prelude.{◌≡◌, ◌<◌, ◌≤◌, ◌+◌, ◌⊎◌, [], ◌++◌, drop, length, vec_len, Err, IfErr, IfOk};
+ghost use Rattle.std.specs.Prelude.{IfSome, OnOk};
+ghost use Rattle.std.specs.Io.KnownBytes.{Keeps};
 ghost use Rattle.script_replay.specs.declared.buffered_output.TheConstants.{ROOM};
 
 use crate::status::{RunStop, Status};
@@ -19,31 +18,37 @@ const ROOM: usize = 8192;
 #[derive(Drop)]
 pub struct BufferedOutput<W: Write + Drop> {
     out: W,
+    // It has all its bytes from the beginning, and the first `count` of them are held: so no write asks for memory,
+    // or has to see whether it must.
     held: Vec<u8>,
-    // What is held has room from the beginning, so that no write asks for memory.
-    ghost room: { ROOM ≤ vec_capacity held },
-    ghost small: { vec_len held ≤ ROOM },
+    count: usize,
+    ghost room: { vec_len held ≡ ROOM },
+    ghost small: { count ≤ ROOM },
 }
 
 impl<W: Write + Drop> BufferedOutput<W> {
-    ghost use Rattle.script_replay.specs.Buffering.{buffered_contents};
+    ghost use Rattle.script_replay.specs.Buffering.{TakesFirst, buffered_contents, held_bytes};
 
     /// An empty buffer before the writer.
     pub fn new(alloc: Global, out: W) -> Result<BufferedOutput<W>, AllocError>
         ensures out { IfOk result (λ buffered. buffered.out ≡ out) }
-        ensures empty { IfOk result (λ buffered. buffered.held.items ≡ []) }
+        ensures empty { IfOk result (λ buffered. held_bytes buffered ≡ []) }
     {
-        let held = Vec::with_capacity(alloc, ROOM)?;
-        Ok(BufferedOutput { out, held })
+        let held = vec![in alloc; 0; ROOM]?;
+        Ok(BufferedOutput {
+            out,
+            held,
+            count: 0,
+        })
     }
 
     /// Flushes the buffer.
     pub fn finish(&mut self) -> Result<(), RunStop>
-        ensures ok { OnOk result (self.new.held.items ≡ []) }
+        ensures ok { OnOk result (held_bytes self.new ≡ []) }
         ensures stop { IfErr result (λ stop. stop ≡ RunStop.WriteFailed) }
         ensures kept { Keeps (buffered_contents W.contents self.old) (buffered_contents W.contents self.new) }
     {
-        while !self.held.is_empty() {
+        while self.count != 0 {
             self.flush_once()?;
         }
         Ok(())
@@ -53,7 +58,7 @@ impl<W: Write + Drop> BufferedOutput<W> {
     /// failed. The answer is how the run ended, or that its last bytes could not be written.
     pub fn end(&mut self, ended: Result<Status, RunStop>) -> Result<Status, RunStop>
         ensures stopped { IfErr ended (λ stop. result ≡ Err stop) }
-        ensures ok { IfOk result (λ _. (result ≡ ended) × (self.new.held.items ≡ [])) }
+        ensures ok { IfOk result (λ _. (result ≡ ended) × (held_bytes self.new ≡ [])) }
         ensures failed { IfErr result (λ stop. (result ≡ ended) ⊎ (stop ≡ RunStop.WriteFailed)) }
         ensures after_fault { ended ≡ Err RunStop.WriteFailed → self.new ≡ self.old }
         ensures kept { Keeps (buffered_contents W.contents self.old) (buffered_contents W.contents self.new) }
@@ -71,45 +76,58 @@ impl<W: Write + Drop> BufferedOutput<W> {
         }
     }
 
-    // Writes what the buffer has room for, once it is flushed if it is full.
+    // Holds some bytes more, where there is room for them.
+    #[inline(always)]
+    fn hold(&mut self, bytes: &[u8])
+        requires { self.old.count + length bytes.now ≤ ROOM }
+        ensures out { self.new.out ≡ self.old.out }
+        ensures held { held_bytes self.new ≡ held_bytes self.old ++ bytes.now }
+    {
+        let end = self.count + bytes.len();
+        self.held.as_mut_slice()[self.count..end].copy_from_slice(bytes);
+        self.count = end;
+    }
+
+    // Takes what the buffer has room for, once it is flushed if it is full: how much, or `None` where that fails. It
+    // answers no `io::Result`, since one has 96 bytes, which each caller would clear before the call.
     #[inline(never)]
-    fn write_some(&mut self, bytes: &[u8]) -> io::Result<usize>
-        ensures bound { WritesAtMost result bytes.now }
-        ensures bytes { WriteAppends (buffered_contents W.contents self.old) (buffered_contents W.contents self.new)
+    fn write_some(&mut self, bytes: &[u8]) -> Option<usize>
+        ensures bound { IfSome result (λ count. count ≤ length bytes.now) }
+        ensures bytes { TakesFirst (buffered_contents W.contents self.old) (buffered_contents W.contents self.new)
             result bytes.now }
     {
-        if self.held.len() >= ROOM {
-            self.flush()?;
+        if self.count >= ROOM {
+            self.finish().ok()?;
         }
-        let count = bytes.len().min(ROOM - self.held.len());
-        self.held.extend_from_slice(&bytes[..count]).unwrap();
-        Ok(count)
+        let count = bytes.len().min(ROOM - self.count);
+        self.hold(&bytes[..count]);
+        Some(count)
     }
 
     // Flushes as much as one write takes.
     fn flush_once(&mut self) -> Result<(), RunStop>
-        ensures ok { OnOk result (length self.new.held.items < length self.old.held.items) }
+        ensures ok { OnOk result (length (held_bytes self.new) < length (held_bytes self.old)) }
         ensures stop { IfErr result (λ stop. stop ≡ RunStop.WriteFailed) }
         ensures kept { Keeps (buffered_contents W.contents self.old) (buffered_contents W.contents self.new) }
     {
-        match self.out.write(&self.held) {
+        match self.out.write(&self.held.as_slice()[..self.count]) {
             Ok(0) | Err(_) => Err(RunStop::WriteFailed),
             Ok(count) => {
-                remove_prefix(&mut self.held, count);
+                self.remove_front(count);
                 Ok(())
             }
         }
     }
-}
 
-fn remove_prefix(bytes: &mut Vec<u8>, count: usize)
-    requires { count ≤ length bytes.old.items }
-    ensures rest { bytes.new.items ≡ drop count bytes.old.items }
-    ensures capacity { vec_capacity bytes.new ≡ vec_capacity bytes.old }
-{
-    let left = bytes.len() - count;
-    bytes.as_mut_slice().copy_within(count.., 0);
-    bytes.truncate(left);
+    // Holds no more what was written, and moves what is left to the front.
+    fn remove_front(&mut self, count: usize)
+        requires { count ≤ self.old.count }
+        ensures out { self.new.out ≡ self.old.out }
+        ensures rest { held_bytes self.new ≡ drop count (held_bytes self.old) }
+    {
+        self.held.copy_within(count..self.count, 0);
+        self.count -= count;
+    }
 }
 
 impl<W: Write + Drop> Write for BufferedOutput<W> {
@@ -120,11 +138,14 @@ impl<W: Write + Drop> Write for BufferedOutput<W> {
     // Nearly each piece has room: it is one copy, which the compiler makes short where it knows the piece.
     #[inline(always)]
     fn write(&mut self, buf: &[u8]) -> io::Result<usize> {
-        if buf.len() <= ROOM - self.held.len() {
-            self.held.extend_from_slice(buf).unwrap();
+        if buf.len() <= ROOM - self.count {
+            self.hold(buf);
             return Ok(buf.len());
         }
-        self.write_some(buf)
+        match self.write_some(buf) {
+            Some(count) => Ok(count),
+            None => Err(io::Error::from(io::ErrorKind::Other)),
+        }
     }
 
     fn flush(&mut self) -> io::Result<()> {
