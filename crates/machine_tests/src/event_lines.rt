@@ -1,7 +1,7 @@
 // The lines of events.
 
 use action_tables::WriteFault;
-use reset_machine::{Event, read_event, split_event, split_word, write_event};
+use reset_machine::{Event, read_event, split_wave_event, split_word, write_event};
 use std::test::Fail;
 use test_devices::{FailingWriter, Fault};
 
@@ -52,12 +52,13 @@ fn cuts_at_the_first_space(rt: HostRuntime) {
 }
 
 #[test]
-fn splits_off_the_line_of_an_event(rt: HostRuntime) {
+fn splits_off_the_command_of_a_wave(rt: HostRuntime) {
     let relay = Event::Relay { at: 2, child: 1 };
     let split = (relay, b"open 3\n".as_slice());
-    assert_eq!(rt; split_event(b"relay 2 1\nopen 3\n"), Some(split));
-    assert_eq!(rt; split_event(b"relay 2 1"), None);
-    assert_eq!(rt; split_event(b"relay 2\n1\n"), None);
+    assert_eq!(rt; split_wave_event(b"relay 2 1\nopen 3\n"), Some(split));
+    assert_eq!(rt; split_wave_event(b"relay 2 1"), None);
+    assert_eq!(rt; split_wave_event(b"relay 2\n1\n"), None);
+    assert_eq!(rt; split_wave_event(b"claim 2\n"), None);
 }
 
 #[test]

@@ -1,7 +1,7 @@
 pub mod Children
 pub mod NearTrees
-pub mod NarrowChildren
-pub mod NarrowViews
+pub mod AskedChildren
+pub mod CommandRows
 pub mod RunLists
 pub mod Readiness
 pub mod StepClauses

@@ -1,7 +1,7 @@
 -- What the outcome of a step says of its result.
 use Rattle.std.proofs.Common.{◌≡◌, ◌≢◌, ℕ, false, ◌+◌, ◌<◌, List, [], ◌∷◌, ◌++◌, length}
 use Rattle.std.proofs.Common.{slice_get, slice_index, map, take, add-one, Option}
-use Rattle.std.proofs.Common.{IfSome, Result, Ok, Err, IfOk, IfErr, MatchResult, refl, sym, ap, ap₂, ◌∙◌}
+use Rattle.std.proofs.Common.{IfSome, Result, Ok, Err, IfOk, IfErr, MatchResult, refl, sym, ap, ap₂, subst, ◌∙◌}
 use Rattle.std.proofs.lemmas.List.{map-append}
 use Rattle.std.proofs.lemmas.Option.{slice_get-get_or}
 use Rattle.app_interface.specs.Application.{App}
@@ -101,6 +101,15 @@ module _ {L : Type 0} (app : App L) (c c' : Configuration L) (e : Event) where
   wave_is_outcome move at planned here (Ok reply) h none =
       put_wave_outcome app c c' e move reply planned h.0 (h.1 ∙ ap (λ i. after_fired app c i (Wave move)) here)
   wave_is_outcome move at planned here (Err f) h none = λ other. absurd (other none)
+
+-- what a command of a wave leaves is the outcome of the event that it is
+pub wave_outcome : {L : Type 0} (app : App L) (c c' : Configuration L) (e command : Event) → IsGraph c.graph
+    → e ≡ command → is_act command ≡ false → (r : Result Reply StepRefusal)
+    → MatchResult r (λ reply. row_outcome app c command ≡ Ok (c', reply))
+    (λ f. f ≢ NoMemory → row_outcome app c command ≡ Err f)
+    → IsOutcome app c c' e r
+wave_outcome app c c' e command graph same row r h =
+    subst (λ k. IsOutcome app c c' k r) (sym same) (row_is_outcome app c c' command graph row r h)
 
 -- ---- start states
 

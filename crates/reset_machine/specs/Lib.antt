@@ -1,5 +1,5 @@
 pub mod Place
-pub mod NarrowViews
+pub mod Commands
 pub mod Enabled
 pub mod ReadySet
 pub mod Known

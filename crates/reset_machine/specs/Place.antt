@@ -24,13 +24,6 @@ IsPlace p = position (λ i. i == p.id) p.config.graph.ids ≡ Some p.index
 abbrev pub IsNear : {L : Type 0} → NodePlace L → ℕ → ℕ → Type 0
 IsNear p j n = (position (λ i. i == j) p.config.graph.ids ≡ Some n) × (are_linked p.config.graph p.id j ≡ true)
 
--- where another node is named, it is a neighbour, and this is its index
-abbrev pub IsNamed : {L : Type 0} → NodePlace L → Option ℕ → Option ℕ → Type 0
-IsNamed p None None = Unit {0}
-IsNamed p None (Some n) = ⊥
-IsNamed p (Some j) None = ⊥
-IsNamed p (Some j) (Some n) = IsNear p j n
-
 -- the identifiers of the neighbours, ascending
 abbrev pub near_ids : {L : Type 0} → NodePlace L → List ℕ
 near_ids p = neighbours_of p.config.graph p.id

@@ -1,6 +1,6 @@
 // Configurations, and what they tell.
 
-ghost use Rattle.std.specs.Prelude.{◌≡◌, ◌≢◌, ◌↔◌, IsTrue, ℕ, ◌<◌, true, ◌==◌, position, Some, IfOk, IfErr, IfSome};
+ghost use Rattle.std.specs.Prelude.{◌≡◌, ◌≢◌, ◌↔◌, IsTrue, ℕ, ◌<◌, true, ◌==◌, position, Some, IfOk, IfErr, IfSome, false};
 ghost use Rattle.std.specs.Prelude.{length, slice_index};
 ghost use Rattle.std.specs.Prelude.{IfNone, OnOk, OnErr, MatchResult, Ok, Err};
 ghost use Rattle.topology.specs.Graph.{IsConnected, IsGraph, IsNode, greatest, node_bound};
@@ -9,6 +9,7 @@ ghost use Rattle.reset_model.specs.Outcome.{after_fired, fired_reply};
 ghost use Rattle.reset_model.specs.declared.plan.Fired.TheVariants.{Wave};
 
 use crate::action::acted;
+use crate::commands::{finish_fired, join_fired, open_fired, relay_fired, request_fired};
 use crate::enabled::{Enabled, enabled_at};
 use crate::node_view::{is_of, read_view};
 use crate::nodes::Nodes;
@@ -59,10 +60,11 @@ impl<P: Application> Model for Config<P> {
 impl<P: Application> Config<P> {
     ghost use Rattle.reset_model.specs.Configuration.{local_of, tree_of, wave_of};
     ghost use Rattle.reset_model.specs.Configuration.{with_graph, with_local, with_tree, with_wave};
+    ghost use Rattle.reset_machine.specs.Commands.{IsFired};
     ghost use Rattle.reset_machine.specs.Enabled.{enabled_rows, ready_of};
     ghost use Rattle.reset_model.specs.MachineSteps.{IsStep, IsRefused};
     ghost use Rattle.reset_model.specs.Runs.{IsDone, IsRun};
-    ghost use Rattle.reset_model.specs.Steps.{reply_of};
+    ghost use Rattle.reset_model.specs.Steps.{is_of_a_wave, reply_of};
     ghost use Rattle.reset_model.specs.Outcome.{IsBoot, act_outcome, row_outcome};
     ghost use Rattle.reset_model.specs.Planned.{after_effect, outcome_of};
     ghost use Rattle.reset_model.specs.View.{IsSeen, view_of};
@@ -94,6 +96,7 @@ impl<P: Application> Config<P> {
 
     /// Does what the event says at its node, or names the first refusal. A refused event changes
     /// nothing. It reads the node and its neighbours, and writes that node alone.
+    #[inline(always)]
     pub fn step(&mut self, alloc: Global, event: Event) -> Result<Reply, StepRefusal>
         // It is a step, with its reply.
         ensures ok { IfOk result (λ reply. IsStep P.app self.old event self.new) }
@@ -113,9 +116,81 @@ impl<P: Application> Config<P> {
     {
         self.lemma_is_graph();
         invariants::<P>();
+        self.perform(alloc, event)
+    }
+
+    // Does what an event says. The commands of a wave have arms of their own, so that each is compiled with its rows.
+    #[inline(always)]
+    fn perform(&mut self, alloc: Global, event: Event) -> Result<Reply, StepRefusal>
+        ensures kept { OnErr result (self.new ≡ self.old) }
+        ensures outcome { MatchResult result (λ reply. outcome_of P.app self.old event ≡ Ok (self.new, reply))
+            (λ f. f ≢ StepRefusal.NoMemory → outcome_of P.app self.old event ≡ Err f) }
+    {
+        self.lemma_is_graph();
+        match event {
+            Event::Request { at } => {
+                let fired = request_fired(&self.nodes, at);
+                self.write_fired(alloc, fired)
+            }
+            Event::Relay { at, child } => {
+                let fired = relay_fired(&self.nodes, at, child);
+                self.write_fired(alloc, fired)
+            }
+            Event::Open { at } => {
+                let fired = open_fired(&self.nodes, at);
+                self.write_fired(alloc, fired)
+            }
+            Event::Join { at } => {
+                let fired = join_fired(&self.nodes, at);
+                self.write_fired(alloc, fired)
+            }
+            Event::Finish { at } => {
+                let fired = finish_fired(&self.nodes, at);
+                self.write_fired(alloc, fired)
+            }
+            Event::Claim { .. }
+            | Event::Follow { .. }
+            | Event::Adopt { .. }
+            | Event::Mend { .. }
+            | Event::Act { .. } => {
+                let reply = self.step_apart(alloc, event)?;
+                Ok(reply)
+            }
+        }
+    }
+
+    // Does what an event says that is no command of a wave. It stands apart so that these, which are inlined where they
+    // are called, stay short.
+    #[inline(never)]
+    fn step_apart(&mut self, alloc: Global, event: Event) -> Result<Reply, StepRefusal>
+        requires { is_of_a_wave event ≡ false }
+        ensures kept { OnErr result (self.new ≡ self.old) }
+        ensures outcome { MatchResult result (λ reply. outcome_of P.app self.old event ≡ Ok (self.new, reply))
+            (λ f. f ≢ StepRefusal.NoMemory → outcome_of P.app self.old event ≡ Err f) }
+    {
+        self.lemma_is_graph();
         match event {
             Event::Act { at, case, with } => self.act(alloc, at, Arguments { case, with }),
             _ => self.fire(alloc, event),
+        }
+    }
+
+    // Writes what a command of a wave does, if it does something.
+    #[inline(always)]
+    fn write_fired(
+        &mut self,
+        alloc: Global,
+        fired: Result<(usize, WaveMove), StepRefusal>,
+    ) -> Result<Reply, StepRefusal>
+        requires { IfOk fired (λ p. p.0 < length self.old.graph.ids) }
+        ensures kept { OnErr result (self.new ≡ self.old) }
+        ensures outcome { (e : Event) → IsFired self.old e fired
+            → MatchResult result (λ reply. row_outcome P.app self.old e ≡ Ok (self.new, reply))
+            (λ f. f ≢ StepRefusal.NoMemory → row_outcome P.app self.old e ≡ Err f) }
+    {
+        match fired {
+            Ok((ix, fired)) => self.write_wave(alloc, ix, fired),
+            Err(refusal) => Err(refusal),
         }
     }
 
@@ -135,8 +210,9 @@ impl<P: Application> Config<P> {
         }
     }
 
-    // Fires a row of the tree table or of the wave table.
+    // Fires a row of the tree table, or one of the wave table that mends.
     fn fire(&mut self, alloc: Global, event: Event) -> Result<Reply, StepRefusal>
+        requires { is_of_a_wave event ≡ false }
         ensures kept { OnErr result (self.new ≡ self.old) }
         ensures outcome { MatchResult result (λ reply. row_outcome P.app self.old event ≡ Ok (self.new, reply))
             (λ f. f ≢ StepRefusal.NoMemory → row_outcome P.app self.old event ≡ Err f) }
@@ -155,6 +231,7 @@ impl<P: Application> Config<P> {
 
     // Writes what a row of the wave table leaves at the node with this index. The start state is copied
     // before the first change, since there may be no memory for it.
+    #[inline(always)]
     fn write_wave(
         &mut self,
         alloc: Global,
@@ -190,6 +267,7 @@ impl<P: Application> Config<P> {
     }
 
     // Puts wave registers at the node with this index.
+    #[inline(always)]
     fn set_wave(&mut self, index: usize, regs: WaveRegs)
         requires { index < length self.old.graph.ids }
         ensures { self.new ≡ with_wave self.old (slice_index self.old.graph.ids index) regs }

@@ -3,9 +3,9 @@
 #![tactic(auto)]
 
 mod action;
+mod commands;
 mod config;
 mod enabled;
-mod narrow;
 mod node_view;
 mod nodes;
 mod place;
@@ -19,7 +19,7 @@ pub use enabled::Enabled;
 pub use reset_model::{
     Done, Event, Near, Plan, Reply, StepRefusal, View, completions, completions_are_true,
     invariants, joins_once, mends_rest, no_step_is_refused, one_boot, one_event_a_line,
-    outcomes_are_steps, read_event, refinement, runs_stay_sound, sound_is_quiet, split_event,
+    outcomes_are_steps, read_event, refinement, runs_stay_sound, sound_is_quiet, split_wave_event,
     split_word, states_stay, steps_stay_sound, two_numbers, views_decide, wave_pictures,
     word_and_neighbour, write_event,
 };

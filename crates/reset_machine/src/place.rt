@@ -39,7 +39,7 @@ impl<'a, P: Application> Model for Place<'a, P> {
 }
 
 impl<'a, P: Application> Place<'a, P> {
-    ghost use Rattle.reset_machine.specs.Place.{IsNamed, IsNear, IsPlace, near_ids};
+    ghost use Rattle.reset_machine.specs.Place.{IsNear, IsPlace, near_ids};
 
     /// The node with this identifier. None where there is no such node.
     pub fn of(nodes: &'a Nodes<P>, id: u32) -> Option<Place<'a, P>>
@@ -150,17 +150,16 @@ impl<'a, P: Application> Place<'a, P> {
         self.nodes.topology().neighbour_at(self.index, id)
     }
 
-    /// The index of the neighbour that is named, if one is. A stranger is refused.
-    pub fn named(&self, other: Option<u32>) -> Result<Option<usize>, StepRefusal>
-        ensures ok { IfOk result (IsNamed self.now other) }
+    /// Whether the neighbour that is named, if one is, is a neighbour. A stranger is refused.
+    pub fn named(&self, other: Option<u32>) -> Result<(), StepRefusal>
         ensures near { OnOk result (is_neighbour self.now.config.graph self.now.id other ≡ true) }
         ensures err { IfErr result (λ f. f ≡ StepRefusal.StrangeNeighbour) }
         ensures stranger { OnErr result (is_neighbour self.now.config.graph self.now.id other ≡ false) }
     {
         match other {
-            None => Ok(None),
+            None => Ok(()),
             Some(id) => match self.neighbour(id) {
-                Some(index) => Ok(Some(index)),
+                Some(_) => Ok(()),
                 None => Err(StepRefusal::StrangeNeighbour),
             },
         }

@@ -58,6 +58,7 @@ pub fn read_children<P: Application>(
 }
 
 /// What the node's father register names.
+#[inline(always)]
 pub fn father_seen<P: Application>(place: &Place<'_, P>) -> FatherSeen
     ensures { result ≡ (wave_seen place.now).father }
 {

@@ -55,6 +55,19 @@ is_of_tree (Finish i) = false
 is_of_tree (Mend i) = false
 is_of_tree (Act i case with) = false
 
+-- the commands that a wave consists of
+abbrev pub is_of_a_wave : Event → Bool
+is_of_a_wave (Claim i) = false
+is_of_a_wave (Follow i) = false
+is_of_a_wave (Adopt i j) = false
+is_of_a_wave (Request i) = true
+is_of_a_wave (Relay i c) = true
+is_of_a_wave (Open i) = true
+is_of_a_wave (Join i) = true
+is_of_a_wave (Finish i) = true
+is_of_a_wave (Mend i) = false
+is_of_a_wave (Act i case with) = false
+
 -- the events of the application
 abbrev pub is_act : Event → Bool
 is_act (Claim i) = false

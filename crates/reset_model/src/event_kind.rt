@@ -92,7 +92,7 @@ fn after_adopt(line: &[u8]) -> Option<&[u8]>
 
 // What follows `request` and a space.
 #[inline(always)]
-fn after_request(line: &[u8]) -> Option<&[u8]>
+pub(crate) fn after_request(line: &[u8]) -> Option<&[u8]>
     ensures { IsAfter EventKind.Request line.now (option_map (λ rest. rest.now) result) }
 {
     match line {
@@ -103,7 +103,7 @@ fn after_request(line: &[u8]) -> Option<&[u8]>
 
 // What follows `relay` and a space.
 #[inline(always)]
-fn after_relay(line: &[u8]) -> Option<&[u8]>
+pub(crate) fn after_relay(line: &[u8]) -> Option<&[u8]>
     ensures { IsAfter EventKind.Relay line.now (option_map (λ rest. rest.now) result) }
 {
     match line {
@@ -114,7 +114,7 @@ fn after_relay(line: &[u8]) -> Option<&[u8]>
 
 // What follows `open` and a space.
 #[inline(always)]
-fn after_open(line: &[u8]) -> Option<&[u8]>
+pub(crate) fn after_open(line: &[u8]) -> Option<&[u8]>
     ensures { IsAfter EventKind.Open line.now (option_map (λ rest. rest.now) result) }
 {
     match line {
@@ -125,7 +125,7 @@ fn after_open(line: &[u8]) -> Option<&[u8]>
 
 // What follows `join` and a space.
 #[inline(always)]
-fn after_join(line: &[u8]) -> Option<&[u8]>
+pub(crate) fn after_join(line: &[u8]) -> Option<&[u8]>
     ensures { IsAfter EventKind.Join line.now (option_map (λ rest. rest.now) result) }
 {
     match line {
@@ -136,7 +136,7 @@ fn after_join(line: &[u8]) -> Option<&[u8]>
 
 // What follows `finish` and a space.
 #[inline(always)]
-fn after_finish(line: &[u8]) -> Option<&[u8]>
+pub(crate) fn after_finish(line: &[u8]) -> Option<&[u8]>
     ensures { IsAfter EventKind.Finish line.now (option_map (λ rest. rest.now) result) }
 {
     match line {

@@ -24,7 +24,7 @@ pub use node_view::{Near, View};
 pub use run_laws::{completions, invariants, joins_once, refinement, runs_stay_sound};
 pub use step::{Done, Reply, StepRefusal, reply_to};
 pub use text::{
-    one_event_a_line, read_event, split_event, split_word, two_numbers, word_and_neighbour,
+    one_event_a_line, read_event, split_wave_event, split_word, two_numbers, word_and_neighbour,
     write_event,
 };
 pub use view_plan::Plan;

@@ -1,7 +1,8 @@
 // What the rows of an event do, by what a node sees.
 
-ghost use Rattle.std.specs.Prelude.{◌≡◌};
-ghost use Rattle.reset_model.specs.LocalSteps.{first_fired, fired_row};
+ghost use Rattle.std.specs.Prelude.{◌≡◌, Err, MatchResult, Ok};
+ghost use Rattle.reset_model.specs.LocalSteps.{first_fired, fired_row, fired_wave};
+ghost use Rattle.reset_model.specs.declared.plan.Fired.TheVariants.{Wave};
 
 use crate::step::StepRefusal;
 use tree_layer::{TreeRefusal, TreeRegs, TreeView, tree_fire};
@@ -62,12 +63,24 @@ fn fired_row(seen: &Seen<'_>, named: Option<u32>, case: u8) -> Result<Fired, Ste
             Err(TreeRefusal::StrangeNeighbour) => Err(StepRefusal::StrangeNeighbour),
             Err(TreeRefusal::NoSuchCase | TreeRefusal::NotEnabled) => Err(StepRefusal::NotEnabled),
         },
-        Seen::Wave(view) => match wave_fire(view, case, named) {
+        Seen::Wave(view) => match fired_wave(wave_fire(view, case, named)) {
             Ok(fired) => Ok(Fired::Wave(fired)),
-            Err(WaveRefusal::SessionsSpent) => Err(StepRefusal::SessionsSpent),
-            Err(WaveRefusal::NoSuchCase | WaveRefusal::NotChild | WaveRefusal::NotEnabled) => {
-                Err(StepRefusal::NotEnabled)
-            }
+            Err(refusal) => Err(refusal),
         },
+    }
+}
+
+/// What a row of the wave table did, or why an event of the wave isn't a step. A neighbour that is no
+/// child can't have asked.
+#[inline(always)]
+pub fn fired_wave(fired: Result<WaveMove, WaveRefusal>) -> Result<WaveMove, StepRefusal>
+    ensures { MatchResult result (λ move. fired_wave fired ≡ Ok (Wave move)) (λ refusal. fired_wave fired ≡ Err refusal) }
+{
+    match fired {
+        Ok(fired) => Ok(fired),
+        Err(WaveRefusal::SessionsSpent) => Err(StepRefusal::SessionsSpent),
+        Err(WaveRefusal::NoSuchCase | WaveRefusal::NotChild | WaveRefusal::NotEnabled) => {
+            Err(StepRefusal::NotEnabled)
+        }
     }
 }

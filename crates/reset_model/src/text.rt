@@ -1,17 +1,20 @@
 // The lines that stand for events, and the words that lines are made of.
-ghost use Rattle.std.specs.Prelude.{◌≡◌, ℕ, ◌<◌, ◌≤◌, ◌^◌, List, [], ◌∷◌, ◌++◌, Option, IfSome, IfNone, OnOk};
+ghost use Rattle.std.specs.Prelude.{◌≡◌, ℕ, ◌<◌, ◌≤◌, ◌^◌, List, [], ◌∷◌, ◌++◌, Option, IfSome, IfNone, OnOk, true};
 ghost use Rattle.std.specs.Prelude.{OnErr};
 ghost use Rattle.std.specs.Fmt.{decimal};
 ghost use Rattle.std.specs.Io.KnownBytes.{Appends};
 ghost use Rattle.reset_model.specs.EventCommands.{command_of};
 ghost use Rattle.reset_model.specs.EventText.{event_line, event_words, neighbour_words, Fits};
+ghost use Rattle.reset_model.specs.Steps.{is_of_a_wave};
 ghost use Rattle.reset_model.specs.Words.{words_of};
 ghost use Rattle.action_tables.specs.Written.{AppendsPrefix};
 ghost use Rattle.reset_model.specs.declared.event.Event.{Event};
 ghost use Rattle.reset_model.specs.declared.event.Event.TheVariants.{Act};
 
 use crate::event::Event;
-use crate::event_kind::{EventKind, cut_kind};
+use crate::event_kind::{
+    EventKind, after_finish, after_join, after_open, after_relay, after_request, cut_kind,
+};
 use action_tables::{WriteFault, cut, put_bytes, put_number, read_number, split_number};
 use std::io::Write;
 
@@ -39,54 +42,35 @@ pub fn read_event(line: &[u8]) -> Option<Event>
     event_of(kind, rest)
 }
 
-/// The event whose line, with its line feed, a text begins with, and what follows it.
+/// The command of a wave whose line, with its line feed, a text begins with, and what follows it. Most lines of a script
+/// are such commands: one is read here where it stands, without a search for the end of its line.
 #[inline(always)]
-pub fn split_event(text: &[u8]) -> Option<(Event, &[u8])>
+pub fn split_wave_event(text: &[u8]) -> Option<(Event, &[u8])>
     ensures found { IfSome result (λ r. text.now ≡ event_line r.0 ++ 10 ∷ r.1.now) }
+    ensures wave { IfSome result (λ r. is_of_a_wave r.0 ≡ true) }
     ensures fits { IfSome result (λ r. Fits r.0) }
-    ensures only { IfNone result
-        ((e : Event) (rest : List ℕ) → Fits e → text.now ≡ event_line e ++ 10 ∷ rest → ⊥) }
+    ensures only { IfNone result ((e : Event) (rest : List ℕ) → Fits e → is_of_a_wave e ≡ true
+        → text.now ≡ event_line e ++ 10 ∷ rest → ⊥) }
 {
-    let (kind, rest) = cut_kind(text)?;
-    match kind {
-        EventKind::Claim => {
-            let (at, after) = split_number(rest, b'\n')?;
-            Some((Event::Claim { at }, after))
-        }
-        EventKind::Follow => {
-            let (at, after) = split_number(rest, b'\n')?;
-            Some((Event::Follow { at }, after))
-        }
-        EventKind::Adopt => {
-            let (at, from, after) = split_two_numbers(rest)?;
-            Some((Event::Adopt { at, from }, after))
-        }
-        EventKind::Request => {
-            let (at, after) = split_number(rest, b'\n')?;
-            Some((Event::Request { at }, after))
-        }
-        EventKind::Relay => {
-            let (at, child, after) = split_two_numbers(rest)?;
-            Some((Event::Relay { at, child }, after))
-        }
-        EventKind::Open => {
-            let (at, after) = split_number(rest, b'\n')?;
-            Some((Event::Open { at }, after))
-        }
-        EventKind::Join => {
-            let (at, after) = split_number(rest, b'\n')?;
-            Some((Event::Join { at }, after))
-        }
-        EventKind::Finish => {
-            let (at, after) = split_number(rest, b'\n')?;
-            Some((Event::Finish { at }, after))
-        }
-        EventKind::Mend => {
-            let (at, after) = split_number(rest, b'\n')?;
-            Some((Event::Mend { at }, after))
-        }
-        EventKind::Act => split_action(rest),
+    if let Some(rest) = after_finish(text) {
+        let (at, after) = split_number(rest, b'\n')?;
+        return Some((Event::Finish { at }, after));
     }
+    if let Some(rest) = after_relay(text) {
+        let (at, child, after) = split_two_numbers(rest)?;
+        return Some((Event::Relay { at, child }, after));
+    }
+    if let Some(rest) = after_join(text) {
+        let (at, after) = split_number(rest, b'\n')?;
+        return Some((Event::Join { at }, after));
+    }
+    if let Some(rest) = after_request(text) {
+        let (at, after) = split_number(rest, b'\n')?;
+        return Some((Event::Request { at }, after));
+    }
+    let rest = after_open(text)?;
+    let (at, after) = split_number(rest, b'\n')?;
+    Some((Event::Open { at }, after))
 }
 
 // Two numbers with a space between them, which a line feed ends, and what follows it.
@@ -100,20 +84,6 @@ fn split_two_numbers(text: &[u8]) -> Option<(u32, u32, &[u8])>
     let (first, rest) = split_number(text, b' ')?;
     let (second, after) = split_number(rest, b'\n')?;
     Some((first, second, after))
-}
-
-// The action whose numbers stand in a line that a line feed ends, and what follows it.
-#[inline(never)]
-fn split_action(text: &[u8]) -> Option<(Event, &[u8])>
-    ensures found { IfSome result
-        (λ r. command_of EventKind.Act ++ 32 ∷ text.now ≡ event_line r.0 ++ 10 ∷ r.1.now) }
-    ensures fits { IfSome result (λ r. Fits r.0) }
-    ensures only { IfNone result ((e : Event) (rest : List ℕ) → Fits e
-        → command_of EventKind.Act ++ 32 ∷ text.now ≡ event_line e ++ 10 ∷ rest → ⊥) }
-{
-    let (numbers, after) = cut(text, b'\n')?;
-    let event = action_of(numbers)?;
-    Some((event, after))
 }
 
 // The event of this kind whose numbers stand in what follows its command.

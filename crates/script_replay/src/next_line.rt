@@ -5,9 +5,9 @@ ghost use Rattle.script_replay.specs.Lines.{lines_of};
 ghost use Rattle.script_replay.specs.Parts.{next_text, HasFitting};
 
 use crate::input::split_line;
-use reset_machine::{Event, split_event};
+use reset_machine::{Event, split_wave_event};
 
-/// A line that a line feed ends: the event that it stands for, or its text.
+/// A line that a line feed ends: the command of a wave that it is, as an event, or its text.
 #[derive(Clone, Copy)]
 pub enum NextLine<'t> {
     Event(Event),
@@ -15,7 +15,7 @@ pub enum NextLine<'t> {
 }
 
 /// The first line of a text and what follows its line feed, or `None` where the text has no line
-/// feed: it is one line then. Most lines stand for events, which are read without a search for the line's end.
+/// feed: it is one line then. Most lines are commands of a wave, which are read without a search for the line's end.
 #[inline(always)]
 pub fn next_line(text: &[u8]) -> Option<(NextLine<'_>, &[u8])>
     ensures found { IfSome result (λ cut. lines_of text.now ≡ next_text cut.0 ∷ lines_of cut.1.now) }
@@ -23,7 +23,7 @@ pub fn next_line(text: &[u8]) -> Option<(NextLine<'_>, &[u8])>
     ensures shorter { IfSome result (λ cut. length cut.1.now < length text.now) }
     ensures only { IfNone result (lines_of text.now ≡ text.now ∷ []) }
 {
-    if let Some((event, after)) = split_event(text) {
+    if let Some((event, after)) = split_wave_event(text) {
         return Some((NextLine::Event(event), after));
     }
     let (line, after) = split_line(text)?;

@@ -199,6 +199,14 @@ abbrev pub wave_fired : LocalView → ℕ → Option ℕ → Result WaveMove Wav
 wave_fired v n named =
     fired_naming 11 names_child NoSuchCase NotChild NotEnabled (wave_table v) v.children n named
 
+-- what was fired or, where the row isn't fired, what the next one does
+abbrev pub or_next : Result WaveMove WaveRefusal → Result WaveMove WaveRefusal → Result WaveMove WaveRefusal
+or_next (Ok move) next = Ok move
+or_next (Err NoSuchCase) next = next
+or_next (Err NotChild) next = next
+or_next (Err NotEnabled) next = next
+or_next (Err SessionsSpent) next = Err SessionsSpent
+
 -- the predicate of a node's registers and those of its father, a neighbour
 pub record WaveHolds (own up : WaveRegs) : Type 0 where
   pub awake : is_reset up.phase ≡ false → (is_reset own.phase ≡ false) × (own.session ≡ up.session)

@@ -71,7 +71,8 @@ pub(crate) fn father_regs(view: &WaveView) -> WaveRegs
 }
 
 // The registers become these.
-fn becomes(phase: Phase, session: u32) -> Result<WaveMove, WaveRefusal>
+#[inline(always)]
+pub(crate) fn becomes(phase: Phase, session: u32) -> Result<WaveMove, WaveRefusal>
     ensures { result ≡ becomes phase session }
 {
     Ok(WaveMove {
@@ -82,7 +83,8 @@ fn becomes(phase: Phase, session: u32) -> Result<WaveMove, WaveRefusal>
 }
 
 // The same, and the local state becomes the start state.
-fn restarts(phase: Phase, session: u32) -> Result<WaveMove, WaveRefusal>
+#[inline(always)]
+pub(crate) fn restarts(phase: Phase, session: u32) -> Result<WaveMove, WaveRefusal>
     ensures { result ≡ restarts phase session }
 {
     Ok(WaveMove {

@@ -10,6 +10,7 @@ mod boot;
 mod effects;
 mod guards;
 mod holds;
+mod moves;
 mod regs;
 mod sessions;
 mod table;
@@ -17,6 +18,7 @@ mod view;
 
 pub use boot::boot_wave;
 pub use holds::wave_good;
+pub use moves::{finish, join, open, relay, request};
 pub use regs::{FatherSeen, Phase, WaveMove, WaveRefusal, WaveRegs};
 pub use table::{wave_enabled, wave_fire, wave_rows};
 pub use view::WaveView;

@@ -12,16 +12,16 @@ returns-in_default-clause-exact g c = λ _.
     event_fired-strange_node config.graph (node_bound config.graph) (tree_of config) (wave_of config) c.args.event
     (no_node config.graph.ids _ none)
 
-pub returns-in-Ok-rows_fired-clause-exact : goal.returns-in-Ok-rows_fired-clause-exact
-returns-in-Ok-rows_fired-clause-exact g c =
+pub returns-in-Ok-clause-exact : goal.returns-in-Ok-clause-exact
+returns-in-Ok-clause-exact g c =
     let found = c.in-Some.ensures.found in
     event_fired_at c.args.nodes.now _ c.args.event _ _ found.0 (found.1 ∙ c.node.ensures) c.named.ensures
-    (rw c.node.ensures at c.in-Some.ensures.node) c.in-Ok.ensures.near
-    ∙ c.in-Ok-rows_fired.ensures.exact
+    (rw c.node.ensures at c.in-Some.ensures.node) c.in_ok-named.ensures.near
+    ∙ c.in-Ok.ensures.exact
 
-pub returns-in-Err-rows_fired-clause-exact : goal.returns-in-Err-rows_fired-clause-exact
-returns-in-Err-rows_fired-clause-exact g c = λ other.
+pub returns-in-Err-clause-exact : goal.returns-in-Err-clause-exact
+returns-in-Err-clause-exact g c = λ other.
     let found = c.in-Some.ensures.found in
     event_fired_at c.args.nodes.now _ c.args.event _ _ found.0 (found.1 ∙ c.node.ensures) c.named.ensures
-    (rw c.node.ensures at c.in-Some.ensures.node) c.in-Ok.ensures.near
-    ∙ c.in-Err-rows_fired.ensures.exact other
+    (rw c.node.ensures at c.in-Some.ensures.node) c.in_ok-named.ensures.near
+    ∙ c.in-Err.ensures.exact other

@@ -2,8 +2,8 @@ use Rattle.std.proofs.Common.{refl, sym, ap, ◌∙◌}
 use Rattle.std.proofs.lemmas.Bool.{ne_eqb}
 use Rattle.reset_model.specs.Configuration.{tree_of, wave_of}
 use Rattle.reset_model.proofs.Positions.{found_is_node, id_at-position}
-use Rattle.reset_machine.proofs.NarrowChildren.{asked_child, asked_of_another}
-use Rattle.reset_machine.proofs.narrow.asked_child.Goals as goal
+use Rattle.reset_machine.proofs.AskedChildren.{asked_child, asked_of_another}
+use Rattle.reset_machine.proofs.commands.asked_child.Goals as goal
 
 pub returns-then-tree_at-id : goal.returns-then-tree_at-id
 returns-then-tree_at-id g c =

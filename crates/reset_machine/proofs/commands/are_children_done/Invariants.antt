@@ -2,7 +2,7 @@ use Rattle.std.proofs.Common.{◌≡◌, drop}
 use Rattle.wave_layer.specs.WaveTable.{children_done}
 use Rattle.reset_model.specs.Configuration.{tree_of, wave_of}
 use Rattle.reset_machine.proofs.Children.{children_among}
-use Rattle.reset_machine.proofs.narrow.unfinished_child.Given as goal
+use Rattle.reset_machine.proofs.commands.are_children_done.Given as goal
 
 -- the children among the neighbours that are left are done where all of them are
 abbrev pub invariant-loop-near : goal.invariant-loop-near

@@ -1,4 +1,4 @@
--- The one child that shows the rows of an event as much as all of them.
+-- The children that the rows of a relay and of a finish ask.
 use Rattle.std.proofs.Common.{◌≡◌, ℕ, ◌+◌, ◌<◌, ◌==◌, Bool, true, false, cond, ◌&&◌, List, [], ◌∷◌, Some, None, length}
 use Rattle.std.proofs.Common.{drop, map, slice_index, refl, sym, ap, ◌∙◌}
 use Rattle.std.proofs.lemmas.Bool.{eq-eqb}
@@ -20,27 +20,15 @@ module _ (g : Graph) (t : ℕ → TreeRegs) (w : ℕ → WaveRegs) (i c : ℕ) w
 
   -- it is a child
   pub asked_child : (regs : WaveRegs) → (t c).father ≡ i → are_linked g i c ≡ true → has g.ids c ≡ true → w c ≡ regs
-      → regs_of c ((c, regs) ∷ []) ≡ regs_of c (map (λ k. (k, w k)) (children_of g t i))
+      → Some regs ≡ regs_of c (map (λ k. (k, w k)) (children_of g t i))
   asked_child regs father linked node same =
       let named = eq-eqb (t c).father i father in
       let child : has (children_of g t i) c ≡ true = rw (has-children_of g t i c, named, linked, node) refl in
-      ap (λ b. cond b (Some regs) None) (eq-eqb c c refl) ∙ ap (λ r. Some r) (sym same) ∙ sym (asked true child)
+      ap (λ r. Some r) (sym same) ∙ sym (asked true child)
 
   -- its father is another node
-  pub asked_of_another : ((t c).father == i) ≡ false
-      → regs_of c [] ≡ regs_of c (map (λ k. (k, w k)) (children_of g t i))
+  pub asked_of_another : ((t c).father == i) ≡ false → None ≡ regs_of c (map (λ k. (k, w k)) (children_of g t i))
   asked_of_another other = sym (asked false (rw (has-children_of g t i c, other) refl))
-
-  -- it is no neighbour
-  pub asked_stranger : are_linked g i c ≡ false
-      → regs_of c [] ≡ regs_of c (map (λ k. (k, w k)) (children_of g t i))
-  asked_stranger stray =
-      sym (asked false
-      (has-children_of g t i c ∙ ap (λ b. ((t c).father == i) && (b && has g.ids c)) stray ∙ never ((t c).father == i)))
-    where
-      never : (b : Bool) → (b && false) ≡ false
-      never true = refl
-      never false = refl
 
 -- ---- the first child that isn't done
 

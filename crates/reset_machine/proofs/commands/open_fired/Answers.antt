@@ -1,0 +1,15 @@
+use Rattle.std.proofs.Common.{refl, sym}
+use Rattle.reset_model.specs.declared.event.Event.TheVariants.{Open}
+use Rattle.reset_machine.specs.Place.{wave_seen}
+use Rattle.reset_machine.proofs.CommandRows.{of_one, strange_here}
+use Rattle.reset_machine.proofs.commands.open_fired.Goals as goal
+
+pub returns-in_default : goal.returns-in_default
+returns-in_default g c = strange_here c.args.nodes.now (Open c.args.at) c.in_default.ensures.none
+
+pub returns : goal.returns
+returns g c =
+    let place = c.in-Some.place in
+    of_one c.args.nodes.now place.config (Open c.args.at) place.id _ _ c.in-Some.ensures.found.0 (c.fired_at.ensures (Open c.args.at)) 3 refl refl
+    (sym c.in-Some.ensures.found.1) refl
+    (c.open.ensures (wave_seen place) (sym c.wave.ensures) (sym c.is_root.ensures))
