@@ -31,6 +31,9 @@ fn splits_numbers_off(rt: HostRuntime) {
     let split = (4_294_967_295, b"1".as_slice());
     assert_eq!(rt; split_number(b"4294967295 1", b' '), Some(split));
     assert_eq!(rt; split_number(b"4294967296 1", b' '), None);
+    assert_eq!(rt; split_number(b"42949672950 1", b' '), None);
+    let zero = (0, b"1".as_slice());
+    assert_eq!(rt; split_number(b"0 1", b' '), Some(zero));
     assert_eq!(rt; split_number(b"01 1", b' '), None);
     assert_eq!(rt; split_number(b" 1", b' '), None);
     assert_eq!(rt; split_number(b"7,1", b' '), None);

@@ -3,7 +3,8 @@
 use action_tables::CaseSet;
 use wave_layer::FatherSeen::{self, Is, Itself, Lost};
 use wave_layer::{
-    Phase, WaveMove, WaveRefusal, WaveRegs, WaveView, wave_enabled, wave_fire, wave_good,
+    Phase, WaveMove, WaveRefusal, WaveRegs, WaveView, finish, join, open, relay, request,
+    wave_enabled, wave_fire, wave_good,
 };
 
 fn regs(phase: Phase, session: u32) -> WaveRegs {
@@ -203,6 +204,18 @@ fn agrees_with_a_plain_table(rt: HostRuntime) {
             }
         }
     }
+}
+
+#[test]
+fn the_commands_of_a_wave(rt: HostRuntime) {
+    assert_eq!(rt; request(normal(4)), Ok(moved(initiate(4))));
+    assert_eq!(rt; relay(normal(4), Some(initiate(4))), Ok(moved(initiate(4))));
+    assert_eq!(rt; open(initiate(4), true), Ok(restarted(reset(5))));
+    let last = initiate(u32::MAX);
+    assert_eq!(rt; open(last, true), Err(WaveRefusal::SessionsSpent));
+    assert_eq!(rt; join(initiate(4), Is(reset(5))), Ok(restarted(reset(5))));
+    assert_eq!(rt; finish(reset(5), false, true), Ok(moved(normal(5))));
+    assert_eq!(rt; finish(reset(5), true, true), Ok(completed(normal(5))));
 }
 
 #[test]
