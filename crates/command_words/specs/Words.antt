@@ -267,3 +267,8 @@ HasJob (Some s) = (IsOfScript s.0 × HasTexts (codes "SCRIPT") s.1)
 abbrev pub StandsFor : Error → LineFault → Type 0
 StandsFor error (BadWords kept) = (kept ≡ error) × (kind_of error ≢ OutOfMemory)
 StandsFor error NoMemory = kind_of error ≡ OutOfMemory
+
+-- what a fault is told as; of words that are a mistake clap has the text
+abbrev pub line_fault_text : LineFault → Option Text
+line_fault_text (BadWords error) = None
+line_fault_text NoMemory = Some (codes "out of memory")

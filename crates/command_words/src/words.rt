@@ -5,7 +5,7 @@ ghost use Rattle.clap.specs.Words.{first_of, found_of, kind_of, rows_of, subcomm
 ghost use Rattle.command_words.specs.declared.words.LineFault.TheVariants.{NoMemory};
 ghost use Rattle.command_words.specs.Words.{faults_of, AskFor, AskedBy, HasDrive, HasJob, HasRecord, HasShape};
 ghost use Rattle.command_words.specs.Words.{HasTexts, HasThreads, IsFaultOf, IsInvalidValue, IsNumberOr};
-ghost use Rattle.command_words.specs.Words.{IsNumberWithin, StandsFor};
+ghost use Rattle.command_words.specs.Words.{IsNumberWithin, StandsFor, line_fault_text};
 
 use crate::commands::command_line;
 use crate::drive_words::DriveWords;
@@ -84,6 +84,8 @@ impl From<AllocError> for LineFault {
 }
 
 impl fmt::Display for LineFault {
+    ghost output = { line_fault_text };
+
     fn fmt<W: fmt::Write>(&self, f: &mut fmt::Formatter<W>) -> fmt::Result {
         match self {
             LineFault::BadWords(error) => write!(f, "{error}"),

@@ -52,10 +52,11 @@ impl<P: Application> Verifier<P> {
             → HasVerified P.app P.from_text c es self → f ≡ VerifyFault.NotEnabledAt position
             → IsFirstRefused P.app P.from_text c es position) }
     {
-        match self.fault {
+        let Verifier { player, fault } = self;
+        match fault {
             None => Ok(Summary {
                 entries: count,
-                reports: self.player.reports,
+                reports: player.reports,
             }),
             Some(fault) => Err(fault),
         }

@@ -7,7 +7,7 @@ use Rattle.std.proofs.lemmas.List.Elements.{Contains-push_cases}
 use Rattle.topology.specs.Graph.{Graph, IsGraph, are_linked, neighbours_of, has}
 use Rattle.topology.proofs.Ascending.{index_once}
 use Rattle.topology.proofs.Membership.{Contains-has, has-Contains, has-filter}
-use Rattle.reset_machine.specs.ReadySet.{Doubts, DoubtsAll, DoubtsAround, IsApart, IsKnownIdle, IsKnownReady}
+use Rattle.reset_machine.specs.ReadySet.{Doubts, DoubtsAround, IsApart, IsKnownIdle, IsKnownReady}
 use Rattle.reset_machine.specs.ReadySet.{IsStanding}
 use Rattle.reset_machine.specs.ReadySet.{Standing}
 use Rattle.reset_machine.proofs.Standings.{node_below}
@@ -93,12 +93,4 @@ module _ (g : Graph) (s t : Standing) (i : ℕ) (graph : IsGraph g) (h : IsStand
         let place = before.0 in
         let n_low : n < length g.ids = omega (arith, place.3, count, node_below s h place.0 place.2) in
         (before.0, apart near n are within n_low before.1);
-  }
-
-  -- where nothing is known, nothing is known of these nodes
-  pub doubts_none : DoubtsAll s → DoubtsAround g s i s
-  doubts_none none = record {
-    count = refl;
-    ready = λ n is. absurd (omega (arith, is.1, none.0));
-    idle = λ n is. absurd (omega (arith, is.1, is.2, none.1));
   }

@@ -1,6 +1,6 @@
 -- Whether a node has something to do turns on what the node sees alone.
 use Rattle.std.proofs.Common.{◌≡◌, ◌≢◌, ℕ, Bool, true, false, cond, List, [], ◌∷◌, filter, map, slice_index, is_ok}
-use Rattle.std.proofs.Common.{length, ⊎_elim, refl, sym, ap, ap₂, subst, ◌∙◌, arith}
+use Rattle.std.proofs.Common.{length, ⊎_elim, refl, sym, ap, ap₂, subst, ◌∙◌, arith, Option, None, Some, IfSome}
 use Rattle.std.specs.List.{list_any}
 use Rattle.std.proofs.lemmas.Bool.{false≢true}
 use Rattle.std.proofs.lemmas.List.Elements.{filter_agree}
@@ -20,7 +20,7 @@ use Rattle.reset_model.proofs.Positions.{value_at-put_at_other}
 use Rattle.reset_model.proofs.ViewedOutcomes.{case-is, tree_view-is, wave_view-is}
 use Rattle.reset_machine.specs.Enabled.{arguments_of, has_work, is_ready, is_taken}
 use Rattle.reset_machine.specs.Known.{IsKnown}
-use Rattle.reset_machine.specs.ReadySet.{DoubtsAll, DoubtsAround, Settles, Standing, last_in_doubt}
+use Rattle.reset_machine.specs.ReadySet.{DoubtsAll, DoubtsAnyAround, DoubtsAround, Settles, Standing, last_in_doubt}
 use Rattle.reset_machine.proofs.NearSeen.{same_neighbour, same_view}
 
 -- ---- what a node sees
@@ -93,13 +93,19 @@ module _ {L : Type 0} (app : App L) where
 
   -- ---- what is known, after a write
 
-  module _ (c : Configuration L) (s t : Standing) (n : ℕ) (graph : IsGraph c.graph) (known : IsKnown app c s)
-      (doubts : DoubtsAround c.graph s n t) where
+  abbrev no_tree : TreeRegs
+  no_tree = record { root = 0; father = 0; dist = 0 }
+
+  abbrev no_wave : WaveRegs
+  no_wave = record { phase = Normal; session = 0 }
+
+  module _ (c : Configuration L) (n : ℕ) (graph : IsGraph c.graph) where
     abbrev at : ℕ
     at = slice_index c.graph.ids n
 
-    known_but : (d : Configuration L) → d.graph ≡ c.graph → AgreesBut app c d at → IsKnown app d t
-    known_but d same agrees = record {
+    still_known : (s t : Standing) → IsKnown app c s → DoubtsAround c.graph s n t → (d : Configuration L)
+        → d.graph ≡ c.graph → AgreesBut app c d at → IsKnown app d t
+    still_known s t known doubts d same agrees = record {
       count = doubts.count ∙ known.count ∙ ap (λ (g : Graph). length g.ids) (sym same);
       ready = λ m is. let before = doubts.ready m is in
           ap (λ (g : Graph). is_ready app d (slice_index g.ids m)) same
@@ -111,32 +117,51 @@ module _ {L : Type 0} (app : App L) where
           ∙ known.idle m before.0;
     }
 
-    pub known_tree : (regs : TreeRegs) → IsKnown app (with_tree c at regs) t
-    known_tree regs = known_but (with_tree c at regs) refl (record {
-      graph = refl;
-      tree =
-          λ k other. value_at-put_at_other (record { root = 0; father = 0; dist = 0 }) c.graph.ids c.trees at k regs
-          other;
-      wave = λ k other. refl;
-      local = λ k other. refl;
-    })
+    -- what is known before and after a write, if anything is
+    module _ (before after : Option Standing) (known : IfSome before (IsKnown app c))
+        (doubts : DoubtsAnyAround c.graph before n after) where
+      known_but : (d : Configuration L) → d.graph ≡ c.graph → AgreesBut app c d at → IfSome after (IsKnown app d)
+      known_but d same agrees = any before after known doubts
+        where
+          any : (s t : Option Standing) → IfSome s (IsKnown app c) → DoubtsAnyAround c.graph s n t
+              → IfSome t (IsKnown app d)
+          any None t is none = subst (λ k. IfSome k (IsKnown app d)) (sym none) tt
+          any (Some s) None is none = absurd none
+          any (Some s) (Some t) is around = still_known s t is around d same agrees
 
-    pub known_wave : (regs : WaveRegs) → IsKnown app (with_wave c at regs) t
-    known_wave regs = known_but (with_wave c at regs) refl (record {
-      graph = refl;
-      tree = λ k other. refl;
-      wave =
-          λ k other. value_at-put_at_other (record { phase = Normal; session = 0 }) c.graph.ids c.waves at k regs other;
-      local = λ k other. refl;
-    })
+      pub known_tree : (regs : TreeRegs) → IfSome after (IsKnown app (with_tree c at regs))
+      known_tree regs = known_but (with_tree c at regs) refl (record {
+        graph = refl;
+        tree = λ k other. value_at-put_at_other no_tree c.graph.ids c.trees at k regs other;
+        wave = λ k other. refl;
+        local = λ k other. refl;
+      })
 
-    pub known_local : (local : L) → IsKnown app (with_local c at local) t
-    known_local local = known_but (with_local c at local) refl (record {
-      graph = refl;
-      tree = λ k other. refl;
-      wave = λ k other. refl;
-      local = λ k other. value_at-put_at_other (app.start c.graph k) c.graph.ids c.locals at k local other;
-    })
+      pub known_wave : (regs : WaveRegs) → IfSome after (IsKnown app (with_wave c at regs))
+      known_wave regs = known_but (with_wave c at regs) refl (record {
+        graph = refl;
+        tree = λ k other. refl;
+        wave = λ k other. value_at-put_at_other no_wave c.graph.ids c.waves at k regs other;
+        local = λ k other. refl;
+      })
+
+      pub known_local : (local : L) → IfSome after (IsKnown app (with_local c at local))
+      known_local local = known_but (with_local c at local) refl (record {
+        graph = refl;
+        tree = λ k other. refl;
+        wave = λ k other. refl;
+        local = λ k other. value_at-put_at_other (app.start c.graph k) c.graph.ids c.locals at k local other;
+      })
+
+      -- both registers of the wave and the local state
+      pub known_restart : (regs : WaveRegs) (local : L)
+          → IfSome after (IsKnown app (with_wave (with_local c at local) at regs))
+      known_restart regs local = known_but (with_wave (with_local c at local) at regs) refl (record {
+        graph = refl;
+        tree = λ k other. refl;
+        wave = λ k other. value_at-put_at_other no_wave c.graph.ids c.waves at k regs other;
+        local = λ k other. value_at-put_at_other (app.start c.graph k) c.graph.ids c.locals at k local other;
+      })
 
   -- of all nodes in doubt nothing is known
   pub known_none : (c : Configuration L) (s : Standing) → length s.nodes ≡ length c.graph.ids → DoubtsAll s

@@ -1,6 +1,6 @@
 -- What is written at an index is written at the identifier that stands there.
 use Rattle.std.proofs.Common.{◌≡◌, ℕ, ◌<◌, ◌==◌, Bool, true, false, List, length, position, slice_index, slice_index_or}
-use Rattle.std.proofs.Common.{slice_set, Option, Some, Result, Ok, sym, ap, ◌∙◌}
+use Rattle.std.proofs.Common.{slice_set, Option, None, Some, Result, Ok, sym, ap, ◌∙◌}
 use Rattle.std.specs.List.Sorted.{IsStrictlyIncreasing}
 use Rattle.app_interface.specs.Application.{App}
 use Rattle.topology.specs.Graph.{node_bound}
@@ -11,8 +11,10 @@ use Rattle.reset_model.specs.Configuration.{Configuration, local_of, put_at, tre
 use Rattle.reset_model.specs.Configuration.{start_list, with_locals, with_wave}
 use Rattle.reset_model.specs.LocalSteps.{event_fired}
 use Rattle.reset_model.specs.Outcome.{act_outcome, acted, done, restarted, row_outcome}
+use Rattle.reset_model.specs.Planned.{after_effect}
 use Rattle.reset_model.specs.Steps.{event_node}
 use Rattle.reset_model.specs.declared.event.Event.{Event}
+use Rattle.reset_model.specs.declared.plan.Effect.TheVariants.{Wave}
 use Rattle.reset_model.specs.declared.plan.Fired.TheVariants.{Tree}
 use Rattle.reset_model.specs.declared.step.Reply.{Reply}
 use Rattle.reset_model.specs.declared.step.Reply.TheVariants.{Applied}
@@ -76,17 +78,16 @@ module _ {L : Type 0} (app : App L) (c : Configuration L) (index : ℕ) where
       read ∙ ap (λ xs. slice_index_or xs index x) are ∙ get_or-map (app.start c.graph) c.graph.ids index 0 x low
 
   -- a node that restarts has its start state again
-  pub restarted_wave : (mid d : Configuration L) (regs : WaveRegs) (b : Bool) (start : L) → b ≡ true
-      → start ≡ app.start c.graph at → mid ≡ with_local c at start
-      → d ≡ with_wave mid (slice_index mid.graph.ids index) regs
+  pub restarted_wave : (d : Configuration L) (regs : WaveRegs) (b : Bool) (put : Option L) (start : L) → b ≡ true
+      → start ≡ app.start c.graph at → put ≡ Some start → d ≡ after_effect c at (Wave regs put)
       → d ≡ with_wave (with_locals c (restarted app c at b)) at regs
-  restarted_wave mid d regs b start restarts is put written =
-      written
-      ∙ ap (λ (m : Configuration L). with_wave m (slice_index m.graph.ids index) regs) (put ∙ ap (with_local c at) is)
+  restarted_wave d regs b put start restarts is some written =
+      written ∙ ap (λ p. after_effect c at (Wave regs p)) (some ∙ ap Some is)
       ∙ ap (λ k. with_wave (with_locals c (restarted app c at k)) at regs) (sym restarts)
 
   -- any other keeps its local state
-  pub kept_wave : (d : Configuration L) (regs : WaveRegs) (b : Bool) → b ≡ false → d ≡ with_wave c at regs
-      → d ≡ with_wave (with_locals c (restarted app c at b)) at regs
-  kept_wave d regs b stays written =
-      written ∙ ap (λ k. with_wave (with_locals c (restarted app c at k)) at regs) (sym stays)
+  pub kept_wave : (d : Configuration L) (regs : WaveRegs) (b : Bool) (put : Option L) → b ≡ false → put ≡ None
+      → d ≡ after_effect c at (Wave regs put) → d ≡ with_wave (with_locals c (restarted app c at b)) at regs
+  kept_wave d regs b put stays none written =
+      written ∙ ap (λ p. after_effect c at (Wave regs p)) none
+      ∙ ap (λ k. with_wave (with_locals c (restarted app c at k)) at regs) (sym stays)

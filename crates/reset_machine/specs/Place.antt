@@ -1,5 +1,5 @@
 -- A node of a configuration, with its place among the others, and what is seen and done from there.
-use Rattle.std.specs.Prelude.{◌≡◌, ℕ, ◌==◌, true, List, Option, Some, None, Result, position}
+use Rattle.std.specs.Prelude.{◌≡◌, ℕ, ◌==◌, true, List, Option, Some, Result, position}
 use Rattle.app_interface.specs.Application.{App}
 use Rattle.topology.specs.Graph.{are_linked, neighbours_of, node_bound}
 use Rattle.tree_layer.specs.TreeTable as tree

@@ -1,6 +1,6 @@
 -- What is known of the nodes, by their indexes: which have something to do, and which have nothing.
 use Rattle.std.specs.Prelude.{◌≡◌, ◌≢◌, ℕ, ◌+◌, ◌-◌, ◌<◌, ◌≤◌, ◌⊎◌, Bool, true, false, List, length, slice_index}
-use Rattle.std.specs.Prelude.{slice_index_or}
+use Rattle.std.specs.Prelude.{slice_index_or, Option, None, Some, IsSomeAnd}
 use Rattle.std.specs.List.{range_with_len}
 use Rattle.std.specs.List.Sorted.{IsPermutation}
 use Rattle.topology.specs.Graph.{Graph, are_linked}
@@ -46,6 +46,11 @@ pub record DoubtsAround (g : Graph) (old : Standing) (i : ℕ) (new : Standing) 
   pub count : length new.nodes ≡ length old.nodes
   pub ready : (n : ℕ) → IsKnownReady new n → IsKnownReady old n × IsApart g i n
   pub idle : (n : ℕ) → IsKnownIdle new n → IsKnownIdle old n × IsApart g i n
+
+-- the same of what is known, if anything is
+abbrev pub DoubtsAnyAround : Graph → Option Standing → ℕ → Option Standing → Type 0
+DoubtsAnyAround g None i new = new ≡ None
+DoubtsAnyAround g (Some old) i new = IsSomeAnd new (DoubtsAround g old i)
 
 -- nothing is known
 abbrev pub DoubtsAll : Standing → Type 0

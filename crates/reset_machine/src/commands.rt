@@ -1,6 +1,6 @@
 // What the five commands of a wave do at their nodes. Each looks at the registers that its rows need, and gathers none.
 
-ghost use Rattle.std.specs.Prelude.{◌≡◌, ℕ, None, Some, true, false, Ok, Err, MatchResult};
+ghost use Rattle.std.specs.Prelude.{◌≡◌, true, false};
 ghost use Rattle.action_tables.specs.Nodes.{regs_of};
 ghost use Rattle.wave_layer.specs.WaveTable.{children_done, is_root};
 ghost use Rattle.reset_model.specs.declared.event.Event.{Event};

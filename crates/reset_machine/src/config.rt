@@ -1,5 +1,7 @@
 // Configurations, and what they tell.
 
+mod puts;
+
 ghost use Rattle.std.specs.Prelude.{◌≡◌, ◌≢◌, ◌↔◌, IsTrue, ℕ, ◌<◌, true, ◌==◌, position, Some, IfOk, IfErr, IfSome, false};
 ghost use Rattle.std.specs.Prelude.{length, slice_index};
 ghost use Rattle.std.specs.Prelude.{IfNone, OnOk, OnErr, MatchResult, Ok, Err};
@@ -16,7 +18,7 @@ use crate::nodes::Nodes;
 use crate::place::Place;
 use crate::plan::event_fired;
 use crate::ready::{ready_ids, settle_all};
-use crate::ready_set::ReadySet;
+use crate::ready_set::{ReadySet, doubt_around};
 use app_interface::Application;
 use reset_model::plan::{Effect, Fired};
 use reset_model::{
@@ -34,9 +36,9 @@ use wave_layer::{WaveMove, WaveRegs};
 #[derive(Drop)]
 pub struct Config<P: Application> {
     nodes: Nodes<P>,
-    // Which nodes have something to do, as far as it is known. A write puts its node and the neighbours
-    // into doubt, and the next one who asks tests those alone.
-    standing: ReadySet,
+    // Which nodes have something to do, as far as it is known: nothing is before someone asks. A write puts its node
+    // and the neighbours into doubt, and the next one who asks tests those alone.
+    known: Option<ReadySet>,
 }
 
 impl<P: Application> Model for Config<P> {
@@ -52,14 +54,15 @@ impl<P: Application> Model for Config<P> {
     // A contract doesn't see what is known of the nodes: it is true of the configuration.
     ghost view = { λ c. c.nodes };
 
+    ghost use Rattle.std.specs.Prelude.{IfSome};
     ghost use Rattle.reset_machine.specs.Known.{IsKnown};
 
-    ghost invariant = { λ c. IsKnown P.app c.nodes c.standing };
+    ghost invariant = { λ c. IfSome c.known (IsKnown P.app c.nodes) };
 }
 
 impl<P: Application> Config<P> {
     ghost use Rattle.reset_model.specs.Configuration.{local_of, tree_of, wave_of};
-    ghost use Rattle.reset_model.specs.Configuration.{with_graph, with_local, with_tree, with_wave};
+    ghost use Rattle.reset_model.specs.Configuration.{with_local, with_tree};
     ghost use Rattle.reset_machine.specs.Commands.{IsFired};
     ghost use Rattle.reset_machine.specs.Enabled.{enabled_rows, ready_of};
     ghost use Rattle.reset_model.specs.MachineSteps.{IsStep, IsRefused};
@@ -86,12 +89,8 @@ impl<P: Application> Config<P> {
         ensures value_returned { IfErr result (λ e. e.value ≡ topology) }
     {
         topology.lemma_is_graph();
-        let standing = match ReadySet::new(alloc, topology.len()) {
-            Ok(standing) => standing,
-            Err(AllocError) => return Err(AllocFailed { value: topology }),
-        };
         let nodes = Nodes::boot(alloc, topology)?;
-        Ok(Config { nodes, standing })
+        Ok(Config { nodes, known: None })
     }
 
     /// Does what the event says at its node, or names the first refusal. A refused event changes
@@ -120,6 +119,8 @@ impl<P: Application> Config<P> {
     }
 
     // Does what an event says. The commands of a wave have arms of their own, so that each is compiled with its rows.
+    // What the call apart replies is named before it is answered: passed on as it comes, it would keep all answers in
+    // memory.
     #[inline(always)]
     fn perform(&mut self, alloc: Global, event: Event) -> Result<Reply, StepRefusal>
         ensures kept { OnErr result (self.new ≡ self.old) }
@@ -244,14 +245,15 @@ impl<P: Application> Config<P> {
         ensures memory { IfErr result (λ f. f ≡ StepRefusal.NoMemory) }
         ensures kept { OnErr result (self.new ≡ self.old) }
     {
-        if fired.restarts {
-            let start = match P::copy(alloc, &self.nodes.starts()[ix]) {
-                Ok(start) => start,
+        let restarted = if fired.restarts {
+            match P::copy(alloc, &self.nodes.starts()[ix]) {
+                Ok(start) => Some(start),
                 Err(AllocError) => return Err(StepRefusal::NoMemory),
-            };
-            self.set_local(ix, start);
-        }
-        self.set_wave(ix, fired.regs);
+            }
+        } else {
+            None
+        };
+        self.set_wave(ix, fired.regs, restarted);
         Ok(reply_to(fired))
     }
 
@@ -262,18 +264,21 @@ impl<P: Application> Config<P> {
         ensures { self.new ≡ with_tree self.old (slice_index self.old.graph.ids index) regs }
     {
         self.nodes.lemma_is_graph();
-        self.standing.doubt_around(self.nodes.topology(), index);
+        doubt_around(&mut self.known, self.nodes.topology(), index);
         self.nodes.set_tree(index, regs);
     }
 
-    // Puts wave registers at the node with this index.
+    // Puts wave registers at the node with this index, and the local state that it restarts with, if it does.
     #[inline(always)]
-    fn set_wave(&mut self, index: usize, regs: WaveRegs)
+    fn set_wave(&mut self, index: usize, regs: WaveRegs, restarted: Option<P::Local>)
         requires { index < length self.old.graph.ids }
-        ensures { self.new ≡ with_wave self.old (slice_index self.old.graph.ids index) regs }
+        ensures { self.new ≡ after_effect self.old (slice_index self.old.graph.ids index) (Effect.Wave regs restarted) }
     {
         self.nodes.lemma_is_graph();
-        self.standing.doubt_around(self.nodes.topology(), index);
+        doubt_around(&mut self.known, self.nodes.topology(), index);
+        if let Some(local) = restarted {
+            self.nodes.set_local(index, local);
+        }
         self.nodes.set_wave(index, regs);
     }
 
@@ -283,7 +288,7 @@ impl<P: Application> Config<P> {
         ensures { self.new ≡ with_local self.old (slice_index self.old.graph.ids index) local }
     {
         self.nodes.lemma_is_graph();
-        self.standing.doubt_around(self.nodes.topology(), index);
+        doubt_around(&mut self.known, self.nodes.topology(), index);
         self.nodes.set_local(index, local);
     }
 
@@ -341,75 +346,8 @@ impl<P: Application> Config<P> {
     pub fn copy(&self, alloc: Global) -> Result<Config<P>, AllocError>
         ensures { IfOk result (λ copy. copy ≡ self.now) }
     {
-        let standing = ReadySet::new(alloc, self.nodes.topology().len())?;
         let nodes = self.nodes.copy(alloc)?;
-        Ok(Config { nodes, standing })
-    }
-
-    /// Puts tree registers at the node with this identifier, whatever they are, or refuses a
-    /// `StrangeNode`.
-    pub fn put_tree(&mut self, at: u32, regs: TreeRegs) -> Result<(), StepRefusal>
-        ensures ok { OnOk result (IsNode self.old.graph at × (self.new ≡ with_tree self.old at regs)) }
-        ensures err { IfErr result (λ f. (f ≡ StepRefusal.StrangeNode) × (IsNode self.old.graph at → ⊥)) }
-        ensures kept { OnErr result (self.new ≡ self.old) }
-    {
-        match self.nodes.topology().index_of(at) {
-            Some(ix) => {
-                self.set_tree(ix, regs);
-                Ok(())
-            }
-            None => Err(StepRefusal::StrangeNode),
-        }
-    }
-
-    /// Puts wave registers at the node with this identifier, whatever they are, or refuses a
-    /// `StrangeNode`.
-    pub fn put_wave(&mut self, at: u32, regs: WaveRegs) -> Result<(), StepRefusal>
-        ensures ok { OnOk result (IsNode self.old.graph at × (self.new ≡ with_wave self.old at regs)) }
-        ensures err { IfErr result (λ f. (f ≡ StepRefusal.StrangeNode) × (IsNode self.old.graph at → ⊥)) }
-        ensures kept { OnErr result (self.new ≡ self.old) }
-    {
-        match self.nodes.topology().index_of(at) {
-            Some(ix) => {
-                self.set_wave(ix, regs);
-                Ok(())
-            }
-            None => Err(StepRefusal::StrangeNode),
-        }
-    }
-
-    /// Puts a local state at the node with this identifier, whatever it is, or refuses a
-    /// `StrangeNode` and hands the local state back.
-    pub fn put_local(&mut self, at: u32, local: P::Local) -> Result<(), (StepRefusal, P::Local)>
-        ensures ok { OnOk result (IsNode self.old.graph at × (self.new ≡ with_local self.old at local)) }
-        ensures err { IfErr result (λ f. (f ≡ (StepRefusal.StrangeNode, local)) × (IsNode self.old.graph at → ⊥)) }
-        ensures kept { OnErr result (self.new ≡ self.old) }
-    {
-        match self.nodes.topology().index_of(at) {
-            Some(ix) => {
-                self.set_local(ix, local);
-                Ok(())
-            }
-            None => Err((StepRefusal::StrangeNode, local)),
-        }
-    }
-
-    /// Puts a topology of the same nodes, whatever its links. Registers and local states stay, and an open
-    /// or a join puts from now on the start state of this topology. Where memory is wanting the topology
-    /// comes back.
-    pub fn put_topology(
-        &mut self,
-        alloc: Global,
-        topology: Topology,
-    ) -> Result<(), AllocFailed<Topology>>
-        requires { topology.ids ≡ self.old.graph.ids }
-        ensures ok { OnOk result (self.new ≡ with_graph self.old topology) }
-        ensures value_returned { IfErr result (λ e. e.value ≡ topology) }
-        ensures kept { OnErr result (self.new ≡ self.old) }
-    {
-        self.nodes.set_topology(alloc, topology)?;
-        self.standing.doubt_all();
-        Ok(())
+        Ok(Config { nodes, known: None })
     }
 
     /// What the node with this identifier sees now, or a refusal: `StrangeNode`, or `NoMemory`.
@@ -475,11 +413,7 @@ impl<P: Application> Config<P> {
     {
         match effect {
             Effect::Tree(after) => self.set_tree(ix, after),
-            Effect::Wave(after, None) => self.set_wave(ix, after),
-            Effect::Wave(after, Some(restarted)) => {
-                self.set_local(ix, restarted);
-                self.set_wave(ix, after);
-            }
+            Effect::Wave(after, restarted) => self.set_wave(ix, after, restarted),
             Effect::Local(after) => self.set_local(ix, after),
         }
     }
@@ -504,9 +438,15 @@ impl<P: Application> Config<P> {
         ensures kept { self.new ≡ self.old }
     {
         self.nodes.lemma_is_graph();
-        settle_all(alloc, &self.nodes, &mut self.standing)?;
-        self.standing.lemma_is_standing();
-        ready_ids(alloc, self.nodes.topology(), self.standing.ready())
+        if self.known.is_none() {
+            self.known = Some(ReadySet::new(alloc, self.nodes.topology().len())?);
+        }
+        let Some(known) = &mut self.known else {
+            unreachable!()
+        };
+        settle_all(alloc, &self.nodes, known)?;
+        known.lemma_is_standing();
+        ready_ids(alloc, self.nodes.topology(), known.ready())
     }
 
     /// The topology.

@@ -1,6 +1,7 @@
 // Which nodes have something to do, as far as it is known.
 
-ghost use Rattle.std.specs.Prelude.{◌≡◌, ◌<◌, ◌≤◌, ◌↔◌, IsTrue, IfNone, IfOk, IfSome, length, take};
+ghost use Rattle.std.specs.Prelude.{◌≡◌, ◌<◌, ◌≤◌, IfNone, IfOk, IfSome, length, take};
+ghost use Rattle.reset_machine.specs.ReadySet.{DoubtsAnyAround};
 
 use indexmap::IndexSet;
 use std::alloc::{AllocError, Global};
@@ -61,13 +62,6 @@ impl ReadySet {
         let _ = &self.nodes;
     }
 
-    /// Whether nothing is known.
-    pub fn doubts_all(&self) -> bool
-        ensures { IsTrue result ↔ DoubtsAll self.now }
-    {
-        self.idle - self.ready == self.marks.len()
-    }
-
     /// Puts a node into doubt.
     pub fn doubt(&mut self, node: usize)
         requires { node < length self.old.nodes }
@@ -97,22 +91,10 @@ impl ReadySet {
     {
         topology.lemma_is_graph();
         self.lemma_is_standing();
-        if self.doubts_all() {
-            return;
-        }
         self.doubt(node);
         for near in topology.neighbours(node) {
             self.doubt(*near);
         }
-    }
-
-    /// Puts all nodes into doubt.
-    pub fn doubt_all(&mut self)
-        ensures count { length self.new.nodes ≡ length self.old.nodes }
-        ensures doubts { DoubtsAll self.new }
-    {
-        self.ready = 0;
-        self.idle = self.nodes.len();
     }
 
     /// The last node in doubt. None where none is.
@@ -150,5 +132,17 @@ impl ReadySet {
     {
         let nodes = &self.nodes;
         &nodes.as_slice()[..self.ready]
+    }
+}
+
+/// Puts a node of a topology and its neighbours into doubt, where something is known.
+#[inline(always)]
+pub fn doubt_around(known: &mut Option<ReadySet>, topology: &Topology, node: usize)
+    requires node { node < length topology.now.ids }
+    requires count { IfSome known.old (λ s. length s.nodes ≡ length topology.now.ids) }
+    ensures { DoubtsAnyAround topology.now known.old node known.new }
+{
+    if let Some(known) = known {
+        known.doubt_around(topology, node);
     }
 }

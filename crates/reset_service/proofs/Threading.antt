@@ -92,6 +92,13 @@ module _ {L : Type 0} (m : Meaning L) (c : Configuration L) where
       subst (λ x. IsKept m c (told_history x) (told_output x)) (sym is) (too_many (many by) refl)
   many_kept (Err stop) cause is many = tt
 
+-- and nothing is kept
+pub many_unkept : (r : Result Told RunStop) (cause : RunCause)
+    → IfOk r (λ told. (told ≡ TooManyNodes) × (cause ≡ TooManyForThreads))
+    → IfOk r (λ told. (told_output told).1 ≡ BadInput → told_history told ≡ [])
+many_unkept (Ok told) cause (is, by) = λ _. ap told_history is
+many_unkept (Err stop) cause is = tt
+
 -- ---- a topology is judged first
 
 pub threaded : (topology : List ℕ) (g : Graph) (app : AppName) (r : Result Told RunStop) → Describes topology g app

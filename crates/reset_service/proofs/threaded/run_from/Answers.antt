@@ -1,6 +1,6 @@
 use Rattle.std.proofs.Common.{◌≡◌, ◌<◌, ◌∙◌, ℕ, List, ap, length, subst}
 use Rattle.script_replay.specs.Meaning.{meaning_of}
-use Rattle.reset_service.proofs.Threading.{many_kept}
+use Rattle.reset_service.proofs.Threading.{many_kept, many_unkept}
 use Rattle.reset_service.proofs.threaded.run_from.Goals as goal
 
 pub returns-in-Err-clause-ok : goal.returns-in-Err-clause-ok
@@ -11,3 +11,6 @@ returns-in-Err-clause-ok g c =
     ap (λ b. b.config.graph.ids) c.open_book-book.ensures ∙ ap (λ x. x.graph.ids) c.in_ok-copy.ensures in
     many_kept m c.args.opening c.stopped_by.result c.in-Err.fault.cause c.stopped_by.ensures.many
     (λ many. subst (λ ids. 64 < length ids) same (c.in-Err.ensures.many many))
+
+pub returns-in-Err-clause-unkept : goal.returns-in-Err-clause-unkept
+returns-in-Err-clause-unkept g c = many_unkept c.stopped_by.result c.in-Err.fault.cause c.stopped_by.ensures.many

@@ -7,5 +7,5 @@ invariant_of-self g c =
     let i = c.self.inside in
     let doubts = rw c.topology.ensures at c.doubt_around.ensures in
     rw c.set_tree.ensures
-    (known_tree app i.nodes i.standing c.doubt_around.new.self c.args.index c.lemma_is_graph.ensures.graph
+    (known_tree app i.nodes c.args.index c.lemma_is_graph.ensures.graph i.known c.doubt_around.new.known
     c.self.invariant doubts c.args.regs)

@@ -1,6 +1,5 @@
 use Rattle.std.proofs.Common.{slice_index}
 use Rattle.reset_model.specs.Steps.{event_node}
-use Rattle.reset_model.proofs.ConfigurationSteps.{refused_outcome}
 use Rattle.reset_model.proofs.Positions.{id_at-position}
 use Rattle.reset_machine.proofs.StepClauses.{wave_is_outcome}
 use Rattle.reset_machine.proofs.config.Config.write_fired.Goals as goal

@@ -10,16 +10,16 @@ returns-clause-ok g c =
     let fired = c.args.fired in
     elim c.if-fired.branch [
       | then-fired+in-Ok w ↦
-          let starts = rw w.self.view_is at w.starts.ensures in
+          let starts = rw c.self.view_is at w.starts.ensures in
           let start = start_at app now c.args.ix w.starts.result.now _ starts c.requires
           w.index-starts-ix.is in (
             c.reply_to.ensures,
-            restarted_wave app now c.args.ix c.if-fired.self c.set_wave.new.self fired.regs fired.restarts w.in-Ok.start
-                w.if-fired.true (w.in-Ok.ensures ∙ start) (w.self-is ∙ w.set_local.ensures) c.set_wave.ensures,
+            restarted_wave app now c.args.ix c.set_wave.new.self fired.regs fired.restarts c.if-fired.restarted
+                w.in-Ok.start w.if-fired.true (w.in-Ok.ensures ∙ start) w.restarted-is c.set_wave.ensures,
           )
       | else-fired w ↦ (
         c.reply_to.ensures,
-        kept_wave app now c.args.ix c.set_wave.new.self fired.regs fired.restarts w.if-fired.false
-            (rw w.self-is at c.set_wave.ensures),
+        kept_wave app now c.args.ix c.set_wave.new.self fired.regs fired.restarts c.if-fired.restarted
+            w.if-fired.false w.restarted-is c.set_wave.ensures,
       )
     ]
