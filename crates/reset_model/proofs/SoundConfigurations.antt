@@ -73,6 +73,7 @@ boot_wave_picture app g c boot =
       outside = λ i node apart. absurd (apart (same _ _));
       resetting = λ i node reset. absurd (true≢false (sym reset ∙ awake i));
       edge = λ i node apart up. absurd (apart (same _ _));
+      together = λ i node apart above. same _ _;
     }
 
 pub pictures_sound : {L : Type 0} (c : Configuration L) → IsGraph c.graph → IsConnected c.graph

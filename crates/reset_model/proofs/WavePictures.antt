@@ -8,7 +8,6 @@ use Rattle.tree_layer.specs.TreePicture.{TreePicture}
 use Rattle.tree_layer.proofs.Leaders.{linked_node}
 use Rattle.wave_layer.specs.declared.regs.WaveRegs.{WaveRegs}
 use Rattle.wave_layer.specs.WaveTable.{WaveHolds, next_session}
-use Rattle.wave_layer.proofs.NextSession.{next_injective}
 use Rattle.reset_model.specs.Steps.{reset_at}
 use Rattle.reset_model.specs.WavePicture.{WaveSound, HasJoined, WavePicture}
 use Rattle.reset_model.proofs.Fathers.{IsTop, IsUnder, top_or_under, down_tree}
@@ -80,6 +79,19 @@ module _ (g : Graph) (graph : IsGraph g) (whole : IsConnected g) (t : ℕ → Tr
       (cases_Bool (reset_at w up)))
       (top_or_under g graph whole t picture i node)
 
+  late_together : (i : ℕ) → IsNode g i → (HasJoined g w i → ⊥) → (HasJoined g w (t i).father → ⊥)
+      → (w i).session ≡ (w (t i).father).session
+  late_together i node apart above =
+      ⊎_elim
+      (λ (top : IsTop g t i). absurd (apart (ap (λ k. (w k).session) top.greatest)))
+      (λ (under : IsUnder g t i).
+      let up = (t i).father in
+      ⊎_elim
+      (λ joined. absurd (above joined))
+      (λ (behind : IsBehind g w up). ((sound i up under.father).awake behind.awake).1)
+      (joined_or_behind up (linked_node g graph i up under.father.linked)))
+      (top_or_under g graph whole t picture i node)
+
   sound_picture : WavePicture g t w
   sound_picture = record {
     upward = fathers_joined;
@@ -88,6 +100,7 @@ module _ (g : Graph) (graph : IsGraph g) (whole : IsConnected g) (t : ℕ → Tr
         (λ (behind : IsBehind g w i). (behind.awake, behind.next)) (joined_or_behind i node);
     resetting = fathers_reset;
     edge = reset_at_edge;
+    together = late_together;
   }
 
 -- ---- from the picture to the predicate
@@ -105,8 +118,7 @@ module _ (g : Graph) (graph : IsGraph g) (t : ℕ → TreeRegs) (w : ℕ → Wav
       (λ (joined : HasJoined g w i). joined ∙ sym (wave.upward i node joined))
       (λ (apart : HasJoined g w i → ⊥).
       let above : HasJoined g w (t i).father → ⊥ = λ joined. true≢false (sym (wave.edge i node apart joined) ∙ up) in
-      next_injective (w i).session (w (t i).father).session
-      ((wave.outside i node apart).1 ∙ sym (wave.outside (t i).father up_node above).1))
+      wave.together i node apart above)
       (cases_eq (w i).session (w (leader g i)).session)
 
   late_under : reset_at w (t i).father ≡ true

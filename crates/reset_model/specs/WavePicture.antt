@@ -16,10 +16,13 @@ abbrev pub HasJoined : Graph → (ℕ → WaveRegs) → ℕ → Type 0
 HasJoined g w i = (w i).session ≡ (w (leader g i)).session
 
 -- the nodes that have joined contain their fathers; any other is not reset and one session behind;
--- the father of a reset node is reset, and so is a father that has joined before its child
+-- the father of a reset node is reset, and so is a father that has joined before its child; where neither has
+-- joined they have one session
 pub record WavePicture (g : Graph) (t : ℕ → TreeRegs) (w : ℕ → WaveRegs) : Type 0 where
   pub upward : (i : ℕ) → IsNode g i → HasJoined g w i → HasJoined g w (t i).father
   pub outside : (i : ℕ) → IsNode g i → (HasJoined g w i → ⊥)
       → (reset_at w i ≡ false) × (next_session (w i).session ≡ (w (leader g i)).session)
   pub resetting : (i : ℕ) → IsNode g i → reset_at w i ≡ true → reset_at w (t i).father ≡ true
   pub edge : (i : ℕ) → IsNode g i → (HasJoined g w i → ⊥) → HasJoined g w (t i).father → reset_at w (t i).father ≡ true
+  pub together : (i : ℕ) → IsNode g i → (HasJoined g w i → ⊥) → (HasJoined g w (t i).father → ⊥)
+      → (w i).session ≡ (w (t i).father).session
