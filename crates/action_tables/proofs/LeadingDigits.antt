@@ -10,14 +10,8 @@ use Rattle.std.proofs.lemmas.List.{take_all}
 use Rattle.std.proofs.lemmas.Str.Parse.{digit_from_value}
 use Rattle.std.proofs.lemmas.Str.{digit_value-digit_char, digit_value_digit}
 use Rattle.action_tables.specs.Cuts.{AreLeadingDigits, BeginsWithNoDigit}
-use Rattle.action_tables.specs.LawsOfCuts.{SameCut}
+use Rattle.action_tables.specs.LawsOfCuts.{SameCut, begins_with, first_of, rest_of}
 use Rattle.action_tables.proofs.NumberWords.{IsEmptyOrPadded, found_number, positive}
-
-first_of : (x y : ℕ) (xs ys : List ℕ) → ◌≡◌ {A = List ℕ} (x ∷ xs) (y ∷ ys) → x ≡ y
-first_of x y xs ys e = cc
-
-rest_of : (x y : ℕ) (xs ys : List ℕ) → ◌≡◌ {A = List ℕ} (x ∷ xs) (y ∷ ys) → xs ≡ ys
-rest_of x y xs ys e = cc
 
 -- ---- more digits
 
@@ -148,42 +142,35 @@ none_without_zero (Some r) text none = tt
 
 -- ---- a number that a byte ends
 
-spelled : (text : List ℕ) (end n : ℕ) (rest : List ℕ) → end < 48 → n < 2 ^ 32 → text ≡ decimal n ++ end ∷ rest
+spelled : (text : List ℕ) (end n : ℕ) (rest : List ℕ) → 10 ≤ digit_value end → n < 2 ^ 32 → text ≡ decimal n ++ end ∷ rest
     → AreLeadingDigits text n (end ∷ rest)
-spelled text end n rest below small is =
+spelled text end n rest other small is =
     let numeral = decimal_is_IsNumeral n (omega (arith, small)) in
     record {
       digits = decimal n;
       split = is;
       all = numeral.0.1;
       worth = sym numeral.1;
-      ends = λ digit. omega (arith, below, digit_from_value end digit);
+      ends = λ digit. omega (arith, other, digit);
     }
 
-pub none_leads : (text : List ℕ) (end : ℕ) → end < 48
+pub none_leads : (text : List ℕ) (end : ℕ) → 10 ≤ digit_value end
     → ((n : ℕ) (rest : List ℕ) → n < 2 ^ 32 → AreLeadingDigits text n rest → ⊥)
     → (n : ℕ) (rest : List ℕ) → n < 2 ^ 32 → text ≡ decimal n ++ end ∷ rest → ⊥
-none_leads text end below none n rest small is = none n (end ∷ rest) small (spelled text end n rest below small is)
+none_leads text end other none n rest small is = none n (end ∷ rest) small (spelled text end n rest other small is)
 
-pub none_ended : (text : List ℕ) (end value : ℕ) (left : List ℕ) → end < 48 → AreLeadingDigits text value left
-    → ((rest : List ℕ) → left ≡ end ∷ rest → ⊥) → (n : ℕ) (rest : List ℕ) → n < 2 ^ 32
-    → text ≡ decimal n ++ end ∷ rest → ⊥
+pub none_ended : (text : List ℕ) (end value : ℕ) (left : List ℕ) → 10 ≤ digit_value end
+    → AreLeadingDigits text value left → ((rest : List ℕ) → left ≡ end ∷ rest → ⊥) → (n : ℕ) (rest : List ℕ)
+    → n < 2 ^ 32 → text ≡ decimal n ++ end ∷ rest → ⊥
 unfolding spelled
-none_ended text end value left below leading other n rest small is =
-    let spelt = spelled text end n rest below small is in
+none_ended text end value left no_digit leading other n rest small is =
+    let spelt = spelled text end n rest no_digit small is in
     let cut =
     same_digits leading.digits (decimal n) left (end ∷ rest) leading.all spelt.all leading.ends spelt.ends
     (sym leading.split ∙ is) in
     other rest cut.back
 
 -- ---- a number that a byte ends, and its first digit
-
--- a text that has a byte begins with its first
-begins_with : (left : List ℕ) (b : ℕ) → 1 ≤ length left → get_or left 0 0 ≡ b
-    → left ≡ b ∷ take (length left - 1) (drop 1 left)
-begins_with [] b some is = absurd (omega (arith, some))
-begins_with (c ∷ cs) b some is =
-    ap (λ x. x ∷ cs) is ∙ ap (λ l. b ∷ l) (sym (take_all (length (c ∷ cs) - 1) cs (omega arith)))
 
 digit_char_of : (digit : ℕ) → digit < 10 → digit_char digit ≡ 48 + digit
 digit_char_of digit small = search (arith, rules, small)
@@ -225,21 +212,24 @@ none_padded rest end other zero after small is =
 none_padded rest end other (suc n) after small is =
     zero_first rest (decimal (suc n)) (end ∷ after) is (first_decimal (suc n) (omega arith) (omega (arith, small)))
 
-not_padded : (first end : ℕ) (rest digits after : List ℕ) → 48 < first → end < 48
+not_padded : (first end : ℕ) (rest digits after : List ℕ) → 48 < first → digit_value first < 10 → 10 ≤ digit_value end
     → first ∷ rest ≡ digits ++ end ∷ after → IsEmptyOrPadded digits → ⊥
-not_padded first end rest [] after great below is padded = omega (arith, great, below, first_of first end rest after is)
-not_padded first end rest (c ∷ cs) after great below is (inl none) = omega (arith, none)
-not_padded first end rest (c ∷ cs) after great below is (inr zeros) =
+not_padded first end rest [] after great digit other is padded =
+    omega (arith, digit, other, ap digit_value (first_of first end rest after is))
+not_padded first end rest (c ∷ cs) after great digit other is (inl none) = omega (arith, none)
+not_padded first end rest (c ∷ cs) after great digit other is (inr zeros) =
     omega (arith, great, zeros.0, first_of first c rest (cs ++ end ∷ after) is)
 
-pub found_ended : (digit end value : ℕ) (rest left after : List ℕ) → digit < 10 → (digit ≡ 0 → ⊥) → end < 48
-    → value < 2 ^ 32 → AreLeadingDigits (digit_char digit ∷ rest) value left → left ≡ end ∷ after
+pub found_ended : (digit end value : ℕ) (rest left after : List ℕ) → digit < 10 → (digit ≡ 0 → ⊥)
+    → 10 ≤ digit_value end → value < 2 ^ 32 → AreLeadingDigits (digit_char digit ∷ rest) value left → left ≡ end ∷ after
     → digit_char digit ∷ rest ≡ decimal value ++ end ∷ after
-found_ended digit end value rest left after few some below small leading is =
+found_ended digit end value rest left after few some other small leading is =
     let split = leading.split ∙ ap (λ l. leading.digits ++ l) is in
     let great : 48 < digit_char digit = omega (arith, positive digit some, digit_char_of digit few) in
+    let first : digit_value (digit_char digit) < 10 = omega (arith, few, digit_value-digit_char digit (omega (arith, few))) in
     let digits =
-    found_number leading.digits value (not_padded (digit_char digit) end rest leading.digits after great below split)
+    found_number leading.digits value
+    (not_padded (digit_char digit) end rest leading.digits after great first other split)
     (leading.all, leading.worth) small in
     split ∙ ap (λ ds. ds ++ end ∷ after) digits
 

@@ -1,5 +1,7 @@
 -- A text is cut at its first such byte in one way.
-use Rattle.std.proofs.Common.{◌≡◌, ℕ, ◌<◌, ◌^◌, List, [], ◌∷◌, ◌++◌, refl, sym, ap, ◌∙◌, subst}
+use Rattle.std.proofs.Common.{◌≡◌, ℕ, ◌-◌, ◌<◌, ◌≤◌, ◌^◌, List, [], ◌∷◌, ◌++◌, refl, sym, ap, ◌∙◌, subst, arith}
+use Rattle.std.proofs.Common.{drop, get_or, length, take}
+use Rattle.std.proofs.lemmas.List.{take_all}
 use Rattle.std.specs.Fmt.{decimal}
 use Rattle.std.specs.Int.{IsInRange}
 use Rattle.std.specs.Str.Parse.{AllDigits}
@@ -21,10 +23,18 @@ pub record SameCut (xs xs' ys ys' : List ℕ) : Type 0 where
   pub prefix : xs ≡ xs'
   pub back : ys ≡ ys'
 
-first_of : (x y : ℕ) (xs ys : List ℕ) → ◌≡◌ {A = List ℕ} (x ∷ xs) (y ∷ ys) → x ≡ y
+-- a text that has a byte begins with its first
+pub begins_with : (left : List ℕ) (b : ℕ) → 1 ≤ length left → get_or left 0 0 ≡ b
+    → left ≡ b ∷ take (length left - 1) (drop 1 left)
+begins_with [] b some is = absurd (omega (arith, some))
+begins_with (c ∷ cs) b some is =
+    ap (λ x. x ∷ cs) is ∙ ap (λ l. b ∷ l) (sym (take_all (length (c ∷ cs) - 1) cs (omega arith)))
+
+-- equal lists begin alike and go on alike
+pub first_of : (x y : ℕ) (xs ys : List ℕ) → ◌≡◌ {A = List ℕ} (x ∷ xs) (y ∷ ys) → x ≡ y
 first_of x y xs ys e = cc
 
-rest_of : (x y : ℕ) (xs ys : List ℕ) → ◌≡◌ {A = List ℕ} (x ∷ xs) (y ∷ ys) → xs ≡ ys
+pub rest_of : (x y : ℕ) (xs ys : List ℕ) → ◌≡◌ {A = List ℕ} (x ∷ xs) (y ∷ ys) → xs ≡ ys
 rest_of x y xs ys e = cc
 
 pub same_cut : (byte : ℕ) (xs xs' ys ys' : List ℕ) → HasNo byte xs → HasNo byte xs'

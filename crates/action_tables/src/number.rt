@@ -21,11 +21,10 @@ pub fn read_number(word: &[u8]) -> Option<u32>
     Some(value)
 }
 
-/// The number that a text begins with, as a word that this byte ends, and what follows the byte. It is a byte below
-/// the digits.
+/// The number that a text begins with, as a word that this byte ends, and what follows the byte. It is no digit.
 #[inline(always)]
 pub fn split_number(text: &[u8], end: u8) -> Option<(u32, &[u8])>
-    requires { end < 48 }
+    requires { 10 ≤ digit_value end }
     ensures found { IfSome result (λ r. text.now ≡ decimal r.0 ++ end ∷ r.1.now) }
     ensures small { IfSome result (λ r. r.0 < 2 ^ 32) }
     ensures only { IfNone result

@@ -38,6 +38,9 @@ fn splits_numbers_off(rt: HostRuntime) {
     assert_eq!(rt; split_number(b" 1", b' '), None);
     assert_eq!(rt; split_number(b"7,1", b' '), None);
     assert_eq!(rt; split_number(b"7", b' '), None);
+    let bracket = (12, b"\n".as_slice());
+    assert_eq!(rt; split_number(b"12]\n", b']'), Some(bracket));
+    assert_eq!(rt; split_number(b"12,\n", b']'), None);
 }
 
 #[test]

@@ -8,8 +8,8 @@ use Rattle.std.proofs.lemmas.List.Elements.{All-cons, All-head, All-nil, All-tai
 use Rattle.topology.specs.TopologyText.{Description}
 use Rattle.topology.specs.declared.text.AppName.{AppName}
 use Rattle.topology.specs.declared.text.AppName.TheVariants.{Idle, Token, Mutex, Routes}
-use Rattle.network_shapes.specs.TopologyTable.{app_word, array_text, description_text, line_text, link_text}
-use Rattle.network_shapes.proofs.Tables.{IsSmall, IsSmallLink}
+use Rattle.topology.specs.TopologyTable.{app_word, array_text, description_text, line_text, link_text}
+use Rattle.topology.specs.TopologyTable.{IsSmall, IsSmallLink}
 
 module _ {X : Type 0} (text_of : X → List ℕ) (k : ℕ) where
   rest_length : (xs : List X) → All (λ x. length (text_of x) ≤ k) xs

@@ -2,7 +2,6 @@ mod Ranges
 mod Widths
 mod Lesser
 mod Linked
-mod Tables
 mod Written
 mod Lengths
 mod Printed

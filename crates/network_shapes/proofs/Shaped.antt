@@ -7,7 +7,7 @@ use Rattle.network_shapes.specs.declared.shape.Shape.{Shape}
 use Rattle.network_shapes.proofs.Lesser.{lesser_nodes-are}
 use Rattle.network_shapes.proofs.Linked.{IsUpward, has_lesser, links_of-apart, links_of-few, links_of-upward}
 use Rattle.network_shapes.proofs.Ranges.{number_at}
-use Rattle.network_shapes.proofs.Tables.{IsSmall, IsSmallLink}
+use Rattle.topology.specs.TopologyTable.{IsSmall, IsSmallLink}
 
 pub node_numbers-small : (count : ℕ) → count ≤ 1024 → All IsSmall (node_numbers count)
 node_numbers-small count few k d within =

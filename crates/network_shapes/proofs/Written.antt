@@ -3,22 +3,17 @@ use Rattle.std.proofs.Common.{◌≡◌, ℕ, Bool, true, false, List, [], ◌�
 use Rattle.std.proofs.Common.{subst, ◌∙◌}
 use Rattle.std.specs.List.{flat_map, join_by}
 use Rattle.std.proofs.lemmas.List.{append-nil, append_assoc}
-use Rattle.toml.specs.Data.{Data, Items, item, no_items, string}
+use Rattle.toml.specs.Data.{Data, string}
 use Rattle.toml.specs.Tables.{key_value}
-use Rattle.toml.specs.Text.{IsDocumentText, IsItemsText, IsLineText, IsLinesText, IsValueText, breaks_lines}
+use Rattle.toml.specs.Text.{IsDocumentText, IsItemsText, IsLineText, IsLinesText, IsValueText}
 use Rattle.toml.specs.Text.{expressions}
 use Rattle.toml.specs.View.{items_of}
-use Rattle.toml_writer.specs.Text.{encoding_of, escaped, key_text, needs_escape, quotes_after, string_text}
+use Rattle.toml_writer.specs.Text.{key_text}
 use Rattle.topology.specs.TopologyText.{Description}
 use Rattle.topology.specs.declared.text.AppName.{AppName}
-use Rattle.topology.specs.declared.text.AppName.TheVariants.{Idle, Token, Mutex, Routes}
-use Rattle.network_shapes.specs.TopologyTable.{app_word, array_data, array_text, description_members, description_text}
-use Rattle.network_shapes.specs.TopologyTable.{line_text, link_data, link_text, number_data}
-
-no_breaks : (ds : Items) → breaks_lines false ds ≡ false
-no_breaks no_items = refl
-no_breaks (item d no_items) = refl
-no_breaks (item d (item e ds)) = refl
+use Rattle.topology.proofs.PlainTexts.{app_written, no_breaks}
+use Rattle.topology.specs.TopologyTable.{app_word, array_data, array_text, description_members, description_text}
+use Rattle.topology.specs.TopologyTable.{line_text, link_data, link_text, number_data}
 
 -- each value of a kind is written in one way
 abbrev IsWritten : {X : Type 0} → (X → Data) → (X → List ℕ) → Type 0
@@ -50,13 +45,6 @@ number_written n text is = is.0
 
 link_written : IsWritten link_data link_text
 link_written l text is = array_written number_data decimal number_written (l.0 ∷ l.1 ∷ []) text is
-
-app_written : (app : AppName) → string_text (app_word app) ≡ codes "\"" ++ (app_word app ++ codes "\"")
-unfolding string_text encoding_of escaped needs_escape quotes_after
-app_written Idle = refl
-app_written Token = refl
-app_written Mutex = refl
-app_written Routes = refl
 
 keys_written : (key_text (codes "app") ≡ codes "app") × (key_text (codes "links") ≡ codes "links")
     × (key_text (codes "nodes") ≡ codes "nodes")

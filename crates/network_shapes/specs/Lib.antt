@@ -1,2 +1,1 @@
 pub mod Shapes
-pub mod TopologyTable

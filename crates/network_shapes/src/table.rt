@@ -3,7 +3,7 @@
 ghost use Rattle.std.specs.Prelude.{◌≡◌, IfOk};
 ghost use Rattle.toml.specs.Data.{string};
 ghost use Rattle.toml.specs.View.{table_view, view};
-ghost use Rattle.network_shapes.specs.TopologyTable.{app_word, array_data, description_members, link_data, number_data};
+ghost use Rattle.topology.specs.TopologyTable.{app_word, array_data, description_members, link_data, number_data};
 
 use std::alloc::{AllocError, Global};
 use toml::{Table, Value};

@@ -6,7 +6,7 @@ use Rattle.topology.specs.declared.text.AppName.{AppName}
 use Rattle.topology.specs.declared.text.AppName.TheVariants.{Idle}
 use Rattle.topology.specs.declared.text.ReadFault.{ReadFault}
 use Rattle.network_shapes.specs.Shapes.{shape_description}
-use Rattle.network_shapes.specs.TopologyTable.{description_text}
+use Rattle.topology.specs.TopologyTable.{description_text}
 use Rattle.network_shapes.specs.declared.shape.Shape.{Shape}
 use Rattle.network_shapes.specs.declared.shape.Shape.TheVariants.{Ring, Path, Star, Grid, Tree, Random}
 use Rattle.history.specs.HistoryText.{ended}

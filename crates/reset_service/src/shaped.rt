@@ -2,7 +2,7 @@
 
 ghost use Rattle.std.specs.Prelude.{◌≡◌, ◌≤◌, IfErr, option_map};
 ghost use Rattle.network_shapes.specs.Shapes.{shape_description};
-ghost use Rattle.network_shapes.specs.TopologyTable.{description_text};
+ghost use Rattle.topology.specs.TopologyTable.{description_text};
 ghost use Rattle.script_replay.specs.Output.{bad_topology_text, Leaves};
 ghost use Rattle.reset_service.specs.Shaped.{app_or_idle, shape_named, shaped};
 ghost use Rattle.script_replay.specs.Stops.{IsOutputStop};

@@ -15,3 +15,6 @@ pub mod Changed
 pub mod Membership
 pub mod TopologyTexts
 pub mod OneResult
+pub mod Described
+pub mod PlainTexts
+pub mod PlainLines

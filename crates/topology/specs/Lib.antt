@@ -8,5 +8,6 @@ pub mod Changing
 pub mod Searching
 pub mod FaultText
 pub mod TopologyText
+pub mod TopologyTable
 pub mod ReadFaultText
 pub mod Reading

@@ -1,5 +1,5 @@
 //! Topology texts: TOML documents with a list of nodes, a list of links and an application's name.
-ghost use Rattle.std.specs.Prelude.{◌≡◌, ◌≢◌, IfOk, IfErr, Some, vec_items};
+ghost use Rattle.std.specs.Prelude.{◌≡◌, ◌≢◌, ◌≤◌, IfOk, IfErr, Some, length, vec_items};
 ghost use Rattle.std.specs.Result.{result_map_both};
 ghost use Rattle.toml.specs.View.{view, table_view};
 ghost use Rattle.topology.specs.Faults.{IsTopologyOf};
@@ -11,8 +11,11 @@ ghost use Rattle.topology.specs.TopologyText.{table_of, value_at};
 ghost use Rattle.topology.specs.declared.text.ReadFault.TheVariants.{NoMemory, Topology as TopologyFault};
 ghost use Rattle.topology.specs.declared.fault.TopoFault.TheVariants as topo;
 
+mod lines;
+
 use crate::fault::TopoFault;
 use crate::topology::Topology;
+use lines::read_lines;
 use std::alloc::{AllocError, AllocFailed, Global};
 use std::error::Error;
 use std::fmt;
@@ -118,10 +121,16 @@ pub fn read_topology(alloc: Global, text: &[u8]) -> Result<(Topology, AppName), 
     }
 }
 
-#[tactic(auto, unfolding(crate::specs::TopologyText::description_of))]
+#[tactic(auto, unfolding(crate::specs::TopologyText::description_of, crate::specs::TopologyText::table_of))]
 fn read_text(alloc: Global, text: &[u8]) -> Result<Reading, ReadFault>
     ensures { Gives reading_view result (description_of text.now) }
 {
+    if text.len() > MAX_TEXT {
+        return Err(ReadFault::TextTooLong);
+    }
+    if let Some(reading) = read_lines(alloc, text)? {
+        return Ok(reading);
+    }
     let table = read_table(alloc, text)?;
     read_members(alloc, &table)
 }
@@ -142,11 +151,9 @@ fn read_members(alloc: Global, table: &Table) -> Result<Reading, ReadFault>
 
 #[tactic(auto, unfolding(crate::specs::TopologyText::table_of, crate::specs::TopologyText::toml_of))]
 fn read_table(alloc: Global, text: &[u8]) -> Result<Table, ReadFault>
+    requires { length text.now ≤ 1048576 }
     ensures { Gives table_view result (table_of text.now) }
 {
-    if text.len() > MAX_TEXT {
-        return Err(ReadFault::TextTooLong);
-    }
     match toml::table_from_slice(alloc, text) {
         Ok(table) => Ok(table),
         Err(error) if error.is_memory() => Err(ReadFault::NoMemory),

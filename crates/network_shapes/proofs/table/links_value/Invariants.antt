@@ -1,6 +1,6 @@
 use Rattle.std.proofs.Common.{◌≡◌, map, take}
 use Rattle.toml.specs.View.{view}
-use Rattle.network_shapes.specs.TopologyTable.{link_data}
+use Rattle.topology.specs.TopologyTable.{link_data}
 use Rattle.network_shapes.proofs.table.links_value.Given as goal
 
 abbrev pub invariant-loop-link : goal.invariant-loop-link

@@ -1,6 +1,6 @@
 use Rattle.std.proofs.Common.{◌≡◌, map, take}
 use Rattle.toml.specs.View.{view}
-use Rattle.network_shapes.specs.TopologyTable.{number_data}
+use Rattle.topology.specs.TopologyTable.{number_data}
 use Rattle.network_shapes.proofs.table.nodes_value.Given as goal
 
 abbrev pub invariant-loop-node : goal.invariant-loop-node

@@ -4,9 +4,9 @@ use Rattle.toml.specs.Data.{members_have_valid_dates}
 use Rattle.toml.specs.View.{table_view}
 use Rattle.network_shapes.specs.Shapes.{shape_description}
 use Rattle.network_shapes.proofs.Accepted.{accepted}
-use Rattle.network_shapes.proofs.Printed.{printed_described, printed_written}
+use Rattle.topology.proofs.Described.{description_members-dates}
+use Rattle.network_shapes.proofs.Printed.{printed_described, printed_written, same_table}
 use Rattle.network_shapes.proofs.Shaped.{few_links, node_numbers-small, shape_links-small}
-use Rattle.network_shapes.proofs.Tables.{description_members-dates, same_table}
 use Rattle.network_shapes.proofs.text.shape_text.Goals as goal
 
 pub printed-requires : goal.printed-requires
@@ -28,9 +28,9 @@ returns c =
     (shape_links-small c.args.shape c.args.count c.args.seed c.requires.some c.requires.few)
     (omega (arith, length-range_with_len 1 c.args.count))
     (omega (arith, few_links c.args.shape c.args.count c.args.seed c.requires.some)) c.printed.result
-    c.printed.ensures.text c.printed.ensures.reads_back in
+    c.printed.ensures in
     record {
-      text = printed_written d (table_view c.in_ok-table.table) table c.printed.result c.printed.ensures.text;
+      text = printed_written d (table_view c.in_ok-table.table) table c.printed.result c.printed.ensures;
       described = described;
       accepted =
           accepted c.args.shape c.args.count c.args.seed c.args.app c.requires.some c.requires.few c.printed.result

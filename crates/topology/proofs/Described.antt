@@ -1,10 +1,10 @@
 -- What a table of a description is read as.
-use Rattle.std.proofs.Common.{◌≡◌, true, ℕ, ◌<◌, ◌≤◌, ◌^◌, List, [], ◌∷◌, length, map, Option, Some, Ok, All}
-use Rattle.std.proofs.Common.{IsUtf8, ap₂, ◌∙◌, refl, arith}
+use Rattle.std.proofs.Common.{◌≡◌, true, ℕ, ◌≤◌, ◌^◌, List, [], ◌∷◌, length, map, Option, Some, Ok, All}
+use Rattle.std.proofs.Common.{IsUtf8, refl, arith}
 use Rattle.std.proofs.lemmas.Bool.{lt-ltb}
 use Rattle.std.proofs.lemmas.List.Elements.{All-head, All-tail, All-weaker}
-use Rattle.toml.specs.Data.{Data, depth, has_valid_dates, items_depth, items_have_valid_dates, members_depth}
-use Rattle.toml.specs.Data.{Members, members_have_valid_dates}
+use Rattle.toml.specs.Data.{Data, depth, has_valid_dates, items_depth, items_have_valid_dates}
+use Rattle.toml.specs.Data.{members_have_valid_dates}
 use Rattle.toml.specs.Parse.{parse_document}
 use Rattle.toml.specs.View.{items_of}
 use Rattle.topology.specs.TopologyText.{Description, all_some, app_named, described, description_of, list_of}
@@ -12,14 +12,8 @@ use Rattle.topology.specs.TopologyText.{no_other_key, number_of, numbers_of, pai
 use Rattle.topology.specs.declared.text.AppName.{AppName}
 use Rattle.topology.specs.declared.text.AppName.TheVariants.{Idle, Token, Mutex, Routes}
 use Rattle.topology.proofs.TopologyTexts.{table_read}
-use Rattle.network_shapes.specs.TopologyTable.{app_word, array_data, description_members, link_data, number_data}
-
--- numbers of 32 bits
-abbrev pub IsSmall : ℕ → Type 0
-IsSmall n = n < 2 ^ 32
-
-abbrev pub IsSmallLink : ℕ × ℕ → Type 0
-IsSmallLink l = IsSmall l.0 × IsSmall l.1
+use Rattle.topology.specs.TopologyTable.{IsSmall, IsSmallLink, app_word, array_data, description_members, link_data}
+use Rattle.topology.specs.TopologyTable.{number_data}
 
 -- an array of values of a kind gives the values
 array_back : {X : Type 0} (kind : Data → Option X) (data_of : X → Data) (xs : List X)
@@ -64,18 +58,12 @@ described_back d nodes_small links_small =
     rw (numbers_back d.nodes nodes_small, links_back d.links links_small, app_back d.app)
 
 -- how deep the table of a description nests
-items_depth-map : {X : Type 0} (data_of : X → Data) (k : ℕ) → ((x : X) → depth (data_of x) ≤ k) → (xs : List X)
+pub items_depth-map : {X : Type 0} (data_of : X → Data) (k : ℕ) → ((x : X) → depth (data_of x) ≤ k) → (xs : List X)
     → items_depth (items_of (map data_of xs)) ≤ k
 items_depth-map data_of k low [] = omega arith
 items_depth-map data_of k low (x ∷ xs) = omega (arith, low x, items_depth-map data_of k low xs)
 
-description_members-depth : (d : Description) → members_depth (description_members d) ≤ 80
-description_members-depth d =
-    let nodes = items_depth-map number_data 0 (λ n. omega arith) d.nodes in
-    let links = items_depth-map link_data 1 (λ l. omega arith) d.links in
-    omega (arith, nodes, links)
-
-items_dates-map : {X : Type 0} (data_of : X → Data) → ((x : X) → has_valid_dates (data_of x) ≡ true) → (xs : List X)
+pub items_dates-map : {X : Type 0} (data_of : X → Data) → ((x : X) → has_valid_dates (data_of x) ≡ true) → (xs : List X)
     → items_have_valid_dates (items_of (map data_of xs)) ≡ true
 items_dates-map data_of valid [] = refl
 items_dates-map data_of valid (x ∷ xs) = rw (valid x, items_dates-map data_of valid xs)
@@ -85,18 +73,11 @@ pub description_members-dates : (d : Description) → members_have_valid_dates (
 description_members-dates d =
     rw (items_dates-map link_data (λ l. refl) d.links, items_dates-map number_data (λ n. refl) d.nodes)
 
--- the table that is made of a description's parts
-pub same_table : (t : Members) (d : Description) (ns : List ℕ) (ls : List (ℕ × ℕ))
-    → t ≡ description_members (record { nodes = ns; links = ls; app = d.app }) → ns ≡ d.nodes → ls ≡ d.links
-    → t ≡ description_members d
-same_table t d ns ls is nodes links =
-    is ∙ ap₂ (λ xs ys. description_members (record { nodes = xs; links = ys; app = d.app })) nodes links
-
--- a text that the table of a description is printed as
+-- a text that is the document of a description's table
 pub text_described : (text : List ℕ) (d : Description) → length text ≤ 1048576 → IsUtf8 text
-    → (members_depth (description_members d) ≤ 80 → parse_document text ≡ Some (description_members d))
-    → All IsSmall d.nodes → All IsSmallLink d.links → description_of text ≡ Ok d
+    → parse_document text ≡ Some (description_members d) → All IsSmall d.nodes → All IsSmallLink d.links
+    → description_of text ≡ Ok d
 unfolding description_of
 text_described text d short utf8 parsed nodes_small links_small =
-    rw (table_read text (description_members d) short utf8 (parsed (description_members-depth d)))
+    rw (table_read text (description_members d) short utf8 parsed)
     (described_back d nodes_small links_small)

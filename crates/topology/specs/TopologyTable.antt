@@ -1,11 +1,18 @@
 -- The TOML tables of descriptions, and how they are written.
-use Rattle.std.specs.Prelude.{ℕ, pos, List, [], ◌∷◌, ◌++◌, map, codes, decimal}
+use Rattle.std.specs.Prelude.{ℕ, ◌<◌, ◌^◌, pos, List, [], ◌∷◌, ◌++◌, map, codes, decimal}
 use Rattle.std.specs.List.{join_by}
 use Rattle.toml.specs.Data.{Data, string, integer, array, Members, member, no_members}
 use Rattle.toml.specs.View.{items_of}
 use Rattle.topology.specs.TopologyText.{Description}
 use Rattle.topology.specs.declared.text.AppName.{AppName}
 use Rattle.topology.specs.declared.text.AppName.TheVariants.{Idle, Token, Mutex, Routes}
+
+-- numbers of 32 bits
+abbrev pub IsSmall : ℕ → Type 0
+IsSmall n = n < 2 ^ 32
+
+abbrev pub IsSmallLink : ℕ × ℕ → Type 0
+IsSmallLink l = IsSmall l.0 × IsSmall l.1
 
 -- an array of values of one kind
 abbrev pub array_data : {X : Type 0} → (X → Data) → List X → Data
@@ -45,9 +52,20 @@ link_text l = array_text decimal (l.0 ∷ l.1 ∷ [])
 abbrev pub line_text : List ℕ → List ℕ → List ℕ
 line_text key value = key ++ (codes " = " ++ (value ++ codes "\n"))
 
--- the text of a description: a line for each key
+-- the line of each key
+abbrev pub nodes_line : List ℕ → List ℕ
+nodes_line ns = line_text (codes "nodes") (array_text decimal ns)
+
+abbrev pub links_line : List (ℕ × ℕ) → List ℕ
+links_line ls = line_text (codes "links") (array_text link_text ls)
+
+abbrev pub app_line : AppName → List ℕ
+app_line app = line_text (codes "app") (codes "\"" ++ (app_word app ++ codes "\""))
+
+-- the text of a description as it is printed: a line for each key, in the order of the keys
 unfoldable pub description_text : Description → List ℕ
-description_text d =
-    line_text (codes "app") (codes "\"" ++ (app_word d.app ++ codes "\""))
-    ++ (line_text (codes "links") (array_text link_text d.links)
-    ++ line_text (codes "nodes") (array_text decimal d.nodes))
+description_text d = app_line d.app ++ (links_line d.links ++ nodes_line d.nodes)
+
+-- and in the order of the documentation
+unfoldable pub documented_text : Description → List ℕ
+documented_text d = nodes_line d.nodes ++ (links_line d.links ++ app_line d.app)
