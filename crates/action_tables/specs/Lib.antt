@@ -1,6 +1,7 @@
 pub mod Written
 pub mod Numbers
 pub mod Nodes
+pub mod Modulus
 pub mod Table
 pub mod Lists
 pub mod RowText

@@ -8,6 +8,7 @@
 mod case_set;
 mod cutting;
 mod list;
+mod modulus;
 mod nodes;
 mod number;
 mod part;
@@ -18,6 +19,7 @@ mod table;
 pub use case_set::{CaseSet, MOST_CASES};
 pub use cutting::cut;
 pub use list::{ListItem, put_list};
+pub use modulus::{MAX_MODULUS, MIN_MODULUS};
 pub use nodes::{ids_ascend, regs_of};
 pub use number::{read_number, split_number};
 pub use part::{Part, put_parts};
