@@ -9,6 +9,7 @@ use Rattle.toml.specs.Text.{IsDocumentText, IsItemsText, IsLineText, IsLinesText
 use Rattle.toml.specs.Text.{expressions}
 use Rattle.toml.specs.View.{items_of}
 use Rattle.toml_writer.specs.Text.{key_text}
+use Rattle.action_tables.specs.Modulus.{max_modulus}
 use Rattle.topology.specs.TopologyText.{Description}
 use Rattle.topology.specs.declared.text.AppName.{AppName}
 use Rattle.topology.proofs.PlainTexts.{app_written, no_breaks}
@@ -53,7 +54,7 @@ keys_written = (refl, refl, refl)
 
 -- no array of a description is a section of its own
 lines_of : (app : AppName) (links : List (ℕ × ℕ)) (nodes : List ℕ)
-    → expressions (description_members (record { nodes = nodes; links = links; app = app }))
+    → expressions (description_members (record { nodes = nodes; links = links; app = app; modulus = max_modulus }))
     ≡ (([], codes "app"), key_value (string (app_word app)))
     ∷ (([], codes "links"), key_value (array_data link_data links))
     ∷ (([], codes "nodes"), key_value (array_data number_data nodes)) ∷ []

@@ -5,6 +5,7 @@ use Rattle.std.specs.List.{range_with_len}
 use Rattle.rand_core.specs.Pcg32Seed.{pcg32_seed}
 use Rattle.rand_pcg.specs.Lcg.{advance}
 use Rattle.rand_pcg.specs.Pcg.{multiplier_64, pcg32, pcg32_of_seed}
+use Rattle.action_tables.specs.Modulus.{max_modulus}
 use Rattle.topology.specs.TopologyText.{Description}
 use Rattle.topology.specs.declared.text.AppName.{AppName}
 use Rattle.network_shapes.specs.declared.shape.Shape.{Shape}
@@ -59,7 +60,7 @@ abbrev pub shape_links : Shape → ℕ → ℕ → List (ℕ × ℕ)
 shape_links shape count seed =
     flat_map (λ node. links_to node (lesser_nodes shape count seed node)) (range_with_len 2 (count - 1))
 
--- the network of a shape, with an application
+-- the network of a shape, with an application, whose sessions are counted modulo the greatest number
 abbrev pub shape_description : Shape → ℕ → ℕ → AppName → Description
 shape_description shape count seed app =
-    record { nodes = node_numbers count; links = shape_links shape count seed; app = app }
+    record { nodes = node_numbers count; links = shape_links shape count seed; app = app; modulus = max_modulus }

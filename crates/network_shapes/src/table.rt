@@ -4,12 +4,13 @@ ghost use Rattle.std.specs.Prelude.{◌≡◌, IfOk};
 ghost use Rattle.toml.specs.Data.{string};
 ghost use Rattle.toml.specs.View.{table_view, view};
 ghost use Rattle.topology.specs.TopologyTable.{app_word, array_data, description_members, link_data, number_data};
+ghost use Rattle.action_tables.specs.Modulus.{max_modulus};
 
 use std::alloc::{AllocError, Global};
 use toml::{Table, Value};
 use topology::AppName;
 
-/// The table with the nodes, the links and the name of the application.
+/// The table with the nodes, the links and the name of the application. It names no modulus.
 pub(crate) fn description_table(
     alloc: Global,
     nodes: &[u32],
@@ -17,7 +18,7 @@ pub(crate) fn description_table(
     app: AppName,
 ) -> Result<Table, AllocError>
     ensures { IfOk result (λ table. table_view table
-        ≡ description_members (record { nodes = nodes.now; links = links.now; app = app })) }
+        ≡ description_members (record { nodes = nodes.now; links = links.now; app = app; modulus = max_modulus })) }
 {
     let mut table = Table::new(alloc);
     table.insert(String::from_str(alloc, "app")?, app_value(alloc, app)?)?;

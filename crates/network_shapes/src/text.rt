@@ -17,8 +17,8 @@ use toml::Table;
 use topology::AppName;
 
 /// The topology text of a shape with the nodes 1 to `count`, from 1 to 1,024 of them. `seed` matters
-/// to `Shape::Random` alone. The text has no fault that `read_topology` could name, so that reading it
-/// fails for want of memory alone.
+/// to `Shape::Random` alone. The text names no modulus, so that it is read with the greatest. It has no
+/// fault that `read_topology` could name, so that reading it fails for want of memory alone.
 pub fn shape_text(
     alloc: Global,
     shape: Shape,

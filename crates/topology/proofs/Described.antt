@@ -8,7 +8,8 @@ use Rattle.toml.specs.Data.{members_have_valid_dates}
 use Rattle.toml.specs.Parse.{parse_document}
 use Rattle.toml.specs.View.{items_of}
 use Rattle.topology.specs.TopologyText.{Description, all_some, app_named, described, description_of, list_of}
-use Rattle.topology.specs.TopologyText.{no_other_key, number_of, numbers_of, pair_of, pairs_of, string_of, value_at}
+use Rattle.action_tables.specs.Modulus.{max_modulus}
+use Rattle.topology.specs.TopologyText.{modulus_at, no_other_key, number_of, numbers_of, pair_of, pairs_of, string_of, value_at}
 use Rattle.topology.specs.declared.text.AppName.{AppName}
 use Rattle.topology.specs.declared.text.AppName.TheVariants.{Idle, Token, Mutex, Routes}
 use Rattle.topology.proofs.TopologyTexts.{table_read}
@@ -51,11 +52,11 @@ app_back Mutex = refl
 app_back Routes = refl
 
 -- the table of a description describes it
-described_back : (d : Description) → All IsSmall d.nodes → All IsSmallLink d.links
+described_back : (d : Description) → All IsSmall d.nodes → All IsSmallLink d.links → d.modulus ≡ max_modulus
     → described (description_members d) ≡ Ok d
-unfolding described value_at no_other_key string_of
-described_back d nodes_small links_small =
-    rw (numbers_back d.nodes nodes_small, links_back d.links links_small, app_back d.app)
+unfolding described value_at no_other_key string_of modulus_at
+described_back d nodes_small links_small whole =
+    rw (numbers_back d.nodes nodes_small, links_back d.links links_small, app_back d.app, ← whole)
 
 -- how deep the table of a description nests
 pub items_depth-map : {X : Type 0} (data_of : X → Data) (k : ℕ) → ((x : X) → depth (data_of x) ≤ k) → (xs : List X)
@@ -76,8 +77,8 @@ description_members-dates d =
 -- a text that is the document of a description's table
 pub text_described : (text : List ℕ) (d : Description) → length text ≤ 1048576 → IsUtf8 text
     → parse_document text ≡ Some (description_members d) → All IsSmall d.nodes → All IsSmallLink d.links
-    → description_of text ≡ Ok d
+    → d.modulus ≡ max_modulus → description_of text ≡ Ok d
 unfolding description_of
-text_described text d short utf8 parsed nodes_small links_small =
+text_described text d short utf8 parsed nodes_small links_small whole =
     rw (table_read text (description_members d) short utf8 parsed)
-    (described_back d nodes_small links_small)
+    (described_back d nodes_small links_small whole)

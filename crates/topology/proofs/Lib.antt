@@ -14,6 +14,7 @@ pub mod Counting
 pub mod Changed
 pub mod Membership
 pub mod TopologyTexts
+pub mod Moduli
 pub mod OneResult
 pub mod Described
 pub mod PlainTexts

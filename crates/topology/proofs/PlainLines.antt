@@ -6,7 +6,7 @@ use Rattle.std.proofs.lemmas.List.{append-nil, append_assoc, take_all}
 use Rattle.std.proofs.lemmas.Slice.Eq.{bytes_eq-Decides}
 use Rattle.std.specs.List.{flat_map, join_by}
 use Rattle.std.specs.declared.alloc.AllocError.{AllocError}
-use Rattle.topology.specs.Reading.{IfRead, IsSmallReading, reading_view}
+use Rattle.topology.specs.Reading.{HasMaxModulus, IfRead, IsSmallReading, reading_view}
 use Rattle.topology.specs.TopologyTable.{app_line, app_word, array_text, description_text, line_text, links_line}
 use Rattle.topology.specs.TopologyTable.{documented_text, nodes_line}
 use Rattle.topology.specs.TopologyText.{Description, app_named, description_of}
@@ -112,8 +112,8 @@ printed_whole text rest more left d =
 
 pub printed_read : (text : List ℕ) → length text ≤ 1048576 → (r : Result (Option code.Reading) AllocError)
     → IfRead r (λ reading. text ≡ description_text (reading_view reading)) → IfRead r IsSmallReading
-    → IfRead r (λ reading. description_of text ≡ Ok (reading_view reading))
-printed_read text short (Err e) is small = tt
-printed_read text short (Ok None) is small = tt
-printed_read text short (Ok (Some r)) is small =
-    printed_text_described text (reading_view r) short is small.0 small.1
+    → IfRead r HasMaxModulus → IfRead r (λ reading. description_of text ≡ Ok (reading_view reading))
+printed_read text short (Err e) is small whole = tt
+printed_read text short (Ok None) is small whole = tt
+printed_read text short (Ok (Some r)) is small whole =
+    printed_text_described text (reading_view r) short is small.0 small.1 whole

@@ -20,6 +20,7 @@ use Rattle.toml_writer.specs.Text.{encoding_of, escaped, key_text, needs_escape,
 use Rattle.topology.specs.TopologyTable.{IsSmall, IsSmallLink, app_line, app_word, array_data, array_text}
 use Rattle.topology.specs.TopologyTable.{description_members, description_text, line_text, link_data, link_text}
 use Rattle.topology.specs.TopologyTable.{links_line, documented_text, nodes_line, number_data}
+use Rattle.action_tables.specs.Modulus.{max_modulus}
 use Rattle.topology.specs.TopologyText.{Description, description_of}
 use Rattle.topology.specs.declared.text.AppName.{AppName}
 use Rattle.topology.specs.declared.text.AppName.TheVariants.{Idle, Token, Mutex, Routes}
@@ -283,23 +284,23 @@ three_utf8 a b c first second third = IsUtf8-append a (b ++ c) first (IsUtf8-app
 -- ---- what the text says
 
 pub documented_text_described : (text : List ℕ) (d : Description) → length text ≤ 1048576 → text ≡ documented_text d
-    → All IsSmall d.nodes → All IsSmallLink d.links → description_of text ≡ Ok d
+    → All IsSmall d.nodes → All IsSmallLink d.links → d.modulus ≡ max_modulus → description_of text ≡ Ok d
 unfolding documented_text
-documented_text_described text d short is nodes_small links_small =
+documented_text_described text d short is nodes_small links_small whole =
     let utf8 : IsUtf8 (documented_text d) =
     three_utf8 (nodes_line d.nodes) (links_line d.links) (app_line d.app) (nodes_utf8 d.nodes nodes_small)
     (links_utf8 d.links links_small) (app_utf8 d.app) in
     text_described text d short (subst IsUtf8 (sym is) utf8)
     (subst (λ t. parse_document t ≡ Some (description_members d)) (sym is)
-    (documented_parsed d nodes_small links_small)) nodes_small links_small
+    (documented_parsed d nodes_small links_small)) nodes_small links_small whole
 
 pub printed_text_described : (text : List ℕ) (d : Description) → length text ≤ 1048576 → text ≡ description_text d
-    → All IsSmall d.nodes → All IsSmallLink d.links → description_of text ≡ Ok d
+    → All IsSmall d.nodes → All IsSmallLink d.links → d.modulus ≡ max_modulus → description_of text ≡ Ok d
 unfolding description_text
-printed_text_described text d short is nodes_small links_small =
+printed_text_described text d short is nodes_small links_small whole =
     let utf8 : IsUtf8 (description_text d) =
     three_utf8 (app_line d.app) (links_line d.links) (nodes_line d.nodes) (app_utf8 d.app)
     (links_utf8 d.links links_small) (nodes_utf8 d.nodes nodes_small) in
     text_described text d short (subst IsUtf8 (sym is) utf8)
     (subst (λ t. parse_document t ≡ Some (description_members d)) (sym is)
-    (printed_parsed d nodes_small links_small)) nodes_small links_small
+    (printed_parsed d nodes_small links_small)) nodes_small links_small whole

@@ -12,8 +12,9 @@ use Rattle.toml.specs.Parse.{parse_document}
 use Rattle.toml.specs.View.{items_view, members_view}
 use Rattle.toml.specs.declared.value.Value.{Value}
 use Rattle.topology.specs.TopologyText.{◌>>=◌, IsReadFault, all_some, app_named, array_of, described, description_of}
-use Rattle.topology.specs.TopologyText.{is_known, keys_of, list_of, no_other_key, number_of, numbers_of, pair_of}
-use Rattle.topology.specs.TopologyText.{pairs_of, string_of, table_of, toml_of, value_at}
+use Rattle.topology.specs.TopologyText.{is_known, keys_of, list_of, modulus_at, modulus_of, modulus_or_max}
+use Rattle.topology.specs.TopologyText.{no_other_key, number_of, numbers_of, pair_of, pairs_of, string_of, table_of}
+use Rattle.topology.specs.TopologyText.{toml_of, value_at}
 use Rattle.topology.specs.declared.fault.TopoFault.TheVariants as topo
 use Rattle.topology.specs.declared.text.AppName.TheVariants.{Idle, Token, Mutex, Routes}
 use Rattle.topology.specs.declared.text.ReadFault.{ReadFault}
@@ -99,6 +100,14 @@ string_of-own : (d : Data) → IfErr (string_of d) IsOwn
 unfolding string_of
 string_of-own d = ok_or-own (as_str d) WrongKind tt
 
+modulus_or_max-own : (o : Option Data) → IfErr (modulus_or_max o) IsOwn
+modulus_or_max-own None = tt
+modulus_or_max-own (Some d) = ok_or-own (modulus_of d) WrongKind tt
+
+modulus_at-own : (t : Members) → IfErr (modulus_at t) IsOwn
+unfolding modulus_at
+modulus_at-own t = modulus_or_max-own (get_member (codes "modulus") t)
+
 app_named-own : (name : List ℕ) → IfErr (app_named name) IsOwn
 unfolding app_named
 app_named-own name =
@@ -130,6 +139,7 @@ described-own t =
     bind-own (numbers_of nodes) _ (numbers_of-own nodes) λ numbers.
     bind-own (pairs_of links) _ (pairs_of-own links) λ pairs.
     bind-own (string_of app) _ (string_of-own app) λ name.
+    bind-own (modulus_at t) _ (modulus_at-own t) λ modulus.
     bind-own (app_named name) _ (app_named-own name) λ known. tt
 
 description-own : (text : List ℕ) → IfErr (description_of text) IsOwn

@@ -1,4 +1,4 @@
--- The TOML tables of descriptions, and how they are written.
+-- The TOML tables of descriptions whose modulus is the greatest, which name none, and how they are written.
 use Rattle.std.specs.Prelude.{ℕ, ◌<◌, ◌^◌, pos, List, [], ◌∷◌, ◌++◌, map, codes, decimal}
 use Rattle.std.specs.List.{join_by}
 use Rattle.toml.specs.Data.{Data, string, integer, array, Members, member, no_members}

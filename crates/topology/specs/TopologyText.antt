@@ -1,9 +1,10 @@
 -- What a topology text says.
-use Rattle.std.specs.Prelude.{◌≡◌, ℕ, ◌^◌, nat_lt, Bool, ◌||◌, if◌then◌else◌, ℤ, pos, negsuc, List, [], ◌∷◌, length}
-use Rattle.std.specs.Prelude.{map, codes, Option, Some, None, option_map, Result, Ok, Err, ok_or}
+use Rattle.std.specs.Prelude.{◌≡◌, ℕ, ◌^◌, nat_le, nat_lt, Bool, ◌&&◌, ◌||◌, if◌then◌else◌, ℤ, pos, negsuc, List, []}
+use Rattle.std.specs.Prelude.{◌∷◌, length, map, codes, Option, Some, None, option_map, Result, Ok, Err, ok_or}
 use Rattle.std.specs.List.{list_all}
 use Rattle.std.specs.Option.{option_and_then}
 use Rattle.std.specs.Str.{is_utf8, bytes_eq}
+use Rattle.action_tables.specs.Modulus.{max_modulus}
 use Rattle.toml.specs.Data.{Data, Items, no_items, item, Members, no_members, member, get_member, as_array, as_integer}
 use Rattle.toml.specs.Data.{as_str}
 use Rattle.toml.specs.Parse.{parse_document}
@@ -19,6 +20,7 @@ pub record Description : Type 0 where
   pub nodes : List ℕ
   pub links : List (ℕ × ℕ)
   pub app : AppName
+  pub modulus : ℕ
 
 -- the ? of the logic: the second step, where the first gave a value
 infixl 10 ◌>>=◌
@@ -43,11 +45,13 @@ abbrev pub keys_of : Members → List (List ℕ)
 keys_of no_members = []
 keys_of (member key d ms) = key ∷ keys_of ms
 
--- the three keys of a topology text
+-- the four keys of a topology text
 abbrev pub is_known : List ℕ → Bool
-is_known key = (bytes_eq key (codes "nodes") || bytes_eq key (codes "links")) || bytes_eq key (codes "app")
+is_known key =
+    ((bytes_eq key (codes "nodes") || bytes_eq key (codes "links")) || bytes_eq key (codes "app"))
+    || bytes_eq key (codes "modulus")
 
--- no key stands beyond the three
+-- no key stands beyond the four
 unfoldable pub no_other_key : Members → Result (Unit {0}) ReadFault
 no_other_key t = if list_all is_known (keys_of t) then Ok tt else Err UnknownKey
 
@@ -95,6 +99,24 @@ pairs_of d = ok_or (array_of pair_of d) WrongKind
 unfoldable pub string_of : Data → Result (List ℕ) ReadFault
 string_of d = ok_or (as_str d) WrongKind
 
+-- the number, if it is from 2 to 4294967296
+abbrev pub if_modulus : ℤ → Option ℕ
+if_modulus (pos n) = if nat_le 2 n && nat_le n max_modulus then Some n else None
+if_modulus (negsuc n) = None
+
+-- an integer from 2 to 4294967296
+unfoldable pub modulus_of : Data → Option ℕ
+modulus_of d = option_and_then if_modulus (as_integer d)
+
+-- the modulus by the value of its key, which is the greatest where the key isn't there
+abbrev pub modulus_or_max : Option Data → Result ℕ ReadFault
+modulus_or_max None = Ok max_modulus
+modulus_or_max (Some d) = ok_or (modulus_of d) WrongKind
+
+-- the number modulo which sessions are counted
+unfoldable pub modulus_at : Members → Result ℕ ReadFault
+modulus_at t = modulus_or_max (get_member (codes "modulus") t)
+
 -- the application of this name
 unfoldable pub app_named : List ℕ → Result AppName ReadFault
 app_named name =
@@ -113,8 +135,9 @@ described t = do
   numbers ← numbers_of nodes
   pairs ← pairs_of links
   name ← string_of app
+  modulus ← modulus_at t
   known ← app_named name
-  Ok (record { nodes = numbers; links = pairs; app = known })
+  Ok (record { nodes = numbers; links = pairs; app = known; modulus = modulus })
 
 -- the description that a text gives, or its first fault
 unfoldable pub description_of : List ℕ → Result Description ReadFault

@@ -17,5 +17,5 @@ pub use id::NodeId;
 pub use laws::{
     connected_is_tested, distance_back, one_distance, one_first_fault, one_topology, walks_back,
 };
-pub use text::{AppName, MAX_TEXT, ReadFault, app_named, read_topology};
+pub use text::{AppName, MAX_TEXT, ReadFault, TopologyText, app_named, read_topology};
 pub use topology::Topology;

@@ -1,4 +1,6 @@
-//! Topology texts: TOML documents with a list of nodes, a list of links and an application's name.
+//! Topology texts: TOML documents with a list of nodes, a list of links, an application's name and, if they tell one,
+//! the number modulo which sessions are counted.
+ghost use Rattle.action_tables.specs.Modulus.{IsModulus};
 ghost use Rattle.std.specs.Prelude.{◌≡◌, ◌≢◌, ◌≤◌, IfOk, IfErr, Some, length, vec_items};
 ghost use Rattle.std.specs.Result.{result_map_both};
 ghost use Rattle.toml.specs.View.{view, table_view};
@@ -6,7 +8,7 @@ ghost use Rattle.topology.specs.Faults.{IsTopologyOf};
 ghost use Rattle.topology.specs.ReadFaultText.{read_fault_text};
 ghost use Rattle.topology.specs.Reading.{Gives, reading_view};
 ghost use Rattle.topology.specs.TopologyText.{Description, IsReadFault, app_named, described, description_of, is_known};
-ghost use Rattle.topology.specs.TopologyText.{no_other_key, number_of, numbers_of, pair_of, pairs_of, string_of};
+ghost use Rattle.topology.specs.TopologyText.{modulus_at, modulus_of, no_other_key, number_of, numbers_of, pair_of, pairs_of, string_of};
 ghost use Rattle.topology.specs.TopologyText.{table_of, value_at};
 ghost use Rattle.topology.specs.declared.text.ReadFault.TheVariants.{NoMemory, Topology as TopologyFault};
 ghost use Rattle.topology.specs.declared.fault.TopoFault.TheVariants as topo;
@@ -15,6 +17,7 @@ mod lines;
 
 use crate::fault::TopoFault;
 use crate::topology::Topology;
+use action_tables::{MAX_MODULUS, MIN_MODULUS};
 use lines::read_lines;
 use std::alloc::{AllocError, AllocFailed, Global};
 use std::error::Error;
@@ -46,9 +49,10 @@ pub enum ReadFault {
     NotToml,
     /// One of the keys `nodes`, `links` and `app` isn't there.
     MissingKey,
-    /// A key beyond these three is there.
+    /// A key beyond these three and `modulus` is there.
     UnknownKey,
-    /// A value has another shape than its key asks for, or a number isn't from 0 to 4294967295.
+    /// A value has another shape than its key asks for, a number of the lists isn't from 0 to 4294967295, or the
+    /// modulus isn't from 2 to 4294967296.
     WrongKind,
     /// No application has this name.
     UnknownApp,
@@ -93,29 +97,48 @@ impl fmt::Display for ReadFault {
 
 impl Error for ReadFault {}
 
+/// What a topology text says.
+#[derive(Drop)]
+pub struct TopologyText {
+    /// The graph of its nodes and links.
+    pub topology: Topology,
+    /// The application that its nodes run.
+    pub app: AppName,
+    /// The number modulo which sessions are counted, from 2 to `MAX_MODULUS`.
+    pub modulus: u64,
+}
+
 /// What a text of the right shape gives.
 #[derive(Drop)]
 struct Reading {
     nodes: Vec<u32>,
     links: Vec<(u32, u32)>,
     app: AppName,
+    modulus: u64,
 }
 
-/// Reads a topology and the name of its application from a TOML document with exactly the keys
-/// `nodes`, an array of numbers, `links`, an array of pairs of numbers, and `app`, a string.
+/// Reads a topology, the name of its application and its modulus from a TOML document whose top level has the three keys
+/// `nodes`, an array of numbers, `links`, an array of pairs of numbers, and `app`, a string, and may have a fourth,
+/// `modulus`, an integer from 2 to 4294967296. Without it the modulus is `MAX_MODULUS`.
 ///
 /// Of several faults the first in the order of `ReadFault` is answered, and of those of the lists
 /// the first in the order of `TopoFault`.
-#[tactic(auto, using(crate::proofs::TopologyTexts::own_fault, crate::proofs::TopologyTexts::never_memory))]
-pub fn read_topology(alloc: Global, text: &[u8]) -> Result<(Topology, AppName), ReadFault>
+#[tactic(auto, using(crate::proofs::TopologyTexts::own_fault, crate::proofs::TopologyTexts::never_memory, crate::proofs::Moduli::described_modulus))]
+pub fn read_topology(alloc: Global, text: &[u8]) -> Result<TopologyText, ReadFault>
     ensures ok { IfOk result
-        (λ r. (d : Description) × (description_of text.now ≡ Ok d) × IsTopologyOf d.nodes d.links r.0 × (r.1 ≡ d.app)) }
+        (λ r. (d : Description) × (description_of text.now ≡ Ok d) × IsTopologyOf d.nodes d.links r.topology
+        × (r.app ≡ d.app) × (r.modulus ≡ d.modulus)) }
+    ensures modulus { IfOk result (λ r. IsModulus r.modulus) }
     ensures err { IfErr result (λ f. f ≢ NoMemory → IsReadFault text.now f) }
     ensures memory { IfErr result (λ f. f ≢ TopologyFault topo.NoMemory) }
 {
     let reading = read_text(alloc, text)?;
     match Topology::build(alloc, &reading.nodes, &reading.links) {
-        Ok(topology) => Ok((topology, reading.app)),
+        Ok(topology) => Ok(TopologyText {
+            topology,
+            app: reading.app,
+            modulus: reading.modulus,
+        }),
         Err(TopoFault::NoMemory) => Err(ReadFault::NoMemory),
         Err(fault) => Err(ReadFault::Topology(fault)),
     }
@@ -145,8 +168,15 @@ fn read_members(alloc: Global, table: &Table) -> Result<Reading, ReadFault>
     no_other_key(table)?;
     let nodes = numbers(alloc, nodes)?;
     let links = pairs(alloc, links)?;
-    let app = app_named(string(app)?)?;
-    Ok(Reading { nodes, links, app })
+    let name = string(app)?;
+    let modulus = modulus_at(table)?;
+    let app = app_named(name)?;
+    Ok(Reading {
+        nodes,
+        links,
+        app,
+        modulus,
+    })
 }
 
 #[tactic(auto, unfolding(crate::specs::TopologyText::table_of, crate::specs::TopologyText::toml_of))]
@@ -183,7 +213,7 @@ fn no_other_key(table: &Table) -> Result<(), ReadFault>
 fn is_known(key: &str) -> bool
     ensures { result ≡ is_known key.now }
 {
-    key == "nodes" || key == "links" || key == "app"
+    key == "nodes" || key == "links" || key == "app" || key == "modulus"
 }
 
 #[tactic(auto, unfolding(crate::specs::TopologyText::numbers_of))]
@@ -242,6 +272,28 @@ fn string(value: &Value) -> Result<&str, ReadFault>
     ensures { result_map_both (λ s. s.now) (λ f. f) result ≡ string_of (view value.now) }
 {
     value.as_str().ok_or(ReadFault::WrongKind)
+}
+
+#[tactic(auto, unfolding(crate::specs::TopologyText::modulus_at))]
+fn modulus_at(table: &Table) -> Result<u64, ReadFault>
+    ensures { result ≡ modulus_at (table_view table.now) }
+{
+    match table.get("modulus") {
+        Some(value) => modulus(value).ok_or(ReadFault::WrongKind),
+        None => Ok(MAX_MODULUS),
+    }
+}
+
+#[tactic(auto, unfolding(crate::specs::TopologyText::modulus_of))]
+fn modulus(value: &Value) -> Option<u64>
+    ensures { result ≡ modulus_of (view value.now) }
+{
+    let modulus = u64::try_from(value.as_integer()?).ok()?;
+    if MIN_MODULUS <= modulus && modulus <= MAX_MODULUS {
+        Some(modulus)
+    } else {
+        None
+    }
 }
 
 /// The application with this name, or `UnknownApp`.

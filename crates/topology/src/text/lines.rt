@@ -4,13 +4,13 @@
 
 ghost use Rattle.std.specs.Prelude.{◌≡◌, ◌≢◌, ◌≤◌, ◌++◌, ℕ, List, All, IfSome, MatchOption, codes, decimal, length};
 ghost use Rattle.std.specs.List.{join_by};
-ghost use Rattle.topology.specs.Reading.{IfRead, IsSmallReading, reading_view};
+ghost use Rattle.topology.specs.Reading.{HasMaxModulus, IfRead, IsSmallReading, reading_view};
 ghost use Rattle.topology.specs.TopologyTable.{IsSmall, IsSmallLink, app_line, description_text, link_text, links_line};
 ghost use Rattle.topology.specs.TopologyTable.{documented_text, nodes_line};
 ghost use Rattle.topology.specs.TopologyText.{description_of};
 
 use super::{AppName, Reading, app_named};
-use action_tables::{cut, split_number};
+use action_tables::{MAX_MODULUS, cut, split_number};
 use std::alloc::{AllocError, Global};
 
 /// What a text says that has a line for each key, in the order of the documentation or as it is printed. None of any
@@ -29,6 +29,7 @@ pub(super) fn read_lines(alloc: Global, text: &[u8]) -> Result<Option<Reading>, 
 fn documented(alloc: Global, text: &[u8]) -> Result<Option<Reading>, AllocError>
     ensures text { IfRead result (λ r. text.now ≡ documented_text (reading_view r)) }
     ensures small { IfRead result IsSmallReading }
+    ensures modulus { IfRead result HasMaxModulus }
 {
     let Some((nodes, rest)) = nodes_line(alloc, text)? else {
         return Ok(None);
@@ -37,7 +38,12 @@ fn documented(alloc: Global, text: &[u8]) -> Result<Option<Reading>, AllocError>
         return Ok(None);
     };
     match app_line(rest) {
-        Some((app, [])) => Ok(Some(Reading { nodes, links, app })),
+        Some((app, [])) => Ok(Some(Reading {
+            nodes,
+            links,
+            app,
+            modulus: MAX_MODULUS,
+        })),
         _ => Ok(None),
     }
 }
@@ -46,6 +52,7 @@ fn documented(alloc: Global, text: &[u8]) -> Result<Option<Reading>, AllocError>
 fn printed(alloc: Global, text: &[u8]) -> Result<Option<Reading>, AllocError>
     ensures text { IfRead result (λ r. text.now ≡ description_text (reading_view r)) }
     ensures small { IfRead result IsSmallReading }
+    ensures modulus { IfRead result HasMaxModulus }
 {
     let Some((app, rest)) = app_line(text) else {
         return Ok(None);
@@ -54,7 +61,12 @@ fn printed(alloc: Global, text: &[u8]) -> Result<Option<Reading>, AllocError>
         return Ok(None);
     };
     match nodes_line(alloc, rest)? {
-        Some((nodes, [])) => Ok(Some(Reading { nodes, links, app })),
+        Some((nodes, [])) => Ok(Some(Reading {
+            nodes,
+            links,
+            app,
+            modulus: MAX_MODULUS,
+        })),
         _ => Ok(None),
     }
 }

@@ -1,4 +1,4 @@
-use Rattle.std.proofs.Common.{◌≡◌, subst, sym, true, ◌∙◌, arith}
+use Rattle.std.proofs.Common.{◌≡◌, refl, subst, sym, true, ◌∙◌, arith}
 use Rattle.std.proofs.lemmas.List.FromFn.{length-range_with_len}
 use Rattle.toml.specs.Data.{members_have_valid_dates}
 use Rattle.toml.specs.View.{table_view}
@@ -27,7 +27,7 @@ returns c =
     printed_described d (table_view c.in_ok-table.table) table (node_numbers-small c.args.count c.requires.few)
     (shape_links-small c.args.shape c.args.count c.args.seed c.requires.some c.requires.few)
     (omega (arith, length-range_with_len 1 c.args.count))
-    (omega (arith, few_links c.args.shape c.args.count c.args.seed c.requires.some)) c.printed.result
+    (omega (arith, few_links c.args.shape c.args.count c.args.seed c.requires.some)) refl c.printed.result
     c.printed.ensures in
     record {
       text = printed_written d (table_view c.in_ok-table.table) table c.printed.result c.printed.ensures;
