@@ -1,5 +1,5 @@
 -- The wave layer: the rows of its table on what one node sees, and its predicate.
-use Rattle.std.specs.Prelude.{◌≡◌, ℕ, ◌+◌, Bool, true, false, not, ◌&&◌, ◌||◌, ◌==◌, if◌then◌else◌, List, [], ◌∷◌}
+use Rattle.std.specs.Prelude.{◌≡◌, ℕ, Bool, true, false, not, ◌&&◌, ◌||◌, ◌==◌, if◌then◌else◌, List, [], ◌∷◌}
 use Rattle.std.specs.Prelude.{codes, Option, Result, Ok, Err, ◌⊎◌, nat_lt}
 use Rattle.std.specs.List.{list_all, list_any}
 use Rattle.action_tables.specs.Table.{Row, fired_naming}
@@ -10,11 +10,8 @@ use Rattle.wave_layer.specs.declared.regs.FatherSeen.{FatherSeen}
 use Rattle.wave_layer.specs.declared.regs.FatherSeen.TheVariants.{Itself, Lost, Is}
 use Rattle.wave_layer.specs.declared.regs.WaveMove.{WaveMove}
 use Rattle.wave_layer.specs.declared.regs.WaveRefusal.{WaveRefusal}
-use Rattle.wave_layer.specs.declared.regs.WaveRefusal.TheVariants.{NoSuchCase, NotChild, NotEnabled, SessionsSpent}
-
--- the session after s. Crates above use of it only what the lemmas of NextSession say
-unfoldable pub next_session : ℕ → ℕ
-next_session s = s + 1
+use Rattle.wave_layer.specs.declared.regs.WaveRefusal.TheVariants.{NoSuchCase, NotChild, NotEnabled}
+use Rattle.wave_layer.specs.Sessions.{next_session}
 
 abbrev pub is_normal : Phase → Bool
 is_normal Normal = true
@@ -31,11 +28,13 @@ is_reset Normal = false
 is_reset Initiate = false
 is_reset Reset = true
 
--- what one node sees: its registers, its father's, and those of its children, by id
+-- what one node sees: its registers, its father's, and those of its children, by id; and the number
+-- modulo which sessions are counted
 pub record LocalView : Type 0 where
   pub own : WaveRegs
   pub father : FatherSeen
   pub children : List (ℕ × WaveRegs)
+  pub modulus : ℕ
 
 -- the father register names the node itself
 abbrev pub is_root : FatherSeen → Bool
@@ -87,16 +86,13 @@ restarts p s = Ok (record { regs = record { phase = p; session = s }; restarts =
 abbrev pub completes : Phase → ℕ → Result WaveMove WaveRefusal
 completes p s = Ok (record { regs = record { phase = p; session = s }; restarts = false; completes = true })
 
--- the session after s is entered, unless s is the last one
-abbrev pub opens : ℕ → Result WaveMove WaveRefusal
-opens s = if nat_lt s 4294967295 then restarts Reset (next_session s) else Err SessionsSpent
-
 -- the rows, where the relay may ask the children in asked
 abbrev pub wave_table : LocalView → List (ℕ × WaveRegs) → List (Row (Result WaveMove WaveRefusal))
 wave_table v asked =
     let phase = v.own.phase in
     let session = v.own.session in
     let up = father_regs v.own v.father in
+    let next = next_session v.modulus session in
     let join = codes "phase, session := reset, session.j; restart" in
     let mend = codes "phase, session := phase.j, session.j" in
     record {
@@ -119,24 +115,24 @@ wave_table v asked =
       number = 3;
       name = codes "open";
       guard = codes "father = id, phase = initiate";
-      effect = codes "phase, session := reset, session + 1; restart";
+      effect = codes "phase, session := reset, session + 1 mod M; restart";
       holds = is_root v.father && is_initiate phase;
-      does = opens session;
+      does = restarts Reset next;
     }
     ∷ record {
       number = 4;
       name = codes "join-normal";
-      guard = codes "father j is reset, phase = normal, session.j = session + 1";
+      guard = codes "father j is reset, phase = normal, session.j = session + 1 mod M";
       effect = join;
-      holds = father_reset v.father && is_normal phase && up.session == next_session session;
+      holds = father_reset v.father && is_normal phase && up.session == next;
       does = restarts Reset up.session;
     }
     ∷ record {
       number = 5;
       name = codes "join-asked";
-      guard = codes "father j is reset, phase = initiate, session.j = session + 1";
+      guard = codes "father j is reset, phase = initiate, session.j = session + 1 mod M";
       effect = join;
-      holds = father_reset v.father && is_initiate phase && up.session == next_session session;
+      holds = father_reset v.father && is_initiate phase && up.session == next;
       does = restarts Reset up.session;
     }
     ∷ record {
@@ -182,10 +178,10 @@ wave_table v asked =
     ∷ record {
       number = 11;
       name = codes "mend-late";
-      guard = codes "father j is reset, phase != reset, session.j is neither session nor session + 1";
+      guard = codes "father j is reset, phase != reset, session.j is neither session nor session + 1 mod M";
       effect = mend;
       holds = father_reset v.father && not (is_reset phase) && not (up.session == session)
-          && not (up.session == next_session session);
+          && not (up.session == next);
       does = becomes up.phase up.session;
     }
     ∷ []
@@ -205,19 +201,18 @@ or_next (Ok move) next = Ok move
 or_next (Err NoSuchCase) next = next
 or_next (Err NotChild) next = next
 or_next (Err NotEnabled) next = next
-or_next (Err SessionsSpent) next = Err SessionsSpent
 
--- the predicate of a node's registers and those of its father, a neighbour
-pub record WaveHolds (own up : WaveRegs) : Type 0 where
+-- the predicate of a node's registers and those of its father, a neighbour, where sessions are counted modulo m
+pub record WaveHolds (m : ℕ) (own up : WaveRegs) : Type 0 where
   pub awake : is_reset up.phase ≡ false → (is_reset own.phase ≡ false) × (own.session ≡ up.session)
   pub resetting : is_reset up.phase ≡ true
-      → (own.session ≡ up.session) ⊎ ((is_reset own.phase ≡ false) × (up.session ≡ next_session own.session))
+      → (own.session ≡ up.session) ⊎ ((is_reset own.phase ≡ false) × (up.session ≡ next_session m own.session))
 
 -- the same of what the node sees: it is asked only where the father is a neighbour
-abbrev pub FatherHolds : WaveRegs → FatherSeen → Type 0
-FatherHolds own Itself = Unit {0}
-FatherHolds own Lost = Unit {0}
-FatherHolds own (Is up) = WaveHolds own up
+abbrev pub FatherHolds : ℕ → WaveRegs → FatherSeen → Type 0
+FatherHolds m own Itself = Unit {0}
+FatherHolds m own Lost = Unit {0}
+FatherHolds m own (Is up) = WaveHolds m own up
 
 -- no row from 8 on is enabled
 abbrev pub no_mend : List (Row (Result WaveMove WaveRefusal)) → Bool

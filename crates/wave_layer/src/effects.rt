@@ -1,7 +1,8 @@
 // The effects of the wave table.
 
 ghost use Rattle.std.specs.Prelude.{◌≡◌};
-ghost use Rattle.wave_layer.specs.WaveTable.{becomes, completes, father_regs, opens, restarts};
+ghost use Rattle.wave_layer.specs.WaveTable.{becomes, completes, father_regs, restarts};
+ghost use Rattle.wave_layer.specs.Sessions.{next_session};
 ghost use Rattle.wave_layer.specs.declared.regs.Phase.TheVariants.{Initiate, Normal, Reset};
 
 use crate::regs::{Phase, WaveMove, WaveRefusal, WaveRegs};
@@ -14,17 +15,11 @@ pub(crate) fn asked(view: &WaveView) -> Result<WaveMove, WaveRefusal>
     becomes(Phase::Initiate, view.own().session)
 }
 
-// Row 3: the next session is entered, unless this is the last one.
-#[tactic(auto, unfolding(crate::specs::WaveTable::next_session))]
+// Row 3: the next session is entered.
 pub(crate) fn opened(view: &WaveView) -> Result<WaveMove, WaveRefusal>
-    ensures { result ≡ opens view.now.own.session }
+    ensures { result ≡ restarts Reset (next_session view.now.modulus view.now.own.session) }
 {
-    let session = view.own().session;
-    if session < u32::MAX {
-        restarts(Phase::Reset, session + 1)
-    } else {
-        Err(WaveRefusal::SessionsSpent)
-    }
+    restarts(Phase::Reset, view.modulus().next(view.own().session))
 }
 
 // Rows 4 and 5: the father's session is entered.

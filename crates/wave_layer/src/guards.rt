@@ -4,11 +4,11 @@
 
 ghost use Rattle.std.specs.Prelude.{◌≡◌, ◌==◌, ◌&&◌, not};
 ghost use Rattle.wave_layer.specs.WaveTable.{any_initiate, children_done, father_awake, father_regs, father_reset};
-ghost use Rattle.wave_layer.specs.WaveTable.{is_initiate, is_normal, is_reset, is_root, next_session};
+ghost use Rattle.wave_layer.specs.WaveTable.{is_initiate, is_normal, is_reset, is_root};
+ghost use Rattle.wave_layer.specs.Sessions.{next_session};
 
 use crate::effects::father_regs;
 use crate::regs::WaveRegs;
-use crate::sessions::is_next;
 use crate::view::WaveView;
 
 // Row 1: the node is normal.
@@ -36,7 +36,7 @@ pub(crate) fn may_open(view: &WaveView) -> bool
 pub(crate) fn joins_normal(view: &WaveView) -> bool
     ensures { result
         ≡ (father_reset view.now.father && is_normal view.now.own.phase
-        && (father_regs view.now.own view.now.father).session == next_session view.now.own.session) }
+        && (father_regs view.now.own view.now.father).session == next_session view.now.modulus view.now.own.session) }
 {
     view.father().is_reset() & view.own().phase.is_normal() & is_behind(view)
 }
@@ -45,7 +45,7 @@ pub(crate) fn joins_normal(view: &WaveView) -> bool
 pub(crate) fn joins_asked(view: &WaveView) -> bool
     ensures { result
         ≡ (father_reset view.now.father && is_initiate view.now.own.phase
-        && (father_regs view.now.own view.now.father).session == next_session view.now.own.session) }
+        && (father_regs view.now.own view.now.father).session == next_session view.now.modulus view.now.own.session) }
 {
     view.father().is_reset() & view.own().phase.is_initiate() & is_behind(view)
 }
@@ -98,7 +98,7 @@ pub(crate) fn is_late(view: &WaveView) -> bool
     ensures { result
         ≡ (father_reset view.now.father && not (is_reset view.now.own.phase)
         && not ((father_regs view.now.own view.now.father).session == view.now.own.session)
-        && not ((father_regs view.now.own view.now.father).session == next_session view.now.own.session)) }
+        && not ((father_regs view.now.own view.now.father).session == next_session view.now.modulus view.now.own.session)) }
 {
     view.father().is_reset() & !view.own().phase.is_reset() & !is_level(view) & !is_behind(view)
 }
@@ -120,9 +120,10 @@ fn is_level(view: &WaveView) -> bool
 
 // Whether the father is one session ahead.
 fn is_behind(view: &WaveView) -> bool
-    ensures { result ≡ ((father_regs view.now.own view.now.father).session == next_session view.now.own.session) }
+    ensures { result ≡ ((father_regs view.now.own view.now.father).session == next_session view.now.modulus view.now.own.session) }
 {
-    is_next(father_regs(view).session, view.own().session)
+    view.modulus()
+        .follows(father_regs(view).session, view.own().session)
 }
 
 // Whether every child is done.

@@ -10,14 +10,15 @@ mod boot;
 mod effects;
 mod guards;
 mod holds;
+mod modulus;
 mod moves;
 mod regs;
-mod sessions;
 mod table;
 mod view;
 
 pub use boot::boot_wave;
 pub use holds::wave_good;
+pub use modulus::Modulus;
 pub use moves::{finish, join, open, relay, request};
 pub use regs::{FatherSeen, Phase, WaveMove, WaveRefusal, WaveRegs};
 pub use table::{wave_enabled, wave_fire, wave_rows};

@@ -5,6 +5,7 @@ ghost use Rattle.action_tables.specs.Nodes.{regs_of};
 ghost use Rattle.wave_layer.specs.WaveTable.{LocalView, children_done, is_root, or_next, wave_fired};
 
 use crate::effects::{becomes, restarts};
+use crate::modulus::Modulus;
 use crate::regs::{FatherSeen, Phase, WaveMove, WaveRefusal, WaveRegs};
 
 /// Row 1: the node asks for a reset.
@@ -34,34 +35,28 @@ pub fn relay(own: WaveRegs, child: Option<WaveRegs>) -> Result<WaveMove, WaveRef
     }
 }
 
-/// Row 3: the node opens the next session, unless this is the last one.
+/// Row 3: the node opens the next session.
 #[inline(always)]
-#[tactic(auto, unfolding(crate::specs::WaveTable::next_session))]
-pub fn open(own: WaveRegs, root: bool) -> Result<WaveMove, WaveRefusal>
-    ensures { (v : LocalView) → v.own ≡ own → is_root v.father ≡ root → result ≡ wave_fired v 3 None }
+pub fn open(own: WaveRegs, root: bool, modulus: Modulus) -> Result<WaveMove, WaveRefusal>
+    ensures { (v : LocalView) → v.own ≡ own → v.modulus ≡ modulus → is_root v.father ≡ root
+        → result ≡ wave_fired v 3 None }
 {
     if !root || !own.phase.is_initiate() {
         return Err(WaveRefusal::NotEnabled);
     }
-    if own.session < u32::MAX {
-        restarts(Phase::Reset, own.session + 1)
-    } else {
-        Err(WaveRefusal::SessionsSpent)
-    }
+    restarts(Phase::Reset, modulus.next(own.session))
 }
 
 /// Rows 4 and 5: the node joins its father's session.
 #[inline(always)]
-#[tactic(auto, unfolding(crate::specs::WaveTable::next_session))]
-pub fn join(own: WaveRegs, father: FatherSeen) -> Result<WaveMove, WaveRefusal>
-    ensures { (v : LocalView) → v.own ≡ own → v.father ≡ father
+pub fn join(own: WaveRegs, father: FatherSeen, modulus: Modulus) -> Result<WaveMove, WaveRefusal>
+    ensures { (v : LocalView) → v.own ≡ own → v.modulus ≡ modulus → v.father ≡ father
         → result ≡ or_next (wave_fired v 4 None) (wave_fired v 5 None) }
 {
     let FatherSeen::Is(up) = father else {
         return Err(WaveRefusal::NotEnabled);
     };
-    let next = u64::from(own.session) + 1;
-    if up.phase.is_reset() && !own.phase.is_reset() && u64::from(up.session) == next {
+    if up.phase.is_reset() && !own.phase.is_reset() && modulus.follows(up.session, own.session) {
         restarts(Phase::Reset, up.session)
     } else {
         Err(WaveRefusal::NotEnabled)

@@ -150,6 +150,4 @@ pub enum WaveRefusal {
     NotChild,
     /// The row's guard is false.
     NotEnabled,
-    /// The session after the last one, 4294967295, would be opened.
-    SessionsSpent,
 }

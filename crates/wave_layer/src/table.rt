@@ -29,12 +29,12 @@ macro_rules! wave_table {
                 is_normal($view) => asked($view);
             2 "relay" | "phase = normal, child c is initiate" | "phase := initiate":
                 is_asked($view, $asked) => asked($view);
-            3 "open" | "father = id, phase = initiate" | "phase, session := reset, session + 1; restart":
+            3 "open" | "father = id, phase = initiate" | "phase, session := reset, session + 1 mod M; restart":
                 may_open($view) => opened($view);
-            4 "join-normal" | "father j is reset, phase = normal, session.j = session + 1"
+            4 "join-normal" | "father j is reset, phase = normal, session.j = session + 1 mod M"
                 | "phase, session := reset, session.j; restart":
                 joins_normal($view) => joined($view);
-            5 "join-asked" | "father j is reset, phase = initiate, session.j = session + 1"
+            5 "join-asked" | "father j is reset, phase = initiate, session.j = session + 1 mod M"
                 | "phase, session := reset, session.j; restart":
                 joins_asked($view) => joined($view);
             6 "finish" | "father != id, phase = reset, every child is not reset and has session" | "phase := normal":
@@ -50,7 +50,7 @@ macro_rules! wave_table {
             10 "mend-both" | "father j is reset, phase = reset, session != session.j"
                 | "phase, session := phase.j, session.j":
                 differs_reset($view) => mended($view);
-            11 "mend-late" | "father j is reset, phase != reset, session.j is neither session nor session + 1"
+            11 "mend-late" | "father j is reset, phase != reset, session.j is neither session nor session + 1 mod M"
                 | "phase, session := phase.j, session.j":
                 is_late($view) => mended($view);
         }

@@ -4,11 +4,13 @@ ghost use Rattle.std.specs.Prelude.{◌≡◌, ◌↔◌, IsSome, IfSome};
 ghost use Rattle.std.specs.List.Sorted.{IsStrictlyIncreasing};
 ghost use Rattle.action_tables.specs.Nodes.{ids_of};
 
+use crate::modulus::Modulus;
 use crate::regs::{FatherSeen, WaveRegs};
 use action_tables::ids_ascend;
 use std::marker::Model;
 
-/// What one node sees: its registers, its father's, and those of its children with their ids.
+/// What one node sees: its registers, its father's, and those of its children with their ids; and
+/// the number modulo which sessions are counted.
 ///
 /// The ids of the children ascend strictly.
 #[derive(Drop)]
@@ -16,6 +18,7 @@ pub struct WaveView<'a> {
     own: WaveRegs,
     father: FatherSeen,
     children: &'a [(u32, WaveRegs)],
+    modulus: Modulus,
 }
 
 impl<'a> Model for WaveView<'a> {
@@ -25,7 +28,7 @@ impl<'a> Model for WaveView<'a> {
 
     ghost Value = { LocalView };
 
-    ghost view = { λ v. record { own = v.own; father = v.father; children = v.children.now } };
+    ghost view = { λ v. record { own = v.own; father = v.father; children = v.children.now; modulus = v.modulus } };
 
     ghost invariant = { λ v. IsStrictlyIncreasing (ids_of v.children.now) };
 }
@@ -36,15 +39,22 @@ impl<'a> WaveView<'a> {
         own: WaveRegs,
         father: FatherSeen,
         children: &'a [(u32, WaveRegs)],
+        modulus: Modulus,
     ) -> Option<WaveView<'a>>
         ensures ascending { IsSome result ↔ IsStrictlyIncreasing (ids_of children.now) }
-        ensures value { IfSome result (λ v. v ≡ record { own = own; father = father; children = children.now }) }
+        ensures value { IfSome result (λ v. v ≡ record {
+          own = own;
+          father = father;
+          children = children.now;
+          modulus = modulus;
+        }) }
     {
         if ids_ascend(children) {
             Some(WaveView {
                 own,
                 father,
                 children,
+                modulus,
             })
         } else {
             None
@@ -63,6 +73,13 @@ impl<'a> WaveView<'a> {
         ensures { result ≡ self.now.father }
     {
         self.father
+    }
+
+    /// The number modulo which sessions are counted.
+    pub(crate) fn modulus(&self) -> Modulus
+        ensures { result ≡ self.now.modulus }
+    {
+        self.modulus
     }
 
     /// The children's ids and registers, by strictly ascending id.
