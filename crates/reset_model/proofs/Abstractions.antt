@@ -2,6 +2,7 @@
 use Rattle.std.proofs.Common.{◌≡◌, ◌≢◌, ℕ, suc, Bool, true, false, cond, nat_eq, List, [], ◌∷◌, Contains, Option, refl}
 use Rattle.std.proofs.Common.{sym, ap, ap₂, ◌∙◌, ⊎_elim, arith}
 use Rattle.std.proofs.lemmas.Bool.{cases_eq, eq-eqb, ne_eqb}
+use Rattle.action_tables.specs.Modulus.{IsModulus}
 use Rattle.app_interface.specs.Application.{App, Action, is_read, seen}
 use Rattle.app_interface.specs.Invariant.{SameAtNodes}
 use Rattle.topology.specs.Graph.{Graph, IsGraph, IsConnected, IsNode, Changes, greatest}
@@ -9,7 +10,8 @@ use Rattle.tree_layer.specs.declared.regs.TreeRegs.{TreeRegs}
 use Rattle.tree_layer.specs.TreeRows.{IsFather}
 use Rattle.tree_layer.proofs.TreePictures.{rests_picture}
 use Rattle.wave_layer.specs.declared.regs.WaveRegs.{WaveRegs}
-use Rattle.wave_layer.specs.WaveTable.{is_reset, next_session}
+use Rattle.wave_layer.specs.WaveTable.{is_reset}
+use Rattle.wave_layer.specs.Sessions.{next_session}
 use Rattle.wave_layer.proofs.NextSession.{next_differs}
 use Rattle.reset_model.specs.declared.event.Event.TheVariants.{Open, Join}
 use Rattle.reset_model.specs.Actions.{ActStep}
@@ -89,31 +91,31 @@ joined_stays g w w' graph same k node = ap₂ nat_eq (same k node) (same (greate
 
 -- ---- opening a session and joining it
 
-module _ (g : Graph) (graph : IsGraph g) (whole : IsConnected g) (K : ℕ) (t t' : ℕ → TreeRegs) (w w' : ℕ → WaveRegs)
-    (sound : Sound g K t w) (i : ℕ) where
+module _ (g : Graph) (graph : IsGraph g) (whole : IsConnected g) (K m : ℕ) (counted : IsModulus m) (t t' : ℕ → TreeRegs)
+    (w w' : ℕ → WaveRegs) (sound : Sound g K m t w) (i : ℕ) where
   -- only the leader opens
-  pub opens_at_leader : RegsStep g K t w (Open i) t' w' → i ≡ greatest g
+  pub opens_at_leader : RegsStep g K m t w (Open i) t' w' → i ≡ greatest g
   opens_at_leader step = own_father g graph whole t (rests_picture g graph K t sound.tree) i step.node step.enabled.0
 
   -- right after, no other node has joined
-  pub opened_apart : RegsStep g K t w (Open i) t' w' → (k : ℕ) → IsNode g k → k ≢ i → has_joined g w' k ≡ false
+  pub opened_apart : RegsStep g K m t w (Open i) t' w' → (k : ℕ) → IsNode g k → k ≢ i → has_joined g w' k ≡ false
   opened_apart step k node other =
       let top : i ≡ greatest g = opens_at_leader step in
       let old : (w k).session ≡ (w i).session =
-      (all_awake g K t w i graph whole step.node sound step.enabled.0 (ap is_reset step.enabled.1) k node).1 in
+      (all_awake g K m t w i graph whole step.node sound step.enabled.0 (ap is_reset step.enabled.1) k node).1 in
       let own : (w' k).session ≡ (w i).session =
       ap (λ (r : WaveRegs). r.session) (step.waves.others k node other) ∙ old in
-      let up : (w' (greatest g)).session ≡ next_session (w i).session =
+      let up : (w' (greatest g)).session ≡ next_session m (w i).session =
       ap (λ n. (w' n).session) (sym top) ∙ ap (λ (r : WaveRegs). r.session) step.waves.here in
-      ne_eqb _ _ (λ same. next_differs (w i).session (sym up ∙ sym same ∙ own))
+      ne_eqb _ _ (λ same. next_differs m (w i).session counted.two (sym up ∙ sym same ∙ own))
 
-  joins_from : Joins g t w i → (j : ℕ) × IsFather g t i j × ((w j).session ≡ next_session (w i).session)
+  joins_from : Joins g m t w i → (j : ℕ) × IsFather g t i j × ((w j).session ≡ next_session m (w i).session)
   joins_from (join_normal j father reset phase next) = (j, father, next)
   joins_from (join_asked j father reset phase next) = (j, father, next)
 
-  module _ (step : RegsStep g K t w (Join i) t' w') where
-    picture : WavePicture g t w
-    picture = (sound_where_picture g t w graph whole (rests_picture g graph K t sound.tree)).0 sound.wave
+  module _ (step : RegsStep g K m t w (Join i) t' w') where
+    picture : WavePicture g m t w
+    picture = (sound_where_picture g m t w graph whole (rests_picture g graph K t sound.tree)).0 sound.wave
 
     -- a node that joins hasn't joined before
     was_apart : HasJoined g w i → ⊥
@@ -121,7 +123,7 @@ module _ (g : Graph) (graph : IsGraph g) (whole : IsConnected g) (K : ℕ) (t t'
         let from = joins_from step.enabled in
         let above : (w (t i).father).session ≡ (w (greatest g)).session = picture.upward i step.node joined in
         let up : (w from.0).session ≡ (w (greatest g)).session = ap (λ n. (w n).session) (sym from.1.named) ∙ above in
-        next_differs (w i).session (sym from.2 ∙ up ∙ sym joined)
+        next_differs m (w i).session counted.two (sym from.2 ∙ up ∙ sym joined)
 
     pub joins_apart : has_joined g w i ≡ false
     joins_apart = ne_eqb _ _ was_apart
@@ -135,9 +137,9 @@ module _ (g : Graph) (graph : IsGraph g) (whole : IsConnected g) (K : ℕ) (t t'
     joins_after =
         let from = joins_from step.enabled in
         let own : (w' i).session ≡ (w (t i).father).session = ap (λ (r : WaveRegs). r.session) step.waves.here in
-        let up : (w (t i).father).session ≡ next_session (w i).session =
+        let up : (w (t i).father).session ≡ next_session m (w i).session =
         ap (λ n. (w n).session) from.1.named ∙ from.2 in
-        let next : next_session (w i).session ≡ (w (greatest g)).session = (picture.outside i step.node was_apart).1 in
+        let next : next_session m (w i).session ≡ (w (greatest g)).session = (picture.outside i step.node was_apart).1 in
         eq-eqb _ _ (own ∙ up ∙ next ∙ ap (λ (r : WaveRegs). r.session) (sym leader_stays))
 
     -- and the others as before
@@ -163,29 +165,29 @@ module _ {L : Type 0} (app : App L) (g : Graph) (graph : IsGraph g) where
       ap₂ (λ b y. cond b y (app.start g k)) (joined_stays g w w' graph (sessions_stay g w w' i x waves same) k node)
       (locals_stay g l l' i locals k node)
 
-  module _ (whole : IsConnected g) (K : ℕ) (t t' : ℕ → TreeRegs) (w w' : ℕ → WaveRegs) (sound : Sound g K t w) (i : ℕ)
-      (l l' : ℕ → L) (locals : Changes g l i (app.start g i) l') where
+  module _ (whole : IsConnected g) (K m : ℕ) (counted : IsModulus m) (t t' : ℕ → TreeRegs) (w w' : ℕ → WaveRegs)
+      (sound : Sound g K m t w) (i : ℕ) (l l' : ℕ → L) (locals : Changes g l i (app.start g i) l') where
     -- to open a session is to reset all nodes
-    pub opening : RegsStep g K t w (Open i) t' w' → SameAtNodes g (app.start g) (abstract_at w' l')
+    pub opening : RegsStep g K m t w (Open i) t' w' → SameAtNodes g (app.start g) (abstract_at w' l')
     opening step k node =
         ⊎_elim
         (λ here. either (has_joined g w' k) (l' k) (app.start g k)
         (ap l' here ∙ locals.here ∙ ap (app.start g) (sym here)))
         (λ other. ap (λ b. cond b (l' k) (app.start g k))
-        (opened_apart g graph whole K t t' w w' sound i step k node other))
+        (opened_apart g graph whole K m counted t t' w w' sound i step k node other))
         (cases_eq k i)
 
     -- to join is nothing: the node's state was its start state
-    pub joining : RegsStep g K t w (Join i) t' w' → SameAtNodes g (abstract_at w l) (abstract_at w' l')
+    pub joining : RegsStep g K m t w (Join i) t' w' → SameAtNodes g (abstract_at w l) (abstract_at w' l')
     joining step k node =
         ⊎_elim
         (λ here.
         let started : l' k ≡ app.start g k = ap l' here ∙ locals.here ∙ ap (app.start g) (sym here) in
         let apart : has_joined g w k ≡ false =
-        ap (has_joined g w) here ∙ joins_apart g graph whole K t t' w w' sound i step in
+        ap (has_joined g w) here ∙ joins_apart g graph whole K m counted t t' w w' sound i step in
         either (has_joined g w' k) (l' k) (app.start g k) started ∙ ap (λ b. cond b (l k) (app.start g k)) (sym apart))
         (λ other. ap₂ (λ b y. cond b y (app.start g k))
-        (joins_others g graph whole K t t' w w' sound i step k node other) (locals.others k node other))
+        (joins_others g graph whole K m counted t t' w w' sound i step k node other) (locals.others k node other))
         (cases_eq k i)
 
   module _ (K : ℕ) (w : ℕ → WaveRegs) (i case : ℕ) (with : Option ℕ) (l l' : ℕ → L)

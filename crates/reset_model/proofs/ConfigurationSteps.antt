@@ -1,10 +1,8 @@
 -- The outcome of an event is a step of the configuration with its reply, or the first refusal.
-use Rattle.std.proofs.Common.{◌≡◌, ℕ, ◌==◌, Bool, true, false, cond, List, length, slice_set, position, Option, Some}
+use Rattle.std.proofs.Common.{◌≡◌, ℕ, Bool, true, false, cond, Option}
 use Rattle.std.proofs.Common.{Result, Ok, Err, MatchResult, refl, sym, ap, subst, ◌∙◌}
 use Rattle.app_interface.specs.Application.{App}
 use Rattle.topology.specs.Graph.{Graph, IsGraph, IsNode, Changes, node_bound}
-use Rattle.tree_layer.specs.declared.regs.TreeRegs.{TreeRegs}
-use Rattle.wave_layer.specs.declared.regs.WaveRegs.{WaveRegs}
 use Rattle.wave_layer.specs.declared.regs.WaveMove.{WaveMove}
 use Rattle.wave_layer.specs.declared.regs.Phase.TheVariants.{Normal}
 use Rattle.reset_model.specs.declared.event.Event.{Event}
@@ -13,9 +11,8 @@ use Rattle.reset_model.specs.declared.event.Event.TheVariants.{Mend, Act}
 use Rattle.reset_model.specs.declared.plan.Fired.{Fired}
 use Rattle.reset_model.specs.declared.plan.Fired.TheVariants.{Tree, Wave}
 use Rattle.reset_model.specs.declared.step.Reply.{Reply}
-use Rattle.reset_model.specs.declared.step.Reply.TheVariants.{Applied}
 use Rattle.reset_model.specs.declared.step.StepRefusal.{StepRefusal}
-use Rattle.reset_model.specs.Configuration.{Configuration, IsShaped, tree_of, wave_of, local_of, tree_map, wave_map}
+use Rattle.reset_model.specs.Configuration.{Configuration, IsShaped, tree_of, wave_of, local_of}
 use Rattle.reset_model.specs.Configuration.{local_map}
 use Rattle.reset_model.specs.Steps.{event_node, is_act, reply_of}
 use Rattle.reset_model.specs.MachineSteps.{IsStep, IsRefused, RowStep, row_step, row_refused, act_step, act_refused}
@@ -25,7 +22,7 @@ use Rattle.reset_model.specs.Outcome.{restarted}
 use Rattle.reset_model.specs.Actions.{acted_of}
 use Rattle.reset_model.specs.Planned.{outcome_of}
 use Rattle.reset_model.specs.LocalSteps.{event_fired}
-use Rattle.reset_model.proofs.Positions.{value_at-put_at, value_at-put_at_other, put_at-position}
+use Rattle.reset_model.proofs.Positions.{value_at-put_at, value_at-put_at_other}
 use Rattle.reset_model.proofs.PlannedSteps.{IsPlannedStep, planned_steps}
 use Rattle.reset_model.proofs.WavePlans.{restarts_of}
 use Rattle.reset_model.proofs.ViewedOutcomes.{outcome-is}
@@ -72,15 +69,15 @@ module _ {L : Type 0} (app : App L) (c : Configuration L) (graph : IsGraph c.gra
 
   -- what is planned in a configuration is a step
   fired_is_step : (e : Event) (does : Fired)
-      → IsPlannedStep c.graph (node_bound c.graph) (tree_of c) (wave_of c) graph e does
+      → IsPlannedStep c.graph (node_bound c.graph) c.modulus (tree_of c) (wave_of c) graph e does
       → RowStep app c e (after_fired app c (event_node e) does)
   fired_is_step e (Tree regs) step =
       record {
         graph = refl;
+        modulus = refl;
         regs = record {
           node = step.node;
           enabled = step.enabled;
-          unspent = step.unspent;
           trees = record {
             here = value_at-put_at (record { root = 0; father = 0; dist = 0 }) c.graph.ids c.trees (event_node e) regs
                 shaped.trees step.node ∙ step.leaves.tree;
@@ -95,10 +92,10 @@ module _ {L : Type 0} (app : App L) (c : Configuration L) (graph : IsGraph c.gra
   fired_is_step e (Wave move) step =
       record {
         graph = refl;
+        modulus = refl;
         regs = record {
           node = step.node;
           enabled = step.enabled;
-          unspent = step.unspent;
           trees = record { here = step.leaves.tree; others = λ k node other. refl };
           waves = record {
             here = value_at-put_at (record { phase = Normal; session = 0 }) c.graph.ids c.waves (event_node e) move.regs
@@ -118,17 +115,17 @@ module _ {L : Type 0} (app : App L) (c : Configuration L) (graph : IsGraph c.gra
       (IsRefused app c e)
 
   done_steps : (e : Event) (r : Result Fired StepRefusal) → is_act e ≡ false
-      → event_fired c.graph (node_bound c.graph) (tree_of c) (wave_of c) e ≡ r
+      → event_fired c.graph (node_bound c.graph) c.modulus (tree_of c) (wave_of c) e ≡ r
       → IsJudged e (done app c (event_node e) r)
   done_steps e (Err f) row planned =
-      row_refused row (planned_steps c.graph (node_bound c.graph) (tree_of c) (wave_of c) graph e (Err f) planned)
+      row_refused row (planned_steps c.graph (node_bound c.graph) c.modulus (tree_of c) (wave_of c) graph e (Err f) planned)
   done_steps e (Ok does) row planned =
-      let step : IsPlannedStep c.graph (node_bound c.graph) (tree_of c) (wave_of c) graph e does =
-      planned_steps c.graph (node_bound c.graph) (tree_of c) (wave_of c) graph e (Ok does) planned in
+      let step : IsPlannedStep c.graph (node_bound c.graph) c.modulus (tree_of c) (wave_of c) graph e does =
+      planned_steps c.graph (node_bound c.graph) c.modulus (tree_of c) (wave_of c) graph e (Ok does) planned in
       (row_step (fired_is_step e does step), step.leaves.reply)
 
   row_steps : (e : Event) → is_act e ≡ false → IsJudged e (row_outcome app c e)
-  row_steps e row = done_steps e (event_fired c.graph (node_bound c.graph) (tree_of c) (wave_of c) e) row refl
+  row_steps e row = done_steps e (event_fired c.graph (node_bound c.graph) c.modulus (tree_of c) (wave_of c) e) row refl
 
   -- ---- the actions
 
@@ -139,6 +136,7 @@ module _ {L : Type 0} (app : App L) (c : Configuration L) (graph : IsGraph c.gra
   acted_is_step i case with (Ok new) is = (
     act_step i case with refl (record {
       graph = refl;
+      modulus = refl;
       trees = refl;
       waves = refl;
       locals = record {
@@ -203,22 +201,10 @@ pub outcome-rows : {L : Type 0} (app : App L) (c : Configuration L) (e : Event) 
     → outcome_of app c e ≡ row_outcome app c e
 outcome-rows app c e graph row = outcome-is app c graph e ∙ map-rows app c e row
 
--- ---- what is written at the place of the event's node is the outcome
-
-pub put_tree_outcome : {L : Type 0} (app : App L) (g : Graph) (trees : List TreeRegs) (waves : List WaveRegs)
-    (locals : List L) (e : Event) (ix : ℕ) (regs : TreeRegs) → length trees ≡ length g.ids
-    → position (λ k. k == event_node e) g.ids ≡ Some ix →
-    event_fired g (node_bound g) (tree_map g trees) (wave_map g waves) e ≡ Ok (Tree regs)
-    → row_outcome app (record { graph = g; trees = trees; waves = waves; locals = locals }) e
-    ≡ Ok (record { graph = g; trees = slice_set trees ix regs; waves = waves; locals = locals }, Applied)
-put_tree_outcome {L} app g trees waves locals e ix regs same found planned =
-    let after : List TreeRegs → Result (Configuration L × Reply) StepRefusal =
-    λ ts. Ok (record { graph = g; trees = ts; waves = waves; locals = locals }, Applied) in
-    ap (done app (record { graph = g; trees = trees; waves = waves; locals = locals }) (event_node e)) planned
-    ∙ ap after (put_at-position g.ids trees ix (event_node e) regs same found)
+-- ---- what is written at the event's node is the outcome
 
 pub put_wave_outcome : {L : Type 0} (app : App L) (c c' : Configuration L) (e : Event) (move : WaveMove) (reply : Reply)
-    → event_fired c.graph (node_bound c.graph) (tree_of c) (wave_of c) e ≡ Ok (Wave move)
+    → event_fired c.graph (node_bound c.graph) c.modulus (tree_of c) (wave_of c) e ≡ Ok (Wave move)
     → reply ≡ fired_reply (Wave move) → c' ≡ after_fired app c (event_node e) (Wave move)
     → row_outcome app c e ≡ Ok (c', reply)
 put_wave_outcome {L} app c c' e move reply planned replied written =
@@ -228,20 +214,8 @@ put_wave_outcome {L} app c c' e move reply planned replied written =
     ∙ ap (λ d. after d reply) (sym written)
 
 pub refused_outcome : {L : Type 0} (app : App L) (c : Configuration L) (e : Event) (f : StepRefusal)
-    → event_fired c.graph (node_bound c.graph) (tree_of c) (wave_of c) e ≡ Err f → row_outcome app c e ≡ Err f
+    → event_fired c.graph (node_bound c.graph) c.modulus (tree_of c) (wave_of c) e ≡ Err f → row_outcome app c e ≡ Err f
 refused_outcome app c e f planned = ap (done app c (event_node e)) planned
-
-pub put_local_outcome : {L : Type 0} (app : App L) (g : Graph) (trees : List TreeRegs) (waves : List WaveRegs)
-    (locals : List L) (i case : ℕ) (with : Option ℕ) (ix : ℕ) (new : L) → length locals ≡ length g.ids
-    → position (λ k. k == i) g.ids ≡ Some ix →
-    acted_of app g (node_bound g) (wave_map g waves) (local_map app g locals) i case with ≡ Ok new
-    → act_outcome app (record { graph = g; trees = trees; waves = waves; locals = locals }) i case with ≡ Ok
-    (record { graph = g; trees = trees; waves = waves; locals = slice_set locals ix new }, Applied)
-put_local_outcome {L} app g trees waves locals i case with ix new same found done =
-    let after : List L → Result (Configuration L × Reply) StepRefusal =
-    λ ls. Ok (record { graph = g; trees = trees; waves = waves; locals = ls }, Applied) in
-    ap (acted (record { graph = g; trees = trees; waves = waves; locals = locals }) i) done
-    ∙ ap after (put_at-position g.ids locals ix i new same found)
 
 pub refused_act : {L : Type 0} (app : App L) (c : Configuration L) (i case : ℕ) (with : Option ℕ) (f : StepRefusal)
     → acted_of app c.graph (node_bound c.graph) (wave_of c) (local_of app c) i case with ≡ Err f

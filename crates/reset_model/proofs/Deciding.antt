@@ -110,9 +110,11 @@ kept_ascend {L = L} p near up =
 
 -- a view of these parts is what is seen of the wave
 pub wave_view-parts : {L : Type 0} (v : NodeView L) (w : LocalView) (own : WaveRegs) (father : FatherSeen)
-    (children : List (ℕ × WaveRegs)) → w ≡ record { own = own; father = father; children = children }
-    → own ≡ v.wave → father ≡ father_of v → children ≡ near_waves (children_of v) → wave_view v ≡ w
-wave_view-parts v w own father children is own_is father_is children_is = cc
+    (children : List (ℕ × WaveRegs)) (modulus : ℕ)
+    → w ≡ record { own = own; father = father; children = children; modulus = modulus }
+    → own ≡ v.wave → father ≡ father_of v → children ≡ near_waves (children_of v) → modulus ≡ v.modulus
+    → wave_view v ≡ w
+wave_view-parts v w own father children modulus is own_is father_is children_is modulus_is = cc
 
 -- ---- a case of the application
 

@@ -2,6 +2,7 @@
 use Rattle.std.proofs.Common.{◌≡◌, ◌≢◌, ℕ, ◌+◌, Bool, true, false, cond, nat_eq, List, [], ◌∷◌, refl, sym, ap, subst}
 use Rattle.std.proofs.Common.{◌∙◌, ⊎_elim, true≢false, arith}
 use Rattle.std.proofs.lemmas.Bool.{cases_eq, eqb-true, eq-eqb, ne_eqb}
+use Rattle.action_tables.specs.Modulus.{IsModulus}
 use Rattle.app_interface.specs.Application.{App}
 use Rattle.topology.specs.Graph.{Graph, IsGraph, IsConnected, IsNode, greatest, node_bound}
 use Rattle.tree_layer.specs.declared.regs.TreeRegs.{TreeRegs}
@@ -48,8 +49,8 @@ record Counts (g : Graph) (w w' : ℕ → WaveRegs) (e : Event) : Type 0 where
   closed : is_open e ≡ false
   number : (i : ℕ) → IsNode g i → joined_number g w' i ≡ joins_now e i + joined_number g w i
 
-module _ (g : Graph) (graph : IsGraph g) (whole : IsConnected g) (K : ℕ) (t t' : ℕ → TreeRegs) (w w' : ℕ → WaveRegs)
-    (sound : Sound g K t w) where
+module _ (g : Graph) (graph : IsGraph g) (whole : IsConnected g) (K m : ℕ) (counted : IsModulus m) (t t' : ℕ → TreeRegs)
+    (w w' : ℕ → WaveRegs) (sound : Sound g K m t w) where
   stays : ((i : ℕ) → IsNode g i → (w' i).session ≡ (w i).session) → (i : ℕ) → IsNode g i
       → joined_number g w' i ≡ 0 + joined_number g w i
   stays same i node =
@@ -57,51 +58,51 @@ module _ (g : Graph) (graph : IsGraph g) (whole : IsConnected g) (K : ℕ) (t t'
       ap (λ b. cond b 1 0) (joined_stays g w w' graph same i node) in
       omega (arith, number)
 
-  join_counts : (k : ℕ) → RegsStep g K t w (Join k) t' w' → (i : ℕ) → IsNode g i
+  join_counts : (k : ℕ) → RegsStep g K m t w (Join k) t' w' → (i : ℕ) → IsNode g i
       → joined_number g w' i ≡ joins_now (Join k) i + joined_number g w i
   join_counts k step i node =
       ⊎_elim
       (λ here.
       let apart : has_joined g w i ≡ false =
-      ap (has_joined g w) here ∙ joins_apart g graph whole K t t' w w' sound k step in
+      ap (has_joined g w) here ∙ joins_apart g graph whole K m counted t t' w w' sound k step in
       let after : has_joined g w' i ≡ true =
-      ap (has_joined g w') here ∙ joins_after g graph whole K t t' w w' sound k step in
+      ap (has_joined g w') here ∙ joins_after g graph whole K m counted t t' w w' sound k step in
       let before : joined_number g w i ≡ 0 = ap (λ b. cond b 1 0) apart in
       let number : joined_number g w' i ≡ 1 = ap (λ b. cond b 1 0) after in
       let now : joins_now (Join k) i ≡ 1 = ap (λ b. cond b 1 0) (eq-eqb k i (sym here)) in
       omega (arith, before, number, now))
       (λ other.
       let number : joined_number g w' i ≡ joined_number g w i =
-      ap (λ b. cond b 1 0) (joins_others g graph whole K t t' w w' sound k step i node other) in
+      ap (λ b. cond b 1 0) (joins_others g graph whole K m counted t t' w w' sound k step i node other) in
       let now : joins_now (Join k) i ≡ 0 = ap (λ b. cond b 1 0) (ne_eqb k i (λ same. other (sym same))) in
       omega (arith, number, now))
       (cases_eq i k)
 
-  row_counts : (e : Event) → RegsStep g K t w e t' w' → is_open_at (greatest g) e ≡ false → Counts g w w' e
-  row_counts (Claim i) step unopened = absurd (sound_rests g K t w (Claim i) step.node sound (claims i) step.enabled)
-  row_counts (Follow i) step unopened = absurd (sound_rests g K t w (Follow i) step.node sound (follows i) step.enabled)
+  row_counts : (e : Event) → RegsStep g K m t w e t' w' → is_open_at (greatest g) e ≡ false → Counts g w w' e
+  row_counts (Claim i) step unopened = absurd (sound_rests g K m t w (Claim i) step.node sound (claims i) step.enabled)
+  row_counts (Follow i) step unopened = absurd (sound_rests g K m t w (Follow i) step.node sound (follows i) step.enabled)
   row_counts (Adopt i j) step unopened =
-      absurd (sound_rests g K t w (Adopt i j) step.node sound (adopts i j) step.enabled)
+      absurd (sound_rests g K m t w (Adopt i j) step.node sound (adopts i j) step.enabled)
   row_counts (Request i) step unopened =
       record { closed = refl; number = stays (sessions_stay g w w' i _ step.waves refl) }
   row_counts (Relay i k) step unopened =
       record { closed = refl; number = stays (sessions_stay g w w' i _ step.waves refl) }
   row_counts (Open i) step unopened =
       absurd (true≢false
-      (sym (eq-eqb i (greatest g) (opens_at_leader g graph whole K t t' w w' sound i step)) ∙ unopened))
+      (sym (eq-eqb i (greatest g) (opens_at_leader g graph whole K m counted t t' w w' sound i step)) ∙ unopened))
   row_counts (Join i) step unopened = record { closed = refl; number = join_counts i step }
   row_counts (Finish i) step unopened =
       record { closed = refl; number = stays (sessions_stay g w w' i _ step.waves refl) }
-  row_counts (Mend i) step unopened = absurd (sound_rests g K t w (Mend i) step.node sound (mends i) step.enabled)
+  row_counts (Mend i) step unopened = absurd (sound_rests g K m t w (Mend i) step.node sound (mends i) step.enabled)
   row_counts (Act i case with) step unopened = absurd step.enabled
 
 module _ {L : Type 0} (app : App L) where
-  step_counts : (c c' : Configuration L) (e : Event) → IsGraph c.graph → IsConnected c.graph → IsSound c
+  step_counts : (c c' : Configuration L) (e : Event) → IsGraph c.graph → IsConnected c.graph → IsShaped c → IsSound c
       → IsStep app c e c' → is_open_at (greatest c.graph) e ≡ false → Counts c.graph (wave_of c) (wave_of c') e
-  step_counts c c' e graph whole sound (row_step step) unopened =
-      row_counts c.graph graph whole (node_bound c.graph) (tree_of c) (tree_of c') (wave_of c) (wave_of c') sound e
+  step_counts c c' e graph whole shaped sound (row_step step) unopened =
+      row_counts c.graph graph whole (node_bound c.graph) c.modulus shaped.modulus (tree_of c) (tree_of c') (wave_of c) (wave_of c') sound e
       step.regs unopened
-  step_counts c c' e graph whole sound (act_step i case with is step) unopened =
+  step_counts c c' e graph whole shaped sound (act_step i case with is step) unopened =
       let waves : wave_of c' ≡ wave_of c = rw (step.graph, step.waves) refl in
       record {
         closed = ap is_open is;
@@ -143,7 +144,7 @@ module _ {L : Type 0} (app : App L) where
       let split = none_first (is_open_at (greatest c.graph)) e (applied es ds) none in
       let kept = did_keeps app c m e (Did reply) graph shaped sound run.1 in
       let step : IsStep app c e m = (outcome_is_step app c graph shaped e m reply run.1).0 in
-      let first = step_counts c m e graph whole sound step split.0 in
+      let first = step_counts c m e graph whole shaped sound step split.0 in
       let None : Graph → Type 0 = λ g. times (is_open_at (greatest g)) (applied es ds) ≡ 0 in
       let rest =
       run_counts es ds m c' (subst IsGraph (sym kept.graph) graph) (subst IsConnected (sym kept.graph) whole)
@@ -163,18 +164,18 @@ module _ {L : Type 0} (app : App L) where
   -- ---- from an opening to its completion
 
   -- the node of an opening is the leader, and right after it no other node has joined
-  opening_counts : (c c' : Configuration L) (o : ℕ) → IsGraph c.graph → IsConnected c.graph → IsSound c
+  opening_counts : (c c' : Configuration L) (o : ℕ) → IsGraph c.graph → IsConnected c.graph → IsShaped c → IsSound c
       → IsStep app c (Open o) c'
       → (o ≡ greatest c.graph)
       × ((i : ℕ) → IsNode c.graph i → i ≢ greatest c.graph → joined_number c.graph (wave_of c') i ≡ 0)
-  opening_counts c c' o graph whole sound (act_step i case with is step) = absurd (cc)
-  opening_counts c c' o graph whole sound (row_step step) =
+  opening_counts c c' o graph whole shaped sound (act_step i case with is step) = absurd (cc)
+  opening_counts c c' o graph whole shaped sound (row_step step) =
       let top =
-      opens_at_leader c.graph graph whole (node_bound c.graph) (tree_of c) (tree_of c') (wave_of c) (wave_of c')
+      opens_at_leader c.graph graph whole (node_bound c.graph) c.modulus shaped.modulus (tree_of c) (tree_of c') (wave_of c) (wave_of c')
       sound o step.regs in (
         top,
         λ i node other. ap (λ b. cond b 1 0)
-            (opened_apart c.graph graph whole (node_bound c.graph) (tree_of c) (tree_of c') (wave_of c) (wave_of c')
+            (opened_apart c.graph graph whole (node_bound c.graph) c.modulus shaped.modulus (tree_of c) (tree_of c') (wave_of c) (wave_of c')
             sound
             o step.regs i node (λ same. other (same ∙ top))),
       )
@@ -229,7 +230,7 @@ module _ {L : Type 0} (app : App L) where
         let same : c2.graph ≡ c.graph = ran.graph ∙ opened.graph in
         let graph2 = subst IsGraph (sym same) graph in
         let first : Apart c.graph =
-        opening_counts c c1 o graph whole sound (outcome_is_step app c graph shaped (Open o) c1 reply opens).0 in
+        opening_counts c c1 o graph whole shaped sound (outcome_is_step app c graph shaped (Open o) c1 reply opens).0 in
         let finish = outcome_is_step app c2 graph2 ran.shaped (Finish p) c3 (Complete x) finishes in
         let last : Joined c.graph =
         subst Joined same

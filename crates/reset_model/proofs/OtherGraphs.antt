@@ -40,4 +40,9 @@ module _ {L : Type 0} (c : Configuration L) (g : Graph) (same : g.ids ≡ c.grap
   pub shaped-with_graph : IsShaped c → IsShaped (with_graph c g)
   shaped-with_graph shaped =
       let nodes = ap length (sym same) in
-      record { trees = shaped.trees ∙ nodes; waves = shaped.waves ∙ nodes; locals = shaped.locals ∙ nodes }
+      record {
+        modulus = shaped.modulus;
+        trees = shaped.trees ∙ nodes;
+        waves = shaped.waves ∙ nodes;
+        locals = shaped.locals ∙ nodes;
+      }

@@ -32,7 +32,7 @@ step_graph app c c' e (act_step i case with is step) = step.graph
 -- ---- one step
 
 module _ {L : Type 0} (app : App L) (c : Configuration L) (graph : IsGraph c.graph) (whole : IsConnected c.graph)
-    (sound : IsSound c) (ss : List AbstractStep) (v' : ℕ → L) where
+    (shaped : IsShaped c) (sound : IsSound c) (ss : List AbstractStep) (v' : ℕ → L) where
   -- from these registers and local states on, the abstract machine goes to v'
   abbrev GoesOn : (ℕ → WaveRegs) → (ℕ → L) → Type 0
   GoesOn w l = IsAbstractRun app c.graph (node_bound c.graph) ss (abstract_at app c.graph graph w l) v'
@@ -42,17 +42,17 @@ module _ {L : Type 0} (app : App L) (c : Configuration L) (graph : IsGraph c.gra
   GoesFirst e = IsAbstractRun app c.graph (node_bound c.graph) (shadow_of c e ++ ss) (abstract_of app c) v'
 
   row_shadow : (e : Event) (t' : ℕ → TreeRegs) (w' : ℕ → WaveRegs) (l' : ℕ → L)
-      → RegsStep c.graph (node_bound c.graph) (tree_of c) (wave_of c) e t' w'
+      → RegsStep c.graph (node_bound c.graph) c.modulus (tree_of c) (wave_of c) e t' w'
       → Changes c.graph (local_of app c) (event_node e) (local_effect app c.graph (local_of app c) e) l' → GoesOn w' l'
       → GoesFirst e
   row_shadow (Claim i) t' w' l' step locals on =
-      absurd (sound_rests c.graph (node_bound c.graph) (tree_of c) (wave_of c) (Claim i) step.node sound (claims i)
+      absurd (sound_rests c.graph (node_bound c.graph) c.modulus (tree_of c) (wave_of c) (Claim i) step.node sound (claims i)
       step.enabled)
   row_shadow (Follow i) t' w' l' step locals on =
-      absurd (sound_rests c.graph (node_bound c.graph) (tree_of c) (wave_of c) (Follow i) step.node sound (follows i)
+      absurd (sound_rests c.graph (node_bound c.graph) c.modulus (tree_of c) (wave_of c) (Follow i) step.node sound (follows i)
       step.enabled)
   row_shadow (Adopt i j) t' w' l' step locals on =
-      absurd (sound_rests c.graph (node_bound c.graph) (tree_of c) (wave_of c) (Adopt i j) step.node sound (adopts i j)
+      absurd (sound_rests c.graph (node_bound c.graph) c.modulus (tree_of c) (wave_of c) (Adopt i j) step.node sound (adopts i j)
       step.enabled)
   row_shadow (Request i) t' w' l' step locals on =
       run_from app c.graph (node_bound c.graph) ss _ _ v'
@@ -62,19 +62,19 @@ module _ {L : Type 0} (app : App L) (c : Configuration L) (graph : IsGraph c.gra
       (nothing app c.graph graph (wave_of c) w' i _ (local_of app c) l' step.waves refl locals) on
   row_shadow (Open i) t' w' l' step locals on = (
     abstract_at app c.graph graph w' l',
-    opening app c.graph graph whole (node_bound c.graph) (tree_of c) t'
+    opening app c.graph graph whole (node_bound c.graph) c.modulus shaped.modulus (tree_of c) t'
         (wave_of c) w' sound i (local_of app c) l' locals step,
     on,
   )
   row_shadow (Join i) t' w' l' step locals on =
       run_from app c.graph (node_bound c.graph) ss _ _ v'
-      (joining app c.graph graph whole (node_bound c.graph) (tree_of c) t' (wave_of c) w' sound i (local_of app c) l'
+      (joining app c.graph graph whole (node_bound c.graph) c.modulus shaped.modulus (tree_of c) t' (wave_of c) w' sound i (local_of app c) l'
       locals step) on
   row_shadow (Finish i) t' w' l' step locals on =
       run_from app c.graph (node_bound c.graph) ss _ _ v'
       (nothing app c.graph graph (wave_of c) w' i _ (local_of app c) l' step.waves refl locals) on
   row_shadow (Mend i) t' w' l' step locals on =
-      absurd (sound_rests c.graph (node_bound c.graph) (tree_of c) (wave_of c) (Mend i) step.node sound (mends i)
+      absurd (sound_rests c.graph (node_bound c.graph) c.modulus (tree_of c) (wave_of c) (Mend i) step.node sound (mends i)
       step.enabled)
   row_shadow (Act i case with) t' w' l' step locals on = absurd step.enabled
 
@@ -143,7 +143,7 @@ module _ {L : Type 0} (app : App L) where
       λ k. IsAbstractRun app c.graph (node_bound c.graph) (shadow_of c e ++ shadow app k es ds) (abstract_of app c)
       (abstract_of app c') in
       subst Goes (sym left)
-      (step_shadow app c graph whole sound (shadow app m es ds) (abstract_of app c') e m step rest)
+      (step_shadow app c graph whole shaped sound (shadow app m es ds) (abstract_of app c') e m step rest)
   run_shadow (e ∷ es) (Refused f ∷ ds) c c' graph whole shaped sound run =
       let From : Configuration L → Type 0 = λ k. IsRun app k es ds c' in
       run_shadow es ds c c' graph whole shaped sound (subst From run.1.1 run.2)

@@ -27,24 +27,28 @@ module _ {L : Type 0} (app : App L) (c : Configuration L) (shaped : IsShaped c) 
   effect_shaped : (i : ℕ) (does : Effect L) → IsShaped (after_effect c i does)
   effect_shaped i (Tree regs) =
       record {
+        modulus = shaped.modulus;
         trees = length-put_at c.graph.ids c.trees i regs shaped.trees;
         waves = shaped.waves;
         locals = shaped.locals;
       }
   effect_shaped i (Wave regs None) =
       record {
+        modulus = shaped.modulus;
         trees = shaped.trees;
         waves = length-put_at c.graph.ids c.waves i regs shaped.waves;
         locals = shaped.locals;
       }
   effect_shaped i (Wave regs (Some local)) =
       record {
+        modulus = shaped.modulus;
         trees = shaped.trees;
         waves = length-put_at c.graph.ids c.waves i regs shaped.waves;
         locals = length-put_at c.graph.ids c.locals i local shaped.locals;
       }
   effect_shaped i (Local local) =
       record {
+        modulus = shaped.modulus;
         trees = shaped.trees;
         waves = shaped.waves;
         locals = length-put_at c.graph.ids c.locals i local shaped.locals;

@@ -38,15 +38,15 @@ value_at-replicate x (k ∷ ks) (suc n) i =
     elim (nat_eq k i) as (λ b. cond b x (value_at x ks (replicate n x) i) ≡ x)
     [ true ↦ refl | false ↦ value_at-replicate x ks n i ]
 
-booted_waves : {L : Type 0} (app : App L) (g : Graph) (c : Configuration L) → IsBoot app g c → (i : ℕ)
+booted_waves : {L : Type 0} (app : App L) (g : Graph) (m : ℕ) (c : Configuration L) → IsBoot app g m c → (i : ℕ)
     → wave_of c i ≡ record { phase = Normal; session = 0 }
-booted_waves app g c boot i =
+booted_waves app g m c boot i =
     ap (λ ws. value_at (record { phase = Normal; session = 0 }) c.graph.ids ws i) boot.waves
     ∙ value_at-replicate (record { phase = Normal; session = 0 }) c.graph.ids (length g.ids) i
 
-booted_trees : {L : Type 0} (app : App L) (g : Graph) (c : Configuration L) → IsGraph g → IsBoot app g c → (i : ℕ)
+booted_trees : {L : Type 0} (app : App L) (g : Graph) (m : ℕ) (c : Configuration L) → IsGraph g → IsBoot app g m c → (i : ℕ)
     → IsNode g i → IsBooted g i (tree_map g c.trees i)
-booted_trees app g c graph boot i (k, short, here) =
+booted_trees app g m c graph boot i (k, short, here) =
     let d : TreeRegs = record { root = 0; father = 0; dist = 0 } in
     let at : slice_index g.ids k ≡ i = get_or_default g.ids k 0 i short ∙ here in
     let booted = boot.trees.each k d (omega (arith, short, boot.trees.count)) in
@@ -55,16 +55,16 @@ booted_trees app g c graph boot i (k, short, here) =
     let P : ℕ → Type 0 = λ j. IsBooted g j (tree_map g c.trees j) in
     subst P at (subst (IsBooted g (slice_index g.ids k)) (sym regs) booted)
 
-pub boot_tree_picture : {L : Type 0} (app : App L) (g : Graph) (c : Configuration L) → IsGraph g → IsBoot app g c
+pub boot_tree_picture : {L : Type 0} (app : App L) (g : Graph) (m : ℕ) (c : Configuration L) → IsGraph g → IsBoot app g m c
     → TreePicture c.graph (tree_of c)
-boot_tree_picture app g c graph boot =
+boot_tree_picture app g m c graph boot =
     let P : Graph → Type 0 = λ h. TreePicture h (tree_map h c.trees) in
-    subst P (sym boot.graph) (booted_picture g (tree_map g c.trees) graph (booted_trees app g c graph boot))
+    subst P (sym boot.graph) (booted_picture g (tree_map g c.trees) graph (booted_trees app g m c graph boot))
 
-pub boot_wave_picture : {L : Type 0} (app : App L) (g : Graph) (c : Configuration L) → IsBoot app g c
-    → WavePicture c.graph (tree_of c) (wave_of c)
-boot_wave_picture app g c boot =
-    let waves = booted_waves app g c boot in
+pub boot_wave_picture : {L : Type 0} (app : App L) (g : Graph) (m : ℕ) (c : Configuration L) → IsBoot app g m c
+    → WavePicture c.graph c.modulus (tree_of c) (wave_of c)
+boot_wave_picture app g m c boot =
+    let waves = booted_waves app g m c boot in
     let same : (i j : ℕ) → (wave_of c i).session ≡ (wave_of c j).session =
     λ i j. ap (λ (r : WaveRegs). r.session) (waves i ∙ sym (waves j)) in
     let awake : (i : ℕ) → reset_at (wave_of c) i ≡ false = λ i. ap (λ (r : WaveRegs). is_reset r.phase) (waves i) in
@@ -77,28 +77,30 @@ boot_wave_picture app g c boot =
     }
 
 pub pictures_sound : {L : Type 0} (c : Configuration L) → IsGraph c.graph → IsConnected c.graph
-    → TreePicture c.graph (tree_of c) → WavePicture c.graph (tree_of c) (wave_of c) → IsSound c
+    → TreePicture c.graph (tree_of c) → WavePicture c.graph c.modulus (tree_of c) (wave_of c) → IsSound c
 pictures_sound c graph whole tree wave =
     record {
       tree = (rests_where_picture c.graph (node_bound c.graph) (tree_of c) graph graph.bounded).1 tree;
-      wave = (sound_where_picture c.graph (tree_of c) (wave_of c) graph whole tree).1 wave;
+      wave = (sound_where_picture c.graph c.modulus (tree_of c) (wave_of c) graph whole tree).1 wave;
     }
 
 -- ---- steps
 
-same_regs_sound : {L : Type 0} (c c' : Configuration L) → c'.graph ≡ c.graph → c'.trees ≡ c.trees → c'.waves ≡ c.waves
+same_regs_sound : {L : Type 0} (c c' : Configuration L) → c'.graph ≡ c.graph → c'.modulus ≡ c.modulus
+    → c'.trees ≡ c.trees → c'.waves ≡ c.waves
     → IsSound c → IsSound c'
-same_regs_sound c c' graph trees waves sound = rw (graph, trees, waves) sound
+same_regs_sound c c' graph modulus trees waves sound = rw (graph, modulus, trees, waves) sound
 
 pub step_sound : {L : Type 0} (app : App L) (c c' : Configuration L) (e : Event) → IsGraph c.graph → IsStep app c e c'
     → IsSound c → IsSound c'
 step_sound app c c' e graph (row_step step) sound =
-    let P : Graph → Type 0 = λ g. Sound g (node_bound g) (tree_of c') (wave_of c') in
-    subst P (sym step.graph)
-    (sound_stays c.graph (node_bound c.graph) (tree_of c) (tree_of c') (wave_of c) (wave_of c') e graph sound
-    step.regs)
+    let P : Graph → ℕ → Type 0 = λ g m. Sound g (node_bound g) m (tree_of c') (wave_of c') in
+    subst (λ g. P g c'.modulus) (sym step.graph)
+    (subst (P c.graph) (sym step.modulus)
+    (sound_stays c.graph (node_bound c.graph) c.modulus (tree_of c) (tree_of c') (wave_of c) (wave_of c') e graph sound
+    step.regs))
 step_sound app c c' e graph (act_step i case with is step) sound =
-    same_regs_sound c c' step.graph step.trees step.waves sound
+    same_regs_sound c c' step.graph step.modulus step.trees step.waves sound
 
 no_repair : (i case : ℕ) (with : Option ℕ) (e : Event) → e ≡ Act i case with → Repairs e → ⊥
 no_repair i case with e is (claims k) = absurd (cc)
@@ -109,7 +111,7 @@ no_repair i case with e is (mends k) = absurd (cc)
 pub step_quiet : {L : Type 0} (app : App L) (c c' : Configuration L) (e : Event) → IsStep app c e c' → IsSound c
     → Repairs e → ⊥
 step_quiet app c c' e (row_step step) sound repairs =
-    sound_rests c.graph (node_bound c.graph) (tree_of c) (wave_of c) e step.regs.node sound repairs step.regs.enabled
+    sound_rests c.graph (node_bound c.graph) c.modulus (tree_of c) (wave_of c) e step.regs.node sound repairs step.regs.enabled
 step_quiet app c c' e (act_step i case with is step) sound repairs = no_repair i case with e is repairs
 
 finished : {L : Type 0} (app : App L) (c c' : Configuration L) (i x : ℕ) → IsGraph c.graph → IsConnected c.graph
@@ -124,7 +126,7 @@ finished app c c' i x graph whole (row_step step) sound true own told =
     let session : (wave_of c i).session ≡ x = cc in
     let all =
     subst P (sym step.graph)
-    (completed c.graph (node_bound c.graph) (tree_of c) (tree_of c') (wave_of c) (wave_of c') i graph whole sound
+    (completed c.graph (node_bound c.graph) c.modulus (tree_of c) (tree_of c') (wave_of c) (wave_of c') i graph whole sound
     (eqb-true _ _ own) step.regs) in
     λ j node. ((all j node).0, (all j node).1 ∙ session)
 

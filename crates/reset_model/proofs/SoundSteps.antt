@@ -10,7 +10,8 @@ use Rattle.tree_layer.specs.TreePicture.{TreeRests}
 use Rattle.tree_layer.proofs.Leaders.{linked_node}
 use Rattle.wave_layer.specs.declared.regs.WaveRegs.{WaveRegs}
 use Rattle.wave_layer.specs.declared.regs.Phase.TheVariants.{Normal, Initiate, Reset}
-use Rattle.wave_layer.specs.WaveTable.{WaveHolds, is_reset, next_session}
+use Rattle.wave_layer.specs.WaveTable.{WaveHolds, is_reset}
+use Rattle.wave_layer.specs.Sessions.{next_session}
 use Rattle.reset_model.specs.declared.event.Event.{Event}
 use Rattle.reset_model.specs.declared.event.Event.TheVariants.{Claim, Follow, Adopt, Request, Relay, Open, Join, Finish}
 use Rattle.reset_model.specs.declared.event.Event.TheVariants.{Mend, Act}
@@ -21,12 +22,12 @@ use Rattle.reset_model.proofs.Mending.{no_mend_where_sound}
 
 -- ---- rows that repair
 
-pub sound_rests : (g : Graph) (K : ℕ) (t : ℕ → TreeRegs) (w : ℕ → WaveRegs) (e : Event) → IsNode g (event_node e)
-    → Sound g K t w → Repairs e → IsEnabled g K t w e → ⊥
-sound_rests g K t w e node sound (claims i) enabled = (sound.tree i node).claims enabled
-sound_rests g K t w e node sound (follows i) enabled = (sound.tree i node).follows enabled
-sound_rests g K t w e node sound (adopts i j) enabled = (sound.tree i node).adopts j enabled
-sound_rests g K t w e node sound (mends i) enabled = no_mend_where_sound g t w sound.wave i enabled
+pub sound_rests : (g : Graph) (K m : ℕ) (t : ℕ → TreeRegs) (w : ℕ → WaveRegs) (e : Event) → IsNode g (event_node e)
+    → Sound g K m t w → Repairs e → IsEnabled g K m t w e → ⊥
+sound_rests g K m t w e node sound (claims i) enabled = (sound.tree i node).claims enabled
+sound_rests g K m t w e node sound (follows i) enabled = (sound.tree i node).follows enabled
+sound_rests g K m t w e node sound (adopts i j) enabled = (sound.tree i node).adopts j enabled
+sound_rests g K m t w e node sound (mends i) enabled = no_mend_where_sound g m t w sound.wave i enabled
 
 -- ---- tree registers that stay at every node
 
@@ -98,19 +99,20 @@ alike : (new old : WaveRegs) → new ≡ old → IsAlike new old
 alike new old same =
     record { reset = ap (λ (r : WaveRegs). is_reset r.phase) same; session = ap (λ (r : WaveRegs). r.session) same }
 
-holds_alike : {own own' up up' : WaveRegs} → IsAlike own' own → IsAlike up' up → WaveHolds own up → WaveHolds own' up'
-holds_alike same_own same_up held = record {
+holds_alike : {m : ℕ} {own own' up up' : WaveRegs} → IsAlike own' own → IsAlike up' up → WaveHolds m own up
+    → WaveHolds m own' up'
+holds_alike {m} same_own same_up held = record {
   awake = λ up.
       let before = held.awake (sym same_up.reset ∙ up) in
       (same_own.reset ∙ before.0, same_own.session ∙ before.1 ∙ sym same_up.session);
   resetting = λ up.
       ⊎_elim
       (λ same. inl (same_own.session ∙ same ∙ sym same_up.session))
-      (λ late. inr (same_own.reset ∙ late.0, same_up.session ∙ late.1 ∙ ap next_session (sym same_own.session)))
+      (λ late. inr (same_own.reset ∙ late.0, same_up.session ∙ late.1 ∙ ap (next_session m) (sym same_own.session)))
       (held.resetting (sym same_up.reset ∙ up));
 }
 
-module _ (g : Graph) (graph : IsGraph g) (K : ℕ) (t t' : ℕ → TreeRegs) (w w' : ℕ → WaveRegs) (sound : Sound g K t w)
+module _ (g : Graph) (graph : IsGraph g) (K m : ℕ) (t t' : ℕ → TreeRegs) (w w' : ℕ → WaveRegs) (sound : Sound g K m t w)
     (i : ℕ) (trees : Changes g t i (t i) t') (x : WaveRegs) (waves : Changes g w i x w') where
   trees_stay : (k : ℕ) → IsNode g k → t' k ≡ t k
   trees_stay k node =
@@ -119,15 +121,15 @@ module _ (g : Graph) (graph : IsGraph g) (K : ℕ) (t t' : ℕ → TreeRegs) (w 
       (λ other. trees.others k node other)
       (cases_eq k i)
 
-  module _ (upward : (j : ℕ) → IsFather g t i j → WaveHolds x (w j))
-      (below : (c : ℕ) → IsFather g t c i → WaveHolds (w c) x) where
+  module _ (upward : (j : ℕ) → IsFather g t i j → WaveHolds m x (w j))
+      (below : (c : ℕ) → IsFather g t c i → WaveHolds m (w c) x) where
     here_alike : (k : ℕ) → k ≡ i → IsAlike (w' k) x
     here_alike k same = alike (w' k) x (ap w' same ∙ waves.here)
 
     other_alike : (k : ℕ) → IsNode g k → k ≢ i → IsAlike (w' k) (w k)
     other_alike k node other = alike (w' k) (w k) (waves.others k node other)
 
-    link_holds : (c j : ℕ) → IsFather g t c j → WaveHolds (w' c) (w' j)
+    link_holds : (c j : ℕ) → IsFather g t c j → WaveHolds m (w' c) (w' j)
     link_holds c j father =
         let node = graph.ends c j father.linked in
         let up_node = linked_node g graph c j father.linked in
@@ -143,7 +145,7 @@ module _ (g : Graph) (graph : IsGraph g) (K : ℕ) (t t' : ℕ → TreeRegs) (w 
         (cases_eq j i))
         (cases_eq c i)
 
-    sound_after : Sound g K t' w'
+    sound_after : Sound g K m t' w'
     sound_after = record {
       tree = λ k node. rests_after g graph t t' trees_stay K k node (sound.tree k node);
       wave = λ c j father. link_holds c j (father_before g graph t t' trees_stay c j father);
@@ -152,54 +154,54 @@ module _ (g : Graph) (graph : IsGraph g) (K : ℕ) (t t' : ℕ → TreeRegs) (w 
 -- ---- the events of the wave
 
 -- a node that enters the next session stands well with a child that held with it before
-below_opened : (child old new : WaveRegs) → is_reset old.phase ≡ false → is_reset new.phase ≡ true
-    → new.session ≡ next_session old.session → WaveHolds child old → WaveHolds child new
-below_opened child old new awake reset next held =
+below_opened : (m : ℕ) (child old new : WaveRegs) → is_reset old.phase ≡ false → is_reset new.phase ≡ true
+    → new.session ≡ next_session m old.session → WaveHolds m child old → WaveHolds m child new
+below_opened m child old new awake reset next held =
     let before = held.awake awake in
     record {
       awake = λ up. absurd (true≢false (sym reset ∙ up));
-      resetting = λ up. inr (before.0, next ∙ ap next_session (sym before.1));
+      resetting = λ up. inr (before.0, next ∙ ap (next_session m) (sym before.1));
     }
 
-module _ (g : Graph) (graph : IsGraph g) (K : ℕ) (t t' : ℕ → TreeRegs) (w w' : ℕ → WaveRegs) (sound : Sound g K t w)
+module _ (g : Graph) (graph : IsGraph g) (K m : ℕ) (t t' : ℕ → TreeRegs) (w w' : ℕ → WaveRegs) (sound : Sound g K m t w)
     (i : ℕ) (trees : Changes g t i (t i) t') where
   -- the phase changes, and the node was not reset and isn't
   asked_sound : is_reset (w i).phase ≡ false → Changes g w i (record { phase = Initiate; session = (w i).session }) w'
-      → Sound g K t' w'
+      → Sound g K m t' w'
   asked_sound awake waves =
       let x : WaveRegs = record { phase = Initiate; session = (w i).session } in
       let near : IsAlike x (w i) = record { reset = sym awake; session = refl } in
-      sound_after g graph K t t' w w' sound i trees x waves
+      sound_after g graph K m t t' w w' sound i trees x waves
       (λ j father. holds_alike near (alike (w j) (w j) refl) (sound.wave i j father))
       (λ c father. holds_alike (alike (w c) (w c) refl) near (sound.wave c i father))
 
   opened_sound : (t i).father ≡ i → is_reset (w i).phase ≡ false
-      → Changes g w i (record { phase = Reset; session = next_session (w i).session }) w' → Sound g K t' w'
+      → Changes g w i (record { phase = Reset; session = next_session m (w i).session }) w' → Sound g K m t' w'
   opened_sound own awake waves =
-      let x : WaveRegs = record { phase = Reset; session = next_session (w i).session } in
-      sound_after g graph K t t' w w' sound i trees x waves
+      let x : WaveRegs = record { phase = Reset; session = next_session m (w i).session } in
+      sound_after g graph K m t t' w w' sound i trees x waves
       (λ j father. absurd (not_own_father g t i j graph father (sym own ∙ father.named)))
-      (λ c father. below_opened (w c) (w i) x awake refl refl (sound.wave c i father))
+      (λ c father. below_opened m (w c) (w i) x awake refl refl (sound.wave c i father))
 
   joined_sound : (j : ℕ) → IsFather g t i j → reset_at w j ≡ true → is_reset (w i).phase ≡ false
-      → (w j).session ≡ next_session (w i).session
-      → Changes g w i (record { phase = Reset; session = (w (t i).father).session }) w' → Sound g K t' w'
+      → (w j).session ≡ next_session m (w i).session
+      → Changes g w i (record { phase = Reset; session = (w (t i).father).session }) w' → Sound g K m t' w'
   joined_sound j father up awake next waves =
       let x : WaveRegs = record { phase = Reset; session = (w (t i).father).session } in
-      sound_after g graph K t t' w w' sound i trees x waves
+      sound_after g graph K m t t' w w' sound i trees x waves
       (λ k other. record {
         awake = λ none. absurd (true≢false (sym up ∙ ap (λ n. reset_at w n) (sym father.named ∙ other.named) ∙ none));
         resetting = λ some. inl (ap (λ n. (w n).session) other.named);
       })
-      (λ c child. below_opened (w c) (w i) x awake refl (ap (λ n. (w n).session) father.named ∙ next)
+      (λ c child. below_opened m (w c) (w i) x awake refl (ap (λ n. (w n).session) father.named ∙ next)
       (sound.wave c i child))
 
   finished_sound : Finishes g t w i → Changes g w i (record { phase = Normal; session = (w i).session }) w'
-      → Sound g K t' w'
+      → Sound g K m t' w'
   finished_sound finishes waves =
       let x : WaveRegs = record { phase = Normal; session = (w i).session } in
       let own : reset_at w i ≡ true = ap is_reset finishes.reset in
-      sound_after g graph K t t' w w' sound i trees x waves
+      sound_after g graph K m t t' w w' sound i trees x waves
       (λ j father. record {
         awake = λ none. absurd (true≢false (sym own ∙ ((sound.wave i j father).awake none).0));
         resetting =
@@ -211,29 +213,29 @@ module _ (g : Graph) (graph : IsGraph g) (K : ℕ) (t t' : ℕ → TreeRegs) (w 
         resetting = λ some. absurd (true≢false (sym some));
       })
 
-  join_sound : Joins g t w i → Changes g w i (record { phase = Reset; session = (w (t i).father).session }) w'
-      → Sound g K t' w'
+  join_sound : Joins g m t w i → Changes g w i (record { phase = Reset; session = (w (t i).father).session }) w'
+      → Sound g K m t' w'
   join_sound (join_normal j father up phase next) waves = joined_sound j father up (ap is_reset phase) next waves
   join_sound (join_asked j father up phase next) waves = joined_sound j father up (ap is_reset phase) next waves
 
-pub sound_stays : (g : Graph) (K : ℕ) (t t' : ℕ → TreeRegs) (w w' : ℕ → WaveRegs) (e : Event) → IsGraph g
-    → Sound g K t w → RegsStep g K t w e t' w' → Sound g K t' w'
-sound_stays g K t t' w w' (Claim i) graph sound step =
-    absurd (sound_rests g K t w (Claim i) step.node sound (claims i) step.enabled)
-sound_stays g K t t' w w' (Follow i) graph sound step =
-    absurd (sound_rests g K t w (Follow i) step.node sound (follows i) step.enabled)
-sound_stays g K t t' w w' (Adopt i j) graph sound step =
-    absurd (sound_rests g K t w (Adopt i j) step.node sound (adopts i j) step.enabled)
-sound_stays g K t t' w w' (Request i) graph sound step =
-    asked_sound g graph K t t' w w' sound i step.trees (ap is_reset step.enabled) step.waves
-sound_stays g K t t' w w' (Relay i c) graph sound step =
-    asked_sound g graph K t t' w w' sound i step.trees (ap is_reset step.enabled.0) step.waves
-sound_stays g K t t' w w' (Open i) graph sound step =
-    opened_sound g graph K t t' w w' sound i step.trees step.enabled.0 (ap is_reset step.enabled.1) step.waves
-sound_stays g K t t' w w' (Join i) graph sound step =
-    join_sound g graph K t t' w w' sound i step.trees step.enabled step.waves
-sound_stays g K t t' w w' (Finish i) graph sound step =
-    finished_sound g graph K t t' w w' sound i step.trees step.enabled step.waves
-sound_stays g K t t' w w' (Mend i) graph sound step =
-    absurd (sound_rests g K t w (Mend i) step.node sound (mends i) step.enabled)
-sound_stays g K t t' w w' (Act i case with) graph sound step = absurd step.enabled
+pub sound_stays : (g : Graph) (K m : ℕ) (t t' : ℕ → TreeRegs) (w w' : ℕ → WaveRegs) (e : Event) → IsGraph g
+    → Sound g K m t w → RegsStep g K m t w e t' w' → Sound g K m t' w'
+sound_stays g K m t t' w w' (Claim i) graph sound step =
+    absurd (sound_rests g K m t w (Claim i) step.node sound (claims i) step.enabled)
+sound_stays g K m t t' w w' (Follow i) graph sound step =
+    absurd (sound_rests g K m t w (Follow i) step.node sound (follows i) step.enabled)
+sound_stays g K m t t' w w' (Adopt i j) graph sound step =
+    absurd (sound_rests g K m t w (Adopt i j) step.node sound (adopts i j) step.enabled)
+sound_stays g K m t t' w w' (Request i) graph sound step =
+    asked_sound g graph K m t t' w w' sound i step.trees (ap is_reset step.enabled) step.waves
+sound_stays g K m t t' w w' (Relay i c) graph sound step =
+    asked_sound g graph K m t t' w w' sound i step.trees (ap is_reset step.enabled.0) step.waves
+sound_stays g K m t t' w w' (Open i) graph sound step =
+    opened_sound g graph K m t t' w w' sound i step.trees step.enabled.0 (ap is_reset step.enabled.1) step.waves
+sound_stays g K m t t' w w' (Join i) graph sound step =
+    join_sound g graph K m t t' w w' sound i step.trees step.enabled step.waves
+sound_stays g K m t t' w w' (Finish i) graph sound step =
+    finished_sound g graph K m t t' w w' sound i step.trees step.enabled step.waves
+sound_stays g K m t t' w w' (Mend i) graph sound step =
+    absurd (sound_rests g K m t w (Mend i) step.node sound (mends i) step.enabled)
+sound_stays g K m t t' w w' (Act i case with) graph sound step = absurd step.enabled

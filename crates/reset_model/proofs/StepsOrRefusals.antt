@@ -21,30 +21,29 @@ use Rattle.reset_model.specs.Steps.{IsEnabled, RegsStep, RowRefused, event_node,
 -- ---- rows
 
 -- the node that an enabled event names is a neighbour
-named_linked : (g : Graph) (K : ℕ) (t : ℕ → TreeRegs) (w : ℕ → WaveRegs) (e : Event) (j : ℕ) → IsGraph g
-    → IsEnabled g K t w e → named_node e ≡ Some j → AreLinked g (event_node e) j
-named_linked g K t w (Claim i) j graph enabled named = absurd (cc)
-named_linked g K t w (Follow i) j graph enabled named = absurd (cc)
-named_linked g K t w (Adopt i k) j graph (adopt_root linked near above) named = let same : k ≡ j =
+named_linked : (g : Graph) (K m : ℕ) (t : ℕ → TreeRegs) (w : ℕ → WaveRegs) (e : Event) (j : ℕ) → IsGraph g
+    → IsEnabled g K m t w e → named_node e ≡ Some j → AreLinked g (event_node e) j
+named_linked g K m t w (Claim i) j graph enabled named = absurd (cc)
+named_linked g K m t w (Follow i) j graph enabled named = absurd (cc)
+named_linked g K m t w (Adopt i k) j graph (adopt_root linked near above) named = let same : k ≡ j =
     cc in subst (AreLinked g i) same linked
-named_linked g K t w (Adopt i k) j graph (adopt_short linked near alike shorter) named = let same : k ≡ j =
+named_linked g K m t w (Adopt i k) j graph (adopt_short linked near alike shorter) named = let same : k ≡ j =
     cc in subst (AreLinked g i) same linked
-named_linked g K t w (Request i) j graph enabled named = absurd (cc)
-named_linked g K t w (Relay i k) j graph enabled named = let same : k ≡ j =
+named_linked g K m t w (Request i) j graph enabled named = absurd (cc)
+named_linked g K m t w (Relay i k) j graph enabled named = let same : k ≡ j =
     cc in subst (AreLinked g i) same (graph.symmetric i k ∙ enabled.1.linked)
-named_linked g K t w (Open i) j graph enabled named = absurd (cc)
-named_linked g K t w (Join i) j graph enabled named = absurd (cc)
-named_linked g K t w (Finish i) j graph enabled named = absurd (cc)
-named_linked g K t w (Mend i) j graph enabled named = absurd (cc)
-named_linked g K t w (Act i case with) j graph enabled named = absurd enabled
+named_linked g K m t w (Open i) j graph enabled named = absurd (cc)
+named_linked g K m t w (Join i) j graph enabled named = absurd (cc)
+named_linked g K m t w (Finish i) j graph enabled named = absurd (cc)
+named_linked g K m t w (Mend i) j graph enabled named = absurd (cc)
+named_linked g K m t w (Act i case with) j graph enabled named = absurd enabled
 
-rows_apart : (g : Graph) (K : ℕ) (t t' : ℕ → TreeRegs) (w w' : ℕ → WaveRegs) (e : Event) (f : StepRefusal) → IsGraph g
-    → RegsStep g K t w e t' w' → RowRefused g K t w e f → ⊥
-rows_apart g K t t' w w' e f graph step (row.strange_node none) = none step.node
-rows_apart g K t t' w w' e f graph step (row.strange_neighbour j node named stranger) =
-    stranger (named_linked g K t w e j graph step.enabled named)
-rows_apart g K t t' w w' e f graph step (row.not_enabled named none) = none step.enabled
-rows_apart g K t t' w w' e f graph step (row.sessions_spent named enabled spent) = step.unspent spent
+rows_apart : (g : Graph) (K m : ℕ) (t t' : ℕ → TreeRegs) (w w' : ℕ → WaveRegs) (e : Event) (f : StepRefusal) → IsGraph g
+    → RegsStep g K m t w e t' w' → RowRefused g K m t w e f → ⊥
+rows_apart g K m t t' w w' e f graph step (row.strange_node none) = none step.node
+rows_apart g K m t t' w w' e f graph step (row.strange_neighbour j node named stranger) =
+    stranger (named_linked g K m t w e j graph step.enabled named)
+rows_apart g K m t t' w w' e f graph step (row.not_enabled named none) = none step.enabled
 
 -- ---- actions
 
@@ -93,10 +92,10 @@ module _ {L : Type 0} (app : App L) (g : Graph) (K : ℕ) (w : ℕ → WaveRegs)
 pub step_or_refusal : {L : Type 0} (app : App L) (c c' : Configuration L) (e : Event) (f : StepRefusal)
     → IsGraph c.graph → IsStep app c e c' → IsRefused app c e f → ⊥
 step_or_refusal app c c' e f graph (row_step step) (row_refused is_row refused) =
-    rows_apart c.graph (node_bound c.graph) (tree_of c) (tree_of c') (wave_of c) (wave_of c') e f graph step.regs
+    rows_apart c.graph (node_bound c.graph) c.modulus (tree_of c) (tree_of c') (wave_of c) (wave_of c') e f graph step.regs
     refused
 step_or_refusal app c c' e f graph (row_step step) (act_refused i case with is refused) =
-    subst (IsEnabled c.graph (node_bound c.graph) (tree_of c) (wave_of c)) is step.regs.enabled
+    subst (IsEnabled c.graph (node_bound c.graph) c.modulus (tree_of c) (wave_of c)) is step.regs.enabled
 step_or_refusal app c c' e f graph (act_step i case with is step) (row_refused is_row refused) =
     absurd (true≢false (sym (ap is_act is) ∙ is_row))
 step_or_refusal app c c' e f graph (act_step i case with is step) (act_refused i' case' with' is' refused) =

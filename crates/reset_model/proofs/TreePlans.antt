@@ -17,7 +17,7 @@ use Rattle.reset_model.specs.declared.plan.Fired.TheVariants.{Tree, Wave}
 use Rattle.reset_model.specs.declared.step.StepRefusal.{StepRefusal}
 use Rattle.reset_model.specs.declared.step.StepRefusal.TheVariants.{StrangeNode, StrangeNeighbour, NoSuchCase}
 use Rattle.reset_model.specs.declared.step.StepRefusal.TheVariants.{WantsNeighbour, TakesNoNeighbour, Disagrees}
-use Rattle.reset_model.specs.declared.step.StepRefusal.TheVariants.{NotEnabled, SessionsSpent, NoMemory}
+use Rattle.reset_model.specs.declared.step.StepRefusal.TheVariants.{NotEnabled, NoMemory}
 use Rattle.reset_model.specs.LocalSteps.{rows_fired}
 use Rattle.reset_model.proofs.Seen.{lookup-among}
 
@@ -32,7 +32,6 @@ IsTreeFired (Err WantsNeighbour) E regs = ⊥
 IsTreeFired (Err TakesNoNeighbour) E regs = ⊥
 IsTreeFired (Err (Disagrees j)) E regs = ⊥
 IsTreeFired (Err NotEnabled) E regs = E → ⊥
-IsTreeFired (Err SessionsSpent) E regs = ⊥
 IsTreeFired (Err NoMemory) E regs = ⊥
 
 abbrev Eq : ℕ → ℕ → Type 0
@@ -44,7 +43,7 @@ Lt a b = ((nat_lt a b ≡ true) × (suc a ≤ b)) ⊎ ((nat_lt a b ≡ false) ×
 abbrev Le : ℕ → ℕ → Type 0
 Le a b = ((nat_le a b ≡ true) × (a ≤ b)) ⊎ ((nat_le a b ≡ false) × (b < a))
 
-module _ (g : Graph) (K : ℕ) (t : ℕ → TreeRegs) (w : ℕ → WaveRegs) (graph : IsGraph g) where
+module _ (g : Graph) (K m : ℕ) (t : ℕ → TreeRegs) (w : ℕ → WaveRegs) (graph : IsGraph g) where
   -- what a node's view has of another node: its registers, where they are linked
   pub regs_of-linked : (i j : ℕ)
       → regs_of j (map (λ k. (k, t k)) (neighbours_of g i)) ≡ cond (are_linked g i j) (Some (t j)) None
@@ -65,11 +64,11 @@ module _ (g : Graph) (K : ℕ) (t : ℕ → TreeRegs) (w : ℕ → WaveRegs) (gr
   far_tells : (i : ℕ) → Lt (t i).dist K
   far_tells i = leb_tells (suc (t i).dist) K
 
-  pub claim_is : (i : ℕ) → IsTreeFired (rows_fired g K t w (Claim i)) (Claims g K t i) (claimed i)
+  pub claim_is : (i : ℕ) → IsTreeFired (rows_fired g K m t w (Claim i)) (Claims g K t i) (claimed i)
   claim_is i = low (leb_tells (suc (t i).root) i)
     where
       IsClaimed : Type 0
-      IsClaimed = IsTreeFired (rows_fired g K t w (Claim i)) (Claims g K t i) (claimed i)
+      IsClaimed = IsTreeFired (rows_fired g K m t w (Claim i)) (Claims g K t i) (claimed i)
 
       -- a node that is its own father has a root of its own at distance 0
       rooted : nat_lt (t i).root i ≡ false → i ≤ (t i).root → (t i).father ≡ i → nat_eq (t i).father i ≡ true
@@ -113,12 +112,12 @@ module _ (g : Graph) (K : ℕ) (t : ℕ → TreeRegs) (w : ℕ → WaveRegs) (gr
       low (inr high) = high_root high.0 (omega (arith, high.1)) (eqb_tells (t i).father i)
 
   pub follow_is : (i : ℕ)
-      → IsTreeFired (rows_fired g K t w (Follow i)) (Follows g K t i) (followed K (t i).father (t (t i).father))
+      → IsTreeFired (rows_fired g K m t w (Follow i)) (Follows g K t i) (followed K (t i).father (t (t i).father))
   follow_is i = led (are_linked g i (t i).father) refl
     where
       IsFollowed : Type 0
       IsFollowed =
-          IsTreeFired (rows_fired g K t w (Follow i)) (Follows g K t i) (followed K (t i).father (t (t i).father))
+          IsTreeFired (rows_fired g K m t w (Follow i)) (Follows g K t i) (followed K (t i).father (t (t i).father))
 
       same : (j : ℕ) → IsFather g t i j → j ≡ (t i).father
       same j father = sym father.named
@@ -156,13 +155,13 @@ module _ (g : Graph) (K : ℕ) (t : ℕ → TreeRegs) (w : ℕ → WaveRegs) (gr
           rests (follow_dist j father _ _ _) = none j father
 
   pub adopt_is : (i j : ℕ) → AreLinked g i j
-      → IsTreeFired (rows_fired g K t w (Adopt i j)) (Adopts g K t i j) (adopted j (t j))
+      → IsTreeFired (rows_fired g K m t w (Adopt i j)) (Adopts g K t i j) (adopted j (t j))
   adopt_is i j linked =
       at (far_tells j) (leb_tells (suc (t i).root) (t j).root) (eqb_tells (t i).root (t j).root)
       (leb_tells (suc ((t j).dist + 1)) (t i).dist)
     where
       at : Lt (t j).dist K → Lt (t i).root (t j).root → Eq (t i).root (t j).root → Lt ((t j).dist + 1) (t i).dist
-          → IsTreeFired (rows_fired g K t w (Adopt i j)) (Adopts g K t i j) (adopted j (t j))
+          → IsTreeFired (rows_fired g K m t w (Adopt i j)) (Adopts g K t i j) (adopted j (t j))
       at (inl near) (inl higher) r s =
           rw (near_some i j linked, near.0, higher.0) (adopt_root linked near.1 higher.1, refl)
       at (inl near) (inr higher) (inl r) (inl s) =

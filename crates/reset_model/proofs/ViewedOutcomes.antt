@@ -99,11 +99,13 @@ module _ {L : Type 0} (app : App L) (c : Configuration L) where
         ap near_waves (filter-map (λ (n : Neighbour L). n.tree.father == i) (near_of app c) (neighbours_of c.graph i))
         ∙ waves-is (children_of c.graph (tree_of c) i)
 
-    pub wave_view-is : (i : ℕ) → wave_view (view_of app c i) ≡ maps.view_of c.graph (tree_of c) (wave_of c) i
-    wave_view-is i = ap₂ (λ f cs. record { own = wave_of c i; father = f; children = cs }) (father-is i) (children-is i)
+    pub wave_view-is : (i : ℕ) → wave_view (view_of app c i) ≡ maps.view_of c.graph c.modulus (tree_of c) (wave_of c) i
+    wave_view-is i =
+        ap₂ (λ f cs. record { own = wave_of c i; father = f; children = cs; modulus = c.modulus }) (father-is i)
+        (children-is i)
 
     rows-is : (e : Event)
-        → row_fired (view_of app c (event_node e)) e ≡ rows_fired c.graph (node_bound c.graph) (tree_of c) (wave_of c) e
+        → row_fired (view_of app c (event_node e)) e ≡ rows_fired c.graph (node_bound c.graph) c.modulus (tree_of c) (wave_of c) e
     rows-is e =
         ap₂ (λ v w. first_fired (cond (is_of_tree e) (layer.Tree v) (layer.Wave w)) (named_node e) (cases_of e))
         (tree_view-is (event_node e)) (wave_view-is (event_node e))
@@ -191,8 +193,8 @@ module _ {L : Type 0} (app : App L) (c : Configuration L) where
         at_node e
         ∙ ap (λ r. cond (not there) (Err StrangeNode) (cond (not near) (Err StrangeNeighbour) r))
         (ap (written c i) (row ∙ ap (row_planned (view_of app c i)) (rows-is e))
-        ∙ row_written i (rows_fired c.graph (node_bound c.graph) (tree_of c) (wave_of c) e))
-        ∙ done-ends i there near (rows_fired c.graph (node_bound c.graph) (tree_of c) (wave_of c) e)
+        ∙ row_written i (rows_fired c.graph (node_bound c.graph) c.modulus (tree_of c) (wave_of c) e))
+        ∙ done-ends i there near (rows_fired c.graph (node_bound c.graph) c.modulus (tree_of c) (wave_of c) e)
 
     pub outcome-is : (e : Event) → outcome_of app c e ≡ map_outcome app c e
     outcome-is (Claim i) = row-is (Claim i) refl

@@ -7,21 +7,22 @@ use Rattle.tree_layer.specs.TreeRows.{IsFather}
 use Rattle.tree_layer.specs.TreePicture.{TreePicture}
 use Rattle.tree_layer.proofs.Leaders.{linked_node}
 use Rattle.wave_layer.specs.declared.regs.WaveRegs.{WaveRegs}
-use Rattle.wave_layer.specs.WaveTable.{WaveHolds, next_session}
+use Rattle.wave_layer.specs.Sessions.{next_session}
+use Rattle.wave_layer.specs.WaveTable.{WaveHolds}
 use Rattle.reset_model.specs.Steps.{reset_at}
 use Rattle.reset_model.specs.WavePicture.{WaveSound, HasJoined, WavePicture}
 use Rattle.reset_model.proofs.Fathers.{IsTop, IsUnder, top_or_under, down_tree}
 
 -- the node is not reset and one session behind its leader
-record IsBehind (g : Graph) (w : ℕ → WaveRegs) (i : ℕ) : Type 0 where
+record IsBehind (g : Graph) (m : ℕ) (w : ℕ → WaveRegs) (i : ℕ) : Type 0 where
   awake : reset_at w i ≡ false
-  next : next_session (w i).session ≡ (w (leader g i)).session
+  next : next_session m (w i).session ≡ (w (leader g i)).session
 
 -- ---- from the predicate to the picture
 
 module _ (g : Graph) (graph : IsGraph g) (whole : IsConnected g) (t : ℕ → TreeRegs) (picture : TreePicture g t)
-    (w : ℕ → WaveRegs) (sound : WaveSound g t w) where
-  below_joined : (i j : ℕ) → IsFather g t i j → HasJoined g w j → HasJoined g w i ⊎ IsBehind g w i
+    (m : ℕ) (w : ℕ → WaveRegs) (sound : WaveSound g m t w) where
+  below_joined : (i j : ℕ) → IsFather g t i j → HasJoined g w j → HasJoined g w i ⊎ IsBehind g m w i
   below_joined i j father joined =
       ⊎_elim
       (λ up. ⊎_elim
@@ -31,14 +32,14 @@ module _ (g : Graph) (graph : IsGraph g) (whole : IsConnected g) (t : ℕ → Tr
       (λ up. inl (((sound i j father).awake up).1 ∙ joined))
       (cases_Bool (reset_at w j))
 
-  below_behind : (i j : ℕ) → IsFather g t i j → IsBehind g w j → IsBehind g w i
+  below_behind : (i j : ℕ) → IsFather g t i j → IsBehind g m w j → IsBehind g m w i
   below_behind i j father behind =
       let held = (sound i j father).awake behind.awake in
-      record { awake = held.0; next = ap next_session held.1 ∙ behind.next }
+      record { awake = held.0; next = ap (next_session m) held.1 ∙ behind.next }
 
-  joined_or_behind : (i : ℕ) → IsNode g i → HasJoined g w i ⊎ IsBehind g w i
+  joined_or_behind : (i : ℕ) → IsNode g i → HasJoined g w i ⊎ IsBehind g m w i
   joined_or_behind =
-      down_tree g graph whole t picture (λ i. HasJoined g w i ⊎ IsBehind g w i) (inl refl)
+      down_tree g graph whole t picture (λ i. HasJoined g w i ⊎ IsBehind g m w i) (inl refl)
       (λ i j father up. ⊎_elim (λ joined. below_joined i j father joined)
       (λ behind. inr (below_behind i j father behind)) up)
 
@@ -50,7 +51,7 @@ module _ (g : Graph) (graph : IsGraph g) (whole : IsConnected g) (t : ℕ → Tr
       let up = (t i).father in
       ⊎_elim
       (λ above. above)
-      (λ (behind : IsBehind g w up). sym ((sound i up under.father).awake behind.awake).1 ∙ joined)
+      (λ (behind : IsBehind g m w up). sym ((sound i up under.father).awake behind.awake).1 ∙ joined)
       (joined_or_behind up (linked_node g graph i up under.father.linked)))
       (top_or_under g graph whole t picture i node)
 
@@ -88,16 +89,16 @@ module _ (g : Graph) (graph : IsGraph g) (whole : IsConnected g) (t : ℕ → Tr
       let up = (t i).father in
       ⊎_elim
       (λ joined. absurd (above joined))
-      (λ (behind : IsBehind g w up). ((sound i up under.father).awake behind.awake).1)
+      (λ (behind : IsBehind g m w up). ((sound i up under.father).awake behind.awake).1)
       (joined_or_behind up (linked_node g graph i up under.father.linked)))
       (top_or_under g graph whole t picture i node)
 
-  sound_picture : WavePicture g t w
+  sound_picture : WavePicture g m t w
   sound_picture = record {
     upward = fathers_joined;
     outside =
         λ i node apart. ⊎_elim (λ joined. absurd (apart joined))
-        (λ (behind : IsBehind g w i). (behind.awake, behind.next)) (joined_or_behind i node);
+        (λ (behind : IsBehind g m w i). (behind.awake, behind.next)) (joined_or_behind i node);
     resetting = fathers_reset;
     edge = reset_at_edge;
     together = late_together;
@@ -105,7 +106,7 @@ module _ (g : Graph) (graph : IsGraph g) (whole : IsConnected g) (t : ℕ → Tr
 
 -- ---- from the picture to the predicate
 
-module _ (g : Graph) (graph : IsGraph g) (t : ℕ → TreeRegs) (w : ℕ → WaveRegs) (wave : WavePicture g t w) (i : ℕ)
+module _ (g : Graph) (graph : IsGraph g) (m : ℕ) (t : ℕ → TreeRegs) (w : ℕ → WaveRegs) (wave : WavePicture g m t w) (i : ℕ)
     (node : IsNode g i) (up_node : IsNode g (t i).father) where
   awake_under : reset_at w (t i).father ≡ false → reset_at w i ≡ false
   awake_under up =
@@ -123,7 +124,7 @@ module _ (g : Graph) (graph : IsGraph g) (t : ℕ → TreeRegs) (w : ℕ → Wav
 
   late_under : reset_at w (t i).father ≡ true
       → ((w i).session ≡ (w (t i).father).session)
-      ⊎ ((reset_at w i ≡ false) × ((w (t i).father).session ≡ next_session (w i).session))
+      ⊎ ((reset_at w i ≡ false) × ((w (t i).father).session ≡ next_session m (w i).session))
   late_under up =
       let above : HasJoined g w (t i).father =
       ⊎_elim
@@ -136,16 +137,18 @@ module _ (g : Graph) (graph : IsGraph g) (t : ℕ → TreeRegs) (w : ℕ → Wav
       (λ (apart : HasJoined g w i → ⊥). let behind = wave.outside i node apart in inr (behind.0, above ∙ sym behind.1))
       (cases_eq (w i).session (w (leader g i)).session)
 
-  holds_under : WaveHolds (w i) (w (t i).father)
+  holds_under : WaveHolds m (w i) (w (t i).father)
   holds_under = record { awake = λ up. (awake_under up, same_under up); resetting = late_under }
 
-picture_sound : (g : Graph) → IsGraph g → (t : ℕ → TreeRegs) (w : ℕ → WaveRegs) → WavePicture g t w → WaveSound g t w
-picture_sound g graph t w wave i j father =
+picture_sound : (g : Graph) → IsGraph g → (m : ℕ) (t : ℕ → TreeRegs) (w : ℕ → WaveRegs) → WavePicture g m t w
+    → WaveSound g m t w
+picture_sound g graph m t w wave i j father =
     let held =
-    holds_under g graph t w wave i (graph.ends i j father.linked)
+    holds_under g graph m t w wave i (graph.ends i j father.linked)
     (rw father.named (linked_node g graph i j father.linked)) in
     rw father.named at held
 
-pub sound_where_picture : (g : Graph) (t : ℕ → TreeRegs) (w : ℕ → WaveRegs) → IsGraph g → IsConnected g
-    → TreePicture g t → (WaveSound g t w ↔ WavePicture g t w)
-sound_where_picture g t w graph whole picture = (sound_picture g graph whole t picture w, picture_sound g graph t w)
+pub sound_where_picture : (g : Graph) (m : ℕ) (t : ℕ → TreeRegs) (w : ℕ → WaveRegs) → IsGraph g → IsConnected g
+    → TreePicture g t → (WaveSound g m t w ↔ WavePicture g m t w)
+sound_where_picture g m t w graph whole picture =
+    (sound_picture g graph whole t picture m w, picture_sound g graph m t w)

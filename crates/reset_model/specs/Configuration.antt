@@ -1,5 +1,6 @@
 -- A configuration: a graph, and the registers and the local states of its nodes as maps from ids.
 use Rattle.std.specs.Prelude.{◌≡◌, ℕ, ◌==◌, if◌then◌else◌, List, [], ◌∷◌, length, map}
+use Rattle.action_tables.specs.Modulus.{IsModulus}
 use Rattle.app_interface.specs.Application.{App}
 use Rattle.topology.specs.Graph.{Graph}
 use Rattle.tree_layer.specs.declared.regs.TreeRegs.{TreeRegs}
@@ -18,19 +19,22 @@ put_at [] xs i y = xs
 put_at (k ∷ ks) [] i y = []
 put_at (k ∷ ks) (x ∷ xs) i y = if k == i then y ∷ xs else x ∷ put_at ks xs i y
 
--- the registers and the local states stand in the order of the graph's ids
+-- the registers and the local states stand in the order of the graph's ids; sessions are counted modulo its modulus
 pub record Configuration (L : Type 0) : Type 0 where
   pub graph : Graph
+  pub modulus : ℕ
   pub trees : List TreeRegs
   pub waves : List WaveRegs
   pub locals : List L
 
 -- the configuration of these parts
-abbrev pub configuration : {L : Type 0} → Graph → List TreeRegs → List WaveRegs → List L → Configuration L
-configuration g trees waves locals = record { graph = g; trees = trees; waves = waves; locals = locals }
+abbrev pub configuration : {L : Type 0} → Graph → ℕ → List TreeRegs → List WaveRegs → List L → Configuration L
+configuration g m trees waves locals =
+    record { graph = g; modulus = m; trees = trees; waves = waves; locals = locals }
 
--- each node has its registers and its local state
+-- each node has its registers and its local state, and the modulus is one
 pub record IsShaped {L : Type 0} (c : Configuration L) : Type 0 where
+  pub modulus : IsModulus c.modulus
   pub trees : length c.trees ≡ length c.graph.ids
   pub waves : length c.waves ≡ length c.graph.ids
   pub locals : length c.locals ≡ length c.graph.ids
@@ -63,22 +67,22 @@ local_of app c = local_map app c.graph c.locals
 -- the configuration with other tree registers of a node
 abbrev pub with_tree : {L : Type 0} → Configuration L → ℕ → TreeRegs → Configuration L
 with_tree c i regs =
-    record { graph = c.graph; trees = put_at c.graph.ids c.trees i regs; waves = c.waves; locals = c.locals }
+    configuration c.graph c.modulus (put_at c.graph.ids c.trees i regs) c.waves c.locals
 
 -- the configuration with other wave registers of a node
 abbrev pub with_wave : {L : Type 0} → Configuration L → ℕ → WaveRegs → Configuration L
 with_wave c i regs =
-    record { graph = c.graph; trees = c.trees; waves = put_at c.graph.ids c.waves i regs; locals = c.locals }
+    configuration c.graph c.modulus c.trees (put_at c.graph.ids c.waves i regs) c.locals
 
 -- the configuration with another local state of a node
 abbrev pub with_local : {L : Type 0} → Configuration L → ℕ → L → Configuration L
 with_local c i local =
-    record { graph = c.graph; trees = c.trees; waves = c.waves; locals = put_at c.graph.ids c.locals i local }
+    configuration c.graph c.modulus c.trees c.waves (put_at c.graph.ids c.locals i local)
 
 -- the configuration with another graph
 abbrev pub with_graph : {L : Type 0} → Configuration L → Graph → Configuration L
-with_graph c g = record { graph = g; trees = c.trees; waves = c.waves; locals = c.locals }
+with_graph c g = configuration g c.modulus c.trees c.waves c.locals
 
 -- the configuration with other local states
 abbrev pub with_locals : {L : Type 0} → Configuration L → List L → Configuration L
-with_locals c locals = record { graph = c.graph; trees = c.trees; waves = c.waves; locals = locals }
+with_locals c locals = configuration c.graph c.modulus c.trees c.waves locals

@@ -24,7 +24,7 @@ use Rattle.reset_model.specs.declared.plan.Seen.TheVariants.{Tree, Wave}
 use Rattle.reset_model.specs.declared.step.StepRefusal.{StepRefusal}
 use Rattle.reset_model.specs.declared.step.StepRefusal.TheVariants.{StrangeNode, StrangeNeighbour, NoSuchCase}
 use Rattle.reset_model.specs.declared.step.StepRefusal.TheVariants.{WantsNeighbour, TakesNoNeighbour, Disagrees}
-use Rattle.reset_model.specs.declared.step.StepRefusal.TheVariants.{NotEnabled, SessionsSpent, NoMemory}
+use Rattle.reset_model.specs.declared.step.StepRefusal.TheVariants.{NotEnabled, NoMemory}
 use Rattle.reset_model.specs.Steps.{event_node, named_node, is_of_tree}
 
 -- what i sees of the tree, where K bounds the distances
@@ -40,14 +40,19 @@ father_seen g t w i =
 abbrev pub children_of : Graph → (ℕ → TreeRegs) → ℕ → List ℕ
 children_of g t i = filter (λ c. (t c).father == i) (neighbours_of g i)
 
--- what i sees of the wave
-abbrev pub view_of : Graph → (ℕ → TreeRegs) → (ℕ → WaveRegs) → ℕ → LocalView
-view_of g t w i = record { own = w i; father = father_seen g t w i; children = map (λ c. (c, w c)) (children_of g t i) }
+-- what i sees of the wave, where sessions are counted modulo m
+abbrev pub view_of : Graph → ℕ → (ℕ → TreeRegs) → (ℕ → WaveRegs) → ℕ → LocalView
+view_of g m t w i = record {
+  own = w i;
+  father = father_seen g t w i;
+  children = map (λ c. (c, w c)) (children_of g t i);
+  modulus = m;
+}
 
 -- what the event's node sees of the event's layer
-abbrev pub seen_of : Graph → ℕ → (ℕ → TreeRegs) → (ℕ → WaveRegs) → Event → Seen
-seen_of g K t w e =
-    if is_of_tree e then Tree (tree_view_of g K t (event_node e)) else Wave (view_of g t w (event_node e))
+abbrev pub seen_of : Graph → ℕ → ℕ → (ℕ → TreeRegs) → (ℕ → WaveRegs) → Event → Seen
+seen_of g K m t w e =
+    if is_of_tree e then Tree (tree_view_of g K t (event_node e)) else Wave (view_of g m t w (event_node e))
 
 -- the rows of an event in its layer's table
 abbrev pub cases_of : Event → List ℕ
@@ -75,7 +80,6 @@ fired_wave (Ok move) = Ok (fired.Wave move)
 fired_wave (Err wave_refusal.NoSuchCase) = Err NotEnabled
 fired_wave (Err wave_refusal.NotChild) = Err NotEnabled
 fired_wave (Err wave_refusal.NotEnabled) = Err NotEnabled
-fired_wave (Err wave_refusal.SessionsSpent) = Err SessionsSpent
 
 -- row n of the layer's table
 abbrev pub fired_row : Seen → Option ℕ → ℕ → Result Fired StepRefusal
@@ -92,7 +96,6 @@ or_next (Err WantsNeighbour) next = Err WantsNeighbour
 or_next (Err TakesNoNeighbour) next = Err TakesNoNeighbour
 or_next (Err (Disagrees j)) next = Err (Disagrees j)
 or_next (Err NotEnabled) next = next
-or_next (Err SessionsSpent) next = Err SessionsSpent
 or_next (Err NoMemory) next = Err NoMemory
 
 -- the first of these rows whose guard holds
@@ -106,12 +109,12 @@ is_neighbour g i None = true
 is_neighbour g i (Some j) = are_linked g i j
 
 -- what the rows of the event do at its node
-abbrev pub rows_fired : Graph → ℕ → (ℕ → TreeRegs) → (ℕ → WaveRegs) → Event → Result Fired StepRefusal
-rows_fired g K t w e = first_fired (seen_of g K t w e) (named_node e) (cases_of e)
+abbrev pub rows_fired : Graph → ℕ → ℕ → (ℕ → TreeRegs) → (ℕ → WaveRegs) → Event → Result Fired StepRefusal
+rows_fired g K m t w e = first_fired (seen_of g K m t w e) (named_node e) (cases_of e)
 
 -- what the event's node does, or the first refusal
-abbrev pub event_fired : Graph → ℕ → (ℕ → TreeRegs) → (ℕ → WaveRegs) → Event → Result Fired StepRefusal
-event_fired g K t w e =
+abbrev pub event_fired : Graph → ℕ → ℕ → (ℕ → TreeRegs) → (ℕ → WaveRegs) → Event → Result Fired StepRefusal
+event_fired g K m t w e =
     if not (is_node g (event_node e)) then Err StrangeNode
     else (if not (is_neighbour g (event_node e) (named_node e)) then Err StrangeNeighbour
-    else rows_fired g K t w e)
+    else rows_fired g K m t w e)

@@ -27,7 +27,8 @@ local_effect app g l (Act i case with) = l i
 -- an event of the two tables takes the configuration c to c'
 pub record RowStep {L : Type 0} (app : App L) (c : Configuration L) (e : Event) (c' : Configuration L) : Type 0 where
   pub graph : c'.graph ≡ c.graph
-  pub regs : RegsStep c.graph (node_bound c.graph) (tree_of c) (wave_of c) e (tree_of c') (wave_of c')
+  pub modulus : c'.modulus ≡ c.modulus
+  pub regs : RegsStep c.graph (node_bound c.graph) c.modulus (tree_of c) (wave_of c) e (tree_of c') (wave_of c')
   pub locals : Changes c.graph (local_of app c) (event_node e) (local_effect app c.graph (local_of app c) e)
       (local_of app c')
 
@@ -35,6 +36,7 @@ pub record RowStep {L : Type 0} (app : App L) (c : Configuration L) (e : Event) 
 pub record IsActStep {L : Type 0} (app : App L) (c : Configuration L) (i case : ℕ) (with : Option ℕ)
     (c' : Configuration L) : Type 0 where
   pub graph : c'.graph ≡ c.graph
+  pub modulus : c'.modulus ≡ c.modulus
   pub trees : c'.trees ≡ c.trees
   pub waves : c'.waves ≡ c.waves
   pub locals : ActStep app c.graph (node_bound c.graph) (wave_of c) i case with (local_of app c) (local_of app c')
@@ -46,7 +48,7 @@ pub data IsStep {L : Type 0} (app : App L) (c : Configuration L) (e : Event) (c'
 
 -- the event isn't a step, for this reason, the first that applies
 pub data IsRefused {L : Type 0} (app : App L) (c : Configuration L) (e : Event) (f : StepRefusal) : Type 0 where
-  row_refused : is_act e ≡ false → RowRefused c.graph (node_bound c.graph) (tree_of c) (wave_of c) e f
+  row_refused : is_act e ≡ false → RowRefused c.graph (node_bound c.graph) c.modulus (tree_of c) (wave_of c) e f
       → IsRefused app c e f
   act_refused : (i case : ℕ) (with : Option ℕ) → e ≡ Act i case with
       → ActRefused app c.graph (node_bound c.graph) (wave_of c) (local_of app c) i case with f → IsRefused app c e f

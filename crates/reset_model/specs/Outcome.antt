@@ -56,7 +56,8 @@ done app c i (Err refusal) = Err refusal
 
 -- the outcome of an event of the two tables
 abbrev pub row_outcome : {L : Type 0} → App L → Configuration L → Event → Result (Configuration L × Reply) StepRefusal
-row_outcome app c e = done app c (event_node e) (event_fired c.graph (node_bound c.graph) (tree_of c) (wave_of c) e)
+row_outcome app c e =
+    done app c (event_node e) (event_fired c.graph (node_bound c.graph) c.modulus (tree_of c) (wave_of c) e)
 
 abbrev pub acted : {L : Type 0} → Configuration L → ℕ → Result L StepRefusal
     → Result (Configuration L × Reply) StepRefusal
@@ -82,10 +83,11 @@ map_outcome app c (Finish i) = row_outcome app c (Finish i)
 map_outcome app c (Mend i) = row_outcome app c (Mend i)
 map_outcome app c (Act i case with) = act_outcome app c i case with
 
--- the booted configuration of a graph: the tree of shortest ways to the leader, no reset, session 0,
--- and the start states
-pub record IsBoot {L : Type 0} (app : App L) (g : Graph) (c : Configuration L) : Type 0 where
+-- the booted configuration of a graph, with sessions modulo m: the tree of shortest ways to the leader, no reset,
+-- session 0, and the start states
+pub record IsBoot {L : Type 0} (app : App L) (g : Graph) (m : ℕ) (c : Configuration L) : Type 0 where
   pub graph : c.graph ≡ g
+  pub modulus : c.modulus ≡ m
   pub trees : AreBooted g c.trees
   pub waves : c.waves ≡ replicate (length g.ids) (record { phase = Normal; session = 0 })
   pub locals : c.locals ≡ start_list app g

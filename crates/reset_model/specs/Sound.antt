@@ -11,14 +11,14 @@ use Rattle.reset_model.specs.declared.event.Event.{Event}
 use Rattle.reset_model.specs.declared.event.Event.TheVariants.{Claim, Follow, Adopt, Mend}
 
 -- no row of the tree table is enabled at a node, where K bounds the distances, and the wave
--- predicate holds at every father link
-pub record Sound (g : Graph) (K : ℕ) (t : ℕ → TreeRegs) (w : ℕ → WaveRegs) : Type 0 where
+-- predicate, with sessions modulo m, holds at every father link
+pub record Sound (g : Graph) (K m : ℕ) (t : ℕ → TreeRegs) (w : ℕ → WaveRegs) : Type 0 where
   pub tree : (i : ℕ) → IsNode g i → TreeRests g K t i
-  pub wave : WaveSound g t w
+  pub wave : WaveSound g m t w
 
 -- the registers of a configuration are sound
 abbrev pub IsSound : {L : Type 0} → Configuration L → Type 0
-IsSound c = Sound c.graph (node_bound c.graph) (tree_of c) (wave_of c)
+IsSound c = Sound c.graph (node_bound c.graph) c.modulus (tree_of c) (wave_of c)
 
 -- every node is in the session and none is reset
 abbrev pub IsComplete : {L : Type 0} → Configuration L → ℕ → Type 0

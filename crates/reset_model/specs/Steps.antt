@@ -1,12 +1,13 @@
 -- The rows of the tree table and of the wave table, as steps between whole networks: which are
 -- enabled, what they leave, and the first refusal where an event of theirs is no step.
-use Rattle.std.specs.Prelude.{◌≡◌, ◌≢◌, ℕ, ◌≤◌, Bool, true, false, ◌==◌, if◌then◌else◌, Option, Some, None}
+use Rattle.std.specs.Prelude.{◌≡◌, ◌≢◌, ℕ, Bool, true, false, ◌==◌, if◌then◌else◌, Option, Some, None}
 use Rattle.topology.specs.Graph.{Graph, IsNode, AreLinked, Changes}
 use Rattle.tree_layer.specs.declared.regs.TreeRegs.{TreeRegs}
 use Rattle.tree_layer.specs.TreeRows.{IsFather, Claims, Follows, Adopts, claimed, followed, adopted}
 use Rattle.wave_layer.specs.declared.regs.WaveRegs.{WaveRegs}
 use Rattle.wave_layer.specs.declared.regs.Phase.TheVariants.{Normal, Initiate, Reset}
-use Rattle.wave_layer.specs.WaveTable.{is_reset, next_session}
+use Rattle.wave_layer.specs.Sessions.{next_session}
+use Rattle.wave_layer.specs.WaveTable.{is_reset}
 use Rattle.reset_model.specs.declared.event.Event.{Event}
 use Rattle.reset_model.specs.declared.event.Event.TheVariants.{Claim, Follow, Adopt, Request, Relay, Open, Join, Finish}
 use Rattle.reset_model.specs.declared.event.Event.TheVariants.{Mend, Act}
@@ -14,7 +15,6 @@ use Rattle.reset_model.specs.declared.step.Reply.{Reply}
 use Rattle.reset_model.specs.declared.step.Reply.TheVariants.{Applied, Complete}
 use Rattle.reset_model.specs.declared.step.StepRefusal.{StepRefusal}
 use Rattle.reset_model.specs.declared.step.StepRefusal.TheVariants.{StrangeNode, StrangeNeighbour, NotEnabled}
-use Rattle.reset_model.specs.declared.step.StepRefusal.TheVariants.{SessionsSpent}
 
 -- the node at which the event happens, which alone it changes
 abbrev pub event_node : Event → ℕ
@@ -84,12 +84,12 @@ is_act (Act i case with) = true
 abbrev pub reset_at : (ℕ → WaveRegs) → ℕ → Bool
 reset_at w i = is_reset (w i).phase
 
--- rows 4 and 5: the father is reset in the next session
-pub data Joins (g : Graph) (t : ℕ → TreeRegs) (w : ℕ → WaveRegs) (i : ℕ) : Type 0 where
+-- rows 4 and 5: the father is reset in the next session, where sessions are counted modulo m
+pub data Joins (g : Graph) (m : ℕ) (t : ℕ → TreeRegs) (w : ℕ → WaveRegs) (i : ℕ) : Type 0 where
   join_normal : (j : ℕ) → IsFather g t i j → reset_at w j ≡ true → (w i).phase ≡ Normal
-      → (w j).session ≡ next_session (w i).session → Joins g t w i
+      → (w j).session ≡ next_session m (w i).session → Joins g m t w i
   join_asked : (j : ℕ) → IsFather g t i j → reset_at w j ≡ true → (w i).phase ≡ Initiate
-      → (w j).session ≡ next_session (w i).session → Joins g t w i
+      → (w j).session ≡ next_session m (w i).session → Joins g m t w i
 
 -- rows 6 and 7: the node is reset, and each child has its session and is not
 pub record Finishes (g : Graph) (t : ℕ → TreeRegs) (w : ℕ → WaveRegs) (i : ℕ) : Type 0 where
@@ -97,40 +97,28 @@ pub record Finishes (g : Graph) (t : ℕ → TreeRegs) (w : ℕ → WaveRegs) (i
   pub children : (c : ℕ) → IsFather g t c i → (reset_at w c ≡ false) × ((w c).session ≡ (w i).session)
 
 -- rows 8 to 11: the registers of the node and of its father contradict the wave
-pub data Mends (g : Graph) (t : ℕ → TreeRegs) (w : ℕ → WaveRegs) (i : ℕ) : Type 0 where
-  mend_reset : (j : ℕ) → IsFather g t i j → reset_at w j ≡ false → reset_at w i ≡ true → Mends g t w i
+pub data Mends (g : Graph) (m : ℕ) (t : ℕ → TreeRegs) (w : ℕ → WaveRegs) (i : ℕ) : Type 0 where
+  mend_reset : (j : ℕ) → IsFather g t i j → reset_at w j ≡ false → reset_at w i ≡ true → Mends g m t w i
   mend_number : (j : ℕ) → IsFather g t i j → reset_at w j ≡ false → reset_at w i ≡ false → (w i).session ≢ (w j).session
-      → Mends g t w i
+      → Mends g m t w i
   mend_both : (j : ℕ) → IsFather g t i j → reset_at w j ≡ true → reset_at w i ≡ true → (w i).session ≢ (w j).session
-      → Mends g t w i
+      → Mends g m t w i
   mend_late : (j : ℕ) → IsFather g t i j → reset_at w j ≡ true → reset_at w i ≡ false → (w j).session ≢ (w i).session
-      → (w j).session ≢ next_session (w i).session → Mends g t w i
+      → (w j).session ≢ next_session m (w i).session → Mends g m t w i
 
--- the guard of a row of the event holds, where K bounds the distances; an action has no rows
-abbrev pub IsEnabled : Graph → ℕ → (ℕ → TreeRegs) → (ℕ → WaveRegs) → Event → Type 0
-IsEnabled g K t w (Claim i) = Claims g K t i
-IsEnabled g K t w (Follow i) = Follows g K t i
-IsEnabled g K t w (Adopt i j) = Adopts g K t i j
-IsEnabled g K t w (Request i) = (w i).phase ≡ Normal
-IsEnabled g K t w (Relay i c) = ((w i).phase ≡ Normal) × IsFather g t c i × ((w c).phase ≡ Initiate)
-IsEnabled g K t w (Open i) = ((t i).father ≡ i) × ((w i).phase ≡ Initiate)
-IsEnabled g K t w (Join i) = Joins g t w i
-IsEnabled g K t w (Finish i) = Finishes g t w i
-IsEnabled g K t w (Mend i) = Mends g t w i
-IsEnabled g K t w (Act i case with) = ⊥
-
--- the event would open the session after the last one
-abbrev pub IsSpent : (ℕ → WaveRegs) → Event → Type 0
-IsSpent w (Claim i) = ⊥
-IsSpent w (Follow i) = ⊥
-IsSpent w (Adopt i j) = ⊥
-IsSpent w (Request i) = ⊥
-IsSpent w (Relay i c) = ⊥
-IsSpent w (Open i) = 4294967295 ≤ (w i).session
-IsSpent w (Join i) = ⊥
-IsSpent w (Finish i) = ⊥
-IsSpent w (Mend i) = ⊥
-IsSpent w (Act i case with) = ⊥
+-- the guard of a row of the event holds, where K bounds the distances and sessions are counted modulo m; an action
+-- has no rows
+abbrev pub IsEnabled : Graph → ℕ → ℕ → (ℕ → TreeRegs) → (ℕ → WaveRegs) → Event → Type 0
+IsEnabled g K m t w (Claim i) = Claims g K t i
+IsEnabled g K m t w (Follow i) = Follows g K t i
+IsEnabled g K m t w (Adopt i j) = Adopts g K t i j
+IsEnabled g K m t w (Request i) = (w i).phase ≡ Normal
+IsEnabled g K m t w (Relay i c) = ((w i).phase ≡ Normal) × IsFather g t c i × ((w c).phase ≡ Initiate)
+IsEnabled g K m t w (Open i) = ((t i).father ≡ i) × ((w i).phase ≡ Initiate)
+IsEnabled g K m t w (Join i) = Joins g m t w i
+IsEnabled g K m t w (Finish i) = Finishes g t w i
+IsEnabled g K m t w (Mend i) = Mends g m t w i
+IsEnabled g K m t w (Act i case with) = ⊥
 
 -- what the event leaves in the tree registers of its node
 abbrev pub tree_effect : ℕ → (ℕ → TreeRegs) → Event → TreeRegs
@@ -146,17 +134,17 @@ tree_effect K t (Mend i) = t i
 tree_effect K t (Act i case with) = t i
 
 -- what it leaves in the wave registers of its node
-abbrev pub wave_effect : (ℕ → TreeRegs) → (ℕ → WaveRegs) → Event → WaveRegs
-wave_effect t w (Claim i) = w i
-wave_effect t w (Follow i) = w i
-wave_effect t w (Adopt i j) = w i
-wave_effect t w (Request i) = record { phase = Initiate; session = (w i).session }
-wave_effect t w (Relay i c) = record { phase = Initiate; session = (w i).session }
-wave_effect t w (Open i) = record { phase = Reset; session = next_session (w i).session }
-wave_effect t w (Join i) = record { phase = Reset; session = (w (t i).father).session }
-wave_effect t w (Finish i) = record { phase = Normal; session = (w i).session }
-wave_effect t w (Mend i) = w (t i).father
-wave_effect t w (Act i case with) = w i
+abbrev pub wave_effect : ℕ → (ℕ → TreeRegs) → (ℕ → WaveRegs) → Event → WaveRegs
+wave_effect m t w (Claim i) = w i
+wave_effect m t w (Follow i) = w i
+wave_effect m t w (Adopt i j) = w i
+wave_effect m t w (Request i) = record { phase = Initiate; session = (w i).session }
+wave_effect m t w (Relay i c) = record { phase = Initiate; session = (w i).session }
+wave_effect m t w (Open i) = record { phase = Reset; session = next_session m (w i).session }
+wave_effect m t w (Join i) = record { phase = Reset; session = (w (t i).father).session }
+wave_effect m t w (Finish i) = record { phase = Normal; session = (w i).session }
+wave_effect m t w (Mend i) = w (t i).father
+wave_effect m t w (Act i case with) = w i
 
 -- a reset is complete where a node that is its own father finishes
 abbrev pub reply_of : (ℕ → TreeRegs) → (ℕ → WaveRegs) → Event → Reply
@@ -177,18 +165,16 @@ pub record IsNamed (g : Graph) (e : Event) : Type 0 where
   pub neighbour : (j : ℕ) → named_node e ≡ Some j → AreLinked g (event_node e) j
 
 -- the event takes the tree registers t and the wave registers w to t' and w'
-pub record RegsStep (g : Graph) (K : ℕ) (t : ℕ → TreeRegs) (w : ℕ → WaveRegs) (e : Event) (t' : ℕ → TreeRegs)
+pub record RegsStep (g : Graph) (K m : ℕ) (t : ℕ → TreeRegs) (w : ℕ → WaveRegs) (e : Event) (t' : ℕ → TreeRegs)
     (w' : ℕ → WaveRegs) : Type 0 where
   pub node : IsNode g (event_node e)
-  pub enabled : IsEnabled g K t w e
-  pub unspent : IsSpent w e → ⊥
+  pub enabled : IsEnabled g K m t w e
   pub trees : Changes g t (event_node e) (tree_effect K t e) t'
-  pub waves : Changes g w (event_node e) (wave_effect t w e) w'
+  pub waves : Changes g w (event_node e) (wave_effect m t w e) w'
 
 -- why an event of the two tables isn't a step: the first that applies, in this order
-pub data RowRefused (g : Graph) (K : ℕ) (t : ℕ → TreeRegs) (w : ℕ → WaveRegs) (e : Event) : StepRefusal → Type 0 where
-  strange_node : (IsNode g (event_node e) → ⊥) → RowRefused g K t w e StrangeNode
+pub data RowRefused (g : Graph) (K m : ℕ) (t : ℕ → TreeRegs) (w : ℕ → WaveRegs) (e : Event) : StepRefusal → Type 0 where
+  strange_node : (IsNode g (event_node e) → ⊥) → RowRefused g K m t w e StrangeNode
   strange_neighbour : (j : ℕ) → IsNode g (event_node e) → named_node e ≡ Some j → (AreLinked g (event_node e) j → ⊥)
-      → RowRefused g K t w e StrangeNeighbour
-  not_enabled : IsNamed g e → (IsEnabled g K t w e → ⊥) → RowRefused g K t w e NotEnabled
-  sessions_spent : IsNamed g e → IsEnabled g K t w e → IsSpent w e → RowRefused g K t w e SessionsSpent
+      → RowRefused g K m t w e StrangeNeighbour
+  not_enabled : IsNamed g e → (IsEnabled g K m t w e → ⊥) → RowRefused g K m t w e NotEnabled

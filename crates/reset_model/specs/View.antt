@@ -23,11 +23,12 @@ pub record Neighbour (L : Type 0) : Type 0 where
   pub wave : WaveRegs
   pub local : L
 
--- its identifier and the bound K, its own registers and local state, its start state, and its
--- neighbours by ascending identifier
+-- its identifier, the bound K and the modulus of the sessions, its own registers and local state, its start state,
+-- and its neighbours by ascending identifier
 pub record NodeView (L : Type 0) : Type 0 where
   pub id : ℕ
   pub bound : ℕ
+  pub modulus : ℕ
   pub tree : TreeRegs
   pub wave : WaveRegs
   pub local : L
@@ -42,6 +43,7 @@ abbrev pub view_of : {L : Type 0} → App L → Configuration L → ℕ → Node
 view_of app c i = record {
   id = i;
   bound = c.graph.bound;
+  modulus = c.modulus;
   tree = tree_of c i;
   wave = wave_of c i;
   local = local_of app c i;
@@ -75,7 +77,12 @@ abbrev pub children_of : {L : Type 0} → NodeView L → List (Neighbour L)
 children_of v = filter (λ n. n.tree.father == v.id) v.near
 
 abbrev pub wave_view : {L : Type 0} → NodeView L → wave.LocalView
-wave_view v = record { own = v.wave; father = father_of v; children = near_waves (children_of v) }
+wave_view v = record {
+  own = v.wave;
+  father = father_of v;
+  children = near_waves (children_of v);
+  modulus = v.modulus;
+}
 
 -- what it sees of the layer that the event belongs to
 abbrev pub layer_view : {L : Type 0} → NodeView L → Event → Seen

@@ -142,7 +142,7 @@ fn wave_row<P: Application>(
         (λ f. f ≢ StepRefusal.NoMemory → row_fired view.now event ≡ Err f) }
 {
     let children = child_waves(alloc, view.neighbours(), view.id())?;
-    match WaveView::new(view.wave(), father(view), &children) {
+    match WaveView::new(view.wave(), father(view), &children, view.modulus()) {
         Some(wave) => first_fired(&Seen::Wave(wave), event.named(), event.cases()),
         None => unreachable!(),
     }

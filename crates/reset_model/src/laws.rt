@@ -18,9 +18,10 @@ ghost use Rattle.reset_model.specs.declared.event.Event.TheVariants.{Finish};
 
 use app_interface::Application;
 
-/// A graph has at most one booted configuration.
+/// A graph has at most one booted configuration with sessions modulo a number.
 pub fn one_boot<P: Application>()
-    ensures { (g : Graph) (c d : Configuration P.Local) → IsBoot P.app g c → IsBoot P.app g d → c ≡ d }
+    ensures { (g : Graph) (m : ℕ) (c d : Configuration P.Local) → IsBoot P.app g m c → IsBoot P.app g m d
+        → c ≡ d }
 {}
 
 /// With another graph of the same nodes a configuration has the registers and the local states that it had.
@@ -52,33 +53,34 @@ pub fn views_decide<P: Application>()
 
 /// No mending row is enabled at any node exactly where the predicate holds at every father link.
 pub fn mends_rest()
-    ensures { (g : Graph) (t : ℕ → TreeRegs) (w : ℕ → WaveRegs)
-        → (((i : ℕ) → Mends g t w i → ⊥) ↔ WaveSound g t w) }
+    ensures { (g : Graph) (m : ℕ) (t : ℕ → TreeRegs) (w : ℕ → WaveRegs)
+        → (((i : ℕ) → Mends g m t w i → ⊥) ↔ WaveSound g m t w) }
 {}
 
 /// Where the tree picture holds, the predicate holds at every father link exactly where the wave
 /// picture holds.
 pub fn wave_pictures()
-    ensures { (g : Graph) (t : ℕ → TreeRegs) (w : ℕ → WaveRegs) → IsGraph g → IsConnected g → TreePicture g t
-        → (WaveSound g t w ↔ WavePicture g t w) }
+    ensures { (g : Graph) (m : ℕ) (t : ℕ → TreeRegs) (w : ℕ → WaveRegs) → IsGraph g → IsConnected g
+        → TreePicture g t
+        → (WaveSound g m t w ↔ WavePicture g m t w) }
 {}
 
 /// Each step leaves sound registers sound, whatever the bound `K`.
 pub fn steps_stay_sound()
-    ensures { (g : Graph) (K : ℕ) (t t' : ℕ → TreeRegs) (w w' : ℕ → WaveRegs) (e : Event) → IsGraph g
-        → Sound g K t w → RegsStep g K t w e t' w' → Sound g K t' w' }
+    ensures { (g : Graph) (K m : ℕ) (t t' : ℕ → TreeRegs) (w w' : ℕ → WaveRegs) (e : Event) → IsGraph g
+        → Sound g K m t w → RegsStep g K m t w e t' w' → Sound g K m t' w' }
 {}
 
 /// Where registers are sound no node claims, follows, adopts or mends.
 pub fn sound_is_quiet()
-    ensures { (g : Graph) (K : ℕ) (t : ℕ → TreeRegs) (w : ℕ → WaveRegs) (e : Event) → IsNode g (event_node e)
-        → Sound g K t w → Repairs e → IsEnabled g K t w e → ⊥ }
+    ensures { (g : Graph) (K m : ℕ) (t : ℕ → TreeRegs) (w : ℕ → WaveRegs) (e : Event) → IsNode g (event_node e)
+        → Sound g K m t w → Repairs e → IsEnabled g K m t w e → ⊥ }
 {}
 
 /// Right after a node that is its own father finishes, from sound registers, every node has its
 /// session and none is reset.
 pub fn completions_are_true()
-    ensures { (g : Graph) (K : ℕ) (t t' : ℕ → TreeRegs) (w w' : ℕ → WaveRegs) (i : ℕ) → IsGraph g → IsConnected g
-        → Sound g K t w → (t i).father ≡ i → RegsStep g K t w (Finish i) t' w'
+    ensures { (g : Graph) (K m : ℕ) (t t' : ℕ → TreeRegs) (w w' : ℕ → WaveRegs) (i : ℕ) → IsGraph g → IsConnected g
+        → Sound g K m t w → (t i).father ≡ i → RegsStep g K m t w (Finish i) t' w'
         → (j : ℕ) → IsNode g j → (reset_at w' j ≡ false) × ((w' j).session ≡ (w i).session) }
 {}

@@ -8,7 +8,7 @@ use app_interface::Application;
 use std::alloc::{AllocError, Global};
 use std::marker::Model;
 use tree_layer::TreeRegs;
-use wave_layer::WaveRegs;
+use wave_layer::{Modulus, WaveRegs};
 
 /// A neighbour, as a node sees it.
 #[derive(Drop)]
@@ -31,12 +31,13 @@ impl<P: Application> Model for Near<P> {
     ghost view = { λ n. record { id = n.id; tree = n.tree; wave = n.wave; local = n.local } };
 }
 
-/// What a node sees: its identifier and the bound K, its own registers and local state, its declared
-/// start state, and its neighbours, ascending.
+/// What a node sees: its identifier, the bound K and the modulus of the sessions, its own registers and
+/// local state, its declared start state, and its neighbours, ascending.
 #[derive(Drop)]
 pub struct View<P: Application> {
     id: u32,
     k: u32,
+    modulus: Modulus,
     tree: TreeRegs,
     wave: WaveRegs,
     local: P::Local,
@@ -53,6 +54,7 @@ impl<P: Application> Model for View<P> {
     ghost view = { λ v. record {
       id = v.id;
       bound = v.k;
+      modulus = v.modulus;
       tree = v.tree;
       wave = v.wave;
       local = v.local;
@@ -66,13 +68,20 @@ impl<P: Application> Model for View<P> {
 
 impl<P: Application> View<P> {
     /// The view of the node that has this identifier, these registers and this local state, under this
-    /// bound K, with this start state and these neighbours. The bound isn't 0, the neighbours ascend, and
+    /// bound K and modulus, with this start state and these neighbours. The bound isn't 0, the neighbours ascend, and
     /// the node isn't among them.
-    pub fn new(own: Near<P>, k: u32, start: P::Local, near: Vec<Near<P>>) -> View<P>
+    pub fn new(
+        own: Near<P>,
+        k: u32,
+        modulus: Modulus,
+        start: P::Local,
+        near: Vec<Near<P>>,
+    ) -> View<P>
         requires { IsView own.id k (near_trees near.items) }
         ensures { result ≡ record {
           id = own.id;
           bound = k;
+          modulus = modulus;
           tree = own.tree;
           wave = own.wave;
           local = own.local;
@@ -83,6 +92,7 @@ impl<P: Application> View<P> {
         View {
             id: own.id,
             k,
+            modulus,
             tree: own.tree,
             wave: own.wave,
             local: own.local,
@@ -103,6 +113,13 @@ impl<P: Application> View<P> {
         ensures { result ≡ self.now.bound }
     {
         self.k
+    }
+
+    /// The number modulo which sessions are counted.
+    pub fn modulus(&self) -> Modulus
+        ensures { result ≡ self.now.modulus }
+    {
+        self.modulus
     }
 
     /// The node's tree registers.
@@ -167,6 +184,7 @@ impl<P: Application> View<P> {
         Ok(View {
             id: self.id,
             k: self.k,
+            modulus: self.modulus,
             tree: self.tree,
             wave: self.wave,
             local,
@@ -175,11 +193,18 @@ impl<P: Application> View<P> {
         })
     }
 
-    /// Whether this is the bound, and whether these are the node's registers.
-    pub fn has_regs(&self, k: u32, tree: TreeRegs, wave: WaveRegs) -> bool
-        ensures { IsTrue result ↔ (self.now.bound ≡ k) × (self.now.tree ≡ tree) × (self.now.wave ≡ wave) }
+    /// Whether these are the bound and the modulus.
+    pub fn has_limits(&self, k: u32, modulus: Modulus) -> bool
+        ensures { IsTrue result ↔ (self.now.bound ≡ k) × (self.now.modulus ≡ modulus) }
     {
-        k == self.k && self.tree == tree && self.wave == wave
+        k == self.k && self.modulus == modulus
+    }
+
+    /// Whether these are the node's registers.
+    pub fn has_regs(&self, tree: TreeRegs, wave: WaveRegs) -> bool
+        ensures { IsTrue result ↔ (self.now.tree ≡ tree) × (self.now.wave ≡ wave) }
+    {
+        tree == self.tree && wave == self.wave
     }
 
     /// Whether these are the node's local state and its start state.
@@ -194,7 +219,8 @@ impl<P: Application> View<P> {
         ensures { IsTrue result ↔ self.now ≡ other.now }
     {
         other.id == self.id
-            && self.has_regs(other.k, other.tree, other.wave)
+            && self.has_limits(other.k, other.modulus)
+            && self.has_regs(other.tree, other.wave)
             && self.has_states(&other.local, &other.start)
             && same_near(&self.near, &other.near)
     }

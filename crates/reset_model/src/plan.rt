@@ -78,7 +78,6 @@ pub fn fired_wave(fired: Result<WaveMove, WaveRefusal>) -> Result<WaveMove, Step
 {
     match fired {
         Ok(fired) => Ok(fired),
-        Err(WaveRefusal::SessionsSpent) => Err(StepRefusal::SessionsSpent),
         Err(WaveRefusal::NoSuchCase | WaveRefusal::NotChild | WaveRefusal::NotEnabled) => {
             Err(StepRefusal::NotEnabled)
         }

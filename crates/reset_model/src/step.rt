@@ -34,8 +34,6 @@ pub enum StepRefusal {
     Disagrees(u32),
     /// No row of the event is enabled, or the case isn't.
     NotEnabled,
-    /// The session after the last one, 4294967295, would be opened.
-    SessionsSpent,
     /// A growth was refused.
     NoMemory,
 }

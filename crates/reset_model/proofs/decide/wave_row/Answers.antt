@@ -33,7 +33,8 @@ returns g c =
     ap (λ b. first_fired (cond b (Tree (tree_view v)) (Wave (wave_view v))) (named_node e) (cases_of e)) c.requires
     in
     let view =
-    wave_view-parts v c.in-Some.wave _ _ _ c.in-Some.ensures.value c.wave.ensures c.father.ensures children in
+    wave_view-parts v c.in-Some.wave _ _ _ _ c.in-Some.ensures.value c.wave.ensures c.father.ensures children
+    c.modulus.ensures in
     let rows = ap₂ (λ n cs. first_fired (Wave c.in-Some.wave) n cs) (sym c.named.ensures) (sym c.cases.ensures) in
     record {
       exact = exact_of _ _
