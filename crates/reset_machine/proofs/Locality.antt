@@ -39,6 +39,7 @@ map_agree {X} f f' p (x ∷ xs) same = at (p x) refl (map_agree f f' p xs same)
 -- but for the node i, d has what c has
 pub record AgreesBut {L : Type 0} (app : App L) (c d : Configuration L) (i : ℕ) : Type 0 where
   pub graph : d.graph ≡ c.graph
+  pub modulus : d.modulus ≡ c.modulus
   pub tree : (k : ℕ) → k ≢ i → tree_of d k ≡ tree_of c k
   pub wave : (k : ℕ) → k ≢ i → wave_of d k ≡ wave_of c k
   pub local : (k : ℕ) → k ≢ i → local_of app d k ≡ local_of app c k
@@ -74,9 +75,10 @@ module _ {L : Type 0} (app : App L) where
     -- a node that is neither i nor a neighbour of i sees the same
     same_seen : (j : ℕ) → j ≢ i → are_linked c.graph j i ≡ false → view_of app d j ≡ view_of app c j
     same_seen j other stranger =
-        same_view j j d.graph.bound c.graph.bound (tree_of d j) (tree_of c j) (wave_of d j) (wave_of c j)
-        (local_of app d j) (local_of app c j) (app.start d.graph j) (app.start c.graph j) _ _ refl
-        (ap (λ (g : Graph). g.bound) agrees.graph) (agrees.tree j other) (agrees.wave j other) (agrees.local j other)
+        same_view j j d.graph.bound c.graph.bound d.modulus c.modulus (tree_of d j) (tree_of c j) (wave_of d j)
+        (wave_of c j) (local_of app d j) (local_of app c j) (app.start d.graph j) (app.start c.graph j) _ _ refl
+        (ap (λ (g : Graph). g.bound) agrees.graph) agrees.modulus (agrees.tree j other) (agrees.wave j other)
+        (agrees.local j other)
         (ap (λ g. app.start g j) agrees.graph)
         (ap (λ g. map (near_of app d) (neighbours_of g j)) agrees.graph
         ∙ map_agree (near_of app d) (near_of app c) (are_linked c.graph j) c.graph.ids
@@ -132,6 +134,7 @@ module _ {L : Type 0} (app : App L) where
       pub known_tree : (regs : TreeRegs) → IfSome after (IsKnown app (with_tree c at regs))
       known_tree regs = known_but (with_tree c at regs) refl (record {
         graph = refl;
+        modulus = refl;
         tree = λ k other. value_at-put_at_other no_tree c.graph.ids c.trees at k regs other;
         wave = λ k other. refl;
         local = λ k other. refl;
@@ -140,6 +143,7 @@ module _ {L : Type 0} (app : App L) where
       pub known_wave : (regs : WaveRegs) → IfSome after (IsKnown app (with_wave c at regs))
       known_wave regs = known_but (with_wave c at regs) refl (record {
         graph = refl;
+        modulus = refl;
         tree = λ k other. refl;
         wave = λ k other. value_at-put_at_other no_wave c.graph.ids c.waves at k regs other;
         local = λ k other. refl;
@@ -148,6 +152,7 @@ module _ {L : Type 0} (app : App L) where
       pub known_local : (local : L) → IfSome after (IsKnown app (with_local c at local))
       known_local local = known_but (with_local c at local) refl (record {
         graph = refl;
+        modulus = refl;
         tree = λ k other. refl;
         wave = λ k other. refl;
         local = λ k other. value_at-put_at_other (app.start c.graph k) c.graph.ids c.locals at k local other;
@@ -158,6 +163,7 @@ module _ {L : Type 0} (app : App L) where
           → IfSome after (IsKnown app (with_wave (with_local c at local) at regs))
       known_restart regs local = known_but (with_wave (with_local c at local) at regs) refl (record {
         graph = refl;
+        modulus = refl;
         tree = λ k other. refl;
         wave = λ k other. value_at-put_at_other no_wave c.graph.ids c.waves at k regs other;
         local = λ k other. value_at-put_at_other (app.start c.graph k) c.graph.ids c.locals at k local other;

@@ -36,16 +36,26 @@ same_neighbour i j t u w v l k a b c d =
     ∙ ap (λ x. neighbour j u v x) d
 
 -- and so are two views of one node
-abbrev node_view : {L : Type 0} → ℕ → ℕ → TreeRegs → WaveRegs → L → L → List (Neighbour L) → NodeView L
-node_view i b t w l s ns = record { id = i; bound = b; tree = t; wave = w; local = l; start = s; near = ns }
+abbrev node_view : {L : Type 0} → ℕ → ℕ → ℕ → TreeRegs → WaveRegs → L → L → List (Neighbour L) → NodeView L
+node_view i b m t w l s ns = record {
+  id = i;
+  bound = b;
+  modulus = m;
+  tree = t;
+  wave = w;
+  local = l;
+  start = s;
+  near = ns;
+}
 
-pub same_view : {L : Type 0} (i j b c : ℕ) (t u : TreeRegs) (w v : WaveRegs) (l k s r : L) (ns ms : List (Neighbour L))
-    → i ≡ j → b ≡ c → t ≡ u → w ≡ v → l ≡ k → s ≡ r → ns ≡ ms → node_view i b t w l s ns ≡ node_view j c u v k r ms
-same_view i j b c t u w v l k s r ns ms id bound tree wave local start near =
-    ap (λ x. node_view x b t w l s ns) id ∙ ap (λ x. node_view j x t w l s ns) bound
-    ∙ ap (λ x. node_view j c x w l s ns) tree ∙ ap (λ x. node_view j c u x l s ns) wave
-    ∙ ap (λ x. node_view j c u v x s ns) local ∙ ap (λ x. node_view j c u v k x ns) start
-    ∙ ap (λ x. node_view j c u v k r x) near
+pub same_view : {L : Type 0} (i j b c m n : ℕ) (t u : TreeRegs) (w v : WaveRegs) (l k s r : L)
+    (ns ms : List (Neighbour L)) → i ≡ j → b ≡ c → m ≡ n → t ≡ u → w ≡ v → l ≡ k → s ≡ r → ns ≡ ms
+    → node_view i b m t w l s ns ≡ node_view j c n u v k r ms
+same_view i j b c m n t u w v l k s r ns ms id bound modulus tree wave local start near =
+    ap (λ x. node_view x b m t w l s ns) id ∙ ap (λ x. node_view j x m t w l s ns) bound
+    ∙ ap (λ x. node_view j c x t w l s ns) modulus ∙ ap (λ x. node_view j c n x w l s ns) tree
+    ∙ ap (λ x. node_view j c n u x l s ns) wave ∙ ap (λ x. node_view j c n u v x s ns) local
+    ∙ ap (λ x. node_view j c n u v k x ns) start ∙ ap (λ x. node_view j c n u v k r x) near
 
 -- what is found at a number is what the node at that index has
 pub at_number : {X : Type 0} (f : ℕ → X) (ids near : List ℕ) (i : ℕ) (d : X) → i < length near

@@ -93,8 +93,8 @@ module _ {L : Type 0} (app : App L) (c c' : Configuration L) (e : Event) where
 
   -- what a row of the wave table leaves is the outcome
   pub wave_is_outcome : (move : WaveMove) (at : ℕ)
-      → event_fired c.graph (node_bound c.graph) (tree_of c) (wave_of c) e ≡ Ok (Wave move) → at ≡ event_node e
-      → (r : Result Reply StepRefusal)
+      → event_fired c.graph (node_bound c.graph) c.modulus (tree_of c) (wave_of c) e ≡ Ok (Wave move)
+      → at ≡ event_node e → (r : Result Reply StepRefusal)
       → IfOk r (λ reply. (reply ≡ fired_reply (Wave move)) × (c' ≡ after_fired app c at (Wave move)))
       → IfErr r (λ f. f ≡ NoMemory)
       → MatchResult r (λ reply. row_outcome app c e ≡ Ok (c', reply)) (λ f. f ≢ NoMemory → row_outcome app c e ≡ Err f)

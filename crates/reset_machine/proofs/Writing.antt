@@ -59,7 +59,7 @@ module _ {L : Type 0} (c d : Configuration L) (id index : ℕ) (found : position
 -- or of a row of the tree table
 pub tree_outcome : {L : Type 0} (app : App L) (c d : Configuration L) (e : Event) (index : ℕ) (regs : TreeRegs)
     → position (λ k. k == event_node e) c.graph.ids ≡ Some index
-    → event_fired c.graph (node_bound c.graph) (tree_of c) (wave_of c) e ≡ Ok (Tree regs)
+    → event_fired c.graph (node_bound c.graph) c.modulus (tree_of c) (wave_of c) e ≡ Ok (Tree regs)
     → d ≡ with_tree c (slice_index c.graph.ids index) regs → row_outcome app c e ≡ Ok (d, Applied)
 tree_outcome {L} app c d e index regs found does written =
     let told : Configuration L → Result (Configuration L × Reply) StepRefusal = λ k. Ok (k, Applied) in

@@ -27,7 +27,7 @@ enabled_trees c i = let v = tree_view_of c.graph (node_bound c.graph) (tree_of c
 
 -- the numbers of the rows of the wave table that are enabled at i
 abbrev pub enabled_waves : {L : Type 0} → Configuration L → ℕ → List ℕ
-enabled_waves c i = let v = view_of c.graph (tree_of c) (wave_of c) i in enabled_of (wave_table v v.children)
+enabled_waves c i = let v = view_of c.graph c.modulus (tree_of c) (wave_of c) i in enabled_of (wave_table v v.children)
 
 -- the choices of a neighbour that fit what a case reads
 abbrev pub arguments_of : Graph → ℕ → Option Reads → List (Option ℕ)

@@ -33,11 +33,12 @@ abbrev pub tree_seen : {L : Type 0} → NodePlace L → tree.LocalView
 tree_seen p = tree_view_of p.config.graph (node_bound p.config.graph) (tree_of p.config) p.id
 
 abbrev pub wave_seen : {L : Type 0} → NodePlace L → wave.LocalView
-wave_seen p = view_of p.config.graph (tree_of p.config) (wave_of p.config) p.id
+wave_seen p = view_of p.config.graph p.config.modulus (tree_of p.config) (wave_of p.config) p.id
 
 -- what the rows of an event do at its node
 abbrev pub rows_fired_at : {L : Type 0} → NodePlace L → Event → Result Fired StepRefusal
-rows_fired_at p e = rows_fired p.config.graph (node_bound p.config.graph) (tree_of p.config) (wave_of p.config) e
+rows_fired_at p e =
+    rows_fired p.config.graph (node_bound p.config.graph) p.config.modulus (tree_of p.config) (wave_of p.config) e
 
 -- what a case of the application does at the node, with this choice of a neighbour
 abbrev pub case_outcome_at : {L : Type 0} → App L → NodePlace L → ℕ → Option ℕ → Result L StepRefusal

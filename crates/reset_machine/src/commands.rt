@@ -65,7 +65,7 @@ pub fn open_fired<P: Application>(
     let Some(place) = Place::of(nodes, at) else {
         return Err(StepRefusal::StrangeNode);
     };
-    fired_at(&place, open(place.wave(), is_root(&place)))
+    fired_at(&place, open(place.wave(), is_root(&place), place.modulus()))
 }
 
 /// The same of a join.
@@ -79,7 +79,10 @@ pub fn join_fired<P: Application>(
     let Some(place) = Place::of(nodes, at) else {
         return Err(StepRefusal::StrangeNode);
     };
-    fired_at(&place, join(place.wave(), father_seen(&place)))
+    fired_at(
+        &place,
+        join(place.wave(), father_seen(&place), place.modulus()),
+    )
 }
 
 /// The same of a finish.
@@ -102,7 +105,7 @@ pub fn mend_fired<P: Application>(place: &Place<'_, P>) -> Result<Fired, StepRef
     ensures { result ≡ rows_fired_at place.now (Mend place.now.id) }
 {
     let event = Event::Mend { at: place.id() };
-    match WaveView::new(place.wave(), father_seen(place), &[]) {
+    match WaveView::new(place.wave(), father_seen(place), &[], place.modulus()) {
         Some(view) => first_fired(&Seen::Wave(view), event.named(), event.cases()),
         None => unreachable!(),
     }

@@ -29,10 +29,11 @@ use std::alloc::{AllocError, AllocFailed, Global};
 use std::marker::Model;
 use topology::Topology;
 use tree_layer::TreeRegs;
-use wave_layer::{WaveMove, WaveRegs};
+use wave_layer::{Modulus, WaveMove, WaveRegs};
 
-/// A configuration of the service: a topology, and of each node its tree registers, its wave
-/// registers, and the local state and the declared start state of the application `P`.
+/// A configuration of the service: a topology, the number modulo which sessions are counted, and of each
+/// node its tree registers, its wave registers, and the local state and the declared start state of the
+/// application `P`.
 #[derive(Drop)]
 pub struct Config<P: Application> {
     nodes: Nodes<P>,
@@ -78,18 +79,23 @@ impl<P: Application> Config<P> {
 
     /// The configuration in which each node has its place in the tree of shortest ways to the
     /// greatest id, and no reset has begun: every node is normal, in session 0, and has its declared
-    /// start state. Where memory is wanting the topology comes back.
-    pub fn boot(alloc: Global, topology: Topology) -> Result<Config<P>, AllocFailed<Topology>>
-        ensures ok { IfOk result (IsBoot P.app topology) }
+    /// start state. Sessions are counted modulo this number from then on. Where memory is wanting the
+    /// topology comes back.
+    pub fn boot(
+        alloc: Global,
+        topology: Topology,
+        modulus: Modulus,
+    ) -> Result<Config<P>, AllocFailed<Topology>>
+        ensures ok { IfOk result (IsBoot P.app topology modulus) }
 
         // Of it both pictures hold, and so do both predicates everywhere.
         ensures tree_picture { IfOk result (λ c. TreePicture c.graph (tree_of c)) }
-        ensures wave_picture { IfOk result (λ c. WavePicture c.graph (tree_of c) (wave_of c)) }
+        ensures wave_picture { IfOk result (λ c. WavePicture c.graph c.modulus (tree_of c) (wave_of c)) }
         ensures sound { IfOk result IsSound }
         ensures value_returned { IfErr result (λ e. e.value ≡ topology) }
     {
         topology.lemma_is_graph();
-        let nodes = Nodes::boot(alloc, topology)?;
+        let nodes = Nodes::boot(alloc, topology, modulus)?;
         Ok(Config { nodes, known: None })
     }
 
@@ -292,7 +298,8 @@ impl<P: Application> Config<P> {
         self.nodes.set_local(index, local);
     }
 
-    /// Its topology is a connected graph, and each node has its registers and its local state.
+    /// Its topology is a connected graph, its sessions are counted modulo a number from 2 to 4294967296, and
+    /// each node has its registers and its local state.
     pub fn lemma_is_graph(&self)
         ensures graph { IsGraph self.now.graph }
         ensures connected { IsConnected self.now.graph }
@@ -454,6 +461,13 @@ impl<P: Application> Config<P> {
         ensures { result.now ≡ self.now.graph }
     {
         self.nodes.topology()
+    }
+
+    /// The number modulo which sessions are counted. A configuration keeps the one that it was booted with.
+    pub fn modulus(&self) -> Modulus
+        ensures { result ≡ self.now.modulus }
+    {
+        self.nodes.modulus()
     }
 
     /// The tree registers of all nodes, in the order of their identifiers.

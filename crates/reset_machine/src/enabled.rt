@@ -21,7 +21,7 @@ use app_interface::{Application, Reads};
 use reset_model::Arguments;
 use std::alloc::{AllocError, Global};
 use tree_layer::{TreeRegs, TreeView, tree_enabled};
-use wave_layer::{FatherSeen, WaveRegs, WaveView, wave_enabled};
+use wave_layer::{FatherSeen, Modulus, WaveRegs, WaveView, wave_enabled};
 
 // The request, the one row that is enabled wherever nothing is to be done.
 const REQUEST: u8 = 1;
@@ -103,16 +103,22 @@ fn enabled_waves<P: Application>(
 {
     place.lemma_is_place();
     read_children(place, children)?;
-    Ok(wave_rows(place.wave(), father_seen(place), children))
+    Ok(wave_rows(place.wave(), father_seen(place), children, place.modulus()))
 }
 
 // The enabled rows of the wave table, where a node sees this.
-fn wave_rows(own: WaveRegs, father: FatherSeen, children: &[(u32, WaveRegs)]) -> CaseSet
+fn wave_rows(
+    own: WaveRegs,
+    father: FatherSeen,
+    children: &[(u32, WaveRegs)],
+    modulus: Modulus,
+) -> CaseSet
     requires { IsStrictlyIncreasing (map (λ c. c.0) children.now) }
     ensures { result
-        ≡ enabled_of (wave_table (record { own = own; father = father; children = children.now }) children.now) }
+        ≡ enabled_of (wave_table (record { own = own; father = father; children = children.now; modulus = modulus })
+        children.now) }
 {
-    match WaveView::new(own, father, children) {
+    match WaveView::new(own, father, children, modulus) {
         Some(view) => wave_enabled(&view),
         None => unreachable!(),
     }

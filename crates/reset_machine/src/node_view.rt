@@ -26,7 +26,7 @@ pub(crate) fn read_view<P: Application>(
         wave: place.wave(),
         local,
     };
-    Ok(View::new(own, place.bound(), start, near))
+    Ok(View::new(own, place.bound(), place.modulus(), start, near))
 }
 
 // The neighbours of the node, as it sees them.
@@ -54,7 +54,8 @@ pub(crate) fn is_of<P: Application>(view: &View<P>, place: &Place<'_, P>) -> boo
     requires { place.now.id ≡ view.now.id }
     ensures { IsTrue result ↔ view.now ≡ view_of P.app place.now.config view.now.id }
 {
-    view.has_regs(place.bound(), place.tree(), place.wave())
+    view.has_limits(place.bound(), place.modulus())
+        && view.has_regs(place.tree(), place.wave())
         && view.has_states(place.local(), place.start())
         && are_near::<P>(view.neighbours(), place)
 }

@@ -9,13 +9,14 @@ use std::alloc::{AllocError, AllocFailed, Global};
 use std::marker::Model;
 use topology::Topology;
 use tree_layer::{TreeRegs, boot_tree};
-use wave_layer::{WaveRegs, boot_wave};
+use wave_layer::{Modulus, WaveRegs, boot_wave};
 
-/// A topology, and of each node its tree registers, its wave registers, and the local state and the
-/// declared start state of the application `P`.
+/// A topology, the number modulo which sessions are counted, and of each node its tree registers, its wave
+/// registers, and the local state and the declared start state of the application `P`.
 #[derive(Drop)]
 pub struct Nodes<P: Application> {
     topology: Topology,
+    modulus: Modulus,
     trees: Vec<TreeRegs>,
     waves: Vec<WaveRegs>,
     locals: Vec<P::Local>,
@@ -36,6 +37,7 @@ impl<P: Application> Model for Nodes<P> {
 
     ghost view = { λ c. record {
       graph = c.topology;
+      modulus = c.modulus;
       trees = c.trees.items;
       waves = c.waves.items;
       locals = c.locals.items;
@@ -44,6 +46,7 @@ impl<P: Application> Model for Nodes<P> {
     // A contract doesn't see the start states: the application and the graph give them.
     ghost invariant = { λ c. IsShaped (record {
       graph = c.topology;
+      modulus = c.modulus;
       trees = c.trees.items;
       waves = c.waves.items;
       locals = c.locals.items;
@@ -54,9 +57,14 @@ impl<P: Application> Nodes<P> {
     ghost use Rattle.reset_model.specs.Configuration.{with_graph, with_local, with_tree, with_wave};
     ghost use Rattle.reset_model.specs.Outcome.{IsBoot};
 
-    /// The nodes as they are booted. Where memory is wanting the topology comes back.
-    pub fn boot(alloc: Global, topology: Topology) -> Result<Nodes<P>, AllocFailed<Topology>>
-        ensures ok { IfOk result (IsBoot P.app topology) }
+    /// The nodes as they are booted, with sessions counted modulo this number. Where memory is wanting the
+    /// topology comes back.
+    pub fn boot(
+        alloc: Global,
+        topology: Topology,
+        modulus: Modulus,
+    ) -> Result<Nodes<P>, AllocFailed<Topology>>
+        ensures ok { IfOk result (IsBoot P.app topology modulus) }
         ensures value_returned { IfErr result (λ e. e.value ≡ topology) }
     {
         let trees = match boot_tree(alloc, &topology) {
@@ -77,6 +85,7 @@ impl<P: Application> Nodes<P> {
         };
         Ok(Nodes {
             topology,
+            modulus,
             trees,
             waves,
             locals,
@@ -92,6 +101,7 @@ impl<P: Application> Nodes<P> {
         let waves = &self.waves;
         Ok(Nodes {
             topology: self.topology.copy(alloc)?,
+            modulus: self.modulus,
             trees: trees.to_vec(alloc)?,
             waves: waves.to_vec(alloc)?,
             locals: copy_all::<P>(alloc, &self.locals)?,
@@ -99,7 +109,8 @@ impl<P: Application> Nodes<P> {
         })
     }
 
-    /// Their topology is a connected graph, and each node has its registers and its local state.
+    /// Their topology is a connected graph, sessions are counted modulo a number from 2 to 4294967296, and
+    /// each node has its registers and its local state.
     pub fn lemma_is_graph(&self)
         ensures graph { IsGraph self.now.graph }
         ensures connected { IsConnected self.now.graph }
@@ -161,6 +172,13 @@ impl<P: Application> Nodes<P> {
         ensures { result.now ≡ self.now.graph }
     {
         &self.topology
+    }
+
+    /// The number modulo which sessions are counted.
+    pub fn modulus(&self) -> Modulus
+        ensures { result ≡ self.now.modulus }
+    {
+        self.modulus
     }
 
     /// The tree registers of all nodes, in the order of their identifiers.

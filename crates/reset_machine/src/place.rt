@@ -12,7 +12,7 @@ use reset_model::StepRefusal;
 use std::marker::Model;
 use topology::Topology;
 use tree_layer::TreeRegs;
-use wave_layer::WaveRegs;
+use wave_layer::{Modulus, WaveRegs};
 
 /// A node of a configuration, by its identifier and its index. An event's node is looked up once, and
 /// all that happens there reads the configuration from here.
@@ -104,6 +104,13 @@ impl<'a, P: Application> Place<'a, P> {
         let topology = self.nodes.topology();
         topology.lemma_is_graph();
         topology.len() as u32
+    }
+
+    /// The number modulo which sessions are counted.
+    pub fn modulus(&self) -> Modulus
+        ensures { result ≡ self.now.config.modulus }
+    {
+        self.nodes.modulus()
     }
 
     /// The node's tree registers.

@@ -26,7 +26,7 @@ pub fn event_fired<P: Application>(
     requires { is_of_a_wave event ≡ false }
     ensures place { IfOk result (λ p. position (λ i. i == event_node event) nodes.now.graph.ids ≡ Some p.0) }
     ensures exact { let c = nodes.now in
-        let plan = event_fired c.graph (node_bound c.graph) (tree_of c) (wave_of c) event in
+        let plan = event_fired c.graph (node_bound c.graph) c.modulus (tree_of c) (wave_of c) event in
         MatchResult result (λ p. plan ≡ Ok p.1) (λ f. f ≢ StepRefusal.NoMemory → plan ≡ Err f) }
 {
     let Some(place) = Place::of(nodes, event.node()) else {

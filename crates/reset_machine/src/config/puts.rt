@@ -62,9 +62,9 @@ impl<P: Application> Config<P> {
         }
     }
 
-    /// Puts a topology of the same nodes, whatever its links. Registers and local states stay, and an open
-    /// or a join puts from now on the start state of this topology. Where memory is wanting the topology
-    /// comes back.
+    /// Puts a topology of the same nodes, whatever its links. The modulus, registers and local states stay, and
+    /// an open or a join puts from now on the start state of this topology. Where memory is wanting the
+    /// topology comes back.
     pub fn put_topology(
         &mut self,
         alloc: Global,

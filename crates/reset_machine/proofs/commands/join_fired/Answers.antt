@@ -12,4 +12,4 @@ returns g c =
     let place = c.in-Some.place in
     of_two c.args.nodes.now place.config (Join c.args.at) place.id _ _ c.in-Some.ensures.found.0 (c.fired_at.ensures (Join c.args.at)) 4 5 refl refl
     (sym c.in-Some.ensures.found.1) refl
-    (c.join.ensures (wave_seen place) (sym c.wave.ensures) (sym c.father_seen.ensures))
+    (c.join.ensures (wave_seen place) (sym c.wave.ensures) (sym c.modulus.ensures) (sym c.father_seen.ensures))

@@ -12,4 +12,4 @@ returns g c =
     let place = c.in-Some.place in
     of_one c.args.nodes.now place.config (Open c.args.at) place.id _ _ c.in-Some.ensures.found.0 (c.fired_at.ensures (Open c.args.at)) 3 refl refl
     (sym c.in-Some.ensures.found.1) refl
-    (c.open.ensures (wave_seen place) (sym c.wave.ensures) (sym c.is_root.ensures))
+    (c.open.ensures (wave_seen place) (sym c.wave.ensures) (sym c.modulus.ensures) (sym c.is_root.ensures))

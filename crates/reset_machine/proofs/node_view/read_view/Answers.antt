@@ -33,7 +33,8 @@ returns g c =
     let short = (position-Some (λ i. i == place.id) graph.ids place.index 0 c.lemma_is_place.ensures.place).0 in
     let started = rw (c.topology.ensures, c.index.ensures.index) at c.in_ok-start.ensures in
     c.new.ensures
-    ∙ same_view _ _ _ _ _ _ _ _ _ _ _ _ _ _ c.id.ensures c.bound.ensures.bound c.tree.ensures c.wave.ensures
+    ∙ same_view _ _ _ _ _ _ _ _ _ _ _ _ _ _ _ _ c.id.ensures c.bound.ensures.bound c.modulus.ensures c.tree.ensures
+    c.wave.ensures
     (c.in_ok-local.ensures ∙ c.local.ensures)
     (start_is start graph.ids place.index _ short started
     ∙ ap start (id_at-position graph.ids place.index place.id c.lemma_is_place.ensures.place))

@@ -9,7 +9,8 @@ pub returns-in_default-clause-exact : goal.returns-in_default-clause-exact
 returns-in_default-clause-exact g c = λ _.
     let config = c.args.nodes.now in
     let none = rw c.node.ensures at c.in_default.ensures.none in
-    event_fired-strange_node config.graph (node_bound config.graph) (tree_of config) (wave_of config) c.args.event
+    event_fired-strange_node config.graph (node_bound config.graph) config.modulus (tree_of config) (wave_of config)
+    c.args.event
     (no_node config.graph.ids _ none)
 
 pub returns-in-Ok-clause-exact : goal.returns-in-Ok-clause-exact
