@@ -72,14 +72,14 @@ module _ {L : Type 0} (app : App L) (c : Configuration L) (graph : IsGraph c.gra
   w = wave_of c
 
   abbrev links : ℕ → ℕ → List LinkFault
-  links i j = link_faults app g.bound (near_of app c i) (near_of app c j)
+  links i j = link_faults app g.bound c.modulus (near_of app c i) (near_of app c j)
 
   -- what follows the tree's fault at an end, and the wave's
   abbrev last : ℕ → ℕ → List LinkFault
   last i j = fault_of i j OfApp (app_row app g.bound (near_of app c i) (near_of app c j))
 
   abbrev later : ℕ → ℕ → List LinkFault
-  later i j = fault_of i j Wave (wave_row (near_of app c i) (near_of app c j)) ++ last i j
+  later i j = fault_of i j Wave (wave_row c.modulus (near_of app c i) (near_of app c j)) ++ last i j
 
   linked_there : (i j : ℕ) → AreLinked g i j → Contains (neighbours_of g i) j
   linked_there i j linked =
@@ -93,9 +93,9 @@ module _ {L : Type 0} (app : App L) (c : Configuration L) (graph : IsGraph c.gra
       (sym (has-filter (are_linked g i) g.ids j) ∙ has-Contains (neighbours_of g i) j there)).0
 
   near_list : (i : ℕ)
-      → flat_map (link_faults app g.bound (near_of app c i)) (map (near_of app c) (neighbours_of g i))
+      → flat_map (link_faults app g.bound c.modulus (near_of app c i)) (map (near_of app c) (neighbours_of g i))
       ≡ flat_map (links i) (neighbours_of g i)
-  near_list i = flat_map-map (link_faults app g.bound (near_of app c i)) (near_of app c) (neighbours_of g i)
+  near_list i = flat_map-map (link_faults app g.bound c.modulus (near_of app c i)) (near_of app c) (neighbours_of g i)
 
   -- ---- from faults that are all the application's to sound registers
 
@@ -118,9 +118,9 @@ module _ {L : Type 0} (app : App L) (c : Configuration L) (graph : IsGraph c.gra
     tree i j linked =
         (no_tree i j (tree_row g.bound (near_of app c i) (near_of app c j)) (later i j) (link i j linked)).0
 
-    wave : (i j : ℕ) → AreLinked g i j → wave_row (near_of app c i) (near_of app c j) ≡ None
+    wave : (i j : ℕ) → AreLinked g i j → wave_row c.modulus (near_of app c i) (near_of app c j) ≡ None
     wave i j linked =
-        (no_wave i j (wave_row (near_of app c i) (near_of app c j)) (last i j)
+        (no_wave i j (wave_row c.modulus (near_of app c i) (near_of app c j)) (last i j)
         (no_tree i j (tree_row g.bound (near_of app c i) (near_of app c j)) (later i j) (link i j linked)).1).0
 
     right : (i j : ℕ) (linked : AreLinked g i j) → (IsFather g t i j × Follows g g.bound t i) ⊎ Adopts g g.bound t i j
@@ -137,10 +137,10 @@ module _ {L : Type 0} (app : App L) (c : Configuration L) (graph : IsGraph c.gra
     adopts i j (adopt_root linked near higher) = right i j linked (inr (adopt_root linked near higher))
     adopts i j (adopt_short linked near same shorter) = right i j linked (inr (adopt_short linked near same shorter))
 
-    holds : (i j : ℕ) → IsFather g t i j → WaveHolds (w i) (w j)
+    holds : (i j : ℕ) → IsFather g t i j → WaveHolds c.modulus (w i) (w j)
     holds i j father =
-        right_where_denied (mending_row (w i) (w j)) (mending_tells (w i) (w j))
-        (sym (ap (λ b. cond b (mending_row (w i) (w j)) None) (eq-eqb _ _ father.named)) ∙ wave i j father.linked)
+        right_where_denied (mending_row c.modulus (w i) (w j)) (mending_tells c.modulus (w i) (w j))
+        (sym (ap (λ b. cond b (mending_row c.modulus (w i) (w j)) None) (eq-eqb _ _ father.named)) ∙ wave i j father.linked)
 
     pub sound : IsSound c
     sound = record {
@@ -162,17 +162,17 @@ module _ {L : Type 0} (app : App L) (c : Configuration L) (graph : IsGraph c.gra
         rests (inl other) = (are.tree i (graph.ends i j linked)).follows other.1
         rests (inr adopts) = (are.tree i (graph.ends i j linked)).adopts j adopts
 
-    wave_silent : (i j : ℕ) → AreLinked g i j → wave_row (near_of app c i) (near_of app c j) ≡ None
+    wave_silent : (i j : ℕ) → AreLinked g i j → wave_row c.modulus (near_of app c i) (near_of app c j) ≡ None
     wave_silent i j linked = at (eqb_tells (t i).father j)
       where
         at : ((nat_eq (t i).father j ≡ true) × ((t i).father ≡ j))
             ⊎ ((nat_eq (t i).father j ≡ false) × ((t i).father ≢ j))
-            → wave_row (near_of app c i) (near_of app c j) ≡ None
+            → wave_row c.modulus (near_of app c i) (near_of app c j) ≡ None
         at (inl father) =
-            ap (λ b. cond b (mending_row (w i) (w j)) None) father.0
-            ∙ denied_where_right (mending_row (w i) (w j)) (mending_tells (w i) (w j))
+            ap (λ b. cond b (mending_row c.modulus (w i) (w j)) None) father.0
+            ∙ denied_where_right (mending_row c.modulus (w i) (w j)) (mending_tells c.modulus (w i) (w j))
             (are.wave i j (record { named = father.1; linked = linked }))
-        at (inr other) = ap (λ b. cond b (mending_row (w i) (w j)) None) other.0
+        at (inr other) = ap (λ b. cond b (mending_row c.modulus (w i) (w j)) None) other.0
 
     link_silent : (i j : ℕ) → AreLinked g i j → list_all is_of_app (links i j) ≡ true
     link_silent i j linked =
@@ -184,7 +184,7 @@ module _ {L : Type 0} (app : App L) (c : Configuration L) (graph : IsGraph c.gra
     node_silent i there =
         ap (λ o. list_all is_of_app
         (fault_of i i Tree o
-        ++ flat_map (link_faults app g.bound (near_of app c i)) (map (near_of app c) (neighbours_of g i))))
+        ++ flat_map (link_faults app g.bound c.modulus (near_of app c i)) (map (near_of app c) (neighbours_of g i))))
         (told_wrong _ (own_tells g t graph i) (are.tree i there).claims)
         ∙ ap (list_all is_of_app) (near_list i)
         ∙ all_pass is_of_app (links i) (neighbours_of g i) (λ j near. link_silent i j (there_linked i j near))

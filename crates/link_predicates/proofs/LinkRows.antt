@@ -12,7 +12,8 @@ use Rattle.tree_layer.specs.TreeTable.{LocalView, tree_table}
 use Rattle.wave_layer.specs.declared.regs.WaveRegs.{WaveRegs}
 use Rattle.wave_layer.specs.declared.regs.FatherSeen.TheVariants.{Is}
 use Rattle.wave_layer.specs.WaveTable as wave
-use Rattle.wave_layer.specs.WaveTable.{WaveHolds, is_reset, next_session, wave_table}
+use Rattle.wave_layer.specs.WaveTable.{WaveHolds, is_reset, wave_table}
+use Rattle.wave_layer.specs.Sessions.{next_session}
 use Rattle.reset_model.specs.LocalSteps.{or_next, fired_tree, tree_view_of}
 use Rattle.reset_model.specs.declared.plan.Fired.{Fired}
 use Rattle.reset_model.specs.declared.step.StepRefusal.{StepRefusal}
@@ -108,7 +109,7 @@ module _ (g : Graph) (K : ℕ) (t : ℕ → TreeRegs) (graph : IsGraph g) (i j :
       either_tells (Adopts g K t i j) 7 8 (adopted j (t j)) higher shorter
       (subst (λ o. IsTreeFired (or_next (row o 7) (or_next (row o 8) (Err NotEnabled))) (Adopts g K t i j)
       (adopted j (t j)))
-      (near_some g K t no_wave graph i j linked) (adopt_is g K t no_wave graph i j linked))
+      (near_some g K 0 t no_wave graph i j linked) (adopt_is g K 0 t no_wave graph i j linked))
 
   -- rows 5 to 8 tell whether the neighbour is another father than i takes it to be, or is to be adopted
   pub end_tells : Tells (IsOtherFather g K t i j ⊎ Adopts g K t i j)
@@ -128,38 +129,38 @@ denied_where_right None denies right = refl
 denied_where_right (Some row) denies right = absurd (denies right)
 
 -- rows 8 to 11 of the wave table tell whether the wave predicate fails
-pub mending_tells : (own up : WaveRegs) → Denies (WaveHolds own up) (mending_row own up)
-mending_tells own up =
-    subst (Denies (WaveHolds own up)) (sym (first_by (wave_table seen_up []) 8 9 10 11))
+pub mending_tells : (m : ℕ) (own up : WaveRegs) → Denies (WaveHolds m own up) (mending_row m own up)
+mending_tells m own up =
+    subst (Denies (WaveHolds m own up)) (sym (first_by (wave_table seen_up []) 8 9 10 11))
     (at (is_reset own.phase) (is_reset up.phase) refl refl (eqb_tells own.session up.session)
-    (eqb_tells up.session own.session) (eqb_tells up.session (next_session own.session)))
+    (eqb_tells up.session own.session) (eqb_tells up.session (next_session m own.session)))
   where
     seen_up : wave.LocalView
-    seen_up = record { own = own; father = Is up; children = [] }
+    seen_up = record { own = own; father = Is up; children = []; modulus = m }
 
     rows : ℕ → Bool
     rows n = row_holds n (wave_table seen_up [])
 
     IsClaimed : Type 0
-    IsClaimed = Denies (WaveHolds own up) (first_of 8 9 10 11 (rows 8) (rows 9) (rows 10) (rows 11))
+    IsClaimed = Denies (WaveHolds m own up) (first_of 8 9 10 11 (rows 8) (rows 9) (rows 10) (rows 11))
 
-    awake_only : is_reset own.phase ≡ true → is_reset up.phase ≡ true → own.session ≢ up.session → WaveHolds own up → ⊥
+    awake_only : is_reset own.phase ≡ true → is_reset up.phase ≡ true → own.session ≢ up.session → WaveHolds m own up → ⊥
     awake_only reset up_reset apart holds = fits (holds.resetting up_reset)
       where
-        fits : (own.session ≡ up.session) ⊎ ((is_reset own.phase ≡ false) × (up.session ≡ next_session own.session)) → ⊥
+        fits : (own.session ≡ up.session) ⊎ ((is_reset own.phase ≡ false) × (up.session ≡ next_session m own.session)) → ⊥
         fits (inl same) = apart same
         fits (inr behind) = true≢false (sym reset ∙ behind.0)
 
-    late : is_reset up.phase ≡ true → up.session ≢ own.session → up.session ≢ next_session own.session
-        → WaveHolds own up → ⊥
+    late : is_reset up.phase ≡ true → up.session ≢ own.session → up.session ≢ next_session m own.session
+        → WaveHolds m own up → ⊥
     late up_reset apart beyond holds = fits (holds.resetting up_reset)
       where
-        fits : (own.session ≡ up.session) ⊎ ((is_reset own.phase ≡ false) × (up.session ≡ next_session own.session)) → ⊥
+        fits : (own.session ≡ up.session) ⊎ ((is_reset own.phase ≡ false) × (up.session ≡ next_session m own.session)) → ⊥
         fits (inl same) = apart (sym same)
         fits (inr behind) = beyond behind.1
 
     at : (p q : Bool) → is_reset own.phase ≡ p → is_reset up.phase ≡ q → Eq own.session up.session
-        → Eq up.session own.session → Eq up.session (next_session own.session) → IsClaimed
+        → Eq up.session own.session → Eq up.session (next_session m own.session) → IsClaimed
     at true false own_is up_is s back next =
         rw (own_is, up_is) (λ holds. true≢false (sym own_is ∙ (holds.awake up_is).0))
     at false false own_is up_is (inl s) back next =

@@ -53,11 +53,11 @@ more_told_at seen f ids near k first before after short told so_far =
     (one_more seen ids near k so_many (so_many ++ here ∷ []) here short refl refl refl)
 
 -- of the faults at an end of a link the application's is the only one of the application
-pub app_alone : {L : Type 0} (app : App L) (K : ℕ) (own other : Neighbour L)
-    → find is_of_app (link_faults app K own other)
+pub app_alone : {L : Type 0} (app : App L) (K m : ℕ) (own other : Neighbour L)
+    → find is_of_app (link_faults app K m own other)
     ≡ option_map (λ row. record { at = own.id; other = other.id; family = OfApp; row = row })
     (app_row app K own other)
-app_alone app K own other = tree (tree_row K own other)
+app_alone app K m own other = tree (tree_row K own other)
   where
     last : (r : Option ℕ)
         → find is_of_app (fault_of own.id other.id OfApp r)
@@ -75,12 +75,12 @@ app_alone app K own other = tree (tree_row K own other)
     tree : (t : Option ℕ)
         → find is_of_app
         (fault_of own.id other.id Tree t
-        ++ (fault_of own.id other.id Wave (wave_row own other)
+        ++ (fault_of own.id other.id Wave (wave_row m own other)
         ++ fault_of own.id other.id OfApp (app_row app K own other)))
         ≡ option_map (λ row. record { at = own.id; other = other.id; family = OfApp; row = row })
         (app_row app K own other)
-    tree None = wave (wave_row own other)
-    tree (Some row) = wave (wave_row own other)
+    tree None = wave (wave_row m own other)
+    tree (Some row) = wave (wave_row m own other)
 
 -- what is found in what is told of one more node, or of those that are left
 pub found_later : {X A : Type 0} (p : A → Bool) (seen : ℕ → X) (f : X → List A) (ids near : List ℕ) (k : ℕ)
@@ -121,10 +121,10 @@ none_told N (Some x) found same = tt
 pub alarm_is : {L : Type 0} (app : App L) (c : Configuration L) (i : ℕ) (near : List ℕ)
     → map (λ n. slice_index c.graph.ids n) near ≡ neighbours_of c.graph i
     → find is_of_app
-    (flat_map (link_faults app c.graph.bound (near_of app c i)) (at_indexes (near_of app c) c.graph.ids near))
+    (flat_map (link_faults app c.graph.bound c.modulus (near_of app c i)) (at_indexes (near_of app c) c.graph.ids near))
     ≡ alarm_of app c i
 alarm_is app c i near lists =
-    ap (λ js. find is_of_app (flat_map (link_faults app c.graph.bound (near_of app c i)) (map (near_of app c) js)))
+    ap (λ js. find is_of_app (flat_map (link_faults app c.graph.bound c.modulus (near_of app c i)) (map (near_of app c) js)))
     lists
     ∙ sym (none_of_own i (own_row c i)
-    (flat_map (link_faults app c.graph.bound (near_of app c i)) (map (near_of app c) (neighbours_of c.graph i))))
+    (flat_map (link_faults app c.graph.bound c.modulus (near_of app c i)) (map (near_of app c) (neighbours_of c.graph i))))

@@ -66,7 +66,7 @@ module _ (g : Graph) (t : ℕ → TreeRegs) (graph : IsGraph g) (i : ℕ) where
       → father_passes (λ _. true) (seeing i g.bound (t i) all_near) ≡ passes b
   whole b linked =
       ap (λ o. option_map_or (λ (_ : TreeRegs). true) o false)
-      (regs_of-linked g g.bound t no_wave graph i (t i).father) ∙ ap passes linked
+      (regs_of-linked g g.bound 0 t no_wave graph i (t i).father) ∙ ap passes linked
 
   father_seen : (up : TreeRegs) → are_linked g i (t i).father ≡ true
       → first_own i g.bound (t i) (((t i).father, up) ∷ []) ≡ first_own i g.bound (t i) all_near
@@ -89,7 +89,7 @@ module _ (g : Graph) (t : ℕ → TreeRegs) (graph : IsGraph g) (i : ℕ) where
       let stray = not ((t i).father == i) && not (father_passes (λ _. true) v) in
       subst (Tells (Claims g g.bound t i)) (sym (first_by (tree_table v all_near) 1 2 3 4))
       (first_tells (Claims g g.bound t i) (claimed i) low self stray (nat_le g.bound (t i).dist)
-      (claim_is g g.bound t no_wave graph i))
+      (claim_is g g.bound 0 t no_wave graph i))
 
 -- what is asked at a node with what it has there, by whether its father is a neighbour
 module _ {L : Type 0} (app : App L) (c : Configuration L) (graph : IsGraph c.graph) (i K : ℕ) (own : Neighbour L)

@@ -94,12 +94,12 @@ module _ {L : Type 0} (own other own' other' : Neighbour L) (own_is : own' ≡ o
       (subst (λ n. tree_row K own' n ≡ None) other_is
       (none_enabled K own'.id other'.id own'.tree other'.tree stays fits))
 
-  pub no_wave_row : (own'.tree.father ≡ other'.id → mending_row own'.wave other'.wave ≡ None)
-      → wave_row own other ≡ None
-  no_wave_row fits =
-      subst (λ n. wave_row n other ≡ None) own_is
-      (subst (λ n. wave_row own' n ≡ None) other_is (at (eqb_tells own'.tree.father other'.id)))
+  pub no_wave_row : (m : ℕ) → (own'.tree.father ≡ other'.id → mending_row m own'.wave other'.wave ≡ None)
+      → wave_row m own other ≡ None
+  no_wave_row m fits =
+      subst (λ n. wave_row m n other ≡ None) own_is
+      (subst (λ n. wave_row m own' n ≡ None) other_is (at (eqb_tells own'.tree.father other'.id)))
     where
-      at : Eq own'.tree.father other'.id → wave_row own' other' ≡ None
-      at (inl named) = ap (λ b. cond b (mending_row own'.wave other'.wave) None) named.0 ∙ fits named.1
-      at (inr strange) = ap (λ b. cond b (mending_row own'.wave other'.wave) None) strange.0
+      at : Eq own'.tree.father other'.id → wave_row m own' other' ≡ None
+      at (inl named) = ap (λ b. cond b (mending_row m own'.wave other'.wave) None) named.0 ∙ fits named.1
+      at (inr strange) = ap (λ b. cond b (mending_row m own'.wave other'.wave) None) strange.0

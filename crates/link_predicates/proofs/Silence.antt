@@ -58,9 +58,9 @@ module _ {L : Type 0} (app : App L) (c : Configuration L) where
 
       pub silent : alarm_of app c i ≡ None
       silent =
-          let links = link_faults app c.graph.bound (near_of app c i) in
+          let links = link_faults app c.graph.bound c.modulus (near_of app c i) in
           none_of_own i (own_row c i) (flat_map links (map (near_of app c) (neighbours_of c.graph i)))
           ∙ none_found is_of_app links (near_of app c) (are_linked c.graph i) c.graph.ids
-          (λ j linked. app_alone app c.graph.bound (near_of app c i) (near_of app c j)
+          (λ j linked. app_alone app c.graph.bound c.modulus (near_of app c i) (near_of app c j)
           ∙ ap (λ o. option_map (λ row. record { at = i; other = j; family = OfApp; row = row }) o)
           (silent_row j linked))

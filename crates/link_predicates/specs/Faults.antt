@@ -43,15 +43,16 @@ abbrev pub tree_row : {L : Type 0} → ℕ → Neighbour L → Neighbour L → O
 tree_row K own other = let v =
     tree_end K own other in first_enabled (5 ∷ 6 ∷ 7 ∷ 8 ∷ []) (enabled_of (tree_table v v.near))
 
--- of rows 8 to 11 of the wave table the first that is enabled, where the father has these registers
-abbrev pub mending_row : WaveRegs → WaveRegs → Option ℕ
-mending_row own up =
+-- of rows 8 to 11 of the wave table the first that is enabled, where the father has these registers and sessions are
+-- counted modulo m
+abbrev pub mending_row : ℕ → WaveRegs → WaveRegs → Option ℕ
+mending_row m own up =
     first_enabled (8 ∷ 9 ∷ 10 ∷ 11 ∷ [])
-    (enabled_of (wave_table (record { own = own; father = Is up; children = [] }) []))
+    (enabled_of (wave_table (record { own = own; father = Is up; children = []; modulus = m }) []))
 
 -- the same at an end, where the neighbour is the father
-abbrev pub wave_row : {L : Type 0} → Neighbour L → Neighbour L → Option ℕ
-wave_row own other = if own.tree.father == other.id then mending_row own.wave other.wave else None
+abbrev pub wave_row : {L : Type 0} → ℕ → Neighbour L → Neighbour L → Option ℕ
+wave_row m own other = if own.tree.father == other.id then mending_row m own.wave other.wave else None
 
 -- the row of the application's link table, where both ends have one session
 abbrev pub app_row : {L : Type 0} → App L → ℕ → Neighbour L → Neighbour L → Option ℕ
@@ -66,17 +67,18 @@ fault_of i j family None = []
 fault_of i j family (Some row) = record { at = i; other = j; family = family; row = row } ∷ []
 
 -- at one end of a link: at most one fault a family, the least row that fails
-abbrev pub link_faults : {L : Type 0} → App L → ℕ → Neighbour L → Neighbour L → List LinkFault
-link_faults app K own other =
+abbrev pub link_faults : {L : Type 0} → App L → ℕ → ℕ → Neighbour L → Neighbour L → List LinkFault
+link_faults app K m own other =
     fault_of own.id other.id Tree (tree_row K own other)
-    ++ (fault_of own.id other.id Wave (wave_row own other)
+    ++ (fault_of own.id other.id Wave (wave_row m own other)
     ++ fault_of own.id other.id OfApp (app_row app K own other))
 
 -- at a node: its own fault, then those of its links, by ascending neighbour
 abbrev pub node_faults : {L : Type 0} → App L → Configuration L → ℕ → List LinkFault
 node_faults app c i =
     fault_of i i Tree (own_row c i)
-    ++ flat_map (link_faults app c.graph.bound (near_of app c i)) (map (near_of app c) (neighbours_of c.graph i))
+    ++ flat_map (link_faults app c.graph.bound c.modulus (near_of app c i))
+    (map (near_of app c) (neighbours_of c.graph i))
 
 -- at all nodes, by ascending node
 abbrev pub faults : {L : Type 0} → App L → Configuration L → List LinkFault

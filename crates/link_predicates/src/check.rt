@@ -8,7 +8,7 @@ ghost use Rattle.link_predicates.specs.Faults.{alarm_of, app_row, fault_of, faul
 ghost use Rattle.link_predicates.specs.Faults.{node_faults, own_row};
 ghost use Rattle.link_predicates.specs.declared.fault.Family.TheVariants.{Tree};
 
-use crate::end::{End, end_at};
+use crate::end::{End, Limits, end_at};
 use crate::fault::{Family, LinkFault};
 use crate::quiet::{is_quiet, is_settled};
 use crate::rows;
@@ -75,10 +75,10 @@ fn alarm_at<P: Application>(config: &Config<P>, index: usize) -> Option<LinkFaul
     requires { index < length config.now.graph.ids }
     ensures { result ≡ alarm_of P.app config.now (slice_index config.now.graph.ids index) }
 {
-    let k = bound_of(config);
+    let limits = limits_of(config);
     let own = end_at(config, index);
     for near in config.topology().neighbours(index) {
-        let fault = link_alarm(k, &own, &end_at(config, *near));
+        let fault = link_alarm(&limits, &own, &end_at(config, *near));
         if fault.is_some() {
             return fault;
         }
@@ -87,10 +87,14 @@ fn alarm_at<P: Application>(config: &Config<P>, index: usize) -> Option<LinkFaul
 }
 
 // The first fault of the application at a node's end of a link.
-fn link_alarm<P: Application>(k: u32, own: &End<'_, P>, other: &End<'_, P>) -> Option<LinkFault>
-    ensures { result ≡ find is_of_app (link_faults P.app k own.now other.now) }
+fn link_alarm<P: Application>(
+    limits: &Limits,
+    own: &End<'_, P>,
+    other: &End<'_, P>,
+) -> Option<LinkFault>
+    ensures { result ≡ find is_of_app (link_faults P.app limits.now.k limits.now.modulus own.now other.now) }
 {
-    let row = rows::app_row(k, own, other)?;
+    let row = rows::app_row(limits.k, own, other)?;
     Some(LinkFault {
         at: own.id,
         other: other.id,
@@ -99,14 +103,18 @@ fn link_alarm<P: Application>(k: u32, own: &End<'_, P>, other: &End<'_, P>) -> O
     })
 }
 
-// The bound K of the distances.
-fn bound_of<P: Application>(config: &Config<P>) -> u32
-    ensures value { result ≡ config.now.graph.bound }
-    ensures some { 0 < result }
+// The bound K of the distances, and the modulus of the sessions.
+fn limits_of<P: Application>(config: &Config<P>) -> Limits
+    ensures bound { result.k ≡ config.now.graph.bound }
+    ensures modulus { result.modulus ≡ config.now.modulus }
+    ensures some { 0 < result.k }
 {
     let topology = config.topology();
     topology.lemma_is_graph();
-    topology.len() as u32
+    Limits {
+        k: topology.len() as u32,
+        modulus: config.modulus(),
+    }
 }
 
 // Adds the faults at the node with this index.
@@ -133,7 +141,7 @@ fn own_row<P: Application>(config: &Config<P>, index: usize, own: &End<'_, P>) -
 {
     let topology = config.topology();
     config.lemma_is_graph();
-    let k = bound_of(config);
+    let k = limits_of(config).k;
     let father = own.tree.father;
     match topology.neighbour_at(index, father) {
         Some(_) if is_settled(k, own.id, own.tree) => None,
@@ -152,14 +160,15 @@ fn add_links<P: Application>(
     requires within { index < length config.now.graph.ids }
     requires there { own.now ≡ near_of P.app config.now (slice_index config.now.graph.ids index) }
     ensures { OnOk result
-        (found.new.items ≡ found.old.items ++ flat_map (link_faults P.app config.now.graph.bound own.now)
+        (found.new.items
+        ≡ found.old.items ++ flat_map (link_faults P.app config.now.graph.bound config.now.modulus own.now)
         (map (near_of P.app config.now) (neighbours_of config.now.graph (slice_index config.now.graph.ids index)))) }
 {
     config.lemma_is_graph();
-    let k = bound_of(config);
+    let limits = limits_of(config);
     for near in config.topology().neighbours(index) {
-        if !is_quiet(k, &*own, &end_at(config, *near)) {
-            add_link(found, k, &*own, &end_at(config, *near))?;
+        if !is_quiet(&limits, &*own, &end_at(config, *near)) {
+            add_link(found, &limits, &*own, &end_at(config, *near))?;
         }
     }
     Ok(())
@@ -169,17 +178,17 @@ fn add_links<P: Application>(
 #[inline(never)]
 fn add_link<P: Application>(
     found: &mut Vec<LinkFault>,
-    k: u32,
+    limits: &Limits,
     own: &End<'_, P>,
     other: &End<'_, P>,
 ) -> Result<(), AllocError>
-    requires bounded { 0 < k }
+    requires bounded { 0 < limits.now.k }
     requires others { other.now.id ≢ own.now.id }
-    ensures { OnOk result (found.new.items ≡ found.old.items ++ link_faults P.app k own.now other.now) }
+    ensures { OnOk result (found.new.items ≡ found.old.items ++ link_faults P.app limits.now.k limits.now.modulus own.now other.now) }
 {
-    let tree = rows::tree_row(k, own, other);
-    let wave = rows::wave_row(own, other);
-    let app = rows::app_row(k, own, other);
+    let tree = rows::tree_row(limits.k, own, other);
+    let wave = rows::wave_row(limits.modulus, own, other);
+    let app = rows::app_row(limits.k, own, other);
     add(found, own.id, other.id, Family::Tree, tree)?;
     add(found, own.id, other.id, Family::Wave, wave)?;
     add(found, own.id, other.id, Family::App, app)

@@ -7,7 +7,14 @@ use app_interface::Application;
 use reset_machine::Config;
 use std::marker::Model;
 use tree_layer::TreeRegs;
-use wave_layer::WaveRegs;
+use wave_layer::{Modulus, WaveRegs};
+
+// What the distances are bounded by, and the number modulo which sessions are counted.
+#[derive(Drop)]
+pub(crate) struct Limits {
+    pub k: u32,
+    pub modulus: Modulus,
+}
 
 // A node at one end of a link: its identifier, its registers and its local state.
 #[derive(Drop)]

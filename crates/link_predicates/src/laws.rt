@@ -27,7 +27,7 @@ pub fn faultless_is_sound<P: Application>()
 pub fn faultless_is_pictured<P: Application>()
     ensures { (c : Configuration P.Local) → IsGraph c.graph → IsConnected c.graph
         → (AreOfApp (faults P.app c)
-        ↔ (TreePicture c.graph (tree_of c) × WavePicture c.graph (tree_of c) (wave_of c))) }
+        ↔ (TreePicture c.graph (tree_of c) × WavePicture c.graph c.modulus (tree_of c) (wave_of c))) }
 {
     faultless_is_sound::<P>();
     tree_pictures();

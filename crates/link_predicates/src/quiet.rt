@@ -7,27 +7,32 @@ ghost use Rattle.tree_layer.specs.declared.regs.TreeRegs.{TreeRegs};
 ghost use Rattle.tree_layer.specs.TreeTable.{LocalView, tree_table};
 ghost use Rattle.link_predicates.specs.Faults.{first_enabled, link_faults, mending_row, tree_row, wave_row};
 
-use crate::end::End;
+use crate::end::{End, Limits};
 use crate::rows;
 use app_interface::Application;
 use tree_layer::TreeRegs;
-use wave_layer::{FatherSeen, WaveRegs, WaveView, wave_good};
+use wave_layer::{FatherSeen, Modulus, WaveRegs, WaveView, wave_good};
 
 // Whether no row fails at a node's end of a link.
-pub(crate) fn is_quiet<P: Application>(k: u32, own: &End<'_, P>, other: &End<'_, P>) -> bool
-    ensures { IsTrue result → link_faults P.app k own.now other.now ≡ [] }
+pub(crate) fn is_quiet<P: Application>(
+    limits: &Limits,
+    own: &End<'_, P>,
+    other: &End<'_, P>,
+) -> bool
+    ensures { IsTrue result → link_faults P.app limits.now.k limits.now.modulus own.now other.now ≡ [] }
 {
-    rests(k, own, other) && rows::app_row(k, own, other).is_none()
+    rests(limits, own, other) && rows::app_row(limits.k, own, other).is_none()
 }
 
 // Whether no row of the tree or of the wave fails at a node's end of a link.
-fn rests<P: Application>(k: u32, own: &End<'_, P>, other: &End<'_, P>) -> bool
-    ensures tree { IsTrue result → tree_row k own.now other.now ≡ None }
-    ensures wave { IsTrue result → wave_row own.now other.now ≡ None }
+fn rests<P: Application>(limits: &Limits, own: &End<'_, P>, other: &End<'_, P>) -> bool
+    ensures tree { IsTrue result → tree_row limits.now.k own.now other.now ≡ None }
+    ensures wave { IsTrue result → wave_row limits.now.modulus own.now other.now ≡ None }
 {
+    let k = limits.k;
     stays(k, own.tree, other.tree)
         && (own.tree.father != other.id
-            || (follows(k, own.tree, other.tree) && fits(own.wave, other.wave)))
+            || (follows(k, own.tree, other.tree) && fits(limits.modulus, own.wave, other.wave)))
 }
 
 // Rows 7 and 8 of the tree table fail nowhere: the neighbour, where its distance is below the bound,
@@ -50,10 +55,10 @@ fn follows(k: u32, own: TreeRegs, up: TreeRegs) -> bool
 }
 
 // Whether none of the mending rows is enabled where the father has these registers.
-fn fits(own: WaveRegs, up: WaveRegs) -> bool
-    ensures { IsTrue result → mending_row own up ≡ None }
+fn fits(modulus: Modulus, own: WaveRegs, up: WaveRegs) -> bool
+    ensures { IsTrue result → mending_row modulus own up ≡ None }
 {
-    let view = WaveView::new(own, FatherSeen::Is(up), &[]).unwrap();
+    let view = WaveView::new(own, FatherSeen::Is(up), &[], modulus).unwrap();
     wave_good(&view)
 }
 

@@ -9,7 +9,7 @@ use crate::end::End;
 use action_tables::CaseSet;
 use app_interface::{Application, Here};
 use tree_layer::{TreeRegs, TreeView, tree_enabled};
-use wave_layer::{FatherSeen, WaveRegs, WaveView, wave_enabled};
+use wave_layer::{FatherSeen, Modulus, WaveRegs, WaveView, wave_enabled};
 
 // The first of these rows that is enabled.
 fn first_enabled(rows: &[u8], enabled: CaseSet) -> Option<u8>
@@ -46,21 +46,25 @@ pub(crate) fn tree_row<P: Application>(k: u32, own: &End<'_, P>, other: &End<'_,
 }
 
 // The first row of the wave table that fails at a node's end of a link.
-pub(crate) fn wave_row<P: Application>(own: &End<'_, P>, other: &End<'_, P>) -> Option<u8>
-    ensures { result ≡ wave_row own.now other.now }
+pub(crate) fn wave_row<P: Application>(
+    modulus: Modulus,
+    own: &End<'_, P>,
+    other: &End<'_, P>,
+) -> Option<u8>
+    ensures { result ≡ wave_row modulus own.now other.now }
 {
     if own.tree.father == other.id {
-        mending_row(own.wave, other.wave)
+        mending_row(modulus, own.wave, other.wave)
     } else {
         None
     }
 }
 
 // Of rows 8 to 11 of the wave table the first that is enabled, where the father has these registers.
-fn mending_row(own: WaveRegs, up: WaveRegs) -> Option<u8>
-    ensures { result ≡ mending_row own up }
+fn mending_row(modulus: Modulus, own: WaveRegs, up: WaveRegs) -> Option<u8>
+    ensures { result ≡ mending_row modulus own up }
 {
-    let view = WaveView::new(own, FatherSeen::Is(up), &[]).unwrap();
+    let view = WaveView::new(own, FatherSeen::Is(up), &[], modulus).unwrap();
     first_enabled(&[8, 9, 10, 11], wave_enabled(&view))
 }
 

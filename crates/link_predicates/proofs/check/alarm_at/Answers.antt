@@ -1,4 +1,4 @@
-use Rattle.std.proofs.Common.{◌≡◌, ◌+◌, drop, find, flat_map, map, slice_index, subst, sym, ap, ◌∙◌}
+use Rattle.std.proofs.Common.{◌≡◌, ◌+◌, drop, find, flat_map, map, slice_index, subst, sym, ap, ap₂, ◌∙◌}
 use Rattle.std.specs.Option.{option_or}
 use Rattle.std.proofs.lemmas.List.{at_drop_all}
 use Rattle.topology.specs.Graph.{Graph, neighbours_of}
@@ -16,7 +16,8 @@ returns-then-is_some g c =
     let near = c.neighbours-near-items.result.now in
     let k = c.loop-near.near-index in
     let i = slice_index graph.ids c.args.index in
-    let links = link_faults app c.bound_of-k.result c.end_at-own.result in
+    let limits = c.limits_of-limits.result in
+    let links = link_faults app limits.k limits.modulus c.end_at-own.result in
     let rest = find is_of_app (flat_map links (at_indexes (near_of app config) graph.ids (drop (k + 1) near))) in
     let fault =
     c.link_alarm-fault.ensures
@@ -27,11 +28,11 @@ returns-then-is_some g c =
     sym (found_later is_of_app (near_of app config) links graph.ids near k c.loop-near-test.true
     ∙ ap (λ o. option_or o rest) (sym fault) ∙ found_first c.link_alarm-fault.result rest some)
     ∙ c.loop-near.invariant
-    ∙ ap (λ K. find is_of_app
-    (flat_map (link_faults app K c.end_at-own.result) (at_indexes (near_of app config) graph.ids near)))
-    c.bound_of-k.ensures.value
+    ∙ ap₂ (λ K m. find is_of_app
+    (flat_map (link_faults app K m c.end_at-own.result) (at_indexes (near_of app config) graph.ids near)))
+    c.limits_of-limits.ensures.bound c.limits_of-limits.ensures.modulus
     ∙ ap (λ (n : Neighbour g.row.P-Local.Denot). find is_of_app
-    (flat_map (link_faults app graph.bound n) (at_indexes (near_of app config) graph.ids near)))
+    (flat_map (link_faults app graph.bound config.modulus n) (at_indexes (near_of app config) graph.ids near)))
     c.end_at-own.ensures
     ∙ alarm_is app config i near (subst Lists c.topology.ensures c.neighbours-near-items.ensures.ids)
 
@@ -42,7 +43,8 @@ loop-near-preserved g c =
     let ids = config.graph.ids in
     let near = c.neighbours-near-items.result.now in
     let k = c.loop-near.near-index in
-    let links = link_faults app c.bound_of-k.result c.end_at-own.result in
+    let limits = c.limits_of-limits.result in
+    let links = link_faults app limits.k limits.modulus c.end_at-own.result in
     let rest = find is_of_app (flat_map links (at_indexes (near_of app config) ids (drop (k + 1) near))) in
     let fault =
     c.link_alarm-fault.ensures
@@ -59,16 +61,17 @@ returns g c =
     let graph = config.graph in
     let near = c.neighbours-near-items.result.now in
     let i = slice_index graph.ids c.args.index in
-    let links = link_faults app c.bound_of-k.result c.end_at-own.result in
+    let limits = c.limits_of-limits.result in
+    let links = link_faults app limits.k limits.modulus c.end_at-own.result in
     let Lists : Graph → Type 0 =
     λ h. map (λ n. slice_index h.ids n) near ≡ neighbours_of h (slice_index h.ids c.args.index) in
     sym (at_drop_all (λ left. find is_of_app (flat_map links (at_indexes (near_of app config) graph.ids left))) near
     c.loop-near.near-index c.loop-near-test.false)
     ∙ c.loop-near.invariant
-    ∙ ap (λ K. find is_of_app
-    (flat_map (link_faults app K c.end_at-own.result) (at_indexes (near_of app config) graph.ids near)))
-    c.bound_of-k.ensures.value
+    ∙ ap₂ (λ K m. find is_of_app
+    (flat_map (link_faults app K m c.end_at-own.result) (at_indexes (near_of app config) graph.ids near)))
+    c.limits_of-limits.ensures.bound c.limits_of-limits.ensures.modulus
     ∙ ap (λ (n : Neighbour g.row.P-Local.Denot). find is_of_app
-    (flat_map (link_faults app graph.bound n) (at_indexes (near_of app config) graph.ids near)))
+    (flat_map (link_faults app graph.bound config.modulus n) (at_indexes (near_of app config) graph.ids near)))
     c.end_at-own.ensures
     ∙ alarm_is app config i near (subst Lists c.topology.ensures c.neighbours-near-items.ensures.ids)

@@ -10,5 +10,5 @@ invariant-loop-near g l =
     let app = g.P.Application.app in
     let ids = l.config.graph.ids in
     find is_of_app
-    (flat_map (link_faults app l.k l.own) (at_indexes (near_of app l.config) ids (drop l.near-index l.near-items)))
-    ≡ find is_of_app (flat_map (link_faults app l.k l.own) (at_indexes (near_of app l.config) ids l.near-items))
+    (flat_map (link_faults app l.limits.k l.limits.modulus l.own) (at_indexes (near_of app l.config) ids (drop l.near-index l.near-items)))
+    ≡ find is_of_app (flat_map (link_faults app l.limits.k l.limits.modulus l.own) (at_indexes (near_of app l.config) ids l.near-items))

@@ -9,7 +9,7 @@ returns-in-Some g c =
     let up = c.own.inside.tree in
     sym (c.is_settled.ensures c.if-is_settled.true up)
     ∙ father_row g.P.Application.app c.args.config.now c.lemma_is_graph.ensures.graph _ _ _
-    (c.own.view_is ∙ c.requires.there) c.bound_of-k.ensures.value up
+    (c.own.view_is ∙ c.requires.there) c.limits_of-k.ensures.bound up
     (subst Linked c.topology-topology.ensures c.in-Some.ensures.found.1)
 
 pub returns-in-Some-2 : goal.returns-in-Some-2
@@ -17,7 +17,7 @@ returns-in-Some-2 g c =
     let Linked : Graph → Type 0 = λ h. are_linked h (slice_index h.ids c.args.index) c.own.inside.tree.father ≡ true in
     c.own_row.ensures
     ∙ father_row g.P.Application.app c.args.config.now c.lemma_is_graph.ensures.graph _ _ _
-    (c.own.view_is ∙ c.requires.there) c.bound_of-k.ensures.value _
+    (c.own.view_is ∙ c.requires.there) c.limits_of-k.ensures.bound _
     (subst Linked c.topology-topology.ensures c.in-Some-2.ensures.found.1)
 
 pub returns-in-None : goal.returns-in-None
@@ -25,5 +25,5 @@ returns-in-None g c =
     let Stray : Graph → Type 0 = λ h. are_linked h (slice_index h.ids c.args.index) c.own.inside.tree.father ≡ false in
     c.own_row-in-None.ensures
     ∙ stray_row g.P.Application.app c.args.config.now c.lemma_is_graph.ensures.graph _ _ _
-    (c.own.view_is ∙ c.requires.there) c.bound_of-k.ensures.value
+    (c.own.view_is ∙ c.requires.there) c.limits_of-k.ensures.bound
     (subst Stray c.topology-topology.ensures c.in-None.ensures.none)

@@ -6,7 +6,7 @@ returns g c = λ config graph connected.
     let t = tree_of config in
     let w = wave_of config in
     let tree = c.tree_pictures.ensures config.graph config.graph.bound t graph graph.bounded in
-    let wave = c.wave_pictures.ensures config.graph t w graph connected in (
+    let wave = c.wave_pictures.ensures config.graph config.modulus t w graph connected in (
       λ all. let sound =
           (c.faultless_is_sound.ensures config graph).0 all
           in (let picture = tree.0 sound.tree in (picture, (wave picture).0 sound.wave)),

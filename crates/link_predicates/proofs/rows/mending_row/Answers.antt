@@ -7,7 +7,7 @@ use Rattle.link_predicates.proofs.rows.mending_row.Goals as goal
 
 pub returns : goal.returns
 returns c =
-    let view : LocalView = record { own = c.args.own; father = Is c.args.up; children = [] } in
+    let view : LocalView = record { own = c.args.own; father = Is c.args.up; children = []; modulus = c.args.modulus } in
     let P : Option LocalView → Type 0 = λ o. IfSome o (λ v. v ≡ view) in
     let is : c.unwrap-view.result ≡ view = subst P c.unwrap-view.ensures c.new.ensures.value in
     c.first_enabled.ensures

@@ -13,7 +13,7 @@ returns-then-own-other g c =
     sym (ap (λ (n : Neighbour g.row.P-Local.Denot). n.tree.father) c.own.view_is) ∙ c.if-own-other.true
     ∙ ap (λ (n : Neighbour g.row.P-Local.Denot). n.id) c.other.view_is in
     c.mending_row.ensures
-    ∙ ap (λ (w : WaveRegs). mending_row w c.other.inside.wave)
+    ∙ ap (λ (w : WaveRegs). mending_row c.args.modulus w c.other.inside.wave)
     (ap (λ (n : Neighbour g.row.P-Local.Denot). n.wave) c.own.view_is)
-    ∙ ap (λ (w : WaveRegs). mending_row own.wave w) (ap (λ (n : Neighbour g.row.P-Local.Denot). n.wave) c.other.view_is)
-    ∙ ap (λ b. cond b (mending_row own.wave other.wave) None) (sym (eq-eqb _ _ father))
+    ∙ ap (λ (w : WaveRegs). mending_row c.args.modulus own.wave w) (ap (λ (n : Neighbour g.row.P-Local.Denot). n.wave) c.other.view_is)
+    ∙ ap (λ b. cond b (mending_row c.args.modulus own.wave other.wave) None) (sym (eq-eqb _ _ father))
