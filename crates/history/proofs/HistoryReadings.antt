@@ -1,20 +1,16 @@
 -- A text is read as one thing.
-use Rattle.std.proofs.Common.{◌≡◌, ℕ, ◌+◌, ◌<◌, ◌^◌, List, [], ◌∷◌, ◌++◌, Result, Ok, Err, length, refl, sym, ap, ap₂}
+use Rattle.std.proofs.Common.{◌≡◌, ℕ, ◌+◌, ◌<◌, List, [], ◌∷◌, ◌++◌, Result, Ok, Err, length, refl, sym, ap, ap₂}
 use Rattle.std.proofs.Common.{subst, ◌∙◌, arith, append_assoc}
-use Rattle.std.specs.Prelude.{codes}
-use Rattle.std.specs.Fmt.{decimal}
 use Rattle.std.specs.List.{AllByRecursion}
-use Rattle.std.proofs.lemmas.Fmt.{decimal_digit, decimal_injective}
 use Rattle.std.proofs.lemmas.List.Elements.{recursion_from_All}
-use Rattle.std.proofs.lemmas.List.{append_cancel_left}
 use Rattle.action_tables.specs.Cuts.{HasNo}
-use Rattle.action_tables.specs.LawsOfCuts.{HasNo-append, SameCut, same_cut}
+use Rattle.action_tables.specs.LawsOfCuts.{SameCut, same_cut}
 use Rattle.history.specs.declared.entry.Entry.{Entry}
 use Rattle.history.specs.declared.text.BookFault.{BookFault}
 use Rattle.history.specs.declared.text.BookFault.TheVariants.{BadLine}
 use Rattle.history.specs.HistoryText.{Begins, BeginsWith, HasLine, IsReadAs, ended, entries_text, entry_line}
-use Rattle.history.specs.HistoryText.{first_line, history_text, version_line}
-use Rattle.reset_model.proofs.PlainLines.{letters, number}
+use Rattle.history.specs.HistoryText.{IsFirstLine, IsOtherVersion, lines_text, version_line}
+use Rattle.history.proofs.FirstLines.{first_plain, no_other, one_modulus, version_plain}
 use Rattle.history.proofs.HistoryLines.{entry_plain, one_entry}
 
 pub same_ended : (line line' xs ys : List ℕ) → HasNo 10 line → HasNo 10 line' → ended line ++ xs ≡ ended line' ++ ys
@@ -23,36 +19,27 @@ same_ended line line' xs ys plain plain' is =
     same_cut 10 line line' xs ys plain plain'
     (sym (append_assoc line (10 ∷ []) xs) ∙ is ∙ append_assoc line' (10 ∷ []) ys)
 
--- ---- versions
+-- ---- first lines
 
-pub version_plain : (v : ℕ) → v < 2 ^ 32 → HasNo 10 (version_line v)
-version_plain v small =
-    HasNo-append 10 (codes "reset-history ") (decimal v) (letters (codes "reset-history ") refl) (number v small)
+body_of : (text rest first : List ℕ) (es : List Entry) → text ≡ lines_text first es ++ rest
+    → text ≡ ended first ++ (entries_text es ++ rest)
+body_of text rest first es is = is ∙ append_assoc (ended first) (entries_text es) rest
 
-pub first_is : version_line 1 ≡ first_line
-first_is = ap (λ word. codes "reset-history " ++ word) (decimal_digit 1 (omega arith))
+begins_first : (text rest : List ℕ) (m : ℕ) (es : List Entry) (b : Begins text m es rest) → BeginsWith text b.first
+begins_first text rest m es b = (entries_text es ++ rest, body_of text rest b.first es b.spelled)
 
-body_of : (text rest : List ℕ) (es : List Entry) → text ≡ history_text es ++ rest
-    → text ≡ ended first_line ++ (entries_text es ++ rest)
-body_of text rest es is = is ∙ append_assoc (ended first_line) (entries_text es) rest
+-- a text that begins with two lines begins with one
+same_first_line : (text line line' : List ℕ) → HasNo 10 line → HasNo 10 line' → BeginsWith text line
+    → BeginsWith text line' → line ≡ line'
+same_first_line text line line' plain plain' (rest, is) (rest', is') =
+    (same_ended line line' rest rest' plain plain' (sym is ∙ is')).prefix
 
-begins_version : (text rest : List ℕ) (es : List Entry) → text ≡ history_text es ++ rest
-    → BeginsWith text (version_line 1)
-begins_version text rest es is = (
-  entries_text es
-      ++ rest,
-  subst (λ line. text ≡ ended line ++ (entries_text es ++ rest)) (sym first_is) (body_of text rest es is),
-)
-
-same_version : (text rest : List ℕ) (es : List Entry) (v : ℕ) → v < 2 ^ 32 → text ≡ history_text es ++ rest
-    → BeginsWith text (version_line v) → v ≡ 1
-same_version text rest es v small is (rest', begins) =
-    let first = begins_version text rest es is in
-    let same =
-    same_ended (version_line v) (version_line 1) rest' first.0 (version_plain v small)
-    (version_plain 1 (omega arith)) (sym begins ∙ first.1) in
-    decimal_injective v 1 (omega (arith, small)) (omega arith)
-    (append_cancel_left (codes "reset-history ") (decimal v) (decimal 1) same.prefix)
+no_other_version : (text rest : List ℕ) (m : ℕ) (es : List Entry) (v : ℕ) → Begins text m es rest → IsOtherVersion v
+    → BeginsWith text (version_line v) → ⊥
+no_other_version text rest m es v b other begins =
+    no_other m v b.first b.version other
+    (same_first_line text b.first (version_line v) (first_plain m b.first b.version) (version_plain v other.small)
+    (begins_first text rest m es b) begins)
 
 -- ---- entries
 
@@ -119,77 +106,91 @@ is_longer (a ∷ es) (b ∷ es') rest rest' entry all all' has begins stuck is =
 -- ---- readings
 
 module _ (text : List ℕ) where
-  same_bodies : (es es' : List Entry) (rest rest' : List ℕ) → Begins text es rest → Begins text es' rest'
-      → entries_text es ++ rest ≡ entries_text es' ++ rest'
-  same_bodies es es' rest rest' b b' =
-      let plain : HasNo 10 first_line = letters first_line refl in
-      (same_ended first_line first_line (entries_text es ++ rest) (entries_text es' ++ rest') plain plain
-      (sym (body_of text rest es b.spelled) ∙ body_of text rest' es' b'.spelled)).back
+  record SameBodies (m m' : ℕ) (es es' : List Entry) (rest rest' : List ℕ) : Type 0 where
+    modulus : m ≡ m'
+    bodies : entries_text es ++ rest ≡ entries_text es' ++ rest'
 
-  same : (es es' : List Entry) (rest rest' : List ℕ) → Begins text es rest → Begins text es' rest' → IsStuck rest
-      → IsStuck rest' → SameBegin es es' rest rest'
-  same es es' rest rest' b b' stuck stuck' =
+  same_bodies : (m m' : ℕ) (es es' : List Entry) (rest rest' : List ℕ) → Begins text m es rest
+      → Begins text m' es' rest' → SameBodies m m' es es' rest rest'
+  same_bodies m m' es es' rest rest' b b' =
+      let same =
+      same_ended b.first b'.first (entries_text es ++ rest) (entries_text es' ++ rest')
+      (first_plain m b.first b.version) (first_plain m' b'.first b'.version)
+      (sym (body_of text rest b.first es b.spelled) ∙ body_of text rest' b'.first es' b'.spelled) in
+      record {
+        modulus = one_modulus m m' b'.first (subst (IsFirstLine m) same.prefix b.version) b'.version;
+        bodies = same.back;
+      }
+
+  same : (m m' : ℕ) (es es' : List Entry) (rest rest' : List ℕ) → Begins text m es rest → Begins text m' es' rest'
+      → IsStuck rest → IsStuck rest' → SameBegin es es' rest rest'
+  same m m' es es' rest rest' b b' stuck stuck' =
       same_begin es es' rest rest' (recursion_from_All HasLine es b.lines) (recursion_from_All HasLine es' b'.lines)
-      stuck stuck' (same_bodies es es' rest rest' b b')
+      stuck stuck' (same_bodies m m' es es' rest rest' b b').bodies
 
   -- after a million entries there is another, or there is none
-  not_both : (es es' : List Entry) (rest rest' : List ℕ) (entry : Entry) → Begins text es rest → Begins text es' rest'
-      → length es ≡ 1000000
+  not_both : (m m' : ℕ) (es es' : List Entry) (rest rest' : List ℕ) (entry : Entry) → Begins text m es rest
+      → Begins text m' es' rest' → length es ≡ 1000000
       → HasLine entry → BeginsWith rest (entry_line entry) → IsStuck rest' → ⊥
-  not_both es es' rest rest' entry b b' full has begins stuck =
+  not_both m m' es es' rest rest' entry b b' full has begins stuck =
       omega (
         arith,
         full,
         b'.few,
         is_longer es es' rest rest' entry (recursion_from_All HasLine es b.lines)
             (recursion_from_All HasLine es' b'.lines) has begins stuck
-            (same_bodies es es' rest rest' b b'),
+            (same_bodies m m' es es' rest rest' b b').bodies,
       )
 
-  pub one_reading : (r s : Result (List Entry) BookFault) → IsReadAs text r → IsReadAs text s → r ≡ s
-  one_reading r s (IsReadAs.no_version none) (IsReadAs.no_version none') = refl
-  one_reading r s (IsReadAs.no_version none) (IsReadAs.other_version v small not begins) = absurd (none v small begins)
-  one_reading r s (IsReadAs.no_version none) (IsReadAs.history es b) =
-      absurd (none 1 (omega arith) (begins_version text [] es b.spelled))
-  one_reading r s (IsReadAs.no_version none) (IsReadAs.bad_line es rest b some stuck) =
-      absurd (none 1 (omega arith) (begins_version text rest es b.spelled))
-  one_reading r s (IsReadAs.no_version none) (IsReadAs.too_long es rest e b full has begins) =
-      absurd (none 1 (omega arith) (begins_version text rest es b.spelled))
-  one_reading r s (IsReadAs.other_version v small not begins) (IsReadAs.no_version none) = absurd (none v small begins)
-  one_reading r s (IsReadAs.other_version v small not begins) (IsReadAs.other_version w small' not' begins') = refl
-  one_reading r s (IsReadAs.other_version v small not begins) (IsReadAs.history es b) =
-      absurd (not (same_version text [] es v small b.spelled begins))
-  one_reading r s (IsReadAs.other_version v small not begins) (IsReadAs.bad_line es rest b some stuck) =
-      absurd (not (same_version text rest es v small b.spelled begins))
-  one_reading r s (IsReadAs.other_version v small not begins) (IsReadAs.too_long es rest e b full has begins') =
-      absurd (not (same_version text rest es v small b.spelled begins))
-  one_reading r s (IsReadAs.history es b) (IsReadAs.no_version none) =
-      absurd (none 1 (omega arith) (begins_version text [] es b.spelled))
-  one_reading r s (IsReadAs.history es b) (IsReadAs.other_version v small not begins) =
-      absurd (not (same_version text [] es v small b.spelled begins))
-  one_reading r s (IsReadAs.history es b) (IsReadAs.history es' b') =
-      ap Ok (same es es' [] [] b b' stuck_at_end stuck_at_end).entries
-  one_reading r s (IsReadAs.history es b) (IsReadAs.bad_line es' rest b' some stuck) =
-      absurd (some (sym (same es es' [] rest b b' stuck_at_end stuck).rests))
-  one_reading r s (IsReadAs.history es b) (IsReadAs.too_long es' rest e b' full has begins) =
-      absurd (not_both es' es rest [] e b' b full has begins stuck_at_end)
-  one_reading r s (IsReadAs.bad_line es rest b some stuck) (IsReadAs.no_version none) =
-      absurd (none 1 (omega arith) (begins_version text rest es b.spelled))
-  one_reading r s (IsReadAs.bad_line es rest b some stuck) (IsReadAs.other_version v small not begins) =
-      absurd (not (same_version text rest es v small b.spelled begins))
-  one_reading r s (IsReadAs.bad_line es rest b some stuck) (IsReadAs.history es' b') =
-      absurd (some (same es es' rest [] b b' stuck stuck_at_end).rests)
-  one_reading r s (IsReadAs.bad_line es rest b some stuck) (IsReadAs.bad_line es' rest' b' some' stuck') =
-      ap (λ (l : List Entry). Err (BadLine (length l + 2))) (same es es' rest rest' b b' stuck stuck').entries
-  one_reading r s (IsReadAs.bad_line es rest b some stuck) (IsReadAs.too_long es' rest' e b' full has begins) =
-      absurd (not_both es' es rest' rest e b' b full has begins stuck)
-  one_reading r s (IsReadAs.too_long es rest e b full has begins) (IsReadAs.no_version none) =
-      absurd (none 1 (omega arith) (begins_version text rest es b.spelled))
-  one_reading r s (IsReadAs.too_long es rest e b full has begins) (IsReadAs.other_version v small not begins') =
-      absurd (not (same_version text rest es v small b.spelled begins'))
-  one_reading r s (IsReadAs.too_long es rest e b full has begins) (IsReadAs.history es' b') =
-      absurd (not_both es es' rest [] e b b' full has begins stuck_at_end)
-  one_reading r s (IsReadAs.too_long es rest e b full has begins) (IsReadAs.bad_line es' rest' b' some stuck) =
-      absurd (not_both es es' rest rest' e b b' full has begins stuck)
-  one_reading r s (IsReadAs.too_long es rest e b full has begins)
-      (IsReadAs.too_long es' rest' e' b' full' has' begins') = refl
+  abbrev NoFirstLine : Type 0
+  NoFirstLine = (m : ℕ) (line : List ℕ) → IsFirstLine m line → BeginsWith text line → ⊥
+
+  none_begins : (m : ℕ) (es : List Entry) (rest : List ℕ) → NoFirstLine → Begins text m es rest → ⊥
+  none_begins m es rest none b = none m b.first b.version (begins_first text rest m es b)
+
+  pub one_reading : (r s : Result (ℕ × List Entry) BookFault) → IsReadAs text r → IsReadAs text s → r ≡ s
+  one_reading r s (IsReadAs.no_version none other) (IsReadAs.no_version none' other') = refl
+  one_reading r s (IsReadAs.no_version none other) (IsReadAs.other_version v is begins) = absurd (other v is begins)
+  one_reading r s (IsReadAs.no_version none other) (IsReadAs.history m es b) = absurd (none_begins m es [] none b)
+  one_reading r s (IsReadAs.no_version none other) (IsReadAs.bad_line m es rest b some stuck) =
+      absurd (none_begins m es rest none b)
+  one_reading r s (IsReadAs.no_version none other) (IsReadAs.too_long m es rest e b full has begins) =
+      absurd (none_begins m es rest none b)
+  one_reading r s (IsReadAs.other_version v is begins) (IsReadAs.no_version none other) = absurd (other v is begins)
+  one_reading r s (IsReadAs.other_version v is begins) (IsReadAs.other_version w is' begins') = refl
+  one_reading r s (IsReadAs.other_version v is begins) (IsReadAs.history m es b) =
+      absurd (no_other_version text [] m es v b is begins)
+  one_reading r s (IsReadAs.other_version v is begins) (IsReadAs.bad_line m es rest b some stuck) =
+      absurd (no_other_version text rest m es v b is begins)
+  one_reading r s (IsReadAs.other_version v is begins) (IsReadAs.too_long m es rest e b full has begins') =
+      absurd (no_other_version text rest m es v b is begins)
+  one_reading r s (IsReadAs.history m es b) (IsReadAs.no_version none other) = absurd (none_begins m es [] none b)
+  one_reading r s (IsReadAs.history m es b) (IsReadAs.other_version v is begins) =
+      absurd (no_other_version text [] m es v b is begins)
+  one_reading r s (IsReadAs.history m es b) (IsReadAs.history m' es' b') =
+      ap₂ (λ (n : ℕ) (l : List Entry). Ok (n, l)) (same_bodies m m' es es' [] [] b b').modulus
+      (same m m' es es' [] [] b b' stuck_at_end stuck_at_end).entries
+  one_reading r s (IsReadAs.history m es b) (IsReadAs.bad_line m' es' rest b' some stuck) =
+      absurd (some (sym (same m m' es es' [] rest b b' stuck_at_end stuck).rests))
+  one_reading r s (IsReadAs.history m es b) (IsReadAs.too_long m' es' rest e b' full has begins) =
+      absurd (not_both m' m es' es rest [] e b' b full has begins stuck_at_end)
+  one_reading r s (IsReadAs.bad_line m es rest b some stuck) (IsReadAs.no_version none other) =
+      absurd (none_begins m es rest none b)
+  one_reading r s (IsReadAs.bad_line m es rest b some stuck) (IsReadAs.other_version v is begins) =
+      absurd (no_other_version text rest m es v b is begins)
+  one_reading r s (IsReadAs.bad_line m es rest b some stuck) (IsReadAs.history m' es' b') =
+      absurd (some (same m m' es es' rest [] b b' stuck stuck_at_end).rests)
+  one_reading r s (IsReadAs.bad_line m es rest b some stuck) (IsReadAs.bad_line m' es' rest' b' some' stuck') =
+      ap (λ (l : List Entry). Err (BadLine (length l + 2))) (same m m' es es' rest rest' b b' stuck stuck').entries
+  one_reading r s (IsReadAs.bad_line m es rest b some stuck) (IsReadAs.too_long m' es' rest' e b' full has begins) =
+      absurd (not_both m' m es' es rest' rest e b' b full has begins stuck)
+  one_reading r s (IsReadAs.too_long m es rest e b full has begins) (IsReadAs.no_version none other) =
+      absurd (none_begins m es rest none b)
+  one_reading r s (IsReadAs.too_long m es rest e b full has begins) (IsReadAs.other_version v is begins') =
+      absurd (no_other_version text rest m es v b is begins')
+  one_reading r s (IsReadAs.too_long m es rest e b full has begins) (IsReadAs.history m' es' b') =
+      absurd (not_both m m' es es' rest [] e b b' full has begins stuck_at_end)
+  one_reading r s (IsReadAs.too_long m es rest e b full has begins) (IsReadAs.bad_line m' es' rest' b' some stuck) =
+      absurd (not_both m m' es es' rest rest' e b b' full has begins stuck)
+  one_reading r s (IsReadAs.too_long m es rest e b full has begins)
+      (IsReadAs.too_long m' es' rest' e' b' full' has' begins') = refl

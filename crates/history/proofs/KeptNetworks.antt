@@ -125,6 +125,7 @@ module _ {L : Type 0} (from_text : List ℕ → Option L) (c : Configuration L) 
     graph = graph;
     whole = network.whole;
     shaped = record {
+      modulus = shaped.modulus;
       trees = shaped.trees;
       waves = shaped.waves;
       locals = length-put_at c.graph.ids c.locals at local shaped.locals;
@@ -137,6 +138,7 @@ module _ {L : Type 0} (from_text : List ℕ → Option L) (c : Configuration L) 
     graph = are;
     whole = whole;
     shaped = record {
+      modulus = shaped.modulus;
       trees = shaped.trees ∙ ap length (sym same);
       waves = shaped.waves ∙ ap length (sym same);
       locals = shaped.locals ∙ ap length (sym same);
@@ -151,6 +153,7 @@ module _ {L : Type 0} (from_text : List ℕ → Option L) (c : Configuration L) 
     graph = graph;
     whole = network.whole;
     shaped = record {
+      modulus = shaped.modulus;
       trees = length-put_at c.graph.ids c.trees at regs shaped.trees;
       waves = shaped.waves;
       locals = shaped.locals;
@@ -160,6 +163,7 @@ module _ {L : Type 0} (from_text : List ℕ → Option L) (c : Configuration L) 
     graph = graph;
     whole = network.whole;
     shaped = record {
+      modulus = shaped.modulus;
       trees = shaped.trees;
       waves = length-put_at c.graph.ids c.waves at regs shaped.waves;
       locals = shaped.locals;

@@ -6,6 +6,7 @@ mod SegmentTexts
 mod Plays
 mod Books
 pub mod HistoryLines
+mod FirstLines
 mod HistoryReadings
 mod LineCuts
 pub mod ReadLines

@@ -1,5 +1,5 @@
 -- What a history's text is read as, line by line.
-use Rattle.std.proofs.Common.{◌≡◌, ◌≢◌, ℕ, ◌+◌, ◌<◌, ◌≤◌, ◌^◌, Bool, true, false, true≢false, if◌then◌else◌, List, []}
+use Rattle.std.proofs.Common.{◌≡◌, ◌≢◌, ℕ, ◌+◌, ◌<◌, ◌≤◌, ◌^◌, List, []}
 use Rattle.std.proofs.Common.{◌∷◌, ◌++◌, Option, None, Some, IfErr, IfOk, OnOk, Result, Ok, Err, length, refl}
 use Rattle.std.proofs.Common.{sym, ap, subst, ◌∙◌, arith, Vec, Global, append_assoc, append-nil}
 use Rattle.std.specs.Prelude.{codes}
@@ -19,13 +19,16 @@ use Rattle.history.specs.declared.entry.Entry.{Entry}
 use Rattle.history.specs.declared.entry.Entry.TheVariants.{Step, Disturbed}
 use Rattle.history.specs.declared.lines.Lines.{Lines}
 use Rattle.history.specs.declared.lines.Reading.{Reading}
+use Rattle.history.specs.declared.read.BookText.{BookText}
 use Rattle.history.specs.declared.text.BookFault.{BookFault}
 use Rattle.history.specs.declared.text.BookFault.TheVariants.{BadLine, BadVersion, TooLong, NoMemory, ReadFailed}
 use Rattle.history.specs.HistoryText.{Begins, BeginsWith, HasLine, IsPrintable, IsReadAs, IsReadWhole, ended}
-use Rattle.history.specs.HistoryText.{entries_text, entry_line, first_line, history_text, version_line}
-use Rattle.history.specs.Reading.{GoesOn, HasRead, IsBadVersion, IsFaulty, IsSoFar}
+use Rattle.history.specs.HistoryText.{IsFirstLine, IsOtherVersion, entries_text, entry_line, lines_text}
+use Rattle.history.specs.HistoryText.{version_1, version_2, version_line}
+use Rattle.history.specs.Reading.{GoesOn, HasRead, IsBadVersion, IsFaulty, IsSoFar, next_line}
 use Rattle.history.proofs.HistoryLines.{entry_plain}
-use Rattle.history.proofs.HistoryReadings.{IsStuck, same_ended, version_plain}
+use Rattle.history.proofs.FirstLines.{first_plain, version_plain}
+use Rattle.history.proofs.HistoryReadings.{IsStuck, same_ended}
 
 -- ---- a line's end
 
@@ -59,30 +62,31 @@ begins_same line line' more plain plain' (rest, is) = (same_ended line line' mor
 
 -- ---- what goes on
 
-pub goes_on : (begun : Bool) (es : List Entry) (line bytes text : List ℕ) → IsSoFar begun es line text
-    → IsSoFar begun es (line ++ bytes) (text ++ bytes)
-goes_on true es line bytes text b = record {
+pub goes_on : (now : Option ℕ) (es : List Entry) (line bytes text : List ℕ) → IsSoFar now es line text
+    → IsSoFar now es (line ++ bytes) (text ++ bytes)
+goes_on (Some m) es line bytes text b = record {
+  first = b.first;
+  version = b.version;
   lines = b.lines;
   few = b.few;
-  spelled = ap (λ t. t ++ bytes) b.spelled ∙ append_assoc (history_text es) line bytes;
+  spelled = ap (λ t. t ++ bytes) b.spelled ∙ append_assoc (lines_text b.first es) line bytes;
 }
-goes_on false es line bytes text is = (is.0, ap (λ t. t ++ bytes) is.1)
-
--- the number of the next line
-abbrev pub next_line : Bool → ℕ → ℕ
-next_line begun count = if begun then count + 2 else 1
+goes_on None es line bytes text is = (is.0, ap (λ t. t ++ bytes) is.1)
 
 is_some : (xs ys : List ℕ) → 0 < length xs → xs ++ ys ≢ []
 is_some xs ys some is = omega (arith, some, length-append xs ys, ap length is)
 
 -- a text can't go on so, where what comes after its whole lines begins with no line
-bad_next : (begun : Bool) (es : List Entry) (line text : List ℕ) → IsSoFar begun es line text → 0 < length line
-    → IsStuck line → ((v : ℕ) → v < 2 ^ 32 → BeginsWith line (version_line v) → ⊥)
-    → IsReadAs text (Err (BadLine (next_line begun (length es))))
-bad_next true es line text b some stuck none =
-    IsReadAs.bad_line es line b (λ is. omega (arith, some, ap length is)) stuck
-bad_next false es line text is some stuck none =
-    IsReadAs.no_version (λ v small begins. none v small (subst (λ t. BeginsWith t (version_line v)) is.1 begins))
+bad_next : (now : Option ℕ) (es : List Entry) (line text : List ℕ) → IsSoFar now es line text → 0 < length line
+    → IsStuck line → ((m : ℕ) (first : List ℕ) → IsFirstLine m first → BeginsWith line first → ⊥)
+    → ((v : ℕ) → IsOtherVersion v → BeginsWith line (version_line v) → ⊥)
+    → IsReadAs text (Err (BadLine (next_line now (length es))))
+bad_next (Some m) es line text b some stuck none other =
+    IsReadAs.bad_line m es line b (λ is. omega (arith, some, ap length is)) stuck
+bad_next None es line text is some stuck none other =
+    IsReadAs.no_version
+    (λ m first version begins. none m first version (subst (λ t. BeginsWith t first) is.1 begins))
+    (λ v is_other begins. other v is_other (subst (λ t. BeginsWith t (version_line v)) is.1 begins))
 
 -- the line goes on
 pub has_more : (r : Reading) (new : Vec ℕ Global) (before : List Entry) (bytes text : List ℕ) → HasRead r before text
@@ -93,8 +97,8 @@ has_more r new before bytes text read plain is short = record {
     counted = read.lines.counted;
     so_far =
         let es = before ++ r.lines.entries.items in
-        subst (λ line. IsSoFar r.lines.begun es line (text ++ bytes)) (sym is)
-        (goes_on r.lines.begun es r.line.items bytes text read.lines.so_far);
+        subst (λ line. IsSoFar r.lines.modulus es line (text ++ bytes)) (sym is)
+        (goes_on r.lines.modulus es r.line.items bytes text read.lines.so_far);
   };
   plain = subst (HasNo 10) (sym is) (HasNo-append 10 r.line.items bytes read.plain plain);
   short = omega (arith, ap length is, length-append r.line.items bytes, short);
@@ -108,16 +112,22 @@ pub record WholeLines (lines : Lines) (before : List Entry) (line text : List �
 
 pub whole_lines : (lines : Lines) (before : List Entry) (line text : List ℕ) → GoesOn lines before line text
     → WholeLines lines before line text
-whole_lines lines before line text on = of lines.begun (before ++ lines.entries.items) on.so_far (λ whole so_far cut.
+whole_lines lines before line text on = of lines.modulus (before ++ lines.entries.items) on.so_far (λ whole so_far cut.
     record { whole = whole; on = record { counted = on.counted; so_far = so_far }; cut = cut })
   where
-    of : (begun : Bool) (es : List Entry) → IsSoFar begun es line text
-        → ((whole : List ℕ) → IsSoFar begun es [] whole → text ≡ whole ++ line → WholeLines lines before line text)
+    of : (now : Option ℕ) (es : List Entry) → IsSoFar now es line text
+        → ((whole : List ℕ) → IsSoFar now es [] whole → text ≡ whole ++ line → WholeLines lines before line text)
         → WholeLines lines before line text
-    of true es b k =
-        k (history_text es)
-        (record { lines = b.lines; few = b.few; spelled = sym (append-nil (history_text es)) }) b.spelled
-    of false es b k = k [] (b.0, refl) b.1
+    of (Some m) es b k =
+        k (lines_text b.first es)
+        (record {
+          first = b.first;
+          version = b.version;
+          lines = b.lines;
+          few = b.few;
+          spelled = sym (append-nil (lines_text b.first es));
+        }) b.spelled
+    of None es b k = k [] (b.0, refl) b.1
 
 -- the line ends
 pub ended_at : (whole line text bytes : List ℕ) → text ++ bytes ≡ whole ++ line
@@ -153,19 +163,20 @@ faulty_more text done rest line after bytes fault cut found faulty more =
     (faulty (after ++ more))
 
 -- a line of over 256 bytes
-pub bad_long : (begun : Bool) (es : List Entry) (line bytes text : List ℕ) → IsSoFar begun es line text → HasNo 10 line
+pub bad_long : (now : Option ℕ) (es : List Entry) (line bytes text : List ℕ) → IsSoFar now es line text → HasNo 10 line
     → HasNo 10 bytes
-    → 256 < length bytes + length line → IsFaulty (text ++ bytes) (BadLine (next_line begun (length es)))
-bad_long begun es line bytes text so plain plain' long more =
+    → 256 < length bytes + length line → IsFaulty (text ++ bytes) (BadLine (next_line now (length es)))
+bad_long now es line bytes text so plain plain' long more =
     let all : HasNo 10 (line ++ bytes) = HasNo-append 10 line bytes plain plain' in
     let size = length-append line bytes in
     let late : (other : List ℕ) → length other ≤ 256 → BeginsWith ((line ++ bytes) ++ more) other → ⊥ =
     λ other short begins. begins_late other (line ++ bytes) more all (omega (arith, size, long, short)) begins in
-    bad_next begun es ((line ++ bytes) ++ more) ((text ++ bytes) ++ more)
-    (goes_on begun es (line ++ bytes) more (text ++ bytes) (goes_on begun es line bytes text so))
+    bad_next now es ((line ++ bytes) ++ more) ((text ++ bytes) ++ more)
+    (goes_on now es (line ++ bytes) more (text ++ bytes) (goes_on now es line bytes text so))
     (omega (arith, size, long, length-append (line ++ bytes) more))
     (λ entry has begins. late (entry_line entry) has.short begins)
-    (λ v small begins. late (version_line v) (short_version v small) begins)
+    (λ m first version begins. late first (short_first m first version) begins)
+    (λ v other begins. late (version_line v) (short_version v other.small) begins)
   where
     short_version : (v : ℕ) → v < 2 ^ 32 → length (version_line v) ≤ 256
     short_version v small =
@@ -176,68 +187,89 @@ bad_long begun es line bytes text so plain plain' long more =
               (omega (arith, small)) (omega (arith, small)),
         )
 
+    short_first : (m : ℕ) (first : List ℕ) → IsFirstLine m first → length first ≤ 256
+    short_first m first (version_1 wide is) = omega (arith, ap length is)
+    short_first m first (version_2 counted is) =
+        omega (
+          arith,
+          ap length is,
+          length-append (codes "reset-history 2 ") (decimal m),
+          length-decimal-le 10 m (omega arith)
+              (omega (arith, counted.wide)) (omega (arith, counted.wide)),
+        )
+
 -- a text that ends in a line without its line feed, or before its first
-pub bad_end : (begun : Bool) (es : List Entry) (line text : List ℕ) → IsSoFar begun es line text → HasNo 10 line
-    → (begun ≡ true → line ≢ [])
-    → IsReadAs text (Err (BadLine (next_line begun (length es))))
-bad_end true es line text b plain some =
-    IsReadAs.bad_line es line b (some refl) (λ entry has begins. no_whole line (entry_line entry) plain begins)
-bad_end false es line text is plain some =
+pub bad_end : (now : Option ℕ) (es : List Entry) (line text : List ℕ) → IsSoFar now es line text → HasNo 10 line
+    → (now ≢ None → line ≢ [])
+    → IsReadAs text (Err (BadLine (next_line now (length es))))
+bad_end (Some m) es line text b plain some =
+    IsReadAs.bad_line m es line b (some (λ is. some-none m is))
+    (λ entry has begins. no_whole line (entry_line entry) plain begins)
+  where
+    some-none : (m : ℕ) → Some m ≢ None
+    some-none m is = cc
+bad_end None es line text is plain some =
     IsReadAs.no_version
-    (λ v small begins. no_whole line (version_line v) plain
+    (λ m first version begins. no_whole line first plain (subst (λ t. BeginsWith t first) is.1 begins))
+    (λ v other begins. no_whole line (version_line v) plain
     (subst (λ t. BeginsWith t (version_line v)) is.1 begins))
 
 -- a text that ends after whole lines
-pub good_end : (begun : Bool) (es : List Entry) (line text : List ℕ) → begun ≡ true → IsSoFar begun es line text
-    → length line ≡ 0 → IsReadAs text (Ok es)
-good_end false es line text is so none = absurd (true≢false (sym is))
-good_end true es [] text is so none = IsReadAs.history es so
-good_end true es (b ∷ line) text is so none = absurd (omega (arith, none))
+pub good_end : (m : ℕ) (es : List Entry) (line text : List ℕ) → IsSoFar (Some m) es line text → length line ≡ 0
+    → IsReadAs text (Ok (m, es))
+good_end m es [] text so none = IsReadAs.history m es so
+good_end m es (b ∷ line) text so none = absurd (omega (arith, none))
 
 -- ---- whole lines
 
 -- a first line
-pub begun_by : (begun : Bool) (es : List Entry) (line text : List ℕ) → begun ≡ false → IsSoFar begun es [] text
-    → line ≡ first_line
-    → IsSoFar true es [] (text ++ ended line)
-begun_by true es line text is so same = absurd (true≢false is)
-begun_by false es line text is so same = record {
+pub begun_by : (m : ℕ) (es : List Entry) (line text : List ℕ) → IsSoFar None es [] text → IsFirstLine m line
+    → IsSoFar (Some m) es [] (text ++ ended line)
+begun_by m es line text so version = record {
+  first = line;
+  version = version;
   lines = λ k d few. absurd (omega (arith, few, ap length so.0));
   few = omega (arith, ap length so.0);
   spelled =
-      ap (λ t. t ++ ended line) so.1 ∙ ap ended same
-      ∙ sym (ap (λ es'. (ended first_line ++ entries_text es') ++ []) so.0);
+      ap (λ t. t ++ ended line) so.1 ∙ sym (append-nil (ended line)) ∙ ap (λ t. t ++ []) (sym (append-nil (ended line)))
+      ∙ sym (ap (λ es'. (ended line ++ entries_text es') ++ []) so.0);
 }
 
-pub bad_version : (begun : Bool) (es : List Entry) (line text : List ℕ) (fault : BookFault) → begun ≡ false
-    → IsSoFar begun es [] text → HasNo 10 line
+pub bad_version : (es : List Entry) (line text : List ℕ) (fault : BookFault) → IsSoFar None es [] text → HasNo 10 line
     → IsBadVersion line fault → IsFaulty (text ++ ended line) fault
-bad_version true es line text fault is so plain bad = absurd (true≢false is)
-bad_version false es line text (BadLine n) is so plain bad = λ more.
+bad_version es line text (BadLine n) so plain bad = λ more.
+    let first : (other : List ℕ) → HasNo 10 other → BeginsWith ((text ++ ended line) ++ more) other → line ≡ other =
+    λ other plain' begins. begins_same line other more plain plain'
+    (subst (λ t. BeginsWith ((t ++ ended line) ++ more) other) so.1 begins) in
     subst (λ k. IsReadAs ((text ++ ended line) ++ more) (Err (BadLine k))) (sym bad.0)
-    (IsReadAs.no_version (λ v small begins. bad.1 v small
-    (begins_same line (version_line v) more plain (version_plain v small)
-    (subst (λ t. BeginsWith ((t ++ ended line) ++ more) (version_line v)) so.1 begins))))
-bad_version false es line text BadVersion is so plain bad = λ more.
-    let (v, small, other, spelled) = bad in
-    IsReadAs.other_version v small other
+    (IsReadAs.no_version
+    (λ m other version begins. bad.1 m
+    (subst (IsFirstLine m) (sym (first other (first_plain m other version) begins)) version))
+    (λ v other begins. bad.2 v other (first (version_line v) (version_plain v other.small) begins)))
+bad_version es line text BadVersion so plain bad = λ more.
+    let (v, other, spelled) = bad in
+    IsReadAs.other_version v other
     (more, ap (λ t. (t ++ ended line) ++ more) so.1 ∙ ap (λ l. ended l ++ more) spelled)
-bad_version false es line text TooLong is so plain bad = absurd bad
-bad_version false es line text NoMemory is so plain bad = absurd bad
-bad_version false es line text ReadFailed is so plain bad = absurd bad
+bad_version es line text TooLong so plain bad = absurd bad
+bad_version es line text NoMemory so plain bad = absurd bad
+bad_version es line text ReadFailed so plain bad = absurd bad
 
 -- an entry's line
-pub one_more : (begun : Bool) (es : List Entry) (entry : Entry) (line text : List ℕ) → begun ≡ true
-    → IsSoFar begun es [] text → length es ≢ 1000000
-    → HasLine entry → line ≡ entry_line entry → IsSoFar begun (es ++ entry ∷ []) [] (text ++ ended line)
-one_more false es entry line text is b some has same = absurd (true≢false (sym is))
-one_more true es entry line text is b some has same = record {
+pub one_more : (now : Option ℕ) (es : List Entry) (entry : Entry) (line text : List ℕ) → now ≢ None
+    → IsSoFar now es [] text → length es ≢ 1000000
+    → HasLine entry → line ≡ entry_line entry → IsSoFar now (es ++ entry ∷ []) [] (text ++ ended line)
+one_more None es entry line text is b some has same = absurd (is refl)
+one_more (Some m) es entry line text is b some has same = record {
+  first = b.first;
+  version = b.version;
   lines = All-push HasLine es entry b.lines has;
   few = omega (arith, length-append es (entry ∷ []), b.few, some);
   spelled =
-      ap (λ t. t ++ ended line) (b.spelled ∙ append-nil (history_text es)) ∙ ap (λ l. history_text es ++ ended l) same
-      ∙ append_assoc (ended first_line) (entries_text es) (ended (entry_line entry))
-      ∙ ap (λ t. ended first_line ++ t) (sym (texts es entry)) ∙ sym (append-nil (history_text (es ++ entry ∷ [])));
+      ap (λ t. t ++ ended line) (b.spelled ∙ append-nil (lines_text b.first es))
+      ∙ ap (λ l. lines_text b.first es ++ ended l) same
+      ∙ append_assoc (ended b.first) (entries_text es) (ended (entry_line entry))
+      ∙ ap (λ t. ended b.first ++ t) (sym (texts es entry))
+      ∙ sym (append-nil (lines_text b.first (es ++ entry ∷ [])));
 }
   where
     texts : (es : List Entry) (entry : Entry)
@@ -248,41 +280,41 @@ one_more true es entry line text is b some has same = record {
         ∙ sym (append_assoc (ended (entry_line e)) (entries_text es) (ended (entry_line entry)))
 
 -- the entry is kept and counted
-pub one_kept : (begun : Bool) (count : ℕ) (before es new : List Entry) (entry : Entry) (line text : List ℕ)
-    → begun ≡ true → count ≡ length (before ++ es) → IsSoFar begun (before ++ es) [] text → count ≢ 1000000
+pub one_kept : (now : Option ℕ) (count : ℕ) (before es new : List Entry) (entry : Entry) (line text : List ℕ)
+    → now ≢ None → count ≡ length (before ++ es) → IsSoFar now (before ++ es) [] text → count ≢ 1000000
     → HasLine entry → line ≡ entry_line entry → new ≡ es ++ entry ∷ []
-    → (count + 1 ≡ length (before ++ new)) × IsSoFar begun (before ++ new) [] (text ++ ended line)
-one_kept begun count before es new entry line text is counted so_far some has same kept =
+    → (count + 1 ≡ length (before ++ new)) × IsSoFar now (before ++ new) [] (text ++ ended line)
+one_kept now count before es new entry line text is counted so_far some has same kept =
     let more : before ++ new ≡ (before ++ es) ++ entry ∷ [] =
     ap (λ l. before ++ l) kept ∙ sym (append_assoc before es (entry ∷ [])) in (
       omega (arith, counted, ap length more, length-append (before ++ es) (entry ∷ [])),
-      subst (λ l. IsSoFar begun l [] (text ++ ended line)) (sym more)
-          (one_more begun (before ++ es) entry line text is so_far (λ full. some (counted ∙ full)) has same),
+      subst (λ l. IsSoFar now l [] (text ++ ended line)) (sym more)
+          (one_more now (before ++ es) entry line text is so_far (λ full. some (counted ∙ full)) has same),
     )
 
 -- the text goes on with a whole line
-with_line : (es : List Entry) (line text more : List ℕ) → Begins text es []
-    → Begins ((text ++ ended line) ++ more) es (ended line ++ more)
-with_line es line text more b =
-    goes_on true es (ended line) more (text ++ ended line) (goes_on true es [] (ended line) text b)
+with_line : (m : ℕ) (es : List Entry) (line text more : List ℕ) → Begins text m es []
+    → Begins ((text ++ ended line) ++ more) m es (ended line ++ more)
+with_line m es line text more b =
+    goes_on (Some m) es (ended line) more (text ++ ended line) (goes_on (Some m) es [] (ended line) text b)
 
-pub no_entry : (begun : Bool) (es : List Entry) (line text : List ℕ) → begun ≡ true → IsSoFar begun es [] text
+pub no_entry : (now : Option ℕ) (es : List Entry) (line text : List ℕ) → now ≢ None → IsSoFar now es [] text
     → HasNo 10 line
     → ((entry : Entry) → HasLine entry → line ≡ entry_line entry → ⊥)
-    → IsFaulty (text ++ ended line) (BadLine (next_line begun (length es)))
-no_entry false es line text is b plain none = absurd (true≢false (sym is))
-no_entry true es line text is b plain none = λ more.
-    IsReadAs.bad_line es (ended line ++ more) (with_line es line text more b)
+    → IsFaulty (text ++ ended line) (BadLine (next_line now (length es)))
+no_entry None es line text is b plain none = absurd (is refl)
+no_entry (Some m) es line text is b plain none = λ more.
+    IsReadAs.bad_line m es (ended line ++ more) (with_line m es line text more b)
     (is_some (ended line) more (omega (arith, length-append line (10 ∷ []))))
     (λ entry has begins. none entry has
     (begins_same line (entry_line entry) more plain (entry_plain entry has.fits) begins))
 
-pub too_many : (begun : Bool) (es : List Entry) (entry : Entry) (line text : List ℕ) → begun ≡ true
-    → IsSoFar begun es [] text → length es ≡ 1000000
+pub too_many : (now : Option ℕ) (es : List Entry) (entry : Entry) (line text : List ℕ) → now ≢ None
+    → IsSoFar now es [] text → length es ≡ 1000000
     → HasLine entry → line ≡ entry_line entry → IsFaulty (text ++ ended line) TooLong
-too_many false es entry line text is b full has same = absurd (true≢false (sym is))
-too_many true es entry line text is b full has same = λ more.
-    IsReadAs.too_long es (ended line ++ more) entry (with_line es line text more b) full has
+too_many None es entry line text is b full has same = absurd (is refl)
+too_many (Some m) es entry line text is b full has same = λ more.
+    IsReadAs.too_long m es (ended line ++ more) entry (with_line m es line text more b) full has
     (more, ap (λ l. ended l ++ more) same)
 
 -- ---- lines of no entry
@@ -339,20 +371,21 @@ some_whole None = ([], tt)
 some_whole (Some x) = (x, refl)
 
 -- all entries of what was given are kept
-pub kept_ok : (a b : Option (List ℕ)) (given : List ℕ) (reading : Reading) (r : Result (Vec Entry Global) BookFault)
+pub kept_ok : (a b : Option (List ℕ)) (given : List ℕ) (reading : Reading) (r : Result BookText BookFault)
     → Consumes a b given → IsAtEnd b → HasRead reading [] given
-    → IfOk r (λ entries. (text : List ℕ) → HasRead reading [] text → IsReadAs text (Ok entries.items))
-    → IfOk r (λ entries. (text : List ℕ) × IsReadWhole a text × IsReadAs text (Ok entries.items))
-kept_ok a b given reading (Ok entries) consumed end read kept =
+    → IfOk r (λ book. (text : List ℕ) → HasRead reading [] text
+    → IsReadAs text (Ok (book.modulus, book.entries.items)))
+    → IfOk r (λ book. (text : List ℕ) × IsReadWhole a text × IsReadAs text (Ok (book.modulus, book.entries.items)))
+kept_ok a b given reading (Ok book) consumed end read kept =
     (given, all_given a b given consumed end, kept given read)
 kept_ok a b given reading (Err fault) consumed end read kept = tt
 
-pub kept_err : (a b : Option (List ℕ)) (given : List ℕ) (reading : Reading) (r : Result (Vec Entry Global) BookFault)
+pub kept_err : (a b : Option (List ℕ)) (given : List ℕ) (reading : Reading) (r : Result BookText BookFault)
     → Consumes a b given → IsAtEnd b → HasRead reading [] given
     → IfErr r (λ fault. (text : List ℕ) → HasRead reading [] text → IsReadAs text (Err fault))
     → IfErr r (λ fault. fault ≢ NoMemory → fault ≢ ReadFailed
     → (text : List ℕ) × IsReadWhole a text × IsReadAs text (Err fault))
-kept_err a b given reading (Ok entries) consumed end read kept = tt
+kept_err a b given reading (Ok book) consumed end read kept = tt
 kept_err a b given reading (Err fault) consumed end read kept =
     λ memory device. (given, all_given a b given consumed end, kept given read)
 

@@ -1,6 +1,7 @@
 -- A book: a configuration with the entries that led to it from its opening, and what it makes of events and faults.
 use Rattle.std.specs.Prelude.{◌≡◌, ℕ, ◌+◌, ◌≤◌, ◌≢◌, ⊤, ◌-◌, ◌==◌, Bool, nat_le, slice_get, if◌then◌else◌, List, []}
 use Rattle.std.specs.Prelude.{◌∷◌, ◌++◌, All, length, Option, Some, None, Result, Ok, Err}
+use Rattle.action_tables.specs.Modulus.{IsModulus}
 use Rattle.app_interface.specs.Application.{App}
 use Rattle.reset_model.specs.declared.event.Event.{Event}
 use Rattle.reset_model.specs.Configuration.{Configuration}
@@ -33,12 +34,14 @@ pub record BookView (L : Type 0) : Type 0 where
   pub config : Configuration L
   pub limit : ℕ
 
--- the configuration is what the entries leave, which are within the limit, and which a history may have
+-- the configuration is what the entries leave, which are within the limit, and which a history may have; and its
+-- modulus is one
 pub record IsBook {L : Type 0} (app : App L) (from_text : List ℕ → Option L) (b : BookView L) : Type 0 where
   pub replay : replayed app from_text b.opening b.entries ≡ Some b.config
   pub room : length b.entries ≤ b.limit
   pub small : b.limit ≤ 1000000
   pub lines : All HasLine b.entries
+  pub modulus : IsModulus b.config.modulus
 
 -- what a player, a log and a limit are that keep a book: the player's is what the entries of the log leave from its
 -- opening, which are within the limit, and which a history may have

@@ -4,6 +4,7 @@ use Rattle.std.specs.Prelude.{Ok, Err, Option, IfSome}
 use Rattle.std.specs.Char.{is_ascii_graphic}
 use Rattle.std.specs.Fmt.{decimal}
 use Rattle.std.specs.List.{flat_map, list_all}
+use Rattle.action_tables.specs.Modulus.{IsModulus}
 use Rattle.reset_model.specs.EventText as event
 use Rattle.fault_inject.specs.FaultText as fault
 use Rattle.fault_inject.specs.declared.fault.Fault.{Fault}
@@ -37,46 +38,66 @@ pub record HasLine (entry : Entry) : Type 0 where
   pub fits : Fits entry
   pub short : length (entry_line entry) ≤ 256
 
--- the first line of a history, which has version 1
-abbrev pub first_line : List ℕ
-first_line = codes "reset-history 1"
+-- the first line of a history that is written, which has version 2, with sessions modulo m
+abbrev pub first_line : ℕ → List ℕ
+first_line m = codes "reset-history 2 " ++ decimal m
 
--- that of a version
+-- what the first line of a history with sessions modulo m may be. That of version 1 names no modulus: its sessions
+-- are those of 32 bits
+pub data IsFirstLine (m : ℕ) (line : List ℕ) : Type 0 where
+  version_1 : m ≡ 4294967296 → line ≡ codes "reset-history 1" → IsFirstLine m line
+  version_2 : IsModulus m → line ≡ first_line m → IsFirstLine m line
+
+-- the first line that names a version alone
 abbrev pub version_line : ℕ → List ℕ
 version_line version = codes "reset-history " ++ decimal version
+
+-- a version that isn't read
+pub record IsOtherVersion (version : ℕ) : Type 0 where
+  pub small : version < 2 ^ 32
+  pub not_1 : version ≢ 1
+  pub not_2 : version ≢ 2
 
 -- the lines of entries, each with its line feed
 abbrev pub entries_text : List Entry → List ℕ
 entries_text es = flat_map (λ entry. ended (entry_line entry)) es
 
--- the text of a history
-abbrev pub history_text : List Entry → List ℕ
-history_text es = ended first_line ++ entries_text es
+-- a first line and the lines of entries
+abbrev pub lines_text : List ℕ → List Entry → List ℕ
+lines_text first es = ended first ++ entries_text es
+
+-- the text of a history that is written
+abbrev pub history_text : ℕ → List Entry → List ℕ
+history_text m es = lines_text (first_line m) es
 
 -- a text begins with this line and its line feed
 abbrev pub BeginsWith : List ℕ → List ℕ → Type 0
 BeginsWith text line = (rest : List ℕ) × (text ≡ ended line ++ rest)
 
--- a text begins with the lines of these entries, which a history may have, and this is the rest of it
-pub record Begins (text : List ℕ) (es : List Entry) (rest : List ℕ) : Type 0 where
+-- a text begins with the first line of a history with sessions modulo m and the lines of these entries, which a
+-- history may have, and this is the rest of it
+pub record Begins (text : List ℕ) (m : ℕ) (es : List Entry) (rest : List ℕ) : Type 0 where
+  pub first : List ℕ
+  pub version : IsFirstLine m first
   pub lines : All HasLine es
   pub few : length es ≤ 1000000
-  pub spelled : text ≡ history_text es ++ rest
+  pub spelled : text ≡ lines_text first es ++ rest
 
 -- the text is all that a reader had, where it tells its bytes
 abbrev pub IsReadWhole : Option (List ℕ) → List ℕ → Type 0
 IsReadWhole known text = IfSome known (λ bytes. text ≡ bytes)
 
--- what a text is read as: the entries of the history that it is, or the first of its lines that a history can't have
--- there
-pub data IsReadAs (text : List ℕ) : Result (List Entry) BookFault → Type 0 where
-  history : (es : List Entry) → Begins text es [] → IsReadAs text (Ok es)
-  no_version : ((version : ℕ) → version < 2 ^ 32 → BeginsWith text (version_line version) → ⊥)
+-- what a text is read as: the modulus and the entries of the history that it is, or the first of its lines that a
+-- history can't have there
+pub data IsReadAs (text : List ℕ) : Result (ℕ × List Entry) BookFault → Type 0 where
+  history : (m : ℕ) (es : List Entry) → Begins text m es [] → IsReadAs text (Ok (m, es))
+  no_version : ((m : ℕ) (line : List ℕ) → IsFirstLine m line → BeginsWith text line → ⊥)
+      → ((version : ℕ) → IsOtherVersion version → BeginsWith text (version_line version) → ⊥)
       → IsReadAs text (Err (BadLine 1))
-  other_version : (version : ℕ) → version < 2 ^ 32 → version ≢ 1 → BeginsWith text (version_line version)
+  other_version : (version : ℕ) → IsOtherVersion version → BeginsWith text (version_line version)
       → IsReadAs text (Err BadVersion)
-  bad_line : (es : List Entry) (rest : List ℕ) → Begins text es rest → rest ≢ []
+  bad_line : (m : ℕ) (es : List Entry) (rest : List ℕ) → Begins text m es rest → rest ≢ []
       → ((entry : Entry) → HasLine entry → BeginsWith rest (entry_line entry) → ⊥)
       → IsReadAs text (Err (BadLine (length es + 2)))
-  too_long : (es : List Entry) (rest : List ℕ) (entry : Entry) → Begins text es rest → length es ≡ 1000000
-      → HasLine entry → BeginsWith rest (entry_line entry) → IsReadAs text (Err TooLong)
+  too_long : (m : ℕ) (es : List Entry) (rest : List ℕ) (entry : Entry) → Begins text m es rest
+      → length es ≡ 1000000 → HasLine entry → BeginsWith rest (entry_line entry) → IsReadAs text (Err TooLong)

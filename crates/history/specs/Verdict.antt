@@ -1,5 +1,5 @@
 -- What a history's text comes to: what its entries tell, or why it is none.
-use Rattle.std.specs.Prelude.{◌≡◌, ℕ, ⊤, List, length, IsSome, Option, Some, None, Result, Ok, Err}
+use Rattle.std.specs.Prelude.{◌≡◌, ◌≢◌, ℕ, ⊤, List, length, IsSome, Option, Some, None, Result, Ok, Err}
 use Rattle.app_interface.specs.Application.{App}
 use Rattle.reset_model.specs.Configuration.{Configuration}
 use Rattle.history.specs.declared.entry.Entry.{Entry}
@@ -22,14 +22,17 @@ pub record IsSummary {L : Type 0} (app : App L) (from_text : List ℕ → Option
   pub reports : s.reports.items ≡ reports_of app from_text c es
 
 -- what is answered of the text of a history that opens so: the summary of its entries; why the text is none,
--- before any entry is judged; or which entry is the first that isn't allowed where it stands. Want of memory, or
--- a reader that failed, may stand in place of any answer
+-- before anything of it is judged; then the modulus that it names, where that isn't the opening's; or which entry is
+-- the first that isn't allowed where it stands. Want of memory, or a reader that failed, may stand in place of any
+-- answer
 abbrev pub IsVerdict : {L : Type 0} → App L → (List ℕ → Option L) → Configuration L → List ℕ
     → Result Summary ReaderFault → Type 0
 IsVerdict app from_text c text (Ok s) =
-    (es : List Entry) × IsReadAs text (Ok es) × IsSummary app from_text c es s
+    (es : List Entry) × IsReadAs text (Ok (c.modulus, es)) × IsSummary app from_text c es s
+IsVerdict app from_text c text (Err (reader.OtherModulus m)) =
+    (es : List Entry) × IsReadAs text (Ok (m, es)) × (m ≢ c.modulus)
 IsVerdict app from_text c text (Err (reader.Entries (NotEnabledAt position))) =
-    (es : List Entry) × IsReadAs text (Ok es) × IsFirstRefused app from_text c es position
+    (es : List Entry) × IsReadAs text (Ok (c.modulus, es)) × IsFirstRefused app from_text c es position
 IsVerdict app from_text c text (Err (reader.Entries verify.NoMemory)) = ⊤
 IsVerdict app from_text c text (Err (reader.Text book.NoMemory)) = ⊤
 IsVerdict app from_text c text (Err (reader.Text book.ReadFailed)) = ⊤

@@ -216,11 +216,11 @@ impl<P: Application> Book<P> {
     }
 
     /// Its configuration is what its entries leave from its opening, which are within its limit, and which a
-    /// history may have.
+    /// history may have; and its modulus is one.
     pub fn lemma_is_book(&self)
         ensures { IsBook P.app P.from_text self.now }
     {
-        let _ = &self.player;
+        self.player.config.lemma_is_graph();
     }
 
     /// How many entries it has.

@@ -21,7 +21,7 @@ mod verifier;
 pub use book::{Book, MAX_ENTRIES};
 pub use entry::{Entry, Receipt, Report, Summary, VerifyFault};
 pub use lines::MAX_LINE;
-pub use read::{is_graphic, is_printable, read_book};
+pub use read::{BookText, is_graphic, is_printable, read_book};
 pub use refusal::{ApplyRefusal, AtFault, BookRefusal, DisturbRefusal};
 pub use replay::play;
 pub use stretches::{

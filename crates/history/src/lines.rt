@@ -1,6 +1,6 @@
 // The lines of a history, as they come.
 
-ghost use Rattle.std.specs.Prelude.{◌≡◌, ◌≢◌, ◌++◌, ◌∷◌, [], ℕ, ◌+◌, ◌≤◌, List, length, if◌then◌else◌, IfErr, IfOk};
+ghost use Rattle.std.specs.Prelude.{◌≡◌, ◌≢◌, ◌++◌, ◌∷◌, [], ℕ, ◌+◌, ◌≤◌, List, length, IfErr, IfOk};
 ghost use Rattle.std.specs.Prelude.{OnOk, Ok, Err, IfNone, IfSome, false};
 ghost use Rattle.std.specs.Io.KnownBytes.{Consumes, IsAtEnd};
 ghost use Rattle.history.specs.declared.entry.Entry.{Entry};
@@ -9,7 +9,7 @@ ghost use Rattle.history.specs.HistoryText.{IsReadAs, IsReadWhole, ended};
 
 use crate::book::MAX_ENTRIES;
 use crate::entry::Entry;
-use crate::read::{read_entry, read_version};
+use crate::read::{BookText, read_entry, read_first_line};
 use crate::text::BookFault;
 use memchr::memchr;
 use std::alloc::{AllocError, Global};
@@ -29,10 +29,11 @@ pub struct Reading {
     line: Vec<u8>,
 }
 
-// Whole lines of a history: whether the first was read, how many entries there were, and those that are kept.
+// Whole lines of a history: the modulus that the first one has, once it was read, how many entries there were,
+// and those that are kept.
 #[derive(Drop)]
 struct Lines {
-    begun: bool,
+    modulus: Option<u64>,
     count: usize,
     entries: Vec<Entry>,
     ghost few: { count ≤ 1000000 },
@@ -48,7 +49,7 @@ impl Reading {
     {
         Reading {
             lines: Lines {
-                begun: false,
+                modulus: None,
                 count: 0,
                 entries: Vec::new(alloc),
             },
@@ -142,18 +143,21 @@ impl Reading {
         }
     }
 
-    // How many entries the text has that ends here.
-    pub fn end(&self) -> Result<usize, BookFault>
-        ensures ok { IfOk result (λ count. (before : List Entry) (text : List ℕ) → HasRead self.now before text
-            → IsReadAs text (Ok (before ++ self.now.lines.entries.items))
-            × (count ≡ length (before ++ self.now.lines.entries.items))) }
+    // The modulus of the text that ends here, and how many entries it has.
+    pub fn end(&self) -> Result<(u64, usize), BookFault>
+        ensures ok { IfOk result (λ ends. (before : List Entry) (text : List ℕ) → HasRead self.now before text
+            → IsReadAs text (Ok (ends.0, before ++ self.now.lines.entries.items))
+            × (ends.1 ≡ length (before ++ self.now.lines.entries.items))) }
         ensures err { IfErr result (λ f. (before : List Entry) (text : List ℕ) → HasRead self.now before text
             → IsReadAs text (Err f)) }
     {
-        if !self.lines.begun || !self.line.is_empty() {
+        if !self.line.is_empty() {
             return Err(self.lines.bad_line());
         }
-        Ok(self.lines.count)
+        match self.lines.modulus {
+            Some(modulus) => Ok((modulus, self.lines.count)),
+            None => Err(self.lines.bad_line()),
+        }
     }
 
     // How many entries there were.
@@ -179,21 +183,24 @@ impl Reading {
         self.lines.entries.clear();
     }
 
-    // The entries of the text that ends here, of which all are kept.
-    pub fn into_entries(self) -> Result<Vec<Entry>, BookFault>
-        ensures ok { IfOk result (λ entries. (text : List ℕ) → HasRead self [] text
-            → IsReadAs text (Ok entries.items)) }
+    // What the text says that ends here, of which all entries are kept.
+    pub fn into_book(self) -> Result<BookText, BookFault>
+        ensures ok { IfOk result (λ book. (text : List ℕ) → HasRead self [] text
+            → IsReadAs text (Ok (book.modulus, book.entries.items))) }
         ensures err { IfErr result (λ f. (text : List ℕ) → HasRead self [] text → IsReadAs text (Err f)) }
     {
         match self.end() {
-            Ok(_) => Ok(self.lines.entries),
+            Ok((modulus, _)) => Ok(BookText {
+                modulus,
+                entries: self.lines.entries,
+            }),
             Err(fault) => Err(fault),
         }
     }
 }
 
 impl Lines {
-    ghost use Rattle.history.specs.Reading.{GoesOn, IsFaulty};
+    ghost use Rattle.history.specs.Reading.{GoesOn, IsFaulty, next_line};
 
     // Takes the next line, without its line feed.
     #[inline(always)]
@@ -206,9 +213,8 @@ impl Lines {
             → IsFaulty (text ++ ended line.now) f) }
         ensures device { IfErr result (λ f. f ≢ BookFault.ReadFailed) }
     {
-        if !self.begun {
-            read_version(line)?;
-            self.begun = true;
+        if self.modulus.is_none() {
+            self.modulus = Some(read_first_line(line)?);
             return Ok(());
         }
         let entry = match read_entry(alloc, line) {
@@ -230,12 +236,11 @@ impl Lines {
 
     // That the next line is bad.
     fn bad_line(&self) -> BookFault
-        ensures { result ≡ BookFault.BadLine (if self.now.begun then self.now.count + 2 else 1) }
+        ensures { result ≡ BookFault.BadLine (next_line self.now.modulus self.now.count) }
     {
-        if self.begun {
-            BookFault::BadLine(self.count + 2)
-        } else {
-            BookFault::BadLine(1)
+        match self.modulus {
+            Some(_) => BookFault::BadLine(self.count + 2),
+            None => BookFault::BadLine(1),
         }
     }
 }

@@ -1,27 +1,40 @@
 // Reading the text of a history.
 
 ghost use Rattle.std.specs.Prelude.{◌≡◌, ◌≢◌, ℕ, ◌↔◌, IfErr, IfNone, IfOk, IfSome, IsTrue, OnOk, Ok};
-ghost use Rattle.std.specs.Prelude.{Err, List};
+ghost use Rattle.std.specs.Prelude.{Err, List, ◌++◌, ◌∷◌, codes};
+ghost use Rattle.action_tables.specs.Cuts.{HasNo};
 ghost use Rattle.std.specs.Char.{is_ascii_graphic};
 ghost use Rattle.std.specs.Io.KnownBytes.{IsAtEnd};
 ghost use Rattle.std.specs.List.{list_all};
 ghost use Rattle.history.specs.declared.entry.Entry.{Entry};
-ghost use Rattle.history.specs.HistoryText.{HasLine, IsPrintable, IsReadAs, IsReadWhole, entry_line, first_line};
+ghost use Rattle.history.specs.HistoryText.{HasLine, IsPrintable, IsReadAs, IsReadWhole, entry_line};
+ghost use Rattle.history.specs.HistoryText.{IsFirstLine};
 ghost use Rattle.history.specs.Reading.{IsBadVersion};
+ghost use Rattle.action_tables.specs.Modulus.{IsModulus};
+ghost use Rattle.std.specs.Fmt.{decimal};
 
 use crate::entry::Entry;
 use crate::lines::{CHUNK, MAX_LINE, Reading};
 use crate::text::BookFault;
-use action_tables::{cut, read_number};
+use action_tables::{MAX_MODULUS, cut, read_number};
 use fault_inject::{Fault, read_fault};
 use reset_machine::read_event;
 use std::alloc::{AllocError, Global};
 use std::io::Read;
 
+/// What the text of a history says.
+#[derive(Drop)]
+pub struct BookText {
+    /// The number modulo which its sessions are counted, from 2 to 4294967296.
+    pub modulus: u64,
+    /// Its entries.
+    pub entries: Vec<Entry>,
+}
+
 /// Reads a history to its end, or to the first line that it can't have.
-pub fn read_book<R: Read>(alloc: Global, reader: &mut R) -> Result<Vec<Entry>, BookFault>
-    ensures ok { IfOk result (λ entries. (text : List ℕ) × IsReadWhole (R.remaining reader.old) text
-        × IsReadAs text (Ok entries.items)) }
+pub fn read_book<R: Read>(alloc: Global, reader: &mut R) -> Result<BookText, BookFault>
+    ensures ok { IfOk result (λ book. (text : List ℕ) × IsReadWhole (R.remaining reader.old) text
+        × IsReadAs text (Ok (book.modulus, book.entries.items))) }
     ensures err { IfErr result (λ f. f ≢ BookFault.NoMemory → f ≢ BookFault.ReadFailed
         → (text : List ℕ) × IsReadWhole (R.remaining reader.old) text × IsReadAs text (Err f)) }
     ensures end { OnOk result (IsAtEnd (R.remaining reader.new)) }
@@ -32,28 +45,70 @@ pub fn read_book<R: Read>(alloc: Global, reader: &mut R) -> Result<Vec<Entry>, B
     for _ in 0..u64::MAX {
         match reading.read_on(alloc, reader, &mut room) {
             Ok(true) => {}
-            Ok(false) => return reading.into_entries(),
+            Ok(false) => return reading.into_book(),
             Err(fault) => return Err(fault),
         }
     }
     Err(BookFault::ReadFailed)
 }
 
-// Reads the first line.
-pub fn read_version(line: &[u8]) -> Result<(), BookFault>
-    ensures ok { OnOk result (line.now ≡ first_line) }
+// Reads the first line: the modulus of a history that begins with it.
+pub fn read_first_line(line: &[u8]) -> Result<u64, BookFault>
+    ensures ok { IfOk result (λ m. IsFirstLine m line.now) }
     ensures err { IfErr result (IsBadVersion line.now) }
 {
-    let Some((word, version)) = cut(line, b' ') else {
+    let Some((word, rest)) = cut(line, b' ') else {
         return Err(BookFault::BadLine(1));
     };
     if word != b"reset-history".as_slice() {
         return Err(BookFault::BadLine(1));
     }
+    match cut(rest, b' ') {
+        Some((version, modulus)) => modulus_of(version, modulus),
+        None => version_of(rest),
+    }
+}
+
+// The modulus of a first line that names a version alone.
+fn version_of(version: &[u8]) -> Result<u64, BookFault>
+    requires { HasNo 32 version.now }
+    ensures ok { IfOk result (λ m. IsFirstLine m (codes "reset-history " ++ version.now)) }
+    ensures err { IfErr result (IsBadVersion (codes "reset-history " ++ version.now)) }
+{
     match read_number(version) {
-        Some(1) => Ok(()),
+        Some(1) => Ok(MAX_MODULUS),
+        Some(2) => Err(BookFault::BadLine(1)),
         Some(_) => Err(BookFault::BadVersion),
         None => Err(BookFault::BadLine(1)),
+    }
+}
+
+// The modulus of a first line that names a version and goes on.
+fn modulus_of(version: &[u8], modulus: &[u8]) -> Result<u64, BookFault>
+    requires { HasNo 32 version.now }
+    ensures ok { IfOk result (λ m. IsFirstLine m (codes "reset-history " ++ (version.now ++ 32 ∷ modulus.now))) }
+    ensures err { IfErr result (IsBadVersion (codes "reset-history " ++ (version.now ++ 32 ∷ modulus.now))) }
+{
+    if version != b"2".as_slice() {
+        return Err(BookFault::BadLine(1));
+    }
+    match read_modulus(modulus) {
+        Some(modulus) => Ok(modulus),
+        None => Err(BookFault::BadLine(1)),
+    }
+}
+
+// The modulus that a word spells. It is the one number that may be 4294967296.
+fn read_modulus(word: &[u8]) -> Option<u64>
+    ensures found { IfSome result (λ m. IsModulus m × (word.now ≡ decimal m)) }
+    ensures only { IfNone result ((m : ℕ) → IsModulus m → word.now ≡ decimal m → ⊥) }
+{
+    if word == b"4294967296".as_slice() {
+        return Some(MAX_MODULUS);
+    }
+    match read_number(word) {
+        Some(value) if value >= 2 => Some(u64::from(value)),
+        _ => None,
     }
 }
 

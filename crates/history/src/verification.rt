@@ -29,6 +29,8 @@ use std::io::Read;
 pub enum ReaderFault {
     /// The text is none, or can't be read.
     Text(BookFault),
+    /// The text has this modulus, and the opening another one.
+    OtherModulus(u64),
     /// An entry isn't allowed where it stands, or memory is wanting.
     Entries(VerifyFault),
 }
@@ -42,8 +44,8 @@ pub fn one_verdict_a_text<P: Application>()
 {}
 
 /// Reads a history to its end, plays its entries as they are read, from the opening on, and tells what they come
-/// to. A fault of the text comes before an entry that isn't allowed, wherever the two stand: so after such an
-/// entry it reads on, and plays no more. It keeps the entries of one read at a time, of at most 4,096 bytes.
+/// to. A fault of the text comes before another modulus than the opening's, and that before an entry that isn't
+/// allowed, wherever they stand: so after such an entry it reads on, and plays no more. It keeps the entries of one read at a time, of at most 4,096 bytes.
 pub fn verify_reader<P: Application, R: Read>(
     alloc: Global,
     opening: Config<P>,
@@ -53,6 +55,7 @@ pub fn verify_reader<P: Application, R: Read>(
         × IsVerdict P.app P.from_text opening text result }
     ensures end { OnOk result (IsAtEnd (R.remaining reader.new)) }
 {
+    let modulus = opening.modulus().get();
     let mut verifier = Verifier::new(alloc, opening);
     let mut reading = Reading::new(alloc);
     let mut count = 0;
@@ -61,7 +64,7 @@ pub fn verify_reader<P: Application, R: Read>(
     for _ in 0..u64::MAX {
         match reading.read_on(alloc, reader, &mut room) {
             Ok(true) => {}
-            Ok(false) => return verdict(verifier, &reading),
+            Ok(false) => return verdict(modulus, verifier, &reading),
             Err(fault) => return Err(ReaderFault::Text(fault)),
         }
         verifier.take(alloc, count, reading.entries());
@@ -71,17 +74,24 @@ pub fn verify_reader<P: Application, R: Read>(
     Err(ReaderFault::Text(BookFault::ReadFailed))
 }
 
-// What the text comes to that ends here, all of whose entries were taken.
-fn verdict<P: Application>(verifier: Verifier<P>, reading: &Reading) -> Result<Summary, ReaderFault>
+// What the text comes to that ends here, all of whose entries were taken, where the opening has this modulus.
+fn verdict<P: Application>(
+    modulus: u64,
+    verifier: Verifier<P>,
+    reading: &Reading,
+) -> Result<Summary, ReaderFault>
     requires { reading.now.lines.entries.items ≡ [] }
-    ensures { (c : Configuration P.Local) (es : List Entry) (text : List ℕ)
+    ensures { (c : Configuration P.Local) (es : List Entry) (text : List ℕ) → c.modulus ≡ modulus
         → HasVerified P.app P.from_text c es verifier → HasRead reading.now es text
         → IsVerdict P.app P.from_text c text result }
 {
-    let count = match reading.end() {
-        Ok(count) => count,
+    let (other, count) = match reading.end() {
+        Ok(ends) => ends,
         Err(fault) => return Err(ReaderFault::Text(fault)),
     };
+    if other != modulus {
+        return Err(ReaderFault::OtherModulus(other));
+    }
     match verifier.summary(count) {
         Ok(summary) => Ok(summary),
         Err(fault) => Err(ReaderFault::Entries(fault)),

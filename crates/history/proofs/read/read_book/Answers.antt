@@ -9,9 +9,9 @@ returns-in-Ok-false-clause-ok g c =
     let (last, gave, on) = c.in-Ok-false.ensures.ok in
     let start = g.R.Read.remaining c.args.reader.now in
     let now = g.R.Read.remaining c.read_on.new.reader in
-    kept_ok start now (given ++ last) c.read_on.new.self c.into_entries.result
+    kept_ok start now (given ++ last) c.read_on.new.self c.into_book.result
     (Consumes-trans start (g.R.Read.remaining c.loop.reader) now given last consumed gave)
-    (c.in-Ok-false.ensures.end (ap Ok c.in-Ok-false.field-0-test)).0 (on [] given read) c.into_entries.ensures.ok
+    (c.in-Ok-false.ensures.end (ap Ok c.in-Ok-false.field-0-test)).0 (on [] given read) c.into_book.ensures.ok
 
 pub returns-in-Ok-false-clause-err : goal.returns-in-Ok-false-clause-err
 returns-in-Ok-false-clause-err g c =
@@ -19,9 +19,9 @@ returns-in-Ok-false-clause-err g c =
     let (last, gave, on) = c.in-Ok-false.ensures.ok in
     let start = g.R.Read.remaining c.args.reader.now in
     let now = g.R.Read.remaining c.read_on.new.reader in
-    kept_err start now (given ++ last) c.read_on.new.self c.into_entries.result
+    kept_err start now (given ++ last) c.read_on.new.self c.into_book.result
     (Consumes-trans start (g.R.Read.remaining c.loop.reader) now given last consumed gave)
-    (c.in-Ok-false.ensures.end (ap Ok c.in-Ok-false.field-0-test)).0 (on [] given read) c.into_entries.ensures.err
+    (c.in-Ok-false.ensures.end (ap Ok c.in-Ok-false.field-0-test)).0 (on [] given read) c.into_book.ensures.err
 
 pub returns-in-Err-clause-err : goal.returns-in-Err-clause-err
 returns-in-Err-clause-err g c memory device =
@@ -44,5 +44,5 @@ loop-preserved g c =
 
 pub returns-in-Ok-false-clause-end : goal.returns-in-Ok-false-clause-end
 returns-in-Ok-false-clause-end g c =
-    read_whole c.into_entries.result (g.R.Read.remaining c.read_on.new.reader)
+    read_whole c.into_book.result (g.R.Read.remaining c.read_on.new.reader)
     (c.in-Ok-false.ensures.end (ap Ok c.in-Ok-false.field-0-test)).0

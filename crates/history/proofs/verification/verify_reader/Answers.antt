@@ -1,4 +1,4 @@
-use Rattle.std.proofs.Common.{◌++◌, ◌∙◌, Ok, ap}
+use Rattle.std.proofs.Common.{◌++◌, ◌∙◌, Ok, ap, sym}
 use Rattle.std.proofs.KnownBytes.{Consumes-trans}
 use Rattle.history.proofs.ReadLines.{all_given, read_whole, some_whole, whole_before}
 use Rattle.history.proofs.Verified.{fault_verdict}
@@ -14,7 +14,8 @@ returns-in-Ok-false-clause-told g c =
       all_given start now (given ++ last)
           (Consumes-trans start (g.R.Read.remaining c.loop.reader) now given last consumed gave)
           (c.in-Ok-false.ensures.end (ap Ok c.in-Ok-false.field-0-test)).0,
-      c.verdict.ensures c.args.opening es (given ++ last) verified (on es given read),
+      c.verdict.ensures c.args.opening es (given ++ last) (sym (c.get-modulus.ensures.number ∙ c.modulus.ensures)) verified
+          (on es given read),
     )
 
 pub returns-in-Err-clause-told : goal.returns-in-Err-clause-told

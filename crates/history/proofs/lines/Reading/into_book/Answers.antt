@@ -1,5 +1,5 @@
 use Rattle.std.proofs.Common.{[]}
-use Rattle.history.proofs.lines.Reading.into_entries.Goals as goal
+use Rattle.history.proofs.lines.Reading.into_book.Goals as goal
 
 pub returns-in-Ok-clause-ok : goal.returns-in-Ok-clause-ok
 returns-in-Ok-clause-ok c text read = (c.in-Ok.ensures.ok [] text read).0
