@@ -109,11 +109,11 @@ record_weaker R S a d b e (Err NotClosed) f left = left
 
 -- ---- a topology is judged first
 
-pub recorded : (topology script : List ℕ) (g : Graph) (app : AppName) → Describes topology g app → (h : List ℕ)
-    (o : Output) → IsRecordOf app g script h o → IsRecorded topology script h o
-recorded topology script g app describes h o is = record {
-  judged = good_topology g app describes is;
-  unkept = λ f bad. absurd (bad_or_good topology f g app bad describes);
+pub recorded : (topology script : List ℕ) (g : Graph) (app : AppName) (modulus : ℕ) → Describes topology g app modulus
+    → (h : List ℕ) (o : Output) → IsRecordOf app g modulus script h o → IsRecorded topology script h o
+recorded topology script g app modulus describes h o is = record {
+  judged = good_topology g app modulus describes is;
+  unkept = λ f bad. absurd (bad_or_good topology f g app modulus bad describes);
 }
 
 pub unrecorded : (topology script : List ℕ) (f : ReadFault) → IsReadFault topology f → (o : Output)
@@ -122,12 +122,12 @@ unrecorded topology script f bad o is = record { judged = bad_topology f bad is;
 
 -- ---- what is written is what a replay writes
 
-replay_from : {L : Type 0} (m : Meaning L) (g : Graph) (script h : List ℕ) (o : Output) → IsRecordFrom m g script h o
-    → IsReplay m purposes.Replay g script o
-replay_from m g script h o (c, boot, is) = replayed c boot is.output_is
+replay_from : {L : Type 0} (m : Meaning L) (g : Graph) (modulus : ℕ) (script h : List ℕ) (o : Output)
+    → IsRecordFrom m g modulus script h o → IsReplay m purposes.Replay g modulus script o
+replay_from m g modulus script h o (c, boot, is) = replayed c boot is.output_is
 
-replay_of : (app : AppName) (g : Graph) (script h : List ℕ) (o : Output) → IsRecordOf app g script h o
-    → IsReplayOf app purposes.Replay g script o
+replay_of : (app : AppName) (g : Graph) (modulus : ℕ) (script h : List ℕ) (o : Output)
+    → IsRecordOf app g modulus script h o → IsReplayOf app purposes.Replay g modulus script o
 replay_of Idle = replay_from idle_meaning
 replay_of Token = replay_from token_meaning
 replay_of Mutex = replay_from mutex_meaning
@@ -137,9 +137,11 @@ pub recordings_replay : (topology script h : List ℕ) (o : Output) → IsRecord
     → IsOutput purposes.Replay topology script o
 recordings_replay topology script h o is = go is.judged
   where
-    go : IsJudged (λ app g. IsRecordOf app g script h) topology o → IsOutput purposes.Replay topology script o
+    go : IsJudged (λ app g modulus. IsRecordOf app g modulus script h) topology o
+        → IsOutput purposes.Replay topology script o
     go (bad_topology f bad is) = bad_topology f bad is
-    go (good_topology g app describes is) = good_topology g app describes (replay_of app g script h o is)
+    go (good_topology g app modulus describes is) =
+        good_topology g app modulus describes (replay_of app g modulus script h o is)
 
 -- ---- there is one record
 
@@ -154,18 +156,19 @@ one_history m c script h k (too_long long is) (kept es short are allowed read te
 one_history m c script h k (kept es short are allowed read text) (too_long long is) =
     absurd (omega (arith, long, short))
 one_history m c script h k (kept es short are allowed read text) (kept ds short' are' allowed' read' text') =
-    text ∙ ap history_text (are ∙ sym are') ∙ sym text'
+    text ∙ ap (history_text c.modulus) (are ∙ sym are') ∙ sym text'
 
-one_from : {L : Type 0} (m : Meaning L) (g : Graph) (script h k : List ℕ) (o p : Output)
-    → IsRecordFrom m g script h o → IsRecordFrom m g script k p → AreOne h k o p
-one_from m g script h k o p (c, boot, is) (d, other, is') =
-    let same : IsRecord m d script h o = subst (λ x. IsRecord m x script h o) (one_boot m.app g c d boot other) is in (
+one_from : {L : Type 0} (m : Meaning L) (g : Graph) (modulus : ℕ) (script h k : List ℕ) (o p : Output)
+    → IsRecordFrom m g modulus script h o → IsRecordFrom m g modulus script k p → AreOne h k o p
+one_from m g modulus script h k o p (c, boot, is) (d, other, is') =
+    let same : IsRecord m d script h o =
+    subst (λ x. IsRecord m x script h o) (one_boot m.app g modulus c d boot other) is in (
       one_history m d script h k same.history_is is'.history_is,
       same.output_is ∙ sym is'.output_is,
     )
 
-one_of : (app : AppName) (g : Graph) (script h k : List ℕ) (o p : Output) → IsRecordOf app g script h o
-    → IsRecordOf app g script k p → AreOne h k o p
+one_of : (app : AppName) (g : Graph) (modulus : ℕ) (script h k : List ℕ) (o p : Output)
+    → IsRecordOf app g modulus script h o → IsRecordOf app g modulus script k p → AreOne h k o p
 one_of Idle = one_from idle_meaning
 one_of Token = one_from token_meaning
 one_of Mutex = one_from mutex_meaning
@@ -175,15 +178,18 @@ pub one_recorded : (topology script h k : List ℕ) (o p : Output) → IsRecorde
     → IsRecorded topology script k p → AreOne h k o p
 one_recorded topology script h k o p a b = go a.judged b.judged
   where
-    go : IsJudged (λ app g. IsRecordOf app g script h) topology o
-        → IsJudged (λ app g. IsRecordOf app g script k) topology p → AreOne h k o p
+    go : IsJudged (λ app g modulus. IsRecordOf app g modulus script h) topology o
+        → IsJudged (λ app g modulus. IsRecordOf app g modulus script k) topology p → AreOne h k o p
     go (bad_topology f bad is) (bad_topology e other is') = (
       a.unkept f bad ∙ sym (b.unkept e other),
       is ∙ ap (λ x. (bad_topology_text x, BadInput)) (one_read_fault topology f e bad other) ∙ sym is',
     )
-    go (bad_topology f bad is) (good_topology g app good follows) = absurd (bad_or_good topology f g app bad good)
-    go (good_topology g app good follows) (bad_topology f bad is) = absurd (bad_or_good topology f g app bad good)
-    go (good_topology g app good follows) (good_topology i other good' follows') =
-        let same = one_description topology g i app other good good' in
-        one_of other i script h k o p
-        (subst₂ (λ x y. IsRecordOf y x script h o) same.0 same.1 follows) follows'
+    go (bad_topology f bad is) (good_topology g app modulus good follows) =
+        absurd (bad_or_good topology f g app modulus bad good)
+    go (good_topology g app modulus good follows) (bad_topology f bad is) =
+        absurd (bad_or_good topology f g app modulus bad good)
+    go (good_topology g app modulus good follows) (good_topology i other another good' follows') =
+        let same = one_description topology g i app other modulus another good good' in
+        one_of other i another script h k o p
+        (subst (λ x. IsRecordOf other i x script h o) same.2
+        (subst₂ (λ x y. IsRecordOf y x modulus script h o) same.0 same.1 follows)) follows'

@@ -11,5 +11,6 @@ pub mod ReadyTexts
 pub mod FaultTexts
 pub mod OneOutput
 pub mod Stretches
+pub mod KeptModulus
 pub mod Noting
 pub mod LeftRecords

@@ -38,6 +38,7 @@ use Rattle.script_replay.specs.declared.script.Line.{Line}
 use Rattle.script_replay.specs.declared.script.Line.TheVariants.{Silent, Asks, Bad}
 use Rattle.script_replay.specs.declared.status.Status.{Status}
 use Rattle.script_replay.specs.declared.status.Status.TheVariants.{Good, FaultsFound, NotEnabled, BadInput}
+use Rattle.script_replay.proofs.KeptModulus.{replayed_modulus}
 use Rattle.script_replay.proofs.Nodes.{node_of, node_there}
 use Rattle.script_replay.proofs.Runs.{if_bad}
 use Rattle.script_replay.proofs.TextLines.{first_line}
@@ -60,12 +61,16 @@ event_noted b e (Err refusal) new receipt room is = absurd (cc)
 -- the text of a book's history is the history of the lines
 pub history_kept : {L T E : Type 0} (m : Meaning L) (c : Configuration L) (script : List ℕ) (b : BookView L)
     (items : T → List ℕ) (r : Result T E) → length script ≤ 1048576 → IsBook m.app m.from_text b → b.opening ≡ c
-    → b.entries ≡ entries_of_lines m c 1 (lines_of script) → IfOk r (λ t. items t ≡ history_text b.entries)
-    → IfOk r (λ t. IsReadAs (items t) (Ok b.entries)) → IfOk r (λ t. IsHistory m c script (items t))
+    → b.entries ≡ entries_of_lines m c 1 (lines_of script)
+    → IfOk r (λ t. items t ≡ history_text b.config.modulus b.entries)
+    → IfOk r (λ t. IsReadAs (items t) (Ok (b.config.modulus, b.entries))) → IfOk r (λ t. IsHistory m c script (items t))
 history_kept m c script b items (Ok t) short is opening entries text read =
     let left : replayed m.app m.from_text c b.entries ≡ Some b.config =
     ap (λ d. replayed m.app m.from_text d b.entries) (sym opening) ∙ is.replay in
-    kept b.entries short entries (subst (λ o. IsSome o) (sym left) refl) read text
+    let modulus : b.config.modulus ≡ c.modulus = replayed_modulus m.app m.from_text b.entries c b.config left in
+    kept b.entries short entries (subst (λ o. IsSome o) (sym left) refl)
+    (subst (λ n. IsReadAs (items t) (Ok (n, b.entries))) modulus read)
+    (text ∙ ap (λ n. history_text n b.entries) modulus)
 history_kept m c script b items (Err e) short is opening entries text read = tt
 
 -- ---- a node that watches

@@ -105,9 +105,9 @@ one_read_fault text f e a b = go (own_or_lists text f a) (own_or_lists text e b)
         f_is ∙ ap Topology (one_first_fault d'.nodes d'.links x y lists first') ∙ sym e_is
 
 -- no text is both bad and good
-pub bad_or_good : (text : List ℕ) (f : ReadFault) (g : Graph) (app : AppName) → IsReadFault text f
-    → Describes text g app → ⊥
-bad_or_good text f g app bad (d, is, sound, app_is) = go (own_or_lists text f bad)
+pub bad_or_good : (text : List ℕ) (f : ReadFault) (g : Graph) (app : AppName) (modulus : ℕ) → IsReadFault text f
+    → Describes text g app modulus → ⊥
+bad_or_good text f g app modulus bad (d, is, sound, app_is, modulus_is) = go (own_or_lists text f bad)
   where
     go : (description_of text ≡ Err f) ⊎ OfLists text f → ⊥
     go (inl own) = ok_or_err (description_of text) d f is own
@@ -115,48 +115,54 @@ bad_or_good text f g app bad (d, is, sound, app_is) = go (own_or_lists text f ba
         let same : d' ≡ d = ok_once (description_of text) d' d is' is in
         sound.sound x (subst (λ (l : Description). IsFirstFault l.nodes l.links x) same first).fault
 
-pub one_description : (text : List ℕ) (g h : Graph) (app other : AppName) → Describes text g app
-    → Describes text h other → (g ≡ h) × (app ≡ other)
-one_description text g h app other (d, is, of_g, app_is) (d', is', of_h, other_is) =
+pub one_description : (text : List ℕ) (g h : Graph) (app other : AppName) (modulus another : ℕ)
+    → Describes text g app modulus → Describes text h other another → (g ≡ h) × (app ≡ other) × (modulus ≡ another)
+one_description text g h app other modulus another (d, is, of_g, app_is, modulus_is)
+    (d', is', of_h, other_is, another_is) =
     let same : d ≡ d' = ok_once (description_of text) d d' is is' in (
       one_graph d'.nodes d'.links g h (subst (λ (l : Description). IsGraphOf l.nodes l.links g) same of_g.exact)
           of_h.exact,
       app_is ∙ ap (λ (l : Description). l.app) same ∙ sym other_is,
+      modulus_is ∙ ap (λ (l : Description). l.modulus) same ∙ sym another_is,
     )
 
 -- ---- what a run writes
 
-one_replay : {L : Type 0} (m : Meaning L) (purpose : Purpose) (g : Graph) (script : List ℕ) (o p : Output)
-    → IsReplay m purpose g script o → IsReplay m purpose g script p → o ≡ p
-one_replay m purpose g script o p (replayed c boot is) (replayed d other is') =
-    is ∙ ap (λ k. script_output m purpose k script) (one_boot m.app g c d boot other) ∙ sym is'
+one_replay : {L : Type 0} (m : Meaning L) (purpose : Purpose) (g : Graph) (modulus : ℕ) (script : List ℕ)
+    (o p : Output) → IsReplay m purpose g modulus script o → IsReplay m purpose g modulus script p → o ≡ p
+one_replay m purpose g modulus script o p (replayed c boot is) (replayed d other is') =
+    is ∙ ap (λ k. script_output m purpose k script) (one_boot m.app g modulus c d boot other) ∙ sym is'
 
-one_replay_of : (app : AppName) (purpose : Purpose) (g : Graph) (script : List ℕ) (o p : Output)
-    → IsReplayOf app purpose g script o → IsReplayOf app purpose g script p → o ≡ p
+one_replay_of : (app : AppName) (purpose : Purpose) (g : Graph) (modulus : ℕ) (script : List ℕ) (o p : Output)
+    → IsReplayOf app purpose g modulus script o → IsReplayOf app purpose g modulus script p → o ≡ p
 one_replay_of Idle = one_replay idle_meaning
 one_replay_of Token = one_replay token_meaning
 one_replay_of Mutex = one_replay mutex_meaning
 one_replay_of Routes = one_replay routes_meaning
 
 -- one thing is written where a topology is judged first, if one thing follows a good one
-pub one_judged : (Follows : AppName → Graph → Output → Type 0)
-    → ((app : AppName) (g : Graph) (o p : Output) → Follows app g o → Follows app g p → o ≡ p)
+pub one_judged : (Follows : AppName → Graph → ℕ → Output → Type 0)
+    → ((app : AppName) (g : Graph) (modulus : ℕ) (o p : Output) → Follows app g modulus o → Follows app g modulus p
+    → o ≡ p)
     → (topology : List ℕ) (o p : Output)
     → IsJudged Follows topology o → IsJudged Follows topology p → o ≡ p
 one_judged Follows one topology o p (bad_topology f bad is) (bad_topology e other is') =
     is ∙ ap (λ x. (bad_topology_text x, BadInput)) (one_read_fault topology f e bad other) ∙ sym is'
-one_judged Follows one topology o p (bad_topology f bad is) (good_topology g app good follows) =
-    absurd (bad_or_good topology f g app bad good)
-one_judged Follows one topology o p (good_topology g app good follows) (bad_topology f bad is) =
-    absurd (bad_or_good topology f g app bad good)
-one_judged Follows one topology o p (good_topology g app good follows) (good_topology h other good' follows') =
-    let same = one_description topology g h app other good good' in
-    one other h o p (subst₂ (λ x y. Follows y x o) same.0 same.1 follows) follows'
+one_judged Follows one topology o p (bad_topology f bad is) (good_topology g app modulus good follows) =
+    absurd (bad_or_good topology f g app modulus bad good)
+one_judged Follows one topology o p (good_topology g app modulus good follows) (bad_topology f bad is) =
+    absurd (bad_or_good topology f g app modulus bad good)
+one_judged Follows one topology o p (good_topology g app modulus good follows)
+    (good_topology h other another good' follows') =
+    let same = one_description topology g h app other modulus another good good' in
+    one other h another o p
+    (subst (λ x. Follows other h x o) same.2 (subst₂ (λ x y. Follows y x modulus o) same.0 same.1 follows)) follows'
 
 pub one_output : (purpose : Purpose) (topology script : List ℕ) (o p : Output) → IsOutput purpose topology script o
     → IsOutput purpose topology script p → o ≡ p
 one_output purpose topology script =
-    one_judged (λ app g. IsReplayOf app purpose g script) (λ app g o p. one_replay_of app purpose g script o p) topology
+    one_judged (λ app g modulus. IsReplayOf app purpose g modulus script)
+    (λ app g modulus o p. one_replay_of app purpose g modulus script o p) topology
 
 pub one_joined_output : (joined : List ℕ) (o p : Output) → IsJoinedOutput joined o → IsJoinedOutput joined p → o ≡ p
 one_joined_output joined o p (too_long long is) (too_long long' is') = is ∙ sym is'

@@ -22,7 +22,7 @@ use Rattle.reset_model.specs.declared.step.Reply.TheVariants.{Applied, Complete}
 use Rattle.reset_model.specs.declared.step.StepRefusal.{StepRefusal}
 use Rattle.reset_model.specs.declared.step.StepRefusal.TheVariants.{StrangeNode, StrangeNeighbour, NoSuchCase}
 use Rattle.reset_model.specs.declared.step.StepRefusal.TheVariants.{WantsNeighbour, TakesNoNeighbour, Disagrees}
-use Rattle.reset_model.specs.declared.step.StepRefusal.TheVariants.{NotEnabled, SessionsSpent, NoMemory}
+use Rattle.reset_model.specs.declared.step.StepRefusal.TheVariants.{NotEnabled, NoMemory}
 use Rattle.reset_model.specs.Configuration.{Configuration, tree_of, wave_of, local_of}
 use Rattle.reset_model.specs.Outcome.{IsBoot}
 use Rattle.reset_model.specs.Planned.{outcome_of}
@@ -80,7 +80,6 @@ refusal_text WantsNeighbour = ended (codes "refused WantsNeighbour")
 refusal_text TakesNoNeighbour = ended (codes "refused TakesNoNeighbour")
 refusal_text (Disagrees n) = numbered (codes "refused Disagrees ") n
 refusal_text NotEnabled = ended (codes "refused NotEnabled")
-refusal_text SessionsSpent = ended (codes "refused SessionsSpent")
 refusal_text NoMemory = ended (codes "refused NoMemory")
 
 abbrev pub fault_refusal_text : FaultRefusal → List ℕ
@@ -288,35 +287,36 @@ script_output m purpose c script =
 
 -- ---- the output of texts
 
--- the answers to a script from the booted configuration of a graph
-pub data IsReplay {L : Type 0} (m : Meaning L) (purpose : Purpose) (g : Graph) (script : List ℕ)
+-- the answers to a script from the booted configuration of a graph, with sessions modulo this number
+pub data IsReplay {L : Type 0} (m : Meaning L) (purpose : Purpose) (g : Graph) (modulus : ℕ) (script : List ℕ)
     (output : List ℕ × Status) : Type 0 where
-  replayed : (c : Configuration L) → IsBoot m.app g c → output ≡ script_output m purpose c script
-      → IsReplay m purpose g script output
+  replayed : (c : Configuration L) → IsBoot m.app g modulus c → output ≡ script_output m purpose c script
+      → IsReplay m purpose g modulus script output
 
 -- the same for the application of a name
-abbrev pub IsReplayOf : AppName → Purpose → Graph → List ℕ → List ℕ × Status → Type 0
+abbrev pub IsReplayOf : AppName → Purpose → Graph → ℕ → List ℕ → List ℕ × Status → Type 0
 IsReplayOf Idle = IsReplay idle_meaning
 IsReplayOf Token = IsReplay token_meaning
 IsReplayOf Mutex = IsReplay mutex_meaning
 IsReplayOf Routes = IsReplay routes_meaning
 
--- a topology text describes a graph and names an application
-abbrev pub Describes : List ℕ → Graph → AppName → Type 0
-Describes topology g app =
+-- a topology text describes a graph, and names an application and the number modulo which sessions are counted
+abbrev pub Describes : List ℕ → Graph → AppName → ℕ → Type 0
+Describes topology g app modulus =
     (d : Description) × (description_of topology ≡ Ok d) × IsTopologyOf d.nodes d.links g × (app ≡ d.app)
+    × (modulus ≡ d.modulus)
 
 -- what is written, and the status, where a topology is judged first: the line of its fault, or what follows a good one
-pub data IsJudged (Follows : AppName → Graph → List ℕ × Status → Type 0) (topology : List ℕ)
+pub data IsJudged (Follows : AppName → Graph → ℕ → List ℕ × Status → Type 0) (topology : List ℕ)
     (output : List ℕ × Status) : Type 0 where
   bad_topology : (f : ReadFault) → IsReadFault topology f → output ≡ (bad_topology_text f, BadInput)
       → IsJudged Follows topology output
-  good_topology : (g : Graph) (app : AppName) → Describes topology g app → Follows app g output
-      → IsJudged Follows topology output
+  good_topology : (g : Graph) (app : AppName) (modulus : ℕ) → Describes topology g app modulus
+      → Follows app g modulus output → IsJudged Follows topology output
 
 -- what a run writes, and its status: the topology is judged before the script
 abbrev pub IsOutput : Purpose → List ℕ → List ℕ → List ℕ × Status → Type 0
-IsOutput purpose topology script = IsJudged (λ app g. IsReplayOf app purpose g script) topology
+IsOutput purpose topology script = IsJudged (λ app g modulus. IsReplayOf app purpose g modulus script) topology
 
 -- the same of a joined text that is replayed, which is judged by its length before it is cut
 pub data IsJoinedOutput (joined : List ℕ) (output : List ℕ × Status) : Type 0 where

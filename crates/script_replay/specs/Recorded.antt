@@ -70,12 +70,12 @@ entries_of_lines m c n (line ∷ lines) =
 -- ---- records
 
 -- the history of a script: that of the entries of its lines, which are allowed where they stand and as which it is
--- read; a script that is too long leaves none
+-- read, with sessions modulo the number of the configuration; a script that is too long leaves none
 pub data IsHistory {L : Type 0} (m : Meaning L) (c : Configuration L) (script history : List ℕ) : Type 0 where
   too_long : 1048576 < length script → history ≡ [] → IsHistory m c script history
   kept : (entries : List Entry) → length script ≤ 1048576 → entries ≡ entries_of_lines m c 1 (lines_of script)
-      → IsSome (replayed m.app m.from_text c entries) → IsReadAs history (Ok entries)
-      → history ≡ history_text entries → IsHistory m c script history
+      → IsSome (replayed m.app m.from_text c entries) → IsReadAs history (Ok (c.modulus, entries))
+      → history ≡ history_text c.modulus entries → IsHistory m c script history
 
 -- the history of a script, and what a replay of it writes, from a configuration on
 pub record IsRecord {L : Type 0} (m : Meaning L) (c : Configuration L) (script history : List ℕ)
@@ -83,13 +83,13 @@ pub record IsRecord {L : Type 0} (m : Meaning L) (c : Configuration L) (script h
   pub history_is : IsHistory m c script history
   pub output_is : output ≡ script_output m purposes.Replay c script
 
--- the same from the booted configuration of a graph
-abbrev pub IsRecordFrom : {L : Type 0} → Meaning L → Graph → List ℕ → List ℕ → List ℕ × Status → Type 0
-IsRecordFrom {L = L} m g script history output =
-    (c : Configuration L) × IsBoot m.app g c × IsRecord m c script history output
+-- the same from the booted configuration of a graph, with sessions modulo this number
+abbrev pub IsRecordFrom : {L : Type 0} → Meaning L → Graph → ℕ → List ℕ → List ℕ → List ℕ × Status → Type 0
+IsRecordFrom {L = L} m g modulus script history output =
+    (c : Configuration L) × IsBoot m.app g modulus c × IsRecord m c script history output
 
 -- the same for the application of a name
-abbrev pub IsRecordOf : AppName → Graph → List ℕ → List ℕ → List ℕ × Status → Type 0
+abbrev pub IsRecordOf : AppName → Graph → ℕ → List ℕ → List ℕ → List ℕ × Status → Type 0
 IsRecordOf Idle = IsRecordFrom idle_meaning
 IsRecordOf Token = IsRecordFrom token_meaning
 IsRecordOf Mutex = IsRecordFrom mutex_meaning
@@ -98,7 +98,7 @@ IsRecordOf Routes = IsRecordFrom routes_meaning
 -- a script on the topology of a text leaves this history, this output and this status: a bad topology is answered
 -- first, and leaves no history
 pub record IsRecorded (topology script history : List ℕ) (output : List ℕ × Status) : Type 0 where
-  pub judged : IsJudged (λ app g. IsRecordOf app g script history) topology output
+  pub judged : IsJudged (λ app g modulus. IsRecordOf app g modulus script history) topology output
   pub unkept : (f : ReadFault) → IsReadFault topology f → history ≡ []
 
 -- ---- what a recording leaves to its two writers

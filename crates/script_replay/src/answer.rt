@@ -192,7 +192,6 @@ pub fn put_refusal<W: Write>(out: &mut W, refusal: StepRefusal) -> Result<(), Wr
         StepRefusal::TakesNoNeighbour => put_bytes(out, b"refused TakesNoNeighbour\n"),
         StepRefusal::Disagrees(id) => put_node_fault(out, b"refused Disagrees ", id),
         StepRefusal::NotEnabled => put_bytes(out, b"refused NotEnabled\n"),
-        StepRefusal::SessionsSpent => put_bytes(out, b"refused SessionsSpent\n"),
         StepRefusal::NoMemory => put_bytes(out, b"refused NoMemory\n"),
     }
 }

@@ -8,6 +8,7 @@ mod faults;
 mod injected;
 mod input;
 mod laws;
+mod network;
 mod next_line;
 mod recorded;
 mod recording;
@@ -23,6 +24,7 @@ pub use input::{READ_LIMIT, read_text};
 pub use laws::{
     one_joined_output, one_output, one_record, recordings_are_replays, stretches_are_runs,
 };
+pub use network::{Network, read_network};
 pub use recorded::record_text;
 pub use recording::text_of;
 pub use replays::{check_text, refuse_input, refuse_topology, replay, replay_joined, replay_text};

@@ -7,6 +7,7 @@ ghost use Rattle.script_replay.specs.Meaning.{meaning_of};
 ghost use Rattle.script_replay.specs.Recorded.{IsRecord, IsRecordFrom, IsRecordOf, IsRecorded, LeavesRecord};
 
 use crate::input::read_text;
+use crate::network::{Network, read_network};
 use crate::recording::history_of;
 use crate::replays::{refuse_topology, run_script};
 use crate::status::{Purpose, RunStop, Status};
@@ -18,7 +19,7 @@ use app_token::Token;
 use reset_machine::Config;
 use std::alloc::Global;
 use std::io::{Read, Write};
-use topology::{AppName, ReadFault, Topology, read_topology};
+use topology::{AppName, ReadFault};
 
 /// Writes to one writer the history of the script of a reader, from the booted configuration of a topology text on, and
 /// then to the other what `replay` writes: each event that was applied and each fault that was done, in order, is an
@@ -39,48 +40,48 @@ pub fn record_text<R: Read, H: Write, W: Write>(
     ensures taken { OnOk result (GaveText (R.remaining script.old) (R.remaining script.new)) }
     ensures untouched { (f : ReadFault) → IsReadFault topology.now f → script.new ≡ script.old }
 {
-    match read_topology(alloc, topology) {
-        Ok((topology, app)) => match read_text(alloc, script) {
-            Ok(text) => record_app(alloc, app, topology, &text, history, out),
+    match read_network(alloc, topology) {
+        Ok(network) => match read_text(alloc, script) {
+            Ok(text) => record_app(alloc, network, &text, history, out),
             Err(stop) => Err(stop),
         },
         Err(refused) => refuse_topology(refused, out),
     }
 }
 
-// Records a script on the booted configuration of a topology, with the application of this name.
+// Records a script on the booted configuration of a network, with the application that it names.
 fn record_app<H: Write, W: Write>(
     alloc: Global,
-    app: AppName,
-    topology: Topology,
+    network: Network,
     script: &[u8],
     history: &mut H,
     out: &mut W,
 ) -> Result<Status, RunStop>
-    ensures { LeavesRecord (IsRecordOf app topology script.now) (H.contents history.old) (H.contents history.new)
-        (W.contents out.old) (W.contents out.new) result }
+    ensures { LeavesRecord (IsRecordOf network.app network.topology network.modulus script.now)
+        (H.contents history.old) (H.contents history.new) (W.contents out.old) (W.contents out.new) result }
 {
-    match app {
-        AppName::Idle => record_booted::<Idle, H, W>(alloc, topology, script, history, out),
-        AppName::Token => record_booted::<Token, H, W>(alloc, topology, script, history, out),
+    match network.app {
+        AppName::Idle => record_booted::<Idle, H, W>(alloc, network, script, history, out),
+        AppName::Token => record_booted::<Token, H, W>(alloc, network, script, history, out),
         AppName::Mutex => {
-            record_booted::<EdgeReversal, H, W>(alloc, topology, script, history, out)
+            record_booted::<EdgeReversal, H, W>(alloc, network, script, history, out)
         }
-        AppName::Routes => record_booted::<Routes, H, W>(alloc, topology, script, history, out),
+        AppName::Routes => record_booted::<Routes, H, W>(alloc, network, script, history, out),
     }
 }
 
 fn record_booted<P: Application, H: Write, W: Write>(
     alloc: Global,
-    topology: Topology,
+    network: Network,
     script: &[u8],
     history: &mut H,
     out: &mut W,
 ) -> Result<Status, RunStop>
-    ensures { LeavesRecord (IsRecordFrom (meaning_of P.app P.text P.from_text P.names) topology script.now)
+    ensures { LeavesRecord
+        (IsRecordFrom (meaning_of P.app P.text P.from_text P.names) network.topology network.modulus script.now)
         (H.contents history.old) (H.contents history.new) (W.contents out.old) (W.contents out.new) result }
 {
-    match Config::<P>::boot(alloc, topology) {
+    match Config::<P>::boot(alloc, network.topology, network.modulus) {
         Ok(opening) => record_script(alloc, opening, script, history, out),
         Err(_) => Err(RunStop::NoMemory),
     }

@@ -44,10 +44,10 @@ pub fn history_of<P: Application>(
     text_of(alloc, &book)
 }
 
-/// The text of a book's history, which is read as its entries.
+/// The text of a book's history, which is read as its modulus and its entries.
 pub fn text_of<P: Application>(alloc: Global, book: &Book<P>) -> Result<Vec<u8>, AllocError>
-    ensures text { IfOk result (λ text. text.items ≡ history_text book.now.entries) }
-    ensures read { IfOk result (λ text. IsReadAs text.items (Ok book.now.entries)) }
+    ensures text { IfOk result (λ text. text.items ≡ history_text book.now.config.modulus book.now.entries) }
+    ensures read { IfOk result (λ text. IsReadAs text.items (Ok (book.now.config.modulus, book.now.entries))) }
 {
     book.lemma_is_book();
     books_read_back::<P>();

@@ -14,6 +14,7 @@ ghost use Rattle.script_replay.specs.Stops.{IsOutputStop};
 use crate::answer::{answer, answer_step, put_bad_line, put_topology_fault};
 use crate::faults::answer_check;
 use crate::input::{cut_joined, read_text};
+use crate::network::{Network, read_network};
 use crate::next_line::{NextLine, next_line};
 use crate::script::{Line, read_line};
 use crate::status::{Purpose, RunStop, Status};
@@ -25,9 +26,10 @@ use app_token::Token;
 use reset_machine::Config;
 use std::alloc::Global;
 use std::io::{Read, Write};
-use topology::{AppName, MAX_TEXT, ReadFault, Topology, read_topology};
+use topology::{AppName, MAX_TEXT, ReadFault};
 
-/// Replays a script on the booted configuration of a topology text, and writes the answers.
+/// Replays a script on the booted configuration of a topology text, with sessions modulo the number that it names, and
+/// writes the answers.
 ///
 /// The topology is judged first, then the length of the script, then its lines in order, each
 /// with its answer before the next. The first bad line ends the run, and what was answered before
@@ -42,8 +44,8 @@ pub fn replay_text<W: Write>(
         result }
     ensures stop { IfErr result IsOutputStop }
 {
-    match read_topology(alloc, topology) {
-        Ok((topology, app)) => run_app(alloc, Purpose::Replay, app, topology, script, out),
+    match read_network(alloc, topology) {
+        Ok(network) => run_app(alloc, Purpose::Replay, network, script, out),
         Err(fault) => refuse_topology(fault, out),
     }
 }
@@ -93,9 +95,9 @@ fn run_read<R: Read, W: Write>(
     ensures taken { OnOk result (GaveText (R.remaining script.old) (R.remaining script.new)) }
     ensures untouched { (f : ReadFault) → IsReadFault topology.now f → script.new ≡ script.old }
 {
-    match read_topology(alloc, topology) {
-        Ok((topology, app)) => match read_text(alloc, script) {
-            Ok(text) => run_app(alloc, purpose, app, topology, &text, out),
+    match read_network(alloc, topology) {
+        Ok(network) => match read_text(alloc, script) {
+            Ok(text) => run_app(alloc, purpose, network, &text, out),
             Err(stop) => Err(stop),
         },
         Err(refused) => refuse_topology(refused, out),
@@ -132,39 +134,39 @@ fn replay_whole<W: Write>(alloc: Global, joined: &[u8], out: &mut W) -> Result<S
     replay_text(alloc, topology, script, out)
 }
 
-// Runs a script on the booted configuration of a topology, with the application of this name.
+// Runs a script on the booted configuration of a network, with the application that it names.
 fn run_app<W: Write>(
     alloc: Global,
     purpose: Purpose,
-    app: AppName,
-    topology: Topology,
+    network: Network,
     script: &[u8],
     out: &mut W,
 ) -> Result<Status, RunStop>
-    ensures leaves { Leaves (IsReplayOf app purpose topology script.now) (W.contents out.old) (W.contents out.new)
-        result }
+    ensures leaves { Leaves (IsReplayOf network.app purpose network.topology network.modulus script.now)
+        (W.contents out.old) (W.contents out.new) result }
     ensures stop { IfErr result IsOutputStop }
 {
-    match app {
-        AppName::Idle => run_booted::<Idle, W>(alloc, purpose, topology, script, out),
-        AppName::Token => run_booted::<Token, W>(alloc, purpose, topology, script, out),
-        AppName::Mutex => run_booted::<EdgeReversal, W>(alloc, purpose, topology, script, out),
-        AppName::Routes => run_booted::<Routes, W>(alloc, purpose, topology, script, out),
+    match network.app {
+        AppName::Idle => run_booted::<Idle, W>(alloc, purpose, network, script, out),
+        AppName::Token => run_booted::<Token, W>(alloc, purpose, network, script, out),
+        AppName::Mutex => run_booted::<EdgeReversal, W>(alloc, purpose, network, script, out),
+        AppName::Routes => run_booted::<Routes, W>(alloc, purpose, network, script, out),
     }
 }
 
 fn run_booted<P: Application, W: Write>(
     alloc: Global,
     purpose: Purpose,
-    topology: Topology,
+    network: Network,
     script: &[u8],
     out: &mut W,
 ) -> Result<Status, RunStop>
-    ensures leaves { Leaves (IsReplay (meaning_of P.app P.text P.from_text P.names) purpose topology script.now)
+    ensures leaves { Leaves
+        (IsReplay (meaning_of P.app P.text P.from_text P.names) purpose network.topology network.modulus script.now)
         (W.contents out.old) (W.contents out.new) result }
     ensures stop { IfErr result IsOutputStop }
 {
-    match Config::<P>::boot(alloc, topology) {
+    match Config::<P>::boot(alloc, network.topology, network.modulus) {
         Ok(config) => run_script(alloc, purpose, config, script, out),
         Err(_) => Err(RunStop::NoMemory),
     }

@@ -24,9 +24,10 @@ pub returns-in-Ok-read_text-clause-leaves : goal.returns-in-Ok-read_text-clause-
 returns-in-Ok-read_text-clause-leaves g c = (
   c.deref.result.now,
   rw c.deref.ensures.value c.in-Ok-read_text.ensures.ok,
-  record_weaker (IsRecordOf c.in-Ok.app c.in-Ok.topology c.deref.result.now)
+  record_weaker (IsRecordOf c.in-Ok.network.app c.in-Ok.network.topology c.in-Ok.network.modulus c.deref.result.now)
       (IsRecorded c.args.topology.now c.deref.result.now) _ _ _ _ c.record_app.result
-      (recorded c.args.topology.now c.deref.result.now c.in-Ok.topology c.in-Ok.app c.in-Ok.ensures.ok)
+      (recorded c.args.topology.now c.deref.result.now c.in-Ok.network.topology c.in-Ok.network.app
+      c.in-Ok.network.modulus c.in-Ok.ensures.ok)
       c.record_app.ensures,
 )
 

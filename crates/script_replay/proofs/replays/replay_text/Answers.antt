@@ -9,9 +9,11 @@ use Rattle.script_replay.proofs.replays.replay_text.Goals as goal
 
 pub returns-in-Ok-clause-leaves : goal.returns-in-Ok-clause-leaves
 returns-in-Ok-clause-leaves g c =
-    leaves_weaker (IsReplayOf c.in-Ok.app Replay c.in-Ok.topology c.args.script.now)
+    leaves_weaker
+    (IsReplayOf c.in-Ok.network.app Replay c.in-Ok.network.topology c.in-Ok.network.modulus c.args.script.now)
     (IsOutput Replay c.args.topology.now c.args.script.now) _ _ c.run_app.result
-    (λ o is. good_topology c.in-Ok.topology c.in-Ok.app c.in-Ok.ensures.ok is) c.run_app.ensures.leaves
+    (λ o is. good_topology c.in-Ok.network.topology c.in-Ok.network.app c.in-Ok.network.modulus c.in-Ok.ensures.ok is)
+    c.run_app.ensures.leaves
 
 pub returns-in-Err-clause-leaves : goal.returns-in-Err-clause-leaves
 returns-in-Err-clause-leaves g c =

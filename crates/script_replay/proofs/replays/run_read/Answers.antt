@@ -21,9 +21,12 @@ pub returns-in-Ok-read_text-clause-leaves : goal.returns-in-Ok-read_text-clause-
 returns-in-Ok-read_text-clause-leaves g c = (
   c.deref.result.now,
   rw c.deref.ensures.value c.in-Ok-read_text.ensures.ok,
-  leaves_weaker (IsReplayOf c.in-Ok.app c.args.purpose c.in-Ok.topology c.deref.result.now)
+  leaves_weaker
+      (IsReplayOf c.in-Ok.network.app c.args.purpose c.in-Ok.network.topology c.in-Ok.network.modulus
+      c.deref.result.now)
       (IsOutput c.args.purpose c.args.topology.now c.deref.result.now) _ _ c.run_app.result
-      (λ o is. good_topology c.in-Ok.topology c.in-Ok.app c.in-Ok.ensures.ok is) c.run_app.ensures.leaves,
+      (λ o is. good_topology c.in-Ok.network.topology c.in-Ok.network.app c.in-Ok.network.modulus c.in-Ok.ensures.ok
+      is) c.run_app.ensures.leaves,
 )
 
 pub returns-in-Err-read_text-clause-leaves : goal.returns-in-Err-read_text-clause-leaves
