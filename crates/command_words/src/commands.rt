@@ -65,7 +65,9 @@ A topology:
   nodes = [1, 2, 3]
   links = [[1, 2], [2, 3]]
   app = \"token\"
-All three keys are needed; the application is \"idle\", \"token\", \"mutex\" or \"routes\".
+These three keys are needed; the application is \"idle\", \"token\", \"mutex\" or \"routes\".
+A fourth, `modulus`, may stand: the number modulo which sessions are counted, from 2 to 4294967296,
+and without the key 4294967296.
 
 The commands of a script, at node I with its neighbour J and its child C:
   claim I, follow I, adopt I J
@@ -118,17 +120,21 @@ first fault, and after a fault of a reset that opens where `check` tells no row 
 
 Where an entry isn't allowed where it stands, the answer is `not enabled at POSITION` of the first
 such entry, and the exit status is 1; in the file it is one line further down. A file that isn't a
-history is answered by `bad history` and its first bad line, and the exit status is 2.",
+history is answered by `bad history` and its first bad line, and one that counts sessions modulo
+another number than the topology by `bad history OtherModulus` and that number, both with exit
+status 2.",
     input: HISTORY_HELP,
     after_help: "\
 A history:
-  reset-history 1
+  reset-history 2 8
   request 3
   open 3
-The first line is always this one. Each line after it is one entry, a command of a script that
-`replay` answers with `applied`, `complete NUMBER` or `disturbed`, an action with the number of its
-case; `reset-service replay --help` tells the commands. There are no comments, no empty lines, no
-questions and no draws, and each line, the last one too, ends with a line feed.
+The first line is `reset-history 2 M`, where sessions are counted modulo M, the topology's
+`modulus`; `reset-history 1` is read as one with M = 4294967296. Each line after the first is one
+entry, a command of a script that `replay` answers with `applied`, `complete NUMBER` or
+`disturbed`, an action with the number of its case; `reset-service replay --help` tells the
+commands. There are no comments, no empty lines, no questions and no draws, and each line, the last
+one too, ends with a line feed.
 
 Example:
   reset-service verify examples/verified-wave/topology.toml examples/verified-wave/history",

@@ -1,5 +1,6 @@
 -- What a run of the seeded scheduler comes to, that it is one, and that a verification takes its history.
-use Rattle.std.proofs.Common.{◌≡◌, ◌∙◌, ℕ, List, [], length, Result, Ok, Err, IfOk, ap, refl, sym, subst, subst₂}
+use Rattle.std.proofs.Common.{◌≡◌, ◌∙◌, ℕ, List, [], length, IsSome, Some, Result, Ok, Err, IfOk, ap, refl, sym, subst}
+use Rattle.std.proofs.Common.{subst₂}
 use Rattle.topology.specs.Graph.{Graph}
 use Rattle.topology.specs.TopologyText.{IsReadFault}
 use Rattle.topology.specs.declared.text.AppName.{AppName}
@@ -7,9 +8,12 @@ use Rattle.topology.specs.declared.text.AppName.TheVariants.{Idle, Token, Mutex,
 use Rattle.topology.specs.declared.text.ReadFault.{ReadFault}
 use Rattle.reset_model.specs.Configuration.{Configuration}
 use Rattle.reset_model.proofs.OneBoot.{one_boot}
-use Rattle.history.specs.HistoryText.{history_text}
+use Rattle.history.specs.Book.{BookView, IsBook}
+use Rattle.history.specs.Entries.{replayed}
+use Rattle.history.specs.HistoryText.{IsReadAs, history_text}
 use Rattle.history.specs.Reports.{reports_of}
-use Rattle.reset_service.specs.Drove.{IsDrove, IsDroveFrom, IsDroveOf, IsDroveText, drove_line}
+use Rattle.scheduler.specs.Driven.{driven}
+use Rattle.reset_service.specs.Drove.{IsDrove, IsDroveFrom, IsDroveOf, IsDroveText, drove_line, new_book}
 use Rattle.script_replay.specs.Meaning.{Meaning, idle_meaning, token_meaning, mutex_meaning, routes_meaning}
 use Rattle.script_replay.specs.Output.{Describes, IsJudged, bad_topology_text}
 use Rattle.script_replay.specs.Output.IsJudged.{bad_topology, good_topology}
@@ -20,21 +24,46 @@ use Rattle.script_replay.specs.declared.status.RunStop.{RunStop}
 use Rattle.script_replay.specs.declared.status.Status.{Status}
 use Rattle.script_replay.specs.declared.status.Status.TheVariants.{BadInput, Good}
 use Rattle.reset_service.specs.declared.told.Told.{Told}
+use Rattle.script_replay.proofs.KeptModulus.{replayed_modulus}
 use Rattle.script_replay.proofs.OneOutput.{bad_or_good, one_description, one_read_fault}
 
 abbrev Output : Type 0
 Output = List ℕ × Status
 
 module _ (steps seed faults : ℕ) where
+  -- ---- what a book that was driven tells
+
+  pub drove : {L : Type 0} (m : Meaning L) (c : Configuration L) (b : BookView L) (history : List ℕ)
+      → b ≡ driven m.app m.from_text steps seed faults (new_book c) → b.opening ≡ c → IsBook m.app m.from_text b
+      → history ≡ history_text b.config.modulus b.entries → IsReadAs history (Ok (b.config.modulus, b.entries))
+      → (entries reports : ℕ) → entries ≡ length b.entries
+      → reports ≡ length (reports_of m.app m.from_text b.opening b.entries)
+      → IsDrove m c steps seed faults history (drove_line entries reports, Good)
+  drove m c b history is opening book text read entries reports e r =
+      let left : replayed m.app m.from_text c b.entries ≡ Some b.config =
+      ap (λ d. replayed m.app m.from_text d b.entries) (sym opening) ∙ book.replay in
+      let modulus : b.config.modulus ≡ c.modulus = replayed_modulus m.app m.from_text b.entries c b.config left in
+      record {
+        entries = b.entries;
+        drawn = ap (λ (x : BookView _). x.entries) is;
+        allowed = subst (λ o. IsSome o) (sym left) refl;
+        text = text ∙ ap (λ n. history_text n b.entries) modulus;
+        read = subst (λ n. IsReadAs history (Ok (n, b.entries))) modulus read;
+        told = ap (λ n. (drove_line n reports, Good)) e
+            ∙ ap (λ n. (drove_line (length b.entries) n, Good))
+            (r ∙ ap (λ d. length (reports_of m.app m.from_text d b.entries)) opening);
+      }
+
   -- ---- a topology is judged first
 
-  pub droved : (topology : List ℕ) (g : Graph) (app : AppName) (r : Result Told RunStop) → Describes topology g app
-      → IfOk r (λ told. IsDroveOf steps seed faults app g (told_history told) (told_output told))
+  pub droved : (topology : List ℕ) (g : Graph) (app : AppName) (modulus : ℕ) (r : Result Told RunStop)
+      → Describes topology g app modulus
+      → IfOk r (λ told. IsDroveOf steps seed faults app g modulus (told_history told) (told_output told))
       → IfOk r (λ told. (told_output told).1 ≡ BadInput → told_history told ≡ [])
       → IfOk r (λ told. IsDroveText steps seed faults topology (told_history told) (told_output told))
-  droved topology g app (Ok told) describes is undriven =
-      record { judged = good_topology g app describes is; undriven = undriven }
-  droved topology g app (Err stop) describes is undriven = tt
+  droved topology g app modulus (Ok told) describes is undriven =
+      record { judged = good_topology g app modulus describes is; undriven = undriven }
+  droved topology g app modulus (Err stop) describes is undriven = tt
 
   pub undroved : (topology : List ℕ) (f : ReadFault) → IsReadFault topology f
       → IsDroveText steps seed faults topology [] (bad_topology_text f, BadInput)
@@ -42,17 +71,17 @@ module _ (steps seed faults : ℕ) where
 
   -- ---- a verification takes the history
 
-  verified_from : {L : Type 0} (m : Meaning L) (g : Graph) (history line : List ℕ)
-      → IsDroveFrom m steps seed faults g history (line, Good)
-      → (written : List ℕ) × IsVerifiedFrom m g history (written, Good)
-  verified_from m g history line (c, boot, is) = (
+  verified_from : {L : Type 0} (m : Meaning L) (g : Graph) (modulus : ℕ) (history line : List ℕ)
+      → IsDroveFrom m steps seed faults g modulus history (line, Good)
+      → (written : List ℕ) × IsVerifiedFrom m g modulus history (written, Good)
+  verified_from m g modulus history line (c, boot, is) = (
     verified_text (length is.entries) (reports_of m.app m.from_text c is.entries),
     (c, boot, allowed is.entries is.read is.allowed refl),
   )
 
-  verified_of : (app : AppName) (g : Graph) (history line : List ℕ)
-      → IsDroveOf steps seed faults app g history (line, Good)
-      → (written : List ℕ) × IsVerifiedOf app g history (written, Good)
+  verified_of : (app : AppName) (g : Graph) (modulus : ℕ) (history line : List ℕ)
+      → IsDroveOf steps seed faults app g modulus history (line, Good)
+      → (written : List ℕ) × IsVerifiedOf app g modulus history (written, Good)
   verified_of Idle = verified_from idle_meaning
   verified_of Token = verified_from token_meaning
   verified_of Mutex = verified_from mutex_meaning
@@ -62,11 +91,12 @@ module _ (steps seed faults : ℕ) where
       → (written : List ℕ) × IsVerification topology history (written, Good)
   drove_verified topology history line is = go is.judged
     where
-      go : IsJudged (λ app g. IsDroveOf steps seed faults app g history) topology (line, Good)
+      go : IsJudged (λ app g modulus. IsDroveOf steps seed faults app g modulus history) topology (line, Good)
           → (written : List ℕ) × IsVerification topology history (written, Good)
       go (bad_topology f bad is) = let other : Good ≡ BadInput = ap (λ (o : Output). o.1) is in absurd (cc)
-      go (good_topology g app describes is) =
-          let found = verified_of app g history line is in (found.0, good_topology g app describes found.1)
+      go (good_topology g app modulus describes is) =
+          let found = verified_of app g modulus history line is in
+          (found.0, good_topology g app modulus describes found.1)
 
   -- ---- there is one run
 
@@ -77,18 +107,21 @@ module _ (steps seed faults : ℕ) where
       → IsDrove m c steps seed faults h o → IsDrove m c steps seed faults k p → AreOne h k o p
   one_drove m c h k o p a b =
       let same : a.entries ≡ b.entries = a.drawn ∙ sym b.drawn in (
-        a.text ∙ ap history_text same ∙ sym b.text,
+        a.text ∙ ap (history_text c.modulus) same ∙ sym b.text,
         a.told ∙ ap (λ es. (drove_line (length es) (length (reports_of m.app m.from_text c es)), Good)) same
             ∙ sym b.told,
       )
 
-  one_from : {L : Type 0} (m : Meaning L) (g : Graph) (h k : List ℕ) (o p : Output)
-      → IsDroveFrom m steps seed faults g h o → IsDroveFrom m steps seed faults g k p → AreOne h k o p
-  one_from m g h k o p (c, boot, is) (d, other, is') =
-      one_drove m d h k o p (subst (λ x. IsDrove m x steps seed faults h o) (one_boot m.app g c d boot other) is) is'
+  one_from : {L : Type 0} (m : Meaning L) (g : Graph) (modulus : ℕ) (h k : List ℕ) (o p : Output)
+      → IsDroveFrom m steps seed faults g modulus h o → IsDroveFrom m steps seed faults g modulus k p
+      → AreOne h k o p
+  one_from m g modulus h k o p (c, boot, is) (d, other, is') =
+      one_drove m d h k o p
+      (subst (λ x. IsDrove m x steps seed faults h o) (one_boot m.app g modulus c d boot other) is) is'
 
-  one_of : (app : AppName) (g : Graph) (h k : List ℕ) (o p : Output) → IsDroveOf steps seed faults app g h o
-      → IsDroveOf steps seed faults app g k p → AreOne h k o p
+  one_of : (app : AppName) (g : Graph) (modulus : ℕ) (h k : List ℕ) (o p : Output)
+      → IsDroveOf steps seed faults app g modulus h o → IsDroveOf steps seed faults app g modulus k p
+      → AreOne h k o p
   one_of Idle = one_from idle_meaning
   one_of Token = one_from token_meaning
   one_of Mutex = one_from mutex_meaning
@@ -98,15 +131,18 @@ module _ (steps seed faults : ℕ) where
       → IsDroveText steps seed faults topology k p → AreOne h k o p
   one_driven topology h k o p a b = go a.judged b.judged
     where
-      go : IsJudged (λ app g. IsDroveOf steps seed faults app g h) topology o
-          → IsJudged (λ app g. IsDroveOf steps seed faults app g k) topology p → AreOne h k o p
+      go : IsJudged (λ app g modulus. IsDroveOf steps seed faults app g modulus h) topology o
+          → IsJudged (λ app g modulus. IsDroveOf steps seed faults app g modulus k) topology p → AreOne h k o p
       go (bad_topology f bad is) (bad_topology e other is') = (
         a.undriven (ap (λ (x : Output). x.1) is) ∙ sym (b.undriven (ap (λ (x : Output). x.1) is')),
         is ∙ ap (λ x. (bad_topology_text x, BadInput)) (one_read_fault topology f e bad other) ∙ sym is',
       )
-      go (bad_topology f bad is) (good_topology g app good follows) = absurd (bad_or_good topology f g app bad good)
-      go (good_topology g app good follows) (bad_topology f bad is) = absurd (bad_or_good topology f g app bad good)
-      go (good_topology g app good follows) (good_topology i other good' follows') =
-          let same = one_description topology g i app other good good' in
-          one_of other i h k o p
-          (subst₂ (λ x y. IsDroveOf steps seed faults y x h o) same.0 same.1 follows) follows'
+      go (bad_topology f bad is) (good_topology g app modulus good follows) =
+          absurd (bad_or_good topology f g app modulus bad good)
+      go (good_topology g app modulus good follows) (bad_topology f bad is) =
+          absurd (bad_or_good topology f g app modulus bad good)
+      go (good_topology g app modulus good follows) (good_topology i other another good' follows') =
+          let same = one_description topology g i app other modulus another good good' in
+          one_of other i another h k o p
+          (subst (λ x. IsDroveOf steps seed faults other i x h o) same.2
+          (subst₂ (λ x y. IsDroveOf steps seed faults y x modulus h o) same.0 same.1 follows)) follows'

@@ -1,6 +1,6 @@
 -- What node threads keep is a run of the abstract machine, whose reports are true.
 use Rattle.std.proofs.Common.{◌≡◌, ◌≤◌, ◌+◌, ℕ, Bool, true, false, if◌then◌else◌, nat_eq, List, [], ◌∷◌}
-use Rattle.std.proofs.Common.{All, Contains, IsSome, Option, Some, None, ◌↔◌, arith, length, map, refl, sym}
+use Rattle.std.proofs.Common.{All, Contains, IsSome, Ok, Option, Some, None, ◌↔◌, arith, length, map, refl, sym}
 use Rattle.std.proofs.Common.{ap, ◌∙◌, subst, append-nil}
 use Rattle.std.proofs.lemmas.Bool.{eqb-true}
 use Rattle.std.proofs.lemmas.List.{length-append, length-map}
@@ -19,6 +19,7 @@ use Rattle.reset_model.specs.Outcome.{IsBoot}
 use Rattle.reset_model.specs.Refinement.{abstract_of}
 use Rattle.reset_model.specs.Sound.{IsSound}
 use Rattle.history.specs.Entries.{replayed}
+use Rattle.history.specs.HistoryText.{IsReadAs}
 use Rattle.history.specs.Reports.{reports_of}
 use Rattle.history.specs.Stretches.{IsIn, IsReport, IsSoundStretch, IsStretch, IsTrueReport, Stretch, steps}
 use Rattle.history.specs.declared.entry.Entry.{Entry}
@@ -35,6 +36,7 @@ use Rattle.reset_service.specs.Verified.IsVerified.{allowed}
 use Rattle.script_replay.specs.declared.status.Status.{Status}
 use Rattle.script_replay.specs.declared.status.Status.TheVariants.{BadInput, Good}
 use Rattle.reset_service.proofs.ConnectedTopologies.{topology_connected}
+use Rattle.reset_service.proofs.ReadModuli.{read_modulus}
 use Rattle.reset_service.proofs.VerifiedReports.{has_graph, is_connected, is_shaped, is_sound}
 
 abbrev Output : Type 0
@@ -57,8 +59,9 @@ either_way false x y e = refl
 
 pub booted_invariant : {L : Type 0} (app : App L) (Inv : Graph → (ℕ → L) → Type 0)
     → ((g : Graph) (bound : ℕ) → IsGraph g → length g.ids ≤ bound → Keeps app g bound (Inv g))
-    → (g : Graph) (c : Configuration L) → IsGraph g → IsBoot app g c → Inv c.graph (abstract_of app c)
-booted_invariant {L = L} app Inv keeps g c graph boot =
+    → (g : Graph) (modulus : ℕ) (c : Configuration L) → IsGraph g → IsBoot app g modulus c
+    → Inv c.graph (abstract_of app c)
+booted_invariant {L = L} app Inv keeps g modulus c graph boot =
     let here : IsGraph c.graph = subst IsGraph (sym boot.graph) graph in
     let known = keeps c.graph (length c.graph.ids) here (omega arith) in
     let locals : c.locals ≡ map (app.start c.graph) c.graph.ids =
@@ -90,7 +93,9 @@ module _ {L : Type 0} (m : Meaning L) (Inv : Graph → (ℕ → L) → Type 0) w
       → IsSoundStretch m.app Inv s
 
   abbrev pub HoldBooted : Type 0
-  HoldBooted = (g : Graph) (c : Configuration L) → IsGraph g → IsBoot m.app g c → Inv c.graph (abstract_of m.app c)
+  HoldBooted =
+      (g : Graph) (modulus : ℕ) (c : Configuration L) → IsGraph g → IsBoot m.app g modulus c
+      → Inv c.graph (abstract_of m.app c)
 
   whole_stretch : (c left : Configuration L) (events : List Event)
       → replayed m.app m.from_text c (steps events) ≡ Some left
@@ -116,9 +121,9 @@ module _ {L : Type 0} (m : Meaning L) (Inv : Graph → (ℕ → L) → Type 0) w
   value_of None is = absurd (cc)
 
   module _ (are : AreReports) (are_true : AreTrue) (refine : Refine) (hold : HoldBooted) (g : Graph)
-      (graph : IsGraph g) (connected : IsConnected g) where
-    tells : (history line : List ℕ) (c : Configuration L) → IsBoot m.app g c → IsKept m c history (line, Good)
-        → TellsRun m Inv g history line
+      (graph : IsGraph g) (connected : IsConnected g) (modulus : ℕ) where
+    tells : (history line : List ℕ) (c : Configuration L) → IsBoot m.app g modulus c
+        → IsKept m c history (line, Good) → TellsRun m Inv g modulus history line
     tells history line c boot (too_many many is) =
         let other : Good ≡ BadInput = ap (λ (o : Output). o.1) is in absurd (cc)
     tells history line c boot (kept events few read some is) =
@@ -127,10 +132,10 @@ module _ {L : Type 0} (m : Meaning L) (Inv : Graph → (ℕ → L) → Type 0) w
         let left = end.0 in
         let s = whole c events left in
         let stretch = whole_stretch c left events end.1 in
-        let here = has_graph m g graph connected c boot in
-        let joined = is_connected m g graph connected c boot in
-        let shaped = is_shaped m g graph connected c boot in
-        let sound = is_sound m g graph connected c boot in
+        let here = has_graph m g graph connected modulus c boot in
+        let joined = is_connected m g graph connected modulus c boot in
+        let shaped = is_shaped m g graph connected modulus c boot (read_modulus history c.modulus es read) in
+        let sound = is_sound m g graph connected modulus c boot in
         let lawful = refine c es s here joined shaped stretch sound in
         let reports = reports_of m.app m.from_text c es in
         let known = are_true c es s here joined shaped stretch sound in
@@ -140,10 +145,10 @@ module _ {L : Type 0} (m : Meaning L) (Inv : Graph → (ℕ → L) → Type 0) w
           left = left;
           booted = boot;
           sound = sound;
-          read = read;
+          read = subst (λ k. IsReadAs history (Ok (k, es))) boot.modulus read;
           stretch = stretch;
           lawful = lawful;
-          invariant = lawful.invariant (hold g c graph boot);
+          invariant = lawful.invariant (hold g modulus c graph boot);
           told = ap (λ (o : Output). o.0) is
               ∙ ap (λ (h : Graph). threads_line (length h.ids) (length events) (length reports)) boot.graph;
           true_reports = All-weaker (Contains reports) (IsTrueReport m.app m.from_text c es s)
@@ -151,22 +156,25 @@ module _ {L : Type 0} (m : Meaning L) (Inv : Graph → (ℕ → L) → Type 0) w
               known there (inside c left events r ((are c es r).0 there))) reports (All-contains_itself reports);
         }
 
-    pub tells_run : (history line : List ℕ) → IsKeptFrom m g history (line, Good) → TellsRun m Inv g history line
+    pub tells_run : (history line : List ℕ) → IsKeptFrom m g modulus history (line, Good)
+        → TellsRun m Inv g modulus history line
     tells_run history line (c, boot, is) = tells history line c boot is
 
 -- ---- a verification takes what was kept
 
-verified_from : {L : Type 0} (m : Meaning L) (g : Graph) (history line : List ℕ) → IsKeptFrom m g history (line, Good)
-    → (written : List ℕ) × IsVerifiedFrom m g history (written, Good)
-verified_from m g history line (c, boot, too_many many is) =
+verified_from : {L : Type 0} (m : Meaning L) (g : Graph) (modulus : ℕ) (history line : List ℕ)
+    → IsKeptFrom m g modulus history (line, Good)
+    → (written : List ℕ) × IsVerifiedFrom m g modulus history (written, Good)
+verified_from m g modulus history line (c, boot, too_many many is) =
     let other : Good ≡ BadInput = ap (λ (o : Output). o.1) is in absurd (cc)
-verified_from m g history line (c, boot, kept events few read some is) = (
+verified_from m g modulus history line (c, boot, kept events few read some is) = (
   verified_text (length (steps events)) (reports_of m.app m.from_text c (steps events)),
   (c, boot, allowed (steps events) read some refl),
 )
 
-verified_of : (app : AppName) (g : Graph) (history line : List ℕ) → IsKeptOf app g history (line, Good)
-    → (written : List ℕ) × IsVerifiedOf app g history (written, Good)
+verified_of : (app : AppName) (g : Graph) (modulus : ℕ) (history line : List ℕ)
+    → IsKeptOf app g modulus history (line, Good)
+    → (written : List ℕ) × IsVerifiedOf app g modulus history (written, Good)
 verified_of Idle = verified_from idle_meaning
 verified_of Token = verified_from token_meaning
 verified_of Mutex = verified_from mutex_meaning
@@ -176,38 +184,43 @@ pub threads_verified : (topology history line : List ℕ) → IsThreaded topolog
     → (written : List ℕ) × IsVerification topology history (written, Good)
 threads_verified topology history line is = go is.judged
   where
-    go : IsJudged (λ app g. IsKeptOf app g history) topology (line, Good)
+    go : IsJudged (λ app g modulus. IsKeptOf app g modulus history) topology (line, Good)
         → (written : List ℕ) × IsVerification topology history (written, Good)
     go (bad_topology f bad is) = let other : Good ≡ BadInput = ap (λ (o : Output). o.1) is in absurd (cc)
-    go (good_topology g app describes is) =
-        let found = verified_of app g history line is in (found.0, good_topology g app describes found.1)
+    go (good_topology g app modulus describes is) =
+        let found = verified_of app g modulus history line is in
+        (found.0, good_topology g app modulus describes found.1)
 
 -- ---- by the application's name
 
 -- that it is known of an application
 abbrev pub Known : {L : Type 0} → Meaning L → (Graph → (ℕ → L) → Type 0) → Type 0
-Known m Inv = (g : Graph) (history line : List ℕ) → IsGraph g → IsConnected g → IsKeptFrom m g history (line, Good)
-    → TellsRun m Inv g history line
+Known m Inv =
+    (g : Graph) (modulus : ℕ) (history line : List ℕ) → IsGraph g → IsConnected g
+    → IsKeptFrom m g modulus history (line, Good) → TellsRun m Inv g modulus history line
 
 module _ (idle : Known idle_meaning (λ g v. Unit {0})) (token : Known token_meaning HasOneToken)
     (mutex : Known mutex_meaning HoldsTurns) (routes : Known routes_meaning HasRoutes) where
-  tells_of : (app : AppName) (g : Graph) → IsGraph g → IsConnected g → (history line : List ℕ)
-      → IsKeptOf app g history (line, Good) → TellsRunOf app g history line
-  tells_of Idle g graph connected history line = idle g history line graph connected
-  tells_of Token g graph connected history line = token g history line graph connected
-  tells_of Mutex g graph connected history line = mutex g history line graph connected
-  tells_of Routes g graph connected history line = routes g history line graph connected
+  tells_of : (app : AppName) (g : Graph) → IsGraph g → IsConnected g → (modulus : ℕ) (history line : List ℕ)
+      → IsKeptOf app g modulus history (line, Good) → TellsRunOf app g modulus history line
+  tells_of Idle g graph connected modulus history line = idle g modulus history line graph connected
+  tells_of Token g graph connected modulus history line = token g modulus history line graph connected
+  tells_of Mutex g graph connected modulus history line = mutex g modulus history line graph connected
+  tells_of Routes g graph connected modulus history line = routes g modulus history line graph connected
 
   pub threads_run : (topology history line : List ℕ) → IsThreaded topology history (line, Good)
-      → (g : Graph) × (app : AppName) × Describes topology g app × TellsRunOf app g history line
+      → (g : Graph) × (app : AppName) × (modulus : ℕ) × Describes topology g app modulus
+      × TellsRunOf app g modulus history line
   threads_run topology history line is = go is.judged
     where
-      go : IsJudged (λ app g. IsKeptOf app g history) topology (line, Good)
-          → (g : Graph) × (app : AppName) × Describes topology g app × TellsRunOf app g history line
+      go : IsJudged (λ app g modulus. IsKeptOf app g modulus history) topology (line, Good)
+          → (g : Graph) × (app : AppName) × (modulus : ℕ) × Describes topology g app modulus
+          × TellsRunOf app g modulus history line
       go (bad_topology f bad is) = let other : Good ≡ BadInput = ap (λ (o : Output). o.1) is in absurd (cc)
-      go (good_topology g app describes is) = (
+      go (good_topology g app modulus describes is) = (
         g,
         app,
+        modulus,
         describes,
-        tells_of app g describes.2.exact.as_graph (topology_connected _ _ g describes.2) history line is,
+        tells_of app g describes.2.exact.as_graph (topology_connected _ _ g describes.2) modulus history line is,
       )

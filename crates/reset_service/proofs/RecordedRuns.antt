@@ -26,24 +26,26 @@ module _ (script history : List ℕ) (output : Output) (short : length script �
   verified m c (kept es few are are_allowed read text) =
       (verified_text (length es) (reports_of m.app m.from_text c es), allowed es read are_allowed refl)
 
-  verified_from : {L : Type 0} (m : Meaning L) (g : Graph) → IsRecordFrom m g script history output
-      → (written : List ℕ) × IsVerifiedFrom m g history (written, Good)
-  verified_from m g (c, boot, is) = let found = verified m c is.history_is in (found.0, (c, boot, found.1))
+  verified_from : {L : Type 0} (m : Meaning L) (g : Graph) (modulus : ℕ)
+      → IsRecordFrom m g modulus script history output
+      → (written : List ℕ) × IsVerifiedFrom m g modulus history (written, Good)
+  verified_from m g modulus (c, boot, is) = let found = verified m c is.history_is in (found.0, (c, boot, found.1))
 
-  verified_of : (app : AppName) (g : Graph) → IsRecordOf app g script history output
-      → (written : List ℕ) × IsVerifiedOf app g history (written, Good)
+  verified_of : (app : AppName) (g : Graph) (modulus : ℕ) → IsRecordOf app g modulus script history output
+      → (written : List ℕ) × IsVerifiedOf app g modulus history (written, Good)
   verified_of Idle = verified_from idle_meaning
   verified_of Token = verified_from token_meaning
   verified_of Mutex = verified_from mutex_meaning
   verified_of Routes = verified_from routes_meaning
 
-  pub recordings_verified : (topology : List ℕ) (g : Graph) (app : AppName) → Describes topology g app
-      → IsRecorded topology script history output
+  pub recordings_verified : (topology : List ℕ) (g : Graph) (app : AppName) (modulus : ℕ)
+      → Describes topology g app modulus → IsRecorded topology script history output
       → (written : List ℕ) × IsVerification topology history (written, Good)
-  recordings_verified topology g app describes is = go is.judged
+  recordings_verified topology g app modulus describes is = go is.judged
     where
-      go : IsJudged (λ app g. IsRecordOf app g script history) topology output
+      go : IsJudged (λ app g modulus. IsRecordOf app g modulus script history) topology output
           → (written : List ℕ) × IsVerification topology history (written, Good)
-      go (bad_topology f bad is) = absurd (bad_or_good topology f g app bad describes)
-      go (good_topology h other good follows) =
-          let found = verified_of other h follows in (found.0, good_topology h other good found.1)
+      go (bad_topology f bad is) = absurd (bad_or_good topology f g app modulus bad describes)
+      go (good_topology h other another good follows) =
+          let found = verified_of other h another follows in
+          (found.0, good_topology h other another good found.1)

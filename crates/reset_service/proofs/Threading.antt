@@ -63,19 +63,23 @@ steps_count (e ∷ es) = ap (λ n. suc n) (steps_count es)
 
 -- no text has two readings
 abbrev pub OneReading : Type 0
-OneReading = (text : List ℕ) (r s : Result (List Entry) BookFault) → IsReadAs text r → IsReadAs text s → r ≡ s
+OneReading =
+    (text : List ℕ) (r s : Result (ℕ × List Entry) BookFault) → IsReadAs text r → IsReadAs text s → r ≡ s
 
 module _ {L : Type 0} (m : Meaning L) (c : Configuration L) where
-  pub kept_by : OneReading → (text : List ℕ) (es : List Entry) (s : Summary) → length c.graph.ids ≤ 64
-      → IsReadAs text (Ok es) → list_all is_step es ≡ true → IsVerdict m.app m.from_text c text (Ok s)
+  pub kept_by : OneReading → (text : List ℕ) (modulus : ℕ) (es : List Entry) (s : Summary)
+      → length c.graph.ids ≤ 64 → IsReadAs text (Ok (modulus, es)) → list_all is_step es ≡ true
+      → IsVerdict m.app m.from_text c text (Ok s)
       → (nodes reports : ℕ) → nodes ≡ length c.graph.ids → reports ≡ length s.reports.items
       → IsKept m c text (threads_line nodes s.entries reports, Good)
-  kept_by reading text es s few read all (ds, other, sum) nodes reports n r =
-      let same : Ok ds ≡ Ok es = reading text (Ok ds) (Ok es) other read in
-      let entries : ds ≡ es = cc in
+  kept_by reading text modulus es s few read all (ds, other, sum) nodes reports n r =
+      let same : ◌≡◌ {A = Result (ℕ × List Entry) BookFault} (Ok (c.modulus, ds)) (Ok (modulus, es)) =
+      reading text (Ok (c.modulus, ds)) (Ok (modulus, es)) other read in
+      let book : ◌≡◌ {A = ℕ × List Entry} (c.modulus, ds) (modulus, es) = cc in
+      let entries : ds ≡ es = ap (λ (b : ℕ × List Entry). b.1) book in
       let made = steps_of es all in
       let is : ds ≡ steps made.0 = entries ∙ made.1 in
-      kept made.0 few (subst (λ xs. IsReadAs text (Ok xs)) made.1 read)
+      kept made.0 few (subst (λ xs. IsReadAs text (Ok (c.modulus, xs))) is other)
       (subst (λ xs. IsSome (replayed m.app m.from_text c xs)) is sum.allowed)
       (ap (λ k. (threads_line k s.entries reports, Good)) n
       ∙ ap (λ k. (threads_line (length c.graph.ids) k reports, Good))
@@ -101,13 +105,14 @@ many_unkept (Err stop) cause is = tt
 
 -- ---- a topology is judged first
 
-pub threaded : (topology : List ℕ) (g : Graph) (app : AppName) (r : Result Told RunStop) → Describes topology g app
-    → IfOk r (λ told. IsKeptOf app g (told_history told) (told_output told))
+pub threaded : (topology : List ℕ) (g : Graph) (app : AppName) (modulus : ℕ) (r : Result Told RunStop)
+    → Describes topology g app modulus
+    → IfOk r (λ told. IsKeptOf app g modulus (told_history told) (told_output told))
     → IfOk r (λ told. (told_output told).1 ≡ BadInput → told_history told ≡ [])
     → IfOk r (λ told. IsThreaded topology (told_history told) (told_output told))
-threaded topology g app (Ok told) describes is unkept =
-    record { judged = good_topology g app describes is; unkept = unkept }
-threaded topology g app (Err stop) describes is unkept = tt
+threaded topology g app modulus (Ok told) describes is unkept =
+    record { judged = good_topology g app modulus describes is; unkept = unkept }
+threaded topology g app modulus (Err stop) describes is unkept = tt
 
 pub unthreaded : (topology : List ℕ) (f : ReadFault) → IsReadFault topology f
     → IsThreaded topology [] (bad_topology_text f, BadInput)

@@ -1,6 +1,7 @@
 -- What a verification that ends well tells.
-use Rattle.std.proofs.Common.{◌≡◌, ℕ, List, All, length, sym, ap, subst, ◌∙◌}
+use Rattle.std.proofs.Common.{◌≡◌, ℕ, List, All, Ok, length, sym, ap, subst, ◌∙◌}
 use Rattle.std.proofs.lemmas.List.{length-map, length-replicate}
+use Rattle.action_tables.specs.Modulus.{IsModulus}
 use Rattle.topology.specs.Graph.{Graph, IsConnected, IsGraph}
 use Rattle.topology.specs.declared.text.AppName.{AppName}
 use Rattle.topology.specs.declared.text.AppName.TheVariants.{Idle, Token, Mutex, Routes}
@@ -8,6 +9,7 @@ use Rattle.reset_model.specs.Configuration.{Configuration, IsShaped}
 use Rattle.reset_model.specs.Outcome.{IsBoot}
 use Rattle.reset_model.specs.Sound.{IsSound}
 use Rattle.reset_model.proofs.SoundConfigurations.{boot_tree_picture, boot_wave_picture, pictures_sound}
+use Rattle.history.specs.HistoryText.{IsReadAs}
 use Rattle.history.specs.Reports.{reports_of}
 use Rattle.history.specs.Stretches.{IsIn, IsStretch, IsTrueReport, Stretch}
 use Rattle.history.specs.declared.entry.Entry.{Entry}
@@ -16,10 +18,11 @@ use Rattle.script_replay.specs.Output.{Describes}
 use Rattle.script_replay.specs.Output.IsJudged.{bad_topology, good_topology}
 use Rattle.reset_service.specs.Verified.{IsVerification, IsVerified, IsVerifiedFrom, IsVerifiedOf}
 use Rattle.reset_service.specs.Verified.{TellsTrueReports, TellsTrueReportsOf}
-use Rattle.reset_service.specs.Verified.IsVerified.{allowed, bad_history, not_enabled}
+use Rattle.reset_service.specs.Verified.IsVerified.{allowed, bad_history, not_enabled, other_modulus}
 use Rattle.script_replay.specs.declared.status.Status.{Status}
 use Rattle.script_replay.specs.declared.status.Status.TheVariants.{BadInput, Good, NotEnabled}
 use Rattle.reset_service.proofs.ConnectedTopologies.{topology_connected}
+use Rattle.reset_service.proofs.ReadModuli.{read_modulus}
 
 abbrev Output : Type 0
 Output = List ℕ × Status
@@ -33,18 +36,19 @@ module _ {L : Type 0} (m : Meaning L) where
       → All (λ r. IsIn s r.finished → IsTrueReport m.app m.from_text opening es s r)
       (reports_of m.app m.from_text opening es)
 
-  module _ (g : Graph) (graph : IsGraph g) (connected : IsConnected g) (c : Configuration L)
-      (boot : IsBoot m.app g c) where
+  module _ (g : Graph) (graph : IsGraph g) (connected : IsConnected g) (modulus : ℕ) (c : Configuration L)
+      (boot : IsBoot m.app g modulus c) where
     pub has_graph : IsGraph c.graph
     has_graph = subst IsGraph (sym boot.graph) graph
 
     pub is_connected : IsConnected c.graph
     is_connected = subst IsConnected (sym boot.graph) connected
 
-    pub is_shaped : IsShaped c
-    is_shaped =
+    pub is_shaped : IsModulus c.modulus → IsShaped c
+    is_shaped counted =
         let count : length g.ids ≡ length c.graph.ids = ap (λ (h : Graph). length h.ids) (sym boot.graph) in
         record {
+          modulus = counted;
           trees = boot.trees.count ∙ count;
           waves = ap length boot.waves ∙ length-replicate (length g.ids) _ ∙ count;
           locals = ap length boot.locals ∙ length-map g.ids (m.app.start g) ∙ count;
@@ -52,48 +56,53 @@ module _ {L : Type 0} (m : Meaning L) where
 
     pub is_sound : IsSound c
     is_sound =
-        pictures_sound c has_graph is_connected (boot_tree_picture m.app g c graph boot)
-        (boot_wave_picture m.app g c boot)
+        pictures_sound c has_graph is_connected (boot_tree_picture m.app g modulus c graph boot)
+        (boot_wave_picture m.app g modulus c boot)
 
     tells_from : AreTrue → (history written : List ℕ) → IsVerified m c history (written, Good)
-        → TellsTrueReports m g history written
+        → TellsTrueReports m g modulus history written
     tells_from known history written (bad_history f bad is) =
+        let other : Good ≡ BadInput = ap (λ (o : Output). o.1) is in absurd (cc)
+    tells_from known history written (other_modulus k es read apart is) =
         let other : Good ≡ BadInput = ap (λ (o : Output). o.1) is in absurd (cc)
     tells_from known history written (not_enabled es n read first is) =
         let other : Good ≡ NotEnabled = ap (λ (o : Output). o.1) is in absurd (cc)
     tells_from known history written (allowed es read some is) =
+        let shaped = is_shaped (read_modulus history c.modulus es read) in
         record {
           opening = c;
           entries = es;
           booted = boot;
           sound = is_sound;
-          read = read;
+          read = subst (λ k. IsReadAs history (Ok (k, es))) boot.modulus read;
           allowed = some;
           reported = ap (λ (o : Output). o.0) is;
-          true_reports = λ s stretch sound. known c es s has_graph is_connected is_shaped stretch sound;
+          true_reports = λ s stretch sound. known c es s has_graph is_connected shaped stretch sound;
         }
 
-  tells : (g : Graph) → IsGraph g → IsConnected g → AreTrue → (history written : List ℕ)
-      → IsVerifiedFrom m g history (written, Good) → TellsTrueReports m g history written
-  tells g graph connected known history written (c, boot, verified) =
-      tells_from g graph connected c boot known history written verified
+  tells : (g : Graph) → IsGraph g → IsConnected g → AreTrue → (modulus : ℕ) (history written : List ℕ)
+      → IsVerifiedFrom m g modulus history (written, Good) → TellsTrueReports m g modulus history written
+  tells g graph connected known modulus history written (c, boot, verified) =
+      tells_from g graph connected modulus c boot known history written verified
 
 module _ (idle : AreTrue idle_meaning) (token : AreTrue token_meaning) (mutex : AreTrue mutex_meaning)
     (routes : AreTrue routes_meaning) where
-  tells_of : (app : AppName) (g : Graph) → IsGraph g → IsConnected g → (history written : List ℕ)
-      → IsVerifiedOf app g history (written, Good) → TellsTrueReportsOf app g history written
+  tells_of : (app : AppName) (g : Graph) → IsGraph g → IsConnected g → (modulus : ℕ) (history written : List ℕ)
+      → IsVerifiedOf app g modulus history (written, Good) → TellsTrueReportsOf app g modulus history written
   tells_of Idle g graph connected = tells idle_meaning g graph connected idle
   tells_of Token g graph connected = tells token_meaning g graph connected token
   tells_of Mutex g graph connected = tells mutex_meaning g graph connected mutex
   tells_of Routes g graph connected = tells routes_meaning g graph connected routes
 
   pub verified_reports : (topology history written : List ℕ) → IsVerification topology history (written, Good)
-      → (g : Graph) × (app : AppName) × Describes topology g app × TellsTrueReportsOf app g history written
+      → (g : Graph) × (app : AppName) × (modulus : ℕ) × Describes topology g app modulus
+      × TellsTrueReportsOf app g modulus history written
   verified_reports topology history written (bad_topology f bad is) =
       let other : Good ≡ BadInput = ap (λ (o : Output). o.1) is in absurd (cc)
-  verified_reports topology history written (good_topology g app describes verified) = (
+  verified_reports topology history written (good_topology g app modulus describes verified) = (
     g,
     app,
+    modulus,
     describes,
-    tells_of app g describes.2.exact.as_graph (topology_connected _ _ g describes.2) history written verified,
+    tells_of app g describes.2.exact.as_graph (topology_connected _ _ g describes.2) modulus history written verified,
   )

@@ -19,12 +19,12 @@ use Rattle.history.specs.declared.text.BookFault.{BookFault}
 use Rattle.history.specs.declared.text.BookFault.TheVariants.{BadLine, BadVersion, TooLong}
 use Rattle.history.specs.declared.text.BookFault.TheVariants as book
 use Rattle.history.specs.declared.verification.ReaderFault.{ReaderFault}
-use Rattle.history.specs.declared.verification.ReaderFault.TheVariants.{Entries, Text}
+use Rattle.history.specs.declared.verification.ReaderFault.TheVariants.{Entries, OtherModulus, Text}
 use Rattle.script_replay.specs.Meaning.{Meaning, idle_meaning, token_meaning, mutex_meaning, routes_meaning}
 use Rattle.script_replay.specs.Output.{Leaves}
 use Rattle.reset_service.specs.Verified.{IsVerification, IsVerified, IsVerifiedFrom, IsVerifiedOf, LeavesOfReader}
-use Rattle.reset_service.specs.Verified.{bad_history_text, not_enabled_text, verified_text}
-use Rattle.reset_service.specs.Verified.IsVerified.{allowed, bad_history, not_enabled}
+use Rattle.reset_service.specs.Verified.{bad_history_text, not_enabled_text, other_modulus_text, verified_text}
+use Rattle.reset_service.specs.Verified.IsVerified.{allowed, bad_history, not_enabled, other_modulus}
 use Rattle.script_replay.specs.declared.status.Status.{Status}
 use Rattle.script_replay.specs.declared.status.Status.TheVariants.{BadInput, Good, NotEnabled}
 use Rattle.script_replay.specs.declared.status.RunStop.{RunStop}
@@ -72,6 +72,10 @@ module _ {L : Type 0} (m : Meaning L) (c : Configuration L) (text : List ℕ) wh
   of_summary s o (es, read, sum) is =
       allowed es read sum.allowed (is ∙ ap₂ (λ n rs. (verified_text n rs, Good)) sum.entries sum.reports)
 
+  pub of_other_modulus : (modulus : ℕ) (o : Output) → IsVerdictHere (Err (OtherModulus modulus))
+      → o ≡ (other_modulus_text modulus, BadInput) → IsVerified m c text o
+  of_other_modulus modulus o (es, read, apart) is = other_modulus modulus es read apart is
+
   pub of_refused : (position : ℕ) (o : Output) → IsVerdictHere (Err (Entries (NotEnabledAt position)))
       → o ≡ (not_enabled_text position, NotEnabled) → IsVerified m c text o
   of_refused position o (es, read, first) is = not_enabled es position read first is
@@ -88,56 +92,93 @@ module _ {L : Type 0} (m : Meaning L) (c : Configuration L) (text : List ℕ) wh
 
 -- no text has two readings
 abbrev pub OneReading : Type 0
-OneReading = (text : List ℕ) (r s : Result (List Entry) BookFault) → IsReadAs text r → IsReadAs text s → r ≡ s
+OneReading =
+    (text : List ℕ) (r s : Result (ℕ × List Entry) BookFault) → IsReadAs text r → IsReadAs text s → r ≡ s
 
 module _ (one_reading : OneReading) {L : Type 0} (m : Meaning L) where
-  one_history : (text : List ℕ) (es ds : List Entry) → IsReadAs text (Ok es) → IsReadAs text (Ok ds) → es ≡ ds
-  one_history text es ds read other = let same : Ok es ≡ Ok ds = one_reading text (Ok es) (Ok ds) read other in cc
+  -- two readings of a history have one modulus and one list of entries
+  -- what a text is read as: a modulus and entries
+  abbrev Book : Type 0
+  Book = ℕ × List Entry
 
-  bad_or_read : (text : List ℕ) (f : BookFault) (es : List Entry) → IsReadAs text (Err f) → IsReadAs text (Ok es) → ⊥
-  bad_or_read text f es bad read = let same : Err f ≡ Ok es = one_reading text (Err f) (Ok es) bad read in absurd (cc)
+  one_book : (text : List ℕ) (k n : ℕ) (es ds : List Entry) → IsReadAs text (Ok (k, es)) → IsReadAs text (Ok (n, ds))
+      → (k ≡ n) × (es ≡ ds)
+  one_book text k n es ds read other =
+      let same : ◌≡◌ {A = Result Book BookFault} (Ok (k, es)) (Ok (n, ds)) =
+      one_reading text (Ok (k, es)) (Ok (n, ds)) read other in
+      let book : ◌≡◌ {A = Book} (k, es) (n, ds) = cc in (ap (λ (b : Book). b.0) book, ap (λ (b : Book). b.1) book)
 
-  refused_or_all : (c : Configuration L) (text : List ℕ) (es ds : List Entry) (n : ℕ) → IsReadAs text (Ok es)
-      → IsReadAs text (Ok ds) → IsFirstRefused m.app m.from_text c es n → IsSome (replayed m.app m.from_text c ds) → ⊥
-  refused_or_all c text es ds n read other first some =
-      let entries : ds ≡ es = one_history text ds es other read in
-      not_allowed m.app m.from_text c es n first (subst (λ xs. IsSome (replayed m.app m.from_text c xs)) entries some)
+  bad_or_read : (text : List ℕ) (f : BookFault) (k : ℕ) (es : List Entry) → IsReadAs text (Err f)
+      → IsReadAs text (Ok (k, es)) → ⊥
+  bad_or_read text f k es bad read =
+      let same : ◌≡◌ {A = Result Book BookFault} (Err f) (Ok (k, es)) = one_reading text (Err f) (Ok (k, es)) bad read in
+      absurd (cc)
 
-  one_verified : (c : Configuration L) (history : List ℕ) (o p : Output) → IsVerified m c history o
-      → IsVerified m c history p → o ≡ p
-  one_verified c history o p (bad_history f bad is) (bad_history e other is') =
-      let same : Err f ≡ Err e = one_reading history (Err f) (Err e) bad other in
-      let fault : f ≡ e = cc in is ∙ ap (λ x. (bad_history_text x, BadInput)) fault ∙ sym is'
-  one_verified c history o p (bad_history f bad is) (not_enabled es n read first is') =
-      absurd (bad_or_read history f es bad read)
-  one_verified c history o p (bad_history f bad is) (allowed es read some is') =
-      absurd (bad_or_read history f es bad read)
-  one_verified c history o p (not_enabled es n read first is) (bad_history f bad is') =
-      absurd (bad_or_read history f es bad read)
-  one_verified c history o p (not_enabled es n read first is) (not_enabled ds k other second is') =
-      let entries : es ≡ ds = one_history history es ds read other in
-      let same : n ≡ k =
-      one_first_refused m.app m.from_text c ds n k (subst (λ xs. IsFirstRefused m.app m.from_text c xs n) entries first)
-      second in
-      is ∙ ap (λ x. (not_enabled_text x, NotEnabled)) same ∙ sym is'
-  one_verified c history o p (not_enabled es n read first is) (allowed ds other some is') =
-      absurd (refused_or_all c history es ds n read other first some)
-  one_verified c history o p (allowed es read some is) (bad_history f bad is') =
-      absurd (bad_or_read history f es bad read)
-  one_verified c history o p (allowed es read some is) (not_enabled ds n other first is') =
-      absurd (refused_or_all c history ds es n other read first some)
-  one_verified c history o p (allowed es read some is) (allowed ds other every is') =
-      let entries : es ≡ ds = one_history history es ds read other in
-      is ∙ ap (λ xs. (verified_text (length xs) (reports_of m.app m.from_text c xs), Good)) entries ∙ sym is'
+  module _ (c : Configuration L) (text : List ℕ) where
+    -- entries that are read with the modulus of c
+    abbrev AreRead : List Entry → Type 0
+    AreRead es = IsReadAs text (Ok (c.modulus, es))
 
-  one_from : (g : Graph) (history : List ℕ) (o p : Output) → IsVerifiedFrom m g history o → IsVerifiedFrom m g history p
-      → o ≡ p
-  one_from g history o p (c, boot, verified) (d, other, verified') =
-      one_verified d history o p (subst (λ x. IsVerified m x history o) (one_boot m.app g c d boot other) verified)
-      verified'
+    one_history : (es ds : List Entry) → AreRead es → AreRead ds → es ≡ ds
+    one_history es ds read other = (one_book text c.modulus c.modulus es ds read other).1
 
-one_of : OneReading → (app : AppName) (g : Graph) (history : List ℕ) (o p : Output) → IsVerifiedOf app g history o
-    → IsVerifiedOf app g history p → o ≡ p
+    other_or_same : (k : ℕ) (es ds : List Entry) → IsReadAs text (Ok (k, es)) → k ≢ c.modulus → AreRead ds → ⊥
+    other_or_same k es ds read apart same = apart (one_book text k c.modulus es ds read same).0
+
+    refused_or_all : (es ds : List Entry) (n : ℕ) → AreRead es → AreRead ds
+        → IsFirstRefused m.app m.from_text c es n → IsSome (replayed m.app m.from_text c ds) → ⊥
+    refused_or_all es ds n read other first some =
+        let entries : ds ≡ es = one_history ds es other read in
+        not_allowed m.app m.from_text c es n first (subst (λ xs. IsSome (replayed m.app m.from_text c xs)) entries some)
+
+    one_verified : (o p : Output) → IsVerified m c text o → IsVerified m c text p → o ≡ p
+    one_verified o p (bad_history f bad is) (bad_history e other is') =
+        let same : ◌≡◌ {A = Result Book BookFault} (Err f) (Err e) = one_reading text (Err f) (Err e) bad other in
+        let fault : f ≡ e = cc in is ∙ ap (λ x. (bad_history_text x, BadInput)) fault ∙ sym is'
+    one_verified o p (bad_history f bad is) (other_modulus k es read apart is') =
+        absurd (bad_or_read text f k es bad read)
+    one_verified o p (bad_history f bad is) (not_enabled es n read first is') =
+        absurd (bad_or_read text f c.modulus es bad read)
+    one_verified o p (bad_history f bad is) (allowed es read some is') =
+        absurd (bad_or_read text f c.modulus es bad read)
+    one_verified o p (other_modulus k es read apart is) (bad_history f bad is') =
+        absurd (bad_or_read text f k es bad read)
+    one_verified o p (other_modulus k es read apart is) (other_modulus j ds read' apart' is') =
+        is ∙ ap (λ x. (other_modulus_text x, BadInput)) (one_book text k j es ds read read').0 ∙ sym is'
+    one_verified o p (other_modulus k es read apart is) (not_enabled ds n read' first is') =
+        absurd (other_or_same k es ds read apart read')
+    one_verified o p (other_modulus k es read apart is) (allowed ds read' some is') =
+        absurd (other_or_same k es ds read apart read')
+    one_verified o p (not_enabled es n read first is) (bad_history f bad is') =
+        absurd (bad_or_read text f c.modulus es bad read)
+    one_verified o p (not_enabled es n read first is) (other_modulus k ds read' apart is') =
+        absurd (other_or_same k ds es read' apart read)
+    one_verified o p (not_enabled es n read first is) (not_enabled ds k other second is') =
+        let entries : es ≡ ds = one_history es ds read other in
+        let same : n ≡ k =
+        one_first_refused m.app m.from_text c ds n k
+        (subst (λ xs. IsFirstRefused m.app m.from_text c xs n) entries first) second in
+        is ∙ ap (λ x. (not_enabled_text x, NotEnabled)) same ∙ sym is'
+    one_verified o p (not_enabled es n read first is) (allowed ds other some is') =
+        absurd (refused_or_all es ds n read other first some)
+    one_verified o p (allowed es read some is) (bad_history f bad is') =
+        absurd (bad_or_read text f c.modulus es bad read)
+    one_verified o p (allowed es read some is) (other_modulus k ds read' apart is') =
+        absurd (other_or_same k ds es read' apart read)
+    one_verified o p (allowed es read some is) (not_enabled ds n other first is') =
+        absurd (refused_or_all ds es n other read first some)
+    one_verified o p (allowed es read some is) (allowed ds other every is') =
+        let entries : es ≡ ds = one_history es ds read other in
+        is ∙ ap (λ xs. (verified_text (length xs) (reports_of m.app m.from_text c xs), Good)) entries ∙ sym is'
+
+  one_from : (g : Graph) (modulus : ℕ) (history : List ℕ) (o p : Output) → IsVerifiedFrom m g modulus history o
+      → IsVerifiedFrom m g modulus history p → o ≡ p
+  one_from g modulus history o p (c, boot, verified) (d, other, verified') =
+      one_verified d history o p
+      (subst (λ x. IsVerified m x history o) (one_boot m.app g modulus c d boot other) verified) verified'
+
+one_of : OneReading → (app : AppName) (g : Graph) (modulus : ℕ) (history : List ℕ) (o p : Output)
+    → IsVerifiedOf app g modulus history o → IsVerifiedOf app g modulus history p → o ≡ p
 one_of reading Idle = one_from reading idle_meaning
 one_of reading Token = one_from reading token_meaning
 one_of reading Mutex = one_from reading mutex_meaning
@@ -146,4 +187,5 @@ one_of reading Routes = one_from reading routes_meaning
 pub one_verification : OneReading → (topology history : List ℕ) (o p : Output) → IsVerification topology history o
     → IsVerification topology history p → o ≡ p
 one_verification reading topology history =
-    one_judged (λ app g. IsVerifiedOf app g history) (λ app g o p. one_of reading app g history o p) topology
+    one_judged (λ app g modulus. IsVerifiedOf app g modulus history)
+    (λ app g modulus o p. one_of reading app g modulus history o p) topology

@@ -27,23 +27,25 @@ new_book c = record { opening = c; entries = []; config = c; limit = 1000000 }
 
 -- what a scheduler does from a configuration on in so many steps, drawn by the seed, of which in so many of a thousand
 -- cases one is a fault: its entries are those of the book that it drives, they are allowed where they stand, the
--- history is their text and is read as them, and the line counts them and their reports
+-- history is their text, with sessions modulo the number of the configuration, and is read as them, and the line counts
+-- them and their reports
 pub record IsDrove {L : Type 0} (m : Meaning L) (c : Configuration L) (steps seed faults : ℕ) (history : List ℕ)
     (output : List ℕ × Status) : Type 0 where
   pub entries : List Entry
   pub drawn : entries ≡ (driven m.app m.from_text steps seed faults (new_book c)).entries
   pub allowed : IsSome (replayed m.app m.from_text c entries)
-  pub text : history ≡ history_text entries
-  pub read : IsReadAs history (Ok entries)
+  pub text : history ≡ history_text c.modulus entries
+  pub read : IsReadAs history (Ok (c.modulus, entries))
   pub told : output ≡ (drove_line (length entries) (length (reports_of m.app m.from_text c entries)), Good)
 
--- the same from the booted configuration of a graph
-abbrev pub IsDroveFrom : {L : Type 0} → Meaning L → (steps seed faults : ℕ) → Graph → List ℕ → List ℕ × Status → Type 0
-IsDroveFrom {L = L} m steps seed faults g history output =
-    (c : Configuration L) × IsBoot m.app g c × IsDrove m c steps seed faults history output
+-- the same from the booted configuration of a graph, with sessions modulo this number
+abbrev pub IsDroveFrom : {L : Type 0} → Meaning L → (steps seed faults : ℕ) → Graph → ℕ → List ℕ → List ℕ × Status
+    → Type 0
+IsDroveFrom {L = L} m steps seed faults g modulus history output =
+    (c : Configuration L) × IsBoot m.app g modulus c × IsDrove m c steps seed faults history output
 
 -- the same for the application of a name
-abbrev pub IsDroveOf : (steps seed faults : ℕ) → AppName → Graph → List ℕ → List ℕ × Status → Type 0
+abbrev pub IsDroveOf : (steps seed faults : ℕ) → AppName → Graph → ℕ → List ℕ → List ℕ × Status → Type 0
 IsDroveOf steps seed faults Idle = IsDroveFrom idle_meaning steps seed faults
 IsDroveOf steps seed faults Token = IsDroveFrom token_meaning steps seed faults
 IsDroveOf steps seed faults Mutex = IsDroveFrom mutex_meaning steps seed faults
@@ -52,5 +54,5 @@ IsDroveOf steps seed faults Routes = IsDroveFrom routes_meaning steps seed fault
 -- a run of the scheduler on the topology of a text leaves this history, this output and this status: a bad topology is
 -- answered first, and leaves no history
 pub record IsDroveText (steps seed faults : ℕ) (topology history : List ℕ) (output : List ℕ × Status) : Type 0 where
-  pub judged : IsJudged (λ app g. IsDroveOf steps seed faults app g history) topology output
+  pub judged : IsJudged (λ app g modulus. IsDroveOf steps seed faults app g modulus history) topology output
   pub undriven : output.1 ≡ BadInput → history ≡ []

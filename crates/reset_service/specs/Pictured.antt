@@ -1,5 +1,5 @@
 -- What drawing a history writes.
-use Rattle.std.specs.Prelude.{◌≡◌, ◌<◌, ◌≤◌, ℕ, nat_lt, if◌then◌else◌, List, length, codes, IsSome, Ok}
+use Rattle.std.specs.Prelude.{◌≡◌, ◌≢◌, ◌<◌, ◌≤◌, ℕ, nat_lt, if◌then◌else◌, List, length, codes, IsSome, Ok}
 use Rattle.std.specs.Prelude.{Err}
 use Rattle.topology.specs.Graph.{Graph}
 use Rattle.topology.specs.declared.text.AppName.{AppName}
@@ -14,7 +14,7 @@ use Rattle.history.specs.declared.text.BookFault.{BookFault}
 use Rattle.space_time_diagram.specs.Diagram.{diagram_text}
 use Rattle.script_replay.specs.Meaning.{Meaning, idle_meaning, token_meaning, mutex_meaning, routes_meaning}
 use Rattle.script_replay.specs.Output.{IsJudged}
-use Rattle.reset_service.specs.Verified.{bad_history_text, not_enabled_text}
+use Rattle.reset_service.specs.Verified.{bad_history_text, not_enabled_text, other_modulus_text}
 use Rattle.script_replay.specs.declared.status.Status.{Status}
 use Rattle.script_replay.specs.declared.status.Status.TheVariants.{Good, NotEnabled, BadInput}
 
@@ -39,22 +39,25 @@ pub data IsDrawing {L : Type 0} (m : Meaning L) (c : Configuration L) (es : List
       → output ≡ (not_enabled_text position, NotEnabled) → IsDrawing m c es output
   allowed : IsSome (replayed m.app m.from_text c es) → output ≡ drawing m c es → IsDrawing m c es output
 
--- what the text of a history that opens so is drawn as, and the status: the number of nodes is judged first, and then
--- the text
+-- what the text of a history that opens so is drawn as, and the status: the number of nodes is judged first, then the
+-- text, then its modulus, which has to be the opening's, and then its entries
 pub data IsPicture {L : Type 0} (m : Meaning L) (c : Configuration L) (history : List ℕ) (output : List ℕ × Status) :
     Type 0 where
   too_many_lanes : 64 < length c.graph.ids → output ≡ (too_many_lanes_text, BadInput) → IsPicture m c history output
   bad_history : (f : BookFault) → length c.graph.ids ≤ 64 → IsReadAs history (Err f)
       → output ≡ (bad_history_text f, BadInput) → IsPicture m c history output
-  read : (es : List Entry) → length c.graph.ids ≤ 64 → IsReadAs history (Ok es) → IsDrawing m c es output
+  other_modulus : (modulus : ℕ) (es : List Entry) → length c.graph.ids ≤ 64 → IsReadAs history (Ok (modulus, es))
+      → modulus ≢ c.modulus → output ≡ (other_modulus_text modulus, BadInput) → IsPicture m c history output
+  read : (es : List Entry) → length c.graph.ids ≤ 64 → IsReadAs history (Ok (c.modulus, es)) → IsDrawing m c es output
       → IsPicture m c history output
 
--- the same from the booted configuration of a graph
-abbrev pub IsPictureFrom : {L : Type 0} → Meaning L → Graph → List ℕ → List ℕ × Status → Type 0
-IsPictureFrom {L = L} m g history output = (c : Configuration L) × IsBoot m.app g c × IsPicture m c history output
+-- the same from the booted configuration of a graph, with sessions modulo this number
+abbrev pub IsPictureFrom : {L : Type 0} → Meaning L → Graph → ℕ → List ℕ → List ℕ × Status → Type 0
+IsPictureFrom {L = L} m g modulus history output =
+    (c : Configuration L) × IsBoot m.app g modulus c × IsPicture m c history output
 
 -- the same for the application of a name
-abbrev pub IsPictureOf : AppName → Graph → List ℕ → List ℕ × Status → Type 0
+abbrev pub IsPictureOf : AppName → Graph → ℕ → List ℕ → List ℕ × Status → Type 0
 IsPictureOf Idle = IsPictureFrom idle_meaning
 IsPictureOf Token = IsPictureFrom token_meaning
 IsPictureOf Mutex = IsPictureFrom mutex_meaning
@@ -62,4 +65,4 @@ IsPictureOf Routes = IsPictureFrom routes_meaning
 
 -- what the texts of a topology and of a history are drawn as, and the status: the topology is judged before the history
 abbrev pub IsPictureText : List ℕ → List ℕ → List ℕ × Status → Type 0
-IsPictureText topology history = IsJudged (λ app g. IsPictureOf app g history) topology
+IsPictureText topology history = IsJudged (λ app g modulus. IsPictureOf app g modulus history) topology

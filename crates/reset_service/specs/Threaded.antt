@@ -44,12 +44,12 @@ too_many_text = ended (codes "bad topology TooManyForThreads")
 
 -- ---- the history and the output of a run
 
--- the history that node threads keep from a configuration on, and what is written of it: a step after the other, each
--- allowed where it stands, and no fault
+-- the history that node threads keep from a configuration on, with sessions modulo its number, and what is written of
+-- it: a step after the other, each allowed where it stands, and no fault
 pub data IsKept {L : Type 0} (m : Meaning L) (c : Configuration L) (history : List ℕ) (output : List ℕ × Status) :
     Type 0 where
   too_many : 64 < length c.graph.ids → output ≡ (too_many_text, BadInput) → IsKept m c history output
-  kept : (events : List Event) → length c.graph.ids ≤ 64 → IsReadAs history (Ok (steps events))
+  kept : (events : List Event) → length c.graph.ids ≤ 64 → IsReadAs history (Ok (c.modulus, steps events))
       → IsSome (replayed m.app m.from_text c (steps events))
       → output ≡ (
         threads_line (length c.graph.ids) (length events)
@@ -58,12 +58,13 @@ pub data IsKept {L : Type 0} (m : Meaning L) (c : Configuration L) (history : Li
       )
       → IsKept m c history output
 
--- the same from the booted configuration of a graph
-abbrev pub IsKeptFrom : {L : Type 0} → Meaning L → Graph → List ℕ → List ℕ × Status → Type 0
-IsKeptFrom {L = L} m g history output = (c : Configuration L) × IsBoot m.app g c × IsKept m c history output
+-- the same from the booted configuration of a graph, with sessions modulo this number
+abbrev pub IsKeptFrom : {L : Type 0} → Meaning L → Graph → ℕ → List ℕ → List ℕ × Status → Type 0
+IsKeptFrom {L = L} m g modulus history output =
+    (c : Configuration L) × IsBoot m.app g modulus c × IsKept m c history output
 
 -- the same for the application of a name
-abbrev pub IsKeptOf : AppName → Graph → List ℕ → List ℕ × Status → Type 0
+abbrev pub IsKeptOf : AppName → Graph → ℕ → List ℕ → List ℕ × Status → Type 0
 IsKeptOf Idle = IsKeptFrom idle_meaning
 IsKeptOf Token = IsKeptFrom token_meaning
 IsKeptOf Mutex = IsKeptFrom mutex_meaning
@@ -72,7 +73,7 @@ IsKeptOf Routes = IsKeptFrom routes_meaning
 -- a run of node threads on the topology of a text leaves this history, this output and this status: a bad topology is
 -- answered first, and leaves no history
 pub record IsThreaded (topology history : List ℕ) (output : List ℕ × Status) : Type 0 where
-  pub judged : IsJudged (λ app g. IsKeptOf app g history) topology output
+  pub judged : IsJudged (λ app g modulus. IsKeptOf app g modulus history) topology output
   pub unkept : output.1 ≡ BadInput → history ≡ []
 
 -- ---- what a run leaves to its two writers
@@ -104,17 +105,17 @@ LeavesBoth O old new before after (Err stop.NotClosed) = Keeps old new × Keeps 
 abbrev pub whole : {L : Type 0} → Configuration L → List Event → Configuration L → Stretch L
 whole c events left = record { before = []; events = events; rest = []; here = c; left = left }
 
--- a history and a line tell a run from the booted configuration of a graph, whose registers are sound: its steps are
--- one undisturbed stretch, which is a run of the abstract machine, in which the application's fact Inv holds at the
--- end, and each of its reports is true. The line counts nodes, steps and reports
-pub record TellsRun {L : Type 0} (m : Meaning L) (Inv : Graph → (ℕ → L) → Type 0) (g : Graph) (history line : List ℕ) :
-    Type 0 where
+-- a history and a line tell a run from the booted configuration of a graph, with sessions modulo this number, whose
+-- registers are sound: its steps are one undisturbed stretch, which is a run of the abstract machine, in which the
+-- application's fact Inv holds at the end, and each of its reports is true. The line counts nodes, steps and reports
+pub record TellsRun {L : Type 0} (m : Meaning L) (Inv : Graph → (ℕ → L) → Type 0) (g : Graph) (modulus : ℕ)
+    (history line : List ℕ) : Type 0 where
   pub opening : Configuration L
   pub events : List Event
   pub left : Configuration L
-  pub booted : IsBoot m.app g opening
+  pub booted : IsBoot m.app g modulus opening
   pub sound : IsSound opening
-  pub read : IsReadAs history (Ok (steps events))
+  pub read : IsReadAs history (Ok (modulus, steps events))
   pub stretch : IsStretch m.app m.from_text opening (steps events) (whole opening events left)
   pub lawful : IsSoundStretch m.app Inv (whole opening events left)
   pub invariant : Inv left.graph (abstract_of m.app left)
@@ -124,7 +125,7 @@ pub record TellsRun {L : Type 0} (m : Meaning L) (Inv : Graph → (ℕ → L) �
       (reports_of m.app m.from_text opening (steps events))
 
 -- the same for the application of a name, with its fact
-abbrev pub TellsRunOf : AppName → Graph → List ℕ → List ℕ → Type 0
+abbrev pub TellsRunOf : AppName → Graph → ℕ → List ℕ → List ℕ → Type 0
 TellsRunOf Idle = TellsRun idle_meaning (λ g v. Unit {0})
 TellsRunOf Token = TellsRun token_meaning HasOneToken
 TellsRunOf Mutex = TellsRun mutex_meaning HoldsTurns

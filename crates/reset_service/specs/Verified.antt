@@ -1,5 +1,5 @@
 -- What a verification of a history writes.
-use Rattle.std.specs.Prelude.{◌≡◌, ℕ, List, [], ◌∷◌, ◌++◌, length, codes, All, Option, Some, None, IsSome, Ok, Err}
+use Rattle.std.specs.Prelude.{◌≡◌, ◌≢◌, ℕ, List, [], ◌∷◌, ◌++◌, length, codes, All, Option, Some, None, IsSome, Ok, Err}
 use Rattle.std.specs.Prelude.{Result}
 use Rattle.std.specs.Fmt.{decimal}
 use Rattle.std.specs.List.{concat, flat_map}
@@ -54,27 +54,34 @@ bad_history_text TooLong = ended (codes "bad history TooLong")
 bad_history_text NoMemory = ended (codes "bad history NoMemory")
 bad_history_text ReadFailed = ended (codes "bad history ReadFailed")
 
+-- the line of a history that counts sessions modulo this number, and the topology modulo another
+abbrev pub other_modulus_text : ℕ → List ℕ
+other_modulus_text modulus = numbered (codes "bad history OtherModulus ") modulus
+
 -- ---- the output of texts
 
 -- what the text of a history that opens so is answered with, and the status: it is read to its end, or to its first bad
--- line, before an entry is judged
+-- line, then its modulus has to be the opening's, and then the entries are judged
 pub data IsVerified {L : Type 0} (m : Meaning L) (c : Configuration L) (history : List ℕ) (output : List ℕ × Status) :
     Type 0 where
   bad_history : (f : BookFault) → IsReadAs history (Err f) → output ≡ (bad_history_text f, BadInput)
       → IsVerified m c history output
-  not_enabled : (es : List Entry) (position : ℕ) → IsReadAs history (Ok es)
+  other_modulus : (modulus : ℕ) (es : List Entry) → IsReadAs history (Ok (modulus, es)) → modulus ≢ c.modulus
+      → output ≡ (other_modulus_text modulus, BadInput) → IsVerified m c history output
+  not_enabled : (es : List Entry) (position : ℕ) → IsReadAs history (Ok (c.modulus, es))
       → IsFirstRefused m.app m.from_text c es position → output ≡ (not_enabled_text position, NotEnabled)
       → IsVerified m c history output
-  allowed : (es : List Entry) → IsReadAs history (Ok es) → IsSome (replayed m.app m.from_text c es)
+  allowed : (es : List Entry) → IsReadAs history (Ok (c.modulus, es)) → IsSome (replayed m.app m.from_text c es)
       → output ≡ (verified_text (length es) (reports_of m.app m.from_text c es), Good)
       → IsVerified m c history output
 
--- the same from the booted configuration of a graph
-abbrev pub IsVerifiedFrom : {L : Type 0} → Meaning L → Graph → List ℕ → List ℕ × Status → Type 0
-IsVerifiedFrom {L = L} m g history output = (c : Configuration L) × IsBoot m.app g c × IsVerified m c history output
+-- the same from the booted configuration of a graph, with sessions modulo this number
+abbrev pub IsVerifiedFrom : {L : Type 0} → Meaning L → Graph → ℕ → List ℕ → List ℕ × Status → Type 0
+IsVerifiedFrom {L = L} m g modulus history output =
+    (c : Configuration L) × IsBoot m.app g modulus c × IsVerified m c history output
 
 -- the same for the application of a name
-abbrev pub IsVerifiedOf : AppName → Graph → List ℕ → List ℕ × Status → Type 0
+abbrev pub IsVerifiedOf : AppName → Graph → ℕ → List ℕ → List ℕ × Status → Type 0
 IsVerifiedOf Idle = IsVerifiedFrom idle_meaning
 IsVerifiedOf Token = IsVerifiedFrom token_meaning
 IsVerifiedOf Mutex = IsVerifiedFrom mutex_meaning
@@ -82,7 +89,7 @@ IsVerifiedOf Routes = IsVerifiedFrom routes_meaning
 
 -- what a verification writes, and its status: the topology is judged before the history
 abbrev pub IsVerification : List ℕ → List ℕ → List ℕ × Status → Type 0
-IsVerification topology history = IsJudged (λ app g. IsVerifiedOf app g history) topology
+IsVerification topology history = IsJudged (λ app g modulus. IsVerifiedOf app g modulus history) topology
 
 -- the run leaves what all is answered with that a reader had
 abbrev pub LeavesOfReader : Option (List ℕ) → (List ℕ → List ℕ × Status → Type 0) → Option (List ℕ) → Option (List ℕ)
@@ -91,15 +98,16 @@ LeavesOfReader known O old new result = (text : List ℕ) × IsReadWhole known t
 
 -- ---- what the reports mean
 
--- what is written tells true reports of a history, from the booted configuration of a graph on: the history is that of
--- entries each of which is allowed where it stands, and what is written are their reports. The booted registers are
--- sound, and each report of a stretch that begins in sound registers is true
-pub record TellsTrueReports {L : Type 0} (m : Meaning L) (g : Graph) (history written : List ℕ) : Type 0 where
+-- what is written tells true reports of a history, from the booted configuration of a graph on, with sessions modulo
+-- this number: the history is that of entries each of which is allowed where it stands, and what is written are their
+-- reports. The booted registers are sound, and each report of a stretch that begins in sound registers is true
+pub record TellsTrueReports {L : Type 0} (m : Meaning L) (g : Graph) (modulus : ℕ) (history written : List ℕ) :
+    Type 0 where
   pub opening : Configuration L
   pub entries : List Entry
-  pub booted : IsBoot m.app g opening
+  pub booted : IsBoot m.app g modulus opening
   pub sound : IsSound opening
-  pub read : IsReadAs history (Ok entries)
+  pub read : IsReadAs history (Ok (modulus, entries))
   pub allowed : IsSome (replayed m.app m.from_text opening entries)
   pub reported : written ≡ verified_text (length entries) (reports_of m.app m.from_text opening entries)
   pub true_reports : (s : Stretch L) → IsStretch m.app m.from_text opening entries s → IsSound s.here
@@ -107,7 +115,7 @@ pub record TellsTrueReports {L : Type 0} (m : Meaning L) (g : Graph) (history wr
       (reports_of m.app m.from_text opening entries)
 
 -- the same for the application of a name
-abbrev pub TellsTrueReportsOf : AppName → Graph → List ℕ → List ℕ → Type 0
+abbrev pub TellsTrueReportsOf : AppName → Graph → ℕ → List ℕ → List ℕ → Type 0
 TellsTrueReportsOf Idle = TellsTrueReports idle_meaning
 TellsTrueReportsOf Token = TellsTrueReports token_meaning
 TellsTrueReportsOf Mutex = TellsTrueReports mutex_meaning

@@ -14,10 +14,10 @@ use app_token::Token;
 use history::{Book, MAX_ENTRIES};
 use reset_machine::Config;
 use scheduler::drive;
-use script_replay::{RunStop, Status, text_of};
+use script_replay::{Network, RunStop, Status, read_network, text_of};
 use std::alloc::{AllocError, Global};
 use std::io::Write;
-use topology::{AppName, ReadFault, Topology, read_topology};
+use topology::{AppName, ReadFault};
 
 /// How a seeded scheduler is to drive a network.
 #[derive(Clone, Copy, Debug, PartialEq, Eq)]
@@ -57,40 +57,41 @@ fn drive_topology(alloc: Global, topology: &[u8], run: Drive) -> Result<Told, Ru
         (λ told. IsDroveText run.steps run.seed run.faults topology.now (told_history told) (told_output told)) }
     ensures stop { IfErr result IsRunStop }
 {
-    match read_topology(alloc, topology) {
-        Ok((topology, app)) => drive_app(alloc, app, topology, run),
+    match read_network(alloc, topology) {
+        Ok(network) => drive_app(alloc, network, run),
         Err(ReadFault::NoMemory) => Err(RunStop::NoMemory),
         Err(fault) => Ok(Told::BadTopology(fault)),
     }
 }
 
-// Drives a network with the application of this name.
-fn drive_app(alloc: Global, app: AppName, topology: Topology, run: Drive) -> Result<Told, RunStop>
+// Drives a network with the application that it names.
+fn drive_app(alloc: Global, network: Network, run: Drive) -> Result<Told, RunStop>
     ensures ok { IfOk result
-        (λ told. IsDroveOf run.steps run.seed run.faults app topology (told_history told) (told_output told)) }
+        (λ told. IsDroveOf run.steps run.seed run.faults network.app network.topology network.modulus
+        (told_history told) (told_output told)) }
     ensures undriven { IfOk result (λ told. (told_output told).1 ≡ Status.BadInput → told_history told ≡ []) }
     ensures stop { IfErr result IsRunStop }
 {
-    match app {
-        AppName::Idle => drive_booted::<Idle>(alloc, topology, run),
-        AppName::Token => drive_booted::<Token>(alloc, topology, run),
-        AppName::Mutex => drive_booted::<EdgeReversal>(alloc, topology, run),
-        AppName::Routes => drive_booted::<Routes>(alloc, topology, run),
+    match network.app {
+        AppName::Idle => drive_booted::<Idle>(alloc, network, run),
+        AppName::Token => drive_booted::<Token>(alloc, network, run),
+        AppName::Mutex => drive_booted::<EdgeReversal>(alloc, network, run),
+        AppName::Routes => drive_booted::<Routes>(alloc, network, run),
     }
 }
 
 fn drive_booted<P: Application>(
     alloc: Global,
-    topology: Topology,
+    network: Network,
     run: Drive,
 ) -> Result<Told, RunStop>
     ensures ok { IfOk result
-        (λ told. IsDroveFrom (meaning_of P.app P.text P.from_text P.names) run.steps run.seed run.faults topology
-        (told_history told) (told_output told)) }
+        (λ told. IsDroveFrom (meaning_of P.app P.text P.from_text P.names) run.steps run.seed run.faults
+        network.topology network.modulus (told_history told) (told_output told)) }
     ensures undriven { IfOk result (λ told. (told_output told).1 ≡ Status.BadInput → told_history told ≡ []) }
     ensures stop { IfErr result IsRunStop }
 {
-    match Config::<P>::boot(alloc, topology) {
+    match Config::<P>::boot(alloc, network.topology, network.modulus) {
         Ok(opening) => drive_from(alloc, opening, run),
         Err(_) => Err(RunStop::NoMemory),
     }

@@ -3,7 +3,7 @@
 use crate::explained::Explanation;
 
 /// Refusals of events and of faults.
-pub const REFUSALS: [Explanation; 13] = [
+pub const REFUSALS: [Explanation; 12] = [
     Explanation {
         word: "StrangeNode",
         text: "\
@@ -44,12 +44,6 @@ again.\n",
         text: "\
 No row of the tables that stands behind the command holds at the node now. `enabled I` tells\n\
 which rows do, `reset-service tables` prints their guards, `show I` the registers that they read.\n",
-    },
-    Explanation {
-        word: "SessionsSpent",
-        text: "\
-The session number is 4294967295, the greatest that a register holds, so no further session can\n\
-be opened. A fault that sets the wave registers of all nodes to a lesser number makes room.\n",
     },
     Explanation {
         word: "BadValue",
@@ -97,18 +91,18 @@ line `---` has to stand between the topology and the script.\n",
     Explanation {
         word: "MissingKey",
         text: "\
-A topology has the three keys `nodes`, `links` and `app`; one of them isn't there.\n",
+A topology needs the three keys `nodes`, `links` and `app`; one of them isn't there.\n",
     },
     Explanation {
         word: "UnknownKey",
         text: "\
-A topology has the keys `nodes`, `links` and `app`, and no others.\n",
+A topology has the keys `nodes`, `links` and `app`, may have `modulus`, and has no others.\n",
     },
     Explanation {
         word: "WrongKind",
         text: "\
-`nodes` is an array of numbers from 0 to 4294967295, `links` one of pairs of such numbers, and\n\
-`app` a string; one of them is something else.\n",
+`nodes` is an array of numbers from 0 to 4294967295, `links` one of pairs of such numbers, `app` a\n\
+string, and `modulus` a number from 2 to 4294967296; one of them is something else.\n",
     },
     Explanation {
         word: "UnknownApp",
@@ -174,7 +168,7 @@ the node out.\n",
 ];
 
 /// Faults of scripts, histories and devices.
-pub const TEXT_FAULTS: [Explanation; 11] = [
+pub const TEXT_FAULTS: [Explanation; 12] = [
     Explanation {
         word: "TooLong",
         text: "\
@@ -191,13 +185,20 @@ history too: `head -n 2001`.\n",
         text: "\
 The line with this number is no entry of a history, has over 256 bytes or lacks its line feed. A\n\
 history has no comments, no empty lines, no questions and no carriage returns. Its first line is\n\
-`reset-history 1`, which an empty file lacks.\n",
+`reset-history 2 M` with M from 2 to 4294967296, or `reset-history 1`; an empty file has none.\n",
     },
     Explanation {
         word: "BadVersion",
         text: "\
-The first line names a version of histories that this program doesn't read. It reads `reset-\n\
-history 1`.\n",
+The first line names a version of histories that this program doesn't read. It reads versions 1\n\
+and 2, `reset-history 1` and `reset-history 2 M`.\n",
+    },
+    Explanation {
+        word: "OtherModulus",
+        text: "\
+The history counts sessions modulo this number, and the topology modulo another. A history's is\n\
+the M of its first line `reset-history 2 M`, a topology's its `modulus`; where there is none, it is\n\
+4294967296. A history can have happened to topologies of its own number alone.\n",
     },
     Explanation {
         word: "line",
@@ -262,7 +263,7 @@ local state.\n",
         word: "session",
         text: "\
 The number of a reset. Processes communicate only where theirs are equal; the newest is that of
-the leader.\n",
+the leader. Resets are counted modulo M, the topology's `modulus`: after session M - 1 comes 0.\n",
     },
     Explanation {
         word: "threads",

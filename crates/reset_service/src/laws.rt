@@ -28,13 +28,15 @@ pub fn one_verification()
     one_reading_a_text();
 }
 
-/// What a verification that ends well means. Its topology describes a graph and names an application; its
-/// history is that of entries each of which is allowed where it stands, from the booted configuration on;
-/// and it writes the reports of these entries. The booted registers are sound, so that the stretch before
-/// the first fault begins in sound registers. Each report of a stretch that does is true.
+/// What a verification that ends well means. Its topology describes a graph, and names an application and the
+/// number modulo which sessions are counted; its history names the same number, and is that of entries each of
+/// which is allowed where it stands, from the booted configuration on; and it writes the reports of these
+/// entries. The booted registers are sound, so that the stretch before the first fault begins in sound
+/// registers. Each report of a stretch that does is true.
 pub fn verified_reports_are_true()
     ensures { (topology history written : List ℕ) → IsVerification topology history (written, Status.Good)
-        → (g : Graph) × (app : AppName) × Describes topology g app × TellsTrueReportsOf app g history written }
+        → (g : Graph) × (app : AppName) × (modulus : ℕ) × Describes topology g app modulus
+        × TellsTrueReportsOf app g modulus history written }
 {
     reports_are_true::<Idle>();
     reports_are_true::<Token>();
@@ -44,15 +46,15 @@ pub fn verified_reports_are_true()
 
 /// In a booted configuration the application's invariant holds, of all nodes as they are.
 pub fn booted_invariants_hold<P: Application>()
-    ensures { (g : Graph) (c : Configuration P.Local) → IsGraph g → IsBoot P.app g c
+    ensures { (g : Graph) (modulus : ℕ) (c : Configuration P.Local) → IsGraph g → IsBoot P.app g modulus c
         → P.Inv c.graph (abstract_of P.app c) }
 {}
 
 /// What node threads keep from the booted configuration of a graph, where it is told, is a run.
 pub fn kept_histories_are_runs<P: Application>()
-    ensures { (g : Graph) (history line : List ℕ) → IsGraph g → IsConnected g
-        → IsKeptFrom (meaning_of P.app P.text P.from_text P.names) g history (line, Status.Good)
-        → TellsRun (meaning_of P.app P.text P.from_text P.names) P.Inv g history line }
+    ensures { (g : Graph) (modulus : ℕ) (history line : List ℕ) → IsGraph g → IsConnected g
+        → IsKeptFrom (meaning_of P.app P.text P.from_text P.names) g modulus history (line, Status.Good)
+        → TellsRun (meaning_of P.app P.text P.from_text P.names) P.Inv g modulus history line }
 {
     booted_invariants_hold::<P>();
     reports_are_completions::<P>();
@@ -60,13 +62,15 @@ pub fn kept_histories_are_runs<P: Application>()
     stretches_refine::<P>();
 }
 
-/// What a run of node threads that ends well means. Its topology describes a graph and names an application; its
-/// history is that of steps alone, one undisturbed stretch from the booted configuration on, whose registers are
-/// sound. So it is a run of the abstract machine, at its end the application's invariant holds, and each of its
-/// reports is true; and the line counts its nodes, its entries and its reports.
+/// What a run of node threads that ends well means. Its topology describes a graph, and names an application and the
+/// number modulo which sessions are counted; its history names the same number, and is that of steps alone, one
+/// undisturbed stretch from the booted configuration on, whose registers are sound. So it is a run of the abstract
+/// machine, at its end the application's invariant holds, and each of its reports is true; and the line counts its
+/// nodes, its entries and its reports.
 pub fn threads_keep_a_run()
     ensures { (topology history line : List ℕ) → IsThreaded topology history (line, Status.Good)
-        → (g : Graph) × (app : AppName) × Describes topology g app × TellsRunOf app g history line }
+        → (g : Graph) × (app : AppName) × (modulus : ℕ) × Describes topology g app modulus
+        × TellsRunOf app g modulus history line }
 {
     kept_histories_are_runs::<Idle>();
     kept_histories_are_runs::<Token>();
@@ -90,8 +94,8 @@ pub fn driven_runs_are_verified()
 /// A verification takes the history of a recorded script, whatever its answers and also where it ends at a bad line, if
 /// the topology is good and the script isn't too long.
 pub fn recordings_are_verified()
-    ensures { (topology script history : List ℕ) (output : List ℕ × Status) (g : Graph) (app : AppName)
-        → Describes topology g app → length script ≤ 1048576 → IsRecorded topology script history output
+    ensures { (topology script history : List ℕ) (output : List ℕ × Status) (g : Graph) (app : AppName) (modulus : ℕ)
+        → Describes topology g app modulus → length script ≤ 1048576 → IsRecorded topology script history output
         → (written : List ℕ) × IsVerification topology history (written, Status.Good) }
 {}
 

@@ -1,8 +1,9 @@
 // The picture of a history from a booted configuration.
 
-ghost use Rattle.std.specs.Prelude.{◌≡◌, ◌≤◌, IfErr, IsSome, length};
+ghost use Rattle.std.specs.Prelude.{◌≡◌, ◌≤◌, ℕ, IfErr, IsSome, List, Ok, length};
 ghost use Rattle.topology.specs.TopologyText.{IsReadFault};
 ghost use Rattle.history.specs.Entries.{replayed};
+ghost use Rattle.history.specs.HistoryText.{IsReadAs};
 ghost use Rattle.history.specs.Reports.{reports_of};
 ghost use Rattle.script_replay.specs.Meaning.{meaning_of};
 ghost use Rattle.script_replay.specs.Output.{Leaves};
@@ -12,18 +13,18 @@ ghost use Rattle.reset_service.specs.Pictured.{IsPictureFrom, IsPictureOf, IsPic
 ghost use Rattle.reset_service.specs.Verified.{LeavesOfReader};
 ghost use Rattle.script_replay.specs.Stops.{IsOutputStop};
 
-use crate::verified::{refuse_entry, refuse_history};
+use crate::verified::{refuse_entry, refuse_history, refuse_modulus};
 use app_interface::{Application, Idle};
 use app_mutex::EdgeReversal;
 use app_routes::Routes;
 use app_token::Token;
-use history::{BookFault, Entry, Report, VerifyFault, read_book, verify};
+use history::{BookFault, BookText, Entry, Report, VerifyFault, read_book, verify};
 use reset_machine::Config;
-use script_replay::{RunStop, Status, refuse_input, refuse_topology};
+use script_replay::{Network, RunStop, Status, read_network, refuse_input, refuse_topology};
 use space_time_diagram::{DiagramStop, MAX_LANES, MAX_MARKS, put_diagram};
 use std::alloc::Global;
 use std::io::{Read, Write};
-use topology::{AppName, ReadFault, Topology, read_topology};
+use topology::{AppName, ReadFault};
 
 /// Draws the history that a reader gives, from the booted configuration of a topology text, as a space-time diagram.
 ///
@@ -39,41 +40,41 @@ pub fn picture_text<R: Read, W: Write>(
         (W.contents out.old) (W.contents out.new) result }
     ensures untouched { (f : ReadFault) → IsReadFault topology.now f → history.new ≡ history.old }
 {
-    match read_topology(alloc, topology) {
-        Ok((topology, app)) => draw_app(alloc, app, topology, history, out),
+    match read_network(alloc, topology) {
+        Ok(network) => draw_app(alloc, network, history, out),
         Err(fault) => refuse_topology(fault, out),
     }
 }
 
-// Draws a history from the booted configuration of a topology, with the application of this name.
+// Draws a history from the booted configuration of a network, with the application that it names.
 fn draw_app<R: Read, W: Write>(
     alloc: Global,
-    app: AppName,
-    topology: Topology,
+    network: Network,
     history: &mut R,
     out: &mut W,
 ) -> Result<Status, RunStop>
-    ensures leaves { LeavesOfReader (R.remaining history.old) (IsPictureOf app topology)
-        (W.contents out.old) (W.contents out.new) result }
+    ensures leaves { LeavesOfReader (R.remaining history.old)
+        (IsPictureOf network.app network.topology network.modulus) (W.contents out.old) (W.contents out.new) result }
 {
-    match app {
-        AppName::Idle => draw_booted::<Idle, R, W>(alloc, topology, history, out),
-        AppName::Token => draw_booted::<Token, R, W>(alloc, topology, history, out),
-        AppName::Mutex => draw_booted::<EdgeReversal, R, W>(alloc, topology, history, out),
-        AppName::Routes => draw_booted::<Routes, R, W>(alloc, topology, history, out),
+    match network.app {
+        AppName::Idle => draw_booted::<Idle, R, W>(alloc, network, history, out),
+        AppName::Token => draw_booted::<Token, R, W>(alloc, network, history, out),
+        AppName::Mutex => draw_booted::<EdgeReversal, R, W>(alloc, network, history, out),
+        AppName::Routes => draw_booted::<Routes, R, W>(alloc, network, history, out),
     }
 }
 
 fn draw_booted<P: Application, R: Read, W: Write>(
     alloc: Global,
-    topology: Topology,
+    network: Network,
     history: &mut R,
     out: &mut W,
 ) -> Result<Status, RunStop>
     ensures leaves { LeavesOfReader (R.remaining history.old)
-        (IsPictureFrom (meaning_of P.app P.text P.from_text P.names) topology) (W.contents out.old) (W.contents out.new) result }
+        (IsPictureFrom (meaning_of P.app P.text P.from_text P.names) network.topology network.modulus)
+        (W.contents out.old) (W.contents out.new) result }
 {
-    match Config::<P>::boot(alloc, topology) {
+    match Config::<P>::boot(alloc, network.topology, network.modulus) {
         Ok(opening) => draw_from(alloc, &opening, history, out),
         Err(_) => Err(RunStop::NoMemory),
     }
@@ -93,11 +94,31 @@ fn draw_from<P: Application, R: Read, W: Write>(
         return refuse_input(out, b"bad topology TooManyForPicture\n");
     }
     match read_book(alloc, history) {
-        Ok(entries) => draw_entries(alloc, opening, &entries, out),
+        Ok(book) => draw_book(alloc, opening, &book, out),
         Err(BookFault::NoMemory) => Err(RunStop::NoMemory),
         Err(BookFault::ReadFailed) => Err(RunStop::ReadFailed),
         Err(fault) => refuse_history(fault, out),
     }
+}
+
+// Draws the history of a text from this configuration on, if both count sessions modulo the same number.
+fn draw_book<P: Application, W: Write>(
+    alloc: Global,
+    opening: &Config<P>,
+    book: &BookText,
+    out: &mut W,
+) -> Result<Status, RunStop>
+    requires { length opening.now.graph.ids ≤ MAX_LANES }
+    ensures leaves { Leaves
+        (λ output. (text : List ℕ) → IsReadAs text (Ok (book.now.modulus, book.now.entries.items))
+        → IsPicture (meaning_of P.app P.text P.from_text P.names) opening.now text output)
+        (W.contents out.old) (W.contents out.new) result }
+    ensures stop { IfErr result IsOutputStop }
+{
+    if book.modulus != opening.modulus().get() {
+        return refuse_modulus(book.modulus, out);
+    }
+    draw_entries(alloc, opening, &book.entries, out)
 }
 
 // Draws entries from this configuration on.

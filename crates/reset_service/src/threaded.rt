@@ -18,12 +18,12 @@ use history::{
 };
 use node_threads::{Gate, RunCause, run_nodes};
 use reset_machine::Config;
-use script_replay::{RunStop, Status, text_of};
+use script_replay::{Network, RunStop, Status, read_network, text_of};
 use std::alloc::Global;
 use std::io::Write;
 use std::sync::Wait;
 use std::thread::Threads;
-use topology::{AppName, ReadFault, Topology, read_topology};
+use topology::{AppName, ReadFault};
 
 // A gate that nobody watches.
 struct NoGate;
@@ -69,47 +69,48 @@ fn run_text<R: Threads + Wait + Sync>(
     ensures ok { IfOk result (λ told. IsThreaded topology.now (told_history told) (told_output told)) }
     ensures stop { IfErr result IsRunStop }
 {
-    match read_topology(alloc, topology) {
-        Ok((topology, app)) => run_app(rt, alloc, app, topology, turns),
+    match read_network(alloc, topology) {
+        Ok(network) => run_app(rt, alloc, network, turns),
         Err(ReadFault::NoMemory) => Err(RunStop::NoMemory),
         Err(fault) => Ok(Told::BadTopology(fault)),
     }
 }
 
-// Runs the threads of a topology, with the application of this name.
+// Runs the threads of a network, with the application that it names.
 fn run_app<R: Threads + Wait + Sync>(
     rt: &R,
     alloc: Global,
-    app: AppName,
-    topology: Topology,
+    network: Network,
     turns: u32,
 ) -> Result<Told, RunStop>
     requires { turns ≤ 100000 }
-    ensures ok { IfOk result (λ told. IsKeptOf app topology (told_history told) (told_output told)) }
+    ensures ok { IfOk result
+        (λ told. IsKeptOf network.app network.topology network.modulus (told_history told) (told_output told)) }
     ensures unkept { IfOk result (λ told. (told_output told).1 ≡ Status.BadInput → told_history told ≡ []) }
     ensures stop { IfErr result IsRunStop }
 {
-    match app {
-        AppName::Idle => run_booted::<Idle, R>(rt, alloc, topology, turns),
-        AppName::Token => run_booted::<Token, R>(rt, alloc, topology, turns),
-        AppName::Mutex => run_booted::<EdgeReversal, R>(rt, alloc, topology, turns),
-        AppName::Routes => run_booted::<Routes, R>(rt, alloc, topology, turns),
+    match network.app {
+        AppName::Idle => run_booted::<Idle, R>(rt, alloc, network, turns),
+        AppName::Token => run_booted::<Token, R>(rt, alloc, network, turns),
+        AppName::Mutex => run_booted::<EdgeReversal, R>(rt, alloc, network, turns),
+        AppName::Routes => run_booted::<Routes, R>(rt, alloc, network, turns),
     }
 }
 
 fn run_booted<P: Application, R: Threads + Wait + Sync>(
     rt: &R,
     alloc: Global,
-    topology: Topology,
+    network: Network,
     turns: u32,
 ) -> Result<Told, RunStop>
     requires { turns ≤ 100000 }
-    ensures ok { IfOk result (λ told. IsKeptFrom (meaning_of P.app P.text P.from_text P.names) topology
+    ensures ok { IfOk result
+        (λ told. IsKeptFrom (meaning_of P.app P.text P.from_text P.names) network.topology network.modulus
         (told_history told) (told_output told)) }
     ensures unkept { IfOk result (λ told. (told_output told).1 ≡ Status.BadInput → told_history told ≡ []) }
     ensures stop { IfErr result IsRunStop }
 {
-    match Config::<P>::boot(alloc, topology) {
+    match Config::<P>::boot(alloc, network.topology, network.modulus) {
         Ok(opening) => run_from(rt, alloc, opening, turns),
         Err(_) => Err(RunStop::NoMemory),
     }
@@ -177,7 +178,7 @@ fn judge<P: Application>(alloc: Global, opening: Config<P>, book: &Book<P>) -> R
     }
 }
 
-// What stops a run whose history isn't taken.
+// What stops a run whose history isn't taken. Its text names the opening's modulus, which no step changes.
 fn stop_of(fault: ReaderFault) -> RunStop
     ensures { IsRunStop result }
 {
@@ -185,6 +186,8 @@ fn stop_of(fault: ReaderFault) -> RunStop
         ReaderFault::Text(BookFault::NoMemory) | ReaderFault::Entries(VerifyFault::NoMemory) => {
             RunStop::NoMemory
         }
-        ReaderFault::Text(_) | ReaderFault::Entries(_) => RunStop::NotClosed,
+        ReaderFault::Text(_) | ReaderFault::OtherModulus(_) | ReaderFault::Entries(_) => {
+            RunStop::NotClosed
+        }
     }
 }

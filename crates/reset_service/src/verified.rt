@@ -7,9 +7,9 @@ ghost use Rattle.topology.specs.TopologyText.{IsReadFault};
 ghost use Rattle.action_tables.specs.Written.{AppendsPrefix};
 ghost use Rattle.script_replay.specs.Meaning.{meaning_of};
 ghost use Rattle.script_replay.specs.Output.{Leaves};
-ghost use Rattle.reset_service.specs.Verified.{bad_history_text, not_enabled_text, position_text};
-ghost use Rattle.reset_service.specs.Verified.{report_line, verified_text, IsVerification, IsVerified};
-ghost use Rattle.reset_service.specs.Verified.{IsVerifiedFrom, IsVerifiedOf, LeavesOfReader};
+ghost use Rattle.reset_service.specs.Verified.{bad_history_text, not_enabled_text, other_modulus_text};
+ghost use Rattle.reset_service.specs.Verified.{position_text, report_line, verified_text, IsVerification};
+ghost use Rattle.reset_service.specs.Verified.{IsVerified, IsVerifiedFrom, IsVerifiedOf, LeavesOfReader};
 ghost use Rattle.reset_service.specs.declared.line.TheConstants.{ROOM};
 ghost use Rattle.script_replay.specs.Stops.{IsOutputStop};
 
@@ -22,17 +22,18 @@ use app_routes::Routes;
 use app_token::Token;
 use history::{BookFault, ReaderFault, Report, Summary, VerifyFault, verify_reader};
 use reset_machine::Config;
-use script_replay::{RunStop, Status, put_numbered, refuse_topology};
+use script_replay::{Network, RunStop, Status, put_numbered, read_network, refuse_topology};
 use std::alloc::Global;
 use std::io::{Read, Write};
-use topology::{AppName, ReadFault, Topology, read_topology};
+use topology::{AppName, ReadFault};
 
 /// Verifies the history that a reader gives, from the booted configuration of a topology text, and writes
 /// its reports, one a line, and then how many entries and reports it has.
 ///
 /// The topology is judged before the reader is touched. A text that isn't a history is answered by its
-/// first line that a history can't have there, before an entry is judged, and a history in which an entry
-/// isn't allowed where it stands by the position of the first such entry.
+/// first line that a history can't have there, a history with sessions modulo another number than the
+/// topology's by its number, both before an entry is judged, and a history in which an entry isn't allowed
+/// where it stands by the position of the first such entry.
 pub fn verify_text<R: Read, W: Write>(
     alloc: Global,
     topology: &[u8],
@@ -43,41 +44,41 @@ pub fn verify_text<R: Read, W: Write>(
         (W.contents out.old) (W.contents out.new) result }
     ensures untouched { (f : ReadFault) → IsReadFault topology.now f → history.new ≡ history.old }
 {
-    match read_topology(alloc, topology) {
-        Ok((topology, app)) => verify_app(alloc, app, topology, history, out),
+    match read_network(alloc, topology) {
+        Ok(network) => verify_app(alloc, network, history, out),
         Err(fault) => refuse_topology(fault, out),
     }
 }
 
-// Verifies a history from the booted configuration of a topology, with the application of this name.
+// Verifies a history from the booted configuration of a network, with the application that it names.
 fn verify_app<R: Read, W: Write>(
     alloc: Global,
-    app: AppName,
-    topology: Topology,
+    network: Network,
     history: &mut R,
     out: &mut W,
 ) -> Result<Status, RunStop>
-    ensures leaves { LeavesOfReader (R.remaining history.old) (IsVerifiedOf app topology)
-        (W.contents out.old) (W.contents out.new) result }
+    ensures leaves { LeavesOfReader (R.remaining history.old)
+        (IsVerifiedOf network.app network.topology network.modulus) (W.contents out.old) (W.contents out.new) result }
 {
-    match app {
-        AppName::Idle => verify_booted::<Idle, R, W>(alloc, topology, history, out),
-        AppName::Token => verify_booted::<Token, R, W>(alloc, topology, history, out),
-        AppName::Mutex => verify_booted::<EdgeReversal, R, W>(alloc, topology, history, out),
-        AppName::Routes => verify_booted::<Routes, R, W>(alloc, topology, history, out),
+    match network.app {
+        AppName::Idle => verify_booted::<Idle, R, W>(alloc, network, history, out),
+        AppName::Token => verify_booted::<Token, R, W>(alloc, network, history, out),
+        AppName::Mutex => verify_booted::<EdgeReversal, R, W>(alloc, network, history, out),
+        AppName::Routes => verify_booted::<Routes, R, W>(alloc, network, history, out),
     }
 }
 
 fn verify_booted<P: Application, R: Read, W: Write>(
     alloc: Global,
-    topology: Topology,
+    network: Network,
     history: &mut R,
     out: &mut W,
 ) -> Result<Status, RunStop>
     ensures leaves { LeavesOfReader (R.remaining history.old)
-        (IsVerifiedFrom (meaning_of P.app P.text P.from_text P.names) topology) (W.contents out.old) (W.contents out.new) result }
+        (IsVerifiedFrom (meaning_of P.app P.text P.from_text P.names) network.topology network.modulus)
+        (W.contents out.old) (W.contents out.new) result }
 {
-    match Config::<P>::boot(alloc, topology) {
+    match Config::<P>::boot(alloc, network.topology, network.modulus) {
         Ok(opening) => verify_from(alloc, opening, history, out),
         Err(_) => Err(RunStop::NoMemory),
     }
@@ -98,6 +99,7 @@ fn verify_from<P: Application, R: Read, W: Write>(
         Err(ReaderFault::Text(BookFault::NoMemory)) => Err(RunStop::NoMemory),
         Err(ReaderFault::Text(BookFault::ReadFailed)) => Err(RunStop::ReadFailed),
         Err(ReaderFault::Text(fault)) => refuse_history(fault, out),
+        Err(ReaderFault::OtherModulus(modulus)) => refuse_modulus(modulus, out),
         Err(ReaderFault::Entries(VerifyFault::NotEnabledAt(position))) => {
             refuse_entry(position, out)
         }
@@ -112,6 +114,16 @@ pub fn refuse_history<W: Write>(fault: BookFault, out: &mut W) -> Result<Status,
     ensures stop { IfErr result IsOutputStop }
 {
     put_history_fault(out, fault)?;
+    Ok(Status::BadInput)
+}
+
+// Answers a history that counts sessions modulo this number, and the topology modulo another.
+pub fn refuse_modulus<W: Write>(modulus: u64, out: &mut W) -> Result<Status, RunStop>
+    ensures leaves { Leaves (λ output. output ≡ (other_modulus_text modulus, Status.BadInput)) (W.contents out.old)
+        (W.contents out.new) result }
+    ensures stop { IfErr result IsOutputStop }
+{
+    put_other_modulus(out, modulus)?;
     Ok(Status::BadInput)
 }
 
@@ -148,6 +160,14 @@ fn put_history_fault<W: Write>(out: &mut W, fault: BookFault) -> Result<(), Writ
         BookFault::NoMemory => put_bytes(out, b"bad history NoMemory\n"),
         BookFault::ReadFailed => put_bytes(out, b"bad history ReadFailed\n"),
     }
+}
+
+// Writes what a history is answered with that counts sessions modulo this number, and the topology modulo another.
+fn put_other_modulus<W: Write>(out: &mut W, modulus: u64) -> Result<(), WriteFault>
+    ensures ok { OnOk result (Appends (W.contents out.old) (W.contents out.new) (other_modulus_text modulus)) }
+    ensures err { OnErr result (AppendsPrefix (W.contents out.old) (W.contents out.new) (other_modulus_text modulus)) }
+{
+    put_numbered(out, b"bad history OtherModulus ", modulus)
 }
 
 // Writes what a history is answered with whose first refused entry has this position.

@@ -10,5 +10,6 @@ returns-in-Ok-clause-ok g c =
     let run = c.args.run in
     ok_weaker c.drive_from.result
     (λ told. IsDrove m c.in-Ok.opening run.steps run.seed run.faults (told_history told) (told_output told))
-    (λ told. IsDroveFrom m run.steps run.seed run.faults c.args.topology (told_history told) (told_output told))
+    (λ told. IsDroveFrom m run.steps run.seed run.faults c.args.network.topology c.args.network.modulus
+    (told_history told) (told_output told))
     (λ told is. (c.in-Ok.opening, c.in-Ok.ensures.ok, is)) c.drive_from.ensures.ok

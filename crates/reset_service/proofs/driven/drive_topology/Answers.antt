@@ -5,8 +5,9 @@ use Rattle.reset_service.proofs.driven.drive_topology.Goals as goal
 
 pub returns-in-Ok-clause-ok : goal.returns-in-Ok-clause-ok
 returns-in-Ok-clause-ok c =
-    droved c.args.run.steps c.args.run.seed c.args.run.faults c.args.topology.now c.in-Ok.topology c.in-Ok.app
-    c.drive_app.result c.in-Ok.ensures.ok c.drive_app.ensures.ok c.drive_app.ensures.undriven
+    droved c.args.run.steps c.args.run.seed c.args.run.faults c.args.topology.now c.in-Ok.network.topology
+    c.in-Ok.network.app c.in-Ok.network.modulus c.drive_app.result c.in-Ok.ensures.ok c.drive_app.ensures.ok
+    c.drive_app.ensures.undriven
 
 pub returns-in-Err-clause-ok : goal.returns-in-Err-clause-ok
 returns-in-Err-clause-ok c =

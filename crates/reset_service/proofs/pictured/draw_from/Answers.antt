@@ -1,10 +1,9 @@
-use Rattle.std.proofs.Common.{◌≡◌, ◌≢◌, ◌<◌, ◌≤◌, Err, length, Ok, rules, subst}
+use Rattle.std.proofs.Common.{◌≡◌, ◌≢◌, ◌<◌, ◌≤◌, ℕ, Err, length, List, Ok, rules}
 use Rattle.history.specs.HistoryText.{IsReadAs}
 use Rattle.history.specs.declared.text.BookFault.TheVariants.{NoMemory, ReadFailed}
 use Rattle.script_replay.specs.Meaning.{meaning_of}
-use Rattle.script_replay.specs.Output.{Leaves}
-use Rattle.reset_service.specs.Pictured.{IsDrawing, IsPicture, too_many_lanes_text}
-use Rattle.reset_service.specs.Pictured.IsPicture.{bad_history, read, too_many_lanes}
+use Rattle.reset_service.specs.Pictured.{IsPicture, too_many_lanes_text}
+use Rattle.reset_service.specs.Pictured.IsPicture.{bad_history, too_many_lanes}
 use Rattle.reset_service.specs.Verified.{bad_history_text}
 use Rattle.script_replay.specs.declared.status.RunStop.TheVariants as stop
 use Rattle.script_replay.specs.declared.status.Status.TheVariants.{BadInput}
@@ -26,16 +25,13 @@ pub returns-in-Ok : goal.returns-in-Ok
 returns-in-Ok g c =
     let m = meaning_of g.P.Application.app g.P.Application.text g.P.Application.from_text g.P.Application.names in
     let opening = c.args.opening.now in
-    let es = c.in-Ok.entries.items in
-    let few : length opening.graph.ids ≤ 64 = search rules in
+    let modulus = c.in-Ok.book.modulus in
+    let es = c.in-Ok.book.entries.items in
     record {
-      leaves = read_leaves (g.R.Read.remaining c.args.history.now) (IsPicture m opening) (λ text. IsReadAs text (Ok es))
-          (IsDrawing m opening es) _ _ c.draw_entries.result
-          (λ text o reads is. read es few reads is) c.in-Ok.ensures.ok
-          (subst
-          (λ xs. Leaves (IsDrawing m opening xs) (g.W.Write.contents c.args.out.now)
-          (g.W.Write.contents c.draw_entries.new.out) c.draw_entries.result) c.deref.ensures.value
-          c.draw_entries.ensures.leaves);
+      leaves = read_leaves (g.R.Read.remaining c.args.history.now) (IsPicture m opening)
+          (λ text. IsReadAs text (Ok (modulus, es)))
+          (λ o. (text : List ℕ) → IsReadAs text (Ok (modulus, es)) → IsPicture m opening text o) _ _ c.draw_book.result
+          (λ text o reads is. is text reads) c.in-Ok.ensures.ok c.draw_book.ensures.leaves;
     }
 
 pub returns-in-Err : goal.returns-in-Err

@@ -10,8 +10,9 @@ use Rattle.reset_service.proofs.pictured.picture_text.Goals as goal
 pub returns-in-Ok-clause-leaves : goal.returns-in-Ok-clause-leaves
 returns-in-Ok-clause-leaves g c =
     read_weaker (g.R.Read.remaining c.args.history.now) (IsPictureText c.args.topology.now)
-    (IsPictureOf c.in-Ok.app c.in-Ok.topology) _ _ c.draw_app.result
-    (λ text o is. good_topology c.in-Ok.topology c.in-Ok.app c.in-Ok.ensures.ok is) c.draw_app.ensures.leaves
+    (IsPictureOf c.in-Ok.network.app c.in-Ok.network.topology c.in-Ok.network.modulus) _ _ c.draw_app.result
+    (λ text o is. good_topology c.in-Ok.network.topology c.in-Ok.network.app c.in-Ok.network.modulus
+    c.in-Ok.ensures.ok is) c.draw_app.ensures.leaves
 
 pub returns-in-Err-clause-leaves : goal.returns-in-Err-clause-leaves
 returns-in-Err-clause-leaves g c =

@@ -10,8 +10,8 @@ returns-in-Ok-clause-ok g c =
     let m = meaning_of g.P.Application.app g.P.Application.text g.P.Application.from_text g.P.Application.names in
     let history = c.in_ok-history.history.items in
     let (text, whole, verdict) = c.in-Ok.ensures.told in
-    kept_by m c.args.opening c.one_reading_a_text.ensures history c.args.book.now.entries c.in-Ok.summary
-    c.requires.few c.in_ok-history.ensures.read c.requires.steps
+    kept_by m c.args.opening c.one_reading_a_text.ensures history c.args.book.now.config.modulus
+    c.args.book.now.entries c.in-Ok.summary c.requires.few c.in_ok-history.ensures.read c.requires.steps
     (subst (λ t. IsVerdict m.app m.from_text c.args.opening t (Ok c.in-Ok.summary))
     (whole ∙ c.as_slice-rest.ensures.value) verdict)
     c.len-nodes.result (length c.as_slice-reports.result.now)

@@ -8,8 +8,8 @@ pub returns-in-Ok : goal.returns-in-Ok
 returns-in-Ok g c =
     let m = meaning_of g.P.Application.app g.P.Application.text g.P.Application.from_text g.P.Application.names in
     record {
-      leaves = read_weaker (g.R.Read.remaining c.args.history.now) (IsVerifiedFrom m c.args.topology)
-          (IsVerified m c.in-Ok.opening) _ _ c.verify_from.result
+      leaves = read_weaker (g.R.Read.remaining c.args.history.now)
+          (IsVerifiedFrom m c.args.network.topology c.args.network.modulus) (IsVerified m c.in-Ok.opening) _ _ c.verify_from.result
           (λ text o is. (c.in-Ok.opening, c.in-Ok.ensures.ok, is)) c.verify_from.ensures.leaves;
     }
 
@@ -17,6 +17,7 @@ pub returns : goal.returns
 returns g c =
     let m = meaning_of g.P.Application.app g.P.Application.text g.P.Application.from_text g.P.Application.names in
     record {
-      leaves = read_unread (g.R.Read.remaining c.args.history.now) (IsVerifiedFrom m c.args.topology)
+      leaves = read_unread (g.R.Read.remaining c.args.history.now)
+          (IsVerifiedFrom m c.args.network.topology c.args.network.modulus)
           (g.W.Write.contents c.args.out.now) NoMemory tt;
     }
