@@ -7,9 +7,9 @@ use rand_pcg::Lcg64Xsh32;
 use reset_machine::Config;
 use std::alloc::Global;
 use std::process::Abort;
-use test_networks::booted;
+use test_networks::{booted, booted_modulo};
 use tree_layer::TreeRegs;
-use wave_layer::{Phase, WaveRegs};
+use wave_layer::{Modulus, Phase, WaveRegs};
 
 // The booted triangle of nodes 1, 2, 3.
 fn triangle(rt: &impl Abort, alloc: Global) -> Config<Idle> {
@@ -28,6 +28,25 @@ fn draws_from_published_words(rt: HostRuntime) {
     );
     assert_eq!(rt; random.next_u32(), 0xcbed_606e);
 
+    let mut random = Lcg64Xsh32::new(42, 54);
+    random.advance(1);
+    let regs = WaveRegs {
+        phase: Phase::Initiate,
+        session: 3,
+    };
+    assert_eq!(rt;
+        draw_fault(&mut random, &config),
+        Fault::SetWave { at: 3, regs }
+    );
+}
+
+#[test]
+fn draws_sessions_beyond_the_modulus(rt: HostRuntime) {
+    let modulus = Modulus::new(2).expect(&rt, "a modulus");
+    let links = [(1, 2), (2, 3), (1, 3)];
+    let config: Config<Idle> = booted_modulo(rt.alloc(), &[1, 2, 3], &links, modulus).expect(
+        &rt, "a graph",
+    );
     let mut random = Lcg64Xsh32::new(42, 54);
     random.advance(1);
     let regs = WaveRegs {

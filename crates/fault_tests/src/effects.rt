@@ -6,9 +6,9 @@ use reset_machine::Config;
 use std::alloc::Global;
 use std::process::Abort;
 use std::test::Fail;
-use test_networks::{booted, line};
+use test_networks::{booted, line, line_modulo};
 use tree_layer::TreeRegs;
-use wave_layer::{Phase, WaveRegs};
+use wave_layer::{Modulus, Phase, WaveRegs};
 
 // Does the fault of the line.
 fn do_line(
@@ -82,6 +82,25 @@ fn writes_registers_and_local_states(rt: HostRuntime) -> Result<(), Fail> {
     let done = do_line(&rt, rt.alloc(), &mut config, b"fault local 1 -")?;
     assert_eq!(rt; done, Ok(()));
     assert_eq!(rt; config.topology().link_count(), 2);
+    Ok(())
+}
+
+#[test]
+fn writes_sessions_beyond_the_modulus(rt: HostRuntime) -> Result<(), Fail> {
+    let mut config = line_modulo::<Idle>(rt.alloc(), Modulus::new(8).expect(&rt, "a modulus"))?;
+    for (text, session) in [
+        (b"fault wave 2 normal 8".as_slice(), 8),
+        (b"fault wave 2 normal 4294967295".as_slice(), 4_294_967_295),
+    ] {
+        let done = do_line(&rt, rt.alloc(), &mut config, text)?;
+        assert_eq!(rt; done, Ok(()));
+        let wave = WaveRegs {
+            phase: Phase::Normal,
+            session,
+        };
+        assert_eq!(rt; config.wave_at(2), Some(wave));
+    }
+    assert_eq!(rt; config.modulus().get(), 8);
     Ok(())
 }
 

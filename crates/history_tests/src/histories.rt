@@ -1,6 +1,6 @@
 // What verifying a history tells.
 
-use crate::line::line;
+use crate::line::{line, line_counting};
 use fault_inject::Fault;
 use history::{Entry, Report, VerifyFault, verify};
 use reset_machine::Event;
@@ -24,6 +24,26 @@ fn reports_a_whole_reset(rt: HostRuntime) -> Result<(), Fail> {
             assert_eq!(rt; summary.entries, 9);
             assert!(rt; summary.reports.as_slice() == [reset].as_slice());
         }
+        Err(_) => panic!(rt; "a history"),
+    }
+    Ok(())
+}
+
+#[test]
+fn reports_two_resets_modulo_2(rt: HostRuntime) -> Result<(), Fail> {
+    let mut entries = Vec::new(rt.alloc());
+    for event in WHOLE_RESET.into_iter().chain(WHOLE_RESET) {
+        entries.push(Entry::Step(event))?;
+    }
+    let report = |number, opened, finished| Report {
+        number,
+        opened: Some(opened),
+        finished,
+    };
+    match verify(rt.alloc(), line_counting(&rt, rt.alloc(), 2), &entries) {
+        Ok(summary) => assert!(rt;
+            summary.reports.as_slice() == [report(1, 4, 9), report(0, 13, 18)].as_slice()
+        ),
         Err(_) => panic!(rt; "a history"),
     }
     Ok(())

@@ -78,9 +78,9 @@ fn segments_are_written_in_turn(rt: HostRuntime) {
     assert!(rt; write_book(&book, &mut text).is_ok());
     let mut rest = text.as_slice();
     match read_book(rt.alloc(), &mut rest) {
-        Ok(entries) => {
-            assert_eq!(rt; entries.len(), 1026);
-            for (index, entry) in entries.iter().enumerate() {
+        Ok(text) => {
+            assert_eq!(rt; text.entries.len(), 1026);
+            for (index, entry) in text.entries.iter().enumerate() {
                 assert!(rt; book.entry(index + 1) == Some(entry));
             }
         }

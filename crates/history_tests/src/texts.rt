@@ -1,10 +1,11 @@
 // The texts of histories.
 
-use crate::line::line;
+use crate::line::{line, line_counting};
 use history::{
     Book, BookFault, Entry, MAX_ENTRIES, ReaderFault, Summary, VerifyFault, read_book, verify,
     verify_reader, write_book,
 };
+use reset_machine::Event;
 use std::alloc::Global;
 use std::io;
 use std::io::Read;
@@ -14,7 +15,7 @@ use test_devices::{Endless, FailingReader};
 use test_networks::WHOLE_RESET;
 
 // The history of one whole reset of the line.
-const RESET_HISTORY: &[u8] = b"reset-history 1
+const RESET_HISTORY: &[u8] = b"reset-history 2 4294967296
 request 1
 relay 2 1
 relay 3 2
@@ -70,13 +71,90 @@ fn a_book_is_written_and_read(rt: HostRuntime) -> Result<(), Fail> {
     assert!(rt; text.as_slice() == RESET_HISTORY);
     let mut rest = text.as_slice();
     match read_book(rt.alloc(), &mut rest) {
-        Ok(entries) => match verify(rt.alloc(), line(&rt, rt.alloc()), &entries) {
-            Ok(summary) => assert_eq!(rt; summary.reports.len(), 1),
-            Err(_) => panic!(rt; "a history of the line"),
-        },
+        Ok(text) => {
+            assert_eq!(rt; text.modulus, 4_294_967_296);
+            match verify(rt.alloc(), line(&rt, rt.alloc()), &text.entries) {
+                Ok(summary) => assert_eq!(rt; summary.reports.len(), 1),
+                Err(_) => panic!(rt; "a history of the line"),
+            }
+        }
         Err(_) => panic!(rt; "a history"),
     }
     Ok(())
+}
+
+#[test]
+fn a_book_is_written_with_its_modulus(rt: HostRuntime) {
+    let config = line_counting(&rt, rt.alloc(), 8);
+    let mut book = Book::open_book(rt.alloc(), config, MAX_ENTRIES);
+    assert!(rt; book.step(rt.alloc(), Event::Request { at: 1 }).is_ok());
+    let mut text = Vec::new(rt.alloc());
+    assert!(rt; write_book(&book, &mut text).is_ok());
+    assert_eq!(rt;
+        text.as_slice(),
+        b"reset-history 2 8\nrequest 1\n".as_slice()
+    );
+}
+
+#[test]
+fn both_versions_are_read(rt: HostRuntime) {
+    for (text, modulus) in [
+        (b"reset-history 1\nrequest 1\n".as_slice(), 4_294_967_296),
+        (b"reset-history 2 2\nrequest 1\n".as_slice(), 2),
+        (
+            b"reset-history 2 4294967295\nrequest 1\n".as_slice(),
+            4_294_967_295,
+        ),
+        (
+            b"reset-history 2 4294967296\nrequest 1\n".as_slice(),
+            4_294_967_296,
+        ),
+    ] {
+        let mut rest = text;
+        match read_book(rt.alloc(), &mut rest) {
+            Ok(text) => {
+                assert_eq!(rt; text.modulus, modulus);
+                let request = Entry::Step(Event::Request { at: 1 });
+                assert!(rt; text.entries.as_slice() == [request].as_slice());
+            }
+            Err(_) => panic!(rt; "a history modulo {modulus}"),
+        }
+    }
+}
+
+#[test]
+fn names_a_bad_first_line(rt: HostRuntime) {
+    for text in [
+        // Version 2 without a modulus, or with none from 2 to 4294967296.
+        b"reset-history 2\n".as_slice(),
+        b"reset-history 2 \n",
+        b"reset-history 2 0\n",
+        b"reset-history 2 1\n",
+        b"reset-history 2 4294967297\n",
+        b"reset-history 2 08\n",
+        b"reset-history 2 eight\n",
+        // Another number than the version's.
+        b"reset-history 2 8 8\n",
+        b"reset-history 1 8\n",
+        b"reset-history 1 4294967296\n",
+        b"reset-history 9 8\n",
+        b"reset-history 02 8\n",
+        // No line feed.
+        b"reset-history 2 8",
+    ] {
+        assert_eq!(rt; fault_of(&rt, rt.alloc(), text), BookFault::BadLine(1));
+    }
+}
+
+#[test]
+fn names_another_version(rt: HostRuntime) {
+    for text in [
+        b"reset-history 0\n".as_slice(),
+        b"reset-history 3\n",
+        b"reset-history 4294967295\n",
+    ] {
+        assert_eq!(rt; fault_of(&rt, rt.alloc(), text), BookFault::BadVersion);
+    }
 }
 
 #[test]
@@ -109,9 +187,9 @@ fn names_the_first_bad_line(rt: HostRuntime) {
 fn reads_piece_by_piece(rt: HostRuntime) {
     let mut pieces = FailingReader::new(RESET_HISTORY, 0);
     match read_book(rt.alloc(), &mut pieces) {
-        Ok(entries) => {
-            assert_eq!(rt; entries.len(), 9);
-            for (entry, event) in entries.iter().zip(WHOLE_RESET) {
+        Ok(text) => {
+            assert_eq!(rt; text.entries.len(), 9);
+            for (entry, event) in text.entries.iter().zip(WHOLE_RESET) {
                 assert!(rt; *entry == Entry::Step(event));
             }
         }
@@ -125,7 +203,7 @@ fn reads_piece_by_piece(rt: HostRuntime) {
 
 #[test]
 fn each_failed_read_is_told(rt: HostRuntime) {
-    for stop in 1..=15 {
+    for stop in 1..=16 {
         let mut failing = FailingReader::new(RESET_HISTORY, stop);
         match read_book(rt.alloc(), &mut failing) {
             Ok(_) => panic!(rt; "a failed read"),
@@ -142,6 +220,16 @@ fn verdict<R: Read>(
     reader: &mut R,
 ) -> Result<(usize, usize), ReaderFault> {
     let summary = verify_reader(alloc, line(rt, alloc), reader)?;
+    Ok((summary.entries, summary.reports.len()))
+}
+
+// The same on the line of which sessions are counted modulo 8.
+fn verdict_modulo_8<R: Read>(
+    rt: &impl Abort,
+    alloc: Global,
+    reader: &mut R,
+) -> Result<(usize, usize), ReaderFault> {
+    let summary = verify_reader(alloc, line_counting(rt, alloc, 8), reader)?;
     Ok((summary.entries, summary.reports.len()))
 }
 
@@ -168,8 +256,46 @@ fn verifies_what_a_reader_gives(rt: HostRuntime) {
 }
 
 #[test]
+fn verifies_a_history_of_its_modulus(rt: HostRuntime) {
+    let mut eight = b"reset-history 2 8\nrequest 1\nrelay 2 1\n".as_slice();
+    assert_eq!(rt; verdict_modulo_8(&rt, rt.alloc(), &mut eight), Ok((2, 0)));
+    let mut first = b"reset-history 1\nrequest 1\nrelay 2 1\n".as_slice();
+    assert_eq!(rt; verdict(&rt, rt.alloc(), &mut first), Ok((2, 0)));
+}
+
+#[test]
+fn another_modulus_is_told(rt: HostRuntime) {
+    for (text, modulus) in [
+        (b"reset-history 1\nrequest 1\n".as_slice(), 4_294_967_296),
+        (b"reset-history 2 2\nrequest 1\n".as_slice(), 2),
+        (b"reset-history 2 9\n".as_slice(), 9),
+        // It comes before an entry that isn't allowed.
+        (b"reset-history 1\njoin 1\n".as_slice(), 4_294_967_296),
+    ] {
+        let mut rest = text;
+        let other = Err(ReaderFault::OtherModulus(modulus));
+        assert_eq!(rt; verdict_modulo_8(&rt, rt.alloc(), &mut rest), other);
+    }
+}
+
+#[test]
+fn faults_of_the_text_come_before_another_modulus(rt: HostRuntime) {
+    let bad = b"reset-history 1\nrequest 1\nrelay 2 1\nrequest 01\n".as_slice();
+    let mut pieces = FailingReader::new(bad, 0);
+    let bad_line = Err(ReaderFault::Text(BookFault::BadLine(4)));
+    assert_eq!(rt; verdict_modulo_8(&rt, rt.alloc(), &mut pieces), bad_line);
+    // The modulus is read by the third read.
+    let mut failing = FailingReader::new(bad, 4);
+    let failed = Err(ReaderFault::Text(BookFault::ReadFailed));
+    assert_eq!(rt; verdict_modulo_8(&rt, rt.alloc(), &mut failing), failed);
+    let too_long = Err(ReaderFault::Text(BookFault::TooLong));
+    let mut joins = Joins { begun: false };
+    assert_eq!(rt; verdict_modulo_8(&rt, rt.alloc(), &mut joins), too_long);
+}
+
+#[test]
 fn each_failed_read_of_a_verification_is_told(rt: HostRuntime) {
-    for stop in 1..=15 {
+    for stop in 1..=16 {
         let mut failing = FailingReader::new(RESET_HISTORY, stop);
         let failed = Err(ReaderFault::Text(BookFault::ReadFailed));
         assert_eq!(rt; verdict(&rt, rt.alloc(), &mut failing), failed);

@@ -1,7 +1,8 @@
 // Graphs and what their readers tell. What a bad topology is answered with is shown on the program itself.
 
+use action_tables::MAX_MODULUS;
 use std::test::Fail;
-use topology::{AppName, MAX_LINKS, NodeId, TopoFault, Topology, read_topology};
+use topology::{AppName, MAX_LINKS, NodeId, ReadFault, TopoFault, Topology, read_topology};
 
 // Whether these are the nodes 1, 2 and 3.
 fn has_three_nodes(line: &Topology) -> bool {
@@ -65,11 +66,46 @@ fn measures_a_cycle_of_four(rt: HostRuntime) -> Result<(), Fail> {
 #[test]
 fn reads_the_text_of_a_line(rt: HostRuntime) -> Result<(), Fail> {
     let text = b"nodes = [1, 2, 3]\nlinks = [[1, 2], [2, 3]]\napp = \"routes\"\n";
-    let (topology, app) = read_topology(rt.alloc(), text)?;
-    assert_eq!(rt; topology.len(), 3);
-    assert!(rt; topology.linked(1, 2) && topology.linked(3, 2) && !topology.linked(1, 3));
-    assert_eq!(rt; app, AppName::Routes);
+    let read = read_topology(rt.alloc(), text)?;
+    let line = &read.topology;
+    assert_eq!(rt; line.len(), 3);
+    assert!(rt; line.linked(1, 2) && line.linked(3, 2) && !line.linked(1, 3));
+    assert_eq!(rt; read.app, AppName::Routes);
+    assert_eq!(rt; read.modulus, MAX_MODULUS);
     Ok(())
+}
+
+#[test]
+fn reads_a_modulus(rt: HostRuntime) -> Result<(), Fail> {
+    let text = b"nodes = [1]\nlinks = []\napp = \"idle\"\nmodulus = 8\n";
+    assert_eq!(rt; read_topology(rt.alloc(), text)?.modulus, 8);
+    let least = b"modulus = 2\nnodes = [1]\nlinks = []\napp = \"idle\"\n";
+    assert_eq!(rt; read_topology(rt.alloc(), least)?.modulus, 2);
+    let greatest = b"nodes = [1]\nlinks = []\nmodulus = 4294967296\napp = \"idle\"\n";
+    assert_eq!(rt; read_topology(rt.alloc(), greatest)?.modulus, 4_294_967_296);
+    let none = b"nodes = [1]\nlinks = []\napp = \"idle\"\n";
+    assert_eq!(rt; read_topology(rt.alloc(), none)?.modulus, 4_294_967_296);
+    Ok(())
+}
+
+// Why a text isn't read.
+fn text_fault(rt: HostRuntime, text: &[u8]) -> Option<ReadFault> {
+    match read_topology(rt.alloc(), text) {
+        Ok(_) => None,
+        Err(fault) => Some(fault),
+    }
+}
+
+#[test]
+fn refuses_what_is_no_modulus(rt: HostRuntime) {
+    let one = b"nodes = [1]\nlinks = []\napp = \"idle\"\nmodulus = 1\n";
+    assert_eq!(rt; text_fault(rt, one), Some(ReadFault::WrongKind));
+    let greater = b"nodes = [1]\nlinks = []\napp = \"idle\"\nmodulus = 4294967297\n";
+    assert_eq!(rt; text_fault(rt, greater), Some(ReadFault::WrongKind));
+    let text = b"nodes = [1]\nlinks = []\napp = \"idle\"\nmodulus = \"8\"\n";
+    assert_eq!(rt; text_fault(rt, text), Some(ReadFault::WrongKind));
+    let unknown_app = b"nodes = [1]\nlinks = []\napp = \"idel\"\nmodulus = 0\n";
+    assert_eq!(rt; text_fault(rt, unknown_app), Some(ReadFault::WrongKind));
 }
 
 // Why a call gave no topology.

@@ -1,9 +1,10 @@
 // The table of the wave agrees with a plain one, written apart, at the edges of the registers.
 
-use action_tables::CaseSet;
+use action_tables::{CaseSet, MAX_MODULUS};
+use std::process::Abort;
 use wave_layer::FatherSeen::{self, Is, Itself, Lost};
 use wave_layer::{
-    Phase, WaveMove, WaveRefusal, WaveRegs, WaveView, finish, join, open, relay, request,
+    Modulus, Phase, WaveMove, WaveRefusal, WaveRegs, WaveView, finish, join, open, relay, request,
     wave_enabled, wave_fire, wave_good,
 };
 
@@ -21,6 +22,10 @@ fn initiate(session: u32) -> WaveRegs {
 
 fn reset(session: u32) -> WaveRegs {
     regs(Phase::Reset, session)
+}
+
+fn modulus(rt: &impl Abort, value: u64) -> Modulus {
+    Modulus::new(value).expect(rt, "a modulus")
 }
 
 fn moved(regs: WaveRegs) -> WaveMove {
@@ -63,12 +68,17 @@ fn holds_alone(case: u8, phase: Phase, root: bool, done: bool, asked: bool) -> b
     }
 }
 
+// The session after this one.
+fn session_after(session: u32, modulus: Modulus) -> u32 {
+    ((u64::from(session) + 1) % modulus.get()) as u32
+}
+
 // The others, where the father is a neighbour.
-fn holds_below(case: u8, own: WaveRegs, up: WaveRegs) -> bool {
+fn holds_below(case: u8, own: WaveRegs, up: WaveRegs, modulus: Modulus) -> bool {
     let up_reset = up.phase == Phase::Reset;
     let own_reset = own.phase == Phase::Reset;
     let same = own.session == up.session;
-    let ahead = u64::from(up.session) == u64::from(own.session) + 1;
+    let ahead = up.session == session_after(own.session, modulus);
     match case {
         4 => up_reset && own.phase == Phase::Normal && ahead,
         5 => up_reset && own.phase == Phase::Initiate && ahead,
@@ -80,29 +90,35 @@ fn holds_below(case: u8, own: WaveRegs, up: WaveRegs) -> bool {
     }
 }
 
-fn holds(case: u8, own: WaveRegs, father: FatherSeen, done: bool, asked: bool) -> bool {
+fn holds(
+    case: u8,
+    own: WaveRegs,
+    father: FatherSeen,
+    modulus: Modulus,
+    done: bool,
+    asked: bool,
+) -> bool {
     match father {
         Itself => holds_alone(case, own.phase, true, done, asked),
         Lost => holds_alone(case, own.phase, false, done, asked),
-        Is(up) => { holds_alone(case, own.phase, false, done, asked) || holds_below(case, own, up) }
+        Is(up) => {
+            holds_alone(case, own.phase, false, done, asked) || holds_below(case, own, up, modulus)
+        }
     }
 }
 
-fn effect(case: u8, own: WaveRegs, father: FatherSeen) -> Result<WaveMove, WaveRefusal> {
+fn effect(case: u8, own: WaveRegs, father: FatherSeen, modulus: Modulus) -> WaveMove {
     let up = match father {
         Is(up) => up,
         Itself | Lost => own,
     };
     match case {
-        1 | 2 => Ok(moved(initiate(own.session))),
-        3 => match own.session.checked_add(1) {
-            Some(next) => Ok(restarted(reset(next))),
-            None => Err(WaveRefusal::SessionsSpent),
-        },
-        4 | 5 => Ok(restarted(reset(up.session))),
-        6 => Ok(moved(normal(own.session))),
-        7 => Ok(completed(normal(own.session))),
-        _ => Ok(moved(up)),
+        1 | 2 => moved(initiate(own.session)),
+        3 => restarted(reset(session_after(own.session, modulus))),
+        4 | 5 => restarted(reset(up.session)),
+        6 => moved(normal(own.session)),
+        7 => completed(normal(own.session)),
+        _ => moved(up),
     }
 }
 
@@ -112,6 +128,7 @@ fn plain(
     father: FatherSeen,
     first: WaveRegs,
     second: WaveRegs,
+    modulus: Modulus,
     named: Option<u32>,
 ) -> Result<WaveMove, WaveRefusal> {
     let is_child = named == Some(3) || named == Some(8);
@@ -125,18 +142,10 @@ fn plain(
         Err(WaveRefusal::NoSuchCase)
     } else if (case == 2 && !is_child) || (case != 2 && named.is_some()) {
         Err(WaveRefusal::NotChild)
-    } else if holds(case, own, father, done, asked) {
-        effect(case, own, father)
+    } else if holds(case, own, father, modulus, done, asked) {
+        Ok(effect(case, own, father, modulus))
     } else {
         Err(WaveRefusal::NotEnabled)
-    }
-}
-
-// Whether a row that is fired, with this child named, was enabled.
-fn was_enabled(answer: Result<WaveMove, WaveRefusal>) -> bool {
-    match answer {
-        Ok(_) | Err(WaveRefusal::SessionsSpent) => true,
-        Err(WaveRefusal::NoSuchCase | WaveRefusal::NotChild | WaveRefusal::NotEnabled) => false,
     }
 }
 
@@ -146,9 +155,15 @@ fn mends_nothing(enabled: CaseSet) -> bool {
 }
 
 // Whether each case, at each child that may be named, is enabled and does as in the plain table.
-fn agrees(own: WaveRegs, father: FatherSeen, first: WaveRegs, second: WaveRegs) -> bool {
+fn agrees(
+    own: WaveRegs,
+    father: FatherSeen,
+    first: WaveRegs,
+    second: WaveRegs,
+    modulus: Modulus,
+) -> bool {
     let children = [(3, first), (8, second)];
-    let view = match WaveView::new(own, father, &children) {
+    let view = match WaveView::new(own, father, &children, modulus) {
         Some(view) => view,
         None => return false,
     };
@@ -159,8 +174,8 @@ fn agrees(own: WaveRegs, father: FatherSeen, first: WaveRegs, second: WaveRegs) 
     for case in 0..13 {
         let mut holds = false;
         for named in [None, Some(3), Some(8), Some(5)] {
-            let answer = plain(case, own, father, first, second, named);
-            holds = holds || was_enabled(answer);
+            let answer = plain(case, own, father, first, second, modulus, named);
+            holds = holds || answer.is_ok();
             if wave_fire(&view, case, named) != answer {
                 return false;
             }
@@ -172,14 +187,34 @@ fn agrees(own: WaveRegs, father: FatherSeen, first: WaveRegs, second: WaveRegs) 
     true
 }
 
-fn agrees_at_all_fathers(own: WaveRegs, first: WaveRegs, second: WaveRegs) -> bool {
-    if !agrees(own, Itself, first, second) || !agrees(own, Lost, first, second) {
+fn agrees_at_all_fathers(
+    own: WaveRegs,
+    first: WaveRegs,
+    second: WaveRegs,
+    modulus: Modulus,
+) -> bool {
+    if !agrees(own, Itself, first, second, modulus) || !agrees(own, Lost, first, second, modulus) {
         return false;
     }
     for session in EDGES {
         for phase in PHASES {
-            if !agrees(own, Is(regs(phase, session)), first, second) {
+            if !agrees(own, Is(regs(phase, session)), first, second, modulus) {
                 return false;
+            }
+        }
+    }
+    true
+}
+
+// Whether a node with these registers agrees with the plain table, over all children and under all fathers.
+fn agrees_over_all_children(own: WaveRegs, modulus: Modulus) -> bool {
+    for session in EDGES {
+        for phase in PHASES {
+            let first = regs(phase, session);
+            for second in [normal(own.session), initiate(2), reset(own.session)] {
+                if !agrees_at_all_fathers(own, first, second, modulus) {
+                    return false;
+                }
             }
         }
     }
@@ -188,34 +223,87 @@ fn agrees_at_all_fathers(own: WaveRegs, first: WaveRegs, second: WaveRegs) -> bo
 
 #[test]
 fn agrees_with_a_plain_table(rt: HostRuntime) {
-    for session in EDGES {
-        for phase in PHASES {
-            let own = regs(phase, session);
-            for child_session in EDGES {
-                for child_phase in PHASES {
-                    for second in [normal(session), initiate(2), reset(session)] {
-                        let first = regs(child_phase, child_session);
-                        assert!(rt;
-                            agrees_at_all_fathers(own, first, second),
-                            "{own:?} over {second:?}"
-                        );
-                    }
-                }
+    for value in [2, 3, MAX_MODULUS] {
+        let modulus = modulus(&rt, value);
+        for session in EDGES {
+            for phase in PHASES {
+                let own = regs(phase, session);
+                assert!(rt;
+                    agrees_over_all_children(own, modulus),
+                    "{own:?} modulo {value}"
+                );
             }
         }
     }
 }
 
 #[test]
+fn a_modulus_is_from_2_to_4294967296(rt: HostRuntime) {
+    for value in [2, 4_294_967_296] {
+        assert_eq!(rt; modulus(&rt, value).get(), value);
+    }
+    for value in [0, 1, 4_294_967_297, u64::MAX] {
+        assert_eq!(rt; Modulus::new(value), None, "{value}");
+    }
+}
+
+#[test]
 fn the_commands_of_a_wave(rt: HostRuntime) {
+    let most = modulus(&rt, MAX_MODULUS);
     assert_eq!(rt; request(normal(4)), Ok(moved(initiate(4))));
     assert_eq!(rt; relay(normal(4), Some(initiate(4))), Ok(moved(initiate(4))));
-    assert_eq!(rt; open(initiate(4), true), Ok(restarted(reset(5))));
-    let last = initiate(u32::MAX);
-    assert_eq!(rt; open(last, true), Err(WaveRefusal::SessionsSpent));
-    assert_eq!(rt; join(initiate(4), Is(reset(5))), Ok(restarted(reset(5))));
+    assert_eq!(rt; open(initiate(4), true, most), Ok(restarted(reset(5))));
+    assert_eq!(rt;
+        join(initiate(4), Is(reset(5)), most),
+        Ok(restarted(reset(5)))
+    );
     assert_eq!(rt; finish(reset(5), false, true), Ok(moved(normal(5))));
     assert_eq!(rt; finish(reset(5), true, true), Ok(completed(normal(5))));
+}
+
+// Of a session, its modulus and the session after it: the last ones, and some that a fault left.
+const SUCCESSORS: [(u32, u64, u32); 9] = [
+    (0, 2, 1),
+    (1, 2, 0),
+    (7, 8, 0),
+    (4_294_967_294, 4_294_967_296, 4_294_967_295),
+    (4_294_967_295, 4_294_967_296, 0),
+    (8, 8, 1),
+    (9, 8, 2),
+    (2, 2, 1),
+    (4_294_967_295, 3, 1),
+];
+
+#[test]
+fn sessions_are_opened_and_joined_modulo(rt: HostRuntime) {
+    for (session, value, next) in SUCCESSORS {
+        let modulus = modulus(&rt, value);
+        let restarts = Ok(restarted(reset(next)));
+        assert_eq!(rt;
+            open(initiate(session), true, modulus),
+            restarts,
+            "{session} modulo {value}"
+        );
+        for own in [normal(session), initiate(session)] {
+            assert_eq!(rt;
+                join(own, Is(reset(next)), modulus),
+                restarts,
+                "{session} modulo {value}"
+            );
+        }
+    }
+}
+
+#[test]
+fn a_session_beyond_the_modulus_is_joined_by_nobody(rt: HostRuntime) {
+    let eight = modulus(&rt, 8);
+    // Session 10 is 2 modulo 8, and yet not the session after 1 or after 9.
+    for own in [normal(1), normal(9)] {
+        assert_eq!(rt;
+            join(own, Is(reset(10)), eight),
+            Err(WaveRefusal::NotEnabled)
+        );
+    }
 }
 
 #[test]

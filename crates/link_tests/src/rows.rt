@@ -1,6 +1,6 @@
 // Each row of the tree table and of the wave table that tells a fault, failing alone at a node.
 
-use crate::networks::{fault, put_text, tree, wave};
+use crate::networks::{fault, line_modulo_8, put_text, tree, wave};
 use app_interface::Idle;
 use app_mutex::EdgeReversal;
 use link_predicates::{Family, LinkFault, check_all, check_node};
@@ -100,6 +100,37 @@ fn a_torn_wave_is_told_of_the_link(rt: HostRuntime) -> Result<(), Fail> {
             "row {row}"
         );
     }
+    Ok(())
+}
+
+// Session 2 comes after 9 as it does after 1, and yet 9 and 1 are two sessions.
+#[test]
+fn a_foreign_session_is_told_of_the_link(rt: HostRuntime) -> Result<(), Fail> {
+    let mut config = line_modulo_8(&rt, rt.alloc());
+    config.put_wave(1, wave(Phase::Normal, 1))?;
+    config.put_wave(2, wave(Phase::Normal, 9))?;
+    config.put_wave(3, wave(Phase::Reset, 2))?;
+    let found = check_all(rt.alloc(), &config)?;
+    assert!(rt; found.as_slice() == [fault(1, 2, Family::Wave, 9)].as_slice());
+    Ok(())
+}
+
+#[test]
+fn a_node_that_is_to_join_session_0_has_no_fault(rt: HostRuntime) -> Result<(), Fail> {
+    let mut config = line_modulo_8(&rt, rt.alloc());
+    config.put_wave(1, wave(Phase::Normal, 7))?;
+    config.put_wave(2, wave(Phase::Reset, 0))?;
+    assert!(rt; check_node(rt.alloc(), &config, 1)?.is_empty());
+    Ok(())
+}
+
+#[test]
+fn a_node_that_is_late_for_session_0_is_told(rt: HostRuntime) -> Result<(), Fail> {
+    let mut config = line_modulo_8(&rt, rt.alloc());
+    config.put_wave(1, wave(Phase::Normal, 6))?;
+    config.put_wave(2, wave(Phase::Reset, 0))?;
+    let found = check_node(rt.alloc(), &config, 1)?;
+    assert!(rt; found.as_slice() == [fault(1, 2, Family::Wave, 11)].as_slice());
     Ok(())
 }
 

@@ -9,6 +9,8 @@ mod leader_link;
 #[cfg(test)]
 mod machine;
 #[cfg(test)]
+mod moduli;
+#[cfg(test)]
 mod pictures;
 #[cfg(test)]
 mod plans;

@@ -11,7 +11,8 @@ pub fn line(rt: &impl Abort, alloc: Global) -> Config<Idle> {
     test_networks::line(alloc).expect(rt, "the line")
 }
 
-fn waves(rt: &impl Abort, config: &Config<Idle>) -> [WaveRegs; 3] {
+// The wave registers of the nodes 1, 2 and 3.
+pub fn waves(rt: &impl Abort, config: &Config<Idle>) -> [WaveRegs; 3] {
     [1, 2, 3].map(|id| config.wave_at(id).expect(rt, "a node of the line"))
 }
 
@@ -34,6 +35,7 @@ fn boots_the_line(rt: HostRuntime) {
     assert_eq!(rt; config.wave_at(4), None);
     assert_eq!(rt; config.topology().len(), 3);
     assert_eq!(rt; config.newest_session(), 0);
+    assert_eq!(rt; config.modulus().get(), 4_294_967_296);
 }
 
 #[test]

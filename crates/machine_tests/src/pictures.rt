@@ -1,12 +1,13 @@
 // The local predicates and the pictures of the whole network, over every assignment of registers.
 
+use action_tables::MAX_MODULUS;
 use app_interface::Idle;
 use reset_machine::{Config, Event};
 use std::alloc::Global;
 use std::process::Abort;
-use test_networks::booted;
+use test_networks::booted_modulo;
 use tree_layer::TreeRegs;
-use wave_layer::{Phase, WaveRegs};
+use wave_layer::{Modulus, Phase, WaveRegs};
 
 // A graph of the nodes 1, 2 and 3, with the distances of its nodes to node 3.
 struct Case {
@@ -30,8 +31,9 @@ const IDS: [u32; 3] = [1, 2, 3];
 const BOUND: u32 = 3;
 
 impl Case {
-    fn boot(&self, rt: &impl Abort, alloc: Global) -> Config<Idle> {
-        booted(alloc, &IDS, self.links).expect(rt, "a graph")
+    fn boot(&self, rt: &impl Abort, alloc: Global, modulus: u64) -> Config<Idle> {
+        let modulus = Modulus::new(modulus).expect(rt, "a modulus");
+        booted_modulo(alloc, &IDS, self.links, modulus).expect(rt, "a graph")
     }
 
     fn are_linked(&self, a: u32, b: u32) -> bool {
@@ -82,7 +84,7 @@ fn no_tree_row(rt: &impl Abort, alloc: Global, config: &Config<Idle>) -> bool {
 }
 
 fn tree_pictures(rt: &impl Abort, alloc: Global, case: &Case) -> u32 {
-    let mut config = case.boot(rt, alloc);
+    let mut config = case.boot(rt, alloc, MAX_MODULUS);
     let mut pictures = 0_u32;
     for number in 0..64 * 64 * 64 {
         let trees = [number % 64, number / 64 % 64, number / 4096].map(tree_regs);
@@ -104,7 +106,7 @@ fn no_tree_row_is_enabled_on_a_tree_alone(rt: HostRuntime) {
     assert_eq!(rt; tree_pictures(&rt, rt.alloc(), &TRIANGLE), 1);
 }
 
-// Every assignment of a phase and of a session up to 2.
+// Every assignment of a phase and of a session up to 2, which modulo 2 is one that only a fault leaves.
 fn wave_regs(number: u32) -> WaveRegs {
     let phase = match number % 3 {
         0 => Phase::Normal,
@@ -117,10 +119,16 @@ fn wave_regs(number: u32) -> WaveRegs {
     }
 }
 
+// The session after this one.
+fn session_after(session: u32, modulus: Modulus) -> u32 {
+    ((u64::from(session) + 1) % modulus.get()) as u32
+}
+
 // Whether the nodes that have the session of node 3 contain their fathers, any other is not reset
-// and one session behind, the father of a reset node is reset, and so is a father that has the
-// session of node 3 before its child.
+// and the session after its own is that of node 3, the father of a reset node is reset, and so is a
+// father that has the session of node 3 before its child, and where neither has it the two have one session.
 fn is_wave(config: &Config<Idle>, waves: &[WaveRegs; 3]) -> bool {
+    let modulus = config.modulus();
     let newest = waves[2].session;
     for place in 0..3 {
         let Some(tree) = config.tree_at(IDS[place]) else {
@@ -138,7 +146,13 @@ fn is_wave(config: &Config<Idle>, waves: &[WaveRegs; 3]) -> bool {
         let fits = if joined {
             father_joined && (!reset || father_reset)
         } else {
-            !reset && own.session.saturating_add(1) == newest && (!father_joined || father_reset)
+            !reset
+                && session_after(own.session, modulus) == newest
+                && (if father_joined {
+                    father_reset
+                } else {
+                    up.session == own.session
+                })
         };
         if !fits {
             return false;
@@ -157,8 +171,8 @@ fn no_mending_row(rt: &impl Abort, alloc: Global, config: &Config<Idle>) -> bool
     true
 }
 
-fn wave_pictures(rt: &impl Abort, alloc: Global, case: &Case) -> u32 {
-    let mut config = case.boot(rt, alloc);
+fn wave_pictures(rt: &impl Abort, alloc: Global, case: &Case, modulus: u64) -> u32 {
+    let mut config = case.boot(rt, alloc, modulus);
     let mut pictures = 0_u32;
     for number in 0..9 * 9 * 9 {
         let waves = [number % 9, number / 9 % 9, number / 81].map(wave_regs);
@@ -176,14 +190,16 @@ fn wave_pictures(rt: &impl Abort, alloc: Global, case: &Case) -> u32 {
 
 #[test]
 fn no_mending_row_is_enabled_in_a_wave_alone(rt: HostRuntime) {
-    assert!(rt; wave_pictures(&rt, rt.alloc(), &LINE) > 0);
-    assert!(rt; wave_pictures(&rt, rt.alloc(), &TRIANGLE) > 0);
+    for modulus in [2, 3, MAX_MODULUS] {
+        assert!(rt; wave_pictures(&rt, rt.alloc(), &LINE, modulus) > 0);
+        assert!(rt; wave_pictures(&rt, rt.alloc(), &TRIANGLE, modulus) > 0);
+    }
 }
 
 #[test]
 fn each_repair_leads_on(rt: HostRuntime) {
     // The registers of node 2 are torn; a claim and an adoption mend them.
-    let mut config = LINE.boot(&rt, rt.alloc());
+    let mut config = LINE.boot(&rt, rt.alloc(), MAX_MODULUS);
     let torn = TreeRegs {
         root: 3,
         father: 3,
@@ -206,7 +222,7 @@ fn each_repair_leads_on(rt: HostRuntime) {
 
 #[test]
 fn an_impossible_root_is_followed_and_adopted(rt: HostRuntime) {
-    let mut config = LINE.boot(&rt, rt.alloc());
+    let mut config = LINE.boot(&rt, rt.alloc(), MAX_MODULUS);
     let impossible = TreeRegs {
         root: 65535,
         father: 3,

@@ -4,17 +4,22 @@ use crate::leader_link::LeaderLink;
 use reset_machine::{Config, Event, Reply};
 use std::alloc::{AllocFailed, Global};
 use std::process::Abort;
-use test_networks::booted;
+use test_networks::booted_modulo;
 use topology::Topology;
+use wave_layer::Modulus;
 
-// The nodes in the midst of a reset that the greatest has opened, each with a local state of its own.
+// The nodes in the midst of a reset that the greatest has opened, each with a local state of its own. Sessions
+// are counted modulo 8.
 fn resetting(
     rt: &impl Abort,
     alloc: Global,
     nodes: &[u32],
     links: &[(u32, u32)],
 ) -> Config<LeaderLink> {
-    let mut config = booted::<LeaderLink>(alloc, nodes, links).expect(rt, "a graph");
+    let modulus = Modulus::new(8).expect(rt, "a modulus");
+    let mut config = booted_modulo::<LeaderLink>(alloc, nodes, links, modulus).expect(
+        rt, "a graph",
+    );
     let greatest = config.topology().greatest().get();
     for event in [
         Event::Request { at: greatest },
@@ -51,9 +56,12 @@ fn put_links(
     config.put_topology(alloc, topology)
 }
 
-// Whether the two have the same registers and local states.
+// Whether the two have the same modulus, registers and local states.
 fn have_same_states(a: &Config<LeaderLink>, b: &Config<LeaderLink>) -> bool {
-    a.trees() == b.trees() && a.waves() == b.waves() && a.locals() == b.locals()
+    a.modulus() == b.modulus()
+        && a.trees() == b.trees()
+        && a.waves() == b.waves()
+        && a.locals() == b.locals()
 }
 
 // Whether the topology has these links and no others.

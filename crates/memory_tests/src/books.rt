@@ -15,7 +15,7 @@ use std::process::Abort;
 use test_networks::WHOLE_RESET;
 use wave_layer::{Phase, WaveRegs};
 
-const HISTORY: &[u8] = b"reset-history 1\nrequest 1\nrelay 2 1\n";
+const HISTORY: &[u8] = b"reset-history 2 4294967296\nrequest 1\nrelay 2 1\n";
 
 const REFUSED: &[u8] = b"reset-history 1\nrequest 3\nopen 3\njoin 1\n";
 
@@ -99,7 +99,7 @@ fn entries(rt: &impl Abort, alloc: Global, text: &[u8]) -> Vec<Entry> {
         answer => answer,
     };
     match read {
-        Ok(entries) => entries,
+        Ok(book) => book.entries,
         Err(_) => panic!(rt; "a history"),
     }
 }

@@ -5,6 +5,7 @@ use history::{Book, MAX_ENTRIES};
 use reset_machine::Config;
 use std::alloc::Global;
 use std::process::Abort;
+use test_networks::greatest_modulus;
 use topology::{TopoFault, Topology};
 
 /// The line of the nodes 1, 2 and 3.
@@ -23,19 +24,19 @@ fn built(rt: &impl Abort, alloc: Global, links: &[(u32, u32)]) -> Topology {
     )
 }
 
-/// The topology, booted. Where memory is refused it comes back.
+/// The topology, booted, with sessions modulo the greatest number. Where memory is refused it comes back.
 pub(crate) fn booted<P: Application>(
     rt: &impl Abort,
     alloc: Global,
     topology: Topology,
 ) -> Config<P> {
     let links = topology.link_count();
-    let back = match Config::<P>::boot(alloc, topology) {
+    let back = match Config::<P>::boot(alloc, topology, greatest_modulus()) {
         Ok(config) => return config,
         Err(refused) => refused.value,
     };
     assert_eq!(rt; back.link_count(), links);
-    match Config::<P>::boot(alloc, back) {
+    match Config::<P>::boot(alloc, back, greatest_modulus()) {
         Ok(config) => config,
         Err(_) => panic!(rt; "memory is refused once"),
     }

@@ -1,27 +1,47 @@
 // Topologies, their texts, and what is booted of them.
 
 use crate::networks::{booted, line, triangle};
+use action_tables::MAX_MODULUS;
 use app_interface::Application;
 use app_token::Token;
 use reset_machine::Config;
 use std::alloc::AllocError;
-use topology::{AppName, ReadFault, TopoFault};
+use topology::{AppName, ReadFault, TopoFault, TopologyText};
 use tree_layer::boot_tree;
 use wave_layer::boot_wave;
 
 const TEXT: &[u8] = b"nodes = [1, 2, 3]\nlinks = [[1, 2], [2, 3]]\napp = \"token\"\n";
 
+const TEXT_WITH_MODULUS: &[u8] =
+    b"nodes = [1, 2, 3]\nlinks = [[1, 2], [2, 3]]\napp = \"token\"\nmodulus = 8\n";
+
+// What a text says, which is read again where memory was refused once.
+fn read_again(rt: HostRuntime, text: &[u8]) -> Result<TopologyText, ReadFault> {
+    match topology::read_topology(rt.alloc(), text) {
+        Err(ReadFault::NoMemory) => topology::read_topology(rt.alloc(), text),
+        answer => answer,
+    }
+}
+
 #[test]
 fn a_text_is_read(rt: HostRuntime) {
-    let read = topology::read_topology(rt.alloc(), TEXT);
-    let read = match read {
-        Err(ReadFault::NoMemory) => topology::read_topology(rt.alloc(), TEXT),
-        answer => answer,
-    };
-    match read {
-        Ok((topology, app)) => {
-            assert_eq!(rt; app, AppName::Token);
-            assert_eq!(rt; topology.link_count(), 2);
+    match read_again(rt, TEXT) {
+        Ok(read) => {
+            assert_eq!(rt; read.app, AppName::Token);
+            assert_eq!(rt; read.topology.link_count(), 2);
+            assert_eq!(rt; read.modulus, MAX_MODULUS);
+        }
+        Err(_) => panic!(rt; "a good text"),
+    }
+}
+
+#[test]
+fn a_text_with_a_modulus_is_read(rt: HostRuntime) {
+    match read_again(rt, TEXT_WITH_MODULUS) {
+        Ok(read) => {
+            assert_eq!(rt; read.app, AppName::Token);
+            assert_eq!(rt; read.topology.link_count(), 2);
+            assert_eq!(rt; read.modulus, 8);
         }
         Err(_) => panic!(rt; "a good text"),
     }

@@ -32,6 +32,15 @@ fn one_wave_is_verified(rt: HostRuntime) {
 }
 
 #[test]
+fn a_history_of_another_modulus_is_told(rt: HostRuntime) {
+    let mut out = Vec::new(rt.alloc());
+    let mut history = b"reset-history 2 8\nrequest 1\n".as_slice();
+    let result = verify_text(rt.alloc(), LINE, &mut history, &mut out);
+    assert_eq!(rt; result, Ok(Status::BadInput));
+    assert_eq!(rt; out.as_slice(), b"bad history OtherModulus 8\n".as_slice());
+}
+
+#[test]
 fn an_early_join_is_not_enabled(rt: HostRuntime) {
     let mut out = Vec::new(rt.alloc());
     let mut history = b"reset-history 1\nrequest 3\nopen 3\njoin 1\n".as_slice();

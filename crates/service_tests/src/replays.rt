@@ -2,7 +2,7 @@
 // answers to single lines are, and where a joined text is cut, is shown on the program itself.
 
 use crate::calls::{ALL, LINE, ONE_WAVE, READING};
-use reset_service::{RunStop, Status, print_tables, read_text};
+use reset_service::{RunStop, Status, print_tables, read_text, replay_text};
 use std::test::Fail;
 use test_devices::{Endless, FailingReader, FailingWriter, Fault};
 
@@ -15,6 +15,26 @@ fn one_wave(rt: HostRuntime) {
         assert_eq!(rt; result, Ok(Status::Good));
         assert_eq!(rt; out.as_slice(), call.answers());
     }
+}
+
+// The line of which sessions are counted modulo 2, and two waves of it.
+const LINE_MODULO_2: &[u8] =
+    b"nodes = [1, 2, 3]\nlinks = [[1, 2], [2, 3]]\napp = \"idle\"\nmodulus = 2\n";
+
+const TWO_WAVES: &[u8] =
+    b"request 1\nrelay 2 1\nrelay 3 2\nopen 3\njoin 2\njoin 1\nfinish 1\nfinish 2\nfinish 3\n\
+      request 1\nrelay 2 1\nrelay 3 2\nopen 3\njoin 2\njoin 1\nfinish 1\nfinish 2\nfinish 3\n";
+
+const TWO_WAVES_ANSWERS: &[u8] =
+    b"applied\napplied\napplied\napplied\napplied\napplied\napplied\napplied\ncomplete 1\n\
+      applied\napplied\napplied\napplied\napplied\napplied\napplied\napplied\ncomplete 0\n";
+
+#[test]
+fn two_waves_modulo_2(rt: HostRuntime) {
+    let mut out = Vec::new(rt.alloc());
+    let result = replay_text(rt.alloc(), LINE_MODULO_2, TWO_WAVES, &mut out);
+    assert_eq!(rt; result, Ok(Status::Good));
+    assert_eq!(rt; out.as_slice(), TWO_WAVES_ANSWERS);
 }
 
 #[test]

@@ -7,6 +7,7 @@ use history::{Book, MAX_ENTRIES};
 use reset_machine::Config;
 use std::alloc::Global;
 use std::process::Abort;
+use test_networks::greatest_modulus;
 use topology::Topology;
 
 // The line of the nodes 1, 2, 3.
@@ -59,13 +60,13 @@ fn built(rt: &impl Abort, alloc: Global, nodes: &[u32], links: &[(u32, u32)]) ->
     Topology::build(alloc, nodes, links).expect(rt, "a graph")
 }
 
-// The topology, booted.
+// The topology, booted. Sessions are counted modulo the greatest number.
 pub(crate) fn booted<P: Application>(
     rt: &impl Abort,
     alloc: Global,
     topology: Topology,
 ) -> Config<P> {
-    match Config::<P>::boot(alloc, topology) {
+    match Config::<P>::boot(alloc, topology, greatest_modulus()) {
         Ok(config) => config,
         Err(_) => panic!(rt; "memory for a configuration"),
     }
