@@ -9,7 +9,7 @@ import datetime
 import re
 import tomllib
 
-from model import APPLICATIONS, MOST, MOST_ID, MOST_LINKS, PHASES, Network, Refused, distances, graph_of, number
+from model import APPLICATIONS, MOST, MOST_ID, MOST_LINKS, PHASES, SESSIONS, Network, distances, graph_of, number
 
 LIMIT = 1_048_576
 MOST_NODES = 1024
@@ -17,6 +17,7 @@ LONGEST = 256
 MOST_ENTRIES = 1_000_000
 DEEPEST = 80
 KEYS = ("nodes", "links", "app")
+MODULUS = "modulus"  # the key that may be left out
 
 
 class Unsure(Exception):
@@ -91,27 +92,33 @@ def is_small(value):
     return type(value) is int and 0 <= value <= MOST
 
 
+def is_modulus(value):
+    return type(value) is int and 2 <= value <= SESSIONS
+
+
 def is_link(value):
     return isinstance(value, list) and len(value) == 2 and all(map(is_small, value))
 
 
 def values_of(table):
-    """The three values, of their kinds."""
+    """The four values, of their kinds."""
     if not all(key in table for key in KEYS):
         raise Fault("MissingKey")
-    if len(table) > len(KEYS):
+    if not all(key in (*KEYS, MODULUS) for key in table):
         raise Fault("UnknownKey")
     nodes, links, app = (table[key] for key in KEYS)
+    modulus = table.get(MODULUS, SESSIONS)
     kinds = [
         isinstance(nodes, list) and all(map(is_small, nodes)),
         isinstance(links, list) and all(map(is_link, links)),
         isinstance(app, str),
+        is_modulus(modulus),
     ]
     if not all(kinds):
         raise Fault("WrongKind")
     if app not in APPLICATIONS:
         raise Fault("UnknownApp")
-    return nodes, links, app
+    return nodes, links, app, modulus
 
 
 def twice(items):
@@ -140,11 +147,11 @@ def booted(text):
     """The network that a topology text describes."""
     if len(text) > LIMIT:
         raise Fault("TextTooLong")
-    nodes, links, app = values_of(document(text))
+    nodes, links, app, modulus = values_of(document(text))
     for name, item in faults_of(nodes, links):
         if item is not None:
             raise Fault(" ".join(map(str, (name, *item))))
-    return Network(graph_of(nodes, links), app)
+    return Network(graph_of(nodes, links), app, modulus)
 
 
 # ---- lines
@@ -259,14 +266,29 @@ def joined(text):
 
 # ---- histories
 
-def entries_of(text):
-    """The entries of a history, each its words."""
-    first, feed, rest = text.partition(b"\n")
-    word, _, version = first.decode("latin-1").partition(" ")
-    if not feed or word != "reset-history" or number(version) is None:
+def modulus_of(first):
+    """The modulus of a history with this first line: all versions but the second have nothing behind their number."""
+    word, *numbers = first.decode("latin-1").split(" ")
+    if word != "reset-history" or len(numbers) not in (1, 2) or number(numbers[0]) is None:
         raise Fault("BadLine 1")
-    if version != "1":
+    if numbers[0] == "2":
+        modulus = number(numbers[-1], SESSIONS) if len(numbers) == 2 else None
+        if modulus is None or not is_modulus(modulus):
+            raise Fault("BadLine 1")
+        return modulus
+    if len(numbers) == 2:
+        raise Fault("BadLine 1")
+    if numbers[0] != "1":
         raise Fault("BadVersion")
+    return SESSIONS
+
+
+def history_of(text):
+    """The modulus of a history and its entries, each its words."""
+    first, feed, rest = text.partition(b"\n")
+    if not feed:
+        raise Fault("BadLine 1")
+    modulus = modulus_of(first)
     *lines, unended = rest.split(b"\n")
     entries = []
     for n, line in enumerate(lines, 2):
@@ -277,7 +299,7 @@ def entries_of(text):
             raise Fault("TooLong")
     if unended:
         raise Fault(f"BadLine {len(lines) + 2}")
-    return entries
+    return modulus, entries
 
 
 def verified(network, entries):
@@ -301,7 +323,9 @@ def verify(topology, history):
     except Fault as fault:
         return output([f"bad topology {fault}"], 2)
     try:
-        entries = entries_of(history)
+        modulus, entries = history_of(history)
+        if modulus != network.modulus:
+            raise Fault(f"OtherModulus {modulus}")
     except Fault as fault:
         return output([f"bad history {fault}"], 2)
     return verified(network, entries)

@@ -5,18 +5,28 @@ that were damaged on the way.
 import itertools
 
 from answers import LIMIT, Fault, Unsure, booted, entry_of_line
-from model import APPLICATIONS, MOST, PHASES, Network, graph_of
+from model import APPLICATIONS, MOST, PHASES, SESSIONS, Network, graph_of
 
-NUMBERS = ["0", "1", "2", "3", "7", "255", "256", "65535", "65536", "70000", str(MOST), str(MOST + 1), "01", "00", "+1",
-           "-1", "-0", "1_0", "0x1", "1.0", "", "99999999999999999999", "9223372036854775808"]
+NUMBERS = ["0", "1", "2", "3", "7", "8", "255", "256", "65535", "65536", "70000", str(MOST), str(SESSIONS),
+           str(SESSIONS + 1), "01", "00", "08", "+1", "-1", "-0", "1_0", "0x1", "1.0", "", "99999999999999999999",
+           "9223372036854775808"]
 WORDS = [*NUMBERS, "normal", "initiate", "reset", "Reset", "claim", "open", "act", "fault", "tree", "wave", "local",
          "down", "up", "pass", "enter", "show", "draw", "---", "#", "-", "hold/-/-", "in/1", "1:0:1", "out/0 ",
          "\t", "\r", "\0", "\x7f", "\xe9", "\ufeff", "~", "!", "x" * 200, "x" * 201, "x" * 256, "1" * 257, "[", "]",
-         "{", "}", '"', '"""', "'", "=", ",", "[[", "]]", "nodes", "links", "app", "true", "nan", "1979-05-27",
-         "\\", "\\e", "\\x41", "\\u0041", "\\ud800", "reset-history", "reset-history 1", "\n", "\n\n", "\r\n"]
+         "{", "}", '"', '"""', "'", "=", ",", "[[", "]]", "nodes", "links", "app", "modulus", "modulus = 2", "true",
+         "nan", "1979-05-27", "\\", "\\e", "\\x41", "\\u0041", "\\ud800", "reset-history", "reset-history 1",
+         "reset-history 2", "reset-history 2 8", "\n", "\n\n", "\r\n"]
 VALUES = ["-1", str(MOST + 1), "1.0", "1e3", "inf", '"1"', "true", "1979-05-27", "[]", "[1]", "[[]]", "[1, 2, 3]", "{}",
           "{a = 1}", "9223372036854775807", "-9223372036854775808", "9223372036854775808", '""', "''", "nan",
           "1979-05-27T07:32:00Z", "07:32:00", "00", "1__0"]
+MODULI = [2, 2, 2, 3, 3, 8, 8, 4, 7, MOST, SESSIONS]
+NO_MODULI = [0, 1, 1, -1, -2, SESSIONS + 1, 1 << 62]
+# first lines that no history has, and those of versions that aren't known
+BAD_FIRST = ["reset-history 2", "reset-history 2 0", "reset-history 2 1", f"reset-history 2 {SESSIONS + 1}",
+             f"reset-history 1 {SESSIONS}", "reset-history 1 8", "reset-history 2 08", "reset-history 2  8",
+             "reset-history 2 8 ", "reset-history 2 8 8", "reset-history 02 8", "reset-history 2 +8", "reset-history 3",
+             "reset-history 3 8", "reset-history 0", f"reset-history {MOST}", f"reset-history {SESSIONS}",
+             "reset-history", "reset-history ", "reset-history 1 "]
 
 
 class Maker:
@@ -112,7 +122,11 @@ class Maker:
             "links": self.array(ends, plain),
             "app": f"{quote}{app}{quote}",
         }
-        text = "".join(f"{key} = {it}\n" for key, it in values.items())
+        if self.chance(0.6):
+            modulus = rng.choice(NO_MODULI if not plain and self.chance(0.15) else MODULI)
+            values["modulus"] = self.integer(modulus, plain)
+        keys = values if self.chance(0.7) else sorted(values)
+        text = "".join(f"{key} = {values[key]}\n" for key in keys)
         return (text if plain else self.odd_topology(values)).encode()
 
     def odd_topology(self, values):
@@ -222,7 +236,9 @@ class Maker:
             far = rng.choice([0, 1, 2, 3, len(network.graph), len(network.graph) - 1, MOST, MOST - 1])
             return f"fault tree {i} {root} {father} {far}"
         if kind == "wave":
-            session = rng.choices([0, 1, 2, 3, MOST - 1, MOST], [9, 9, 9, 3, 1, 1])[0]
+            last = network.modulus - 1
+            some = [0, 1, 2, 3, last - 1, last, min(last + 1, MOST), min(last + 2, MOST), MOST - 1, MOST]
+            session = rng.choices(some, [15, 15, 15, 4, 2, 4, 2, 2, 1, 1])[0]
             return f"fault wave {i} {rng.choice(PHASES)} {session}"
         if kind == "local":
             return f"fault local {i} {self.local(network)}"
@@ -260,9 +276,16 @@ class Maker:
             told.append((line, [] if empty else network.answer(line.split(" "))))
         return told
 
+    def first_line(self, modulus):
+        """The first line of a history of this modulus, now and then of another one or of none."""
+        if self.chance(0.1):
+            return self.rng.choice(BAD_FIRST)
+        told = self.rng.choice(MODULI) if self.chance(0.1) else modulus
+        return "reset-history 1" if told == SESSIONS and self.chance(0.5) else f"reset-history 2 {told}"
+
     def history(self, network):
         """The text of a history; now and then it has an entry that is refused."""
-        lines = ["reset-history 1"]
+        lines = [self.first_line(network.modulus)]
         for line, answer in self.script(network):
             line = answer[0].removeprefix("drawn ") if line.startswith("draw ") else line
             if entry_of_line(line.encode()) and (not answer[-1].startswith("refused") or self.chance(0.02)):

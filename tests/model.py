@@ -6,6 +6,7 @@ PHASES = ("normal", "initiate", "reset")
 MOST_LINKS = 8192
 MOST_ID = 65535
 MOST = 4294967295
+SESSIONS = MOST + 1  # the modulus of a topology that names none
 WORD = 1 << 64  # how many values a word of the generator's state has
 
 
@@ -206,8 +207,8 @@ TREE_ROWS = {"claim": {1, 2, 3, 4}, "follow": {5, 6}, "adopt": {7, 8}}
 class Network:
     """The configuration that is booted on a graph, and what commands make of it."""
 
-    def __init__(self, graph, app):
-        self.graph, self.app, self.bound = dict(graph), APPLICATIONS[app], len(graph)
+    def __init__(self, graph, app, modulus=SESSIONS):
+        self.graph, self.app, self.bound, self.modulus = dict(graph), APPLICATIONS[app], len(graph), modulus
         self.greatest = max(graph)
         far = distances(graph, self.greatest)
         father = {i: min((j for j in graph[i] if far[j] < far[i]), default=i) for i in graph}
@@ -265,6 +266,10 @@ class Network:
 
     # -- the wave table
 
+    def successor(self, session):
+        """The session after another, which a fault may have put at the modulus or above it."""
+        return (session + 1) % self.modulus
+
     def mend_rows(self, i, j):
         """Rows 8 to 11 toward a neighbour, where it is the father."""
         (phase, session), (above, newer) = self.wave[i], self.wave[j]
@@ -275,7 +280,7 @@ class Network:
             (8, not up and own),
             (9, not up and not own and session != newer),
             (10, up and own and session != newer),
-            (11, up and not own and newer not in (session, session + 1)),
+            (11, up and not own and newer not in (session, self.successor(session))),
         ]
 
     def wave_rows(self, i):
@@ -285,7 +290,7 @@ class Network:
         joins, mends = False, []
         if father in self.graph[i]:
             above, newer = self.wave[father]
-            joins, mends = above == "reset" and newer == session + 1, self.mend_rows(i, father)
+            joins, mends = above == "reset" and newer == self.successor(session), self.mend_rows(i, father)
         rows = [
             (1, phase == "normal"),
             (2, phase == "normal" and any(it[0] == "initiate" for it in below)),
@@ -311,9 +316,7 @@ class Network:
         elif word == "mend":
             self.wave[i] = self.wave[father]
         else:
-            if word == "open" and session == MOST:
-                raise Refused("SessionsSpent")
-            self.wave[i], self.local[i] = ("reset", session + 1), self.start(i)
+            self.wave[i], self.local[i] = ("reset", self.successor(session)), self.start(i)
         return "applied"
 
     # -- the application's table
