@@ -30,7 +30,7 @@ impl Network {
             let adopt = self.adopt_rows(node, near);
             if near.id == node.tree.father {
                 add(near, "tree", adopt | self.follow_rows(node, Some(near)));
-                add(near, "wave", Self::mend_rows(node, Some(near)));
+                add(near, "wave", self.mend_rows(node, Some(near)));
             } else {
                 add(near, "tree", adopt);
             }

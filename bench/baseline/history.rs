@@ -6,7 +6,7 @@ use crate::inject::{Fault, read_fault};
 use crate::network::Network;
 use crate::script::MAX_LINE;
 use crate::tables::{Refusal, Reply};
-use crate::topology::number;
+use crate::topology::{SESSIONS, modulus, number};
 use std::io::{self, Write};
 
 const MAX_ENTRIES: usize = 1_000_000;
@@ -28,6 +28,7 @@ enum BadHistory {
     BadLine(usize),
     BadVersion,
     TooLong,
+    OtherModulus(u64),
 }
 
 /// That a reset was completed. Positions of entries count from 1.
@@ -48,7 +49,7 @@ struct Openings {
 /// Plays a history from the booted network, and writes what it comes to. It is read whole before, since a
 /// text that is no history is told as such, whatever its entries do.
 pub fn verify(network: &mut Network, text: &[u8], out: &mut impl Write) -> io::Result<Verdict> {
-    let entries = match read_history(text) {
+    let entries = match read_history(network.modulus, text) {
         Ok(entries) => entries,
         Err(bad) => {
             put_bad(bad, out)?;
@@ -68,14 +69,11 @@ pub fn verify(network: &mut Network, text: &[u8], out: &mut impl Write) -> io::R
     }
 }
 
-/// The entries of a history's text, or its first line that a history can't have there.
-fn read_history(mut text: &[u8]) -> Result<Vec<Entry<'_>>, BadHistory> {
-    let first = take_line(&mut text).and_then(|line| line.strip_prefix(b"reset-history "));
-    match first.and_then(number) {
-        Some(1) => {}
-        Some(_) => return Err(BadHistory::BadVersion),
-        None => return Err(BadHistory::BadLine(1)),
-    }
+/// The entries of a history's text, or its first line that a history can't have there, or else that it is one
+/// of another modulus.
+fn read_history(modulus: u64, mut text: &[u8]) -> Result<Vec<Entry<'_>>, BadHistory> {
+    let first = take_line(&mut text).ok_or(BadHistory::BadLine(1))?;
+    let told = read_first_line(first)?;
     let mut entries = Vec::new();
     while !text.is_empty() {
         let line = take_line(&mut text).filter(|line| line.len() <= MAX_LINE);
@@ -85,7 +83,20 @@ fn read_history(mut text: &[u8]) -> Result<Vec<Entry<'_>>, BadHistory> {
         }
         entries.push(entry);
     }
-    Ok(entries)
+    if told == modulus { Ok(entries) } else { Err(BadHistory::OtherModulus(told)) }
+}
+
+/// The modulus that a first line tells. Only that of version 2 has one, and version 1 had the greatest.
+fn read_first_line(line: &[u8]) -> Result<u64, BadHistory> {
+    let version = line.strip_prefix(b"reset-history ").ok_or(BadHistory::BadLine(1))?;
+    if let Some(word) = version.strip_prefix(b"2 ") {
+        return modulus(word).ok_or(BadHistory::BadLine(1));
+    }
+    match number(version) {
+        Some(1) => Ok(SESSIONS),
+        None | Some(2) => Err(BadHistory::BadLine(1)),
+        Some(_) => Err(BadHistory::BadVersion),
+    }
 }
 
 /// Takes a line off the text, if it has a line feed, which is left out.
@@ -174,5 +185,6 @@ fn put_bad(bad: BadHistory, out: &mut impl Write) -> io::Result<()> {
         BadHistory::BadLine(line) => writeln!(out, "bad history BadLine {line}"),
         BadHistory::BadVersion => out.write_all(b"bad history BadVersion\n"),
         BadHistory::TooLong => out.write_all(b"bad history TooLong\n"),
+        BadHistory::OtherModulus(told) => writeln!(out, "bad history OtherModulus {told}"),
     }
 }

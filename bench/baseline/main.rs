@@ -75,6 +75,6 @@ fn run() -> io::Result<u8> {
 fn read_network(topology: &str) -> io::Result<Network> {
     let topology = fs::read(topology)?;
     read_topology(&topology)
-        .and_then(|(app, ids, links)| boot(app, ids, &links))
+        .and_then(|(app, ids, links, modulus)| boot(app, ids, &links, modulus))
         .ok_or_else(|| io::Error::other("no good topology of the application idle or mutex"))
 }

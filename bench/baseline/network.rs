@@ -44,13 +44,6 @@ pub struct Wave {
     pub session: u32,
 }
 
-impl Wave {
-    /// Whether the other's session is the one after this.
-    pub fn is_before(self, other: Wave) -> bool {
-        Some(other.session) == self.session.checked_add(1)
-    }
-}
-
 #[derive(Clone, Copy, PartialEq, Eq)]
 pub enum App {
     Idle,
@@ -80,11 +73,13 @@ pub struct Network {
     pub places: Vec<Option<u16>>,
     pub link_count: usize,
     pub app: App,
+    /// Sessions are counted modulo this number.
+    pub modulus: u64,
 }
 
 /// The network in which each node has its place in the tree of shortest ways to the greatest id. None
 /// where the ids, which ascend, and the links are no connected graph.
-pub fn boot(app: App, ids: Vec<u32>, links: &[(u32, u32)]) -> Option<Network> {
+pub fn boot(app: App, ids: Vec<u32>, links: &[(u32, u32)], modulus: u64) -> Option<Network> {
     let (least, root) = (*ids.first()?, *ids.last()?);
     let twice = ids.windows(2).any(|pair| pair[0] == pair[1]);
     if ids.len() > MAX_NODES || links.len() > MAX_LINKS || least < 1 || root > 65535 || twice {
@@ -108,7 +103,7 @@ pub fn boot(app: App, ids: Vec<u32>, links: &[(u32, u32)]) -> Option<Network> {
         })
     });
     let nodes = nodes.collect::<Option<_>>()?;
-    Some(Network { nodes, places, link_count: links.len(), app })
+    Some(Network { nodes, places, link_count: links.len(), app, modulus })
 }
 
 /// The places of each node's neighbours, ascending.
@@ -152,6 +147,12 @@ fn distances(near: &[Vec<usize>], from: usize) -> Vec<Option<u32>> {
 impl Network {
     pub fn bound(&self) -> u32 {
         self.nodes.len() as u32
+    }
+
+    /// The session after another. Mostly that is one more: a division is left to those where it isn't.
+    pub fn successor(&self, session: u32) -> u32 {
+        let next = u64::from(session) + 1;
+        (if next < self.modulus { next } else { next % self.modulus }) as u32
     }
 
     pub fn place(&self, id: u32) -> Option<usize> {

@@ -130,7 +130,6 @@ fn put_answer(answer: Answer, out: &mut impl Write) -> io::Result<()> {
         Err(Refusal::StrangeNode) => out.write_all(b"refused StrangeNode\n"),
         Err(Refusal::StrangeNeighbour) => out.write_all(b"refused StrangeNeighbour\n"),
         Err(Refusal::NotEnabled) => out.write_all(b"refused NotEnabled\n"),
-        Err(Refusal::SessionsSpent) => out.write_all(b"refused SessionsSpent\n"),
         Err(Refusal::BadValue) => out.write_all(b"refused BadValue\n"),
         Err(Refusal::BadLocal) => out.write_all(b"refused BadLocal\n"),
         Err(Refusal::NoSuchLink) => out.write_all(b"refused NoSuchLink\n"),

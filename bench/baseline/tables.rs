@@ -29,7 +29,6 @@ pub enum Refusal {
     StrangeNode,
     StrangeNeighbour,
     NotEnabled,
-    SessionsSpent,
     BadValue,
     BadLocal,
     NoSuchLink,
@@ -125,9 +124,11 @@ impl Network {
         row(3, node.tree.father == node.id && node.wave.phase == Phase::Initiate)
     }
 
-    pub fn join_rows(node: &Node, up: Option<&Node>) -> Rows {
+    pub fn join_rows(&self, node: &Node, up: Option<&Node>) -> Rows {
         let wave = node.wave;
-        let joins = up.is_some_and(|up| up.wave.phase == Phase::Reset && wave.is_before(up.wave));
+        let joins = up.is_some_and(|up| {
+            up.wave.phase == Phase::Reset && up.wave.session == self.successor(wave.session)
+        });
         row(4, joins && wave.phase == Phase::Normal)
             | row(5, joins && wave.phase == Phase::Initiate)
     }
@@ -142,26 +143,27 @@ impl Network {
         row(6, done && !root) | row(7, done && root)
     }
 
-    pub fn mend_rows(node: &Node, up: Option<&Node>) -> Rows {
+    pub fn mend_rows(&self, node: &Node, up: Option<&Node>) -> Rows {
         let Some(up) = up else {
             return 0;
         };
         let reset = node.wave.phase == Phase::Reset;
         let above = up.wave.phase == Phase::Reset;
         let differs = node.wave.session != up.wave.session;
+        let late = differs && up.wave.session != self.successor(node.wave.session);
         row(8, !above && reset)
             | row(9, !above && !reset && differs)
             | row(10, above && reset && differs)
-            | row(11, above && !reset && differs && !node.wave.is_before(up.wave))
+            | row(11, above && !reset && late)
     }
 
     pub fn wave_rows(&self, node: &Node) -> Rows {
         let up = self.father(node);
         let own = Self::request_rows(node)
             | Self::open_rows(node)
-            | Self::join_rows(node, up)
+            | self.join_rows(node, up)
             | self.finish_rows(node)
-            | Self::mend_rows(node, up);
+            | self.mend_rows(node, up);
         self.neighbours(node).fold(own, |rows, near| rows | Self::relay_rows(node, near))
     }
 
@@ -183,7 +185,7 @@ impl Network {
     pub fn open(&mut self, id: u32) -> Answer {
         let at = self.find(id)?;
         some(Self::open_rows(&self.nodes[at]))?;
-        let session = self.nodes[at].wave.session.checked_add(1).ok_or(Refusal::SessionsSpent)?;
+        let session = self.successor(self.nodes[at].wave.session);
         self.restart(at, session);
         Ok(Reply::Applied)
     }
@@ -191,8 +193,8 @@ impl Network {
     pub fn join(&mut self, id: u32) -> Answer {
         let at = self.find(id)?;
         let node = &self.nodes[at];
-        some(Self::join_rows(node, self.father(node)))?;
-        let session = node.wave.session + 1;
+        some(self.join_rows(node, self.father(node)))?;
+        let session = self.successor(node.wave.session);
         self.restart(at, session);
         Ok(Reply::Applied)
     }
@@ -215,7 +217,7 @@ impl Network {
         let at = self.find(id)?;
         let node = &self.nodes[at];
         let up = self.father(node).ok_or(Refusal::NotEnabled)?;
-        some(Self::mend_rows(node, Some(up)))?;
+        some(self.mend_rows(node, Some(up)))?;
         self.nodes[at].wave = up.wave;
         Ok(Reply::Applied)
     }

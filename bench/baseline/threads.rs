@@ -49,7 +49,7 @@ pub fn run_threads(
         }
     });
     let book = book.into_inner().unwrap();
-    writeln!(history, "reset-history 1")?;
+    writeln!(history, "reset-history 2 {}", book.network.modulus)?;
     for entry in &book.entries {
         writeln!(history, "{entry}")?;
     }
@@ -108,16 +108,16 @@ impl Network {
 
     fn next_of_wave(&self, node: &Node) -> Option<Event> {
         let (id, up) = (node.id, self.father(node));
-        if Self::mend_rows(node, up) != 0 {
+        if self.mend_rows(node, up) != 0 {
             return Some(Event::Mend(id));
         }
-        if Self::join_rows(node, up) != 0 {
+        if self.join_rows(node, up) != 0 {
             return Some(Event::Join(id));
         }
         if self.finish_rows(node) != 0 {
             return Some(Event::Finish(id));
         }
-        if Self::open_rows(node) != 0 && node.wave.session != u32::MAX {
+        if Self::open_rows(node) != 0 {
             return Some(Event::Open(id));
         }
         let child = self.children(node).find(|near| Self::relay_rows(node, near) != 0)?;

@@ -3,6 +3,9 @@
 use crate::MAX_TEXT;
 use crate::network::App;
 
+/// The modulus of the sessions where a topology names none, and the greatest there is.
+pub const SESSIONS: u64 = 1 << 32;
+
 /// What is left of a topology text.
 struct Cursor<'t> {
     rest: &'t [u8],
@@ -26,6 +29,10 @@ impl<'t> Cursor<'t> {
 
     fn number(&mut self) -> Option<u32> {
         number(self.run(u8::is_ascii_digit))
+    }
+
+    fn modulus(&mut self) -> Option<u64> {
+        modulus(self.run(u8::is_ascii_digit))
     }
 
     fn pair(&mut self) -> Option<(u32, u32)> {
@@ -59,13 +66,13 @@ impl<'t> Cursor<'t> {
     }
 }
 
-/// The application, the nodes, ascending, and the links of a topology text.
-pub fn read_topology(text: &[u8]) -> Option<(App, Vec<u32>, Vec<(u32, u32)>)> {
+/// The application, the nodes, ascending, the links and the modulus of a topology text.
+pub fn read_topology(text: &[u8]) -> Option<(App, Vec<u32>, Vec<(u32, u32)>, u64)> {
     if text.len() > MAX_TEXT {
         return None;
     }
     let mut text = Cursor { rest: text };
-    let (mut nodes, mut links, mut app) = (None, None, None);
+    let (mut nodes, mut links, mut app, mut modulus) = (None, None, None, None);
     while !text.rest.trim_ascii_start().is_empty() {
         let key = text.run(u8::is_ascii_alphabetic);
         text.take(b'=')?;
@@ -73,6 +80,7 @@ pub fn read_topology(text: &[u8]) -> Option<(App, Vec<u32>, Vec<(u32, u32)>)> {
             b"nodes" if nodes.is_none() => nodes = Some(text.list(Cursor::number)?),
             b"links" if links.is_none() => links = Some(text.list(Cursor::pair)?),
             b"app" if app.is_none() => app = Some(text.string()?),
+            b"modulus" if modulus.is_none() => modulus = Some(text.modulus()?),
             _ => return None,
         }
     }
@@ -83,7 +91,15 @@ pub fn read_topology(text: &[u8]) -> Option<(App, Vec<u32>, Vec<(u32, u32)>)> {
         b"mutex" => App::Mutex,
         _ => return None,
     };
-    Some((app, nodes, links))
+    Some((app, nodes, links, modulus.unwrap_or(SESSIONS)))
+}
+
+/// A modulus in decimals without leading zeros, from 2 on.
+pub fn modulus(word: &[u8]) -> Option<u64> {
+    match word {
+        b"4294967296" => Some(SESSIONS),
+        word => number(word).map(u64::from).filter(|modulus| *modulus >= 2),
+    }
 }
 
 /// A decimal number without leading zeros.
