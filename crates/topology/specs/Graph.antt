@@ -75,10 +75,6 @@ pub record IsLeader (g : Graph) (i leader : ℕ) : Type 0 where
   pub reached : IsReached g i leader
   pub greatest : (j : ℕ) → IsReached g i j → j ≤ leader
 
--- the leader of a node; a connected graph has one for all, its greatest id
-abbrev pub leader : Graph → ℕ → ℕ
-leader g i = greatest g
-
 -- what each graph of the service is: links join two different nodes, in both directions
 pub record IsGraph (g : Graph) : Type 0 where
   pub some : 0 < length g.ids

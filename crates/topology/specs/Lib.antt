@@ -1,6 +1,7 @@
 pub mod Id
 pub mod Graph
 pub mod Reaching
+pub mod Components
 pub mod Rows
 pub mod Faults
 pub mod Building

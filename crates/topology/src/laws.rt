@@ -1,7 +1,8 @@
 ghost use Rattle.std.specs.Prelude.{◌≡◌, ◌↔◌, ℕ, List, length, true};
 ghost use Rattle.topology.specs.declared.fault.TopoFault.{TopoFault};
 ghost use Rattle.topology.specs.Faults.{IsFirstFault, IsTopologyOf};
-ghost use Rattle.topology.specs.Graph.{Graph, IsConnected, IsDistance, IsGraph, IsWalk};
+ghost use Rattle.topology.specs.Components.{component, IsComponent, leader, reaches};
+ghost use Rattle.topology.specs.Graph.{Graph, IsConnected, IsDistance, IsGraph, IsLeader, IsNode, IsReached, IsWalk};
 ghost use Rattle.topology.specs.Reaching.{is_connected};
 
 /// A walk of a graph leads back over as many links.
@@ -23,6 +24,32 @@ pub fn distance_back()
 /// The test of connectedness tells the connected graphs from the others.
 pub fn connected_is_tested()
     ensures { (g : Graph) → IsGraph g → (is_connected g ≡ true ↔ IsConnected g) }
+{}
+
+/// The test of what walks from a node lead to is exact.
+pub fn reached_is_tested()
+    ensures { (g : Graph) (a b : ℕ) → IsGraph g → IsNode g a → (reaches g a b ≡ true ↔ IsReached g a b) }
+{}
+
+/// The component of a node is a connected graph of the nodes that walks from the node lead to.
+pub fn components_are_parts()
+    ensures { (g : Graph) (i : ℕ) → IsGraph g → IsNode g i → IsComponent g i (component g i) }
+{}
+
+/// Two nodes with a walk between them have one component, and so one leader.
+pub fn one_component()
+    ensures { (g : Graph) (i j : ℕ) → IsGraph g → IsNode g i → IsReached g i j → component g j ≡ component g i }
+{}
+
+/// A connected graph has one component, which is the whole graph.
+pub fn connected_is_whole()
+    ensures { (g : Graph) (i : ℕ) → IsGraph g → IsConnected g → IsNode g i → component g i ≡ g }
+{}
+
+/// Each node has one leader.
+pub fn leaders_lead()
+    ensures leads { (g : Graph) (i : ℕ) → IsGraph g → IsNode g i → IsLeader g i (leader g i) }
+    ensures one { (g : Graph) (i a b : ℕ) → IsLeader g i a → IsLeader g i b → a ≡ b }
 {}
 
 /// Two lists describe at most one topology.

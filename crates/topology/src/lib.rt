@@ -15,7 +15,8 @@ mod topology;
 pub use fault::{MAX_LINKS, MAX_NODES, TopoFault};
 pub use id::NodeId;
 pub use laws::{
-    connected_is_tested, distance_back, one_distance, one_first_fault, one_topology, walks_back,
+    components_are_parts, connected_is_tested, connected_is_whole, distance_back, leaders_lead,
+    one_component, one_distance, one_first_fault, one_topology, reached_is_tested, walks_back,
 };
 pub use text::{AppName, MAX_TEXT, ReadFault, TopologyText, app_named, read_topology};
 pub use topology::Topology;
