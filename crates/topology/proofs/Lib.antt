@@ -16,6 +16,7 @@ pub mod Membership
 pub mod TopologyTexts
 pub mod Moduli
 pub mod OneResult
+pub mod Components
 pub mod Described
 pub mod PlainTexts
 pub mod PlainLines

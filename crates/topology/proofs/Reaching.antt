@@ -139,7 +139,7 @@ module _ (g : Graph) (a : ℕ) where
         ⊎_elim (λ many. absurd (omega (arith, many, count_by-le-length (λ b. is_reached g a b (length g.ids)) g.ids)))
         (λ closed. closed) (closed_or_more a_in (length g.ids))
 
-    test_from_walk : IsNode g a → (b : ℕ) → IsReached g a b → is_reached g a b (length g.ids) ≡ true
+    pub test_from_walk : IsNode g a → (b : ℕ) → IsReached g a b → is_reached g a b (length g.ids) ≡ true
     test_from_walk a_in b r =
         closed_walk (length g.ids) (closed_at_length a_in) a b r.0 (reached_here (length g.ids)) r.1
 
