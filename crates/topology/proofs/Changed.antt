@@ -1,26 +1,22 @@
 -- The graph of rows to which one link came, or from which one link went.
-use Rattle.std.proofs.Common.{◌≡◌, ◌≢◌, ℕ, ◌+◌, ◌-◌, ◌<◌, ◌≤◌, Bool, true, false, not, ◌&&◌, ◌||◌, ◌⊎◌, eqb, List}
-use Rattle.std.proofs.Common.{length, get_or, Option, Some, None, position, Vec, Global, vec_len, inl, inr, sym, refl}
+use Rattle.std.proofs.Common.{◌≡◌, ◌≢◌, ℕ, ◌+◌, ◌-◌, ◌<◌, ◌≤◌, Bool, true, false, not, ◌&&◌, ◌||◌, ◌⊎◌, List}
+use Rattle.std.proofs.Common.{length, get_or, Vec, Global, inl, inr, sym, refl}
 use Rattle.std.proofs.Common.{ap, ap₂, subst, subst₂, ◌∙◌, arith, ⊎_elim}
 use Rattle.std.specs.List.Sorted.{IsStrictlyIncreasing}
 use Rattle.std.specs.FinSet as set
 use Rattle.std.specs.Ordering.{eq_by_cmp}
 use Rattle.std.specs.Vec.{with_items}
-use Rattle.std.proofs.lemmas.Bool.{cases_Bool, both_ways, false_from_ne_true, or_left}
+use Rattle.std.proofs.lemmas.Bool.{cases_Bool, both_ways, false_from_ne_true}
 use Rattle.std.proofs.lemmas.List.{length-map, with_items_is}
 use Rattle.topology.specs.Building.{joins, Links, Unlinks}
 use Rattle.topology.specs.Changing.{with_link, without_link, IsIndexOf}
-use Rattle.topology.specs.Faults.{IsCutOff}
-use Rattle.topology.specs.Graph.{Graph, pair_cmp, are_linked, IsConnected, has}
-use Rattle.topology.specs.Rows.{near_has, links_of, graph_of, AreIds, AreRows, AreParts}
-use Rattle.topology.specs.Searching.{AreDistances}
+use Rattle.topology.specs.Graph.{Graph, pair_cmp, are_linked, has}
+use Rattle.topology.specs.Rows.{near_has, links_of, graph_of, AreIds, AreLeaders, AreLeadersOf, AreRows, AreParts}
 use Rattle.topology.proofs.Ascending.{member_at, index_of_member, index_once}
-use Rattle.topology.proofs.Assembling.{connected_by_marks, cut_off_by_marks}
 use Rattle.topology.proofs.Counting.{len_both, one_direction}
 use Rattle.topology.proofs.Inserting.{rows_of, joins_ends, joins_own}
 use Rattle.topology.proofs.Joining.{joins_indexes}
 use Rattle.topology.proofs.RowLemmas.{pair_antisymmetric, pair_total, linked_from, linked_at, graph_of_rows}
-use Rattle.topology.proofs.Walks.{walk_of_other}
 
 -- ---- the pairs of a set that one link came to, or went from
 
@@ -172,40 +168,35 @@ module _ (ids : List ℕ) (as_ids : AreIds ids) (i j : ℕ) (i_in : i < length i
 -- ---- a topology with one link more
 
 -- what a topology of these rows is, beside one of those before
-pub record Made (ids : List ℕ) (rows : List (List ℕ)) (count : ℕ) (g : Graph) : Type 0 where
-  pub parts : AreParts ids rows count
+pub record Made (ids : List ℕ) (rows : List (List ℕ)) (leaders : List ℕ) (count : ℕ) (g : Graph) : Type 0 where
+  pub parts : AreParts ids rows leaders count
   pub graph : graph_of ids rows ≡ g
 
-pub linked_parts : (ids : List ℕ) (rows new : List (List ℕ)) (count : ℕ) → AreParts ids rows count → (i j : ℕ)
-    → i < length ids → j < length ids → (fresh : Bool) → Links (length ids) rows i j fresh new →
-    get_or ids i 0 ≢ get_or ids j 0 → are_linked (graph_of ids rows) (get_or ids i 0) (get_or ids j 0) ≡ false →
-    Made ids new (count + 1) (with_link (graph_of ids rows) (get_or ids i 0) (get_or ids j 0))
-linked_parts ids rows new count old i j i_in j_in fresh put different absent =
-    let up = old.as_ids.ascending in
-    let more = linked_more ids up i j i_in j_in rows new old.as_rows put.as_rows put.members in
-    let longer = two_more ids old.as_ids i j i_in j_in rows new old.as_rows put.as_rows different put.members absent in
-    record {
-      parts = record {
-        as_ids = old.as_ids;
-        as_rows = put.as_rows;
-        connected = λ c d c_in d_in.
-            let r = old.connected c d c_in d_in in (
-              r.0,
-              walk_of_other (graph_of ids rows) (graph_of ids new)
-                  (λ x y e. more x y
-                  ∙ or_left (are_linked (graph_of ids rows) x y) (joins x y (get_or ids i 0, get_or ids j 0)) e) c d
-                  r.0 r.1,
-            );
-        counted = omega (arith, longer, old.counted);
-      };
-      graph = ap (λ s. record { ids = ids; bound = length ids; links = s })
-          (links_more ids up i j i_in j_in rows new old.as_rows put.as_rows put.members);
-    }
+module _ (ids : List ℕ) (rows new : List (List ℕ)) (old_leaders : List ℕ) (count : ℕ)
+    (old : AreParts ids rows old_leaders count) (i j : ℕ) (i_in : i < length ids) (j_in : j < length ids)
+    (leaders : List ℕ) (lead : AreLeaders ids new leaders) where
+  pub linked_parts : (fresh : Bool) → Links (length ids) rows i j fresh new → get_or ids i 0 ≢ get_or ids j 0
+      → are_linked (graph_of ids rows) (get_or ids i 0) (get_or ids j 0) ≡ false →
+      Made ids new leaders (count + 1) (with_link (graph_of ids rows) (get_or ids i 0) (get_or ids j 0))
+  linked_parts fresh put different absent =
+      let up = old.as_ids.ascending in
+      let longer = two_more ids old.as_ids i j i_in j_in rows new old.as_rows put.as_rows different put.members absent in
+      record {
+        parts = record {
+          as_ids = old.as_ids;
+          as_rows = put.as_rows;
+          as_leaders = lead;
+          counted = omega (arith, longer, old.counted);
+        };
+        graph = ap (λ s. record { ids = ids; bound = length ids; links = s })
+            (links_more ids up i j i_in j_in rows new old.as_rows put.as_rows put.members);
+      }
 
 -- ---- a topology with one link less
 
-module _ (ids : List ℕ) (rows new : List (List ℕ)) (count : ℕ) (old : AreParts ids rows count) (i j : ℕ)
-    (i_in : i < length ids) (j_in : j < length ids) (taken : Unlinks (length ids) rows i j new)
+module _ (ids : List ℕ) (rows new : List (List ℕ)) (old_leaders : List ℕ) (count : ℕ)
+    (old : AreParts ids rows old_leaders count) (i j : ℕ) (i_in : i < length ids) (j_in : j < length ids)
+    (taken : Unlinks (length ids) rows i j new)
     (there : are_linked (graph_of ids rows) (get_or ids i 0) (get_or ids j 0) ≡ true) where
   near : near_has rows i j ≡ true
   near = sym (linked_at ids rows old.as_ids.ascending old.as_rows i j i_in j_in) ∙ there
@@ -242,29 +233,22 @@ module _ (ids : List ℕ) (rows new : List (List ℕ)) (count : ℕ) (old : AreP
       ap (λ s. record { ids = ids; bound = length ids; links = s })
       (links_fewer ids old.as_ids.ascending i j i_in j_in rows new old.as_rows taken.as_rows taken.members)
 
-  pub unlinked_parts : (fewer : ℕ) → fewer + 1 ≡ count → IsConnected (graph_of ids new)
-      → Made ids new fewer (without_link (graph_of ids rows) (get_or ids i 0) (get_or ids j 0))
-  unlinked_parts fewer one_less whole = record {
+  pub unlinked_parts : (fewer : ℕ) → fewer + 1 ≡ count → (leaders : List ℕ) → AreLeaders ids new leaders
+      → Made ids new leaders fewer (without_link (graph_of ids rows) (get_or ids i 0) (get_or ids j 0))
+  unlinked_parts fewer one_less leaders lead = record {
     parts = record {
       as_ids = old.as_ids;
       as_rows = taken.as_rows;
-      connected = whole;
+      as_leaders = lead;
       counted = omega (arith, two_fewer, old.counted, one_less);
     };
     graph = graph_without;
   }
 
--- what the index of the first free mark tells of a topology with one link less: it is one where there is none
-pub record MarksTellWithout (ids : List ℕ) (rows : List (List ℕ)) (count : ℕ) (g : Graph) (marks : List ℕ) (free : ℕ) :
-    Type 0 where
-  pub some : 1 ≤ count
-  pub connected : None ≡ position (λ m. eqb m free) marks → IsConnected g
-  pub made : None ≡ position (λ m. eqb m free) marks → (made : List ℕ) → made ≡ ids → Made made rows (count - 1) g
-  pub cut_off : (k : ℕ) → Some k ≡ position (λ m. eqb m free) marks → IsCutOff g (get_or ids k 0)
-
 -- ---- the same, where the rows are a copy that was lent to the calls
 
-module _ (ids : List ℕ) (near : List (Vec ℕ Global)) (count : ℕ) (old : AreParts ids (rows_of near) count) (a b i j : ℕ)
+module _ (ids : List ℕ) (near : List (Vec ℕ Global)) (old_leaders : List ℕ) (count : ℕ)
+    (old : AreParts ids (rows_of near) old_leaders count) (a b i j : ℕ)
     (at_a : IsIndexOf ids a i) (at_b : IsIndexOf ids b j)
     (lent_near : List (Vec ℕ Global)) (near_is : lent_near ≡ near) (copy : Vec (Vec ℕ Global) Global)
     (copied : rows_of copy.items ≡ rows_of lent_near)
@@ -272,30 +256,55 @@ module _ (ids : List ℕ) (near : List (Vec ℕ Global)) (count : ℕ) (old : Ar
   abbrev before : Graph
   before = graph_of ids (rows_of near)
 
+  abbrev changed : List (Vec ℕ Global)
+  changed = (with_items copy now).items
+
   same_rows : rows_of lent ≡ rows_of near
   same_rows = ap rows_of lent_is ∙ copied ∙ ap rows_of near_is
 
   count_is : length lent ≡ length ids
   count_is = sym (length-map lent (λ row. row.items)) ∙ ap length same_rows ∙ old.as_rows.count
 
-  written : length (rows_of now) ≡ length lent → rows_of (with_items copy now).items ≡ rows_of now
+  written : length (rows_of now) ≡ length lent → rows_of changed ≡ rows_of now
   written same =
       ap rows_of
       (with_items_is copy now
       (omega (arith, length-map now (λ row. row.items), same, ap length lent_is, copy.ok.0)))
 
-  pub with_link_made : (made : List ℕ) → made ≡ ids → (fresh : Bool)
-      → Links (length lent) (rows_of lent) i j fresh (rows_of now) → a ≢ b → are_linked before a b ≡ false →
-      Made made (rows_of (with_items copy now).items) (count + 1) (with_link before a b)
-  with_link_made made made_are fresh put different absent =
-      let put_ids : Links (length ids) (rows_of near) i j fresh (rows_of now) =
-      subst₂ (λ n r. Links n r i j fresh (rows_of now)) count_is same_rows put in
-      let result =
-      linked_parts ids (rows_of near) (rows_of now) count old i j at_a.0 at_b.0 fresh put_ids
-      (λ e. different (sym at_a.1 ∙ e ∙ at_b.1)) (ap₂ (are_linked before) at_a.1 at_b.1 ∙ absent) in
-      subst (λ v. Made v (rows_of (with_items copy now).items) (count + 1) (with_link before a b)) (sym made_are)
-      (subst (λ r. Made ids r (count + 1) (with_link before a b)) (sym (written put.as_rows.count))
-      (subst₂ (λ x y. Made ids (rows_of now) (count + 1) (with_link before x y)) at_a.1 at_b.1 result))
+  -- where the leaders of the rows were found with them lent once more
+  module _ (searched : List (Vec ℕ Global)) (searched_is : searched ≡ changed) (leaders : List ℕ)
+      (found : AreLeadersOf (length searched) (rows_of searched) leaders) where
+    leads_now : AreRows (length lent) (rows_of now) → AreLeaders ids (rows_of now) leaders
+    leads_now as_rows =
+        let searched_rows : rows_of searched ≡ rows_of now = ap rows_of searched_is ∙ written as_rows.count in
+        subst (λ r. AreLeaders ids r leaders) searched_rows
+        (found ids old.as_ids
+        (omega (
+          arith,
+          length-map searched (λ row. row.items),
+          ap length searched_rows,
+          as_rows.count,
+          count_is,
+        )))
+
+    made_of : (made : List ℕ) → made ≡ ids → length (rows_of now) ≡ length lent → (links : ℕ) (g : Graph)
+        → Made ids (rows_of now) leaders links g → Made made (rows_of changed) leaders links g
+    made_of made made_are same links g result =
+        subst (λ v. Made v (rows_of changed) leaders links g) (sym made_are)
+        (subst (λ r. Made ids r leaders links g) (sym (written same)) result)
+
+    pub with_link_made : (made : List ℕ) → made ≡ ids → (fresh : Bool)
+        → Links (length lent) (rows_of lent) i j fresh (rows_of now) → a ≢ b → are_linked before a b ≡ false →
+        Made made (rows_of changed) leaders (count + 1) (with_link before a b)
+    with_link_made made made_are fresh put different absent =
+        let put_ids : Links (length ids) (rows_of near) i j fresh (rows_of now) =
+        subst₂ (λ n r. Links n r i j fresh (rows_of now)) count_is same_rows put in
+        let result =
+        linked_parts ids (rows_of near) (rows_of now) old_leaders count old i j at_a.0 at_b.0 leaders
+        (leads_now put.as_rows) fresh put_ids (λ e. different (sym at_a.1 ∙ e ∙ at_b.1))
+        (ap₂ (are_linked before) at_a.1 at_b.1 ∙ absent) in
+        made_of made made_are put.as_rows.count (count + 1) (with_link before a b)
+        (subst₂ (λ x y. Made ids (rows_of now) leaders (count + 1) (with_link before x y)) at_a.1 at_b.1 result)
 
   module _ (taken : Unlinks (length lent) (rows_of lent) i j (rows_of now)) (there : are_linked before a b ≡ true) where
     taken_ids : Unlinks (length ids) (rows_of near) i j (rows_of now)
@@ -304,70 +313,23 @@ module _ (ids : List ℕ) (near : List (Vec ℕ Global)) (count : ℕ) (old : Ar
     there_ids : are_linked before (get_or ids i 0) (get_or ids j 0) ≡ true
     there_ids = ap₂ (are_linked before) at_a.1 at_b.1 ∙ there
 
-    some_link : 1 ≤ count
+    pub some_link : 1 ≤ count
     some_link =
         omega (
           arith,
           old.counted,
-          two_fewer ids (rows_of near) (rows_of now) count old i j at_a.0 at_b.0 taken_ids
+          two_fewer ids (rows_of near) (rows_of now) old_leaders count old i j at_a.0 at_b.0 taken_ids
               there_ids,
         )
 
-    graph_is : graph_of ids (rows_of now) ≡ without_link before a b
-    graph_is =
-        graph_without ids (rows_of near) (rows_of now) count old i j at_a.0 at_b.0 taken_ids there_ids
-        ∙ ap₂ (without_link before) at_a.1 at_b.1
-
-    module _ (searched : List (Vec ℕ Global)) (searched_is : searched ≡ (with_items copy now).items) (marks : List ℕ)
-        (found : AreDistances (length searched) (rows_of searched) 0 marks)
-        (lent_marks : List ℕ) (marks_are : lent_marks ≡ marks) (free : ℕ) (free_is : free ≡ vec_len copy) where
-      searched_rows : rows_of searched ≡ rows_of now
-      searched_rows = ap rows_of searched_is ∙ written taken.as_rows.count
-
-      found_ids : AreDistances (length ids) (rows_of now) 0 marks
-      found_ids =
-          subst₂ (λ n r. AreDistances n r 0 marks)
-          (sym (length-map searched (λ row. row.items)) ∙ ap length searched_rows ∙ taken_ids.as_rows.count)
-          searched_rows found
-
-      index_of_count : (o : Option ℕ) → o ≡ position (λ m. eqb m free) lent_marks
-          → o ≡ position (λ m. eqb m (length ids)) marks
-      index_of_count o at =
-          subst₂ (λ n xs. o ≡ position (λ m. eqb m n) xs)
-          (omega (arith, free_is, copy.ok.0, ap length lent_is, count_is)) marks_are at
-
-      cut_off_without : (k : ℕ) → Some k ≡ position (λ m. eqb m free) lent_marks
-          → IsCutOff (without_link before a b) (get_or ids k 0)
-      cut_off_without k at =
-          subst (λ g. IsCutOff g (get_or ids k 0)) graph_is
-          (cut_off_by_marks ids (rows_of now) old.as_ids taken_ids.as_rows marks found_ids k
-          (index_of_count (Some k) at))
-
-      module _ (none : None ≡ position (λ m. eqb m free) lent_marks) where
-        whole : IsConnected (graph_of ids (rows_of now))
-        whole = connected_by_marks ids (rows_of now) old.as_ids taken_ids.as_rows marks found_ids
-            (index_of_count None none)
-
-        connected_without : IsConnected (without_link before a b)
-        connected_without = subst IsConnected graph_is whole
-
-        without_link_made : (made : List ℕ) → made ≡ ids
-            → Made made (rows_of (with_items copy now).items) (count - 1) (without_link before a b)
-        without_link_made made made_are =
-            let result =
-            unlinked_parts ids (rows_of near) (rows_of now) count old i j at_a.0 at_b.0 taken_ids there_ids (count - 1)
-            (omega (arith, some_link)) whole in
-            subst (λ v. Made v (rows_of (with_items copy now).items) (count - 1) (without_link before a b))
-            (sym made_are)
-            (subst (λ r. Made ids r (count - 1) (without_link before a b)) (sym (written taken.as_rows.count))
-            (subst₂ (λ x y. Made ids (rows_of now) (count - 1) (without_link before x y)) at_a.1 at_b.1 result))
-
-      pub marks_tell_without : MarksTellWithout ids (rows_of (with_items copy now).items) count
-          (without_link before a b) lent_marks free
-      marks_tell_without =
-          record {
-            some = some_link;
-            connected = connected_without;
-            made = without_link_made;
-            cut_off = cut_off_without;
-          }
+    pub without_link_made : (searched : List (Vec ℕ Global)) → searched ≡ changed → (leaders : List ℕ)
+        → AreLeadersOf (length searched) (rows_of searched) leaders → (made : List ℕ) → made ≡ ids →
+        Made made (rows_of changed) leaders (count - 1) (without_link before a b)
+    without_link_made searched searched_is leaders found made made_are =
+        let result =
+        unlinked_parts ids (rows_of near) (rows_of now) old_leaders count old i j at_a.0 at_b.0 taken_ids there_ids
+        (count - 1) (omega (arith, some_link)) leaders
+        (leads_now searched searched_is leaders found taken.as_rows) in
+        made_of searched searched_is leaders found made made_are taken.as_rows.count (count - 1)
+        (without_link before a b)
+        (subst₂ (λ x y. Made ids (rows_of now) leaders (count - 1) (without_link before x y)) at_a.1 at_b.1 result)

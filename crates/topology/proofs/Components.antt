@@ -1,6 +1,6 @@
 -- The component of a node, and the leader of each.
 use Rattle.std.proofs.Common.{◌≡◌, ◌↔◌, ℕ, ◌-◌, ◌<◌, ◌≤◌, true, ◌&&◌, List, [], ◌∷◌, ◌++◌, length}
-use Rattle.std.proofs.Common.{filter, refl, sym, ap, ap₂, subst, ◌∙◌, arith}
+use Rattle.std.proofs.Common.{filter, refl, sym, ap, subst, ◌∙◌, arith}
 use Rattle.std.specs.List.Sorted.{IsStrictlyIncreasing}
 use Rattle.std.specs.FinSet as set
 use Rattle.std.specs.Cmp.{both_ways as same_tests}
@@ -8,14 +8,14 @@ use Rattle.std.proofs.lemmas.Bool.{and_from, and_parts}
 use Rattle.std.proofs.lemmas.List.{get_or_default}
 use Rattle.std.proofs.lemmas.List.Kept.{IsStrictlyIncreasing-filter}
 use Rattle.std.proofs.lemmas.List.Sums.{length-filter, count_by-le-length}
-use Rattle.topology.specs.Graph.{Graph, pair_cmp, are_linked, AreLinked, IsConnected, IsGraph, IsLeader, IsNode}
+use Rattle.topology.specs.Graph.{Graph, are_linked, AreLinked, IsConnected, IsGraph, IsLeader, IsNode}
 use Rattle.topology.specs.Graph.{IsReached, IsWalk, greatest, has}
 use Rattle.topology.specs.Components.{reaches, component, leader, IsComponent}
 use Rattle.topology.proofs.Ascending.{rises_weakly}
 use Rattle.topology.proofs.Membership.{has-Contains, Contains-has, has-filter}
-use Rattle.topology.proofs.OneResult.{same_ascending}
+use Rattle.topology.proofs.OneResult.{same_graph}
 use Rattle.topology.proofs.Reaching.{test_from_walk, walk_from_test}
-use Rattle.topology.proofs.RowLemmas.{pair_total, pair_antisymmetric}
+use Rattle.topology.proofs.RowLemmas.{pair_antisymmetric}
 use Rattle.topology.proofs.Walks.{linked_back, reached_back, walk_on}
 
 -- ---- what walks lead to
@@ -56,26 +56,7 @@ at_most_greatest g i are (k, low, at) =
       get_or_default g.ids k 0 i low ∙ at,
     )
 
--- ---- one graph
-
--- two graphs with the same nodes, links and bound are one
-pub same_graph : (g h : Graph) → IsGraph g → IsGraph h → g.bound ≡ h.bound → ((i : ℕ) → IsNode g i → IsNode h i)
-    → ((i : ℕ) → IsNode h i → IsNode g i) → ((a b : ℕ) → AreLinked g a b → AreLinked h a b)
-    → ((a b : ℕ) → AreLinked h a b → AreLinked g a b) → g ≡ h
-same_graph g h g_are h_are bounds to from links_to links_from =
-    let Parts : Type 0 = List ℕ × (ℕ × set.FinSet pair_cmp) in
-    let whole : Parts → Graph = λ p. record { ids = p.0; bound = p.1.0; links = p.1.1 } in
-    let parts : (g.ids, (g.bound, g.links)) ≡ (h.ids, (h.bound, h.links)) =
-    ap₂ (λ a b. (a, b)) ids (ap₂ (λ a b. (a, b)) bounds pairs) in
-    ap whole parts
-  where
-    ids : g.ids ≡ h.ids
-    ids = same_ascending g.ids h.ids g_are.ascending h_are.ascending to from
-
-    pairs : g.links ≡ h.links
-    pairs =
-        set.same_set pair_total pair_antisymmetric g.links h.links
-        (λ p. same_tests _ _ (λ e. links_to p.0 p.1 e) (λ e. links_from p.0 p.1 e))
+-- ---- the component of a node
 
 -- a node has one component
 pub one_part : (g : Graph) (i : ℕ) (h k : Graph) → IsComponent g i h → IsComponent g i k → h ≡ k
@@ -84,8 +65,6 @@ one_part g i h k a b =
     (λ j at. (b.same_nodes j).1 ((a.same_nodes j).0 at)) (λ j at. (a.same_nodes j).1 ((b.same_nodes j).0 at))
     (λ x y at. (b.same_links x y).1 ((a.same_links x y).0 at))
     (λ x y at. (a.same_links x y).1 ((b.same_links x y).0 at))
-
--- ---- the component of a node
 
 module _ (g : Graph) (i : ℕ) (are : IsGraph g) (i_in : IsNode g i) where
   component_node : (j : ℕ) → IsNode (component g i) j → IsReached g i j

@@ -14,7 +14,7 @@ use Rattle.topology.specs.Id.{IsId}
 use Rattle.topology.specs.Rows.{near_has, graph_of, AreIds}
 use Rattle.topology.specs.declared.fault.TopoFault.{TopoFault}
 use Rattle.topology.specs.declared.fault.TopoFault.TheVariants.{NoNodes, TooManyNodes, BadId, TwiceNode, TooManyLinks}
-use Rattle.topology.specs.declared.fault.TopoFault.TheVariants.{StrangeNode, SelfLink, TwiceLink, Disconnected}
+use Rattle.topology.specs.declared.fault.TopoFault.TheVariants.{StrangeNode, SelfLink, TwiceLink}
 use Rattle.topology.specs.declared.fault.TopoFault.TheVariants.{NoMemory, NoSuchLink, LinkIsThere}
 use Rattle.topology.specs.declared.fault.TheConstants.{MAX_NODES, MAX_LINKS}
 use Rattle.topology.proofs.Ascending.{contains_from_test, test_from_contains, index_of_member}
@@ -70,13 +70,11 @@ module _ (nodes : List ℕ) (links : List (ℕ × ℕ)) where
   clean_once before once (TwiceLink a b) le x = no_first_repeat (ordered_links links) once (a, b) x
   clean_once before once e le x = before e (omega arith) x
 
-  pub clean_all : Clean 8 → ((n : ℕ) → HasFault nodes links (Disconnected n) → ⊥) → (f : TopoFault)
-      → HasFault nodes links f → ⊥
-  clean_all before whole (Disconnected n) x = whole n x
-  clean_all before whole NoMemory x = x
-  clean_all before whole NoSuchLink x = x
-  clean_all before whole LinkIsThere x = x
-  clean_all before whole e x = before e (omega arith) x
+  pub clean_all : Clean 8 → (f : TopoFault) → HasFault nodes links f → ⊥
+  clean_all before NoMemory x = x
+  clean_all before NoSuchLink x = x
+  clean_all before LinkIsThere x = x
+  clean_all before e x = before e (omega arith) x
 
 -- ---- what checked nodes tell
 

@@ -17,6 +17,7 @@ pub mod TopologyTexts
 pub mod Moduli
 pub mod OneResult
 pub mod Components
+pub mod Leading
 pub mod Described
 pub mod PlainTexts
 pub mod PlainLines

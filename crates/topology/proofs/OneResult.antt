@@ -7,12 +7,12 @@ use Rattle.std.specs.Cmp.{both_ways as same_tests}
 use Rattle.std.proofs.lemmas.Bool.{cases_order}
 use Rattle.std.proofs.lemmas.List.{get_or_append_left, get_or_at, get_or_default, take-append-le}
 use Rattle.std.proofs.Math.Seq.{take-append_seam}
-use Rattle.topology.specs.Faults.{HasFault, IsCutOff, IsFirst, IsFirstFault, IsFirstRepeat, IsGraphOf, IsRepeated}
+use Rattle.topology.specs.Faults.{HasFault, IsFirst, IsFirstFault, IsFirstRepeat, IsGraphOf, IsRepeated}
 use Rattle.topology.specs.Faults.{rank_of}
-use Rattle.topology.specs.Graph.{Graph, pair_cmp}
+use Rattle.topology.specs.Graph.{Graph, pair_cmp, AreLinked, IsGraph, IsNode}
 use Rattle.topology.specs.declared.fault.TopoFault.{TopoFault}
 use Rattle.topology.specs.declared.fault.TopoFault.TheVariants.{NoNodes, TooManyNodes, BadId, TwiceNode, TooManyLinks}
-use Rattle.topology.specs.declared.fault.TopoFault.TheVariants.{StrangeNode, SelfLink, TwiceLink, Disconnected}
+use Rattle.topology.specs.declared.fault.TopoFault.TheVariants.{StrangeNode, SelfLink, TwiceLink}
 use Rattle.topology.specs.declared.fault.TopoFault.TheVariants.{NoSuchLink, LinkIsThere, NoMemory}
 use Rattle.topology.proofs.Ascending.{rises}
 use Rattle.topology.proofs.FirstItems.{split_at}
@@ -63,9 +63,11 @@ same_ascending (x ∷ xs) (y ∷ ys) xs_up ys_up to from =
 
 -- ---- one graph
 
-pub one_graph : (nodes : List ℕ) (links : List (ℕ × ℕ)) (g h : Graph) → IsGraphOf nodes links g
-    → IsGraphOf nodes links h → g ≡ h
-one_graph nodes links g h of_g of_h =
+-- two graphs with the same nodes, links and bound are one
+pub same_graph : (g h : Graph) → IsGraph g → IsGraph h → g.bound ≡ h.bound → ((i : ℕ) → IsNode g i → IsNode h i)
+    → ((i : ℕ) → IsNode h i → IsNode g i) → ((a b : ℕ) → AreLinked g a b → AreLinked h a b)
+    → ((a b : ℕ) → AreLinked h a b → AreLinked g a b) → g ≡ h
+same_graph g h g_are h_are bounds to from links_to links_from =
     let Parts : Type 0 = List ℕ × (ℕ × set.FinSet pair_cmp) in
     let whole : Parts → Graph = λ p. record { ids = p.0; bound = p.1.0; links = p.1.1 } in
     let parts : (g.ids, (g.bound, g.links)) ≡ (h.ids, (h.bound, h.links)) =
@@ -73,20 +75,22 @@ one_graph nodes links g h of_g of_h =
     ap whole parts
   where
     ids : g.ids ≡ h.ids
-    ids =
-        same_ascending g.ids h.ids of_g.as_graph.ascending of_h.as_graph.ascending
-        (λ i at. (of_h.same_nodes i).1 ((of_g.same_nodes i).0 at))
-        (λ i at. (of_g.same_nodes i).1 ((of_h.same_nodes i).0 at))
-
-    bounds : g.bound ≡ h.bound
-    bounds = of_g.bound ∙ ap length ids ∙ sym of_h.bound
+    ids = same_ascending g.ids h.ids g_are.ascending h_are.ascending to from
 
     pairs : g.links ≡ h.links
     pairs =
         set.same_set pair_total pair_antisymmetric g.links h.links
-        (λ p. same_tests _ _
-        (λ e. (of_h.same_links p.0 p.1).1 ((of_g.same_links p.0 p.1).0 e))
-        (λ e. (of_g.same_links p.0 p.1).1 ((of_h.same_links p.0 p.1).0 e)))
+        (λ p. same_tests _ _ (λ e. links_to p.0 p.1 e) (λ e. links_from p.0 p.1 e))
+
+pub one_graph : (nodes : List ℕ) (links : List (ℕ × ℕ)) (g h : Graph) → IsGraphOf nodes links g
+    → IsGraphOf nodes links h → g ≡ h
+one_graph nodes links g h of_g of_h =
+    let to : (i : ℕ) → IsNode g i → IsNode h i = λ i at. (of_h.same_nodes i).1 ((of_g.same_nodes i).0 at) in
+    let from : (i : ℕ) → IsNode h i → IsNode g i = λ i at. (of_g.same_nodes i).1 ((of_h.same_nodes i).0 at) in
+    let ids = same_ascending g.ids h.ids of_g.as_graph.ascending of_h.as_graph.ascending to from in
+    same_graph g h of_g.as_graph of_h.as_graph (of_g.bound ∙ ap length ids ∙ sym of_h.bound) to from
+    (λ a b e. (of_h.same_links a b).1 ((of_g.same_links a b).0 e))
+    (λ a b e. (of_g.same_links a b).1 ((of_h.same_links a b).0 e))
 
 -- ---- one first item
 
@@ -155,14 +159,6 @@ module _ {X : Type 0} (xs : List X) where
 
 -- ---- one first fault
 
--- of one graph one node is the least that is cut off
-one_cut_off : (g : Graph) (m n : ℕ) → IsCutOff g m → IsCutOff g n → m ≡ n
-one_cut_off g m n a b =
-    ⊎_elim (λ same. same)
-    (λ apart. ⊎_elim (λ less. absurd (a.cut_off (b.least m a.node less)))
-    (λ less. absurd (b.cut_off (a.least n b.node less))) apart)
-    (cases_order m n)
-
 module _ (nodes : List ℕ) (links : List (ℕ × ℕ)) where
   same_rank : (f e : TopoFault) → rank_of f ≡ rank_of e → HasFault nodes links f → HasFault nodes links e → f ≡ e
   same_rank NoNodes NoNodes same a b = refl
@@ -174,8 +170,6 @@ module _ (nodes : List ℕ) (links : List (ℕ × ℕ)) where
   same_rank (SelfLink m) (SelfLink n) same a b = ap (λ (l : ℕ × ℕ). SelfLink l.0) (one_first links _ (m, m) (n, n) a b)
   same_rank (TwiceLink i j) (TwiceLink m n) same a b =
       ap (λ (l : ℕ × ℕ). TwiceLink l.0 l.1) (one_first_repeat _ (i, j) (m, n) a b)
-  same_rank (Disconnected m) (Disconnected n) same (g, of_g, a) (h, of_h, b) =
-      ap Disconnected (one_cut_off g m n a (subst (λ x. IsCutOff x n) (one_graph nodes links h g of_h of_g) b))
   same_rank NoMemory e same a b = absurd a
   same_rank NoSuchLink e same a b = absurd a
   same_rank LinkIsThere e same a b = absurd a

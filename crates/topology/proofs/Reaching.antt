@@ -1,16 +1,14 @@
--- What the test of connectedness tells of walks.
-use Rattle.std.proofs.Common.{◌≡◌, ℕ, zero, suc, ◌+◌, ◌<◌, ◌≤◌, Bool, true, false, cond, not, ◌&&◌, ◌⊎◌, inl, inr, ◌↔◌}
-use Rattle.std.proofs.Common.{List, [], ◌∷◌, ◌++◌, length, get_or, count_by, refl, sym, ap, subst, ◌∙◌, arith}
+-- What the test of what is reached tells of walks.
+use Rattle.std.proofs.Common.{◌≡◌, ℕ, zero, suc, ◌+◌, ◌<◌, ◌≤◌, Bool, true, false, cond, not, ◌&&◌, ◌⊎◌, inl, inr}
+use Rattle.std.proofs.Common.{List, [], ◌∷◌, ◌++◌, length, count_by, refl, sym, ap, subst, ◌∙◌, arith}
 use Rattle.std.proofs.Common.{true≢false, ⊎_elim, eqb-true, eq-eqb}
 use Rattle.std.specs.List.{list_any}
 use Rattle.std.proofs.lemmas.Bool.{and_from, and_parts, cases_Bool, or_cases, or_left, or_right}
-use Rattle.std.proofs.lemmas.List.{get_or_default}
-use Rattle.std.proofs.lemmas.List.Elements.{All-contains, All-from_get_or}
 use Rattle.std.proofs.lemmas.List.Folds.{Any-from_list_any, list_any-from_Any}
-use Rattle.std.proofs.lemmas.List.Sums.{AllPass-from_list_all, count_by-le-length, list_all-from_AllPass, sum_by-cons}
-use Rattle.topology.specs.Graph.{Graph, are_linked, AreLinked, IsConnected, IsGraph, IsNode, IsReached, IsWalk}
-use Rattle.topology.specs.Reaching.{is_connected, is_reached}
-use Rattle.topology.proofs.Walks.{linked_back, reached_back, walk_on}
+use Rattle.std.proofs.lemmas.List.Sums.{count_by-le-length, sum_by-cons}
+use Rattle.topology.specs.Graph.{Graph, are_linked, AreLinked, IsGraph, IsNode, IsReached, IsWalk}
+use Rattle.topology.specs.Reaching.{is_reached}
+use Rattle.topology.proofs.Walks.{linked_back, walk_on}
 
 -- ---- how many pass a test
 
@@ -142,33 +140,3 @@ module _ (g : Graph) (a : ℕ) where
     pub test_from_walk : IsNode g a → (b : ℕ) → IsReached g a b → is_reached g a b (length g.ids) ≡ true
     test_from_walk a_in b r =
         closed_walk (length g.ids) (closed_at_length a_in) a b r.0 (reached_here (length g.ids)) r.1
-
--- ---- the law
-
-module _ (g : Graph) (are : IsGraph g) where
-  abbrev first : ℕ
-  first = get_or g.ids 0 0
-
-  connected_from_test : is_connected g ≡ true → IsConnected g
-  unfolding is_connected
-  connected_from_test e a b a_in b_in =
-      let reached : (i : ℕ) → IsNode g i → IsReached g first i =
-      λ i i_in. walk_from_test g first (length g.ids) i
-      (All-contains (λ x. is_reached g first x (length g.ids) ≡ true) g.ids i
-      (AllPass-from_list_all (λ x. is_reached g first x (length g.ids)) g.ids e) i_in) in
-      let back = reached_back g are first a (reached a a_in) in
-      let there = reached b b_in in
-      (back.0 ++ there.0, walk_on g a first b back.0 there.0 back.1 there.1)
-
-  test_from_connected : IsConnected g → is_connected g ≡ true
-  unfolding is_connected
-  test_from_connected whole =
-      let first_in : IsNode g first = (0, are.some, get_or_default g.ids 0 first 0 are.some) in
-      list_all-from_AllPass (λ x. is_reached g first x (length g.ids)) g.ids
-      (All-from_get_or (λ x. is_reached g first x (length g.ids) ≡ true) g.ids 0
-      (λ i i_in.
-      let x : ℕ = get_or g.ids i 0 in
-      test_from_walk g first are first_in x (whole first x first_in (i, i_in, get_or_default g.ids i x 0 i_in))))
-
-  pub connected_is_tested : is_connected g ≡ true ↔ IsConnected g
-  connected_is_tested = (connected_from_test, test_from_connected)

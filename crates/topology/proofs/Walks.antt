@@ -1,13 +1,12 @@
 -- Walks of a graph, and the distances that a search finds.
-use Rattle.std.proofs.Common.{◌≡◌, ◌≢◌, ℕ, zero, suc, ◌<◌, ◌≤◌, true, List, [], ◌∷◌, ◌++◌, length, get_or, Contains}
-use Rattle.std.proofs.Common.{sym, refl, ap, subst, ◌∙◌, arith, ⊎_elim}
+use Rattle.std.proofs.Common.{◌≡◌, ℕ, zero, suc, ◌<◌, ◌≤◌, true, List, [], ◌∷◌, ◌++◌, length, get_or, Contains}
+use Rattle.std.proofs.Common.{sym, refl, ap, subst, ◌∙◌, arith, inl, inr, ⊎_elim}
 use Rattle.std.proofs.lemmas.List.{length_push, get_or_default}
-use Rattle.std.proofs.lemmas.Bool.{cases_lt, cases_eq}
-use Rattle.topology.specs.Graph.{Graph, AreLinked, IsNode, IsWalk, IsReached, IsDistance, IsGraph, IsConnected}
-use Rattle.topology.specs.Faults.{IsGraphOf, IsCutOff}
+use Rattle.std.proofs.lemmas.Bool.{cases_lt}
+use Rattle.topology.specs.Graph.{Graph, AreLinked, IsWalk, IsReached, IsDistance, IsDistanceOrNone, IsGraph}
 use Rattle.topology.specs.Rows.{near_has, graph_of, AreIds, AreRows}
 use Rattle.topology.specs.Searching.{AreDistances}
-use Rattle.topology.proofs.Ascending.{rises, index_once}
+use Rattle.topology.proofs.Ascending.{index_once}
 use Rattle.topology.proofs.RowLemmas.{linked_from, linked_to}
 
 module _ (g : Graph) where
@@ -87,6 +86,7 @@ module _ (ids : List ℕ) (rows : List (List ℕ)) (as_ids : AreIds ids) (as_row
       → IsReached (graph_of ids rows) (get_or ids i 0) (get_or ids start 0)
   reached_of_mark i i_in low = let w = walk_of_mark (get_or marks i 0) i i_in refl low in (w.0, w.1)
 
+  -- where a walk leads, the mark is the distance
   pub distance_of_mark : (i : ℕ) → i < length ids → IsReached (graph_of ids rows) (get_or ids i 0) (get_or ids start 0)
       →
       (get_or marks i 0 < length ids)
@@ -100,68 +100,23 @@ module _ (ids : List ℕ) (rows : List (List ℕ)) (as_ids : AreIds ids) (as_row
         },
       )
 
+  pub mark_tells : (i : ℕ) → i < length ids
+      → IsDistanceOrNone (length ids) (graph_of ids rows) (get_or ids i 0) (get_or ids start 0) (get_or marks i 0)
+  mark_tells i i_in =
+      ⊎_elim
+      (λ low. inl (distance_of_mark i i_in (reached_of_mark i i_in low)))
+      (λ free. inr (
+        omega (arith, found.are_reached.small i i_in),
+        λ r. absurd (omega (arith, (distance_of_mark i i_in r).0)),
+      ))
+      (cases_lt (get_or marks i 0) (length ids))
+
 -- an id stands at an index
 pub index_of_node : (ids : List ℕ) (x : ℕ) → Contains ids x → (i : ℕ) × (i < length ids) × (get_or ids i 0 ≡ x)
 index_of_node ids x at = (at.0, at.1, get_or_default ids at.0 0 x at.1 ∙ at.2)
-
-module _ (ids : List ℕ) (rows : List (List ℕ)) (as_ids : AreIds ids) (as_rows : AreRows (length ids) rows)
-    (are : IsGraph (graph_of ids rows)) (marks : List ℕ) (found : AreDistances (length ids) rows 0 marks) where
-  -- where each index has a distance to the first, the graph is connected
-  pub connected_from_marks : ((i : ℕ) → i < length ids → get_or marks i 0 < length ids)
-      → IsConnected (graph_of ids rows)
-  connected_from_marks low a b a_in b_in =
-      let i = index_of_node ids a a_in in
-      let j = index_of_node ids b b_in in
-      let g = graph_of ids rows in
-      let there = reached_of_mark ids rows as_ids as_rows 0 marks found i.0 i.1 (low i.0 i.1) in
-      let back =
-      reached_back g are (get_or ids j.0 0) (get_or ids 0 0)
-      (reached_of_mark ids rows as_ids as_rows 0 marks found j.0 j.1 (low j.0 j.1)) in
-      subst (λ x. IsReached g x b) i.2 (subst (λ y. IsReached g (get_or ids i.0 0) y) j.2 (
-        there.0
-            ++ back.0,
-        walk_on g (get_or ids i.0 0) (get_or ids 0 0) (get_or ids j.0 0) there.0 back.0 there.1 back.1,
-      ))
-
-  -- the first index with none is the least id that is cut off
-  pub cut_off_from_marks : (i : ℕ) → i < length ids → get_or marks i 0 ≡ length ids
-      → ((k : ℕ) → k < i → get_or marks k 0 ≢ length ids) → IsCutOff (graph_of ids rows) (get_or ids i 0)
-  cut_off_from_marks i i_in free before =
-      let g = graph_of ids rows in
-      record {
-        node = (i, i_in, get_or_default ids i (get_or ids i 0) 0 i_in);
-        cut_off = λ r.
-            let back = reached_back g are (get_or ids 0 0) (get_or ids i 0) r in
-            absurd (omega (arith, (mark_of_walk ids rows as_ids as_rows 0 marks found back.0 i i_in back.1).0));
-        least = λ m m_in less.
-            let k = index_of_node ids m m_in in
-            let k_low : k.0 < i =
-            ⊎_elim (λ lt. lt)
-            (λ ge. ⊎_elim
-            (λ same. absurd (omega (arith, k.2, ap (λ x. get_or ids x 0) same)))
-            (λ ne. absurd (omega (arith, k.2, rises ids as_ids.ascending i k.0 (omega arith) k.1)))
-            (cases_eq k.0 i))
-            (cases_lt k.0 i) in
-            let low : get_or marks k.0 0 < length ids =
-            omega (arith, found.are_reached.small k.0 k.1, before k.0 k_low) in
-            subst (λ x. IsReached g (get_or ids 0 0) x) k.2
-            (reached_back g are (get_or ids k.0 0) (get_or ids 0 0)
-            (reached_of_mark ids rows as_ids as_rows 0 marks found k.0 k.1 low));
-      }
 
 -- a walk of a graph is one of each graph with its links
 pub walk_of_other : (g h : Graph) → ((a b : ℕ) → AreLinked g a b → AreLinked h a b) → (a b : ℕ) (cs : List ℕ)
     → IsWalk g a cs b → IsWalk h a cs b
 walk_of_other g h to a b [] w = w
 walk_of_other g h to a b (c ∷ cs) w = (to a c w.0, walk_of_other g h to c b cs w.1)
-
--- where one graph of two lists is connected, no graph of them has a node that is cut off
-pub no_cut_off : (nodes : List ℕ) (links : List (ℕ × ℕ)) (g h : Graph) → IsGraphOf nodes links g → IsConnected g
-    → IsGraphOf nodes links h → (n : ℕ) → IsCutOff h n → ⊥
-no_cut_off nodes links g h of_g whole of_h n cut =
-    let first : ℕ = get_or h.ids 0 0 in
-    let first_in : IsNode h first = (0, of_h.as_graph.some, get_or_default h.ids 0 first 0 of_h.as_graph.some) in
-    let a_in : IsNode g first = (of_g.same_nodes first).1 ((of_h.same_nodes first).0 first_in) in
-    let n_in : IsNode g n = (of_g.same_nodes n).1 ((of_h.same_nodes n).0 cut.node) in
-    let r = whole first n a_in n_in in
-    cut.cut_off (r.0, walk_of_other g h (λ a b e. (of_h.same_links a b).1 ((of_g.same_links a b).0 e)) first n r.0 r.1)

@@ -2,10 +2,9 @@
 use Rattle.std.specs.Prelude.{◌≡◌, ℕ, ◌<◌, ◌*◌, Bool, not, nat_lt, List, [], ◌∷◌, ◌++◌, Option, Some, None, length}
 use Rattle.std.specs.Prelude.{slice_index, ◌==◌, if◌then◌else◌}
 use Rattle.std.specs.FinSet as set
-use Rattle.topology.specs.Faults.{IsCutOff}
 use Rattle.topology.specs.Graph.{Graph, are_linked, has}
 use Rattle.topology.specs.declared.fault.TopoFault.{TopoFault}
-use Rattle.topology.specs.declared.fault.TopoFault.TheVariants.{TooManyLinks, StrangeNode, SelfLink, Disconnected}
+use Rattle.topology.specs.declared.fault.TopoFault.TheVariants.{TooManyLinks, StrangeNode, SelfLink}
 use Rattle.topology.specs.declared.fault.TopoFault.TheVariants.{NoSuchLink, LinkIsThere}
 
 -- the graph with the link of a and b too
@@ -43,14 +42,9 @@ link_fault g a b =
     first_of (strange_ends g.ids a b
     ++ when (a == b) (SelfLink a) ∷ when (are_linked g a b) LinkIsThere ∷ when (is_full g) TooManyLinks ∷ [])
 
--- the first reason why there is no link of a and b to be taken out
+-- the first reason why the link of a and b can't be taken out: there is none
 abbrev pub unlink_fault : Graph → ℕ → ℕ → Option TopoFault
 unlink_fault g a b = first_of (strange_ends g.ids a b ++ when (not (are_linked g a b)) NoSuchLink ∷ [])
-
--- the first reason why the link of a and b can't be taken out: there is none, or the graph would fall apart
-abbrev pub IsUnlinkFault : Graph → ℕ → ℕ → TopoFault → Type 0
-IsUnlinkFault g a b (Disconnected n) = (unlink_fault g a b ≡ None) × IsCutOff (without_link g a b) n
-IsUnlinkFault g a b f = unlink_fault g a b ≡ Some f
 
 -- x stands at the index
 abbrev pub IsIndexOf : List ℕ → ℕ → ℕ → Type 0

@@ -2,7 +2,7 @@
 use Rattle.std.specs.Prelude.{ℕ, List, ◌++◌, codes, decimal}
 use Rattle.topology.specs.declared.fault.TopoFault.{TopoFault}
 use Rattle.topology.specs.declared.fault.TopoFault.TheVariants.{NoNodes, TooManyNodes, BadId, TwiceNode, TooManyLinks}
-use Rattle.topology.specs.declared.fault.TopoFault.TheVariants.{StrangeNode, SelfLink, TwiceLink, Disconnected}
+use Rattle.topology.specs.declared.fault.TopoFault.TheVariants.{StrangeNode, SelfLink, TwiceLink}
 use Rattle.topology.specs.declared.fault.TopoFault.TheVariants.{NoMemory, NoSuchLink, LinkIsThere}
 
 -- the text of a fault
@@ -15,7 +15,6 @@ fault_text TooManyLinks = codes "TooManyLinks"
 fault_text (StrangeNode n) = codes "StrangeNode " ++ decimal n
 fault_text (SelfLink n) = codes "SelfLink " ++ decimal n
 fault_text (TwiceLink a b) = codes "TwiceLink " ++ decimal a ++ codes " " ++ decimal b
-fault_text (Disconnected n) = codes "Disconnected " ++ decimal n
 fault_text NoMemory = codes "NoMemory"
 fault_text NoSuchLink = codes "NoSuchLink"
 fault_text LinkIsThere = codes "LinkIsThere"

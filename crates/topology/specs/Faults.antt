@@ -1,11 +1,11 @@
 -- Which faults a list of nodes and a list of links have.
-use Rattle.std.specs.Prelude.{◌≡◌, ℕ, ◌<◌, min, max, List, [], ◌∷◌, ◌++◌, length, slice_index, Contains, map, flat_map}
+use Rattle.std.specs.Prelude.{◌≡◌, ℕ, ◌<◌, min, max, List, [], ◌∷◌, ◌++◌, length, Contains, map, flat_map}
 use Rattle.std.specs.Prelude.{◌⊎◌, ◌↔◌}
-use Rattle.topology.specs.Graph.{Graph, IsNode, AreLinked, IsReached, IsGraph}
+use Rattle.topology.specs.Graph.{Graph, IsNode, AreLinked, IsGraph}
 use Rattle.topology.specs.Id.{IsId}
 use Rattle.topology.specs.declared.fault.TopoFault.{TopoFault}
 use Rattle.topology.specs.declared.fault.TopoFault.TheVariants.{NoNodes, TooManyNodes, BadId, TwiceNode, TooManyLinks}
-use Rattle.topology.specs.declared.fault.TopoFault.TheVariants.{StrangeNode, SelfLink, TwiceLink, Disconnected}
+use Rattle.topology.specs.declared.fault.TopoFault.TheVariants.{StrangeNode, SelfLink, TwiceLink}
 use Rattle.topology.specs.declared.fault.TopoFault.TheVariants.{NoMemory, NoSuchLink, LinkIsThere}
 
 -- x is the first of the list that meets P
@@ -46,12 +46,6 @@ ends_of links = flat_map (λ l. l.0 ∷ l.1 ∷ []) links
 abbrev pub ordered_links : List (ℕ × ℕ) → List (ℕ × ℕ)
 ordered_links links = map (λ l. (min l.0 l.1, max l.0 l.1)) links
 
--- n is the least node of the graph that no walk from the least node reaches
-pub record IsCutOff (g : Graph) (n : ℕ) : Type 0 where
-  pub node : IsNode g n
-  pub cut_off : IsReached g (slice_index g.ids 0) n → ⊥
-  pub least : (m : ℕ) → IsNode g m → m < n → IsReached g (slice_index g.ids 0) m
-
 -- the lists have this fault
 abbrev pub HasFault : List ℕ → List (ℕ × ℕ) → TopoFault → Type 0
 HasFault nodes links NoNodes = nodes ≡ []
@@ -62,7 +56,6 @@ HasFault nodes links TooManyLinks = 8192 < length links
 HasFault nodes links (StrangeNode n) = IsFirst (λ i. Contains nodes i → ⊥) (ends_of links) n
 HasFault nodes links (SelfLink n) = IsFirst (λ l. l.0 ≡ l.1) links (n, n)
 HasFault nodes links (TwiceLink a b) = IsFirstRepeat (ordered_links links) (a, b)
-HasFault nodes links (Disconnected n) = (g : Graph) × IsGraphOf nodes links g × IsCutOff g n
 HasFault nodes links NoMemory = ⊥
 HasFault nodes links NoSuchLink = ⊥
 HasFault nodes links LinkIsThere = ⊥
@@ -77,7 +70,6 @@ rank_of TooManyLinks = 5
 rank_of (StrangeNode n) = 6
 rank_of (SelfLink n) = 7
 rank_of (TwiceLink a b) = 8
-rank_of (Disconnected n) = 9
 rank_of NoMemory = 10
 rank_of NoSuchLink = 11
 rank_of LinkIsThere = 12

@@ -1,6 +1,6 @@
 -- Graphs, their walks, their distances and their leaders.
 use Rattle.std.specs.Prelude.{◌≡◌, ◌≢◌, ℕ, ◌-◌, ◌<◌, ◌≤◌, ◌==◌, Bool, true, List, [], ◌∷◌, length, slice_index}
-use Rattle.std.specs.Prelude.{Contains, filter, refl}
+use Rattle.std.specs.Prelude.{Contains, filter, refl, ◌⊎◌}
 use Rattle.std.specs.List.{list_any}
 use Rattle.std.specs.List.Sorted.{IsStrictlyIncreasing}
 use Rattle.std.specs.Ordering.{nat_cmp}
@@ -69,6 +69,10 @@ IsReached g a b = (cs : List ℕ) × IsWalk g a cs b
 pub record IsDistance (g : Graph) (a b d : ℕ) : Type 0 where
   pub walk : (cs : List ℕ) × IsWalk g a cs b × (length cs ≡ d)
   pub least : (cs : List ℕ) → IsWalk g a cs b → d ≤ length cs
+
+-- d is the distance from a to b, below n; where no walk leads there, d is n
+abbrev pub IsDistanceOrNone : ℕ → Graph → ℕ → ℕ → ℕ → Type 0
+IsDistanceOrNone n g a b d = ((d < n) × IsDistance g a b d) ⊎ ((d ≡ n) × (IsReached g a b → ⊥))
 
 -- the leader of a node i is the greatest id that a walk from i reaches
 pub record IsLeader (g : Graph) (i leader : ℕ) : Type 0 where

@@ -1,6 +1,6 @@
--- Connectedness as a test.
-use Rattle.std.specs.Prelude.{ℕ, zero, suc, Bool, ◌==◌, ◌&&◌, ◌||◌, length, slice_index}
-use Rattle.std.specs.List.{list_all, list_any}
+-- What walks lead to, as a test.
+use Rattle.std.specs.Prelude.{ℕ, zero, suc, Bool, ◌==◌, ◌&&◌, ◌||◌}
+use Rattle.std.specs.List.{list_any}
 use Rattle.topology.specs.Graph.{Graph, are_linked}
 
 -- a walk of at most so many links leads from a to b
@@ -8,7 +8,3 @@ abbrev pub is_reached : Graph → ℕ → ℕ → ℕ → Bool
 is_reached g a b zero = a == b
 is_reached g a b (suc count) =
     is_reached g a b count || list_any (λ c. is_reached g a c count && are_linked g c b) g.ids
-
--- from the least node walks lead to all nodes; none needs more links than there are nodes
-unfoldable pub is_connected : Graph → Bool
-is_connected g = list_all (λ i. is_reached g (slice_index g.ids 0) i (length g.ids)) g.ids

@@ -4,7 +4,8 @@ use Rattle.std.specs.Prelude.{slice_index, slice_index_or, ◌==◌, ◌*◌}
 use Rattle.std.specs.List.{flat_map, range_with_len}
 use Rattle.std.specs.List.Sorted.{IsStrictlyIncreasing}
 use Rattle.std.specs.FinSet as set
-use Rattle.topology.specs.Graph.{Graph, pair_cmp, IsConnected, has}
+use Rattle.topology.specs.Graph.{Graph, pair_cmp, has}
+use Rattle.topology.specs.Components.{leader}
 use Rattle.topology.specs.Id.{IsId}
 use Rattle.topology.specs.declared.fault.TheConstants.{MAX_NODES}
 
@@ -51,9 +52,20 @@ pub record AreIndexed (ids : List ℕ) (indexes : List (Option ℕ)) : Type 0 wh
   pub as_ids : AreIds ids
   pub as_indexes : AreIndexes ids indexes
 
--- what the fields of a topology are: connected rows, with two pairs for each link that is counted
-pub record AreParts (ids : List ℕ) (rows : List (List ℕ)) (count : ℕ) : Type 0 where
+-- the table has at the index of each id the index of its leader
+pub record AreLeaders (ids : List ℕ) (rows : List (List ℕ)) (leaders : List ℕ) : Type 0 where
+  pub count : length leaders ≡ length ids
+  pub within : (k : ℕ) → k < length ids → slice_index leaders k < length ids
+  pub leads : (k : ℕ) → k < length ids
+      → slice_index ids (slice_index leaders k) ≡ leader (graph_of ids rows) (slice_index ids k)
+
+-- whatever the n ids are that go with the rows
+abbrev pub AreLeadersOf : ℕ → List (List ℕ) → List ℕ → Type 0
+AreLeadersOf n rows leaders = (ids : List ℕ) → AreIds ids → length ids ≡ n → AreLeaders ids rows leaders
+
+-- what the fields of a topology are: rows, the table of the leaders, and two pairs for each link that is counted
+pub record AreParts (ids : List ℕ) (rows : List (List ℕ)) (leaders : List ℕ) (count : ℕ) : Type 0 where
   pub as_ids : AreIds ids
   pub as_rows : AreRows (length ids) rows
-  pub connected : IsConnected (graph_of ids rows)
+  pub as_leaders : AreLeaders ids rows leaders
   pub counted : 2 * count ≡ set.len (links_of ids rows)

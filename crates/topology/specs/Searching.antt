@@ -53,3 +53,11 @@ pub record AreDistances (n : ℕ) (rows : List (List ℕ)) (start : ℕ) (marks 
   pub are_reached : AreReached n rows start marks
   pub closed : (i j : ℕ) → i < n → near_has rows i j ≡ true → slice_index marks i < n →
       (slice_index marks j < n) × (slice_index marks j ≤ slice_index marks i + 1)
+
+-- the indexes with a distance have the start for their leader, and the others what they had
+pub record LeadsReached (distances : List ℕ) (start : ℕ) (old new : List ℕ) : Type 0 where
+  pub count : length new ≡ length old
+  pub reached : (k : ℕ) → k < length distances → slice_index distances k < length distances
+      → slice_index new k ≡ start
+  pub others : (k : ℕ) → k < length distances → length distances ≤ slice_index distances k
+      → slice_index new k ≡ slice_index old k

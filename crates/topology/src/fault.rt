@@ -32,8 +32,6 @@ pub enum TopoFault {
     SelfLink(u32),
     /// The link between these two nodes, the lesser first, repeats an earlier one or its reverse.
     TwiceLink(u32, u32),
-    /// This is the least node that no walk from the least node reaches, or would reach.
-    Disconnected(u32),
     /// A growth was refused.
     NoMemory,
     /// There is no such link that could be taken out.
@@ -71,7 +69,6 @@ impl fmt::Display for TopoFault {
             TopoFault::StrangeNode(id) => write!(f, "StrangeNode {id}"),
             TopoFault::SelfLink(id) => write!(f, "SelfLink {id}"),
             TopoFault::TwiceLink(lesser, greater) => write!(f, "TwiceLink {lesser} {greater}"),
-            TopoFault::Disconnected(id) => write!(f, "Disconnected {id}"),
             TopoFault::NoMemory => write!(f, "NoMemory"),
             TopoFault::NoSuchLink => write!(f, "NoSuchLink"),
             TopoFault::LinkIsThere => write!(f, "LinkIsThere"),

@@ -3,7 +3,6 @@ ghost use Rattle.topology.specs.declared.fault.TopoFault.{TopoFault};
 ghost use Rattle.topology.specs.Faults.{IsFirstFault, IsTopologyOf};
 ghost use Rattle.topology.specs.Components.{component, IsComponent, leader, reaches};
 ghost use Rattle.topology.specs.Graph.{Graph, IsConnected, IsDistance, IsGraph, IsLeader, IsNode, IsReached, IsWalk};
-ghost use Rattle.topology.specs.Reaching.{is_connected};
 
 /// A walk of a graph leads back over as many links.
 pub fn walks_back()
@@ -19,11 +18,6 @@ pub fn one_distance()
 /// The distance of two nodes of a graph is the same in both directions.
 pub fn distance_back()
     ensures { (g : Graph) (a b d : ℕ) → IsGraph g → IsDistance g a b d → IsDistance g b a d }
-{}
-
-/// The test of connectedness tells the connected graphs from the others.
-pub fn connected_is_tested()
-    ensures { (g : Graph) → IsGraph g → (is_connected g ≡ true ↔ IsConnected g) }
 {}
 
 /// The test of what walks from a node lead to is exact.

@@ -1,4 +1,4 @@
-ghost use Rattle.std.specs.Prelude.{◌≡◌, ℕ, ◌+◌, ◌<◌, ◌≤◌, ◌==◌, [], All, IfOk, length, map, position, replicate};
+ghost use Rattle.std.specs.Prelude.{◌≡◌, ℕ, ◌+◌, ◌<◌, ◌≤◌, [], All, IfOk, length, map, replicate};
 ghost use Rattle.std.specs.Vec.{vec_capacity};
 ghost use Rattle.topology.specs.Rows.{AreRows};
 ghost use Rattle.topology.specs.Searching.{AreDistances, MarksRow, QueuesMarked, unmarked};
@@ -58,11 +58,4 @@ pub fn distances_to(
     let mut reached = Vec::with_capacity(alloc, near.len())?;
     mark_all(near, start, &mut marks, &mut reached);
     Ok(marks)
-}
-
-/// The first index with the mark `free`.
-pub fn first_free(marks: &[usize], free: usize) -> Option<usize>
-    ensures { result ≡ position (λ m. m == free) marks.now }
-{
-    marks.iter().position(|m| *m == free)
 }

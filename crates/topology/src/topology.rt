@@ -2,27 +2,31 @@ ghost use Rattle.std.specs.Prelude.{◌≡◌, ◌≢◌, ℕ, ◌<◌, ◌≤�
 ghost use Rattle.std.specs.Prelude.{IfSome, None, OnOk, length, map, position, slice_get, slice_index};
 ghost use Rattle.std.specs.FinSet as set;
 ghost use Rattle.std.specs.List.Sorted.{IsStrictlyIncreasing};
-ghost use Rattle.topology.specs.Changing.{IsUnlinkFault, link_fault, unlink_fault, with_link, without_link};
+ghost use Rattle.topology.specs.Changing.{link_fault, unlink_fault, with_link, without_link};
+ghost use Rattle.topology.specs.Components.{leader};
 ghost use Rattle.topology.specs.Faults.{IsFirstFault, IsTopologyOf};
-ghost use Rattle.topology.specs.Graph.{IsConnected, IsDistance, IsGraph, are_linked, greatest, neighbours_of};
+ghost use Rattle.topology.specs.Graph.{IsDistanceOrNone, IsGraph, are_linked, neighbours_of};
 ghost use Rattle.topology.specs.Id.{IsId};
 
 use crate::fault::{MAX_LINKS, MAX_NODES, TopoFault};
 use crate::id::NodeId;
 use crate::ids::Ids;
+use crate::leaders::leaders_of;
 use crate::links::{checked_rows, end_indexes};
 use crate::nodes::checked_ids;
 use crate::rows::{copied_rows, link, unlink};
-use crate::search::{distances_to, first_free};
+use crate::search::distances_to;
 use std::alloc::{AllocError, Global};
 use std::marker::Model;
 
-/// A connected graph of nodes with identifiers. A node goes by its identifier, or by its index in
-/// the ascending order of the identifiers.
+/// A graph of nodes with identifiers, in one component or more. A node goes by its identifier, or by
+/// its index in the ascending order of the identifiers.
 #[derive(Drop)]
 pub struct Topology {
     ids: Ids,
     near: Vec<Vec<usize>>,
+    /// At each index the index of its leader.
+    leaders: Vec<usize>,
     link_count: usize,
 }
 
@@ -38,7 +42,8 @@ impl Model for Topology {
 
     ghost view = { λ t. graph_of t.ids (map (λ row. row.items) t.near.items) };
 
-    ghost invariant = { λ t. AreParts t.ids (map (λ row. row.items) t.near.items) t.link_count };
+    ghost invariant = { λ t. AreParts t.ids (map (λ row. row.items) t.near.items)
+        t.leaders.items t.link_count };
 }
 
 impl Topology {
@@ -56,11 +61,10 @@ impl Topology {
         self.link_count
     }
 
-    /// What each topology is: a connected graph of at most `MAX_NODES` nodes.
+    /// What each topology is: a graph of at most `MAX_NODES` nodes.
     pub fn lemma_is_graph(&self)
         ensures graph { IsGraph self.now }
         ensures bound { self.now.bound ≡ length self.now.ids }
-        ensures connected { IsConnected self.now }
         ensures small { length self.now.ids ≤ MAX_NODES }
         ensures ids { All IsId self.now.ids }
     {
@@ -132,13 +136,15 @@ impl Topology {
         }
     }
 
-    /// The greatest identifier.
-    pub fn greatest(&self) -> NodeId
-        ensures { result ≡ greatest self.now }
+    /// The greatest identifier of the component of the node at this index.
+    pub fn greatest_of(&self, index: usize) -> NodeId
+        requires { index < length self.now.ids }
+        ensures { result ≡ leader self.now (slice_index self.now.ids index) }
     {
         self.lemma_is_graph();
+        let leaders = &self.leaders;
         let ids = self.ids();
-        NodeId::new(ids[ids.len() - 1]).unwrap()
+        NodeId::new(ids[leaders[index]]).unwrap()
     }
 
     /// The topology with these nodes and links, or the first fault of the lists.
@@ -154,15 +160,13 @@ impl Topology {
             Ok(near) => near,
             Err(fault) => return Err(fault),
         };
-        let distances = distances_to(alloc, &near, 0)?;
-        match first_free(&distances, near.len()) {
-            Some(index) => Err(TopoFault::Disconnected(ids.as_slice()[index])),
-            None => Ok(Topology {
-                ids,
-                near,
-                link_count: links.len(),
-            }),
-        }
+        let leaders = leaders_of(alloc, &near)?;
+        Ok(Topology {
+            ids,
+            near,
+            leaders,
+            link_count: links.len(),
+        })
     }
 
     /// A topology with the link of `a` and `b` too. `StrangeNode` of the first of the two that isn't a
@@ -190,21 +194,21 @@ impl Topology {
         }
         let mut rows = copied_rows(alloc, near)?;
         let _ = link(&mut rows, i, j)?;
+        let leaders = leaders_of(alloc, &rows)?;
         Ok(Topology {
             ids: ids.copy(alloc)?,
             near: rows,
+            leaders,
             link_count: self.link_count + 1,
         })
     }
 
     /// A topology without the link of `a` and `b`. `StrangeNode` of the first of the two that isn't a
-    /// node, else `NoSuchLink`, else `Disconnected` of the least node that no walk from the least node
-    /// would reach; `NoMemory` comes last.
+    /// node, else `NoSuchLink`; `NoMemory` comes last.
     pub fn without_link(&self, alloc: Global, a: u32, b: u32) -> Result<Topology, TopoFault>
         ensures sound { OnOk result (unlink_fault self.now a b ≡ None) }
-        ensures connected { OnOk result (IsConnected (without_link self.now a b)) }
         ensures ok { IfOk result (λ changed. changed ≡ without_link self.now a b) }
-        ensures err { IfErr result (λ f. f ≢ TopoFault.NoMemory → IsUnlinkFault self.now a b f) }
+        ensures err { IfErr result (λ f. f ≢ TopoFault.NoMemory → unlink_fault self.now a b ≡ Some f) }
     {
         let ids = &self.ids;
         let near = &self.near;
@@ -217,15 +221,13 @@ impl Topology {
         }
         let mut rows = copied_rows(alloc, near)?;
         unlink(&mut rows, i, j);
-        let distances = distances_to(alloc, &rows, 0)?;
-        match first_free(&distances, rows.len()) {
-            Some(unreached) => Err(TopoFault::Disconnected(ids.as_slice()[unreached])),
-            None => Ok(Topology {
-                ids: ids.copy(alloc)?,
-                near: rows,
-                link_count: self.link_count - 1,
-            }),
-        }
+        let leaders = leaders_of(alloc, &rows)?;
+        Ok(Topology {
+            ids: ids.copy(alloc)?,
+            near: rows,
+            leaders,
+            link_count: self.link_count - 1,
+        })
     }
 
     /// A topology that equals this one.
@@ -234,20 +236,23 @@ impl Topology {
     {
         let ids = &self.ids;
         let near = &self.near;
+        let leaders = &self.leaders;
         Ok(Topology {
             ids: ids.copy(alloc)?,
             near: copied_rows(alloc, near)?,
+            leaders: leaders.to_vec(alloc)?,
             link_count: self.link_count,
         })
     }
 
-    /// The number of links of a shortest walk from each node to the node at this index, by index.
+    /// The number of links of a shortest walk from each node to the node at this index, by index, and
+    /// the number of nodes where no walk leads there.
     pub fn distances_from(&self, alloc: Global, index: usize) -> Result<Vec<usize>, AllocError>
         requires { index < length self.now.ids }
         ensures count { IfOk result (λ ds. length ds.items ≡ length self.now.ids) }
-        ensures distances { IfOk result (λ ds. (k : ℕ) → k < length self.now.ids → IsDistance self.now
-            (slice_index self.now.ids k) (slice_index self.now.ids index) (slice_index ds.items k)) }
-        ensures below { IfOk result (λ ds. All (λ d. d < length self.now.ids) ds.items) }
+        ensures distances { IfOk result (λ ds. (k : ℕ) → k < length self.now.ids
+            → IsDistanceOrNone (length self.now.ids) self.now (slice_index self.now.ids k)
+            (slice_index self.now.ids index) (slice_index ds.items k)) }
     {
         let near = &self.near;
         distances_to(alloc, near, index)

@@ -5,6 +5,3 @@ pub returns-clause-graph : goal.returns-clause-graph
 returns-clause-graph c =
     let are = c.self.invariant in
     rw (← c.self.view_is) (graph_of_rows _ _ are.as_ids.ascending are.as_rows are.as_ids.some)
-
-pub returns-clause-connected : goal.returns-clause-connected
-returns-clause-connected c = rw (← c.self.view_is) c.self.invariant.connected
