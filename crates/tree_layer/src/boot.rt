@@ -13,7 +13,6 @@ use topology::Topology;
 pub fn boot_tree(alloc: Global, topology: &Topology) -> Result<Vec<TreeRegs>, AllocError>
     ensures { IfOk result (λ trees. AreBooted topology.now trees.items) }
 {
-    topology.lemma_is_graph();
     let distances = leader_distances(alloc, topology)?;
     let mut trees = Vec::with_capacity(alloc, topology.len())?;
     for ix in 0..topology.len() {
