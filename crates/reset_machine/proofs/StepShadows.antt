@@ -59,3 +59,8 @@ module _ {L : Type 0} (app : App L) (Inv : Graph → (ℕ → L) → Type 0) (c 
           invariant = keeps reply run sound;
           restored = λ i node o reached opening. opens reply run sound i node o reached (opened_once e reply o opening);
         }
+
+-- what follows of each value that may be answered
+pub if_ok : {A E : Type 0} (P Q : A → Type 0) → ((x : A) → P x → Q x) → (r : Result A E) → IfOk r P → IfOk r Q
+if_ok P Q to (Ok x) is = to x is
+if_ok P Q to (Err e) is = tt

@@ -556,8 +556,17 @@ impl<P: Application> Config<P> {
     {
         self.nodes.lemma_is_graph();
         let topology = self.nodes.topology();
-        let index = topology.index_of(id)?;
-        let leader = topology.greatest_of(index);
-        Some(self.wave_at(leader.get())?.session)
+        match topology.index_of(id) {
+            Some(index) => Some(self.session_at(topology.greatest_of(index).get())),
+            None => None,
+        }
+    }
+
+    // The session of a node.
+    fn session_at(&self, id: u32) -> u32
+        requires { IsNode self.now.graph id }
+        ensures { result ≡ (wave_of self.now id).session }
+    {
+        self.wave_at(id).unwrap().session
     }
 }
