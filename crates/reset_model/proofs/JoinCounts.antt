@@ -73,10 +73,10 @@ module _ (g : Graph) (graph : IsGraph g) (K m : ℕ) (counted : IsModulus m) (t 
         closed = λ i reached. ne_eqb k i (λ same. apart (subst (IsReached g p) (sym same) reached));
         number = λ i reached.
             let far : IsReached g k i → ⊥ =
-                λ r. apart (reached_on g p i k reached (reached_back g graph k i r)) in
+            λ r. apart (reached_on g p i k reached (reached_back g graph k i r)) in
             let number : joined_number g w' i ≡ joined_number g w i =
-                ap (λ b. cond b 1 0)
-                (opened_elsewhere g graph K m counted t t' w w' sound k step i (reached_node g p i graph top reached) far)
+            ap (λ b. cond b 1 0)
+            (opened_elsewhere g graph K m counted t t' w w' sound k step i (reached_node g p i graph top reached) far)
             in
             omega (arith, number);
       }
