@@ -1,5 +1,5 @@
 -- Which events of a list were applied, how often, and what holds where a reset is told complete.
-use Rattle.std.specs.Prelude.{◌≡◌, ◌≢◌, ℕ, ◌+◌, Bool, true, false, ◌==◌, if◌then◌else◌, List, [], ◌∷◌, ◌++◌, map, All}
+use Rattle.std.specs.Prelude.{◌≡◌, ◌≢◌, ℕ, ◌+◌, Bool, false, ◌==◌, if◌then◌else◌, List, [], ◌∷◌, ◌++◌, map, All}
 use Rattle.app_interface.specs.Application.{App}
 use Rattle.topology.specs.Graph.{Graph, IsReached}
 use Rattle.reset_model.specs.declared.event.Event.{Event}
