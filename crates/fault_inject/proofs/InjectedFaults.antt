@@ -1,10 +1,7 @@
 -- What comes of a fault, from the reasons that there are against it.
 use Rattle.std.proofs.Common.{◌≡◌, ◌≢◌, ℕ, ◌==◌, ◌&&◌, Bool, true, false, not, List, [], ◌∷◌, ◌++◌, length, Option}
-use Rattle.std.proofs.Common.{Some, None, Result, Ok, Err, OnOk, IfErr, MatchResult, refl, sym, ap, subst, ◌∙◌}
-use Rattle.std.proofs.Common.{true≢false, lt-ltb, le-ltb, ◌<◌, ◌≤◌, slice_index}
-use Rattle.std.proofs.lemmas.Bool.{false_from_ne_true}
-use Rattle.std.proofs.lemmas.List.Elements.{All-contains}
-use Rattle.std.proofs.lemmas.List.Sums.{AllPass-from_list_all}
+use Rattle.std.proofs.Common.{Some, None, Result, Ok, Err, OnOk, IfErr, MatchResult, refl, sym, ap, ◌∙◌}
+use Rattle.std.proofs.Common.{true≢false, lt-ltb, le-ltb, ◌<◌, ◌≤◌}
 use Rattle.app_interface.specs.Ids.{is_id}
 use Rattle.topology.specs.Changing.{Reason, first_of, is_full, link_fault, strange_ends, unlink_fault, when, with_link}
 use Rattle.topology.specs.Changing.{without_link}

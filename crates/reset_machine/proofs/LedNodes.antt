@@ -1,5 +1,5 @@
 -- What a topology answers of a node's leader, for the graph that it is.
-use Rattle.std.proofs.Common.{◌≡◌, ℕ, ◌==◌, Option, Some, position, slice_index, sym, ap, subst, ◌∙◌}
+use Rattle.std.proofs.Common.{◌≡◌, ℕ, ◌==◌, Some, position, slice_index, sym, ap, subst, ◌∙◌}
 use Rattle.topology.specs.Components.{leader}
 use Rattle.topology.specs.Graph.{Graph, IsGraph, IsNode}
 use Rattle.topology.proofs.Components.{leader_node}

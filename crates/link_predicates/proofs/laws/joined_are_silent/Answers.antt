@@ -1,6 +1,6 @@
 use Rattle.std.proofs.Common.{◌≤◌, length, sym, subst}
 use Rattle.topology.specs.Components.{component}
-use Rattle.topology.specs.Graph.{AreLinked, IsGraph, IsNode}
+use Rattle.topology.specs.Graph.{IsGraph, IsNode}
 use Rattle.topology.proofs.Components.{component_is, reached_itself}
 use Rattle.reset_model.specs.Refinement.{abstract_of}
 use Rattle.link_predicates.proofs.Silence.{silent}

@@ -1,5 +1,4 @@
-use Rattle.std.proofs.Common.{ap, subst, sym, ◌∙◌}
-use Rattle.topology.specs.Graph.{IsGraph}
+use Rattle.std.proofs.Common.{ap, sym, ◌∙◌}
 use Rattle.reset_model.specs.Configuration.{wave_of}
 use Rattle.reset_model.proofs.Positions.{position-Contains}
 use Rattle.reset_machine.proofs.LedNodes.{is_leader, placed_leader, placed_node}

@@ -1,4 +1,3 @@
-use Rattle.std.proofs.Common.{List}
 use Rattle.reset_model.specs.Runs.{IsRun}
 use Rattle.reset_model.specs.Sound.{IsSound}
 use Rattle.reset_model.specs.SoundSteps.{IsSoundRun}
