@@ -9,7 +9,7 @@ import datetime
 import re
 import tomllib
 
-from model import APPLICATIONS, MOST, MOST_ID, MOST_LINKS, PHASES, SESSIONS, Network, distances, graph_of, number
+from model import APPLICATIONS, MOST, MOST_ID, MOST_LINKS, PHASES, SESSIONS, Network, graph_of, number
 
 LIMIT = 1_048_576
 MOST_NODES = 1024
@@ -139,8 +139,6 @@ def faults_of(nodes, links):
     yield "StrangeNode", next(((i,) for link in links for i in link if i not in there), None)
     yield "SelfLink", next(((i,) for i, j in links if i == j), None)
     yield "TwiceLink", twice([tuple(sorted(link)) for link in links])
-    reached = distances(graph_of(nodes, links), min(nodes))
-    yield "Disconnected", min(((i,) for i in nodes if i not in reached), default=None)
 
 
 def booted(text):

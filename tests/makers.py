@@ -48,10 +48,15 @@ class Maker:
         rng = self.rng
         size = rng.choice([1, *range(2, 9), *range(2, 9), 3, 12])
         ids = rng.sample(rng.choice([range(1, 14), range(1, 65536), range(65500, 65536)]), size)
-        links = [(ids[at], rng.choice(ids[:at])) for at in range(1, size)]
+        # as many first nodes of components as that, and each other node is linked with one before it
+        tops = 1 if self.chance(0.7) else rng.randint(1, min(size, 4))
+        part = [at if at < tops else rng.randrange(tops) for at in range(size)]
+        before = [[ids[it] for it in range(at) if part[it] == part[at]] for at in range(size)]
+        links = [(ids[at], rng.choice(before[at])) for at in range(size) if before[at]]
         more = rng.choice([0, 0.1, 0.3, 1])
-        there = {tuple(sorted(it)) for it in links}
-        links += [it for it in itertools.combinations(sorted(ids), 2) if it not in there and self.chance(more)]
+        there, place = {tuple(sorted(it)) for it in links}, dict(zip(ids, part))
+        others = [(i, j) for i, j in itertools.combinations(sorted(ids), 2) if place[i] == place[j]]
+        links += [it for it in others if it not in there and self.chance(more)]
         return self.shuffled(ids), [tuple(self.shuffled(list(it))) for it in self.shuffled(links)]
 
     def full_lists(self):

@@ -119,30 +119,9 @@ impl Network {
         let Ok(to) = self.nodes[i].near.binary_search(&j) else {
             return Err(Refusal::NoSuchLink);
         };
-        if !self.has_way_beside(i, j) {
-            return Err(Refusal::WouldDisconnect);
-        }
         self.nodes[i].near.remove(to);
         self.nodes[j].near.retain(|place| *place != i);
         self.link_count -= 1;
         Ok(())
-    }
-
-    /// Whether there is a way between two neighbours beside their link.
-    fn has_way_beside(&self, from: usize, to: usize) -> bool {
-        let mut seen = vec![false; self.nodes.len()];
-        seen[from] = true;
-        let mut open: Vec<usize> =
-            self.nodes[from].near.iter().copied().filter(|near| *near != to).collect();
-        while let Some(place) = open.pop() {
-            if place == to {
-                return true;
-            }
-            if !seen[place] {
-                seen[place] = true;
-                open.extend(self.nodes[place].near.iter().filter(|near| !seen[**near]));
-            }
-        }
-        false
     }
 }

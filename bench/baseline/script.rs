@@ -134,7 +134,6 @@ fn put_answer(answer: Answer, out: &mut impl Write) -> io::Result<()> {
         Err(Refusal::BadLocal) => out.write_all(b"refused BadLocal\n"),
         Err(Refusal::NoSuchLink) => out.write_all(b"refused NoSuchLink\n"),
         Err(Refusal::LinkIsThere) => out.write_all(b"refused LinkIsThere\n"),
-        Err(Refusal::WouldDisconnect) => out.write_all(b"refused WouldDisconnect\n"),
     }
 }
 

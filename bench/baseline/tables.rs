@@ -33,7 +33,6 @@ pub enum Refusal {
     BadLocal,
     NoSuchLink,
     LinkIsThere,
-    WouldDisconnect,
 }
 
 pub type Answer = Result<Reply, Refusal>;

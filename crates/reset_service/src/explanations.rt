@@ -3,7 +3,7 @@
 use crate::explained::Explanation;
 
 /// Refusals of events and of faults.
-pub const REFUSALS: [Explanation; 12] = [
+pub const REFUSALS: [Explanation; 11] = [
     Explanation {
         word: "StrangeNode",
         text: "\
@@ -67,16 +67,10 @@ There is no link of these two nodes that could be taken down.\n",
         text: "\
 The link that should come up is there already.\n",
     },
-    Explanation {
-        word: "WouldDisconnect",
-        text: "\
-Without this link some node couldn't be reached, and a topology has to be connected. Bring\n\
-another link up first.\n",
-    },
 ];
 
 /// Faults of topologies and of their texts.
-pub const TOPOLOGY_FAULTS: [Explanation; 17] = [
+pub const TOPOLOGY_FAULTS: [Explanation; 16] = [
     Explanation {
         word: "TextTooLong",
         text: "\
@@ -148,12 +142,6 @@ A link goes from the node with this number to itself.\n",
         word: "TwiceLink",
         text: "\
 The link of these two nodes stands twice; a link and its reverse are one link.\n",
-    },
-    Explanation {
-        word: "Disconnected",
-        text: "\
-No walk over links leads from the least node to the one with this number. Add a link, or take\n\
-the node out.\n",
     },
     Explanation {
         word: "TooManyForThreads",
@@ -262,8 +250,9 @@ local state.\n",
     Explanation {
         word: "session",
         text: "\
-The number of a reset. Processes communicate only where theirs are equal; the newest is that of
-the leader. Resets are counted modulo M, the topology's `modulus`: after session M - 1 comes 0.\n",
+The number of a reset. Processes communicate only where theirs are equal; the newest of a part of
+the network is that of the part's leader, the greatest of the nodes that links lead to. Resets are
+counted modulo M, the topology's `modulus`: after session M - 1 comes 0.\n",
     },
     Explanation {
         word: "threads",
@@ -279,8 +268,9 @@ The command was allowed, and was done.\n",
     Explanation {
         word: "complete",
         text: "\
-The reset with this session number is complete: every node has joined its session. After a fault\n\
-that is sure again of resets that open where `check` tells no row of tree or wave.\n",
+The reset with this session number is complete: every node that links lead to from the one that\n\
+finished has joined its session. After a fault that is sure again of resets that open where\n\
+`check` tells no row of tree or wave.\n",
     },
     Explanation {
         word: "refused",
@@ -306,7 +296,8 @@ The node sees no fault of the application at its links.\n",
     Explanation {
         word: "unjoined",
         text: "\
-The node hasn't joined the newest session, so its local state counts as just started.\n",
+The node hasn't joined the newest session of its part of the network, so its local state counts as\n\
+just started.\n",
     },
     Explanation {
         word: "link",
@@ -418,7 +409,8 @@ their words.\n",
     Explanation {
         word: "newest",
         text: "\
-`newest`: the local states in the newest session, `unjoined` where a node has yet to join it.\n",
+`newest`: the local states in the newest session of each part of the network, `unjoined` where a\n\
+node has yet to join it.\n",
     },
     Explanation {
         word: "enabled",
@@ -499,7 +491,8 @@ The application that has nothing to do.\n",
     Explanation {
         word: "token",
         text: "\
-The application in which one node at a time holds a token: `pass J` and `take J`.\n",
+The application in which one node at a time holds a token, in each part of the network one:\n\
+`pass J` and `take J`.\n",
     },
     Explanation {
         word: "mutex",
@@ -509,7 +502,7 @@ The application in which no two neighbours are in at once: `enter` and `leave`.\
     Explanation {
         word: "routes",
         text: "\
-The application in which each node learns ways to all others: `pull J`.\n",
+The application in which each node learns ways to the others that it can reach: `pull J`.\n",
     },
     Explanation {
         word: "pass",
