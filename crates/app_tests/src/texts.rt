@@ -30,8 +30,19 @@ pub(crate) fn starts<P: Application>(
     texts: [&str; 3],
 ) -> Result<(), Fail> {
     let line = Topology::build(alloc, &[1, 2, 3], &[(1, 2), (2, 3)])?;
-    for (index, text) in texts.into_iter().enumerate() {
-        let local = P::on_start(alloc, &line, index)?;
+    starts_on::<P>(rt, alloc, &line, &texts)
+}
+
+/// The nodes of the topology start in the states with these texts, in the order of the ids.
+pub(crate) fn starts_on<P: Application>(
+    rt: &impl Abort,
+    alloc: Global,
+    topology: &Topology,
+    texts: &[&str],
+) -> Result<(), Fail> {
+    assert_eq!(rt; topology.len(), texts.len());
+    for (index, text) in texts.iter().enumerate() {
+        let local = P::on_start(alloc, topology, index)?;
         assert!(rt;
             text_of::<P>(alloc, &local).as_slice() == text.as_bytes(),
             "node {index}"

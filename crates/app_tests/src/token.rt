@@ -6,10 +6,25 @@ use crate::texts::{
 use app_interface::Reads;
 use app_token::Token;
 use std::test::Fail;
+use topology::Topology;
 
 #[test]
 fn starts(rt: HostRuntime) -> Result<(), Fail> {
     texts::starts::<Token>(&rt, rt.alloc(), ["free/-/-", "free/-/-", "hold/-/-"])
+}
+
+#[test]
+fn each_component_starts_with_a_token(rt: HostRuntime) -> Result<(), Fail> {
+    // the lines 1, 4, 2 and 3, 5, and node 6 alone
+    let links = [(1, 4), (4, 2), (3, 5)];
+    let parted = Topology::build(rt.alloc(), &[1, 2, 3, 4, 5, 6], &links)?;
+    let (holds, free) = ("hold/-/-", "free/-/-");
+    texts::starts_on::<Token>(
+        &rt,
+        rt.alloc(),
+        &parted,
+        &[free, free, free, holds, holds, holds],
+    )
 }
 
 #[test]

@@ -7,6 +7,7 @@ use std::alloc::Global;
 use std::process::Abort;
 use std::test::Fail;
 use test_networks::{booted, line, line_modulo};
+use topology::Topology;
 use tree_layer::TreeRegs;
 use wave_layer::{Modulus, Phase, WaveRegs};
 
@@ -26,7 +27,6 @@ fn do_line(
 #[test]
 fn refuses_what_cant_be_done(rt: HostRuntime) -> Result<(), Fail> {
     for (text, refusal) in [
-        (b"fault down 1 2".as_slice(), FaultRefusal::WouldDisconnect),
         (b"fault down 1 3".as_slice(), FaultRefusal::NoSuchLink),
         (b"fault down 1 4".as_slice(), FaultRefusal::StrangeNode),
         (b"fault up 1 2".as_slice(), FaultRefusal::LinkIsThere),
@@ -118,4 +118,39 @@ fn takes_links_out_and_puts_them_in(rt: HostRuntime) -> Result<(), Fail> {
     assert!(rt; config.topology().linked(3, 1));
     assert_eq!(rt; config.topology().link_count(), 3);
     Ok(())
+}
+
+// The registers stay, and each part has its leader.
+#[test]
+fn takes_a_link_out_that_parts_the_line(rt: HostRuntime) -> Result<(), Fail> {
+    let mut config = line::<Idle>(rt.alloc())?;
+    let trees = [1, 2, 3].map(|id| config.tree_at(id));
+    let done = do_line(&rt, rt.alloc(), &mut config, b"fault down 1 2")?;
+    assert_eq!(rt; done, Ok(()));
+    assert_eq!(rt; config.topology().link_count(), 1);
+    assert_eq!(rt; leaders(&config), [Some(1), Some(3), Some(3)]);
+    assert_eq!(rt; [1, 2, 3].map(|id| config.tree_at(id)), trees);
+
+    let done = do_line(&rt, rt.alloc(), &mut config, b"fault down 3 2")?;
+    assert_eq!(rt; done, Ok(()));
+    assert_eq!(rt; leaders(&config), [Some(1), Some(2), Some(3)]);
+    let done = do_line(&rt, rt.alloc(), &mut config, b"fault down 3 2")?;
+    assert_eq!(rt; done, Err(FaultRefusal::NoSuchLink));
+
+    let done = do_line(&rt, rt.alloc(), &mut config, b"fault up 1 3")?;
+    assert_eq!(rt; done, Ok(()));
+    assert_eq!(rt; leaders(&config), [Some(3), Some(2), Some(3)]);
+    Ok(())
+}
+
+// The leaders of the nodes 1, 2 and 3.
+fn leaders(config: &Config<Idle>) -> [Option<u32>; 3] {
+    [1, 2, 3].map(|id| leader_of(config.topology(), id))
+}
+
+fn leader_of(topology: &Topology, id: u32) -> Option<u32> {
+    match topology.index_of(id) {
+        Some(index) => Some(topology.greatest_of(index).get()),
+        None => None,
+    }
 }

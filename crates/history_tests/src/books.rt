@@ -28,7 +28,7 @@ fn reports_a_whole_reset(rt: HostRuntime) {
     assert!(rt; book.reports() == [reset].as_slice());
     assert_eq!(rt; book.len(), 9);
     assert_eq!(rt; book.limit(), MAX_ENTRIES);
-    assert_eq!(rt; book.config().newest_session(), 1);
+    assert_eq!(rt; book.config().newest_session(3), Some(1));
     assert!(rt; book.entry(0).is_none());
     assert!(rt; book.entry(4) == Some(&Entry::Step(Event::Open { at: 3 })));
     assert!(rt; book.entry(10).is_none());

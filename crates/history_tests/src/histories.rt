@@ -1,11 +1,12 @@
 // What verifying a history tells.
 
 use crate::line::{line, line_counting};
+use app_interface::Idle;
 use fault_inject::Fault;
 use history::{Entry, Report, VerifyFault, verify};
 use reset_machine::Event;
 use std::test::Fail;
-use test_networks::WHOLE_RESET;
+use test_networks::{PAIR_RESET, WHOLE_RESET, line_and_pair};
 use wave_layer::{Phase, WaveRegs};
 
 #[test]
@@ -83,6 +84,55 @@ fn forgets_openings_before_a_fault(rt: HostRuntime) {
                 opened: None,
                 finished: 6,
             };
+            assert!(rt; summary.reports.as_slice() == [reset].as_slice());
+        }
+        Err(_) => panic!(rt; "a history"),
+    }
+}
+
+// The nodes 4 and 5 are in the midst of their reset while the line of the nodes 1, 2, 3 does its own.
+#[test]
+fn reports_resets_of_two_components(rt: HostRuntime) -> Result<(), Fail> {
+    let mut entries = Vec::new(rt.alloc());
+    let (first, last) = PAIR_RESET.split_at(3);
+    for event in first.iter().chain(&WHOLE_RESET).chain(last) {
+        entries.push(Entry::Step(*event))?;
+    }
+    let report = |opened, finished| Report {
+        number: 1,
+        opened: Some(opened),
+        finished,
+    };
+    match verify(rt.alloc(), line_and_pair::<Idle>(rt.alloc())?, &entries) {
+        Ok(summary) => assert!(rt;
+            summary.reports.as_slice() == [report(7, 12), report(3, 15)].as_slice()
+        ),
+        Err(_) => panic!(rt; "a history"),
+    }
+    Ok(())
+}
+
+// The link of 1 and 2 goes down and comes back, and meanwhile node 1 is reset by itself.
+#[test]
+fn reports_a_reset_of_a_node_cut_off(rt: HostRuntime) {
+    let entries = [
+        Entry::Disturbed(Fault::LinkDown { a: 1, b: 2 }),
+        Entry::Step(Event::Claim { at: 1 }),
+        Entry::Step(Event::Request { at: 1 }),
+        Entry::Step(Event::Open { at: 1 }),
+        Entry::Step(Event::Finish { at: 1 }),
+        Entry::Disturbed(Fault::LinkUp { a: 1, b: 2 }),
+        Entry::Step(Event::Adopt { at: 1, from: 2 }),
+        Entry::Step(Event::Mend { at: 1 }),
+    ];
+    match verify(rt.alloc(), line(&rt, rt.alloc()), &entries) {
+        Ok(summary) => {
+            let reset = Report {
+                number: 1,
+                opened: Some(4),
+                finished: 5,
+            };
+            assert_eq!(rt; summary.entries, 8);
             assert!(rt; summary.reports.as_slice() == [reset].as_slice());
         }
         Err(_) => panic!(rt; "a history"),

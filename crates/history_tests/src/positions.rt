@@ -24,9 +24,9 @@ fn config_at(rt: HostRuntime) {
         assert!(rt; book.step(rt.alloc(), event).is_ok());
     }
     let opening = config_of(&rt, rt.alloc(), &book, 0);
-    assert_eq!(rt; opening.newest_session(), 0);
+    assert_eq!(rt; opening.newest_session(3), Some(0));
     let opened = config_of(&rt, rt.alloc(), &book, 4);
-    assert_eq!(rt; opened.newest_session(), 1);
+    assert_eq!(rt; opened.newest_session(3), Some(1));
     let regs = WaveRegs {
         phase: Phase::Reset,
         session: 1,

@@ -12,7 +12,8 @@ fn has_three_nodes(line: &Topology) -> bool {
         && line.id_at(3).is_none()
         && line.index_of(2) == Some(1)
         && line.index_of(4).is_none()
-        && line.greatest().get() == 3
+        && line.greatest_of(0).get() == 3
+        && line.greatest_of(2).get() == 3
 }
 
 // Whether these are the links 1-2 and 2-3.
@@ -72,6 +73,14 @@ fn reads_the_text_of_a_line(rt: HostRuntime) -> Result<(), Fail> {
     assert!(rt; line.linked(1, 2) && line.linked(3, 2) && !line.linked(1, 3));
     assert_eq!(rt; read.app, AppName::Routes);
     assert_eq!(rt; read.modulus, MAX_MODULUS);
+    Ok(())
+}
+
+#[test]
+fn reads_the_text_of_two_components(rt: HostRuntime) -> Result<(), Fail> {
+    let text = b"app = \"token\"\nlinks = [[4, 1]]\nnodes = [4, 3, 1]\n";
+    let read = read_topology(rt.alloc(), text)?;
+    assert!(rt; has_leaders(&read.topology, &[4, 3, 4]));
     Ok(())
 }
 
@@ -146,17 +155,66 @@ fn names_why_a_link_is_not_taken_out(rt: HostRuntime) -> Result<(), Fail> {
     Ok(())
 }
 
+// Whether these are the leaders of the nodes, in the order of the ids.
+fn has_leaders(topology: &Topology, leaders: &[u32]) -> bool {
+    topology.len() == leaders.len()
+        && (0..topology.len()).all(|index| topology.greatest_of(index).get() == leaders[index])
+}
+
+// A path of the nodes 1, 3 and 7, and a link of the nodes 2 and 9.
+fn path_and_link(rt: HostRuntime) -> Result<Topology, TopoFault> {
+    Topology::build(rt.alloc(), &[9, 7, 3, 2, 1], &[(7, 3), (2, 9), (1, 3)])
+}
+
 #[test]
-fn a_bridge_stays(rt: HostRuntime) -> Result<(), Fail> {
+fn each_component_has_its_leader(rt: HostRuntime) -> Result<(), Fail> {
+    let parted = path_and_link(rt)?;
+    assert_eq!(rt; parted.link_count(), 3);
+    assert!(rt; has_leaders(&parted, &[7, 9, 7, 7, 9]));
+    assert!(rt; has_leaders(&parted.copy(rt.alloc())?, &[7, 9, 7, 7, 9]));
+    let unlinked = Topology::build(rt.alloc(), &[4, 2, 8], &[])?;
+    assert!(rt; has_leaders(&unlinked, &[2, 4, 8]));
+    Ok(())
+}
+
+// The number of nodes stands where no walk leads.
+#[test]
+fn measures_one_component(rt: HostRuntime) -> Result<(), Fail> {
+    let parted = path_and_link(rt)?;
+    assert_eq!(rt; parted.len(), 5);
+    let from_7 = parted.distances_from(rt.alloc(), 3)?;
+    assert_eq!(rt; from_7.as_slice(), [2, 5, 1, 0, 5].as_slice());
+    let from_2 = parted.distances_from(rt.alloc(), 1)?;
+    assert_eq!(rt; from_2.as_slice(), [5, 0, 5, 5, 1].as_slice());
+    Ok(())
+}
+
+#[test]
+fn a_link_joins_two_components(rt: HostRuntime) -> Result<(), Fail> {
+    let parted = path_and_link(rt)?;
+    let joined = parted.with_link(rt.alloc(), 2, 1)?;
+    assert!(rt; has_leaders(&joined, &[9, 9, 9, 9, 9]));
+    assert_eq!(rt; joined.len(), 5);
+    let distances = joined.distances_from(rt.alloc(), 4)?;
+    assert_eq!(rt; distances.as_slice(), [2, 1, 3, 4, 0].as_slice());
+    let again = joined.without_link(rt.alloc(), 1, 2)?;
+    assert!(rt; has_leaders(&again, &[7, 9, 7, 7, 9]));
+    Ok(())
+}
+
+#[test]
+fn a_bridge_parts_two_components(rt: HostRuntime) -> Result<(), Fail> {
     // two triangles, 1 4 5 and 2 3 6, with a bridge from 5 to 3
     let links = [(1, 4), (4, 5), (5, 1), (2, 3), (3, 6), (6, 2), (5, 3)];
     let bridged = Topology::build(rt.alloc(), &[1, 2, 3, 4, 5, 6], &links)?;
-    let apart = fault_of(bridged.without_link(rt.alloc(), 3, 5));
-    assert_eq!(rt; apart, Some(TopoFault::Disconnected(2)));
-    let whole = bridged.without_link(rt.alloc(), 3, 6)?;
-    assert_eq!(rt; whole.link_count(), 6);
-    let further = fault_of(whole.without_link(rt.alloc(), 2, 6));
-    assert_eq!(rt; further, Some(TopoFault::Disconnected(6)));
+    assert!(rt; has_leaders(&bridged, &[6, 6, 6, 6, 6, 6]));
+    let parted = bridged.without_link(rt.alloc(), 3, 5)?;
+    assert_eq!(rt; parted.link_count(), 6);
+    assert!(rt; has_leaders(&parted, &[5, 6, 6, 5, 5, 6]));
+    let path = parted.without_link(rt.alloc(), 3, 6)?;
+    assert!(rt; has_leaders(&path, &[5, 6, 6, 5, 5, 6]));
+    let three = path.without_link(rt.alloc(), 2, 6)?;
+    assert!(rt; has_leaders(&three, &[5, 3, 3, 5, 5, 6]));
     Ok(())
 }
 

@@ -4,6 +4,8 @@
 #[cfg(test)]
 mod alarms;
 #[cfg(test)]
+mod components;
+#[cfg(test)]
 mod networks;
 #[cfg(test)]
 mod rows;

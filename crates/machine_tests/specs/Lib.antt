@@ -1,1 +1,2 @@
 pub mod BitText
+pub mod LeaderStarts

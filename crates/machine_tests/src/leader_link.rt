@@ -3,7 +3,9 @@
 ghost use Rattle.std.specs.Prelude.{None, ◌∷◌, [], if◌then◌else◌, refl};
 ghost use Rattle.app_interface.specs.LawsOfIdle.{idle_cases};
 ghost use Rattle.machine_tests.specs.BitText.{bit_from_text, bit_text, bit_word, one_bit_text};
-ghost use Rattle.topology.specs.Graph.{are_linked, greatest};
+ghost use Rattle.machine_tests.specs.LeaderStarts.{leader_starts};
+ghost use Rattle.topology.specs.Components.{leader};
+ghost use Rattle.topology.specs.Graph.{are_linked};
 
 use action_tables::{WriteFault, put_bytes};
 use app_interface::{Application, ClockRefusal, Here, LocalFault, Reads, Seen};
@@ -11,7 +13,7 @@ use std::alloc::{AllocError, Global};
 use std::io::Write;
 use topology::Topology;
 
-/// The application without cases in which a node starts with whether it is linked to the greatest. There is
+/// The application without cases in which a node starts with whether it is linked to its leader. There is
 /// never memory for the start state of a node with three links.
 pub(crate) struct LeaderLink;
 
@@ -21,7 +23,7 @@ impl Application for LeaderLink {
     ghost app = { record {
       count = 0;
       reads = λ case. None;
-      start = λ g i. are_linked g i (greatest g);
+      start = λ g i. are_linked g i (leader g i);
       next = λ i bound case with own seen. None;
       link_fault = λ i bound own j theirs. None;
     } };
@@ -42,11 +44,13 @@ impl Application for LeaderLink {
 
     ghost one_word = { bit_word };
 
-    ghost keeps = { λ g bound are few. record {
+    ghost keeps = { λ g bound are whole few. record {
       same = λ v v' h inv. tt;
       starts = tt;
       acts = λ i case with v v' h inv. tt;
     } };
+
+    ghost starts = { leader_starts };
 
     ghost quiet = { λ g bound are few. record { at = λ v inv i j linked. refl } };
 
@@ -69,7 +73,7 @@ impl Application for LeaderLink {
         if topology.neighbours(index).len() == 3 {
             return Err(AllocError);
         }
-        Ok(topology.linked(id.get(), topology.greatest().get()))
+        Ok(topology.linked(id.get(), topology.greatest_of(index).get()))
     }
 
     fn can(

@@ -3,6 +3,8 @@
 #![tactic(auto)]
 
 #[cfg(test)]
+mod components;
+#[cfg(test)]
 mod event_lines;
 #[cfg(test)]
 mod leader_link;

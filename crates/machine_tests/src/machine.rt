@@ -34,7 +34,9 @@ fn boots_the_line(rt: HostRuntime) {
     assert_eq!(rt; config.tree_at(4), None);
     assert_eq!(rt; config.wave_at(4), None);
     assert_eq!(rt; config.topology().len(), 3);
-    assert_eq!(rt; config.newest_session(), 0);
+    for (id, newest) in [(1, Some(0)), (3, Some(0)), (4, None)] {
+        assert_eq!(rt; config.newest_session(id), newest, "node {id}");
+    }
     assert_eq!(rt; config.modulus().get(), 4_294_967_296);
 }
 
@@ -54,8 +56,8 @@ fn a_copy_keeps_its_session(rt: HostRuntime) {
         assert_eq!(rt; *answer, Done::Did(Reply::Applied));
     }
     assert_eq!(rt; answers[8], Done::Did(Reply::Complete(1)));
-    assert_eq!(rt; config.newest_session(), 1);
-    assert_eq!(rt; copy.newest_session(), 0);
+    assert_eq!(rt; config.newest_session(1), Some(1));
+    assert_eq!(rt; copy.newest_session(1), Some(0));
     assert_eq!(rt; waves(&rt, &copy)[0].phase, Phase::Normal);
 }
 

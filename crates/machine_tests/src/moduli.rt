@@ -45,7 +45,7 @@ fn two_waves_modulo_2_end_with_session_0(rt: HostRuntime) {
         let normal = regs(Phase::Normal, session);
         assert_eq!(rt; waves(&rt, &config), [normal, normal, normal]);
     }
-    assert_eq!(rt; config.newest_session(), 0);
+    assert_eq!(rt; config.newest_session(1), Some(0));
 }
 
 #[test]

@@ -8,8 +8,8 @@ use test_networks::booted_modulo;
 use topology::Topology;
 use wave_layer::Modulus;
 
-// The nodes in the midst of a reset that the greatest has opened, each with a local state of its own. Sessions
-// are counted modulo 8.
+// The nodes of one component in the midst of a reset that the greatest has opened, each with a local state of its
+// own. Sessions are counted modulo 8.
 fn resetting(
     rt: &impl Abort,
     alloc: Global,
@@ -20,7 +20,8 @@ fn resetting(
     let mut config = booted_modulo::<LeaderLink>(alloc, nodes, links, modulus).expect(
         rt, "a graph",
     );
-    let greatest = config.topology().greatest().get();
+    config.topology().lemma_is_graph();
+    let greatest = config.topology().greatest_of(0).get();
     for event in [
         Event::Request { at: greatest },
         Event::Open { at: greatest },
@@ -127,4 +128,16 @@ fn without_memory_the_topology_comes_back(rt: HostRuntime) {
             assert_eq!(rt; start_at(&rt, rt.alloc(), &config, id), start);
         }
     }
+}
+
+// Without its link to node 3 node 2 is the leader of the nodes 1 and 2.
+#[test]
+fn a_topology_that_parts_the_nodes_is_put(rt: HostRuntime) {
+    let nodes = [1, 2, 3];
+    let mut config = resetting(&rt, rt.alloc(), &nodes, &[(1, 2), (2, 3)]);
+    let before = copied(&rt, rt.alloc(), &config);
+    assert!(rt; put_links(&rt, rt.alloc(), &mut config, &nodes, &[(1, 2)]).is_ok());
+    assert!(rt; have_same_states(&config, &before));
+    let starts = nodes.map(|id| start_at(&rt, rt.alloc(), &config, id));
+    assert_eq!(rt; starts, [true, false, false]);
 }

@@ -41,7 +41,7 @@ fn a_book_keeps_a_whole_reset(rt: HostRuntime) {
     assert_eq!(rt; book.reports().len(), 1);
     let at = again!(&rt; book.config_at(rt.alloc(), 4), AtFault::NoMemory, book.len() == 9);
     match at {
-        Ok(config) => assert_eq!(rt; config.newest_session(), 1),
+        Ok(config) => assert_eq!(rt; config.newest_session(1), Some(1)),
         Err(_) => panic!(rt; "a position of the book"),
     }
 }

@@ -63,7 +63,9 @@ fn links_go_and_come(rt: HostRuntime) {
     assert_eq!(rt; answer, Ok(()));
     assert_eq!(rt; config.topology().link_count(), 2);
     let answer = disturb(&rt, rt.alloc(), &mut config, b"fault down 1 2");
-    assert_eq!(rt; answer, Err(FaultRefusal::WouldDisconnect));
+    assert_eq!(rt; answer, Ok(()));
+    let answer = disturb(&rt, rt.alloc(), &mut config, b"fault down 1 2");
+    assert_eq!(rt; answer, Err(FaultRefusal::NoSuchLink));
     let answer = disturb(&rt, rt.alloc(), &mut config, b"fault up 1 3");
     assert_eq!(rt; answer, Ok(()));
     let answer = disturb(&rt, rt.alloc(), &mut config, b"fault local 1 in/0");

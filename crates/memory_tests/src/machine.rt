@@ -147,6 +147,6 @@ fn a_run_is_made_beside_a_copy(rt: HostRuntime) {
     let done =
         again!(&rt; config.run(rt.alloc(), &WHOLE_RESET), AllocError, Picture::of(&rt, &config).is(&before));
     attempted(&rt, &done.expect(&rt, "memory is refused once"));
-    assert_eq!(rt; config.newest_session(), 1);
+    assert_eq!(rt; config.newest_session(1), Some(1));
     assert!(rt; Picture::of(&rt, &copy).is(&before));
 }

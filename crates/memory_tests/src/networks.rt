@@ -18,6 +18,11 @@ pub(crate) fn triangle(rt: &impl Abort, alloc: Global) -> Topology {
     built(rt, alloc, &[(1, 2), (2, 3), (1, 3)])
 }
 
+/// The nodes 1 and 2 with a link, and node 3 alone.
+pub(crate) fn parted(rt: &impl Abort, alloc: Global) -> Topology {
+    built(rt, alloc, &[(1, 2)])
+}
+
 fn built(rt: &impl Abort, alloc: Global, links: &[(u32, u32)]) -> Topology {
     again!(rt; Topology::build(alloc, &[1, 2, 3], links), TopoFault::NoMemory, true).expect(
         rt, "a graph",

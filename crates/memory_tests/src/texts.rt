@@ -14,12 +14,12 @@ const LINE: &[u8] = b"nodes = [1, 2, 3]\nlinks = [[1, 2], [2, 3]]\napp = \"token
 
 const SCRIPT: &[u8] =
     b"act 3 pass 2\nact 2 take 3\nrequest 3\nopen 3\nready\nenabled 2\ncheck\nnewest\n\
-      fault local 1 hold/-/-\nfault down 1 2\ndraw 7\nact 1 pass 2\n";
+      fault local 1 hold/-/-\nfault down 1 3\nfault down 1 2\ndraw 7\nact 1 pass 2\n";
 
 const ANSWERS: &[u8] =
     b"applied\napplied\napplied\napplied\nready 2 3\nenabled 2 tree - wave 1,4 act 1\nfaults 0\n\
       newest 1 unjoined\nnewest 2 unjoined\nnewest 3 hold/-/-\n\
-      disturbed\nrefused WouldDisconnect\n";
+      disturbed\nrefused NoSuchLink\ndisturbed\n";
 
 const HISTORY: &[u8] = b"reset-history 1\nrequest 3\nopen 3\nfault local 1 hold/-/-\njoin 1\n";
 

@@ -1,6 +1,6 @@
 // Topologies, their texts, and what is booted of them.
 
-use crate::networks::{booted, line, triangle};
+use crate::networks::{booted, line, parted, triangle};
 use action_tables::MAX_MODULUS;
 use app_interface::Application;
 use app_token::Token;
@@ -57,6 +57,17 @@ fn registers_are_booted(rt: HostRuntime) {
     let waves = again!(&rt; boot_wave(rt.alloc(), 3), AllocError, true);
     let waves = waves.expect(&rt, "memory is refused once");
     assert!(rt; waves.iter().all(|regs| regs.session == 0));
+}
+
+#[test]
+fn registers_of_two_components_are_booted(rt: HostRuntime) {
+    let topology = parted(&rt, rt.alloc());
+    let trees = again!(&rt; boot_tree(rt.alloc(), &topology), AllocError, topology.len() == 3);
+    let trees = trees.expect(&rt, "memory is refused once");
+    assert_eq!(rt; trees.len(), 3);
+    for (regs, root) in trees.iter().zip([2, 2, 3]) {
+        assert_eq!(rt; regs.root, root);
+    }
 }
 
 #[test]

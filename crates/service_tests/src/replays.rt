@@ -37,6 +37,38 @@ fn two_waves_modulo_2(rt: HostRuntime) {
     assert_eq!(rt; out.as_slice(), TWO_WAVES_ANSWERS);
 }
 
+// A link of the line goes down and comes back, and meanwhile node 1 is reset by itself.
+const CUT_OFF: &[u8] = b"fault down 1 2\ncheck\nclaim 1\ncheck\nrequest 1\nopen 1\nfinish 1\n\
+      fault up 1 2\ncheck\nadopt 1 2\ncheck\nmend 1\ncheck\n";
+
+const CUT_OFF_ANSWERS: &[u8] =
+    b"disturbed\nlink 1 1 tree 3\nfaults 1\napplied\nfaults 0\napplied\napplied\ncomplete 1\n\
+      disturbed\nlink 1 2 tree 7\nfaults 1\napplied\nlink 1 2 wave 9\nfaults 1\napplied\nfaults 0\n";
+
+#[test]
+fn a_link_goes_down_that_parts_the_line(rt: HostRuntime) {
+    let mut out = Vec::new(rt.alloc());
+    let result = replay_text(rt.alloc(), LINE, CUT_OFF, &mut out);
+    assert_eq!(rt; result, Ok(Status::Good));
+    assert_eq!(rt; out.as_slice(), CUT_OFF_ANSWERS);
+}
+
+// Two components, of which one is in the midst of a reset.
+const APART: &[u8] = b"nodes = [1, 2, 3, 4]\nlinks = [[1, 3], [2, 4]]\napp = \"token\"\n";
+
+const APART_ANSWERS: &[u8] =
+    b"applied\napplied\nnewest 1 unjoined\nnewest 2 free/-/-\nnewest 3 hold/-/-\nnewest 4 hold/-/-\n\
+      faults 0\n";
+
+#[test]
+fn each_component_has_its_newest_states(rt: HostRuntime) {
+    let mut out = Vec::new(rt.alloc());
+    let script = b"request 3\nopen 3\nnewest\ncheck\n".as_slice();
+    let result = replay_text(rt.alloc(), APART, script, &mut out);
+    assert_eq!(rt; result, Ok(Status::Good));
+    assert_eq!(rt; out.as_slice(), APART_ANSWERS);
+}
+
 #[test]
 fn a_failing_reader_writes_nothing(rt: HostRuntime) {
     for call in ALL {

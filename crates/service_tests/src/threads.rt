@@ -63,6 +63,21 @@ fn a_node_alone_completes_its_reset(rt: HostRuntime) {
     }
 }
 
+// Node 7 alone asks for a reset, and the node beside it has nothing to do.
+#[test]
+fn two_nodes_without_a_link_have_threads(rt: HostRuntime) {
+    let topology = b"nodes = [7, 9]\nlinks = []\napp = \"idle\"\n";
+    let mut history = Vec::new(rt.alloc());
+    let mut out = Vec::new(rt.alloc());
+    let result = threads_text(&rt, rt.alloc(), topology, 10, &mut history, &mut out);
+    assert_eq!(rt; result, Ok(Status::Good));
+    assert_eq!(rt; history.as_slice(), HISTORY);
+    assert_eq!(rt;
+        out.as_slice(),
+        b"threads 2 nodes 3 entries 1 reports\n".as_slice()
+    );
+}
+
 #[test]
 fn over_64_nodes_have_no_threads(rt: HostRuntime) -> Result<(), AllocError> {
     let mut history = Vec::new(rt.alloc());

@@ -2,7 +2,7 @@
 
 use clap::Error;
 use clap::error::ErrorKind;
-use reset_service::{Job, LineFault, Paths, no_text, read_words};
+use reset_service::{Job, LineFault, Paths, Status, explain, no_text, read_words};
 use std::alloc::{AllocError, Global};
 
 // The kind of clap's error at these words.
@@ -91,4 +91,19 @@ fn faults(rt: HostRuntime) {
             LineFault::NoMemory
         )
     );
+}
+
+// A network may fall into components, so nothing is refused for it.
+#[test]
+fn no_word_tells_that_nodes_are_apart(rt: HostRuntime) {
+    for (word, status) in [
+        ("Disconnected", Status::BadInput),
+        ("WouldDisconnect", Status::BadInput),
+        ("NoSuchLink", Status::Good),
+    ] {
+        let mut out = Vec::new(rt.alloc());
+        assert_eq!(rt; explain(word, &mut out), Ok(status), "{word}");
+        let is_unknown = out.as_slice() == b"no such word\n".as_slice();
+        assert_eq!(rt; is_unknown, status == Status::BadInput, "{word}");
+    }
 }

@@ -26,6 +26,16 @@ pub const WHOLE_RESET: [Event; 9] = [
     Event::Finish { at: 3 },
 ];
 
+/// The steps of one whole reset of the nodes 4 and 5, linked with one another alone.
+pub const PAIR_RESET: [Event; 6] = [
+    Event::Request { at: 4 },
+    Event::Relay { at: 5, child: 4 },
+    Event::Open { at: 5 },
+    Event::Join { at: 4 },
+    Event::Finish { at: 4 },
+    Event::Finish { at: 5 },
+];
+
 /// The greatest number modulo which sessions can be counted.
 pub fn greatest_modulus() -> Modulus
     ensures { result ≡ max_modulus }
@@ -54,6 +64,18 @@ pub fn line_modulo<P: Application>(alloc: Global, modulus: Modulus) -> Result<Co
         (λ f. f ≢ TopoFault.NoMemory → IsFirstFault (1 ∷ 2 ∷ 3 ∷ []) ((1, 2) ∷ (2, 3) ∷ []) f) }
 {
     booted_modulo::<P>(alloc, &[1, 2, 3], &[(1, 2), (2, 3)], modulus)
+}
+
+/// The booted network of two components: the line of the nodes 1, 2, 3, and the nodes 4 and 5 with a link.
+/// Its sessions are counted modulo the greatest number.
+pub fn line_and_pair<P: Application>(alloc: Global) -> Result<Config<P>, TopoFault>
+    ensures lists { IfOk result
+        (λ c. IsTopologyOf (1 ∷ 2 ∷ 3 ∷ 4 ∷ 5 ∷ []) ((1, 2) ∷ (2, 3) ∷ (4, 5) ∷ []) c.graph) }
+    ensures boot { IfOk result (λ c. IsBoot P.app c.graph max_modulus c) }
+    ensures err { IfErr result (λ f. f ≢ TopoFault.NoMemory
+        → IsFirstFault (1 ∷ 2 ∷ 3 ∷ 4 ∷ 5 ∷ []) ((1, 2) ∷ (2, 3) ∷ (4, 5) ∷ []) f) }
+{
+    booted::<P>(alloc, &[1, 2, 3, 4, 5], &[(1, 2), (2, 3), (4, 5)])
 }
 
 /// The booted network with these nodes and links, or the first fault of the lists. Its sessions are counted

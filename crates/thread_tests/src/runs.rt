@@ -1,6 +1,6 @@
 // Runs with a thread for each node, on several topologies.
 
-use crate::topologies::{booted, grid, line, opened, ring, star};
+use crate::topologies::{booted, grid, line, line_and_pair, opened, ring, star};
 use crate::turns::Still;
 use app_interface::{Application, Here, Idle, Seen};
 use app_mutex::EdgeReversal;
@@ -21,11 +21,12 @@ const TURNS: u32 = 100;
 // How many runs of an application there are on each topology.
 const RUNS: u32 = 10;
 
-// The topologies of the runs: the line of three nodes, the ring of eight, the grid of sixteen and the star of
-// sixty-four.
+// The topologies of the runs: the line of three nodes, the same line and a pair beside it, the ring of eight, the
+// grid of sixteen and the star of sixty-four.
 #[derive(Clone, Copy)]
 enum Shape {
     Line,
+    LineAndPair,
     Ring,
     Grid,
     Star,
@@ -34,9 +35,21 @@ enum Shape {
 fn topology_of(rt: &impl Abort, alloc: Global, shape: Shape) -> Topology {
     match shape {
         Shape::Line => line(rt, alloc),
+        Shape::LineAndPair => line_and_pair(rt, alloc),
         Shape::Ring => ring(rt, alloc),
         Shape::Grid => grid(rt, alloc),
         Shape::Star => star(rt, alloc, 64),
+    }
+}
+
+// The leaders of its components.
+fn leaders_of(shape: Shape) -> &'static [u32] {
+    match shape {
+        Shape::Line => &[3],
+        Shape::LineAndPair => &[3, 5],
+        Shape::Ring => &[8],
+        Shape::Grid => &[16],
+        Shape::Star => &[64],
     }
 }
 
@@ -161,6 +174,17 @@ fn idle_nodes_on_the_line_are_told_their_entries(rt: HostRuntime) {
     runs::<Idle, HostRuntime>(&rt, rt.alloc(), Shape::Line);
 }
 
+// Nobody in the pair asks for a reset, and so it does nothing.
+#[test]
+fn idle_nodes_beside_the_line_do_nothing(rt: HostRuntime) {
+    for _ in 0..RUNS {
+        let steps = run::<Idle, HostRuntime>(&rt, rt.alloc(), Shape::LineAndPair);
+        for step in &steps {
+            assert!(rt; step.node() <= 3, "{step:?}");
+        }
+    }
+}
+
 #[test]
 fn idle_nodes_on_the_ring_are_told_their_entries(rt: HostRuntime) {
     runs::<Idle, HostRuntime>(&rt, rt.alloc(), Shape::Ring);
@@ -277,14 +301,17 @@ fn arrives(
     Token::can(here, 2, Some(from.id), &free, &[from])
 }
 
-// How often the token is there: held by a node, or on its way.
-fn tokens(rt: &impl Abort, alloc: Global, config: &Config<Token>) -> usize {
+// How often the token of the component with this leader is there: held by a node, or on its way.
+fn tokens(rt: &impl Abort, alloc: Global, config: &Config<Token>, leader: u32) -> usize {
     let topology = config.topology();
     let ids = topology.ids();
     let states = states_of(rt, alloc, config);
     assert_eq!(rt; states.len(), ids.len());
     let mut count = 0usize;
     for index in 0..topology.len() {
+        if topology.greatest_of(index).get() != leader {
+            continue;
+        }
         let own = &states[index];
         if own.hold {
             count = count.saturating_add(1);
@@ -306,14 +333,16 @@ fn tokens(rt: &impl Abort, alloc: Global, config: &Config<Token>) -> usize {
     count
 }
 
-// All runs of the token: after each entry it is there once.
+// All runs of the token: after each entry it is there once in each component.
 fn token_runs<R: Threads + Wait + Sync + Abort>(rt: &R, alloc: Global, shape: Shape) {
     for _ in 0..RUNS {
         let steps = run::<Token, R>(rt, alloc, shape);
         let mut config = booted_shape::<Token>(rt, alloc, shape);
         for event in &steps {
             assert!(rt; config.step(alloc, *event).is_ok());
-            assert_eq!(rt; tokens(rt, alloc, &config), 1);
+            for leader in leaders_of(shape) {
+                assert_eq!(rt; tokens(rt, alloc, &config, *leader), 1);
+            }
         }
     }
 }
@@ -321,6 +350,11 @@ fn token_runs<R: Threads + Wait + Sync + Abort>(rt: &R, alloc: Global, shape: Sh
 #[test]
 fn the_token_on_the_line_is_there_once(rt: HostRuntime) {
     token_runs::<HostRuntime>(&rt, rt.alloc(), Shape::Line);
+}
+
+#[test]
+fn each_component_has_its_token_once(rt: HostRuntime) {
+    token_runs::<HostRuntime>(&rt, rt.alloc(), Shape::LineAndPair);
 }
 
 #[test]

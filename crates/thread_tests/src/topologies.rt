@@ -15,6 +15,11 @@ pub(crate) fn line(rt: &impl Abort, alloc: Global) -> Topology {
     built(rt, alloc, &[1, 2, 3], &[(1, 2), (2, 3)])
 }
 
+// The line of the nodes 1, 2, 3 and the nodes 4 and 5 with a link: two components.
+pub(crate) fn line_and_pair(rt: &impl Abort, alloc: Global) -> Topology {
+    built(rt, alloc, &[1, 2, 3, 4, 5], &[(1, 2), (2, 3), (4, 5)])
+}
+
 // The ring of the nodes 1 to 8.
 pub(crate) fn ring(rt: &impl Abort, alloc: Global) -> Topology {
     let mut nodes = Vec::new(alloc);
