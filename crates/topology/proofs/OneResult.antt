@@ -13,7 +13,7 @@ use Rattle.topology.specs.Graph.{Graph, pair_cmp, AreLinked, IsGraph, IsNode}
 use Rattle.topology.specs.declared.fault.TopoFault.{TopoFault}
 use Rattle.topology.specs.declared.fault.TopoFault.TheVariants.{NoNodes, TooManyNodes, BadId, TwiceNode, TooManyLinks}
 use Rattle.topology.specs.declared.fault.TopoFault.TheVariants.{StrangeNode, SelfLink, TwiceLink}
-use Rattle.topology.specs.declared.fault.TopoFault.TheVariants.{NoSuchLink, LinkIsThere, NoMemory}
+use Rattle.topology.specs.declared.fault.TopoFault.TheVariants.{NoSuchLink, LinkIsThere, NodeIsUp, NoMemory}
 use Rattle.topology.proofs.Ascending.{rises}
 use Rattle.topology.proofs.FirstItems.{split_at}
 use Rattle.topology.proofs.RowLemmas.{pair_total, pair_antisymmetric}
@@ -63,19 +63,19 @@ same_ascending (x ∷ xs) (y ∷ ys) xs_up ys_up to from =
 
 -- ---- one graph
 
--- two graphs with the same nodes, links and bound are one
-pub same_graph : (g h : Graph) → IsGraph g → IsGraph h → g.bound ≡ h.bound → ((i : ℕ) → IsNode g i → IsNode h i)
+-- two graphs with the same identifiers, nodes and links are one
+pub same_graph : (g h : Graph) → IsGraph g → IsGraph h → g.ids ≡ h.ids → ((i : ℕ) → IsNode g i → IsNode h i)
     → ((i : ℕ) → IsNode h i → IsNode g i) → ((a b : ℕ) → AreLinked g a b → AreLinked h a b)
     → ((a b : ℕ) → AreLinked h a b → AreLinked g a b) → g ≡ h
-same_graph g h g_are h_are bounds to from links_to links_from =
-    let Parts : Type 0 = List ℕ × (ℕ × set.FinSet pair_cmp) in
-    let whole : Parts → Graph = λ p. record { ids = p.0; bound = p.1.0; links = p.1.1 } in
-    let parts : (g.ids, (g.bound, g.links)) ≡ (h.ids, (h.bound, h.links)) =
-    ap₂ (λ a b. (a, b)) ids (ap₂ (λ a b. (a, b)) bounds pairs) in
+same_graph g h g_are h_are ids to from links_to links_from =
+    let Parts : Type 0 = List ℕ × (List ℕ × set.FinSet pair_cmp) in
+    let whole : Parts → Graph = λ p. record { ids = p.0; nodes = p.1.0; links = p.1.1 } in
+    let parts : (g.ids, (g.nodes, g.links)) ≡ (h.ids, (h.nodes, h.links)) =
+    ap₂ (λ a b. (a, b)) ids (ap₂ (λ a b. (a, b)) nodes pairs) in
     ap whole parts
   where
-    ids : g.ids ≡ h.ids
-    ids = same_ascending g.ids h.ids g_are.ascending h_are.ascending to from
+    nodes : g.nodes ≡ h.nodes
+    nodes = same_ascending g.nodes h.nodes g_are.rising h_are.rising to from
 
     pairs : g.links ≡ h.links
     pairs =
@@ -87,8 +87,8 @@ pub one_graph : (nodes : List ℕ) (links : List (ℕ × ℕ)) (g h : Graph) →
 one_graph nodes links g h of_g of_h =
     let to : (i : ℕ) → IsNode g i → IsNode h i = λ i at. (of_h.same_nodes i).1 ((of_g.same_nodes i).0 at) in
     let from : (i : ℕ) → IsNode h i → IsNode g i = λ i at. (of_g.same_nodes i).1 ((of_h.same_nodes i).0 at) in
-    let ids = same_ascending g.ids h.ids of_g.as_graph.ascending of_h.as_graph.ascending to from in
-    same_graph g h of_g.as_graph of_h.as_graph (of_g.bound ∙ ap length ids ∙ sym of_h.bound) to from
+    let nodes = same_ascending g.nodes h.nodes of_g.as_graph.rising of_h.as_graph.rising to from in
+    same_graph g h of_g.as_graph of_h.as_graph (sym of_g.up ∙ nodes ∙ of_h.up) to from
     (λ a b e. (of_h.same_links a b).1 ((of_g.same_links a b).0 e))
     (λ a b e. (of_g.same_links a b).1 ((of_h.same_links a b).0 e))
 
@@ -173,6 +173,7 @@ module _ (nodes : List ℕ) (links : List (ℕ × ℕ)) where
   same_rank NoMemory e same a b = absurd a
   same_rank NoSuchLink e same a b = absurd a
   same_rank LinkIsThere e same a b = absurd a
+  same_rank NodeIsUp e same a b = absurd a
   same_rank f NoMemory same a b = absurd b
   same_rank f e same a b = absurd (omega (arith, same))
 
