@@ -10,7 +10,7 @@ use Rattle.topology.specs.declared.text.ReadFault.TheVariants.{TextTooLong, NotT
 use Rattle.topology.specs.declared.text.ReadFault.TheVariants.{UnknownApp, Topology, NoMemory}
 use Rattle.network_shapes.specs.Shapes.{shape_description}
 use Rattle.network_shapes.specs.declared.shape.Shape.{Shape}
-use Rattle.network_shapes.proofs.Connected.{shape_topology}
+use Rattle.network_shapes.proofs.Networks.{shape_topology}
 
 module _ (text : List ℕ) (d : Description) (described : description_of text ≡ Ok d) where
   -- a text with a description has the faults of its lists alone

@@ -6,5 +6,5 @@ mod Written
 mod Lengths
 mod Printed
 mod Shaped
-mod Connected
+mod Networks
 mod Accepted

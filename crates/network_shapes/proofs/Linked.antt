@@ -9,7 +9,7 @@ use Rattle.topology.specs.Faults.{ends_of, ordered_links}
 use Rattle.topology.proofs.FirstItems.{apart_push}
 use Rattle.network_shapes.specs.Shapes.{links_to}
 use Rattle.network_shapes.proofs.Lesser.{AreLesser}
-use Rattle.network_shapes.proofs.Ranges.{All-range, Contains-range, flat_map_next, has_number}
+use Rattle.network_shapes.proofs.Ranges.{All-range, flat_map_next, has_number}
 
 -- from a node to a greater one that is no greater than count
 pub record IsUpward (count : ℕ) (l : ℕ × ℕ) : Type 0 where
@@ -113,21 +113,3 @@ module _ (f : ℕ → List ℕ) (count : ℕ) (lesser : (node : ℕ) → 2 ≤ n
       (All-weaker (IsUpward (n + 1)) (λ l. l.1 < n + 2) (λ l is. omega (arith, is.within)) (links_of n)
       (links_of-upward n (omega arith)))
       (links_of-apart n (omega arith)))
-
-  -- each node from 2 on has a link with a lesser one
-  pub has_lesser : (n node : ℕ) → n < count → 2 ≤ node → node ≤ n + 1
-      → (j : ℕ) × (0 < j) × (j < node) × Contains (links_of n) (j, node)
-  has_lesser n node few two within = first (f node) refl (lesser node two (omega arith))
-    where
-      among : (a : ℕ) (js : List ℕ) → f node ≡ js → Contains (links_to node js) (a, node)
-          → Contains (links_of n) (a, node)
-      among a js is here =
-          Contains-range (λ i. links_to i (f i)) 2 n node (a, node) two (omega arith)
-          (subst (λ is. Contains (links_to node is) (a, node)) (sym is) here)
-
-      first : (js : List ℕ) → f node ≡ js → AreLesser node js
-          → (j : ℕ) × (0 < j) × (j < node) × Contains (links_of n) (j, node)
-      first [] is are = absurd are
-      first (a ∷ []) is are = (a, are.0, are.1, among a (a ∷ []) is (0, omega arith, refl))
-      first (a ∷ b ∷ []) is are = (a, are.0, omega arith, among a (a ∷ b ∷ []) is (0, omega arith, refl))
-      first (a ∷ b ∷ c ∷ js) is are = absurd are

@@ -1,11 +1,11 @@
 -- Numbers one after the other.
 use Rattle.std.proofs.Common.{◌≡◌, ℕ, zero, suc, ◌+◌, ◌-◌, ◌<◌, ◌≤◌, Bool, true, false, List, [], ◌∷◌, ◌++◌, length}
-use Rattle.std.proofs.Common.{get_or, Some, All, Contains, ap, subst, ◌∙◌, arith, ⊎_elim}
+use Rattle.std.proofs.Common.{get_or, Some, All, Contains, ap, ◌∙◌, arith, ⊎_elim}
 use Rattle.std.specs.List.{find, flat_map, range_with_len}
 use Rattle.std.proofs.lemmas.Bool.{cases_eq, cases_lt}
 use Rattle.std.proofs.lemmas.List.{append-nil}
 use Rattle.std.proofs.lemmas.List.Concat.{flat_map-append}
-use Rattle.std.proofs.lemmas.List.Elements.{All-append, All-nil, Contains-append_left, Contains-append_right}
+use Rattle.std.proofs.lemmas.List.Elements.{All-append, All-nil}
 use Rattle.std.proofs.lemmas.List.FromFn.{get_or-range_with_len, length-range_with_len}
 
 range-more : (a n : ℕ) → range_with_len a (suc n) ≡ range_with_len a n ++ (a + n) ∷ []
@@ -47,20 +47,6 @@ All-range P f a zero each = All-nil P
 All-range P f a (suc n) each =
     All-append P (f a) (flat_map f (range_with_len (a + 1) n)) (each a (omega arith) (omega arith))
     (All-range P f (a + 1) n (λ i from to. each i (omega arith) (omega arith)))
-
--- what one of the numbers gives is among what all give
-pub Contains-range : {X : Type 0} (f : ℕ → List X) (a n i : ℕ) (x : X) → a ≤ i → i < a + n → Contains (f i) x
-    → Contains (flat_map f (range_with_len a n)) x
-Contains-range f a zero i x from to here = absurd (omega arith)
-Contains-range f a (suc n) i x from to here =
-    ⊎_elim
-    (λ (same : i ≡ a). Contains-append_left (f a) (flat_map f (range_with_len (a + 1) n)) x
-    (subst (λ j. Contains (f j) x) same here))
-    (λ (other : i ≡ a → ⊥).
-    let less : a < i = ⊎_elim (λ lt. lt) (λ ge. absurd (other (omega arith))) (cases_lt a i) in
-    Contains-append_right (f a) (flat_map f (range_with_len (a + 1) n)) x
-    (Contains-range f (a + 1) n i x (omega arith) (omega arith) here))
-    (cases_eq i a)
 
 -- which numbers they are
 pub number_at : (n k d : ℕ) → k < length (range_with_len 1 n) → (get_or (range_with_len 1 n) k d ≡ 1 + k) × (k < n)

@@ -1,11 +1,11 @@
 -- What the descriptions of the shapes have.
-use Rattle.std.proofs.Common.{◌≡◌, ◌≢◌, ℕ, ◌+◌, ◌-◌, ◌*◌, ◌<◌, ◌≤◌, List, length, All, AllPairs, Contains}
+use Rattle.std.proofs.Common.{◌≡◌, ◌≢◌, ℕ, ◌+◌, ◌-◌, ◌*◌, ◌<◌, ◌≤◌, List, length, All, AllPairs}
 use Rattle.std.proofs.Common.{subst, arith}
 use Rattle.std.proofs.lemmas.List.Elements.{All-weaker}
 use Rattle.network_shapes.specs.Shapes.{lesser_nodes, node_numbers, shape_links}
 use Rattle.network_shapes.specs.declared.shape.Shape.{Shape}
 use Rattle.network_shapes.proofs.Lesser.{lesser_nodes-are}
-use Rattle.network_shapes.proofs.Linked.{IsUpward, has_lesser, links_of-apart, links_of-few, links_of-upward}
+use Rattle.network_shapes.proofs.Linked.{IsUpward, links_of-apart, links_of-few, links_of-upward}
 use Rattle.network_shapes.proofs.Ranges.{number_at}
 use Rattle.topology.specs.TopologyTable.{IsSmall, IsSmallLink}
 
@@ -30,11 +30,6 @@ module _ (shape : Shape) (count seed : ℕ) (some : 0 < count) where
   pub few_links : length (shape_links shape count seed) ≤ 2 * count
   few_links =
       omega (arith, links_of-few lesser count (lesser_nodes-are shape count seed) (count - 1) (omega arith))
-
-  pub lesser_link : (node : ℕ) → 2 ≤ node → node ≤ count
-      → (j : ℕ) × (0 < j) × (j < node) × Contains (shape_links shape count seed) (j, node)
-  lesser_link node two within =
-      has_lesser lesser count (lesser_nodes-are shape count seed) (count - 1) node (omega arith) two (omega arith)
 
   pub shape_links-small : count ≤ 1024 → All IsSmallLink (shape_links shape count seed)
   shape_links-small few =

@@ -1,77 +1,45 @@
 -- The first neighbour one step nearer makes the registers that a node is booted with.
-use Rattle.std.proofs.Common.{◌≡◌, ◌≢◌, ℕ, ◌+◌, ◌-◌, ◌<◌, ◌≤◌, ◌&&◌, Bool, true, false, List, [], ◌∷◌, ◌++◌, length}
-use Rattle.std.proofs.Common.{map, slice_index, get_or, All, refl, sym, ap, subst, ◌∙◌, ◌⊎◌, inl, inr, arith}
+use Rattle.std.proofs.Common.{◌≡◌, ◌≢◌, ℕ, ◌+◌, ◌<◌, ◌≤◌, ◌&&◌, Bool, true, false, List, [], ◌∷◌, ◌++◌, length}
+use Rattle.std.proofs.Common.{map, slice_index, get_or, All, refl, sym, ap, subst, subst₂, ◌∙◌, ◌⊎◌, inl, inr, arith}
 use Rattle.std.proofs.Common.{true≢false}
 use Rattle.std.specs.List.Sorted.{IsStrictlyIncreasing}
 use Rattle.std.proofs.lemmas.Bool.{cases_lt}
 use Rattle.std.proofs.lemmas.List.{get_or_default, get_or-map, length-map, get_or_append_left}
 use Rattle.std.proofs.Math.Seq.{get_or-append_seam}
 use Rattle.std.proofs.lemmas.List.Kept.{AllPairs-from_increasing}
+use Rattle.topology.proofs.Components.{leader_leads, leader_node, same_leader}
+use Rattle.topology.proofs.Walks.{index_of_node}
 use Rattle.topology.proofs.Membership.{has-Contains, Contains-has, has-filter}
-use Rattle.topology.specs.Graph.{Graph, IsGraph, IsConnected, IsNode, AreLinked, are_linked, neighbours_of, greatest}
+use Rattle.topology.specs.Graph.{Graph, IsGraph, IsNode, AreLinked, are_linked, neighbours_of}
 use Rattle.topology.specs.Graph.{has}
-use Rattle.topology.specs.Graph.{IsWalk, IsDistance, IsLeader}
+use Rattle.topology.specs.Graph.{IsWalk, IsDistance, IsDistanceOrNone, IsReached}
+use Rattle.topology.specs.Components.{leader}
 use Rattle.tree_layer.specs.declared.regs.TreeRegs.{TreeRegs}
-use Rattle.tree_layer.specs.BootTree.{IsNearer, IsBooted, AreDistances, IsFirstNearer, NoneNearer}
+use Rattle.tree_layer.specs.BootTree.{IsNearer, IsBooted, AreDistances, IsFirstNearer, KeepsFound, NoneNearer}
 
 -- a node has one distance to another
 one_distance : {g : Graph} {a b d e : ℕ} → IsDistance g a b d → IsDistance g a b e → d ≡ e
 one_distance x y = let p = x.least y.walk.0 y.walk.1 in let q =
     y.least x.walk.0 x.walk.1 in omega (arith, p, q, x.walk.2, y.walk.2)
 
--- what a walk from a node reaches is a node
-reached_node : (g : Graph) → IsGraph g → (a : ℕ) (cs : List ℕ) (b : ℕ) → IsNode g a → IsWalk g a cs b → IsNode g b
-reached_node g graph a [] b node walk = let P : ℕ → Type 0 = λ k. IsNode g k in subst P walk node
-reached_node g graph a (c ∷ cs) b node walk =
-    reached_node g graph c cs b (graph.ends c a (graph.symmetric c a ∙ walk.0)) walk.1
-
--- no id is above the greatest
-at_most_greatest : (g : Graph) → IsGraph g → (i : ℕ) → IsNode g i → i ≤ greatest g
-at_most_greatest g graph i node = at (cases_lt node.0 (length g.ids - 1))
-  where
-    read : slice_index g.ids node.0 ≡ i
-    read = get_or_default g.ids node.0 0 i node.1 ∙ node.2
-
-    at : (node.0 < length g.ids - 1) ⊎ (length g.ids - 1 ≤ node.0) → i ≤ greatest g
-    at (inl below) =
-        omega (
-          arith,
-          AllPairs-from_increasing g.ids graph.ascending node.0 (length g.ids - 1) 0 below
-              (omega (arith, node.1)),
-          read,
-        )
-    at (inr last) =
-        let same : node.0 ≡ length g.ids - 1 = omega (arith, node.1) in
-        omega (arith, ap (slice_index g.ids) same, read)
-
-greatest_node : (g : Graph) → IsGraph g → IsNode g (greatest g)
-greatest_node g graph = (
-  length g.ids - 1,
-  omega (arith, graph.some),
-  get_or_default g.ids (length g.ids - 1) _ 0
-      (omega (arith, graph.some)),
-)
-
 index_node : (g : Graph) (ix : ℕ) → ix < length g.ids → IsNode g (slice_index g.ids ix)
 index_node g ix short = (ix, short, get_or_default g.ids ix _ 0 short)
 
--- the greatest id is the leader of each node of a connected graph
-greatest_leads : (g : Graph) → IsGraph g → IsConnected g → (i : ℕ) → IsNode g i → IsLeader g i (greatest g)
-greatest_leads g graph connected i node = record {
-  reached = connected i (greatest g) node (greatest_node g graph);
-  greatest = λ j reached. at_most_greatest g graph j (reached_node g graph i reached.0 j node reached.1);
-}
-
-module _ (g : Graph) (graph : IsGraph g) (connected : IsConnected g) (distances : List ℕ)
-    (are : AreDistances g (greatest g) distances)
+module _ (g : Graph) (graph : IsGraph g) (distances : List ℕ) (are : AreDistances g distances)
     (ix : ℕ) (short : ix < length g.ids) (near : List ℕ)
     (ids : map (λ n. slice_index g.ids n) near ≡ neighbours_of g (slice_index g.ids ix))
     (within : All (λ n. n < length g.ids) near) (up : IsStrictlyIncreasing near) where
   abbrev i : ℕ
   i = slice_index g.ids ix
 
+  abbrev top : ℕ
+  top = leader g i
+
   abbrev d : ℕ
   d = slice_index distances ix
+
+  i_in : IsNode g i
+  i_in = index_node g ix short
 
   -- the near indexes are those of the neighbours
   near_linked : (k : ℕ) → k < length near → AreLinked g i (slice_index g.ids (slice_index near k))
@@ -103,27 +71,35 @@ module _ (g : Graph) (graph : IsGraph g) (connected : IsConnected g) (distances 
       both true b x y = y
       both false b x y = x
 
-  root_distance : i ≡ greatest g → d ≡ 0
+  -- the distance of what is near is that to the same leader
+  near_distance : (k : ℕ) → k < length near
+      → IsDistance g (slice_index g.ids (slice_index near k)) top (slice_index distances (slice_index near k))
+  near_distance k there =
+      let n = slice_index near k in
+      let j : ℕ = slice_index g.ids n in
+      subst (λ r. IsDistance g j r (slice_index distances n))
+      (same_leader g i j graph i_in (j ∷ [], (near_linked k there, refl))) (are.each n (within k 0 there))
+
+  root_distance : i ≡ top → d ≡ 0
   root_distance same = omega (arith, (are.each ix short).least [] same)
 
   -- a nearer neighbour has an index, with its distance
-  nearer_index : (j : ℕ) → IsNearer g (greatest g) d i j
+  nearer_index : (j : ℕ) → IsNearer g top d i j
       → (k : ℕ) × (k < length near) × (slice_index g.ids (slice_index near k) ≡ j)
       × (slice_index distances (slice_index near k) + 1 ≡ d)
   nearer_index j h =
       let at = linked_near j h.linked in
-      let P : ℕ → Type 0 = λ k. IsDistance g k (greatest g) (slice_index distances (slice_index near at.0)) in
+      let P : ℕ → Type 0 = λ k. IsDistance g k top (slice_index distances (slice_index near at.0)) in
       let same : slice_index distances (slice_index near at.0) ≡ h.steps =
-      one_distance (subst P at.2 (are.each (slice_index near at.0) (within at.0 0 at.1))) h.distance in
+      one_distance (subst P at.2 (near_distance at.0 at.1)) h.distance in
       (at.0, at.1, at.2, ap (λ e. e + 1) same ∙ h.nearer)
 
   -- with a nearer neighbour
   pub booted_below : (n : ℕ) → IsFirstNearer near distances d n
-      → IsBooted g i (record { root = greatest g; father = slice_index g.ids n; dist = d })
+      → IsBooted g i (record { root = top; father = slice_index g.ids n; dist = d })
   booted_below n f =
-      let inside : n < length g.ids = omega (arith, within f.place 0 f.there, f.item) in
       record {
-        root = greatest_leads g graph connected i (index_node g ix short);
+        root = leader_leads g i graph i_in;
         dist = are.each ix short;
         top = λ same. absurd (omega (arith, root_distance same, f.nearer));
         father = λ other. record {
@@ -131,7 +107,9 @@ module _ (g : Graph) (graph : IsGraph g) (connected : IsConnected g) (distances 
               (let P : ℕ
               → Type 0 = λ m. AreLinked g i (slice_index g.ids m) in subst P f.item (near_linked f.place f.there));
           steps = slice_index distances n;
-          distance = are.each n inside;
+          distance =
+              (let P : ℕ → Type 0 = λ m. IsDistance g (slice_index g.ids m) top (slice_index distances m) in
+              subst P f.item (near_distance f.place f.there));
           nearer = f.nearer;
         };
         least = λ j h. in_order (nearer_index j h);
@@ -154,22 +132,21 @@ module _ (g : Graph) (graph : IsGraph g) (connected : IsConnected g) (distances 
               let same : f.place ≡ at.0 = omega arith in
               omega (arith, ap (slice_index g.ids) (sym f.item ∙ ap (slice_index near) same), at.2)
 
-  first_step : NoneNearer near distances d → (cs : List ℕ) → IsWalk g i cs (greatest g) → length cs ≡ d → i ≢ greatest g
-      → ⊥
+  first_step : NoneNearer near distances d → (cs : List ℕ) → IsWalk g i cs top → length cs ≡ d → i ≢ top → ⊥
   first_step none [] walk long other = other walk
   first_step none (c ∷ cs) walk long other =
       let at = linked_near c walk.0 in
-      let P : ℕ → Type 0 = λ k. IsDistance g k (greatest g) (slice_index distances (slice_index near at.0)) in
-      let from_c = subst P at.2 (are.each (slice_index near at.0) (within at.0 0 at.1)) in
+      let P : ℕ → Type 0 = λ k. IsDistance g k top (slice_index distances (slice_index near at.0)) in
+      let from_c = subst P at.2 (near_distance at.0 at.1) in
       let shorter = from_c.least cs walk.1 in
       let longer = (are.each ix short).least (c ∷ from_c.walk.0) (walk.0, from_c.walk.1) in
       none at.0 at.1 (omega (arith, shorter, longer, from_c.walk.2))
 
   -- without one, at the leader
   pub booted_top : NoneNearer near distances d
-      → IsBooted g i (record { root = greatest g; father = greatest g; dist = d })
+      → IsBooted g i (record { root = top; father = top; dist = d })
   booted_top none = record {
-    root = greatest_leads g graph connected i (index_node g ix short);
+    root = leader_leads g i graph i_in;
     dist = are.each ix short;
     top = λ same. sym same;
     father =
@@ -192,3 +169,110 @@ each_more g trees last n count each here k regs below = at (cases_lt k n)
         let same : length trees ≡ k = omega arith in
         let P : ℕ → Type 0 = λ m. IsBooted g (slice_index g.ids m) (get_or (trees ++ last ∷ []) m regs) in
         subst P same (rw (get_or-append_seam trees last [] regs, count) here)
+
+-- ---- the distances, leader by leader
+
+-- the nodes whose leaders stand before the index have their distances
+pub record AreFound (g : Graph) (index : ℕ) (distances : List ℕ) : Type 0 where
+  pub count : length distances ≡ length g.ids
+  pub each : (k j : ℕ) → k < length g.ids → j < index → slice_index g.ids j ≡ leader g (slice_index g.ids k)
+      → IsDistance g (slice_index g.ids k) (leader g (slice_index g.ids k)) (slice_index distances k)
+  pub below : (k j : ℕ) → k < length g.ids → j < index → slice_index g.ids j ≡ leader g (slice_index g.ids k)
+      → slice_index distances k < length g.ids
+
+module _ (g : Graph) (graph : IsGraph g) (index : ℕ) (short : index < length g.ids) (old : List ℕ)
+    (so_far : AreFound g index old) where
+  abbrev id : ℕ
+  id = slice_index g.ids index
+
+  node_at : (k : ℕ) → k < length g.ids → IsNode g (slice_index g.ids k)
+  node_at k k_in = index_node g k k_in
+
+  -- a leader leads itself
+  leads_itself : (k : ℕ) → k < length g.ids → id ≡ leader g (slice_index g.ids k) → leader g id ≡ id
+  leads_itself k k_in same =
+      let i : ℕ = slice_index g.ids k in
+      let P : ℕ → Type 0 = λ x. IsReached g i x in
+      same_leader g i id graph (node_at k k_in)
+      (subst P (sym same) (leader_leads g i graph (node_at k k_in)).reached)
+      ∙ sym same
+
+  -- a node that is no leader has nothing to add
+  pub found_same : leader g id ≢ id → AreFound g (index + 1) old
+  found_same other = record {
+    count = so_far.count;
+    each = λ k j k_in j_low same. so_far.each k j k_in (before k j k_in j_low same) same;
+    below = λ k j k_in j_low same. so_far.below k j k_in (before k j k_in j_low same) same;
+  }
+    where
+      before : (k j : ℕ) → k < length g.ids → j < index + 1 → slice_index g.ids j ≡ leader g (slice_index g.ids k)
+          → j < index
+      before k j k_in j_low same = at (cases_lt j index)
+        where
+          at : (j < index) ⊎ (index ≤ j) → j < index
+          at (inl low) = low
+          at (inr high) =
+              let here : j ≡ index = omega arith in
+              absurd (other (leads_itself k k_in (sym (ap (slice_index g.ids) here) ∙ same)))
+
+  module _ (leads : leader g id ≡ id) (found new : List ℕ) (count : length found ≡ length g.ids)
+      (are : (k : ℕ) → k < length g.ids
+      → IsDistanceOrNone (length g.ids) g (slice_index g.ids k) id (slice_index found k))
+      (keeps : KeepsFound found old new) where
+    -- a node has another leader, or what was found
+    abbrev Has : ℕ → Type 0
+    Has k = IsDistance g (slice_index g.ids k) (leader g (slice_index g.ids k)) (slice_index new k)
+        × (slice_index new k < length g.ids)
+
+    each_found : (k j : ℕ) → k < length g.ids → j < index + 1 → slice_index g.ids j ≡ leader g (slice_index g.ids k)
+        → Has k
+    each_found k j k_in j_low same = of (are k k_in)
+      where
+        i : ℕ
+        i = slice_index g.ids k
+
+        of : IsDistanceOrNone (length g.ids) g i id (slice_index found k) → Has k
+        of (inl (less, distance)) =
+            let kept : slice_index new k ≡ slice_index found k =
+            keeps.kept k (omega (arith, count)) (omega (arith, count)) in
+            let top : id ≡ leader g i =
+            sym leads ∙ same_leader g i id graph (node_at k k_in) (distance.walk.0, distance.walk.1) in
+            (subst₂ (λ r d. IsDistance g i r d) top (sym kept) distance, omega (arith, kept, less))
+        of (inr (none, unreached)) = at (cases_lt j index)
+          where
+            kept : slice_index new k ≡ slice_index old k
+            kept = keeps.others k (omega (arith, count)) (omega (arith, count))
+
+            at : (j < index) ⊎ (index ≤ j) → Has k
+            at (inl low) = (
+              subst (λ d. IsDistance g i (leader g i) d) (sym kept) (so_far.each k j k_in low same),
+              omega (arith, kept, so_far.below k j k_in low same),
+            )
+            at (inr high) =
+                let here : j ≡ index = omega arith in
+                let P : ℕ → Type 0 = λ x. IsReached g i x in
+                absurd
+                (unreached
+                (subst P (sym (sym (ap (slice_index g.ids) here) ∙ same))
+                (leader_leads g i graph (node_at k k_in)).reached))
+
+    pub found_more : AreFound g (index + 1) new
+    found_more = record {
+      count = keeps.count ∙ so_far.count;
+      each = λ k j k_in j_low same. (each_found k j k_in j_low same).0;
+      below = λ k j k_in j_low same. (each_found k j k_in j_low same).1;
+    }
+
+-- with all leaders done, all nodes have their distances
+pub found_all : (g : Graph) (distances : List ℕ) → IsGraph g → AreFound g (length g.ids) distances
+    → AreDistances g distances
+found_all g distances graph found =
+    let place : (k : ℕ) → k < length g.ids
+    → (j : ℕ) × (j < length g.ids) × (slice_index g.ids j ≡ leader g (slice_index g.ids k)) =
+    λ k k_in. index_of_node g.ids (leader g (slice_index g.ids k))
+    (leader_node g (slice_index g.ids k) graph (index_node g k k_in)) in
+    record {
+      count = found.count;
+      each = λ k k_in. let at = place k k_in in found.each k at.0 k_in at.1 at.2;
+      below = λ k k_in. let at = place k k_in in found.below k at.0 k_in at.1 at.2;
+    }

@@ -1,5 +1,5 @@
 -- The registers that the nodes of a graph are booted with are one list.
-use Rattle.std.proofs.Common.{◌≡◌, ℕ, List, length, get_or, sym, ap, ap₂, subst, subst₂, ◌∙◌, arith, ⊎_elim}
+use Rattle.std.proofs.Common.{◌≡◌, ℕ, List, get_or, sym, ap₂, subst, subst₂, ◌∙◌, arith, ⊎_elim}
 use Rattle.std.proofs.lemmas.Bool.{cases_eq}
 use Rattle.std.proofs.lemmas.List.{same_lists}
 use Rattle.topology.specs.Graph.{Graph, IsDistance}

@@ -1,5 +1,6 @@
 -- The tree registers that a node is booted with.
 use Rattle.std.specs.Prelude.{◌≡◌, ◌≢◌, ℕ, ◌+◌, ◌<◌, ◌≤◌, List, length, slice_index, slice_index_or}
+use Rattle.topology.specs.Components.{leader}
 use Rattle.topology.specs.Graph.{Graph, AreLinked, IsDistance, IsLeader}
 use Rattle.tree_layer.specs.declared.regs.TreeRegs.{TreeRegs}
 
@@ -25,11 +26,20 @@ pub record AreBooted (g : Graph) (trees : List TreeRegs) : Type 0 where
   pub each : (ix : ℕ) (regs : TreeRegs) → ix < length trees
       → IsBooted g (slice_index g.ids ix) (slice_index_or trees ix regs)
 
--- the distances of all nodes to the root, in the order of the ids
-pub record AreDistances (g : Graph) (root : ℕ) (distances : List ℕ) : Type 0 where
+-- the distances of all nodes to their leaders, in the order of the ids
+pub record AreDistances (g : Graph) (distances : List ℕ) : Type 0 where
   pub count : length distances ≡ length g.ids
-  pub each : (k : ℕ) → k < length g.ids → IsDistance g (slice_index g.ids k) root (slice_index distances k)
+  pub each : (k : ℕ) → k < length g.ids
+      → IsDistance g (slice_index g.ids k) (leader g (slice_index g.ids k)) (slice_index distances k)
   pub below : (k : ℕ) → k < length g.ids → slice_index distances k < length g.ids
+
+-- the numbers that were found below their count are kept, and elsewhere stays what there was
+pub record KeepsFound (found old new : List ℕ) : Type 0 where
+  pub count : length new ≡ length old
+  pub kept : (k : ℕ) → k < length found → slice_index found k < length found
+      → slice_index new k ≡ slice_index found k
+  pub others : (k : ℕ) → k < length found → length found ≤ slice_index found k
+      → slice_index new k ≡ slice_index old k
 
 -- n is the first of these indexes whose distance is one less than d
 pub record IsFirstNearer (near distances : List ℕ) (d n : ℕ) : Type 0 where

@@ -1,21 +1,19 @@
 // The booted spanning tree.
 
-ghost use Rattle.std.specs.Prelude.{◌≡◌, ℕ, ◌<◌, All, length, slice_index, IfOk, MatchOption};
-ghost use Rattle.topology.specs.Graph.{greatest};
-ghost use Rattle.tree_layer.specs.BootTree.{AreBooted, AreDistances, IsBooted, IsFirstNearer, NoneNearer};
+ghost use Rattle.std.specs.Prelude.{◌≡◌, ℕ, ◌<◌, All, length, slice_index, IfOk, MatchOption, OnOk};
+ghost use Rattle.tree_layer.specs.BootTree.{AreBooted, AreDistances, IsBooted, IsFirstNearer, KeepsFound, NoneNearer};
 
 use crate::regs::TreeRegs;
 use std::alloc::{AllocError, Global};
 use topology::Topology;
 
-/// The registers of each node's place in the tree of shortest ways to the greatest id, in the
-/// order of the ids: the root is the greatest id, the distance the one in the graph, the father the
-/// least neighbour that is one step nearer, and the root's father the root itself.
+/// The registers of each node's place in the tree of shortest ways to the greatest id of its
+/// component, in the order of the ids: the root is that id, the distance the one in the graph, the
+/// father the least neighbour that is one step nearer, and the root's father the root itself.
 pub fn boot_tree(alloc: Global, topology: &Topology) -> Result<Vec<TreeRegs>, AllocError>
     ensures { IfOk result (λ trees. AreBooted topology.now trees.items) }
 {
-    topology.lemma_is_graph();
-    let distances = topology.distances_from(alloc, topology.len() - 1)?;
+    let distances = leader_distances(alloc, topology)?;
     let mut trees = Vec::with_capacity(alloc, topology.len())?;
     for ix in 0..topology.len() {
         trees.push(regs_at(topology, &distances, ix))?;
@@ -23,14 +21,54 @@ pub fn boot_tree(alloc: Global, topology: &Topology) -> Result<Vec<TreeRegs>, Al
     Ok(trees)
 }
 
-// The registers of the node at an index, from the distances of all nodes to the root.
+// The distance of each node to its leader, by index.
+fn leader_distances(alloc: Global, topology: &Topology) -> Result<Vec<usize>, AllocError>
+    ensures { IfOk result (λ distances. AreDistances topology.now distances.items) }
+{
+    let mut distances = vec![in alloc; 0; topology.len()]?;
+    fill_distances(alloc, topology, &mut distances)?;
+    Ok(distances)
+}
+
+// Fills in the distances: one search from each leader finds those of its component.
+fn fill_distances(
+    alloc: Global,
+    topology: &Topology,
+    distances: &mut [usize],
+) -> Result<(), AllocError>
+    requires { length distances.old ≡ length topology.now.ids }
+    ensures { OnOk result (AreDistances topology.now distances.new) }
+{
+    topology.lemma_is_graph();
+    for index in 0..topology.len() {
+        if topology.greatest_of(index).get() == topology.ids()[index] {
+            let found = topology.distances_from(alloc, index)?;
+            keep_found(&found, distances);
+        }
+    }
+    Ok(())
+}
+
+// Keeps the distances that a search found.
+fn keep_found(found: &[usize], distances: &mut [usize])
+    requires { length distances.old ≡ length found.now }
+    ensures { KeepsFound found.now distances.old distances.new }
+{
+    for (index, distance) in found.iter().enumerate() {
+        if *distance < found.len() {
+            distances[index] = *distance;
+        }
+    }
+}
+
+// The registers of the node at an index, from the distances of all nodes to their leaders.
 fn regs_at(topology: &Topology, distances: &[usize], ix: usize) -> TreeRegs
     requires place { ix < length topology.now.ids }
-    requires distances { AreDistances topology.now (greatest topology.now) distances.now }
+    requires distances { AreDistances topology.now distances.now }
     ensures { IsBooted topology.now (slice_index topology.now.ids ix) result }
 {
     topology.lemma_is_graph();
-    let root = topology.greatest().get();
+    let root = topology.greatest_of(ix).get();
     let dist = distances[ix];
     let father = match nearer_among(topology.neighbours(ix), distances, dist) {
         Some(near) => topology.id_at(near).unwrap().get(),

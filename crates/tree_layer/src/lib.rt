@@ -1,7 +1,7 @@
 //! The tree layer of the distributed reset service: a spanning tree under an elected leader.
 //!
 //! The tree layer of A. Arora and M. Gouda, "Distributed Reset", IEEE Transactions on Computers
-//! 43(9), 1994, in this project's profile: the leader is the greatest identifier.
+//! 43(9), 1994, in this project's profile: the leader is the greatest identifier of a component.
 #![tactic(auto)]
 
 mod boot;

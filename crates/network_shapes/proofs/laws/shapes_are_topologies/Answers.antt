@@ -1,4 +1,4 @@
-use Rattle.network_shapes.proofs.Connected.{shape_topology}
+use Rattle.network_shapes.proofs.Networks.{shape_topology}
 use Rattle.network_shapes.proofs.laws.shapes_are_topologies.Goals as goal
 
 pub returns : goal.returns

@@ -1,16 +1,6 @@
-use Rattle.std.proofs.Common.{◌+◌, ap, ◌∙◌, arith, length-append}
+use Rattle.std.proofs.Common.{◌+◌, ap, ◌∙◌, length-append}
 use Rattle.tree_layer.proofs.Booting.{each_more}
 use Rattle.tree_layer.proofs.boot.boot_tree.Goals as goal
-
-pub regs_at-requires-clause-distances : goal.regs_at-requires-clause-distances
-regs_at-requires-clause-distances c =
-    let found = c.in_ok-distances.ensures in
-    rw c.deref.ensures.value
-    (record {
-      count = found.count;
-      each = rw c.len.ensures at found.distances;
-      below = λ k short. found.below k 0 (omega (arith, found.count));
-    })
 
 pub loop-ix-preserved : goal.loop-ix-preserved
 loop-ix-preserved c =

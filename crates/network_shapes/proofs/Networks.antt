@@ -1,28 +1,26 @@
 -- The network of a shape is a topology.
-use Rattle.std.proofs.Common.{◌≡◌, ◌≢◌, ℕ, zero, suc, ◌+◌, ◌<◌, ◌≤◌, List, [], ◌∷◌, ◌++◌, length, get_or, All}
+use Rattle.std.proofs.Common.{◌≡◌, ◌≢◌, ℕ, ◌+◌, ◌<◌, ◌≤◌, List, ◌++◌, length, All}
 use Rattle.std.proofs.Common.{AllPairs, Contains, refl, sym, ap, subst, ◌∙◌, arith, inl, inr, ⊎_elim, ◌⊎◌, map}
 use Rattle.std.proofs.Common.{Bool, true, false}
 use Rattle.std.specs.FinSet as set
 use Rattle.std.specs.Ordering.{eq_by_cmp}
-use Rattle.std.proofs.lemmas.Bool.{cases_lt}
-use Rattle.std.proofs.lemmas.List.{get_or-map, get_or_default, length-map}
+use Rattle.std.proofs.lemmas.List.{get_or-map, length-map}
 use Rattle.std.proofs.lemmas.List.Elements.{All-contains, All-weaker, Contains-append_cases, Contains-append_left}
 use Rattle.std.proofs.lemmas.List.Elements.{Contains-append_right}
 use Rattle.std.proofs.lemmas.List.Folds.{Any-from_list_any, list_any-from_Any}
 use Rattle.std.proofs.lemmas.List.FromFn.{length-range_with_len}
-use Rattle.topology.specs.Faults.{HasFault, IsCutOff, IsGraphOf, IsTopologyOf, ordered_links}
-use Rattle.topology.specs.Graph.{Graph, AreLinked, IsGraph, IsNode, IsReached, are_linked, pair_cmp}
+use Rattle.topology.specs.Faults.{HasFault, IsTopologyOf, ordered_links}
+use Rattle.topology.specs.Graph.{Graph, AreLinked, IsGraph, are_linked, pair_cmp}
 use Rattle.topology.specs.Id.{IsId}
 use Rattle.topology.specs.declared.fault.TopoFault.{TopoFault}
 use Rattle.topology.proofs.FaultOrder.{clean_all, clean_apart, clean_distinct, clean_few, clean_ids, clean_known}
 use Rattle.topology.proofs.FaultOrder.{clean_links, clean_once, clean_some}
 use Rattle.topology.proofs.RowLemmas.{pair_itself, pair_total, same_pair}
-use Rattle.topology.proofs.Walks.{reached_back, walk_on}
 use Rattle.network_shapes.specs.Shapes.{node_numbers, shape_links}
 use Rattle.network_shapes.specs.declared.shape.Shape.{Shape}
 use Rattle.network_shapes.proofs.Linked.{IsUpward, ends_of-upward, ordered_links-upward}
 use Rattle.network_shapes.proofs.Ranges.{has_number, number_at}
-use Rattle.network_shapes.proofs.Shaped.{apart, few_links, lesser_link, upward}
+use Rattle.network_shapes.proofs.Shaped.{apart, few_links, upward}
 
 node_numbers-ids : (count : ℕ) → count ≤ 1024 → All IsId (node_numbers count)
 node_numbers-ids count few k d within =
@@ -64,37 +62,6 @@ module _ (shape : Shape) (count seed : ℕ) (some : 0 < count) (few : count ≤ 
   abbrev links : List (ℕ × ℕ)
   links = shape_links shape count seed
 
-  module _ (g : Graph) (of : IsGraphOf nodes links g) where
-    -- by way of lesser and lesser nodes, each node is reached from node 1
-    from_one : (bound node : ℕ) → node < bound → 0 < node → node ≤ count → IsReached g 1 node
-    from_one zero node less positive within = absurd (omega arith)
-    from_one (suc bound) node less positive within =
-        ⊎_elim
-        (λ more.
-        let near = lesser_link shape count seed some node more within in
-        let j : ℕ = near.0 in
-        let before = from_one bound j (omega (arith, near.2)) near.1 (omega (arith, near.2)) in
-        let linked = (of.same_links j node).1 (inl near.3) in
-        (before.0 ++ node ∷ [], walk_on g 1 j node before.0 (node ∷ []) before.1 (linked, refl)))
-        (λ one. let same : 1 ≡ node = omega arith in ([], same))
-        (cases_lt 1 node)
-
-    number_of_node : (n : ℕ) → IsNode g n → (0 < n) × (n ≤ count)
-    number_of_node n node =
-        let at = (of.same_nodes n).0 node in
-        let number = number_at count at.0 n at.1 in
-        (omega (arith, at.2, number.0), omega (arith, at.2, number.0, number.1))
-
-    no_cut_off : (n : ℕ) → IsCutOff g n → ⊥
-    no_cut_off n cut =
-        let first : ℕ = get_or g.ids 0 0 in
-        let first_in : IsNode g first = (0, of.as_graph.some, get_or_default g.ids 0 first 0 of.as_graph.some) in
-        let low = number_of_node first first_in in
-        let high = number_of_node n cut.node in
-        let back = reached_back g of.as_graph 1 first (from_one (first + 1) first (omega arith) low.0 low.1) in
-        let there = from_one (n + 1) n (omega arith) high.0 high.1 in
-        cut.cut_off (back.0 ++ there.0, walk_on g first 1 n back.0 there.0 back.1 there.1)
-
   sound : (f : TopoFault) → HasFault nodes links f → ⊥
   sound =
       let count_of : length nodes ≡ count = length-range_with_len 1 count in
@@ -118,7 +85,6 @@ module _ (shape : Shape) (count seed : ℕ) (some : 0 < count) (few : count ≤ 
       (ends_of-upward count links up))
       different)
       once)
-      (λ n has. no_cut_off has.0 has.1 n has.2)
 
   -- ---- the graph
 
