@@ -5,10 +5,10 @@ ghost use Rattle.std.specs.Io.KnownBytes.{Appends};
 ghost use Rattle.action_tables.specs.Written.{AppendsPrefix};
 ghost use Rattle.app_interface.specs.Application.{App};
 ghost use Rattle.app_interface.specs.Cases.{AreCases};
-ghost use Rattle.app_interface.specs.Invariant.{IsQuiet, Keeps};
+ghost use Rattle.app_interface.specs.Invariant.{IsQuiet, Keeps, StartsByComponent};
 ghost use Rattle.app_interface.specs.PrintableWord.{IsPrintableWord};
 ghost use Rattle.app_interface.specs.Views.{seen_values};
-ghost use Rattle.topology.specs.Graph.{Graph, IsGraph};
+ghost use Rattle.topology.specs.Graph.{Graph, IsConnected, IsGraph};
 
 use crate::reads::Reads;
 use crate::refusal::{ClockRefusal, LocalFault};
@@ -121,9 +121,13 @@ pub trait Application: Send + Sync {
     // The text of a local state is one word of a line, of printable bytes.
     ghost one_word: { (local : Self.Local) → IsLocal local → IsPrintableWord (text local) };
 
-    // On every graph, and for every bound that the number of nodes doesn't pass, the invariant holds
-    // at the start and each action keeps it.
-    ghost keeps: { (g : Graph) (bound : ℕ) → IsGraph g → length g.ids ≤ bound → Keeps app g bound (Inv g) };
+    // On every connected graph, and for every bound that the number of nodes doesn't pass, the invariant
+    // holds at the start and each action keeps it.
+    ghost keeps: { (g : Graph) (bound : ℕ) → IsGraph g → IsConnected g → length g.ids ≤ bound
+        → Keeps app g bound (Inv g) };
+
+    // A node's start state hangs on its component alone.
+    ghost starts: { StartsByComponent app };
 
     // And wherever the invariant holds, each link is good at both ends.
     ghost quiet: { (g : Graph) (bound : ℕ) → IsGraph g → length g.ids ≤ bound → IsQuiet app g bound (Inv g) };

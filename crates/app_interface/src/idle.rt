@@ -1,5 +1,5 @@
 // The application that does nothing.
-ghost use Rattle.std.specs.Prelude.{None, codes};
+ghost use Rattle.std.specs.Prelude.{None, codes, refl};
 ghost use Rattle.app_interface.specs.Idle.{idle, idle_from_text};
 ghost use Rattle.app_interface.specs.LawsOfIdle.{idle_cases, idle_keeps, idle_quiet, idle_word, one_idle_text};
 
@@ -39,7 +39,9 @@ impl Application for Idle {
 
     ghost one_word = { idle_word };
 
-    ghost keeps = { idle_keeps };
+    ghost keeps = { λ g bound are whole few. idle_keeps g bound are few };
+
+    ghost starts = { λ g i j are node reached. refl };
 
     ghost quiet = { idle_quiet };
 

@@ -1,4 +1,5 @@
 // Neighbour exclusion as an application.
+ghost use Rattle.std.specs.Prelude.{refl};
 ghost use Rattle.app_mutex.specs.Laws.{mutex_keeps};
 ghost use Rattle.app_mutex.specs.LawsOfLinks.{mutex_quiet};
 ghost use Rattle.app_mutex.specs.LocalText.{local_text, mutex_from_text};
@@ -43,7 +44,9 @@ impl Application for EdgeReversal {
 
     ghost one_word = { mutex_word };
 
-    ghost keeps = { mutex_keeps };
+    ghost keeps = { λ g bound are whole few. mutex_keeps g bound are few };
+
+    ghost starts = { λ g i j are node reached. refl };
 
     ghost quiet = { mutex_quiet };
 

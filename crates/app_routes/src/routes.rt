@@ -1,4 +1,5 @@
 // Routing tables as an application.
+ghost use Rattle.std.specs.Prelude.{refl};
 ghost use Rattle.app_routes.specs.Entries.{AreRoutes};
 ghost use Rattle.app_routes.specs.Laws.{routes_keep};
 ghost use Rattle.app_routes.specs.LawsOfLinks.{routes_quiet};
@@ -44,7 +45,9 @@ impl Application for Routes {
 
     ghost one_word = { routes_word };
 
-    ghost keeps = { routes_keep };
+    ghost keeps = { λ g bound are whole few. routes_keep g bound are few };
+
+    ghost starts = { λ g i j are node reached. refl };
 
     ghost quiet = { routes_quiet };
 

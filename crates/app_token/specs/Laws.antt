@@ -10,7 +10,10 @@ use Rattle.std.proofs.lemmas.Bool.{cases_eq}
 use Rattle.std.specs.Option.{option_map_or}
 use Rattle.std.proofs.lemmas.List.{get_or_default}
 use Rattle.std.proofs.lemmas.List.Sums.{sum_by-cons}
-use Rattle.topology.specs.Graph.{Graph, IsGraph, IsNode, AreLinked, Changes, are_linked, greatest, has}
+use Rattle.topology.specs.Components.{component, leader}
+use Rattle.topology.specs.Graph.{Graph, IsGraph, IsConnected, IsNode, IsReached, AreLinked, Changes, are_linked}
+use Rattle.topology.specs.Graph.{greatest, has}
+use Rattle.topology.proofs.Components.{connected_leader, part_leader, same_leader}
 use Rattle.app_interface.specs.Application.{Action, Fits, is_read, seen}
 use Rattle.app_interface.specs.Ids.{is_id}
 use Rattle.app_interface.specs.Invariant.{Keeps, SameAtNodes}
@@ -218,14 +221,15 @@ none_counted : (ids : List ℕ) → sum_by (λ k. 0) ids ≡ 0
 none_counted [] = refl
 none_counted (k ∷ ids) = omega (arith, sum_by-cons (λ k. 0) k ids, none_counted ids)
 
-starts : (g : Graph) → IsGraph g → HasOneToken g (token_start g)
-starts g are =
+starts : (g : Graph) → IsGraph g → IsConnected g → HasOneToken g (token_start g)
+starts g are whole =
     let top : length g.ids - 1 < length g.ids = omega (arith, are.some) in
     let node : IsNode g (greatest g) = (length g.ids - 1, top, get_or_default g.ids (length g.ids - 1) _ 0 top) in
-    let one : holders g (token_start g) + 0 ≡ sum_by (λ k. 0) g.ids + number_of (greatest g == greatest g) =
-    sum_at g are (λ k. 0) (λ k. number_of (k == greatest g)) (greatest g) node
-    (λ k at ne. ap number_of (ne_eqb k (greatest g) ne)) in
-    let itself : number_of (greatest g == greatest g) ≡ 1 = ap number_of (eq-eqb (greatest g) (greatest g) refl) in
+    let one : holders g (token_start g) + 0 ≡ sum_by (λ k. 0) g.ids + number_of (greatest g == leader g (greatest g)) =
+    sum_at g are (λ k. 0) (λ k. number_of (k == leader g k)) (greatest g) node
+    (λ k at ne. ap number_of (ne_eqb k (leader g k) (λ same. ne (same ∙ connected_leader g k are whole at)))) in
+    let itself : number_of (greatest g == leader g (greatest g)) ≡ 1 =
+    ap number_of (eq-eqb (greatest g) (leader g (greatest g)) (sym (connected_leader g (greatest g) are whole node))) in
     let row : (a : ℕ) → count_by (λ b. in_flight g (token_start g) a b) g.ids ≡ 0 =
     λ a. same_sum g (λ k. 0) (λ b. number_of (in_flight g (token_start g) a b))
     (λ b at. ap number_of (and-false (are_linked g a b))) ∙ none_counted g.ids in
@@ -247,9 +251,18 @@ same_token g v v' same inv =
     omega (arith, inv, held, flown)
 
 -- one token, at the start and after each action
-pub token_keeps : (g : Graph) (bound : ℕ) → IsGraph g → length g.ids ≤ bound → Keeps token g bound (HasOneToken g)
-token_keeps g bound are few = record {
+pub token_keeps : (g : Graph) (bound : ℕ) → IsGraph g → IsConnected g → length g.ids ≤ bound
+    → Keeps token g bound (HasOneToken g)
+token_keeps g bound are whole few = record {
   same = same_token g;
-  starts = starts g are;
+  starts = starts g are whole;
   acts = acts g are bound;
 }
+
+-- a node's leader is that of its component by itself
+pub token_starts : (g : Graph) (i j : ℕ) → IsGraph g → IsNode g i → IsReached g i j
+    → token_start (component g i) j ≡ token_start g j
+token_starts g i j are node reached =
+    let same : leader (component g i) j ≡ leader g j =
+    part_leader g i j are node reached ∙ sym (same_leader g i j are node reached) in
+    ap (λ k. record { hold = j == k; given = []; taken = [] }) same

@@ -10,7 +10,8 @@ use Rattle.app_interface.specs.declared.reads.Reads.{Reads}
 use Rattle.app_interface.specs.declared.reads.Reads.TheVariants.{Toward, One}
 use Rattle.app_interface.specs.declared.refusal.ClockRefusal.{ClockRefusal}
 use Rattle.app_interface.specs.declared.refusal.ClockRefusal.TheVariants.{NotEnabled}
-use Rattle.topology.specs.Graph.{Graph, leader}
+use Rattle.topology.specs.Components.{leader}
+use Rattle.topology.specs.Graph.{Graph}
 use Rattle.app_token.specs.Bits.{toggled}
 use Rattle.app_token.specs.TokenLinks.{is_in_flight, token_link_fault}
 use Rattle.app_token.specs.declared.local.TokenLocal.{TokenLocal}
@@ -51,7 +52,7 @@ token_reads case = if 1 == case then Some Toward else (if 2 == case then Some On
 abbrev pub token_names : ℕ → Option (List ℕ)
 token_names case = if 1 == case then Some (codes "pass") else (if 2 == case then Some (codes "take") else None)
 
--- the leader holds the token, and nothing is on its way
+-- a component's leader holds its token, and nothing is on its way
 abbrev pub token_start : Graph → ℕ → TokenLocal
 token_start g i = record { hold = i == leader g i; given = []; taken = [] }
 

@@ -1,5 +1,5 @@
 // Token passing as an application.
-ghost use Rattle.app_token.specs.Laws.{token_keeps};
+ghost use Rattle.app_token.specs.Laws.{token_keeps, token_starts};
 ghost use Rattle.app_token.specs.LocalText.{IsTokenLocal, local_text, token_from_text};
 ghost use Rattle.app_token.specs.OneToken.{HasOneToken};
 ghost use Rattle.app_token.specs.LawsOfText.{one_token_text, token_word};
@@ -18,8 +18,8 @@ use topology::Topology;
 // The cases are pass and take.
 const CASES: u8 = 2;
 
-/// Token passing. At the start the greatest node holds the token. Whatever the actions, one node
-/// holds it or it is on its way over one link.
+/// Token passing. At the start the greatest node of each component holds its token. Whatever the actions,
+/// one node of the component holds it or it is on its way over one link.
 pub struct Token;
 
 impl Application for Token {
@@ -45,6 +45,8 @@ impl Application for Token {
 
     ghost keeps = { token_keeps };
 
+    ghost starts = { token_starts };
+
     ghost quiet = { token_quiet };
 
     fn cases() -> u8 {
@@ -69,7 +71,7 @@ impl Application for Token {
         index: usize,
     ) -> Result<TokenLocal, AllocError> {
         let hold = match topology.id_at(index) {
-            Some(id) => id == topology.greatest(),
+            Some(id) => id == topology.greatest_of(index),
             None => false,
         };
         Ok(TokenLocal::start(alloc, hold))

@@ -8,14 +8,11 @@ use Rattle.std.proofs.lemmas.List.Sums.{AllPass-from_list_all}
 use Rattle.app_interface.specs.Ids.{is_id}
 use Rattle.topology.specs.Changing.{Reason, first_of, is_full, link_fault, strange_ends, unlink_fault, when, with_link}
 use Rattle.topology.specs.Changing.{without_link}
-use Rattle.topology.specs.Faults.{IsCutOff}
 use Rattle.topology.specs.Graph.{Graph, IsNode, are_linked, is_node}
-use Rattle.topology.specs.Reaching.{is_connected, is_reached}
 use Rattle.topology.specs.declared.fault.TopoFault.{TopoFault}
 use Rattle.topology.specs.declared.fault.TopoFault.TheVariants.{StrangeNode as StrangeEnd, SelfLink, TooManyLinks}
 use Rattle.topology.specs.declared.fault.TopoFault.TheVariants.{LinkIsThere as Doubled, NoSuchLink as Unlinked}
-use Rattle.topology.specs.declared.fault.TopoFault.TheVariants.{Disconnected, NoMemory as WantOfMemory}
-use Rattle.topology.proofs.Reaching.{walk_from_test}
+use Rattle.topology.specs.declared.fault.TopoFault.TheVariants.{NoMemory as WantOfMemory}
 use Rattle.tree_layer.specs.declared.regs.TreeRegs.{TreeRegs}
 use Rattle.wave_layer.specs.declared.regs.WaveRegs.{WaveRegs}
 use Rattle.reset_model.specs.Configuration.{Configuration, with_graph, with_local, with_tree, with_wave}
@@ -25,17 +22,7 @@ use Rattle.fault_inject.specs.declared.fault.Fault.{Fault}
 use Rattle.fault_inject.specs.declared.fault.Fault.TheVariants.{SetTree, SetWave, SetLocal, LinkDown, LinkUp}
 use Rattle.fault_inject.specs.declared.refusal.FaultRefusal.{FaultRefusal}
 use Rattle.fault_inject.specs.declared.refusal.FaultRefusal.TheVariants.{StrangeNode, BadValue, BadLocal, NoSuchLink}
-use Rattle.fault_inject.specs.declared.refusal.FaultRefusal.TheVariants.{LinkIsThere, WouldDisconnect, NoMemory}
-
--- a graph with a node that is cut off isn't connected
-apart : (g : Graph) (n : ℕ) → IsCutOff g n → is_connected g ≡ false
-unfolding is_connected
-apart g n cut =
-    false_from_ne_true _ (λ e.
-    cut.cut_off
-    (walk_from_test g (slice_index g.ids 0) (length g.ids) n
-    (All-contains (λ x. is_reached g (slice_index g.ids 0) x (length g.ids) ≡ true) g.ids n
-    (AllPass-from_list_all (λ x. is_reached g (slice_index g.ids 0) x (length g.ids)) g.ids e) cut.node)))
+use Rattle.fault_inject.specs.declared.refusal.FaultRefusal.TheVariants.{LinkIsThere, NoMemory}
 
 -- ---- the first refusal, and none
 
@@ -111,7 +98,6 @@ told (SelfLink n) = BadValue
 told TooManyLinks = BadValue
 told Doubled = LinkIsThere
 told Unlinked = NoSuchLink
-told (Disconnected n) = WouldDisconnect
 told f = NoMemory
 
 abbrev all_told : List (Reason TopoFault) → List (Reason FaultRefusal)
@@ -166,47 +152,21 @@ module _ {L : Type 0} (from_text : List ℕ → Option L) (c : Configuration L) 
       (first_told (up_faults c.graph a b) [] ∙ ap (λ o. told_or o None) (ap (λ h. link_fault h a b) (sym same) ∙ is))
       (made ∙ ap (λ h. with_graph c h) whole)
 
-  abbrev cut : List (Reason FaultRefusal)
-  cut = when (not (is_connected (without_link c.graph a b))) WouldDisconnect ∷ []
-
-  down_first : (o : Option TopoFault) → unlink_fault c.graph a b ≡ o
-      → first_of (refusals from_text c (LinkDown a b)) ≡ told_or o (first_of cut)
-  down_first o is = first_told (down_faults c.graph a b) cut ∙ ap (λ p. told_or p (first_of cut)) is
-
   pub down_refused : (g : Graph) (f : TopoFault) → g ≡ c.graph → is_memory f ≡ false
       → (f ≢ WantOfMemory → unlink_fault g a b ≡ Some f)
       → injected from_text c (LinkDown a b) ≡ Err (told f)
   down_refused g f same other is =
       refused from_text c (LinkDown a b) (told f)
-      (down_first (Some f) (ap (λ h. unlink_fault h a b) (sym same) ∙ is (other_fault f other)))
-
-  abbrev first_cut : (connected : Bool) → connected ≡ false
-      → first_of (when (not connected) WouldDisconnect ∷ []) ≡ Some WouldDisconnect
-  first_cut false e = refl
-  first_cut true e = absurd (true≢false e)
-
-  abbrev no_cut : (connected : Bool) → connected ≡ true → first_of (when (not connected) WouldDisconnect ∷ []) ≡ None
-  no_cut true e = refl
-  no_cut false e = absurd (true≢false (sym e))
-
-  pub down_apart : (g : Graph) (n : ℕ) → g ≡ c.graph
-      → (Disconnected n ≢ WantOfMemory → (unlink_fault g a b ≡ None) × IsCutOff (without_link g a b) n)
-      → injected from_text c (LinkDown a b) ≡ Err WouldDisconnect
-  down_apart g n same is =
-      let told = is (other_fault (Disconnected n) refl) in
-      let off : IsCutOff (without_link c.graph a b) n = subst (λ h. IsCutOff (without_link h a b) n) same told.1 in
-      refused from_text c (LinkDown a b) WouldDisconnect
-      (down_first None (ap (λ h. unlink_fault h a b) (sym same) ∙ told.0)
-      ∙ first_cut (is_connected (without_link c.graph a b)) (apart (without_link c.graph a b) n off))
+      (first_told (down_faults c.graph a b) []
+      ∙ ap (λ o. told_or o None) (ap (λ h. unlink_fault h a b) (sym same) ∙ is (other_fault f other)))
 
   pub down_put : (g changed : Graph) (new : Configuration L) → g ≡ c.graph → unlink_fault g a b ≡ None
       → changed ≡ without_link g a b
-      → is_connected changed ≡ true → new ≡ with_graph c changed → injected from_text c (LinkDown a b) ≡ Ok new
-  down_put g changed new same is unlinked whole made =
+      → new ≡ with_graph c changed → injected from_text c (LinkDown a b) ≡ Ok new
+  down_put g changed new same is unlinked made =
       let gone : changed ≡ without_link c.graph a b = unlinked ∙ ap (λ h. without_link h a b) same in
       allowed from_text c (LinkDown a b) new
-      (down_first None (ap (λ h. unlink_fault h a b) (sym same) ∙ is)
-      ∙ no_cut (is_connected (without_link c.graph a b)) (ap is_connected (sym gone) ∙ whole))
+      (first_told (down_faults c.graph a b) [] ∙ ap (λ o. told_or o None) (ap (λ h. unlink_fault h a b) (sym same) ∙ is))
       (made ∙ ap (λ h. with_graph c h) gone)
 
   -- where the topology was put, or memory was wanting

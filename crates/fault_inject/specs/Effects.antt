@@ -5,13 +5,12 @@ use Rattle.std.specs.Option.{is_none}
 use Rattle.app_interface.specs.Ids.{is_id}
 use Rattle.topology.specs.Changing.{Reason, first_of, is_full, when, with_link, without_link}
 use Rattle.topology.specs.Graph.{are_linked, is_node}
-use Rattle.topology.specs.Reaching.{is_connected}
 use Rattle.reset_model.specs.Configuration.{Configuration, with_graph, with_local, with_tree, with_wave}
 use Rattle.fault_inject.specs.declared.fault.Fault.{Fault}
 use Rattle.fault_inject.specs.declared.fault.Fault.TheVariants.{SetTree, SetWave, SetLocal, LinkDown, LinkUp}
 use Rattle.fault_inject.specs.declared.refusal.FaultRefusal.{FaultRefusal}
 use Rattle.fault_inject.specs.declared.refusal.FaultRefusal.TheVariants.{StrangeNode, BadValue, BadLocal, NoSuchLink}
-use Rattle.fault_inject.specs.declared.refusal.FaultRefusal.TheVariants.{LinkIsThere, WouldDisconnect}
+use Rattle.fault_inject.specs.declared.refusal.FaultRefusal.TheVariants.{LinkIsThere}
 
 -- there is no node i
 abbrev pub strange : {L : Type 0} → Configuration L → ℕ → Reason FaultRefusal
@@ -24,8 +23,7 @@ refusals from_text c (SetWave at regs) = strange c at ∷ []
 refusals from_text c (SetLocal at text) =
     strange c at ∷ when (nat_lt 200 (length text) || is_none (from_text text)) BadLocal ∷ []
 refusals from_text c (LinkDown a b) =
-    strange c a ∷ strange c b ∷ when (not (are_linked c.graph a b)) NoSuchLink
-    ∷ when (not (is_connected (without_link c.graph a b))) WouldDisconnect ∷ []
+    strange c a ∷ strange c b ∷ when (not (are_linked c.graph a b)) NoSuchLink ∷ []
 refusals from_text c (LinkUp a b) =
     strange c a ∷ strange c b ∷ when (a == b) BadValue ∷ when (are_linked c.graph a b) LinkIsThere
     ∷ when (is_full c.graph) BadValue ∷ []
@@ -54,8 +52,7 @@ abbrev unless : {L : Type 0} → Option FaultRefusal → Configuration L → Res
 unless None c = Ok c
 unless (Some refusal) c = Err refusal
 
--- what comes of a fault: what it leaves, or the first refusal. It stays folded: unfolded, it has the search for a
--- connection
+-- what comes of a fault: what it leaves, or the first refusal
 unfoldable pub injected : {L : Type 0} → (List ℕ → Option L) → Configuration L → Fault
     → Result (Configuration L) FaultRefusal
 injected from_text c f = unless (first_of (refusals from_text c f)) (damaged from_text c f)

@@ -12,7 +12,7 @@ use crate::refusal::FaultRefusal;
 use app_interface::{Application, LocalFault};
 use reset_machine::Config;
 use std::alloc::Global;
-use topology::{NodeId, TopoFault, Topology, connected_is_tested};
+use topology::{NodeId, TopoFault, Topology};
 use tree_layer::TreeRegs;
 use wave_layer::WaveRegs;
 
@@ -133,15 +133,10 @@ fn link_down<P: Application>(
         (λ f. f ≢ FaultRefusal.NoMemory → injected P.from_text config.old (LinkDown a b) ≡ Err f) }
     ensures kept { OnErr result (config.new ≡ config.old) }
 {
-    connected_is_tested();
     match config.topology().without_link(alloc, a, b) {
-        Ok(changed) => {
-            changed.lemma_is_graph();
-            put_changed(alloc, config, changed)
-        }
+        Ok(changed) => put_changed(alloc, config, changed),
         Err(TopoFault::StrangeNode(_)) => Err(FaultRefusal::StrangeNode),
         Err(TopoFault::NoSuchLink) => Err(FaultRefusal::NoSuchLink),
-        Err(TopoFault::Disconnected(_)) => Err(FaultRefusal::WouldDisconnect),
         Err(_) => Err(FaultRefusal::NoMemory),
     }
 }

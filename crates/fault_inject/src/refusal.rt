@@ -14,8 +14,6 @@ pub enum FaultRefusal {
     NoSuchLink,
     /// The link that would come up is there.
     LinkIsThere,
-    /// Without the link some node couldn't be reached.
-    WouldDisconnect,
     /// Memory is wanting.
     NoMemory,
 }

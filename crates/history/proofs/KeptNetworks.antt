@@ -1,4 +1,4 @@
--- Entries leave a network where there was one: a connected graph, whose nodes have their registers and local states.
+-- Entries leave a network where there was one: a graph, whose nodes have their registers and local states.
 use Rattle.std.proofs.Common.{◌≡◌, ◌≢◌, ℕ, ◌==◌, ◌&&◌, ◌||◌, not, Bool, true, false, cond, List, [], ◌∷◌}
 use Rattle.std.proofs.Common.{length, Option, Some, None, Result, Ok, Err, ◌⊎◌, inl, inr, ⊎_elim}
 use Rattle.std.proofs.Common.{refl, sym, ap, ap₂, subst, ◌∙◌}
@@ -8,13 +8,10 @@ use Rattle.std.proofs.lemmas.Bool.{and_parts, both_ways, eq-eqb, or_cases, or_le
 use Rattle.app_interface.specs.Application.{App}
 use Rattle.topology.specs.Building.{joins}
 use Rattle.topology.specs.Changing.{Reason, first_of, with_link, without_link}
-use Rattle.topology.specs.Graph.{AreLinked, Graph, IsConnected, IsGraph, IsNode, are_linked, is_node}
-use Rattle.topology.specs.Reaching.{is_connected}
+use Rattle.topology.specs.Graph.{AreLinked, Graph, IsGraph, IsNode, are_linked, is_node}
 use Rattle.topology.proofs.Changed.{has_fewer, has_more}
 use Rattle.topology.proofs.Inserting.{joins_back, joins_ends}
 use Rattle.topology.proofs.Membership.{Contains-has}
-use Rattle.topology.proofs.Reaching.{connected_is_tested}
-use Rattle.topology.proofs.Walks.{walk_of_other}
 use Rattle.reset_model.specs.Configuration.{Configuration, IsShaped, with_graph}
 use Rattle.reset_model.specs.Planned.{Outcome, outcome_of}
 use Rattle.reset_model.specs.declared.event.Event.{Event}
@@ -30,10 +27,9 @@ use Rattle.history.specs.declared.entry.Entry.{Entry}
 use Rattle.history.specs.declared.entry.Entry.TheVariants.{Step, Disturbed}
 use Rattle.history.specs.Entries.{entered, left_by_fault, left_by_step, replayed}
 
--- a configuration of a connected graph, in which each node has its registers and its local state
+-- a configuration of a graph, in which each node has its registers and its local state
 pub record IsNetwork {L : Type 0} (c : Configuration L) : Type 0 where
   pub graph : IsGraph c.graph
-  pub whole : IsConnected c.graph
   pub shaped : IsShaped c
 
 -- ---- one link more or less
@@ -86,14 +82,6 @@ module _ (g : Graph) (a b : ℕ) where
             (is_old_or_new x y e);
       }
 
-      whole_more : IsConnected g → IsConnected (with_link g a b)
-      whole_more whole x y x_in y_in =
-          let walk = whole x y x_in y_in in (
-            walk.0,
-            walk_of_other g (with_link g a b)
-                (λ v w e. linked_more v w ∙ or_left (are_linked g v w) (joins v w (a, b)) e) x y walk.0 walk.1,
-          )
-
 -- ---- faults
 
 -- where the first reason that holds is none, none of them holds
@@ -123,7 +111,6 @@ module _ {L : Type 0} (from_text : List ℕ → Option L) (c : Configuration L) 
   with_read_network at None = network
   with_read_network at (Some local) = record {
     graph = graph;
-    whole = network.whole;
     shaped = record {
       modulus = shaped.modulus;
       trees = shaped.trees;
@@ -133,10 +120,9 @@ module _ {L : Type 0} (from_text : List ℕ → Option L) (c : Configuration L) 
   }
 
   -- a configuration with the same nodes has the same shape
-  other_links : (g : Graph) → g.ids ≡ c.graph.ids → IsGraph g → IsConnected g → IsNetwork (with_graph c g)
-  other_links g same are whole = record {
+  other_links : (g : Graph) → g.ids ≡ c.graph.ids → IsGraph g → IsNetwork (with_graph c g)
+  other_links g same are = record {
     graph = are;
-    whole = whole;
     shaped = record {
       modulus = shaped.modulus;
       trees = shaped.trees ∙ ap length (sym same);
@@ -151,7 +137,6 @@ module _ {L : Type 0} (from_text : List ℕ → Option L) (c : Configuration L) 
   damaged_network : (f : Fault) → first_of (refusals from_text c f) ≡ None → IsNetwork (damaged from_text c f)
   damaged_network (SetTree at regs) none = record {
     graph = graph;
-    whole = network.whole;
     shaped = record {
       modulus = shaped.modulus;
       trees = length-put_at c.graph.ids c.trees at regs shaped.trees;
@@ -161,7 +146,6 @@ module _ {L : Type 0} (from_text : List ℕ → Option L) (c : Configuration L) 
   }
   damaged_network (SetWave at regs) none = record {
     graph = graph;
-    whole = network.whole;
     shaped = record {
       modulus = shaped.modulus;
       trees = shaped.trees;
@@ -171,18 +155,13 @@ module _ {L : Type 0} (from_text : List ℕ → Option L) (c : Configuration L) 
   }
   damaged_network (SetLocal at text) none = with_read_network at (from_text text)
   damaged_network (LinkDown a b) none =
-      let holds = none_holds (refusals from_text c (LinkDown a b)) none in
-      let less = graph_less c.graph a b graph in
-      other_links (without_link c.graph a b) refl less
-      ((connected_is_tested (without_link c.graph a b) less).0
-      (not_false (is_connected (without_link c.graph a b)) holds.1.1.1.0))
+      other_links (without_link c.graph a b) refl (graph_less c.graph a b graph)
   damaged_network (LinkUp a b) none =
       let holds = none_holds (refusals from_text c (LinkUp a b)) none in
       let node_a = is_there a holds.0 in
       let node_b = is_there b holds.1.0 in
       let other : a ≢ b = λ same. both_ways (a == b) holds.1.1.0 (eq-eqb a b same) in
       other_links (with_link c.graph a b) refl (graph_more c.graph a b graph node_a node_b other)
-      (whole_more c.graph a b graph node_a node_b other network.whole)
 
   injected_network : (f : Fault) (left : Configuration L) → injected from_text c f ≡ Ok left → IsNetwork left
   unfolding injected
@@ -207,7 +186,6 @@ module _ {L : Type 0} (app : App L) where
       let same = step_graph app c left e step in
       record {
         graph = subst IsGraph (sym same) network.graph;
-        whole = subst IsConnected (sym same) network.whole;
         shaped = outcome_shaped app c network.shaped e left reply is;
       }
 

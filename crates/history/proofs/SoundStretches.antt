@@ -2,9 +2,9 @@
 use Rattle.std.proofs.Common.{◌≡◌, ℕ, ◌<◌, ◌≤◌, List, [], ◌∷◌, length, All, Option, Some, sym, subst}
 use Rattle.std.proofs.lemmas.List.Elements.{All-cons, All-nil}
 use Rattle.app_interface.specs.Application.{App}
-use Rattle.app_interface.specs.Invariant.{Keeps}
-use Rattle.topology.specs.Graph.{Graph, IsGraph, node_bound}
-use Rattle.reset_model.specs.Completion.{is_open, times}
+use Rattle.app_interface.specs.Invariant.{Keeps, StartsByComponent}
+use Rattle.topology.specs.Graph.{Graph, IsConnected, IsGraph, node_bound}
+use Rattle.reset_model.specs.Completion.{is_open_at, times}
 use Rattle.reset_model.specs.Configuration.{Configuration}
 use Rattle.reset_model.specs.Refinement.{IsAbstractRun, abstract_of}
 use Rattle.reset_model.specs.Sound.{IsSound, Repairs}
@@ -33,10 +33,11 @@ quiet_events app from_text (e ∷ events) c left network sound is =
     (step_sound app c first.after e network.graph step sound) first.rest)
 
 pub sound_stretch : {L : Type 0} (app : App L) (Inv : Graph → (ℕ → L) → Type 0)
-    → ((g : Graph) (bound : ℕ) → IsGraph g → length g.ids ≤ bound → Keeps app g bound (Inv g))
+    → StartsByComponent app
+    → ((g : Graph) (bound : ℕ) → IsGraph g → IsConnected g → length g.ids ≤ bound → Keeps app g bound (Inv g))
     → (from_text : List ℕ → Option L) (opening : Configuration L) (es : List Entry) (s : Stretch L)
     → IsNetwork opening → IsStretch app from_text opening es s → IsSound s.here → IsSoundStretch app Inv s
-sound_stretch app Inv keeps from_text opening es s network is sound =
+sound_stretch app Inv starts keeps from_text opening es s network is sound =
     let done = all_done app from_text s.events s.here s.left is.ends in
     let here = here_network app from_text opening network es s is sound in
     record {
@@ -44,9 +45,10 @@ sound_stretch app Inv keeps from_text opening es s network is sound =
       quiet = quiet_events app from_text s.events s.here s.left here sound is.ends;
       refines = subst (λ ss. IsAbstractRun app s.here.graph (node_bound s.here.graph) ss (abstract_of app s.here)
           (abstract_of app s.left)) done.shadows
-          (run_shadow app s.events done.answers s.here s.left here.graph here.whole here.shaped sound done.run);
-      invariant = invariant_kept app Inv keeps s.here s.left s.events done.answers here.graph here.whole here.shaped
+          (run_shadow app s.events done.answers s.here s.left here.graph here.shaped sound done.run);
+      invariant = invariant_kept app Inv starts keeps s.here s.left s.events done.answers here.graph here.shaped
           sound done.run;
-      restored = λ some. invariant_opened app Inv keeps s.here s.left s.events done.answers here.graph here.whole
-          here.shaped sound done.run (subst (λ xs. 0 < times is_open xs) (sym done.all) some);
+      restored = λ i node o reached some. invariant_opened app Inv starts keeps s.here s.left s.events done.answers
+          here.graph here.shaped sound done.run i node o reached
+          (subst (λ xs. 0 < times (is_open_at o) xs) (sym done.all) some);
     }

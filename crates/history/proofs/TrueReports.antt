@@ -5,6 +5,7 @@ use Rattle.std.proofs.lemmas.List.{length-append, length-map}
 use Rattle.std.proofs.lemmas.List.Elements.{All-contains_itself, All-weaker}
 use Rattle.app_interface.specs.Application.{App}
 use Rattle.topology.specs.Graph.{Graph}
+use Rattle.topology.proofs.Components.{reached_itself}
 use Rattle.reset_model.specs.Completion.{JoinsOnce, is_open_at, times}
 use Rattle.reset_model.specs.Configuration.{Configuration, local_of, tree_of, wave_of}
 use Rattle.reset_model.specs.Planned.{outcome_of}
@@ -76,9 +77,10 @@ once_between : {L : Type 0} (app : App L) (from_text : List ℕ → Option L) (c
 once_between app from_text c after here left top session reply since network sound opens on unopened finishes =
     let done = all_done app from_text since after here on in
     subst (JoinsOnce c.graph top) done.all
-    (joins_once app c after here left top top session reply since done.answers network.graph network.whole
-    network.shaped sound opens done.run
-    (subst (λ events. times (is_open_at top) events ≡ 0) (sym done.all) unopened) finishes).1
+    (joins_once app c after here left top top session reply since done.answers network.graph network.shaped sound
+    opens done.run
+    (subst (λ events. times (is_open_at top) events ≡ 0) (sym done.all) unopened) finishes
+    (reached_itself c.graph top)).1
 
 module _ {L : Type 0} (app : App L) (from_text : List ℕ → Option L) (opening : Configuration L)
     (network : IsNetwork opening) (es : List Entry) (s : Stretch L) (is : IsStretch app from_text opening es s)
@@ -101,11 +103,11 @@ module _ {L : Type 0} (app : App L) (from_text : List ℕ → Option L) (opening
         sound_place app from_text opening network es s is sound told.before (Step (Finish top) ∷ told.rest)
         told.here told.split told.allowed (omega (arith, inside.0, told.place)) (omega (arith, inside.1, told.place))
 
-    complete : IsComplete left r.number
+    complete : IsComplete left top r.number
     complete =
         let step = outcome_is_step app told.here place.network.graph place.network.shaped (Finish top) left
         (Complete r.number) told.outcome in
-        step_complete app told.here left (Finish top) r.number place.network.graph place.network.whole step.0
+        step_complete app told.here left (Finish top) r.number place.network.graph step.0
         place.sound (sym step.1)
 
     left_graph : left.graph ≡ s.here.graph

@@ -1,16 +1,17 @@
 -- Stretches of a history in which no fault was done: what they do to the application, and what their reports mean.
 use Rattle.std.specs.Prelude.{◌≡◌, ℕ, ◌+◌, ◌<◌, ◌≤◌, List, [], ◌∷◌, ◌++◌, map, length, All, Option, Some, None, Ok}
 use Rattle.app_interface.specs.Application.{App}
-use Rattle.topology.specs.Graph.{Graph, node_bound}
+use Rattle.topology.specs.Graph.{Graph, IsNode, IsReached, node_bound}
 use Rattle.reset_model.specs.declared.event.Event.{Event}
 use Rattle.reset_model.specs.declared.event.Event.TheVariants.{Finish, Join, Open}
 use Rattle.reset_model.specs.declared.step.Reply.{Reply}
 use Rattle.reset_model.specs.declared.step.Reply.TheVariants.{Complete}
-use Rattle.reset_model.specs.Completion.{JoinsOnce, is_open, is_open_at, times}
+use Rattle.reset_model.specs.Completion.{JoinsOnce, is_open_at, times}
 use Rattle.reset_model.specs.Configuration.{Configuration, local_of}
 use Rattle.reset_model.specs.Planned.{outcome_of}
 use Rattle.reset_model.specs.Refinement.{AbstractStep, IsAbstractRun, abstract_of, left_of, shadow_of}
 use Rattle.reset_model.specs.Sound.{IsComplete, IsSound, Repairs}
+use Rattle.reset_model.specs.SoundSteps.{HoldsAt}
 use Rattle.reset_model.specs.Steps.{event_node}
 use Rattle.fault_inject.specs.declared.fault.Fault.{Fault}
 use Rattle.history.specs.declared.entry.Entry.{Entry}
@@ -50,18 +51,20 @@ abbrev pub shadow_of_events : {L : Type 0} → App L → Configuration L → Lis
 shadow_of_events app c [] = []
 shadow_of_events app c (e ∷ es) = shadow_of c e ++ shadow_of_events app (left_of c (outcome_of app c e)) es
 
--- what a stretch from sound registers on keeps and does, where Inv is a fact of the application's states that holds at
--- the start and that each action keeps
+-- what a stretch from sound registers on keeps and does, where Inv is a fact of the states of a connected graph that
+-- holds at the start and that each action keeps
 pub record IsSoundStretch {L : Type 0} (app : App L) (Inv : Graph → (ℕ → L) → Type 0) (s : Stretch L) : Type 0 where
   -- sound registers stay sound, and nothing in them is repaired
   pub sound : IsSound s.left
   pub quiet : All (λ e. Repairs e → ⊥) s.events
-  -- on the abstract machine all nodes restart at once where a session opens, and the nodes that have joined act
+  -- on the abstract machine all nodes of a component restart at once where a session opens, and the nodes that have
+  -- joined act
   pub refines : IsAbstractRun app s.here.graph (node_bound s.here.graph) (shadow_of_events app s.here s.events)
       (abstract_of app s.here) (abstract_of app s.left)
-  -- the fact holds on, and it holds after an opening in any case
-  pub invariant : Inv s.here.graph (abstract_of app s.here) → Inv s.left.graph (abstract_of app s.left)
-  pub restored : 0 < times is_open s.events → Inv s.left.graph (abstract_of app s.left)
+  -- the fact holds on, and after an opening in a component it holds there in any case
+  pub invariant : (i : ℕ) → IsNode s.here.graph i → HoldsAt app Inv s.here i → HoldsAt app Inv s.left i
+  pub restored : (i : ℕ) → IsNode s.here.graph i → (o : ℕ) → IsReached s.here.graph i o
+      → 0 < times (is_open_at o) s.events → HoldsAt app Inv s.left i
 
 -- ---- reports
 
@@ -94,8 +97,8 @@ pub record IsReport {L : Type 0} (app : App L) (from_text : List ℕ → Option 
   pub told : IsApplied app from_text opening es r.finished event (Complete r.number) left
   pub opened : IsLatestOpening (event_node event) told.before r.opened
 
--- between these two positions the node top opened a session and finished it, nobody else opened one, each other node
--- joined it exactly once, and right after it joined it had its start state
+-- between these two positions the node top opened a session and finished it, nobody else of its component opened one,
+-- each other node there joined it exactly once, and right after a node joined it had its start state
 pub record IsJoined {L : Type 0} (app : App L) (from_text : List ℕ → Option L) (opening : Configuration L)
     (es : List Entry) (g : Graph) (top opened finished : ℕ) : Type 0 where
   pub before : List Entry
@@ -115,9 +118,9 @@ pub record IsTrueReport {L : Type 0} (app : App L) (from_text : List ℕ → Opt
   pub top : ℕ
   pub left : Configuration L
   pub told : IsApplied app from_text opening es r.finished (Finish top) (Complete r.number) left
-  -- right after it every node is in the session, and none is reset
-  pub complete : IsComplete left r.number
-  -- where the stretch has the opening, each other node joined since
+  -- right after it every node of its component is in the session, and none is reset
+  pub complete : IsComplete left top r.number
+  -- where the stretch has the opening, each other node of the component joined since
   pub joined : (position : ℕ) → r.opened ≡ Some position → length s.before < position
       → IsJoined app from_text opening es left.graph top position r.finished
   -- where it has not, it has none at that node up to there

@@ -2,7 +2,7 @@
 
 ghost use Rattle.std.specs.Prelude.{◌≡◌, ◌↔◌, ◌++◌, ℕ, List, All, Contains, IsSome, Some, map};
 ghost use Rattle.std.specs.List.Sorted.{IsStrictlyIncreasing};
-ghost use Rattle.topology.specs.Graph.{IsConnected, IsGraph};
+ghost use Rattle.topology.specs.Graph.{IsGraph};
 ghost use Rattle.reset_model.specs.declared.event.Event.{Event};
 ghost use Rattle.reset_model.specs.declared.step.Reply.TheVariants.{Complete};
 ghost use Rattle.reset_model.specs.Configuration.{Configuration, IsShaped};
@@ -29,12 +29,11 @@ pub fn reports_are_completions<P: Application>()
         → IsStrictlyIncreasing (map (λ r. r.finished) (reports_of P.app P.from_text opening es)) }
 {}
 
-/// Whatever entries are allowed, faults among them, a connected graph stays one, and no node loses its
-/// registers or its local state.
-pub fn replays_stay_connected<P: Application>()
-    ensures { (c left : Configuration P.Local) (es : List Entry) → IsGraph c.graph → IsConnected c.graph → IsShaped c
-        → replayed P.app P.from_text c es ≡ Some left
-        → IsGraph left.graph × IsConnected left.graph × IsShaped left }
+/// Whatever entries are allowed, faults among them, a graph stays one, and no node loses its registers or
+/// its local state.
+pub fn replays_stay_shaped<P: Application>()
+    ensures { (c left : Configuration P.Local) (es : List Entry) → IsGraph c.graph → IsShaped c
+        → replayed P.app P.from_text c es ≡ Some left → IsGraph left.graph × IsShaped left }
 {}
 
 /// Where all entries are allowed, the events between two faults are an undisturbed stretch, and so is each
@@ -47,19 +46,20 @@ pub fn undisturbed_parts_are_stretches<P: Application>()
 {}
 
 /// From sound registers on, an undisturbed stretch is a run of the abstract machine, which keeps the
-/// application's invariant, and has it once a session opens. Nothing is repaired in it.
+/// application's invariant in each component, and has it there once a session opens. Nothing is repaired in it.
 pub fn stretches_refine<P: Application>()
     ensures { (opening : Configuration P.Local) (es : List Entry) (s : Stretch P.Local)
-        → IsGraph opening.graph → IsConnected opening.graph → IsShaped opening
+        → IsGraph opening.graph → IsShaped opening
         → IsStretch P.app P.from_text opening es s → IsSound s.here → IsSoundStretch P.app P.Inv s }
 {}
 
 /// Each report of an undisturbed stretch that begins in sound registers is true: right after it every node
-/// is in its session and none is reset. Where the stretch has the opening, nobody opened another session
-/// in between, and each other node joined exactly once and had its start state right after it joined.
+/// of its component is in its session and none is reset. Where the stretch has the opening, nobody there
+/// opened another session in between, and each other node there joined exactly once and had its start state
+/// right after it joined.
 pub fn reports_are_true<P: Application>()
     ensures { (opening : Configuration P.Local) (es : List Entry) (s : Stretch P.Local)
-        → IsGraph opening.graph → IsConnected opening.graph → IsShaped opening
+        → IsGraph opening.graph → IsShaped opening
         → IsStretch P.app P.from_text opening es s → IsSound s.here
         → All (λ r. IsIn s r.finished → IsTrueReport P.app P.from_text opening es s r)
         (reports_of P.app P.from_text opening es) }

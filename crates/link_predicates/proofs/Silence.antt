@@ -6,7 +6,8 @@ use Rattle.std.proofs.lemmas.Bool.{eq-eqb}
 use Rattle.std.proofs.lemmas.Bool.Decides.{eqb_tells}
 use Rattle.std.proofs.lemmas.List.Folds.{find-append}
 use Rattle.app_interface.specs.Application.{App}
-use Rattle.topology.specs.Graph.{AreLinked, are_linked, neighbours_of}
+use Rattle.topology.specs.Graph.{AreLinked, IsGraph, are_linked, neighbours_of}
+use Rattle.topology.proofs.Components.{same_leader}
 use Rattle.reset_model.specs.Configuration.{Configuration, local_of, wave_of}
 use Rattle.reset_model.specs.Refinement.{abstract_of}
 use Rattle.reset_model.specs.View.{near_of}
@@ -35,7 +36,7 @@ module _ {L : Type 0} (app : App L) (c : Configuration L) where
   joined_local : (i : ℕ) → HasJoined c.graph (wave_of c) i → abstract i ≡ local_of app c i
   joined_local i joined = ap (λ b. cond b (local_of app c i) (app.start c.graph i)) (eq-eqb _ _ joined)
 
-  module _ (i : ℕ) (joined : HasJoined c.graph (wave_of c) i)
+  module _ (graph : IsGraph c.graph) (i : ℕ) (joined : HasJoined c.graph (wave_of c) i)
       (quiet : (j : ℕ) → AreLinked c.graph i j → app.link_fault i c.graph.bound (abstract i) j (abstract j) ≡ None)
     where
       silent_row : (j : ℕ) → AreLinked c.graph i j
@@ -53,7 +54,10 @@ module _ {L : Type 0} (app : App L) (c : Configuration L) where
               ap (λ b. cond b (app.link_fault i c.graph.bound (local_of app c i) j (local_of app c j)) None) same.0
               ∙ ap (λ own. app.link_fault i c.graph.bound own j (local_of app c j)) (sym (joined_local i joined))
               ∙ ap (λ theirs. app.link_fault i c.graph.bound (abstract i) j theirs)
-              (sym (joined_local j (sym same.1 ∙ joined)))
+              (sym (joined_local j
+              (sym same.1 ∙ joined
+              ∙ ap (λ k. (wave_of c k).session)
+              (sym (same_leader c.graph i j graph (graph.ends i j linked) (j ∷ [], (linked, refl)))))))
               ∙ quiet j linked
 
       pub silent : alarm_of app c i ≡ None

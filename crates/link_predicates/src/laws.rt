@@ -1,13 +1,13 @@
 // Laws of the checker and of the alarm.
 
 ghost use Rattle.std.specs.Prelude.{◌≡◌, ◌<◌, ◌↔◌, ℕ, List, None};
-ghost use Rattle.topology.specs.Graph.{IsConnected, IsGraph};
+ghost use Rattle.topology.specs.Graph.{IsGraph, IsReached};
 ghost use Rattle.tree_layer.specs.TreePicture.{TreePicture};
-ghost use Rattle.reset_model.specs.Completion.{applied, is_open, times};
+ghost use Rattle.reset_model.specs.Completion.{applied, is_open_at, times};
 ghost use Rattle.reset_model.specs.Configuration.{Configuration, IsShaped, tree_of, wave_of};
-ghost use Rattle.reset_model.specs.Refinement.{abstract_of};
 ghost use Rattle.reset_model.specs.Runs.{IsRun};
 ghost use Rattle.reset_model.specs.Sound.{IsSound};
+ghost use Rattle.reset_model.specs.SoundSteps.{HoldsAt};
 ghost use Rattle.reset_model.specs.WavePicture.{HasJoined, WavePicture};
 ghost use Rattle.reset_model.specs.declared.event.Event.{Event};
 ghost use Rattle.reset_model.specs.declared.step.Done.{Done};
@@ -25,7 +25,7 @@ pub fn faultless_is_sound<P: Application>()
 
 /// No fault of the tree or of the wave is told exactly where both pictures hold.
 pub fn faultless_is_pictured<P: Application>()
-    ensures { (c : Configuration P.Local) → IsGraph c.graph → IsConnected c.graph
+    ensures { (c : Configuration P.Local) → IsGraph c.graph
         → (AreOfApp (faults P.app c)
         ↔ (TreePicture c.graph (tree_of c) × WavePicture c.graph c.modulus (tree_of c) (wave_of c))) }
 {
@@ -34,14 +34,14 @@ pub fn faultless_is_pictured<P: Application>()
     wave_pictures();
 }
 
-/// Wherever the application's invariant holds of the abstract state, no node that has joined has an
-/// alarm. So it is, from a sound configuration on, once a session was opened.
+/// Wherever the application's invariant holds of the abstract state of a component, no node of it that has
+/// joined has an alarm. So it is, from a sound configuration on, once a session was opened there.
 pub fn joined_are_silent<P: Application>()
-    ensures invariant { (c : Configuration P.Local) (i : ℕ) → IsGraph c.graph → P.Inv c.graph (abstract_of P.app c)
+    ensures invariant { (c : Configuration P.Local) (i : ℕ) → IsGraph c.graph → HoldsAt P.app P.Inv c i
         → HasJoined c.graph (wave_of c) i → alarm_of P.app c i ≡ None }
-    ensures opened { (c c' : Configuration P.Local) (es : List Event) (ds : List Done) (i : ℕ) → IsGraph c.graph
-        → IsConnected c.graph
-        → IsShaped c → IsSound c → IsRun P.app c es ds c' → 0 < times is_open (applied es ds)
+    ensures opened { (c c' : Configuration P.Local) (es : List Event) (ds : List Done) (i o : ℕ) → IsGraph c.graph
+        → IsShaped c → IsSound c → IsRun P.app c es ds c'
+        → IsReached c.graph i o → 0 < times (is_open_at o) (applied es ds)
         → HasJoined c'.graph (wave_of c') i → alarm_of P.app c' i ≡ None }
 {
     invariants::<P>();

@@ -10,6 +10,7 @@ pub mod StepShadows
 pub mod NearSeen
 pub mod Standings
 pub mod Locality
+mod LedNodes
 pub mod ReadyLists
 pub mod Doubting
 pub mod Writing

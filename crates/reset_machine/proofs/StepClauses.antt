@@ -5,7 +5,7 @@ use Rattle.std.proofs.Common.{IfSome, Result, Ok, Err, IfOk, IfErr, MatchResult,
 use Rattle.std.proofs.lemmas.List.{map-append}
 use Rattle.std.proofs.lemmas.Option.{slice_get-get_or}
 use Rattle.app_interface.specs.Application.{App}
-use Rattle.topology.specs.Graph.{IsConnected, IsGraph, node_bound}
+use Rattle.topology.specs.Graph.{IsGraph, node_bound}
 use Rattle.wave_layer.specs.declared.regs.WaveMove.{WaveMove}
 use Rattle.reset_model.specs.declared.event.Event.{Event}
 use Rattle.reset_model.specs.declared.event.Event.TheVariants.{Claim, Follow, Adopt, Request, Relay, Open, Join, Finish}
@@ -84,12 +84,12 @@ module _ {L : Type 0} (app : App L) (c c' : Configuration L) (e : Event) where
     done_quiet (Ok reply) is = step_quiet app c c' e (outcome_is_step app c graph shaped e c' reply is).0
     done_quiet (Err f) is = tt
 
-    pub done_complete : IsConnected c.graph → (r : Result Reply StepRefusal) → IsOutcome r → (session : ℕ) → IsSound c
-        → r ≡ Ok (Complete session) → IsComplete c' session
-    done_complete whole (Ok reply) is session sound told =
+    pub done_complete : (r : Result Reply StepRefusal) → IsOutcome r → (session : ℕ) → IsSound c
+        → r ≡ Ok (Complete session) → IsComplete c' (event_node e) session
+    done_complete (Ok reply) is session sound told =
         let step = outcome_is_step app c graph shaped e c' reply is in
-        step_complete app c c' e session graph whole step.0 sound (sym step.1 ∙ same_value told)
-    done_complete whole (Err f) is session sound told = absurd (cc)
+        step_complete app c c' e session graph step.0 sound (sym step.1 ∙ same_value told)
+    done_complete (Err f) is session sound told = absurd (cc)
 
   -- what a row of the wave table leaves is the outcome
   pub wave_is_outcome : (move : WaveMove) (at : ℕ)

@@ -5,7 +5,8 @@ mod puts;
 ghost use Rattle.std.specs.Prelude.{◌≡◌, ◌≢◌, ◌↔◌, IsTrue, ℕ, ◌<◌, true, ◌==◌, position, Some, IfOk, IfErr, IfSome, false};
 ghost use Rattle.std.specs.Prelude.{length, slice_index};
 ghost use Rattle.std.specs.Prelude.{IfNone, OnOk, OnErr, MatchResult, Ok, Err};
-ghost use Rattle.topology.specs.Graph.{IsConnected, IsGraph, IsNode, greatest, node_bound};
+ghost use Rattle.topology.specs.Components.{leader};
+ghost use Rattle.topology.specs.Graph.{IsGraph, IsNode, node_bound};
 ghost use Rattle.reset_model.specs.Configuration.{IsShaped};
 ghost use Rattle.reset_model.specs.Outcome.{after_fired, fired_reply};
 ghost use Rattle.reset_model.specs.declared.plan.Fired.TheVariants.{Wave};
@@ -78,7 +79,7 @@ impl<P: Application> Config<P> {
     ghost use Rattle.tree_layer.specs.TreePicture.{TreePicture};
 
     /// The configuration in which each node has its place in the tree of shortest ways to the
-    /// greatest id, and no reset has begun: every node is normal, in session 0, and has its declared
+    /// greatest id of its component, and no reset has begun: every node is normal, in session 0, and has its declared
     /// start state. Sessions are counted modulo this number from then on. Where memory is wanting the
     /// topology comes back.
     pub fn boot(
@@ -298,11 +299,10 @@ impl<P: Application> Config<P> {
         self.nodes.set_local(index, local);
     }
 
-    /// Its topology is a connected graph, its sessions are counted modulo a number from 2 to 4294967296, and
+    /// Its topology is a graph, its sessions are counted modulo a number from 2 to 4294967296, and
     /// each node has its registers and its local state.
     pub fn lemma_is_graph(&self)
         ensures graph { IsGraph self.now.graph }
-        ensures connected { IsConnected self.now.graph }
         ensures shaped { IsShaped self.now }
     {
         self.nodes.lemma_is_graph();
@@ -530,8 +530,8 @@ impl<P: Application> Config<P> {
         }
     }
 
-    /// The local state of the node with this identifier, where it has joined the newest session. None
-    /// elsewhere, and where there is no such node.
+    /// The local state of the node with this identifier, where it has joined the newest session of its
+    /// component. None elsewhere, and where there is no such node.
     pub fn newest_local(&self, id: u32) -> Option<&P::Local>
         ensures found { IfSome result
             (λ local. IsNode self.now.graph id × HasJoined self.now.graph (wave_of self.now) id
@@ -539,19 +539,34 @@ impl<P: Application> Config<P> {
         ensures none { IfNone result (IsNode self.now.graph id → HasJoined self.now.graph (wave_of self.now) id → ⊥) }
     {
         let regs = self.wave_at(id)?;
-        if regs.session == self.newest_session() {
+        let newest = self.newest_session(id)?;
+        if regs.session == newest {
             self.local_at(id)
         } else {
             None
         }
     }
 
-    /// The newest session: that of the greatest identifier.
-    pub fn newest_session(&self) -> u32
-        ensures { result ≡ (wave_of self.now (greatest self.now.graph)).session }
+    /// The newest session of the component of the node with this identifier: that of its leader. None where
+    /// there is no such node.
+    pub fn newest_session(&self, id: u32) -> Option<u32>
+        ensures found { IfSome result (λ session. IsNode self.now.graph id
+            × (session ≡ (wave_of self.now (leader self.now.graph id)).session)) }
+        ensures none { IfNone result (IsNode self.now.graph id → ⊥) }
     {
-        let waves = self.nodes.waves();
         self.nodes.lemma_is_graph();
-        waves[waves.len() - 1].session
+        let topology = self.nodes.topology();
+        match topology.index_of(id) {
+            Some(index) => Some(self.session_at(topology.greatest_of(index).get())),
+            None => None,
+        }
+    }
+
+    // The session of a node.
+    fn session_at(&self, id: u32) -> u32
+        requires { IsNode self.now.graph id }
+        ensures { result ≡ (wave_of self.now id).session }
+    {
+        self.wave_at(id).unwrap().session
     }
 }

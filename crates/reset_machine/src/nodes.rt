@@ -1,7 +1,7 @@
 // What a configuration keeps of its nodes.
 
 ghost use Rattle.std.specs.Prelude.{◌≡◌, ◌<◌, IfErr, IfOk, OnErr, OnOk, length, slice_index};
-ghost use Rattle.topology.specs.Graph.{IsConnected, IsGraph};
+ghost use Rattle.topology.specs.Graph.{IsGraph};
 ghost use Rattle.reset_model.specs.Configuration.{IsShaped, start_list};
 
 use app_interface::Application;
@@ -109,11 +109,10 @@ impl<P: Application> Nodes<P> {
         })
     }
 
-    /// Their topology is a connected graph, sessions are counted modulo a number from 2 to 4294967296, and
+    /// Their topology is a graph, sessions are counted modulo a number from 2 to 4294967296, and
     /// each node has its registers and its local state.
     pub fn lemma_is_graph(&self)
         ensures graph { IsGraph self.now.graph }
-        ensures connected { IsConnected self.now.graph }
         ensures shaped { IsShaped self.now }
     {
         self.topology.lemma_is_graph();

@@ -1,11 +1,15 @@
 -- What one step of a sound configuration is on the abstract machine.
-use Rattle.std.proofs.Common.{◌≡◌, ◌≢◌, ℕ, suc, Bool, true, false, cond, nat_eq, List, [], ◌∷◌, Contains, Option, refl}
-use Rattle.std.proofs.Common.{sym, ap, ap₂, ◌∙◌, ⊎_elim, arith}
-use Rattle.std.proofs.lemmas.Bool.{cases_eq, eq-eqb, ne_eqb}
+use Rattle.std.proofs.Common.{◌≡◌, ◌≢◌, ℕ, suc, Bool, true, false, cond, nat_eq, List, [], ◌∷◌, Contains, Option}
+use Rattle.std.proofs.Common.{Some, None, refl, sym, ap, ap₂, subst, ◌∙◌, ⊎_elim, true≢false, arith}
+use Rattle.std.proofs.lemmas.Bool.{cases_Bool, cases_eq, eqb-true, eq-eqb, ne_eqb}
 use Rattle.action_tables.specs.Modulus.{IsModulus}
-use Rattle.app_interface.specs.Application.{App, Action, is_read, seen}
+use Rattle.app_interface.specs.Application.{App, Action, Fits, is_read, seen}
+use Rattle.app_interface.specs.declared.reads.Reads.{Reads}
+use Rattle.app_interface.specs.declared.reads.Reads.TheVariants.{Alone, Toward, One, All}
 use Rattle.app_interface.specs.Invariant.{SameAtNodes}
-use Rattle.topology.specs.Graph.{Graph, IsGraph, IsConnected, IsNode, Changes, greatest}
+use Rattle.topology.specs.Components.{leader, reaches}
+use Rattle.topology.specs.Graph.{Graph, IsGraph, IsNode, AreLinked, IsReached, Changes}
+use Rattle.topology.proofs.Components.{leader_leads, leader_node, reached_on, reaches_tests, same_leader}
 use Rattle.tree_layer.specs.declared.regs.TreeRegs.{TreeRegs}
 use Rattle.tree_layer.specs.TreeRows.{IsFather}
 use Rattle.tree_layer.proofs.TreePictures.{rests_picture}
@@ -15,12 +19,13 @@ use Rattle.wave_layer.specs.Sessions.{next_session}
 use Rattle.wave_layer.proofs.NextSession.{next_differs}
 use Rattle.reset_model.specs.declared.event.Event.TheVariants.{Open, Join}
 use Rattle.reset_model.specs.Actions.{ActStep}
-use Rattle.reset_model.specs.Refinement.{AbstractStep, Reset_all, Do, IsAbstractRun, has_joined}
+use Rattle.reset_model.specs.Refinement.{AbstractStep, Reset, Do, IsAbstractRun, has_joined, reset_of}
 use Rattle.reset_model.specs.Sound.{Sound}
 use Rattle.reset_model.specs.Steps.{Joins, join_normal, join_asked, RegsStep}
 use Rattle.reset_model.specs.WavePicture.{HasJoined, WavePicture}
 use Rattle.reset_model.proofs.CompleteResets.{all_awake}
-use Rattle.reset_model.proofs.Fathers.{greatest_node, own_father}
+use Rattle.topology.proofs.Walks.{reached_back}
+use Rattle.reset_model.proofs.Fathers.{father_leader, own_father}
 use Rattle.reset_model.proofs.WavePictures.{sound_where_picture}
 
 -- ---- abstract runs see the states of the nodes alone
@@ -41,7 +46,10 @@ module _ {L : Type 0} (app : App L) (g : Graph) (K : ℕ) where
   pub run_from : (ss : List AbstractStep) (v u v' : ℕ → L) → SameAtNodes g v u → IsAbstractRun app g K ss u v'
       → IsAbstractRun app g K ss v v'
   run_from [] v u v' same run = λ i node. run i node ∙ same i node
-  run_from (Reset_all ∷ ss) v u v' same run = run
+  run_from (Reset i ∷ ss) v u v' same run =
+      let one : SameAtNodes g (reset_of app g i v) run.0 =
+      λ k node. run.1 k node ∙ ap (λ x. cond (reaches g i k) (app.start g k) x) (same k node) in
+      (run.0, one, run.2)
   run_from (Do i case with ∷ ss) v u v' same run =
       let act : Action app g K i case with u run.0 = run.1 in
       let reads : ℕ → Bool = is_read g i (app.reads case) with in
@@ -87,27 +95,44 @@ locals_stay g l l' i changes k node =
 pub joined_stays : (g : Graph) (w w' : ℕ → WaveRegs) → IsGraph g
     → ((k : ℕ) → IsNode g k → (w' k).session ≡ (w k).session) → (k : ℕ) → IsNode g k
     → has_joined g w' k ≡ has_joined g w k
-joined_stays g w w' graph same k node = ap₂ nat_eq (same k node) (same (greatest g) (greatest_node g graph))
+joined_stays g w w' graph same k node =
+    ap₂ nat_eq (same k node) (same (leader g k) (leader_node g k graph node))
 
 -- ---- opening a session and joining it
 
-module _ (g : Graph) (graph : IsGraph g) (whole : IsConnected g) (K m : ℕ) (counted : IsModulus m) (t t' : ℕ → TreeRegs)
+module _ (g : Graph) (graph : IsGraph g) (K m : ℕ) (counted : IsModulus m) (t t' : ℕ → TreeRegs)
     (w w' : ℕ → WaveRegs) (sound : Sound g K m t w) (i : ℕ) where
-  -- only the leader opens
-  pub opens_at_leader : RegsStep g K m t w (Open i) t' w' → i ≡ greatest g
-  opens_at_leader step = own_father g graph whole t (rests_picture g graph K t sound.tree) i step.node step.enabled.0
+  -- only a leader opens
+  pub opens_at_leader : RegsStep g K m t w (Open i) t' w' → i ≡ leader g i
+  opens_at_leader step = own_father g graph t (rests_picture g graph K t sound.tree) i step.node step.enabled.0
 
-  -- right after, no other node has joined
-  pub opened_apart : RegsStep g K m t w (Open i) t' w' → (k : ℕ) → IsNode g k → k ≢ i → has_joined g w' k ≡ false
-  opened_apart step k node other =
-      let top : i ≡ greatest g = opens_at_leader step in
+  -- the leader of the nodes of its component
+  pub opens_for : RegsStep g K m t w (Open i) t' w' → (k : ℕ) → IsReached g i k → leader g k ≡ i
+  opens_for step k reached = same_leader g i k graph step.node reached ∙ sym (opens_at_leader step)
+
+  -- right after, no other node of the component has joined
+  pub opened_apart : RegsStep g K m t w (Open i) t' w' → (k : ℕ) → IsNode g k → IsReached g i k → k ≢ i
+      → has_joined g w' k ≡ false
+  opened_apart step k node reached other =
       let old : (w k).session ≡ (w i).session =
-      (all_awake g K m t w i graph whole step.node sound step.enabled.0 (ap is_reset step.enabled.1) k node).1 in
+      (all_awake g K m t w i graph step.node sound step.enabled.0 (ap is_reset step.enabled.1) k reached).1 in
       let own : (w' k).session ≡ (w i).session =
       ap (λ (r : WaveRegs). r.session) (step.waves.others k node other) ∙ old in
-      let up : (w' (greatest g)).session ≡ next_session m (w i).session =
-      ap (λ n. (w' n).session) (sym top) ∙ ap (λ (r : WaveRegs). r.session) step.waves.here in
+      let up : (w' (leader g k)).session ≡ next_session m (w i).session =
+      ap (λ n. (w' n).session) (opens_for step k reached) ∙ ap (λ (r : WaveRegs). r.session) step.waves.here in
       ne_eqb _ _ (λ same. next_differs m (w i).session counted.two (sym up ∙ sym same ∙ own))
+
+  -- and those of other components have as before
+  pub opened_elsewhere : RegsStep g K m t w (Open i) t' w' → (k : ℕ) → IsNode g k → (IsReached g i k → ⊥)
+      → has_joined g w' k ≡ has_joined g w k
+  opened_elsewhere step k node apart =
+      let others : (n : ℕ) → IsNode g n → (IsReached g i n → ⊥) → (w' n).session ≡ (w n).session =
+      λ n there far. ap (λ (r : WaveRegs). r.session)
+      (step.waves.others n there (λ same. far (subst (IsReached g i) (sym same) ([], refl)))) in
+      let far : IsReached g i (leader g k) → ⊥ =
+      λ r. apart (reached_on g i (leader g k) k r
+      (reached_back g graph k (leader g k) (leader_leads g k graph node).reached)) in
+      ap₂ nat_eq (others k node apart) (others (leader g k) (leader_node g k graph node) far)
 
   joins_from : Joins g m t w i → (j : ℕ) × IsFather g t i j × ((w j).session ≡ next_session m (w i).session)
   joins_from (join_normal j father reset phase next) = (j, father, next)
@@ -115,22 +140,32 @@ module _ (g : Graph) (graph : IsGraph g) (whole : IsConnected g) (K m : ℕ) (co
 
   module _ (step : RegsStep g K m t w (Join i) t' w') where
     picture : WavePicture g m t w
-    picture = (sound_where_picture g m t w graph whole (rests_picture g graph K t sound.tree)).0 sound.wave
+    picture = (sound_where_picture g m t w graph (rests_picture g graph K t sound.tree)).0 sound.wave
+
+    -- its father has its leader
+    led : leader g (t i).father ≡ leader g i
+    led = let from = joins_from step.enabled in
+        rw from.1.named (father_leader g graph t i from.0 from.1)
 
     -- a node that joins hasn't joined before
     was_apart : HasJoined g w i → ⊥
     was_apart joined =
         let from = joins_from step.enabled in
-        let above : (w (t i).father).session ≡ (w (greatest g)).session = picture.upward i step.node joined in
-        let up : (w from.0).session ≡ (w (greatest g)).session = ap (λ n. (w n).session) (sym from.1.named) ∙ above in
+        let above : (w (t i).father).session ≡ (w (leader g i)).session =
+        picture.upward i step.node joined ∙ ap (λ n. (w n).session) led in
+        let up : (w from.0).session ≡ (w (leader g i)).session = ap (λ n. (w n).session) (sym from.1.named) ∙ above in
         next_differs m (w i).session counted.two (sym from.2 ∙ up ∙ sym joined)
 
     pub joins_apart : has_joined g w i ≡ false
     joins_apart = ne_eqb _ _ was_apart
 
-    leader_stays : w' (greatest g) ≡ w (greatest g)
-    leader_stays =
-        step.waves.others (greatest g) (greatest_node g graph) (λ top. was_apart (ap (λ n. (w n).session) (sym top)))
+    -- it is no leader, so the leaders stay as they were
+    leader_stays : (k : ℕ) → IsNode g k → w' (leader g k) ≡ w (leader g k)
+    leader_stays k node =
+        step.waves.others (leader g k) (leader_node g k graph node)
+        (λ top. was_apart (ap (λ n. (w n).session)
+        (sym top ∙ sym (same_leader g k (leader g k) graph node (leader_leads g k graph node).reached)
+        ∙ ap (leader g) top)))
 
     -- it has joined afterwards
     pub joins_after : has_joined g w' i ≡ true
@@ -139,15 +174,25 @@ module _ (g : Graph) (graph : IsGraph g) (whole : IsConnected g) (K m : ℕ) (co
         let own : (w' i).session ≡ (w (t i).father).session = ap (λ (r : WaveRegs). r.session) step.waves.here in
         let up : (w (t i).father).session ≡ next_session m (w i).session =
         ap (λ n. (w n).session) from.1.named ∙ from.2 in
-        let next : next_session m (w i).session ≡ (w (greatest g)).session = (picture.outside i step.node was_apart).1 in
-        eq-eqb _ _ (own ∙ up ∙ next ∙ ap (λ (r : WaveRegs). r.session) (sym leader_stays))
+        let next : next_session m (w i).session ≡ (w (leader g i)).session = (picture.outside i step.node was_apart).1 in
+        eq-eqb _ _ (own ∙ up ∙ next ∙ ap (λ (r : WaveRegs). r.session) (sym (leader_stays i step.node)))
 
     -- and the others as before
     pub joins_others : (k : ℕ) → IsNode g k → k ≢ i → has_joined g w' k ≡ has_joined g w k
     joins_others k node other =
-        ap₂ (λ (a b : WaveRegs). nat_eq a.session b.session) (step.waves.others k node other) leader_stays
+        ap₂ (λ (a b : WaveRegs). nat_eq a.session b.session) (step.waves.others k node other) (leader_stays k node)
 
 -- ---- what each step is on the abstract machine
+
+-- what a case reads is linked to its node
+pub read_linked : (g : Graph) (i : ℕ) (reads : Option Reads) (with : Option ℕ) (j : ℕ) → Fits g i reads with
+    → is_read g i reads with j ≡ true → AreLinked g i j
+read_linked g i None with j fits read = absurd (true≢false (sym read))
+read_linked g i (Some Alone) with j fits read = absurd (true≢false (sym read))
+read_linked g i (Some Toward) with j fits read = absurd (true≢false (sym read))
+read_linked g i (Some One) None j fits read = absurd fits
+read_linked g i (Some One) (Some k) j fits read = subst (AreLinked g i) (sym (eqb-true j k read)) fits
+read_linked g i (Some All) with j fits read = read
 
 -- the same whether the node has joined or not
 either : {X : Type 0} (b : Bool) (x y : X) → x ≡ y → cond b x y ≡ y
@@ -165,17 +210,33 @@ module _ {L : Type 0} (app : App L) (g : Graph) (graph : IsGraph g) where
       ap₂ (λ b y. cond b y (app.start g k)) (joined_stays g w w' graph (sessions_stay g w w' i x waves same) k node)
       (locals_stay g l l' i locals k node)
 
-  module _ (whole : IsConnected g) (K m : ℕ) (counted : IsModulus m) (t t' : ℕ → TreeRegs) (w w' : ℕ → WaveRegs)
+  module _ (K m : ℕ) (counted : IsModulus m) (t t' : ℕ → TreeRegs) (w w' : ℕ → WaveRegs)
       (sound : Sound g K m t w) (i : ℕ) (l l' : ℕ → L) (locals : Changes g l i (app.start g i) l') where
-    -- to open a session is to reset all nodes
-    pub opening : RegsStep g K m t w (Open i) t' w' → SameAtNodes g (app.start g) (abstract_at w' l')
+    -- to open a session is to reset the nodes of the component
+    pub opening : RegsStep g K m t w (Open i) t' w'
+        → SameAtNodes g (reset_of app g i (abstract_at w l)) (abstract_at w' l')
     opening step k node =
         ⊎_elim
-        (λ here. either (has_joined g w' k) (l' k) (app.start g k)
-        (ap l' here ∙ locals.here ∙ ap (app.start g) (sym here)))
-        (λ other. ap (λ b. cond b (l' k) (app.start g k))
-        (opened_apart g graph whole K m counted t t' w w' sound i step k node other))
-        (cases_eq k i)
+        (λ inside. started ((reaches_tests g i k graph step.node).0 inside)
+        ∙ ap (λ b. cond b (app.start g k) (abstract_at w l k)) (sym inside))
+        (λ outside. kept (λ r. true≢false (sym ((reaches_tests g i k graph step.node).1 r) ∙ outside))
+        ∙ ap (λ b. cond b (app.start g k) (abstract_at w l k)) (sym outside))
+        (cases_Bool (reaches g i k))
+      where
+        started : IsReached g i k → abstract_at w' l' k ≡ app.start g k
+        started reached =
+            ⊎_elim
+            (λ here. either (has_joined g w' k) (l' k) (app.start g k)
+            (ap l' here ∙ locals.here ∙ ap (app.start g) (sym here)))
+            (λ other. ap (λ b. cond b (l' k) (app.start g k))
+            (opened_apart g graph K m counted t t' w w' sound i step k node reached other))
+            (cases_eq k i)
+
+        kept : (IsReached g i k → ⊥) → abstract_at w' l' k ≡ abstract_at w l k
+        kept apart =
+            ap₂ (λ b y. cond b y (app.start g k))
+            (opened_elsewhere g graph K m counted t t' w w' sound i step k node apart)
+            (locals.others k node (λ same. apart (subst (IsReached g i) (sym same) ([], refl))))
 
     -- to join is nothing: the node's state was its start state
     pub joining : RegsStep g K m t w (Join i) t' w' → SameAtNodes g (abstract_at w l) (abstract_at w' l')
@@ -184,10 +245,10 @@ module _ {L : Type 0} (app : App L) (g : Graph) (graph : IsGraph g) where
         (λ here.
         let started : l' k ≡ app.start g k = ap l' here ∙ locals.here ∙ ap (app.start g) (sym here) in
         let apart : has_joined g w k ≡ false =
-        ap (has_joined g w) here ∙ joins_apart g graph whole K m counted t t' w w' sound i step in
+        ap (has_joined g w) here ∙ joins_apart g graph K m counted t t' w w' sound i step in
         either (has_joined g w' k) (l' k) (app.start g k) started ∙ ap (λ b. cond b (l k) (app.start g k)) (sym apart))
         (λ other. ap₂ (λ b y. cond b y (app.start g k))
-        (joins_others g graph whole K m counted t t' w w' sound i step k node other) (locals.others k node other))
+        (joins_others g graph K m counted t t' w w' sound i step k node other) (locals.others k node other))
         (cases_eq k i)
 
   module _ (K : ℕ) (w : ℕ → WaveRegs) (i case : ℕ) (with : Option ℕ) (l l' : ℕ → L)
@@ -208,7 +269,9 @@ module _ {L : Type 0} (app : App L) (g : Graph) (graph : IsGraph g) where
         let own : abstract_at w l i ≡ l i = ap (λ b. cond b (l i) (app.start g i)) joined in
         let there : (j : ℕ) → IsNode g j → reads j ≡ true → abstract_at w l j ≡ l j =
         λ j node read. ap (λ b. cond b (l j) (app.start g j))
-        (ap (λ s. nat_eq s (w (greatest g)).session) (act.agree j node read) ∙ joined) in
+        (ap₂ (λ s n. nat_eq s (w n).session) (act.agree j node read)
+        (same_leader g i j graph act.action.node (j ∷ [], (read_linked g i (app.reads case) with j act.action.fits read, refl)))
+        ∙ joined) in
         record {
           node = act.action.node;
           fits = act.action.fits;

@@ -24,6 +24,7 @@ pub mod Judging
 pub mod Shapes
 pub mod Abstractions
 pub mod RunShadows
+mod ComponentSteps
 pub mod RunInvariants
 pub mod JoinCounts
 pub mod ViewedOutcomes

@@ -1,21 +1,27 @@
 -- What a run keeps, and what holds of the abstract state because each abstract step keeps it.
-use Rattle.std.proofs.Common.{◌≡◌, ℕ, ◌<◌, ◌≤◌, true, false, cond, List, [], ◌∷◌, ◌++◌, length, refl, sym, subst, ◌∙◌}
-use Rattle.std.proofs.Common.{arith}
+use Rattle.std.proofs.Common.{◌≡◌, ℕ, ◌+◌, ◌<◌, ◌≤◌, Bool, true, false, cond, nat_eq, List, [], ◌∷◌, ◌++◌, length, refl}
+use Rattle.std.proofs.Common.{sym, subst, ◌∙◌, ◌⊎◌, inl, inr, ⊎_elim, arith}
+use Rattle.std.proofs.lemmas.Bool.{eqb-true}
 use Rattle.app_interface.specs.Application.{App}
-use Rattle.app_interface.specs.Invariant.{Keeps}
-use Rattle.topology.specs.Graph.{Graph, IsGraph, IsConnected, node_bound}
+use Rattle.app_interface.specs.Invariant.{Keeps, StartsByComponent}
+use Rattle.topology.specs.Components.{component, IsComponent}
+use Rattle.topology.specs.Graph.{Graph, IsGraph, IsConnected, IsNode, IsReached, node_bound}
+use Rattle.topology.proofs.Components.{component_is}
 use Rattle.reset_model.specs.declared.event.Event.{Event}
 use Rattle.reset_model.specs.declared.event.Event.TheVariants.{Claim, Follow, Adopt, Request, Relay, Open, Join, Finish}
 use Rattle.reset_model.specs.declared.event.Event.TheVariants.{Mend, Act}
 use Rattle.reset_model.specs.declared.step.Done.{Done}
 use Rattle.reset_model.specs.declared.step.Done.TheVariants.{Did, Refused}
-use Rattle.reset_model.specs.Completion.{applied, is_open, times}
+use Rattle.reset_model.specs.Completion.{applied, is_open_at, times}
 use Rattle.reset_model.specs.Configuration.{Configuration, IsShaped, wave_of}
 use Rattle.reset_model.specs.MachineSteps.{IsStep}
-use Rattle.reset_model.specs.Refinement.{AbstractStep, Reset_all, Do, IsAbstractRun, abstract_of, after, has_joined}
+use Rattle.reset_model.specs.Refinement.{AbstractStep, Reset, Do, IsAbstractRun, abstract_of, after, has_joined}
 use Rattle.reset_model.specs.Refinement.{shadow}
 use Rattle.reset_model.specs.Runs.{IsDone, IsRun}
 use Rattle.reset_model.specs.Sound.{IsSound}
+use Rattle.reset_model.specs.SoundSteps.{HoldsAt}
+use Rattle.reset_model.proofs.ComponentSteps.{acts_apart, acts_there, reached_or_not, reset_apart, reset_there}
+use Rattle.reset_model.proofs.ComponentSteps.{same_there}
 use Rattle.reset_model.proofs.ConfigurationSteps.{outcome_is_step}
 use Rattle.reset_model.proofs.RunShadows.{run_shadow, step_graph}
 use Rattle.reset_model.proofs.Shapes.{outcome_shaped}
@@ -57,76 +63,106 @@ module _ {L : Type 0} (app : App L) where
 
 -- ---- invariants of the abstract machine
 
--- some step resets all nodes
-abbrev HasReset : List AbstractStep → Type 0
-HasReset [] = ⊥
-HasReset (Reset_all ∷ ss) = Unit {0}
-HasReset (Do i case with ∷ ss) = HasReset ss
+-- some step resets the nodes of i's component
+abbrev ResetsIn : Graph → ℕ → List AbstractStep → Type 0
+ResetsIn g i [] = ⊥
+ResetsIn g i (Reset o ∷ ss) = IsReached g i o ⊎ ResetsIn g i ss
+ResetsIn g i (Do k case with ∷ ss) = ResetsIn g i ss
 
-module _ {L : Type 0} (app : App L) (g : Graph) (K : ℕ) (Inv : (ℕ → L) → Type 0) (keeps : Keeps app g K Inv) where
+module _ {L : Type 0} (app : App L) (g : Graph) (graph : IsGraph g) (K i : ℕ) (node : IsNode g i)
+    (starts : StartsByComponent app) (Inv : (ℕ → L) → Type 0) (keeps : Keeps app (component g i) K Inv) where
   abstract_kept : (ss : List AbstractStep) (v v' : ℕ → L) → IsAbstractRun app g K ss v v' → Inv v → Inv v'
-  abstract_kept [] v v' run inv = keeps.same v v' run inv
-  abstract_kept (Reset_all ∷ ss) v v' run inv =
-      abstract_kept ss run.0 v' run.2 (keeps.same (app.start g) run.0 run.1 keeps.starts)
-  abstract_kept (Do i case with ∷ ss) v v' run inv =
-      abstract_kept ss run.0 v' run.2 (keeps.acts i case with v run.0 run.1 inv)
+  abstract_kept [] v v' run inv = keeps.same v v' (same_there g graph i node v v' run) inv
+  abstract_kept (Reset o ∷ ss) v v' run inv =
+      abstract_kept ss run.0 v' run.2
+      (⊎_elim
+      (λ inside. keeps.same (app.start (component g i)) run.0
+      (reset_there g graph i node app starts o inside v run.0 run.1) keeps.starts)
+      (λ apart. keeps.same v run.0 (reset_apart g graph i node app o apart v run.0 run.1) inv)
+      (reached_or_not g graph i node o))
+  abstract_kept (Do k case with ∷ ss) v v' run inv =
+      abstract_kept ss run.0 v' run.2
+      (⊎_elim
+      (λ inside. keeps.acts k case with v run.0 (acts_there g graph i node app K k case with v run.0 inside run.1) inv)
+      (λ apart. keeps.same v run.0 (acts_apart g graph i node app K k case with v run.0 apart run.1) inv)
+      (reached_or_not g graph i node k))
 
-  abstract_reset : (ss : List AbstractStep) (v v' : ℕ → L) → HasReset ss → IsAbstractRun app g K ss v v' → Inv v'
+  abstract_reset : (ss : List AbstractStep) (v v' : ℕ → L) → ResetsIn g i ss → IsAbstractRun app g K ss v v' → Inv v'
   abstract_reset [] v v' reset run = absurd reset
-  abstract_reset (Reset_all ∷ ss) v v' reset run =
-      abstract_kept ss run.0 v' run.2 (keeps.same (app.start g) run.0 run.1 keeps.starts)
-  abstract_reset (Do i case with ∷ ss) v v' reset run = abstract_reset ss run.0 v' reset run.2
+  abstract_reset (Reset o ∷ ss) v v' (inl inside) run =
+      abstract_kept ss run.0 v' run.2
+      (keeps.same (app.start (component g i)) run.0 (reset_there g graph i node app starts o inside v run.0 run.1)
+      keeps.starts)
+  abstract_reset (Reset o ∷ ss) v v' (inr later) run = abstract_reset ss run.0 v' later run.2
+  abstract_reset (Do k case with ∷ ss) v v' reset run = abstract_reset ss run.0 v' reset run.2
 
--- where a session was opened, all nodes were reset
-opened_resets : {L : Type 0} (app : App L) (es : List Event) (ds : List Done) (c : Configuration L)
-    → 0 < times is_open (applied es ds) → HasReset (shadow app c es ds)
-opened_resets app [] ds c some = absurd (omega (arith, some))
-opened_resets app (e ∷ es) [] c some = absurd (omega (arith, some))
-opened_resets app (e ∷ es) (Refused f ∷ ds) c some = opened_resets app es ds c some
-opened_resets app (Claim i ∷ es) (Did reply ∷ ds) c some =
-    opened_resets app es ds (after app c (Claim i) (Did reply)) (omega (arith, some))
-opened_resets app (Follow i ∷ es) (Did reply ∷ ds) c some =
-    opened_resets app es ds (after app c (Follow i) (Did reply)) (omega (arith, some))
-opened_resets app (Adopt i j ∷ es) (Did reply ∷ ds) c some =
-    opened_resets app es ds (after app c (Adopt i j) (Did reply)) (omega (arith, some))
-opened_resets app (Request i ∷ es) (Did reply ∷ ds) c some =
-    opened_resets app es ds (after app c (Request i) (Did reply)) (omega (arith, some))
-opened_resets app (Relay i k ∷ es) (Did reply ∷ ds) c some =
-    opened_resets app es ds (after app c (Relay i k) (Did reply)) (omega (arith, some))
-opened_resets app (Open i ∷ es) (Did reply ∷ ds) c some = tt
-opened_resets app (Join i ∷ es) (Did reply ∷ ds) c some =
-    opened_resets app es ds (after app c (Join i) (Did reply)) (omega (arith, some))
-opened_resets app (Finish i ∷ es) (Did reply ∷ ds) c some =
-    opened_resets app es ds (after app c (Finish i) (Did reply)) (omega (arith, some))
-opened_resets app (Mend i ∷ es) (Did reply ∷ ds) c some =
-    opened_resets app es ds (after app c (Mend i) (Did reply)) (omega (arith, some))
-opened_resets app (Act i case with ∷ es) (Did reply ∷ ds) c some =
-    let ss : List AbstractStep = shadow app (after app c (Act i case with) (Did reply)) es ds in
-    let rest : HasReset ss =
-    opened_resets app es ds (after app c (Act i case with) (Did reply)) (omega (arith, some)) in
-    elim (has_joined c.graph (wave_of c) i) as (λ b. HasReset (cond b (Do i case with ∷ []) [] ++ ss))
-    [ true ↦ rest | false ↦ rest ]
+-- where a session was opened at a node of the component, the nodes there were reset
+module _ {L : Type 0} (app : App L) (g : Graph) (i o : ℕ) (reached : IsReached g i o) where
+  opened_resets : (es : List Event) (ds : List Done) (c : Configuration L)
+      → 0 < times (is_open_at o) (applied es ds) → ResetsIn g i (shadow app c es ds)
+  opened_resets [] ds c some = absurd (omega (arith, some))
+  opened_resets (e ∷ es) [] c some = absurd (omega (arith, some))
+  opened_resets (e ∷ es) (Refused f ∷ ds) c some = opened_resets es ds c some
+  opened_resets (Claim k ∷ es) (Did reply ∷ ds) c some =
+      opened_resets es ds (after app c (Claim k) (Did reply)) (omega (arith, some))
+  opened_resets (Follow k ∷ es) (Did reply ∷ ds) c some =
+      opened_resets es ds (after app c (Follow k) (Did reply)) (omega (arith, some))
+  opened_resets (Adopt k j ∷ es) (Did reply ∷ ds) c some =
+      opened_resets es ds (after app c (Adopt k j) (Did reply)) (omega (arith, some))
+  opened_resets (Request k ∷ es) (Did reply ∷ ds) c some =
+      opened_resets es ds (after app c (Request k) (Did reply)) (omega (arith, some))
+  opened_resets (Relay k j ∷ es) (Did reply ∷ ds) c some =
+      opened_resets es ds (after app c (Relay k j) (Did reply)) (omega (arith, some))
+  opened_resets (Open k ∷ es) (Did reply ∷ ds) c some =
+      at (nat_eq k o) refl some (opened_resets es ds (after app c (Open k) (Did reply)))
+    where
+      at : (b : Bool) → nat_eq k o ≡ b → 0 < cond b 1 0 + times (is_open_at o) (applied es ds)
+          → (0 < times (is_open_at o) (applied es ds)
+          → ResetsIn g i (shadow app (after app c (Open k) (Did reply)) es ds))
+          → ResetsIn g i (shadow app c (Open k ∷ es) (Did reply ∷ ds))
+      at true is some later = inl (subst (IsReached g i) (sym (eqb-true k o is)) reached)
+      at false is some later = inr (later (omega (arith, some)))
+  opened_resets (Join k ∷ es) (Did reply ∷ ds) c some =
+      opened_resets es ds (after app c (Join k) (Did reply)) (omega (arith, some))
+  opened_resets (Finish k ∷ es) (Did reply ∷ ds) c some =
+      opened_resets es ds (after app c (Finish k) (Did reply)) (omega (arith, some))
+  opened_resets (Mend k ∷ es) (Did reply ∷ ds) c some =
+      opened_resets es ds (after app c (Mend k) (Did reply)) (omega (arith, some))
+  opened_resets (Act k case with ∷ es) (Did reply ∷ ds) c some =
+      let ss : List AbstractStep = shadow app (after app c (Act k case with) (Did reply)) es ds in
+      let rest : ResetsIn g i ss =
+      opened_resets es ds (after app c (Act k case with) (Did reply)) (omega (arith, some)) in
+      elim (has_joined c.graph (wave_of c) k) as (λ b. ResetsIn g i (cond b (Do k case with ∷ []) [] ++ ss))
+      [ true ↦ rest | false ↦ rest ]
 
-module _ {L : Type 0} (app : App L) (Inv : Graph → (ℕ → L) → Type 0)
-    (keeps : (g : Graph) (bound : ℕ) → IsGraph g → length g.ids ≤ bound → Keeps app g bound (Inv g))
-    (c c' : Configuration L) (es : List Event) (ds : List Done) (graph : IsGraph c.graph) (whole : IsConnected c.graph)
-    (shaped : IsShaped c) (sound : IsSound c) (run : IsRun app c es ds c') where
-  here : Keeps app c.graph (node_bound c.graph) (Inv c.graph)
-  here = keeps c.graph (node_bound c.graph) graph graph.bounded
+module _ {L : Type 0} (app : App L) (Inv : Graph → (ℕ → L) → Type 0) (starts : StartsByComponent app)
+    (keeps : (g : Graph) (bound : ℕ) → IsGraph g → IsConnected g → length g.ids ≤ bound → Keeps app g bound (Inv g))
+    (c c' : Configuration L) (es : List Event) (ds : List Done) (graph : IsGraph c.graph)
+    (shaped : IsShaped c) (sound : IsSound c) (run : IsRun app c es ds c') (i : ℕ) (node : IsNode c.graph i) where
+  part : IsComponent c.graph i (component c.graph i)
+  part = component_is c.graph i graph node
 
-  on_graph_of_end : Inv c.graph (abstract_of app c') → Inv c'.graph (abstract_of app c')
+  here : Keeps app (component c.graph i) (node_bound c.graph) (Inv (component c.graph i))
+  here =
+      keeps (component c.graph i) (node_bound c.graph) part.as_graph part.connected
+      (subst (λ K. length (component c.graph i).ids ≤ K) part.bound part.as_graph.bounded)
+
+  on_graph_of_end : Inv (component c.graph i) (abstract_of app c') → HoldsAt app Inv c' i
   on_graph_of_end inv =
-      let Holds : Graph → Type 0 = λ g. Inv g (abstract_of app c') in
+      let Holds : Graph → Type 0 = λ g. Inv (component g i) (abstract_of app c') in
       subst Holds (sym (run_keeps app es ds c c' graph shaped sound run).graph) inv
 
-  pub invariant_kept : Inv c.graph (abstract_of app c) → Inv c'.graph (abstract_of app c')
+  pub invariant_kept : HoldsAt app Inv c i → HoldsAt app Inv c' i
   invariant_kept inv =
       on_graph_of_end
-      (abstract_kept app c.graph (node_bound c.graph) (Inv c.graph) here (shadow app c es ds) (abstract_of app c)
-      (abstract_of app c') (run_shadow app es ds c c' graph whole shaped sound run) inv)
+      (abstract_kept app c.graph graph (node_bound c.graph) i node starts (Inv (component c.graph i)) here
+      (shadow app c es ds) (abstract_of app c) (abstract_of app c')
+      (run_shadow app es ds c c' graph shaped sound run) inv)
 
-  pub invariant_opened : 0 < times is_open (applied es ds) → Inv c'.graph (abstract_of app c')
-  invariant_opened some =
+  pub invariant_opened : (o : ℕ) → IsReached c.graph i o → 0 < times (is_open_at o) (applied es ds)
+      → HoldsAt app Inv c' i
+  invariant_opened o reached some =
       on_graph_of_end
-      (abstract_reset app c.graph (node_bound c.graph) (Inv c.graph) here (shadow app c es ds) (abstract_of app c)
-      (abstract_of app c') (opened_resets app es ds c some) (run_shadow app es ds c c' graph whole shaped sound run))
+      (abstract_reset app c.graph graph (node_bound c.graph) i node starts (Inv (component c.graph i)) here
+      (shadow app c es ds) (abstract_of app c) (abstract_of app c')
+      (opened_resets app c.graph i o reached es ds c some) (run_shadow app es ds c c' graph shaped sound run))

@@ -2,7 +2,7 @@
 use Rattle.std.proofs.Common.{◌≡◌, ℕ, List, [], ◌∷◌, ◌++◌, All, refl, sym, ap, subst, ◌∙◌}
 use Rattle.std.proofs.lemmas.List.Elements.{All-cons, All-nil}
 use Rattle.app_interface.specs.Application.{App}
-use Rattle.topology.specs.Graph.{Graph, IsGraph, IsConnected}
+use Rattle.topology.specs.Graph.{Graph, IsGraph}
 use Rattle.reset_model.specs.declared.event.Event.{Event}
 use Rattle.reset_model.specs.declared.event.Event.TheVariants.{Finish, Join, Open}
 use Rattle.reset_model.specs.declared.step.Done.{Done}
@@ -15,6 +15,7 @@ use Rattle.reset_model.specs.Configuration.{Configuration, IsShaped, local_of}
 use Rattle.reset_model.specs.Refinement.{after, left_of}
 use Rattle.reset_model.specs.Runs.{IsDone, IsRun}
 use Rattle.reset_model.specs.Sound.{IsComplete, IsSound}
+use Rattle.reset_model.specs.Steps.{event_node}
 use Rattle.reset_model.proofs.ConfigurationSteps.{outcome_is_step}
 use Rattle.reset_model.proofs.JoinCounts.{joined_restarted, joins_once}
 use Rattle.reset_model.proofs.RunInvariants.{did_keeps, run_keeps}
@@ -138,13 +139,13 @@ module _ {L : Type 0} (app : App L) where
 
   -- ---- its completions
 
-  module _ (g : Graph) (graph : IsGraph g) (whole : IsConnected g) (c c' : Configuration L) (e : Event) (reply : Reply)
+  module _ (g : Graph) (graph : IsGraph g) (c c' : Configuration L) (e : Event) (reply : Reply)
       (on : c.graph ≡ g) (shaped : IsShaped c) (sound : IsSound c) (is : IsDone app c e (Did reply) c') where
-    completes : (x : ℕ) → reply ≡ Complete x → IsComplete c' x
+    completes : (x : ℕ) → reply ≡ Complete x → IsComplete c' (event_node e) x
     completes x told =
         let there = subst IsGraph (sym on) graph in
         let step = outcome_is_step app c there shaped e c' reply is in
-        step_complete app c c' e x there (subst IsConnected (sym on) whole) step.0 sound (sym step.1 ∙ told)
+        step_complete app c c' e x there step.0 sound (sym step.1 ∙ told)
 
     restarts : (i : ℕ) → e ≡ Join i → local_of app c' i ≡ app.start g i
     restarts i joins =
@@ -155,7 +156,7 @@ module _ {L : Type 0} (app : App L) where
         (outcome_is_step app c (subst IsGraph (sym on) graph) shaped (Join i) c' reply (subst Joins joins is)).0)
 
   module _ (es : List Event) (ds : List Done) (c c' : Configuration L) (graph : IsGraph c.graph)
-      (whole : IsConnected c.graph) (shaped : IsShaped c) (sound : IsSound c) (run : IsRun app c es ds c') where
+      (shaped : IsShaped c) (sound : IsSound c) (run : IsRun app c es ds c') where
     opened_once : (before between rest : List (Moment L)) (o m : Moment L) (p x : ℕ)
         → moments app c es ds ≡ before ++ o ∷ (between ++ m ∷ rest)
         → o.event ≡ Open p → times (is_open_at p) (events_of between) ≡ 0 → m.event ≡ Finish p → m.reply ≡ Complete x
@@ -165,7 +166,6 @@ module _ {L : Type 0} (app : App L) where
         let second = split first.todo first.to_tell o.left c' between m rest first.goes_on first.moments_after in
         let kept = run_keeps app first.done first.told c first.here graph shaped sound first.run in
         let there = subst IsGraph (sym kept.graph) graph in
-        let whole_there = subst IsConnected (sym kept.graph) whole in
         let same : events_of between ≡ applied second.done second.told =
         ap events_of (sym second.moments_before) ∙ events-applied second.done second.told o.left in
         let None : List Event → Type 0 = λ xs. times (is_open_at p) xs ≡ 0 in
@@ -175,20 +175,20 @@ module _ {L : Type 0} (app : App L) where
         let last : Finishes (Finish p) (Complete x) =
         subst (Finishes (Finish p)) told (subst (λ e. Finishes e m.reply) finishes second.step) in
         let counts =
-        joins_once app first.here o.left second.here m.left p p x o.reply second.done second.told there whole_there
+        joins_once app first.here o.left second.here m.left p p x o.reply second.done second.told there
         kept.shaped kept.sound in
         let once : Once first.here.graph (applied second.done second.told) =
-        (counts (subst Opens opens first.step) second.run (subst None same none) last).1 in
+        (counts (subst Opens opens first.step) second.run (subst None same none) last ([], refl)).1 in
         subst (Once c.graph) (sym same) (subst (λ g. Once g (applied second.done second.told)) kept.graph once)
 
     pub completions_hold : CompletionsHold app c.graph (moments app c es ds)
     completions_hold =
-        let Completes : Moment L → Type 0 = λ m. (x : ℕ) → m.reply ≡ Complete x → IsComplete m.left x in
+        let Completes : Moment L → Type 0 = λ m. (x : ℕ) → m.reply ≡ Complete x → IsComplete m.left (event_node m.event) x in
         let Restarts : Moment L → Type 0 =
         λ m. (i : ℕ) → m.event ≡ Join i → local_of app m.left i ≡ app.start c.graph i in
         record {
           complete =
-              each_moment c.graph graph Completes (completes c.graph graph whole) es ds c c' refl shaped sound run;
+              each_moment c.graph graph Completes (completes c.graph graph) es ds c c' refl shaped sound run;
           once = opened_once;
-          restarts = each_moment c.graph graph Restarts (restarts c.graph graph whole) es ds c c' refl shaped sound run;
+          restarts = each_moment c.graph graph Restarts (restarts c.graph graph) es ds c c' refl shaped sound run;
         }

@@ -5,7 +5,7 @@ use Rattle.std.proofs.Common.{arith}
 use Rattle.std.proofs.lemmas.Bool.{eqb-true}
 use Rattle.std.proofs.lemmas.List.{get_or_default}
 use Rattle.app_interface.specs.Application.{App}
-use Rattle.topology.specs.Graph.{Graph, IsGraph, IsConnected, IsNode, node_bound}
+use Rattle.topology.specs.Graph.{Graph, IsGraph, IsNode, IsReached, node_bound}
 use Rattle.tree_layer.specs.declared.regs.TreeRegs.{TreeRegs}
 use Rattle.tree_layer.specs.BootTree.{IsBooted}
 use Rattle.tree_layer.specs.TreePicture.{TreePicture}
@@ -18,7 +18,7 @@ use Rattle.reset_model.specs.declared.event.Event.TheVariants.{Mend, Act}
 use Rattle.reset_model.specs.declared.step.Reply.TheVariants.{Applied, Complete}
 use Rattle.reset_model.specs.Configuration.{Configuration, value_at, tree_of, wave_of, tree_map}
 use Rattle.wave_layer.specs.WaveTable.{is_reset}
-use Rattle.reset_model.specs.Steps.{reply_of, reset_at}
+use Rattle.reset_model.specs.Steps.{event_node, reply_of, reset_at}
 use Rattle.reset_model.specs.MachineSteps.{IsStep, row_step, act_step}
 use Rattle.reset_model.specs.WavePicture.{WavePicture}
 use Rattle.reset_model.specs.Sound.{Sound, IsSound, IsComplete, Repairs, claims, follows, adopts, mends}
@@ -76,12 +76,12 @@ boot_wave_picture app g m c boot =
       together = λ i node apart above. same _ _;
     }
 
-pub pictures_sound : {L : Type 0} (c : Configuration L) → IsGraph c.graph → IsConnected c.graph
+pub pictures_sound : {L : Type 0} (c : Configuration L) → IsGraph c.graph
     → TreePicture c.graph (tree_of c) → WavePicture c.graph c.modulus (tree_of c) (wave_of c) → IsSound c
-pictures_sound c graph whole tree wave =
+pictures_sound c graph tree wave =
     record {
       tree = (rests_where_picture c.graph (node_bound c.graph) (tree_of c) graph graph.bounded).1 tree;
-      wave = (sound_where_picture c.graph c.modulus (tree_of c) (wave_of c) graph whole tree).1 wave;
+      wave = (sound_where_picture c.graph c.modulus (tree_of c) (wave_of c) graph tree).1 wave;
     }
 
 -- ---- steps
@@ -114,36 +114,36 @@ step_quiet app c c' e (row_step step) sound repairs =
     sound_rests c.graph (node_bound c.graph) c.modulus (tree_of c) (wave_of c) e step.regs.node sound repairs step.regs.enabled
 step_quiet app c c' e (act_step i case with is step) sound repairs = no_repair i case with e is repairs
 
-finished : {L : Type 0} (app : App L) (c c' : Configuration L) (i x : ℕ) → IsGraph c.graph → IsConnected c.graph
+finished : {L : Type 0} (app : App L) (c c' : Configuration L) (i x : ℕ) → IsGraph c.graph
     → IsStep app c (Finish i) c' → IsSound c → (b : Bool) → nat_eq (tree_of c i).father i ≡ b
-    → cond b (Complete (wave_of c i).session) Applied ≡ Complete x → IsComplete c' x
-finished app c c' i x graph whole (act_step k case with is step) sound b own told = absurd (cc)
-finished app c c' i x graph whole (row_step step) sound false other told = absurd (cc)
-finished app c c' i x graph whole (row_step step) sound true own told =
+    → cond b (Complete (wave_of c i).session) Applied ≡ Complete x → IsComplete c' i x
+finished app c c' i x graph (act_step k case with is step) sound b own told = absurd (cc)
+finished app c c' i x graph (row_step step) sound false other told = absurd (cc)
+finished app c c' i x graph (row_step step) sound true own told =
     let P : Graph → Type 0 =
-    λ g. (j : ℕ) → IsNode g j
+    λ g. (j : ℕ) → IsReached g i j
     → (reset_at (wave_of c') j ≡ false) × ((wave_of c' j).session ≡ (wave_of c i).session) in
     let session : (wave_of c i).session ≡ x = cc in
     let all =
     subst P (sym step.graph)
-    (completed c.graph (node_bound c.graph) c.modulus (tree_of c) (tree_of c') (wave_of c) (wave_of c') i graph whole sound
+    (completed c.graph (node_bound c.graph) c.modulus (tree_of c) (tree_of c') (wave_of c) (wave_of c') i graph sound
     (eqb-true _ _ own) step.regs) in
-    λ j node. ((all j node).0, (all j node).1 ∙ session)
+    λ j reached. ((all j reached).0, (all j reached).1 ∙ session)
 
 pub step_complete : {L : Type 0} (app : App L) (c c' : Configuration L) (e : Event) (x : ℕ) → IsGraph c.graph
-    → IsConnected c.graph → IsStep app c e c' → IsSound c → reply_of (tree_of c) (wave_of c) e ≡ Complete x
-    → IsComplete c' x
-step_complete app c c' (Claim i) x graph whole step sound told = absurd (cc)
-step_complete app c c' (Follow i) x graph whole step sound told = absurd (cc)
-step_complete app c c' (Adopt i j) x graph whole step sound told = absurd (cc)
-step_complete app c c' (Request i) x graph whole step sound told = absurd (cc)
-step_complete app c c' (Relay i k) x graph whole step sound told = absurd (cc)
-step_complete app c c' (Open i) x graph whole step sound told = absurd (cc)
-step_complete app c c' (Join i) x graph whole step sound told = absurd (cc)
-step_complete app c c' (Finish i) x graph whole step sound told =
-    finished app c c' i x graph whole step sound _ refl told
-step_complete app c c' (Mend i) x graph whole step sound told = absurd (cc)
-step_complete app c c' (Act i case with) x graph whole step sound told = absurd (cc)
+    → IsStep app c e c' → IsSound c → reply_of (tree_of c) (wave_of c) e ≡ Complete x
+    → IsComplete c' (event_node e) x
+step_complete app c c' (Claim i) x graph step sound told = absurd (cc)
+step_complete app c c' (Follow i) x graph step sound told = absurd (cc)
+step_complete app c c' (Adopt i j) x graph step sound told = absurd (cc)
+step_complete app c c' (Request i) x graph step sound told = absurd (cc)
+step_complete app c c' (Relay i k) x graph step sound told = absurd (cc)
+step_complete app c c' (Open i) x graph step sound told = absurd (cc)
+step_complete app c c' (Join i) x graph step sound told = absurd (cc)
+step_complete app c c' (Finish i) x graph step sound told =
+    finished app c c' i x graph step sound _ refl told
+step_complete app c c' (Mend i) x graph step sound told = absurd (cc)
+step_complete app c c' (Act i case with) x graph step sound told = absurd (cc)
 
 pub same_value : {X E : Type 0} {x y : X} → ◌≡◌ {A = Result X E} (Ok x) (Ok y) → x ≡ y
 same_value h = cc

@@ -1,6 +1,6 @@
 -- Sound registers: both local predicates hold everywhere.
 use Rattle.std.specs.Prelude.{◌≡◌, ℕ, false}
-use Rattle.topology.specs.Graph.{Graph, IsNode, node_bound}
+use Rattle.topology.specs.Graph.{Graph, IsNode, IsReached, node_bound}
 use Rattle.tree_layer.specs.declared.regs.TreeRegs.{TreeRegs}
 use Rattle.tree_layer.specs.TreePicture.{TreeRests}
 use Rattle.wave_layer.specs.declared.regs.WaveRegs.{WaveRegs}
@@ -20,9 +20,10 @@ pub record Sound (g : Graph) (K m : ℕ) (t : ℕ → TreeRegs) (w : ℕ → Wav
 abbrev pub IsSound : {L : Type 0} → Configuration L → Type 0
 IsSound c = Sound c.graph (node_bound c.graph) c.modulus (tree_of c) (wave_of c)
 
--- every node is in the session and none is reset
-abbrev pub IsComplete : {L : Type 0} → Configuration L → ℕ → Type 0
-IsComplete c session = (i : ℕ) → IsNode c.graph i → (reset_at (wave_of c) i ≡ false) × ((wave_of c i).session ≡ session)
+-- every node of i's component is in the session and none is reset
+abbrev pub IsComplete : {L : Type 0} → Configuration L → ℕ → ℕ → Type 0
+IsComplete c i session =
+    (j : ℕ) → IsReached c.graph i j → (reset_at (wave_of c) j ≡ false) × ((wave_of c j).session ≡ session)
 
 -- the events that repair registers
 pub data Repairs : Event → Type 0 where

@@ -1,6 +1,7 @@
 -- The wave predicate at every father link, and the picture of the whole wave that it amounts to.
 use Rattle.std.specs.Prelude.{◌≡◌, ℕ, true, false}
-use Rattle.topology.specs.Graph.{Graph, IsNode, leader}
+use Rattle.topology.specs.Components.{leader}
+use Rattle.topology.specs.Graph.{Graph, IsNode}
 use Rattle.tree_layer.specs.declared.regs.TreeRegs.{TreeRegs}
 use Rattle.tree_layer.specs.TreeRows.{IsFather}
 use Rattle.wave_layer.specs.declared.regs.WaveRegs.{WaveRegs}

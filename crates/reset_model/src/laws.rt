@@ -1,7 +1,7 @@
 // Laws of the definitions.
 
 ghost use Rattle.std.specs.Prelude.{◌≡◌, ◌↔◌, ◌≤◌, ℕ, false, length, MatchResult};
-ghost use Rattle.topology.specs.Graph.{Graph, IsConnected, IsGraph, IsNode};
+ghost use Rattle.topology.specs.Graph.{Graph, IsGraph, IsNode, IsReached};
 ghost use Rattle.tree_layer.specs.declared.regs.TreeRegs.{TreeRegs};
 ghost use Rattle.tree_layer.specs.TreePicture.{TreePicture};
 ghost use Rattle.wave_layer.specs.declared.regs.WaveRegs.{WaveRegs};
@@ -60,8 +60,7 @@ pub fn mends_rest()
 /// Where the tree picture holds, the predicate holds at every father link exactly where the wave
 /// picture holds.
 pub fn wave_pictures()
-    ensures { (g : Graph) (m : ℕ) (t : ℕ → TreeRegs) (w : ℕ → WaveRegs) → IsGraph g → IsConnected g
-        → TreePicture g t
+    ensures { (g : Graph) (m : ℕ) (t : ℕ → TreeRegs) (w : ℕ → WaveRegs) → IsGraph g → TreePicture g t
         → (WaveSound g m t w ↔ WavePicture g m t w) }
 {}
 
@@ -77,10 +76,10 @@ pub fn sound_is_quiet()
         → Sound g K m t w → Repairs e → IsEnabled g K m t w e → ⊥ }
 {}
 
-/// Right after a node that is its own father finishes, from sound registers, every node has its
-/// session and none is reset.
+/// Right after a node that is its own father finishes, from sound registers, every node of its component
+/// has its session and none is reset.
 pub fn completions_are_true()
-    ensures { (g : Graph) (K m : ℕ) (t t' : ℕ → TreeRegs) (w w' : ℕ → WaveRegs) (i : ℕ) → IsGraph g → IsConnected g
+    ensures { (g : Graph) (K m : ℕ) (t t' : ℕ → TreeRegs) (w w' : ℕ → WaveRegs) (i : ℕ) → IsGraph g
         → Sound g K m t w → (t i).father ≡ i → RegsStep g K m t w (Finish i) t' w'
-        → (j : ℕ) → IsNode g j → (reset_at w' j ≡ false) × ((w' j).session ≡ (w i).session) }
+        → (j : ℕ) → IsReached g i j → (reset_at w' j ≡ false) × ((w' j).session ≡ (w i).session) }
 {}

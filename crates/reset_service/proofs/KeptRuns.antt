@@ -6,11 +6,13 @@ use Rattle.std.proofs.lemmas.Bool.{eqb-true}
 use Rattle.std.proofs.lemmas.List.{length-append, length-map}
 use Rattle.std.proofs.lemmas.List.Elements.{All-contains, All-contains_itself, All-weaker}
 use Rattle.app_interface.specs.Application.{App}
-use Rattle.app_interface.specs.Invariant.{Keeps}
+use Rattle.app_interface.specs.Invariant.{Keeps, StartsByComponent}
 use Rattle.app_mutex.specs.Turns.{HoldsTurns}
 use Rattle.app_routes.specs.Ways.{HasRoutes}
 use Rattle.app_token.specs.OneToken.{HasOneToken}
-use Rattle.topology.specs.Graph.{Graph, IsConnected, IsGraph}
+use Rattle.topology.specs.Components.{component}
+use Rattle.topology.specs.Graph.{Graph, IsConnected, IsGraph, IsNode}
+use Rattle.topology.proofs.Components.{component_is, reached_node}
 use Rattle.topology.specs.declared.text.AppName.{AppName}
 use Rattle.topology.specs.declared.text.AppName.TheVariants.{Idle, Token, Mutex, Routes}
 use Rattle.reset_model.specs.declared.event.Event.{Event}
@@ -18,6 +20,7 @@ use Rattle.reset_model.specs.Configuration.{Configuration, IsShaped, local_of, v
 use Rattle.reset_model.specs.Outcome.{IsBoot}
 use Rattle.reset_model.specs.Refinement.{abstract_of}
 use Rattle.reset_model.specs.Sound.{IsSound}
+use Rattle.reset_model.specs.SoundSteps.{HoldsAt}
 use Rattle.history.specs.Entries.{replayed}
 use Rattle.history.specs.HistoryText.{IsReadAs}
 use Rattle.history.specs.Reports.{reports_of}
@@ -35,9 +38,8 @@ use Rattle.reset_service.specs.Verified.{IsVerification, IsVerifiedFrom, IsVerif
 use Rattle.reset_service.specs.Verified.IsVerified.{allowed}
 use Rattle.script_replay.specs.declared.status.Status.{Status}
 use Rattle.script_replay.specs.declared.status.Status.TheVariants.{BadInput, Good}
-use Rattle.reset_service.proofs.ConnectedTopologies.{topology_connected}
 use Rattle.reset_service.proofs.ReadModuli.{read_modulus}
-use Rattle.reset_service.proofs.VerifiedReports.{has_graph, is_connected, is_shaped, is_sound}
+use Rattle.reset_service.proofs.VerifiedReports.{has_graph, is_shaped, is_sound}
 
 abbrev Output : Type 0
 Output = List ℕ × Status
@@ -58,17 +60,21 @@ either_way true x y e = e
 either_way false x y e = refl
 
 pub booted_invariant : {L : Type 0} (app : App L) (Inv : Graph → (ℕ → L) → Type 0)
-    → ((g : Graph) (bound : ℕ) → IsGraph g → length g.ids ≤ bound → Keeps app g bound (Inv g))
+    → StartsByComponent app
+    → ((g : Graph) (bound : ℕ) → IsGraph g → IsConnected g → length g.ids ≤ bound → Keeps app g bound (Inv g))
     → (g : Graph) (modulus : ℕ) (c : Configuration L) → IsGraph g → IsBoot app g modulus c
-    → Inv c.graph (abstract_of app c)
-booted_invariant {L = L} app Inv keeps g modulus c graph boot =
+    → (i : ℕ) → IsNode c.graph i → HoldsAt app Inv c i
+booted_invariant {L = L} app Inv starts keeps g modulus c graph boot i node =
     let here : IsGraph c.graph = subst IsGraph (sym boot.graph) graph in
-    let known = keeps c.graph (length c.graph.ids) here (omega arith) in
+    let part = component_is c.graph i here node in
+    let known = keeps (component c.graph i) (length (component c.graph i).ids) part.as_graph part.connected (omega arith)
+    in
     let locals : c.locals ≡ map (app.start c.graph) c.graph.ids =
     boot.locals ∙ ap (λ (h : Graph). map (app.start h) h.ids) (sym boot.graph) in
-    known.same (app.start c.graph) (abstract_of app c)
-    (λ i node. either_way _ (local_of app c i) (app.start c.graph i)
-    (ap (λ xs. value_at (app.start c.graph i) c.graph.ids xs i) locals ∙ start_value (app.start c.graph) c.graph.ids i))
+    known.same (app.start (component c.graph i)) (abstract_of app c)
+    (λ j there. either_way _ (local_of app c j) (app.start c.graph j)
+    (ap (λ xs. value_at (app.start c.graph j) c.graph.ids xs j) locals ∙ start_value (app.start c.graph) c.graph.ids j)
+    ∙ sym (starts c.graph i j here node ((part.same_nodes j).0 there)))
     known.starts
 
 -- ---- all that was kept is one stretch
@@ -82,20 +88,20 @@ module _ {L : Type 0} (m : Meaning L) (Inv : Graph → (ℕ → L) → Type 0) w
   abbrev pub AreTrue : Type 0
   AreTrue =
       (opening : Configuration L) (es : List Entry) (s : Stretch L) → IsGraph opening.graph
-      → IsConnected opening.graph → IsShaped opening → IsStretch m.app m.from_text opening es s → IsSound s.here
+      → IsShaped opening → IsStretch m.app m.from_text opening es s → IsSound s.here
       → All (λ r. IsIn s r.finished → IsTrueReport m.app m.from_text opening es s r)
       (reports_of m.app m.from_text opening es)
 
   abbrev pub Refine : Type 0
   Refine =
       (opening : Configuration L) (es : List Entry) (s : Stretch L) → IsGraph opening.graph
-      → IsConnected opening.graph → IsShaped opening → IsStretch m.app m.from_text opening es s → IsSound s.here
+      → IsShaped opening → IsStretch m.app m.from_text opening es s → IsSound s.here
       → IsSoundStretch m.app Inv s
 
   abbrev pub HoldBooted : Type 0
   HoldBooted =
       (g : Graph) (modulus : ℕ) (c : Configuration L) → IsGraph g → IsBoot m.app g modulus c
-      → Inv c.graph (abstract_of m.app c)
+      → (i : ℕ) → IsNode c.graph i → HoldsAt m.app Inv c i
 
   whole_stretch : (c left : Configuration L) (events : List Event)
       → replayed m.app m.from_text c (steps events) ≡ Some left
@@ -121,7 +127,7 @@ module _ {L : Type 0} (m : Meaning L) (Inv : Graph → (ℕ → L) → Type 0) w
   value_of None is = absurd (cc)
 
   module _ (are : AreReports) (are_true : AreTrue) (refine : Refine) (hold : HoldBooted) (g : Graph)
-      (graph : IsGraph g) (connected : IsConnected g) (modulus : ℕ) where
+      (graph : IsGraph g) (modulus : ℕ) where
     tells : (history line : List ℕ) (c : Configuration L) → IsBoot m.app g modulus c
         → IsKept m c history (line, Good) → TellsRun m Inv g modulus history line
     tells history line c boot (too_many many is) =
@@ -132,13 +138,12 @@ module _ {L : Type 0} (m : Meaning L) (Inv : Graph → (ℕ → L) → Type 0) w
         let left = end.0 in
         let s = whole c events left in
         let stretch = whole_stretch c left events end.1 in
-        let here = has_graph m g graph connected modulus c boot in
-        let joined = is_connected m g graph connected modulus c boot in
-        let shaped = is_shaped m g graph connected modulus c boot (read_modulus history c.modulus es read) in
-        let sound = is_sound m g graph connected modulus c boot in
-        let lawful = refine c es s here joined shaped stretch sound in
+        let here = has_graph m g graph modulus c boot in
+        let shaped = is_shaped m g graph modulus c boot (read_modulus history c.modulus es read) in
+        let sound = is_sound m g graph modulus c boot in
+        let lawful = refine c es s here shaped stretch sound in
         let reports = reports_of m.app m.from_text c es in
-        let known = are_true c es s here joined shaped stretch sound in
+        let known = are_true c es s here shaped stretch sound in
         record {
           opening = c;
           events = events;
@@ -148,7 +153,9 @@ module _ {L : Type 0} (m : Meaning L) (Inv : Graph → (ℕ → L) → Type 0) w
           read = subst (λ k. IsReadAs history (Ok (k, es))) boot.modulus read;
           stretch = stretch;
           lawful = lawful;
-          invariant = lawful.invariant (hold g modulus c graph boot);
+          invariant = λ i node.
+              let before : IsNode c.graph i = subst (λ h. IsNode h i) (sym boot.graph) node in
+              lawful.invariant i before (hold g modulus c graph boot i before);
           told = ap (λ (o : Output). o.0) is
               ∙ ap (λ (h : Graph). threads_line (length h.ids) (length events) (length reports)) boot.graph;
           true_reports = All-weaker (Contains reports) (IsTrueReport m.app m.from_text c es s)
@@ -196,17 +203,17 @@ threads_verified topology history line is = go is.judged
 -- that it is known of an application
 abbrev pub Known : {L : Type 0} → Meaning L → (Graph → (ℕ → L) → Type 0) → Type 0
 Known m Inv =
-    (g : Graph) (modulus : ℕ) (history line : List ℕ) → IsGraph g → IsConnected g
+    (g : Graph) (modulus : ℕ) (history line : List ℕ) → IsGraph g
     → IsKeptFrom m g modulus history (line, Good) → TellsRun m Inv g modulus history line
 
 module _ (idle : Known idle_meaning (λ g v. Unit {0})) (token : Known token_meaning HasOneToken)
     (mutex : Known mutex_meaning HoldsTurns) (routes : Known routes_meaning HasRoutes) where
-  tells_of : (app : AppName) (g : Graph) → IsGraph g → IsConnected g → (modulus : ℕ) (history line : List ℕ)
+  tells_of : (app : AppName) (g : Graph) → IsGraph g → (modulus : ℕ) (history line : List ℕ)
       → IsKeptOf app g modulus history (line, Good) → TellsRunOf app g modulus history line
-  tells_of Idle g graph connected modulus history line = idle g modulus history line graph connected
-  tells_of Token g graph connected modulus history line = token g modulus history line graph connected
-  tells_of Mutex g graph connected modulus history line = mutex g modulus history line graph connected
-  tells_of Routes g graph connected modulus history line = routes g modulus history line graph connected
+  tells_of Idle g graph modulus history line = idle g modulus history line graph
+  tells_of Token g graph modulus history line = token g modulus history line graph
+  tells_of Mutex g graph modulus history line = mutex g modulus history line graph
+  tells_of Routes g graph modulus history line = routes g modulus history line graph
 
   pub threads_run : (topology history line : List ℕ) → IsThreaded topology history (line, Good)
       → (g : Graph) × (app : AppName) × (modulus : ℕ) × Describes topology g app modulus
@@ -222,5 +229,5 @@ module _ (idle : Known idle_meaning (λ g v. Unit {0})) (token : Known token_mea
         app,
         modulus,
         describes,
-        tells_of app g describes.2.exact.as_graph (topology_connected _ _ g describes.2) modulus history line is,
+        tells_of app g describes.2.exact.as_graph modulus history line is,
       )

@@ -2,7 +2,6 @@ pub mod Driving
 pub mod Picturing
 pub mod TableRuns
 pub mod Verifying
-pub mod ConnectedTopologies
 pub mod ReadModuli
 pub mod VerifiedReports
 pub mod Threading

@@ -2,7 +2,7 @@
 use Rattle.std.proofs.Common.{◌≡◌, ℕ, List, All, Ok, length, sym, ap, subst, ◌∙◌}
 use Rattle.std.proofs.lemmas.List.{length-map, length-replicate}
 use Rattle.action_tables.specs.Modulus.{IsModulus}
-use Rattle.topology.specs.Graph.{Graph, IsConnected, IsGraph}
+use Rattle.topology.specs.Graph.{Graph, IsGraph}
 use Rattle.topology.specs.declared.text.AppName.{AppName}
 use Rattle.topology.specs.declared.text.AppName.TheVariants.{Idle, Token, Mutex, Routes}
 use Rattle.reset_model.specs.Configuration.{Configuration, IsShaped}
@@ -21,7 +21,6 @@ use Rattle.reset_service.specs.Verified.{TellsTrueReports, TellsTrueReportsOf}
 use Rattle.reset_service.specs.Verified.IsVerified.{allowed, bad_history, not_enabled, other_modulus}
 use Rattle.script_replay.specs.declared.status.Status.{Status}
 use Rattle.script_replay.specs.declared.status.Status.TheVariants.{BadInput, Good, NotEnabled}
-use Rattle.reset_service.proofs.ConnectedTopologies.{topology_connected}
 use Rattle.reset_service.proofs.ReadModuli.{read_modulus}
 
 abbrev Output : Type 0
@@ -32,17 +31,14 @@ module _ {L : Type 0} (m : Meaning L) where
   abbrev pub AreTrue : Type 0
   AreTrue =
       (opening : Configuration L) (es : List Entry) (s : Stretch L) → IsGraph opening.graph
-      → IsConnected opening.graph → IsShaped opening → IsStretch m.app m.from_text opening es s → IsSound s.here
+      → IsShaped opening → IsStretch m.app m.from_text opening es s → IsSound s.here
       → All (λ r. IsIn s r.finished → IsTrueReport m.app m.from_text opening es s r)
       (reports_of m.app m.from_text opening es)
 
-  module _ (g : Graph) (graph : IsGraph g) (connected : IsConnected g) (modulus : ℕ) (c : Configuration L)
+  module _ (g : Graph) (graph : IsGraph g) (modulus : ℕ) (c : Configuration L)
       (boot : IsBoot m.app g modulus c) where
     pub has_graph : IsGraph c.graph
     has_graph = subst IsGraph (sym boot.graph) graph
-
-    pub is_connected : IsConnected c.graph
-    is_connected = subst IsConnected (sym boot.graph) connected
 
     pub is_shaped : IsModulus c.modulus → IsShaped c
     is_shaped counted =
@@ -56,7 +52,7 @@ module _ {L : Type 0} (m : Meaning L) where
 
     pub is_sound : IsSound c
     is_sound =
-        pictures_sound c has_graph is_connected (boot_tree_picture m.app g modulus c graph boot)
+        pictures_sound c has_graph (boot_tree_picture m.app g modulus c graph boot)
         (boot_wave_picture m.app g modulus c boot)
 
     tells_from : AreTrue → (history written : List ℕ) → IsVerified m c history (written, Good)
@@ -77,22 +73,22 @@ module _ {L : Type 0} (m : Meaning L) where
           read = subst (λ k. IsReadAs history (Ok (k, es))) boot.modulus read;
           allowed = some;
           reported = ap (λ (o : Output). o.0) is;
-          true_reports = λ s stretch sound. known c es s has_graph is_connected shaped stretch sound;
+          true_reports = λ s stretch sound. known c es s has_graph shaped stretch sound;
         }
 
-  tells : (g : Graph) → IsGraph g → IsConnected g → AreTrue → (modulus : ℕ) (history written : List ℕ)
+  tells : (g : Graph) → IsGraph g → AreTrue → (modulus : ℕ) (history written : List ℕ)
       → IsVerifiedFrom m g modulus history (written, Good) → TellsTrueReports m g modulus history written
-  tells g graph connected known modulus history written (c, boot, verified) =
-      tells_from g graph connected modulus c boot known history written verified
+  tells g graph known modulus history written (c, boot, verified) =
+      tells_from g graph modulus c boot known history written verified
 
 module _ (idle : AreTrue idle_meaning) (token : AreTrue token_meaning) (mutex : AreTrue mutex_meaning)
     (routes : AreTrue routes_meaning) where
-  tells_of : (app : AppName) (g : Graph) → IsGraph g → IsConnected g → (modulus : ℕ) (history written : List ℕ)
+  tells_of : (app : AppName) (g : Graph) → IsGraph g → (modulus : ℕ) (history written : List ℕ)
       → IsVerifiedOf app g modulus history (written, Good) → TellsTrueReportsOf app g modulus history written
-  tells_of Idle g graph connected = tells idle_meaning g graph connected idle
-  tells_of Token g graph connected = tells token_meaning g graph connected token
-  tells_of Mutex g graph connected = tells mutex_meaning g graph connected mutex
-  tells_of Routes g graph connected = tells routes_meaning g graph connected routes
+  tells_of Idle g graph = tells idle_meaning g graph idle
+  tells_of Token g graph = tells token_meaning g graph token
+  tells_of Mutex g graph = tells mutex_meaning g graph mutex
+  tells_of Routes g graph = tells routes_meaning g graph routes
 
   pub verified_reports : (topology history written : List ℕ) → IsVerification topology history (written, Good)
       → (g : Graph) × (app : AppName) × (modulus : ℕ) × Describes topology g app modulus
@@ -104,5 +100,5 @@ module _ (idle : AreTrue idle_meaning) (token : AreTrue token_meaning) (mutex : 
     app,
     modulus,
     describes,
-    tells_of app g describes.2.exact.as_graph (topology_connected _ _ g describes.2) modulus history written verified,
+    tells_of app g describes.2.exact.as_graph modulus history written verified,
   )

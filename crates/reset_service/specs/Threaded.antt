@@ -8,13 +8,13 @@ use Rattle.action_tables.specs.Written.{AppendsPrefix}
 use Rattle.app_mutex.specs.Turns.{HoldsTurns}
 use Rattle.app_routes.specs.Ways.{HasRoutes}
 use Rattle.app_token.specs.OneToken.{HasOneToken}
-use Rattle.topology.specs.Graph.{Graph}
+use Rattle.topology.specs.Graph.{Graph, IsNode}
 use Rattle.topology.specs.declared.text.AppName.{AppName}
 use Rattle.topology.specs.declared.text.AppName.TheVariants.{Idle, Token, Mutex, Routes}
 use Rattle.reset_model.specs.declared.event.Event.{Event}
 use Rattle.reset_model.specs.Configuration.{Configuration}
 use Rattle.reset_model.specs.Outcome.{IsBoot}
-use Rattle.reset_model.specs.Refinement.{abstract_of}
+use Rattle.reset_model.specs.SoundSteps.{HoldsAt}
 use Rattle.reset_model.specs.Sound.{IsSound}
 use Rattle.history.specs.Entries.{replayed}
 use Rattle.history.specs.HistoryText.{IsReadAs, ended}
@@ -107,7 +107,7 @@ whole c events left = record { before = []; events = events; rest = []; here = c
 
 -- a history and a line tell a run from the booted configuration of a graph, with sessions modulo this number, whose
 -- registers are sound: its steps are one undisturbed stretch, which is a run of the abstract machine, in which the
--- application's fact Inv holds at the end, and each of its reports is true. The line counts nodes, steps and reports
+-- application's fact Inv holds in each component at the end, and each of its reports is true. The line counts nodes, steps and reports
 pub record TellsRun {L : Type 0} (m : Meaning L) (Inv : Graph → (ℕ → L) → Type 0) (g : Graph) (modulus : ℕ)
     (history line : List ℕ) : Type 0 where
   pub opening : Configuration L
@@ -118,7 +118,7 @@ pub record TellsRun {L : Type 0} (m : Meaning L) (Inv : Graph → (ℕ → L) �
   pub read : IsReadAs history (Ok (modulus, steps events))
   pub stretch : IsStretch m.app m.from_text opening (steps events) (whole opening events left)
   pub lawful : IsSoundStretch m.app Inv (whole opening events left)
-  pub invariant : Inv left.graph (abstract_of m.app left)
+  pub invariant : (i : ℕ) → IsNode g i → HoldsAt m.app Inv left i
   pub told : line ≡ threads_line (length g.ids) (length events)
       (length (reports_of m.app m.from_text opening (steps events)))
   pub true_reports : All (IsTrueReport m.app m.from_text opening (steps events) (whole opening events left))

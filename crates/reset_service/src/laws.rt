@@ -1,11 +1,11 @@
 // Laws of verifications, of recordings, and of runs of node threads and of the scheduler.
 
 ghost use Rattle.std.specs.Prelude.{◌≡◌, ◌≤◌, ℕ, List, length};
-ghost use Rattle.topology.specs.Graph.{Graph, IsConnected, IsGraph};
+ghost use Rattle.topology.specs.Graph.{Graph, IsGraph, IsNode};
 ghost use Rattle.topology.specs.declared.text.AppName.{AppName};
 ghost use Rattle.reset_model.specs.Configuration.{Configuration};
 ghost use Rattle.reset_model.specs.Outcome.{IsBoot};
-ghost use Rattle.reset_model.specs.Refinement.{abstract_of};
+ghost use Rattle.reset_model.specs.SoundSteps.{HoldsAt};
 ghost use Rattle.reset_service.specs.Drove.{IsDroveText};
 ghost use Rattle.script_replay.specs.Meaning.{meaning_of};
 ghost use Rattle.script_replay.specs.Output.{Describes};
@@ -44,15 +44,15 @@ pub fn verified_reports_are_true()
     reports_are_true::<Routes>();
 }
 
-/// In a booted configuration the application's invariant holds, of all nodes as they are.
+/// In a booted configuration the application's invariant holds in each component, of all nodes as they are.
 pub fn booted_invariants_hold<P: Application>()
     ensures { (g : Graph) (modulus : ℕ) (c : Configuration P.Local) → IsGraph g → IsBoot P.app g modulus c
-        → P.Inv c.graph (abstract_of P.app c) }
+        → (i : ℕ) → IsNode c.graph i → HoldsAt P.app P.Inv c i }
 {}
 
 /// What node threads keep from the booted configuration of a graph, where it is told, is a run.
 pub fn kept_histories_are_runs<P: Application>()
-    ensures { (g : Graph) (modulus : ℕ) (history line : List ℕ) → IsGraph g → IsConnected g
+    ensures { (g : Graph) (modulus : ℕ) (history line : List ℕ) → IsGraph g
         → IsKeptFrom (meaning_of P.app P.text P.from_text P.names) g modulus history (line, Status.Good)
         → TellsRun (meaning_of P.app P.text P.from_text P.names) P.Inv g modulus history line }
 {
@@ -65,7 +65,7 @@ pub fn kept_histories_are_runs<P: Application>()
 /// What a run of node threads that ends well means. Its topology describes a graph, and names an application and the
 /// number modulo which sessions are counted; its history names the same number, and is that of steps alone, one
 /// undisturbed stretch from the booted configuration on, whose registers are sound. So it is a run of the abstract
-/// machine, at its end the application's invariant holds, and each of its reports is true; and the line counts its
+/// machine, at its end the application's invariant holds in each component, and each of its reports is true; and the line counts its
 /// nodes, its entries and its reports.
 pub fn threads_keep_a_run()
     ensures { (topology history line : List ℕ) → IsThreaded topology history (line, Status.Good)

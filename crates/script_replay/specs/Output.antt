@@ -33,7 +33,7 @@ use Rattle.fault_inject.specs.Effects.{injected}
 use Rattle.fault_inject.specs.FaultText as fault
 use Rattle.fault_inject.specs.declared.fault.Fault.{Fault}
 use Rattle.fault_inject.specs.declared.refusal.FaultRefusal.{FaultRefusal}
-use Rattle.fault_inject.specs.declared.refusal.FaultRefusal.TheVariants.{BadValue, BadLocal, WouldDisconnect}
+use Rattle.fault_inject.specs.declared.refusal.FaultRefusal.TheVariants.{BadValue, BadLocal}
 use Rattle.fault_inject.specs.declared.refusal.FaultRefusal.TheVariants as refused
 use Rattle.link_predicates.specs.Faults.{alarm_of, family_name, faults, node_faults}
 use Rattle.link_predicates.specs.declared.fault.LinkFault.{LinkFault}
@@ -88,7 +88,6 @@ fault_refusal_text BadValue = ended (codes "refused BadValue")
 fault_refusal_text BadLocal = ended (codes "refused BadLocal")
 fault_refusal_text refused.NoSuchLink = ended (codes "refused NoSuchLink")
 fault_refusal_text refused.LinkIsThere = ended (codes "refused LinkIsThere")
-fault_refusal_text WouldDisconnect = ended (codes "refused WouldDisconnect")
 fault_refusal_text refused.NoMemory = ended (codes "refused NoMemory")
 
 -- the line of a fault that was drawn

@@ -52,7 +52,6 @@ fn put_graph_fault<W: Write>(out: &mut W, fault: TopoFault) -> Result<(), WriteF
         TopoFault::StrangeNode(id) => put_node_fault(out, b"bad topology StrangeNode ", id),
         TopoFault::SelfLink(id) => put_node_fault(out, b"bad topology SelfLink ", id),
         TopoFault::TwiceLink(a, b) => put_link_fault(out, b"bad topology TwiceLink ", a, b),
-        TopoFault::Disconnected(id) => put_node_fault(out, b"bad topology Disconnected ", id),
         TopoFault::NoMemory => put_bytes(out, b"bad topology NoMemory\n"),
         TopoFault::NoSuchLink => put_bytes(out, b"bad topology NoSuchLink\n"),
         TopoFault::LinkIsThere => put_bytes(out, b"bad topology LinkIsThere\n"),

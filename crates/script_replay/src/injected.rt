@@ -92,7 +92,6 @@ fn put_fault_refusal<W: Write>(out: &mut W, refusal: FaultRefusal) -> Result<(),
         FaultRefusal::BadLocal => put_bytes(out, b"refused BadLocal\n"),
         FaultRefusal::NoSuchLink => put_bytes(out, b"refused NoSuchLink\n"),
         FaultRefusal::LinkIsThere => put_bytes(out, b"refused LinkIsThere\n"),
-        FaultRefusal::WouldDisconnect => put_bytes(out, b"refused WouldDisconnect\n"),
         FaultRefusal::NoMemory => put_bytes(out, b"refused NoMemory\n"),
     }
 }

@@ -1,7 +1,7 @@
 // Laws of what a run writes, and of what its lines leave.
 
 ghost use Rattle.std.specs.Prelude.{◌≡◌, ℕ, List};
-ghost use Rattle.topology.specs.Graph.{IsConnected, IsGraph};
+ghost use Rattle.topology.specs.Graph.{IsGraph};
 ghost use Rattle.reset_model.specs.Configuration.{Configuration, IsShaped};
 ghost use Rattle.reset_model.specs.Sound.{IsSound};
 ghost use Rattle.script_replay.specs.Meaning.{meaning_of};
@@ -41,13 +41,13 @@ pub fn recordings_are_replays()
 /// none asks for a fault leave exactly what a run of their events leaves, each event answered by its
 /// outcome. The event of a line is its own, or the request of a node that watches and has an alarm. So,
 /// from a sound configuration on, all that holds of runs holds of the lines: what they leave is sound, on
-/// the abstract machine they are a run too, the application's invariant is kept, holds once a session is
-/// opened, and each completion is true.
+/// the abstract machine they are a run too, the application's invariant is kept in each component, holds there
+/// once a session is opened, and each completion is true.
 pub fn stretches_are_runs<P: Application>()
     ensures run { (c : Configuration P.Local) (n : ℕ) (lines : List (List ℕ)) → AreUndisturbed P.names lines
         → MakeRun (meaning_of P.app P.text P.from_text P.names) c n lines }
     ensures lawful { (c : Configuration P.Local) (n : ℕ) (lines : List (List ℕ)) → AreUndisturbed P.names lines
-        → IsGraph c.graph → IsConnected c.graph → IsShaped c → IsSound c
+        → IsGraph c.graph → IsShaped c → IsSound c
         → MakeSoundRun (meaning_of P.app P.text P.from_text P.names) P.Inv c n lines }
 {
     completions::<P>();

@@ -6,7 +6,7 @@ use Rattle.std.proofs.lemmas.Bool.{le-leb}
 use Rattle.std.proofs.lemmas.Bool.Decides.{eqb_tells, leb_tells}
 use Rattle.std.specs.Option.{option_and_then, option_map_or}
 use Rattle.app_interface.specs.Application.{App}
-use Rattle.topology.specs.Graph.{IsConnected, IsGraph, IsNode}
+use Rattle.topology.specs.Graph.{IsGraph, IsNode}
 use Rattle.wave_layer.specs.declared.regs.WaveRegs.{WaveRegs}
 use Rattle.reset_model.specs.Configuration.{Configuration, IsShaped, wave_of}
 use Rattle.history.specs.declared.entry.Entry.{Entry}
@@ -114,16 +114,16 @@ module _ {L : Type 0} (app : App L) (from_text : List ℕ → Option L) (lane : 
 
   -- networks stay networks
   abbrev StayNetworks : Type 0
-  StayNetworks = (c left : Configuration L) (es : List Entry) → IsGraph c.graph → IsConnected c.graph → IsShaped c
-      → replayed app from_text c es ≡ Some left → IsGraph left.graph × IsConnected left.graph × IsShaped left
+  StayNetworks = (c left : Configuration L) (es : List Entry) → IsGraph c.graph → IsShaped c
+      → replayed app from_text c es ≡ Some left → IsGraph left.graph × IsShaped left
 
   module _ (stay : StayNetworks) where
-    network_after : (c after : Configuration L) (e : Entry) → IsGraph c.graph → IsConnected c.graph → IsShaped c
+    network_after : (c after : Configuration L) (e : Entry) → IsGraph c.graph → IsShaped c
         → entered app from_text c e ≡ Some after
-        → IsGraph after.graph × IsConnected after.graph × IsShaped after
+        → IsGraph after.graph × IsShaped after
     unfolding replayed
-    network_after c after e graph whole shaped is =
-        stay c after (e ∷ []) graph whole shaped (ap (λ o. option_and_then (λ left. Some left) o) is)
+    network_after c after e graph shaped is =
+        stay c after (e ∷ []) graph shaped (ap (λ o. option_and_then (λ left. Some left) o) is)
 
     -- what is seen of the node after one more band
     one_more : (c after : Configuration L) (at p q : ℕ) → KeepsOthers c at after → IsNode c.graph i → p ≤ q → q ≤ count
@@ -141,23 +141,23 @@ module _ {L : Type 0} (app : App L) (from_text : List ℕ → Option L) (lane : 
             other_node i (row_y q) (band lane count p at (wave_of after at)) (wave_of c i) t.0
             ∙ sym (keeps.others i node (λ same. t.1 (sym same)))
 
-    entries_seen : (es : List Entry) (c here : Configuration L) (p k : ℕ) → IsGraph c.graph → IsConnected c.graph
+    entries_seen : (es : List Entry) (c here : Configuration L) (p k : ℕ) → IsGraph c.graph
         → IsShaped c → IsNode c.graph i → p + k ≤ count → replayed app from_text c (take k es) ≡ Some here
         → seen i (row_y (p + k)) (wave_of c i) (bands_from app from_text lane count c (p + 1) es) ≡ wave_of here i
     unfolding bands_from replayed
-    entries_seen [] c here p zero graph whole shaped node within is =
+    entries_seen [] c here p zero graph shaped node within is =
         ap (λ (o : Configuration L). wave_of o i) (let same : c ≡ here = cc in same)
-    entries_seen [] c here p (suc k) graph whole shaped node within is =
+    entries_seen [] c here p (suc k) graph shaped node within is =
         ap (λ (o : Configuration L). wave_of o i) (let same : c ≡ here = cc in same)
-    entries_seen (e ∷ es) c here p zero graph whole shaped node within is =
+    entries_seen (e ∷ es) c here p zero graph shaped node within is =
         later_unseen (e ∷ es) c (p + 1) (p + 0) (wave_of c i) (omega arith)
         ∙ ap (λ (o : Configuration L). wave_of o i) (let same : c ≡ here = cc in same)
-    entries_seen (e ∷ es) c here p (suc k) graph whole shaped node within is =
+    entries_seen (e ∷ es) c here p (suc k) graph shaped node within is =
         by_entry
-        (λ after graph whole shaped there rest. entries_seen es after here (p + 1) k graph whole shaped there
+        (λ after graph shaped there rest. entries_seen es after here (p + 1) k graph shaped there
         (omega (arith, within)) rest) (entered app from_text c e) refl is
       where
-        by_entry : ((after : Configuration L) → IsGraph after.graph → IsConnected after.graph → IsShaped after
+        by_entry : ((after : Configuration L) → IsGraph after.graph → IsShaped after
             → IsNode after.graph i → replayed app from_text after (take k es) ≡ Some here
             → seen i (row_y ((p + 1) + k)) (wave_of after i)
             (bands_from app from_text lane count after (p + 1 + 1) es) ≡ wave_of here i)
@@ -169,27 +169,27 @@ module _ {L : Type 0} (app : App L) (from_text : List ℕ → Option L) (lane : 
         by_entry later None none is = absurd (cc)
         by_entry later (Some after) some is =
             let keeps = entry_keeps app from_text c after e graph shaped some in
-            let network = network_after c after e graph whole shaped some in
+            let network = network_after c after e graph shaped some in
             let there : IsNode after.graph i = subst (λ ids. Contains ids i) (sym keeps.ids) node in
             let row : p + suc k ≡ (p + 1) + k = omega arith in
             ap (λ v. seen i (row_y (p + suc k)) v (bands_from app from_text lane count after (p + 1 + 1) es))
             (one_more c after (entry_node e) (p + 1) (p + suc k) keeps node (omega arith) within)
             ∙ ap (λ n. seen i (row_y n) (wave_of after i) (bands_from app from_text lane count after (p + 1 + 1) es))
             row
-            ∙ later after network.0 network.1 network.2 there is
+            ∙ later after network.0 network.1 there is
 
 -- what is seen of a node in the row of a position, whatever was seen there before the bands were painted
 pub registers_seen : {L : Type 0} (app : App L) (from_text : List ℕ → Option L)
-    → ((c left : Configuration L) (es : List Entry) → IsGraph c.graph → IsConnected c.graph → IsShaped c
-    → replayed app from_text c es ≡ Some left → IsGraph left.graph × IsConnected left.graph × IsShaped left)
+    → ((c left : Configuration L) (es : List Entry) → IsGraph c.graph → IsShaped c
+    → replayed app from_text c es ≡ Some left → IsGraph left.graph × IsShaped left)
     → (c here : Configuration L) (es : List Entry) (place i : ℕ) (before : WaveRegs) → IsGraph c.graph
-    → IsConnected c.graph → IsShaped c → IsNode c.graph i → place ≤ length es
+    → IsShaped c → IsNode c.graph i → place ≤ length es
     → replayed app from_text c (take place es) ≡ Some here
     → seen i (row_y place) before (bands_of app from_text c es) ≡ wave_of here i
-registers_seen app from_text stay c here es place i before graph whole shaped node within is =
+registers_seen app from_text stay c here es place i before graph shaped node within is =
     let zero_and : 0 + place ≡ place = omega arith in
     opening_seen c (length es) place i within c.graph.ids
     (bands_from app from_text (lane_of c) (length es) c 1 es) before node
     ∙ ap (λ n. seen i (row_y n) (wave_of c i) (bands_from app from_text (lane_of c) (length es) c 1 es)) (sym zero_and)
-    ∙ entries_seen app from_text (lane_of c) (length es) i stay es c here 0 place graph whole shaped node
+    ∙ entries_seen app from_text (lane_of c) (length es) i stay es c here 0 place graph shaped node
     (omega (arith, within)) is

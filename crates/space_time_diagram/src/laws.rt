@@ -1,7 +1,7 @@
 // What a picture shows.
 
 ghost use Rattle.std.specs.Prelude.{◌≡◌, ℕ, ◌<◌, ◌≤◌, List, Some, length, take};
-ghost use Rattle.topology.specs.Graph.{IsConnected, IsGraph, IsNode};
+ghost use Rattle.topology.specs.Graph.{IsGraph, IsNode};
 ghost use Rattle.wave_layer.specs.declared.regs.WaveRegs.{WaveRegs};
 ghost use Rattle.reset_model.specs.Configuration.{Configuration, IsShaped, tree_of, wave_of};
 ghost use Rattle.history.specs.declared.entry.Entry.{Entry};
@@ -12,17 +12,17 @@ ghost use Rattle.space_time_diagram.specs.Page.{row_y};
 ghost use Rattle.space_time_diagram.specs.Shown.{seen};
 
 use app_interface::Application;
-use history::replays_stay_connected;
+use history::replays_stay_shaped;
 
 /// What a picture shows of a node in the row of a position, where a later band is painted over an earlier one, is what
 /// the wave registers of the node are after the entries up to that position. Row 0 shows the opening.
 pub fn bands_show_registers<P: Application>()
     ensures { (c here : Configuration P.Local) (es : List Entry) (place i : ℕ) (before : WaveRegs) → IsGraph c.graph
-        → IsConnected c.graph → IsShaped c → IsNode c.graph i → place ≤ length es
+        → IsShaped c → IsNode c.graph i → place ≤ length es
         → replayed P.app P.from_text c (take place es) ≡ Some here
         → seen i (row_y place) before (bands_of P.app P.from_text c es) ≡ wave_of here i }
 {
-    replays_stay_connected::<P>();
+    replays_stay_shaped::<P>();
 }
 
 /// Each node has a lane of its own, among the first as many as there are nodes, and those nearer to the root have

@@ -1,7 +1,7 @@
 use Rattle.std.proofs.Common.{refl}
 use Rattle.topology.specs.declared.fault.TopoFault.TheVariants.{NoSuchLink, StrangeNode}
 use Rattle.fault_inject.specs.declared.fault.Fault.TheVariants.{LinkDown}
-use Rattle.fault_inject.proofs.InjectedFaults.{down_apart, down_put, down_refused, put_or_not}
+use Rattle.fault_inject.proofs.InjectedFaults.{down_put, down_refused, put_or_not}
 use Rattle.fault_inject.proofs.effects.link_down.Goals as goal
 
 pub returns-in-Ok-clause-outcome : goal.returns-in-Ok-clause-outcome
@@ -10,8 +10,7 @@ returns-in-Ok-clause-outcome g c =
     let now = c.args.config.now in
     put_or_not from_text now c.args.a c.args.b (LinkDown c.args.a c.args.b) _ _ _ c.put_changed.ensures.ok
     c.put_changed.ensures.err
-    (down_put from_text now c.args.a c.args.b _ _ _ c.topology.ensures c.in-Ok.ensures.sound c.in-Ok.ensures.ok
-    ((c.connected_is_tested.ensures _ c.lemma_is_graph.ensures.graph).1 c.lemma_is_graph.ensures.connected))
+    (down_put from_text now c.args.a c.args.b _ _ _ c.topology.ensures c.in-Ok.ensures.sound c.in-Ok.ensures.ok)
 
 pub returns-in-Err-StrangeNode-clause-outcome : goal.returns-in-Err-StrangeNode-clause-outcome
 returns-in-Err-StrangeNode-clause-outcome g c =
@@ -22,8 +21,3 @@ pub returns-in-Err-NoSuchLink-clause-outcome : goal.returns-in-Err-NoSuchLink-cl
 returns-in-Err-NoSuchLink-clause-outcome g c =
     λ _. down_refused g.P.Application.from_text c.args.config.now c.args.a c.args.b _ NoSuchLink c.topology.ensures refl
     (rw c.in-Err-NoSuchLink.field-0-is at c.in-Err-NoSuchLink.ensures.err)
-
-pub returns-in-Err-Disconnected-clause-outcome : goal.returns-in-Err-Disconnected-clause-outcome
-returns-in-Err-Disconnected-clause-outcome g c =
-    λ _. down_apart g.P.Application.from_text c.args.config.now c.args.a c.args.b _ _ c.topology.ensures
-    (rw c.in-Err-Disconnected.field-0-is at c.in-Err-Disconnected.ensures.err)

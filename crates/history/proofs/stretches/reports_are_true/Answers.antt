@@ -3,5 +3,5 @@ use Rattle.history.proofs.stretches.reports_are_true.Goals as goal
 
 pub returns : goal.returns
 returns g c =
-    λ opening es s graph whole shaped. true_reports g.P.Application.app g.P.Application.from_text opening
-    (record { graph = graph; whole = whole; shaped = shaped }) es s
+    λ opening es s graph shaped. true_reports g.P.Application.app g.P.Application.from_text opening
+    (record { graph = graph; shaped = shaped }) es s

@@ -6,6 +6,6 @@ pub returns : goal.returns
 returns g c =
     let app = g.P.Application.app in
     let laws = g.met.P.Application g.world.𝓛 g.world.𝓜 g.world.𝓡 ((λ s x. x), (λ x. x), (λ x. x), λ x. x) in
-    λ opening es s graph whole shaped is sound.
-    sound_stretch app g.P.Application.Inv laws.keeps g.P.Application.from_text opening es s
-    (record { graph = graph; whole = whole; shaped = shaped }) is sound
+    λ opening es s graph shaped is sound.
+    sound_stretch app g.P.Application.Inv laws.starts laws.keeps g.P.Application.from_text opening es s
+    (record { graph = graph; shaped = shaped }) is sound

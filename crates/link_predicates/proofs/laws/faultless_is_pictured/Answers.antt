@@ -2,11 +2,11 @@ use Rattle.reset_model.specs.Configuration.{tree_of, wave_of}
 use Rattle.link_predicates.proofs.laws.faultless_is_pictured.Goals as goal
 
 pub returns : goal.returns
-returns g c = λ config graph connected.
+returns g c = λ config graph.
     let t = tree_of config in
     let w = wave_of config in
     let tree = c.tree_pictures.ensures config.graph config.graph.bound t graph graph.bounded in
-    let wave = c.wave_pictures.ensures config.graph config.modulus t w graph connected in (
+    let wave = c.wave_pictures.ensures config.graph config.modulus t w graph in (
       λ all. let sound =
           (c.faultless_is_sound.ensures config graph).0 all
           in (let picture = tree.0 sound.tree in (picture, (wave picture).0 sound.wave)),

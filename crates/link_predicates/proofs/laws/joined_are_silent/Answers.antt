@@ -1,5 +1,7 @@
-use Rattle.std.proofs.Common.{sym, subst}
-use Rattle.topology.specs.Graph.{IsGraph}
+use Rattle.std.proofs.Common.{◌≤◌, length, sym, subst}
+use Rattle.topology.specs.Components.{component}
+use Rattle.topology.specs.Graph.{AreLinked, IsGraph, IsNode}
+use Rattle.topology.proofs.Components.{component_is, reached_itself}
 use Rattle.reset_model.specs.Refinement.{abstract_of}
 use Rattle.link_predicates.proofs.Silence.{silent}
 use Rattle.link_predicates.proofs.laws.joined_are_silent.Goals as goal
@@ -7,18 +9,27 @@ use Rattle.link_predicates.proofs.laws.joined_are_silent.Goals as goal
 pub returns-clause-invariant : goal.returns-clause-invariant
 returns-clause-invariant g c = λ config i graph inv joined.
     let app = g.P.Application.app in
-    silent app config i joined
+    let laws = g.met.P.Application g.world.𝓛 g.world.𝓜 g.world.𝓡 ((λ s x. x), (λ x. x), (λ x. x), λ x. x) in
+    silent app config graph i joined
     (λ j linked.
-    ((g.met.P.Application g.world.𝓛 g.world.𝓜 g.world.𝓡 ((λ s x. x), (λ x. x), (λ x. x), λ x. x)).quiet config.graph
-    config.graph.bound graph graph.bounded).at (abstract_of app config) inv i j linked)
+    let part = component_is config.graph i graph (graph.ends i j linked) in
+    let few = subst (λ K. length (component config.graph i).ids ≤ K) part.bound part.as_graph.bounded in
+    (laws.quiet (component config.graph i) config.graph.bound part.as_graph few).at (abstract_of app config) inv i j
+    ((part.same_links i j).1 (reached_itself config.graph i, linked)))
 
 pub returns-clause-opened : goal.returns-clause-opened
-returns-clause-opened g c = λ before after es ds i graph connected shaped sound run opened joined.
+returns-clause-opened g c = λ before after es ds i o graph shaped sound run reached opened joined.
     let app = g.P.Application.app in
+    let laws = g.met.P.Application g.world.𝓛 g.world.𝓜 g.world.𝓡 ((λ s x. x), (λ x. x), (λ x. x), λ x. x) in
     let kept = c.runs_stay_sound.ensures before after es ds graph shaped sound run in
-    let graph_after : IsGraph after.graph = subst IsGraph (sym kept.0) graph in
-    let inv = c.invariants.ensures.opened before after es ds graph connected shaped sound run opened in
-    silent app after i joined
+    let there : IsGraph after.graph = subst IsGraph (sym kept.0) graph in
+    silent app after there i joined
     (λ j linked.
-    ((g.met.P.Application g.world.𝓛 g.world.𝓜 g.world.𝓡 ((λ s x. x), (λ x. x), (λ x. x), λ x. x)).quiet after.graph
-    after.graph.bound graph_after graph_after.bounded).at (abstract_of app after) inv i j linked)
+    let node : IsNode after.graph i = there.ends i j linked in
+    let inv =
+    c.invariants.ensures.opened before after es ds graph shaped sound run i (subst (λ h. IsNode h i) kept.0 node) o
+    reached opened in
+    let part = component_is after.graph i there node in
+    let few = subst (λ K. length (component after.graph i).ids ≤ K) part.bound part.as_graph.bounded in
+    (laws.quiet (component after.graph i) after.graph.bound part.as_graph few).at (abstract_of app after) inv i j
+    ((part.same_links i j).1 (reached_itself after.graph i, linked)))

@@ -3,5 +3,5 @@ use Rattle.reset_model.proofs.run_laws.completions.Goals as goal
 
 pub returns : goal.returns
 returns g c =
-    λ d d' es ds graph whole shaped sound run. completions_hold g.P.Application.app es ds d d' graph whole shaped sound
+    λ d d' es ds graph shaped sound run. completions_hold g.P.Application.app es ds d d' graph shaped sound
     run

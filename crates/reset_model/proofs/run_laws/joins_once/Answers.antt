@@ -5,8 +5,8 @@ use Rattle.reset_model.proofs.run_laws.joins_once.Goals as goal
 
 pub returns-clause-once : goal.returns-clause-once
 returns-clause-once g c =
-    λ d d1 d2 d3 o p session reply es ds graph whole shaped sound. joins_once g.P.Application.app d d1 d2 d3 o p session
-    reply es ds graph whole shaped sound
+    λ d d1 d2 d3 o p session reply es ds graph shaped sound. joins_once g.P.Application.app d d1 d2 d3 o p session
+    reply es ds graph shaped sound
 
 pub returns-clause-restarts : goal.returns-clause-restarts
 returns-clause-restarts g c =

@@ -31,9 +31,6 @@ pub returns-in-TwiceLink-clause-err : goal.returns-in-TwiceLink-clause-err
 returns-in-TwiceLink-clause-err g c =
     rw (c.in-TwiceLink.is, sym (twice_link c.in-TwiceLink.a c.in-TwiceLink.b)) c.put_link_fault.ensures.err
 
-pub returns-in-Disconnected-clause-ok : goal.returns-in-Disconnected-clause-ok
-returns-in-Disconnected-clause-ok g c = rw c.in-Disconnected.is c.put_node_fault-in-Disconnected.ensures.ok
-
 pub returns-in-NoMemory-clause-ok : goal.returns-in-NoMemory-clause-ok
 returns-in-NoMemory-clause-ok g c = rw c.in-NoMemory.is c.put_bytes-in-NoMemory.ensures.ok
 

@@ -9,7 +9,7 @@ returns-clause-run g c =
     lines_make_run (meaning_of g.P.Application.app g.P.Application.text g.P.Application.from_text g.P.Application.names)
 
 pub returns-clause-lawful : goal.returns-clause-lawful
-returns-clause-lawful g c = λ d n lines calm graph connected shaped sound.
+returns-clause-lawful g c = λ d n lines calm graph shaped sound.
     let m = meaning_of g.P.Application.app g.P.Application.text g.P.Application.from_text g.P.Application.names in
     let es = events_of_lines m d n lines in
     let ds = event_answers m.app d es in
@@ -17,8 +17,8 @@ returns-clause-lawful g c = λ d n lines calm graph connected shaped sound.
     let run = lines_make_run m d n lines calm in
     record {
       sound = (c.runs_stay_sound.ensures d last es ds graph shaped sound run).2;
-      refines = c.refinement.ensures d last es ds graph connected shaped sound run;
-      invariant = c.invariants.ensures.kept d last es ds graph connected shaped sound run;
-      restored = c.invariants.ensures.opened d last es ds graph connected shaped sound run;
-      completion = c.completions.ensures d last es ds graph connected shaped sound run;
+      refines = c.refinement.ensures d last es ds graph shaped sound run;
+      invariant = c.invariants.ensures.kept d last es ds graph shaped sound run;
+      restored = c.invariants.ensures.opened d last es ds graph shaped sound run;
+      completion = c.completions.ensures d last es ds graph shaped sound run;
     }

@@ -1,5 +1,5 @@
 use Rattle.std.proofs.Common.{sym, subst}
-use Rattle.topology.specs.Graph.{IsConnected, IsGraph}
+use Rattle.topology.specs.Graph.{IsGraph}
 use Rattle.reset_model.proofs.SoundConfigurations.{boot_tree_picture, boot_wave_picture, pictures_sound}
 use Rattle.reset_machine.proofs.config.Config.boot.Goals as goal
 
@@ -18,6 +18,5 @@ returns-clause-sound g c =
     let nodes = c.in_ok-nodes.nodes in
     let same = sym c.in_ok-nodes.ensures.ok.graph in
     pictures_sound nodes (subst IsGraph same c.lemma_is_graph.ensures.graph)
-    (subst IsConnected same c.lemma_is_graph.ensures.connected)
     (boot_tree_picture app c.args.topology c.args.modulus nodes c.lemma_is_graph.ensures.graph c.in_ok-nodes.ensures.ok)
     (boot_wave_picture app c.args.topology c.args.modulus nodes c.in_ok-nodes.ensures.ok)

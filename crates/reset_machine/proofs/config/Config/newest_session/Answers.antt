@@ -1,17 +1,27 @@
-use Rattle.std.proofs.Common.{◌-◌, ◌<◌, length, slice_index_or, sym, ap, ◌∙◌, arith}
-use Rattle.wave_layer.specs.declared.regs.WaveRegs.{WaveRegs}
-use Rattle.wave_layer.specs.declared.regs.Phase.TheVariants.{Normal}
-use Rattle.reset_model.proofs.Positions.{value_at-place}
+use Rattle.std.proofs.Common.{ap, subst, sym, ◌∙◌}
+use Rattle.topology.specs.Graph.{IsGraph}
+use Rattle.reset_model.specs.Configuration.{wave_of}
+use Rattle.reset_model.proofs.Positions.{position-Contains}
+use Rattle.reset_machine.proofs.LedNodes.{is_leader, placed_leader, placed_node}
 use Rattle.reset_machine.proofs.config.Config.newest_session.Goals as goal
 
-pub returns : goal.returns
-returns g c =
-    let now = c.self.inside.nodes in
-    let ids = now.graph.ids in
-    let shaped = c.waves-waves.ensures.shaped.waves in
-    let unset : WaveRegs = record { phase = Normal; session = 0 } in
-    let short : length ids - 1 < length ids = omega (arith, c.lemma_is_graph.ensures.graph.some) in
-    let newest =
-    value_at-place unset ids now.waves (length ids - 1) c.lemma_is_graph.ensures.graph.ascending shaped short in
-    rw (c.waves-waves.ensures.value, ← c.self.view_is)
-    (ap (λ r. r.session) (ap (λ n. slice_index_or now.waves (n - 1) unset) shaped ∙ sym newest))
+pub session_at-requires-after_bounds : goal.session_at-requires-after_bounds
+session_at-requires-after_bounds g c κs within =
+    let same = c.topology-topology.ensures ∙ ap (λ n. n.graph) c.self.view_is in
+    placed_leader _ c.args.self.now.graph same c.in-Some.index c.args.id c.in-Some.ensures c.get.result
+    (c.get.ensures.number ∙ c.greatest_of.ensures) (rw (← c.self.view_is) c.lemma_is_graph.ensures.graph)
+
+pub returns-in-Some-clause-found : goal.returns-in-Some-clause-found
+returns-in-Some-clause-found g c =
+    let same = c.topology-topology.ensures ∙ ap (λ n. n.graph) c.self.view_is in (
+      placed_node _ c.args.self.now.graph same c.in-Some.index c.args.id c.in-Some.ensures,
+      c.session_at.ensures
+          ∙ ap (λ l. (wave_of c.args.self.now l).session)
+          (is_leader _ c.args.self.now.graph same c.in-Some.index c.args.id c.in-Some.ensures c.get.result
+          (c.get.ensures.number ∙ c.greatest_of.ensures)),
+    )
+
+pub returns-in-None-clause-none : goal.returns-in-None-clause-none
+returns-in-None-clause-none g c =
+    let missing = rw (c.topology-topology.ensures, c.self.view_is) at (sym c.in-None.ensures) in
+    λ node. position-Contains c.args.self.now.graph.ids c.args.id node missing

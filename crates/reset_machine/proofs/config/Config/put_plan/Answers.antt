@@ -41,7 +41,6 @@ returns-clause-lawful g c =
     let new = c.write.new.self in
     let e = c.args.plan.event in
     let graph = c.lemma_is_graph.ensures.graph in
-    let whole = c.lemma_is_graph.ensures.connected in
     let shaped = c.lemma_is_graph.ensures.shaped in
     let seen = subst (IsSeen app now) c.seen_view.ensures c.in-Some.ensures.seen in
     let at = at_id now now _ _ c.in-Some.ensures.place ∙ ap (λ v. v.id) c.seen_view.ensures in
@@ -49,8 +48,7 @@ returns-clause-lawful g c =
     let is =
     put-planned app now c.args.plan.view e c.into_effect.result c.args.plan.reply seen c.into_effect.ensures
     ∙ ap₂ (λ d r. Ok (d, r)) (sym written) (sym c.reply-reply.ensures) in
-    sound_step app g.P.Application.Inv now new e graph whole shaped
-    (λ reply run sound inv. c.invariants.ensures.kept now new (e ∷ []) (Did reply ∷ []) graph whole shaped sound run
-    inv)
-    (λ reply run sound opens. c.invariants.ensures.opened now new (e ∷ []) (Did reply ∷ []) graph whole shaped sound run
-    opens) (Ok c.reply-reply.result) is
+    sound_step app g.P.Application.Inv now new e graph shaped
+    (λ reply run sound. c.invariants.ensures.kept now new (e ∷ []) (Did reply ∷ []) graph shaped sound run)
+    (λ reply run sound. c.invariants.ensures.opened now new (e ∷ []) (Did reply ∷ []) graph shaped sound run)
+    (Ok c.reply-reply.result) is

@@ -13,7 +13,6 @@ returns g c =
     let e = c.args.event in
     let r = c.perform.result in
     let graph = c.lemma_is_graph.ensures.graph in
-    let whole = c.lemma_is_graph.ensures.connected in
     let shaped = c.lemma_is_graph.ensures.shaped in
     let is = c.perform.ensures.outcome in
     record {
@@ -21,10 +20,9 @@ returns g c =
       reply = done_reply app now new e graph shaped r is;
       err = done_refused app now new e graph shaped r is;
       kept = c.perform.ensures.kept;
-      lawful = sound_step app Inv now new e graph whole shaped
-          (λ reply run sound inv. c.invariants.ensures.kept now new (e ∷ []) (Did reply ∷ []) graph whole shaped sound
-          run inv)
-          (λ reply run sound opens. c.invariants.ensures.opened now new (e ∷ []) (Did reply ∷ []) graph whole shaped
-          sound run opens) r is;
+      lawful = sound_step app Inv now new e graph shaped
+          (λ reply run sound. c.invariants.ensures.kept now new (e ∷ []) (Did reply ∷ []) graph shaped sound run)
+          (λ reply run sound. c.invariants.ensures.opened now new (e ∷ []) (Did reply ∷ []) graph shaped sound run) r
+          is;
       outcome = is;
     }

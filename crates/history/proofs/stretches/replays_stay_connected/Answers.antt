@@ -1,9 +1,0 @@
-use Rattle.history.proofs.KeptNetworks.{replayed_network}
-use Rattle.history.proofs.stretches.replays_stay_connected.Goals as goal
-
-pub returns : goal.returns
-returns g c =
-    λ d left es graph whole shaped is.
-    let network = replayed_network g.P.Application.app g.P.Application.from_text es d left
-    (record { graph = graph; whole = whole; shaped = shaped }) is in
-    (network.graph, network.whole, network.shaped)
