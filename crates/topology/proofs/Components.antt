@@ -228,13 +228,3 @@ pub part_leader : (g : Graph) (i j : ℕ) → IsGraph g → IsNode g i → IsRea
     → leader (component g i) j ≡ leader g i
 unfolding leader
 part_leader g i j are i_in r = ap greatest (part_component g i j are i_in r)
-
--- ---- as lists and as a test
-
-pub component_ids : (g : Graph) (i : ℕ) → (component g i).ids ≡ filter (reaches g i) g.ids
-unfolding component
-component_ids g i = refl
-
-pub reached_from_test : (g : Graph) (a b : ℕ) → reaches g a b ≡ true → IsReached g a b
-unfolding reaches
-reached_from_test g a b e = walk_from_test g a (length g.ids) b e
