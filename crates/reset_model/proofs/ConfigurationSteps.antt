@@ -1,5 +1,5 @@
 -- The outcome of an event is a step of the configuration with its reply, or the first refusal.
-use Rattle.std.proofs.Common.{◌≡◌, ℕ, Bool, true, false, cond, Option}
+use Rattle.std.proofs.Common.{◌≡◌, ℕ, Bool, true, false, cond, Contains, Option}
 use Rattle.std.proofs.Common.{Result, Ok, Err, MatchResult, refl, sym, ap, subst, ◌∙◌}
 use Rattle.app_interface.specs.Application.{App}
 use Rattle.topology.specs.Graph.{Graph, IsGraph, IsNode, Changes, node_bound}

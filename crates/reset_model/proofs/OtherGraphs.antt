@@ -46,9 +46,9 @@ value_at-renewed d comes new (k ∷ ks) (x ∷ xs) id same there =
         → Contains (k ∷ ks) id
         → value_at d (k ∷ ks) (renewed comes new (k ∷ ks) (x ∷ xs)) id
         ≡ cond (comes id) (new id) (value_at d (k ∷ ks) (x ∷ xs) id)
-    at (inl t) rest there = rw (t.0, t.0) (ap (λ n. cond (comes n) (new n) x) t.1)
+    at (inl t) rest there = rw t.0 (ap (λ n. cond (comes n) (new n) x) t.1)
     at (inr t) rest (zero, short, here) = absurd (t.1 here)
-    at (inr t) rest (suc n, short, here) = rw (t.0, t.0) (rest (n, omega (arith, short), here))
+    at (inr t) rest (suc n, short, here) = rw t.0 (rest (n, omega (arith, short), here))
 
 module _ {L : Type 0} (app : App L) (c : Configuration L) (g : Graph) (same : g.ids ≡ c.graph.ids)
     (shaped : IsShaped c) where
