@@ -1,7 +1,7 @@
 use Rattle.std.proofs.Common.{ap, subst, sym, ◌∙◌}
 use Rattle.topology.specs.Graph.{IsGraph}
 use Rattle.reset_model.specs.Configuration.{wave_of}
-use Rattle.reset_model.proofs.Positions.{position-Contains}
+use Rattle.reset_model.proofs.NodePositions.{no_node_placed}
 use Rattle.reset_machine.proofs.LedNodes.{is_leader, placed_leader, placed_node}
 use Rattle.reset_machine.proofs.config.Config.newest_session.Goals as goal
 
@@ -24,4 +24,4 @@ returns-in-Some-clause-found g c =
 pub returns-in-None-clause-none : goal.returns-in-None-clause-none
 returns-in-None-clause-none g c =
     let missing = rw (c.topology-topology.ensures, c.self.view_is) at (sym c.in-None.ensures) in
-    λ node. position-Contains c.args.self.now.graph.ids c.args.id node missing
+    no_node_placed c.args.self.now.graph (rw (← c.self.view_is) c.lemma_is_graph.ensures.graph) c.args.id missing
