@@ -16,10 +16,11 @@ use Rattle.std.proofs.lemmas.List.{get_or_default, get_or-map, length-map}
 use Rattle.std.proofs.lemmas.List.Quantifiers.{position-Some}
 use Rattle.std.specs.Cmp.{both_ways as same_tests}
 use Rattle.std.proofs.lemmas.Option.{none-some}
+use Rattle.topology.specs.Changing.{IsIndexOf}
 use Rattle.topology.specs.Graph.{pair_cmp, are_linked, AreLinked, IsGraph, has, neighbours_of}
 use Rattle.topology.specs.Rows.{row_at, near_has, pairs_at, links_of, graph_of, AreIds, AreNodes, AreRows, AreTied}
 use Rattle.topology.proofs.Ascending.{contains_from_test, member_at, member_by_index, index_once, filter_by_row}
-use Rattle.topology.proofs.Ascending.{index_of_item, member_by_search, test_from_contains}
+use Rattle.topology.proofs.Ascending.{member_by_search, test_from_contains}
 
 -- ---- pairs as keys of a set
 
@@ -182,17 +183,6 @@ module _ (ids : List ℕ) (rows : List (List ℕ)) where
         sym (linked_at i j i_in index.0)
         ∙ ap (are_linked (graph_of ids ids rows) (get_or ids i 0)) (eqb-true (get_or ids j 0) b index.1)
 
-    pub unlinked_first : (a b : ℕ) → None ≡ position (λ k. eqb k a) ids → false ≡ are_linked (graph_of ids ids rows) a b
-    unlinked_first a b none =
-        sym (false_from_ne_true _ (λ e.
-        let l = linked_from a b e in
-        let index : Some l.i ≡ position (λ k. eqb k a) ids = index_of_item ids a up l.i l.within l.first in
-        absurd (none-some l.i (none ∙ sym index))))
-
-    pub unlinked_second : (a b : ℕ) → None ≡ position (λ k. eqb k b) ids → false ≡ are_linked (graph_of ids ids rows) a b
-    unlinked_second a b none =
-        unlinked_first b a none ∙ same_tests _ _ (linked_symmetric b a) (linked_symmetric a b)
-
 pub tied_graph : (ids nodes : List ℕ) (rows : List (List ℕ)) → AreTied ids nodes rows → IsGraph (graph_of ids nodes rows)
 tied_graph ids nodes rows tied =
     graph_of_rows ids rows tied.as_ids.ascending tied.as_rows nodes tied.as_ids.some tied.as_nodes tied.ends
@@ -222,6 +212,12 @@ node_index ids nodes x i at = cases (has nodes x) refl
     cases : (b : Bool) → has nodes x ≡ b → (Some i ≡ position (λ k. eqb k x) ids) × (has nodes x ≡ true)
     cases true is = (rw is at at, is)
     cases false is = absurd (none-some i (sym (rw is at at)))
+
+-- and stands there
+pub index_found : (ids nodes : List ℕ) (x i : ℕ) → Some i ≡ index_if_node ids nodes x → IsIndexOf ids x i
+index_found ids nodes x i at =
+    let found = position-Some (λ k. eqb k x) ids i 0 (sym (node_index ids nodes x i at).0) in
+    (found.0, eqb-true (get_or ids i 0) x found.1)
 
 -- what has no such index is no node
 pub no_node_index : (ids nodes : List ℕ) → AreNodes ids nodes → (x : ℕ) → None ≡ index_if_node ids nodes x

@@ -84,8 +84,8 @@ pub record IsLeader (g : Graph) (i leader : ℕ) : Type 0 where
   pub reached : IsReached g i leader
   pub greatest : (j : ℕ) → IsReached g i j → j ≤ leader
 
--- what each graph of the service is: some of its identifiers are nodes, all of them or none included, and links
--- join two different nodes, in both directions
+-- what each graph of the service is: some identifiers, of which any may be nodes, and links that join two
+-- different nodes, in both directions
 pub record IsGraph (g : Graph) : Type 0 where
   pub some : 0 < length g.ids
   pub ascending : IsStrictlyIncreasing g.ids

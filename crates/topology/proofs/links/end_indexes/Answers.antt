@@ -1,16 +1,8 @@
-use Rattle.std.proofs.Common.{◌≡◌, ◌==◌, true, false, ℕ, List, Some, None, not, get_or, ap, refl, sym, ◌∙◌}
-use Rattle.std.proofs.lemmas.Bool.{eqb-true}
-use Rattle.std.proofs.lemmas.List.Quantifiers.{position-Some}
+use Rattle.std.proofs.Common.{◌≡◌, true, false, ℕ, List, Some, None, not, ap, refl, sym, ◌∙◌}
 use Rattle.topology.specs.Graph.{has}
-use Rattle.topology.specs.Changing.{IsIndexOf}
 use Rattle.topology.specs.Rows.{AreNodes}
-use Rattle.topology.proofs.RowLemmas.{index_if_node, no_node_index, node_index}
+use Rattle.topology.proofs.RowLemmas.{index_found, index_if_node, no_node_index, node_index}
 use Rattle.topology.proofs.links.end_indexes.Goals as goal
-
-index_found : (ids nodes : List ℕ) (x i : ℕ) → Some i ≡ index_if_node ids nodes x → IsIndexOf ids x i
-index_found ids nodes x i at =
-    let found = position-Some (λ k. k == x) ids i 0 (sym (node_index ids nodes x i at).0) in
-    (found.0, eqb-true (get_or ids i 0) x found.1)
 
 known : (ids nodes : List ℕ) (x i : ℕ) → Some i ≡ index_if_node ids nodes x → not (has nodes x) ≡ false
 known ids nodes x i at = ap not (node_index ids nodes x i at).1

@@ -1,20 +1,13 @@
-use Rattle.std.proofs.Common.{◌≡◌, ◌-◌, ◌==◌, ℕ, List, Some, false, ap, refl, sym, get_or, ◌∙◌, arith}
-use Rattle.std.proofs.lemmas.Bool.{eqb-true}
-use Rattle.std.proofs.lemmas.List.Quantifiers.{position-Some}
+use Rattle.std.proofs.Common.{◌≡◌, ◌-◌, false, ap, refl, sym, ◌∙◌, arith}
 use Rattle.std.specs.Vec.{with_items}
-use Rattle.topology.specs.Changing.{IsIndexOf, without_node}
+use Rattle.topology.specs.Changing.{without_node}
 use Rattle.topology.specs.Graph.{is_node, node_at}
 use Rattle.topology.specs.Rows.{graph_of}
 use Rattle.topology.proofs.Changed.{Made, row_links, searched_rows, without_node_made}
 use Rattle.topology.proofs.Inserting.{rows_of}
-use Rattle.topology.proofs.RowLemmas.{index_if_node, no_node_index, node_index}
+use Rattle.topology.proofs.RowLemmas.{index_found, no_node_index}
 use Rattle.topology.proofs.topology.Topology.without_node.Goals as goal
 use Rattle.topology.proofs.topology.Topology.without_node.Goals.{After-len}
-
-index_found : (ids nodes : List ℕ) (x i : ℕ) → Some i ≡ index_if_node ids nodes x → IsIndexOf ids x i
-index_found ids nodes x i at =
-    let found = position-Some (λ k. k == x) ids i 0 (sym (node_index ids nodes x i at).0) in
-    (found.0, eqb-true (get_or ids i 0) x found.1)
 
 pub returns-in-None-clause-err : goal.returns-in-None-clause-err
 returns-in-None-clause-err c =
