@@ -1,7 +1,7 @@
 // What another topology of the same identifiers makes of registers and local states: those of the nodes that come
 // up are new, and the others stay.
 
-ghost use Rattle.std.specs.Prelude.{◌≡◌, length, map, slice_index};
+ghost use Rattle.std.specs.Prelude.{◌≡◌, ◌<◌, length, map, slice_index};
 ghost use Rattle.topology.specs.Graph.{Graph};
 ghost use Rattle.tree_layer.specs.TreeRows.{claimed};
 ghost use Rattle.wave_layer.specs.declared.regs.Phase.TheVariants.{Normal};

@@ -1,9 +1,18 @@
 use Rattle.std.proofs.Common.{ap, subst, sym, ◌∙◌}
 use Rattle.topology.specs.Graph.{IsGraph}
 use Rattle.reset_model.specs.Configuration.{wave_of}
-use Rattle.reset_model.proofs.NodePositions.{no_node_placed}
+use Rattle.topology.specs.Graph.{is_node}
+use Rattle.reset_model.proofs.NodePositions.{a_node, no_node_placed, node_placed}
+use Rattle.reset_model.proofs.Positions.{id_at-position}
 use Rattle.reset_machine.proofs.LedNodes.{is_leader, placed_leader, placed_node}
 use Rattle.reset_machine.proofs.config.Config.newest_session.Goals as goal
+
+-- the node that was found is up
+pub greatest_of-requires-clause-up : goal.greatest_of-requires-clause-up
+greatest_of-requires-clause-up g c =
+    let h = c.topology-topology.result.now in
+    let placed = node_placed h c.args.id c.in-Some.index (sym c.in-Some.ensures) in
+    ap (is_node h) (id_at-position h.ids c.in-Some.index c.args.id placed.1) ∙ a_node h.nodes c.args.id placed.0
 
 pub session_at-requires-after_bounds : goal.session_at-requires-after_bounds
 session_at-requires-after_bounds g c κs within =

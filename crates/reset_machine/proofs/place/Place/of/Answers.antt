@@ -2,8 +2,8 @@ use Rattle.std.proofs.Common.{sym}
 use Rattle.reset_model.proofs.NodePositions.{no_node_placed, node_placed}
 use Rattle.reset_machine.proofs.place.Place.of.Goals as goal
 
-pub invariant_of-result-in-Some : goal.invariant_of-result-in-Some
-invariant_of-result-in-Some g c =
+pub invariant_of-result : goal.invariant_of-result
+invariant_of-result g c =
     let placed =
     node_placed c.args.nodes.now.graph c.args.id _ (rw c.topology.ensures at (sym c.in-Some.ensures)) in
     (placed.1, placed.0)
