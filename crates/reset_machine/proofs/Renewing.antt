@@ -80,3 +80,19 @@ module _ {X : Type 0} (comes : ℕ → Bool) (new : ℕ → X) where
         → length old ≡ length ids → now ≡ renewed comes new ids old
     all_renewed k now are ended all =
         renewed-done ids now (are.count ∙ all) (λ j d low. are.done j d (omega (arith, low, ended)) low) ∙ are.rest
+
+-- what stands at a place of the renewed values
+pub renewed-at : {X : Type 0} (comes : ℕ → Bool) (new : ℕ → X) (ids : List ℕ) (xs : List X) (k : ℕ) (d : X)
+    → length xs ≡ length ids → k < length ids
+    → get_or (renewed comes new ids xs) k d ≡ cond (comes (get_or ids k 0)) (new (get_or ids k 0)) (get_or xs k d)
+renewed-at comes new [] xs k d same low = absurd (omega arith)
+renewed-at comes new (i ∷ is) [] k d same low = absurd (omega (arith, same))
+renewed-at comes new (i ∷ is) (x ∷ xs) zero d same low = refl
+renewed-at comes new (i ∷ is) (x ∷ xs) (suc k) d same low =
+    renewed-at comes new is xs k d (omega (arith, same)) (omega arith)
+
+pub length-renewed : {X : Type 0} (comes : ℕ → Bool) (new : ℕ → X) (ids : List ℕ) (xs : List X)
+    → length xs ≡ length ids → length (renewed comes new ids xs) ≡ length ids
+length-renewed comes new [] xs same = refl
+length-renewed comes new (i ∷ is) [] same = absurd (omega (arith, same))
+length-renewed comes new (i ∷ is) (x ∷ xs) same = ap suc (length-renewed comes new is xs (omega (arith, same)))

@@ -4,7 +4,7 @@ ghost use Rattle.std.specs.Prelude.{◌≡◌, ◌<◌, IfErr, IfOk, OnErr, OnOk
 ghost use Rattle.topology.specs.Graph.{IsGraph};
 ghost use Rattle.reset_model.specs.Configuration.{IsShaped, start_list};
 
-use crate::renewal::{renew_locals, renew_trees, renew_waves};
+use crate::renewal::{renew_trees, renew_waves, renewed_locals};
 use app_interface::Application;
 use std::alloc::{AllocError, AllocFailed, Global};
 use std::marker::Model;
@@ -163,13 +163,14 @@ impl<P: Application> Nodes<P> {
             Ok(starts) => starts,
             Err(AllocError) => return Err(AllocFailed { value: topology }),
         };
-        let fresh = match start_all::<P>(alloc, &topology) {
-            Ok(fresh) => fresh,
+        let before = &self.topology;
+        let locals = match renewed_locals::<P>(alloc, before, &topology, &self.locals) {
+            Ok(locals) => locals,
             Err(AllocError) => return Err(AllocFailed { value: topology }),
         };
         renew_trees(&self.topology, &topology, &mut self.trees);
         renew_waves(&self.topology, &topology, &mut self.waves);
-        renew_locals::<P>(&self.topology, &topology, fresh, &mut self.locals);
+        self.locals = locals;
         self.topology = topology;
         self.starts = starts;
         Ok(())

@@ -1,13 +1,13 @@
 // What another topology of the same identifiers makes of registers and local states: those of the nodes that come
 // up are new, and the others stay.
 
-ghost use Rattle.std.specs.Prelude.{◌≡◌, ◌<◌, length, map, slice_index};
-ghost use Rattle.topology.specs.Graph.{Graph};
+ghost use Rattle.std.specs.Prelude.{◌≡◌, ◌<◌, if◌then◌else◌, IfOk, length, slice_index};
 ghost use Rattle.tree_layer.specs.TreeRows.{claimed};
 ghost use Rattle.wave_layer.specs.declared.regs.Phase.TheVariants.{Normal};
 ghost use Rattle.reset_model.specs.Topologies.{comes_up, renewed};
 
 use app_interface::Application;
+use std::alloc::{AllocError, Global};
 use topology::Topology;
 use tree_layer::TreeRegs;
 use wave_layer::{Phase, WaveRegs};
@@ -55,21 +55,41 @@ pub fn renew_waves(old: &Topology, new: &Topology, waves: &mut [WaveRegs])
     }
 }
 
-/// Puts the start state of each node that comes up, of the start states of all identifiers.
-pub fn renew_locals<P: Application>(
+/// The local states after the change: of each node that comes up its start state, and a copy of any other.
+pub fn renewed_locals<P: Application>(
+    alloc: Global,
     old: &Topology,
     new: &Topology,
-    starts: Vec<P::Local>,
-    locals: &mut [P::Local],
-)
+    locals: &[P::Local],
+) -> Result<Vec<P::Local>, AllocError>
     requires same { new.now.ids ≡ old.now.ids }
-    requires count { length locals.old ≡ length new.now.ids }
-    requires starts { starts.items ≡ map (P.app.start new.now) new.now.ids }
-    ensures { locals.new ≡ renewed (comes_up old.now new.now) (P.app.start new.now) new.now.ids locals.old }
+    requires count { length locals.now ≡ length new.now.ids }
+    ensures { IfOk result (λ after. after.items
+        ≡ renewed (comes_up old.now new.now) (P.app.start new.now) new.now.ids locals.now) }
 {
-    for (index, start) in starts.into_iter().enumerate() {
-        if comes_up(old, new, index) {
-            locals[index] = start;
-        }
+    let mut after = Vec::with_capacity(alloc, locals.len())?;
+    for (index, local) in locals.iter().enumerate() {
+        after.push(renewed_local::<P>(alloc, old, new, index, local)?)?;
+    }
+    Ok(after)
+}
+
+// The local state at this index after the change.
+fn renewed_local<P: Application>(
+    alloc: Global,
+    old: &Topology,
+    new: &Topology,
+    index: usize,
+    local: &P::Local,
+) -> Result<P::Local, AllocError>
+    requires same { new.now.ids ≡ old.now.ids }
+    requires short { index < length new.now.ids }
+    ensures { let id = slice_index new.now.ids index in
+        IfOk result (λ after. after ≡ (if comes_up old.now new.now id then P.app.start new.now id else local.now)) }
+{
+    if comes_up(old, new, index) {
+        P::on_start(alloc, new, index)
+    } else {
+        P::copy(alloc, local)
     }
 }

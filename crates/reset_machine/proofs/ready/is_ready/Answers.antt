@@ -1,13 +1,23 @@
-use Rattle.std.proofs.Common.{rules, ◌≡◌, ◌<◌, All, IfOk, OnOk, length, map, slice_index, ℕ, ◌+◌, ◌-◌, ◌*◌, ◌≤◌, ◌/◌, ◌%◌, Bool, true, false, nat_eq, nat_lt, List, [], ◌∷◌, ◌++◌, slice_index_or, slice_set, bit_and, bit_or, Fits, w8, w32, w64, Bor, MutBor}
-use Rattle.std.specs.List.Sorted.{IsNonDecreasing, IsPermutation}
-use Rattle.reset_machine.specs.Enabled.{is_ready}
-use Rattle.reset_machine.specs.Known.{IsKnown}
+use Rattle.std.proofs.Common.{Bool, Result, sym, ap, ap₂, subst, ◌&&◌, ◌∙◌, slice_index}
+use Rattle.topology.specs.Graph.{Graph, is_node}
+use Rattle.topology.proofs.Membership.{Contains-has}
+use Rattle.reset_machine.specs.Enabled.{has_work_at}
+use Rattle.reset_machine.proofs.StepShadows.{if_ok}
 use Rattle.reset_machine.proofs.ready.is_ready.Goals as goal
 
--- src/ready.rt:53:22
 pub at-requires-clause-node : goal.at-requires-clause-node
-at-requires-clause-node g c κs within = ?
+at-requires-clause-node g c κs within =
+    let graph = c.args.nodes.now.graph in
+    Contains-has graph.nodes (slice_index graph.ids c.args.index)
+    (rw c.topology.ensures at (sym c.if-not-is_up.ensures))
 
--- src/ready.rt:40:1
 pub returns : goal.returns
-returns g c = ?
+returns g c =
+    let app = g.P.Application.app in
+    let now = c.args.nodes.now in
+    let id = slice_index now.graph.ids c.args.index in
+    let up = rw c.topology.ensures at (sym c.if-not-is_up.ensures) in
+    if_ok _ _
+    (λ ready is. is ∙ ap₂ (has_work_at app) c.at.ensures.config c.at.ensures.id
+    ∙ sym (ap (λ b. b && has_work_at app now id) up))
+    c.has_work.result c.has_work.ensures
