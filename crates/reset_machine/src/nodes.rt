@@ -4,7 +4,7 @@ ghost use Rattle.std.specs.Prelude.{◌≡◌, ◌<◌, IfErr, IfOk, OnErr, OnOk
 ghost use Rattle.topology.specs.Graph.{IsGraph};
 ghost use Rattle.reset_model.specs.Configuration.{IsShaped, start_list};
 
-use crate::renewal::{renew_trees, renew_waves, renewed_locals};
+use crate::renewal::{copy_all, renew_trees, renew_waves, renewed_locals};
 use app_interface::Application;
 use std::alloc::{AllocError, AllocFailed, Global};
 use std::marker::Model;
@@ -234,15 +234,4 @@ fn start_all<P: Application>(
         starts.push(P::on_start(alloc, topology, index)?)?;
     }
     Ok(starts)
-}
-
-// A copy of each local state.
-fn copy_all<P: Application>(alloc: Global, locals: &[P::Local]) -> Result<Vec<P::Local>, AllocError>
-    ensures { IfOk result (λ copies. copies.items ≡ locals.now) }
-{
-    let mut copies = Vec::new(alloc);
-    for local in locals {
-        copies.push(P::copy(alloc, local)?)?;
-    }
-    Ok(copies)
 }

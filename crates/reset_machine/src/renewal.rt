@@ -1,7 +1,7 @@
 // What another topology of the same identifiers makes of registers and local states: those of the nodes that come
 // up are new, and the others stay.
 
-ghost use Rattle.std.specs.Prelude.{◌≡◌, ◌<◌, if◌then◌else◌, IfOk, length, slice_index};
+ghost use Rattle.std.specs.Prelude.{◌≡◌, ◌<◌, IfOk, length, slice_index};
 ghost use Rattle.tree_layer.specs.TreeRows.{claimed};
 ghost use Rattle.wave_layer.specs.declared.regs.Phase.TheVariants.{Normal};
 ghost use Rattle.reset_model.specs.Topologies.{comes_up, renewed};
@@ -67,29 +67,25 @@ pub fn renewed_locals<P: Application>(
     ensures { IfOk result (λ after. after.items
         ≡ renewed (comes_up old.now new.now) (P.app.start new.now) new.now.ids locals.now) }
 {
-    let mut after = Vec::with_capacity(alloc, locals.len())?;
-    for (index, local) in locals.iter().enumerate() {
-        after.push(renewed_local::<P>(alloc, old, new, index, local)?)?;
+    let mut after = copy_all::<P>(alloc, locals)?;
+    for index in 0..locals.len() {
+        if comes_up(old, new, index) {
+            after[index] = P::on_start(alloc, new, index)?;
+        }
     }
     Ok(after)
 }
 
-// The local state at this index after the change.
-fn renewed_local<P: Application>(
+/// A copy of each local state.
+pub fn copy_all<P: Application>(
     alloc: Global,
-    old: &Topology,
-    new: &Topology,
-    index: usize,
-    local: &P::Local,
-) -> Result<P::Local, AllocError>
-    requires same { new.now.ids ≡ old.now.ids }
-    requires short { index < length new.now.ids }
-    ensures { let id = slice_index new.now.ids index in
-        IfOk result (λ after. after ≡ (if comes_up old.now new.now id then P.app.start new.now id else local.now)) }
+    locals: &[P::Local],
+) -> Result<Vec<P::Local>, AllocError>
+    ensures { IfOk result (λ copies. copies.items ≡ locals.now) }
 {
-    if comes_up(old, new, index) {
-        P::on_start(alloc, new, index)
-    } else {
-        P::copy(alloc, local)
+    let mut copies = Vec::new(alloc);
+    for local in locals {
+        copies.push(P::copy(alloc, local)?)?;
     }
+    Ok(copies)
 }
