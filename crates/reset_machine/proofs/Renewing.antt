@@ -1,6 +1,7 @@
 -- What is reached of renewing the values of the ids that come up, one after another.
-use Rattle.std.proofs.Common.{◌≡◌, ◌≢◌, ℕ, zero, suc, ◌+◌, ◌<◌, Bool, true, false, cond, List, [], ◌∷◌, length, get_or}
+use Rattle.std.proofs.Common.{◌≡◌, ◌≢◌, ℕ, zero, suc, ◌+◌, ◌<◌, Bool, true, false, cond, List, [], ◌∷◌, ◌++◌, length, get_or, take, drop}
 use Rattle.std.proofs.Common.{set, refl, sym, ap, ap₂, ◌∙◌, ⊎_elim, true≢false, arith}
+use Rattle.std.proofs.Math.Seq.{take-append_seam}
 use Rattle.std.proofs.lemmas.Bool.{cases_Bool, cases_eq}
 use Rattle.std.proofs.lemmas.List.{get_or-set_other, get_or-set_same, length-set}
 use Rattle.reset_model.specs.Topologies.{renewed}
@@ -96,3 +97,7 @@ pub length-renewed : {X : Type 0} (comes : ℕ → Bool) (new : ℕ → X) (ids 
 length-renewed comes new [] xs same = refl
 length-renewed comes new (i ∷ is) [] same = absurd (omega (arith, same))
 length-renewed comes new (i ∷ is) (x ∷ xs) same = ap suc (length-renewed comes new is xs (omega (arith, same)))
+
+-- a list that is written over the first places of another one, of which as many are taken
+pub take_written : {X : Type 0} (n : ℕ) (ys xs : List X) → length ys ≡ n → take n (ys ++ drop (length ys) xs) ≡ ys
+take_written n ys xs same = rw (← same) (take-append_seam ys (drop (length ys) xs))
