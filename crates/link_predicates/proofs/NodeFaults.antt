@@ -121,10 +121,10 @@ none_told N (Some x) found same = tt
 pub alarm_is : {L : Type 0} (app : App L) (c : Configuration L) (i : ℕ) (near : List ℕ)
     → map (λ n. slice_index c.graph.ids n) near ≡ neighbours_of c.graph i
     → find is_of_app
-    (flat_map (link_faults app c.graph.bound c.modulus (near_of app c i)) (at_indexes (near_of app c) c.graph.ids near))
+    (flat_map (link_faults app (node_bound c.graph) c.modulus (near_of app c i)) (at_indexes (near_of app c) c.graph.ids near))
     ≡ alarm_of app c i
 alarm_is app c i near lists =
-    ap (λ js. find is_of_app (flat_map (link_faults app c.graph.bound c.modulus (near_of app c i)) (map (near_of app c) js)))
+    ap (λ js. find is_of_app (flat_map (link_faults app (node_bound c.graph) c.modulus (near_of app c i)) (map (near_of app c) js)))
     lists
     ∙ sym (none_of_own i (own_row c i)
-    (flat_map (link_faults app c.graph.bound c.modulus (near_of app c i)) (map (near_of app c) (neighbours_of c.graph i))))
+    (flat_map (link_faults app (node_bound c.graph) c.modulus (near_of app c i)) (map (near_of app c) (neighbours_of c.graph i))))

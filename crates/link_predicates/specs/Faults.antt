@@ -77,7 +77,7 @@ link_faults app K m own other =
 abbrev pub node_faults : {L : Type 0} → App L → Configuration L → ℕ → List LinkFault
 node_faults app c i =
     fault_of i i Tree (own_row c i)
-    ++ flat_map (link_faults app c.graph.bound c.modulus (near_of app c i))
+    ++ flat_map (link_faults app (node_bound c.graph) c.modulus (near_of app c i))
     (map (near_of app c) (neighbours_of c.graph i))
 
 -- at all nodes, by ascending node

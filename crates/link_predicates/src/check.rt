@@ -105,7 +105,7 @@ fn link_alarm<P: Application>(
 
 // The bound K of the distances, and the modulus of the sessions.
 fn limits_of<P: Application>(config: &Config<P>) -> Limits
-    ensures bound { result.k ≡ config.now.graph.bound }
+    ensures bound { result.k ≡ node_bound config.now.graph }
     ensures modulus { result.modulus ≡ config.now.modulus }
     ensures some { 0 < result.k }
 {
@@ -161,7 +161,7 @@ fn add_links<P: Application>(
     requires there { own.now ≡ near_of P.app config.now (slice_index config.now.graph.ids index) }
     ensures { OnOk result
         (found.new.items
-        ≡ found.old.items ++ flat_map (link_faults P.app config.now.graph.bound config.now.modulus own.now)
+        ≡ found.old.items ++ flat_map (link_faults P.app (node_bound config.now.graph) config.now.modulus own.now)
         (map (near_of P.app config.now) (neighbours_of config.now.graph (slice_index config.now.graph.ids index)))) }
 {
     config.lemma_is_graph();

@@ -1,21 +1,23 @@
 -- What two lists describe is one: one graph, or one first fault.
 use Rattle.std.proofs.Common.{◌≡◌, ℕ, zero, suc, ◌+◌, ◌<◌, ◌⊎◌, List, [], ◌∷◌, ◌++◌, length, get_or, take, drop}
-use Rattle.std.proofs.Common.{Contains, refl, sym, ap, ap₂, subst, ◌∙◌, arith, inl, inr, ⊎_elim, length-append}
+use Rattle.std.proofs.Common.{Bool, true, ◌&&◌, filter, Contains, refl, sym, ap, ap₂, subst, ◌∙◌, arith, inl, inr, ⊎_elim, length-append}
 use Rattle.std.specs.List.Sorted.{IsStrictlyIncreasing}
 use Rattle.std.specs.FinSet as set
 use Rattle.std.specs.Cmp.{both_ways as same_tests}
-use Rattle.std.proofs.lemmas.Bool.{cases_order}
+use Rattle.std.proofs.lemmas.Bool.{and_parts, cases_order}
+use Rattle.std.proofs.lemmas.List.Kept.{IsStrictlyIncreasing-filter}
 use Rattle.std.proofs.lemmas.List.{get_or_append_left, get_or_at, get_or_default, take-append-le}
 use Rattle.std.proofs.Math.Seq.{take-append_seam}
 use Rattle.topology.specs.Faults.{HasFault, IsFirst, IsFirstFault, IsFirstRepeat, IsGraphOf, IsRepeated}
 use Rattle.topology.specs.Faults.{rank_of}
-use Rattle.topology.specs.Graph.{Graph, pair_cmp, AreLinked, IsGraph, IsNode}
+use Rattle.topology.specs.Graph.{Graph, pair_cmp, AreLinked, IsGraph, IsNode, has, is_node}
 use Rattle.topology.specs.declared.fault.TopoFault.{TopoFault}
 use Rattle.topology.specs.declared.fault.TopoFault.TheVariants.{NoNodes, TooManyNodes, BadId, TwiceNode, TooManyLinks}
 use Rattle.topology.specs.declared.fault.TopoFault.TheVariants.{StrangeNode, SelfLink, TwiceLink}
 use Rattle.topology.specs.declared.fault.TopoFault.TheVariants.{NoSuchLink, LinkIsThere, NodeIsUp, NoMemory}
 use Rattle.topology.proofs.Ascending.{rises}
 use Rattle.topology.proofs.FirstItems.{split_at}
+use Rattle.topology.proofs.Membership.{Contains-has, has-Contains, has-filter}
 use Rattle.topology.proofs.RowLemmas.{pair_total, pair_antisymmetric}
 
 -- ---- one ascending list
@@ -60,6 +62,19 @@ same_ascending (x ∷ xs) (y ∷ ys) xs_up ys_up to from =
     rest_from z z_in =
         ⊎_elim (λ e. absurd (omega (arith, head, e, below_all y ys ys_up z z_in))) (λ at. at)
         (in_rest x z xs (from z (suc z_in.0, omega (arith, z_in.1), z_in.2)))
+
+-- the nodes of a graph are those of its identifiers that are up
+pub up_are_nodes : (g : Graph) → IsGraph g → filter (is_node g) g.ids ≡ g.nodes
+up_are_nodes g are =
+    same_ascending (filter (is_node g) g.ids) g.nodes (IsStrictlyIncreasing-filter (is_node g) g.ids are.ascending)
+    are.rising
+    (λ i at.
+    let kept : (is_node g i && has g.ids i) ≡ true =
+    sym (has-filter (is_node g) g.ids i) ∙ has-Contains (filter (is_node g) g.ids) i at in
+    Contains-has g.nodes i (and_parts (is_node g i) (has g.ids i) kept).0)
+    (λ i at. Contains-has (filter (is_node g) g.ids) i
+    (has-filter (is_node g) g.ids i
+    ∙ ap₂ (λ a b. a && b) (has-Contains g.nodes i at) (has-Contains g.ids i (are.within i at))))
 
 -- ---- one graph
 

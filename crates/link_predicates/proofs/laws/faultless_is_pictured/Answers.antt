@@ -5,7 +5,7 @@ pub returns : goal.returns
 returns g c = λ config graph.
     let t = tree_of config in
     let w = wave_of config in
-    let tree = c.tree_pictures.ensures config.graph config.graph.bound t graph graph.bounded in
+    let tree = c.tree_pictures.ensures config.graph (node_bound config.graph) t graph graph.bounded in
     let wave = c.wave_pictures.ensures config.graph config.modulus t w graph in (
       λ all. let sound =
           (c.faultless_is_sound.ensures config graph).0 all

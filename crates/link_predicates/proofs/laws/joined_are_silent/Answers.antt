@@ -14,7 +14,7 @@ returns-clause-invariant g c = λ config i graph inv joined.
     (λ j linked.
     let part = component_is config.graph i graph (graph.ends i j linked) in
     let few = subst (λ K. length (component config.graph i).ids ≤ K) part.bound part.as_graph.bounded in
-    (laws.quiet (component config.graph i) config.graph.bound part.as_graph few).at (abstract_of app config) inv i j
+    (laws.quiet (component config.graph i) (node_bound config.graph) part.as_graph few).at (abstract_of app config) inv i j
     ((part.same_links i j).1 (reached_itself config.graph i, linked)))
 
 pub returns-clause-opened : goal.returns-clause-opened
@@ -31,5 +31,5 @@ returns-clause-opened g c = λ before after es ds i o graph shaped sound run rea
     reached opened in
     let part = component_is after.graph i there node in
     let few = subst (λ K. length (component after.graph i).ids ≤ K) part.bound part.as_graph.bounded in
-    (laws.quiet (component after.graph i) after.graph.bound part.as_graph few).at (abstract_of app after) inv i j
+    (laws.quiet (component after.graph i) (node_bound after.graph) part.as_graph few).at (abstract_of app after) inv i j
     ((part.same_links i j).1 (reached_itself after.graph i, linked)))
