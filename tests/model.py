@@ -44,7 +44,7 @@ def least(rows):
 class Idle:
     cases = []
 
-    def start(self, i, greatest):
+    def start(self, i, leader):
         return ()
 
     def failing(self, i, own, j, other):
@@ -60,8 +60,8 @@ class Idle:
 class Token:
     cases = [("pass", "toward"), ("take", "one")]
 
-    def start(self, i, greatest):
-        return i == greatest, frozenset(), frozenset()
+    def start(self, i, leader):
+        return i == leader, frozenset(), frozenset()
 
     def next(self, case, i, bound, near, own, seen):
         hold, given, taken = own
@@ -95,7 +95,7 @@ class Token:
 class Mutex:
     cases = [("enter", "all"), ("leave", "alone")]
 
-    def start(self, i, greatest):
+    def start(self, i, leader):
         return False, 0
 
     def turn(self, i, bit, j, other):
@@ -122,7 +122,7 @@ class Mutex:
 class Routes:
     cases = [("pull", "one")]
 
-    def start(self, i, greatest):
+    def start(self, i, leader):
         return {i: (0, i)}
 
     def next(self, case, i, bound, near, own, seen):
@@ -173,6 +173,15 @@ def distances(graph, root):
     return found
 
 
+def leaders_of(graph):
+    """A map from each node to the greatest one of its component."""
+    leaders = {}
+    for i in reversed(graph):
+        if i not in leaders:
+            leaders.update(dict.fromkeys(distances(graph, i), i))
+    return leaders
+
+
 # ---- the generator of `draw`: PCG32 (XSH RR 64/32), made from a seed as rand's `seed_from_u64` makes it
 
 FACTOR = 6364136223846793005
@@ -208,16 +217,20 @@ class Network:
     """The configuration that is booted on a graph, and what commands make of it."""
 
     def __init__(self, graph, app, modulus=SESSIONS):
-        self.graph, self.app, self.bound, self.modulus = dict(graph), APPLICATIONS[app], len(graph), modulus
-        self.greatest = max(graph)
-        far = distances(graph, self.greatest)
+        self.ids = list(graph)  # of all nodes, those that are down too; the graph has those that are up
+        self.app, self.bound, self.modulus = APPLICATIONS[app], len(graph), modulus
+        self.put_graph(dict(graph))
+        far = {i: away for top in set(self.leaders.values()) for i, away in distances(graph, top).items()}
         father = {i: min((j for j in graph[i] if far[j] < far[i]), default=i) for i in graph}
-        self.tree = {i: (self.greatest, father[i], far[i]) for i in graph}
+        self.tree = {i: (self.leaders[i], father[i], far[i]) for i in graph}
         self.wave = {i: ("normal", 0) for i in graph}
         self.local = {i: self.start(i) for i in graph}
 
+    def put_graph(self, graph):
+        self.graph, self.leaders = graph, leaders_of(graph)
+
     def start(self, i):
-        return self.app.start(i, self.greatest)
+        return self.app.start(i, self.leaders[i])
 
     def children(self, i):
         return [j for j in self.graph[i] if self.tree[j][1] == i]
@@ -375,7 +388,8 @@ class Network:
     # -- faults
 
     def disturb(self, kind, words):
-        put = {"tree": self.put_tree, "wave": self.put_wave, "local": self.put_local, "down": self.cut, "up": self.link}
+        put = {"tree": self.put_tree, "wave": self.put_wave, "local": self.put_local, "down": self.cut, "up": self.link,
+               "off": self.put_off, "on": self.put_on}
         put[kind](*words)
         return "disturbed"
 
@@ -409,10 +423,7 @@ class Network:
         links = self.links()
         if (a, b) not in links:
             raise Refused("NoSuchLink")
-        graph = graph_of(self.graph, links - {(a, b)})
-        if len(distances(graph, a)) < len(graph):
-            raise Refused("WouldDisconnect")
-        self.graph = graph
+        self.put_graph(graph_of(self.graph, links - {(a, b)}))
 
     def link(self, a, b):
         a, b = sorted((int(a), int(b)))
@@ -424,15 +435,29 @@ class Network:
             raise Refused("LinkIsThere")
         if len(links) == MOST_LINKS:
             raise Refused("BadValue")
-        self.graph = graph_of(self.graph, links | {(a, b)})
+        self.put_graph(graph_of(self.graph, links | {(a, b)}))
+
+    def put_off(self, i):
+        """The node is no node any more, and its links are gone."""
+        self.has(int(i))
+        links = {link for link in self.links() if int(i) not in link}
+        self.put_graph(graph_of(set(self.graph) - {int(i)}, links))
+
+    def put_on(self, i):
+        i = int(i)
+        if i not in self.ids:
+            raise Refused("StrangeNode")
+        if i in self.graph:
+            raise Refused("NodeIsUp")
+        self.put_graph(graph_of([*self.graph, i], self.links()))
+        self.tree[i], self.wave[i], self.local[i] = (i, i, 0), ("normal", 0), self.start(i)
 
     def drawn(self, seed):
         """The fault that a seed draws, as a line."""
         kind, *words = words_of(seed, 5)
-        ids = list(self.graph)
-        nodes = [ids[it % len(ids)] for it in words]
+        nodes = [self.ids[it % len(self.ids)] for it in words]
         if kind % 4 == 0:
-            return f"fault tree {nodes[0]} {nodes[1]} {nodes[2]} {words[3] % (len(ids) + 1)}"
+            return f"fault tree {nodes[0]} {nodes[1]} {nodes[2]} {words[3] % (len(self.ids) + 1)}"
         if kind % 4 == 1:
             return f"fault wave {nodes[0]} {PHASES[words[1] % 3]} {words[2] % 8}"
         return f"fault {'down' if kind % 4 == 2 else 'up'} {nodes[0]} {nodes[1]}"
@@ -440,7 +465,7 @@ class Network:
     # -- what can be seen
 
     def joined(self, i):
-        return self.wave[i][1] == self.wave[self.greatest][1]
+        return self.wave[i][1] == self.wave[self.leaders[i]][1]
 
     def show(self, i):
         (root, father, dist), (phase, session) = self.tree[i], self.wave[i]

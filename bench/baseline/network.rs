@@ -67,9 +67,9 @@ pub struct Node {
 }
 
 pub struct Network {
-    /// By ascending id.
+    /// By ascending id, those that are down too.
     pub nodes: Vec<Node>,
-    /// The place of each id among the nodes.
+    /// The place of each id among the nodes, if it is the id of one that is up.
     pub places: Vec<Option<u16>>,
     pub link_count: usize,
     pub app: App,
@@ -77,33 +77,32 @@ pub struct Network {
     pub modulus: u64,
 }
 
-/// The network in which each node has its place in the tree of shortest ways to the greatest id. None
-/// where the ids, which ascend, and the links are no connected graph.
+/// The network in which each node has its place in the tree of shortest ways to the greatest id that can be
+/// reached from it. None where the ids, which ascend, and the links are no graph.
 pub fn boot(app: App, ids: Vec<u32>, links: &[(u32, u32)], modulus: u64) -> Option<Network> {
-    let (least, root) = (*ids.first()?, *ids.last()?);
+    let (least, greatest) = (*ids.first()?, *ids.last()?);
     let twice = ids.windows(2).any(|pair| pair[0] == pair[1]);
-    if ids.len() > MAX_NODES || links.len() > MAX_LINKS || least < 1 || root > 65535 || twice {
+    if ids.len() > MAX_NODES || links.len() > MAX_LINKS || least < 1 || greatest > 65535 || twice {
         return None;
     }
-    let mut places = vec![None; root as usize + 1];
+    let mut places = vec![None; greatest as usize + 1];
     for (place, id) in ids.iter().enumerate() {
         places[*id as usize] = Some(place as u16);
     }
     let near = neighbours(&places, ids.len(), links)?;
-    let dists = distances(&near, ids.len() - 1);
+    let ways = ways(&near);
     let nodes = near.into_iter().enumerate().map(|(place, near)| {
-        let dist = dists[place]?;
-        let nearer = near.iter().find(|near| dists[**near].is_some_and(|d| d + 1 == dist));
-        Some(Node {
+        let (root, dist) = ways[place];
+        let nearer = near.iter().find(|near| ways[**near].1 + 1 == dist);
+        Node {
             id: ids[place],
-            tree: Tree { root, father: nearer.map_or(root, |near| ids[*near]), dist },
+            tree: Tree { root: ids[root], father: ids[*nearer.unwrap_or(&root)], dist },
             wave: Wave { phase: Phase::Normal, session: 0 },
             local: Local::default(),
             near,
-        })
+        }
     });
-    let nodes = nodes.collect::<Option<_>>()?;
-    Some(Network { nodes, places, link_count: links.len(), app, modulus })
+    Some(Network { nodes: nodes.collect(), places, link_count: links.len(), app, modulus })
 }
 
 /// The places of each node's neighbours, ascending.
@@ -128,25 +127,35 @@ fn neighbours(
     Some(near)
 }
 
-/// The distance of each node from one, where there is a way.
-fn distances(near: &[Vec<usize>], from: usize) -> Vec<Option<u32>> {
-    let mut dists = vec![None; near.len()];
-    dists[from] = Some(0);
-    let mut queue = VecDeque::from([(from, 0)]);
-    while let Some((place, dist)) = queue.pop_front() {
-        for next in &near[place] {
-            if dists[*next].is_none() {
-                dists[*next] = Some(dist + 1);
-                queue.push_back((*next, dist + 1));
+/// Of each node the place of the greatest one that can be reached from it, and the distance to that.
+fn ways(near: &[Vec<usize>]) -> Vec<(usize, u32)> {
+    let mut ways = vec![None; near.len()];
+    for root in (0..near.len()).rev() {
+        if ways[root].is_some() {
+            continue;
+        }
+        ways[root] = Some((root, 0));
+        let mut queue = VecDeque::from([(root, 0)]);
+        while let Some((place, dist)) = queue.pop_front() {
+            for next in &near[place] {
+                if ways[*next].is_none() {
+                    ways[*next] = Some((root, dist + 1));
+                    queue.push_back((*next, dist + 1));
+                }
             }
         }
     }
-    dists
+    ways.into_iter().flatten().collect()
 }
 
 impl Network {
     pub fn bound(&self) -> u32 {
         self.nodes.len() as u32
+    }
+
+    /// The nodes that are up.
+    pub fn up_nodes(&self) -> impl Iterator<Item = &Node> {
+        self.nodes.iter().filter(|node| self.places[node.id as usize].is_some())
     }
 
     /// The session after another. Mostly that is one more: a division is left to those where it isn't.

@@ -33,7 +33,7 @@ pub enum Refusal {
     BadLocal,
     NoSuchLink,
     LinkIsThere,
-    WouldDisconnect,
+    NodeIsUp,
 }
 
 pub type Answer = Result<Reply, Refusal>;

@@ -7,14 +7,15 @@ pub const REFUSALS: [Explanation; 12] = [
     Explanation {
         word: "StrangeNode",
         text: "\
-The number isn't a node of the topology, or a link of the topology's text ends at a number that\n\
-isn't among its nodes. Name a node that `show` tells, or add it to `nodes`.\n",
+The number isn't a node of the topology, or it is one that is down, or a link of the topology's text\n\
+ends at a number that isn't among its nodes. Name a node that `show` tells, bring it up by\n\
+`fault on I`, or add it to `nodes`.\n",
     },
     Explanation {
         word: "StrangeNeighbour",
         text: "\
 The second number isn't a neighbour of the node. The links of the topology's text say who is; a\n\
-link that is down is none.\n",
+link that is down is none, and a node that went down has lost its links.\n",
     },
     Explanation {
         word: "NoSuchCase",
@@ -68,15 +69,14 @@ There is no link of these two nodes that could be taken down.\n",
 The link that should come up is there already.\n",
     },
     Explanation {
-        word: "WouldDisconnect",
+        word: "NodeIsUp",
         text: "\
-Without this link some node couldn't be reached, and a topology has to be connected. Bring\n\
-another link up first.\n",
+The node that should come up is up already.\n",
     },
 ];
 
 /// Faults of topologies and of their texts.
-pub const TOPOLOGY_FAULTS: [Explanation; 17] = [
+pub const TOPOLOGY_FAULTS: [Explanation; 16] = [
     Explanation {
         word: "TextTooLong",
         text: "\
@@ -150,15 +150,9 @@ A link goes from the node with this number to itself.\n",
 The link of these two nodes stands twice; a link and its reverse are one link.\n",
     },
     Explanation {
-        word: "Disconnected",
-        text: "\
-No walk over links leads from the least node to the one with this number. Add a link, or take\n\
-the node out.\n",
-    },
-    Explanation {
         word: "TooManyForThreads",
         text: "\
-`threads` runs one thread for each node, for at most 64 nodes.\n",
+`threads` runs one thread for each node that is up, for at most 64 of them.\n",
     },
     Explanation {
         word: "TooManyForPicture",
@@ -185,19 +179,20 @@ history too: `head -n 2001`.\n",
         text: "\
 The line with this number is no entry of a history, has over 256 bytes or lacks its line feed. A\n\
 history has no comments, no empty lines, no questions and no carriage returns. Its first line is\n\
-`reset-history 2 M` with M from 2 to 4294967296, or `reset-history 1`; an empty file has none.\n",
+`reset-history 3 M` or `reset-history 2 M` with M from 2 to 4294967296, or `reset-history 1`; an\n\
+empty file has none. `fault off` and `fault on` are lines of version 3 alone.\n",
     },
     Explanation {
         word: "BadVersion",
         text: "\
-The first line names a version of histories that this program doesn't read. It reads versions 1\n\
-and 2, `reset-history 1` and `reset-history 2 M`.\n",
+The first line names a version of histories that this program doesn't read. It reads versions 1,\n\
+2 and 3: `reset-history 1`, `reset-history 2 M` and `reset-history 3 M`.\n",
     },
     Explanation {
         word: "OtherModulus",
         text: "\
 The history counts sessions modulo this number, and the topology modulo another. A history's is\n\
-the M of its first line `reset-history 2 M`, a topology's its `modulus`; where there is none, it is\n\
+the M of its first line `reset-history 3 M`, a topology's its `modulus`; where there is none, it is\n\
 4294967296. A history can have happened to topologies of its own number alone.\n",
     },
     Explanation {
@@ -262,8 +257,9 @@ local state.\n",
     Explanation {
         word: "session",
         text: "\
-The number of a reset. Processes communicate only where theirs are equal; the newest is that of
-the leader. Resets are counted modulo M, the topology's `modulus`: after session M - 1 comes 0.\n",
+The number of a reset. Processes communicate only where theirs are equal; the newest of a part of
+the network is that of the part's leader, the greatest of the nodes that links lead to. Resets are
+counted modulo M, the topology's `modulus`: after session M - 1 comes 0.\n",
     },
     Explanation {
         word: "threads",
@@ -279,8 +275,9 @@ The command was allowed, and was done.\n",
     Explanation {
         word: "complete",
         text: "\
-The reset with this session number is complete: every node has joined its session. After a fault\n\
-that is sure again of resets that open where `check` tells no row of tree or wave.\n",
+The reset with this session number is complete: every node that links lead to from the one that\n\
+finished has joined its session. After a fault that is sure again of resets that open where\n\
+`check` tells no row of tree or wave.\n",
     },
     Explanation {
         word: "refused",
@@ -306,7 +303,8 @@ The node sees no fault of the application at its links.\n",
     Explanation {
         word: "unjoined",
         text: "\
-The node hasn't joined the newest session, so its local state counts as just started.\n",
+The node hasn't joined the newest session of its part of the network, so its local state counts as\n\
+just started.\n",
     },
     Explanation {
         word: "link",
@@ -401,9 +399,9 @@ number, toward the neighbour J where it is about one.\n",
     Explanation {
         word: "fault",
         text: "\
-`fault tree`, `fault wave`, `fault local`, `fault down` and `fault up` set the registers or the\n\
-local state of a node, or take a link down or bring one up. `reset-service replay --help` has\n\
-their words.\n",
+`fault tree`, `fault wave` and `fault local` set the registers or the local state of a node,\n\
+`fault down` and `fault up` take a link down or bring one up, `fault off` and `fault on` a node.\n\
+`reset-service replay --help` has their words.\n",
     },
     Explanation {
         word: "draw",
@@ -413,12 +411,13 @@ their words.\n",
     Explanation {
         word: "show",
         text: "\
-`show` or `show I`: the registers and the local state of all nodes, or of node I.\n",
+`show` or `show I`: the registers and the local state of all nodes that are up, or of node I.\n",
     },
     Explanation {
         word: "newest",
         text: "\
-`newest`: the local states in the newest session, `unjoined` where a node has yet to join it.\n",
+`newest`: the local states in the newest session of each part of the network, `unjoined` where a\n\
+node has yet to join it.\n",
     },
     Explanation {
         word: "enabled",
@@ -499,7 +498,8 @@ The application that has nothing to do.\n",
     Explanation {
         word: "token",
         text: "\
-The application in which one node at a time holds a token: `pass J` and `take J`.\n",
+The application in which one node at a time holds a token, in each part of the network one:\n\
+`pass J` and `take J`.\n",
     },
     Explanation {
         word: "mutex",
@@ -509,7 +509,7 @@ The application in which no two neighbours are in at once: `enter` and `leave`.\
     Explanation {
         word: "routes",
         text: "\
-The application in which each node learns ways to all others: `pull J`.\n",
+The application in which each node learns ways to the others that it can reach: `pull J`.\n",
     },
     Explanation {
         word: "pass",
