@@ -8,7 +8,7 @@ use Rattle.std.proofs.lemmas.Bool.Decides.{eqb_tells}
 use Rattle.std.proofs.lemmas.List.Folds.{flat_map-map, list_all-append}
 use Rattle.std.proofs.lemmas.Option.{none-some}
 use Rattle.app_interface.specs.Application.{App}
-use Rattle.topology.specs.Graph.{Graph, AreLinked, IsGraph, IsNode, are_linked, neighbours_of, has}
+use Rattle.topology.specs.Graph.{Graph, AreLinked, IsGraph, IsNode, are_linked, neighbours_of, node_bound, has}
 use Rattle.topology.proofs.Membership.{Contains-has, has-Contains, has-filter}
 use Rattle.tree_layer.specs.declared.regs.TreeRegs.{TreeRegs}
 use Rattle.tree_layer.specs.TreeRows.{Adopts, Follows, IsFather, adopt_root, adopt_short, follow_dist, follow_root}
@@ -85,7 +85,7 @@ module _ {L : Type 0} (app : App L) (c : Configuration L) (graph : IsGraph c.gra
   linked_there i j linked =
       Contains-has (neighbours_of g i) j
       (has-filter (are_linked g i) g.ids j
-      ∙ and_from _ _ linked (has-Contains g.ids j (graph.ends j i (graph.symmetric j i ∙ linked))))
+      ∙ and_from _ _ linked (has-Contains g.ids j (graph.within j (graph.ends j i (graph.symmetric j i ∙ linked)))))
 
   there_linked : (i j : ℕ) → Contains (neighbours_of g i) j → AreLinked g i j
   there_linked i j there =
@@ -101,7 +101,7 @@ module _ {L : Type 0} (app : App L) (c : Configuration L) (graph : IsGraph c.gra
 
   module _ (all : list_all is_of_app (faults app c) ≡ true) where
     node : (i : ℕ) → IsNode g i → list_all is_of_app (node_faults app c i) ≡ true
-    node i there = passes_at is_of_app (node_faults app c) g.ids there.0 there.1 all i there.2
+    node i there = passes_at is_of_app (node_faults app c) g.nodes there.0 there.1 all i there.2
 
     own : (i : ℕ) → IsNode g i → own_row c i ≡ None
     own i there = (no_tree i i (own_row c i) _ (node i there)).0
@@ -190,4 +190,4 @@ module _ {L : Type 0} (app : App L) (c : Configuration L) (graph : IsGraph c.gra
         ∙ all_pass is_of_app (links i) (neighbours_of g i) (λ j near. link_silent i j (there_linked i j near))
 
     pub silent : list_all is_of_app (faults app c) ≡ true
-    silent = all_pass is_of_app (node_faults app c) g.ids node_silent
+    silent = all_pass is_of_app (node_faults app c) g.nodes node_silent

@@ -5,7 +5,7 @@ use Rattle.std.specs.Option.{option_map_or}
 use Rattle.std.proofs.lemmas.Bool.{eq-eqb}
 use Rattle.action_tables.specs.Table.{enabled_of}
 use Rattle.app_interface.specs.Application.{App}
-use Rattle.topology.specs.Graph.{Graph, IsGraph, are_linked, neighbours_of}
+use Rattle.topology.specs.Graph.{Graph, IsGraph, are_linked, neighbours_of, node_bound}
 use Rattle.tree_layer.specs.declared.regs.TreeRegs.{TreeRegs}
 use Rattle.tree_layer.specs.TreeRows.{Claims, claimed}
 use Rattle.tree_layer.specs.TreeTable.{LocalView, father_passes, tree_table}

@@ -6,7 +6,7 @@ use Rattle.std.proofs.lemmas.Bool.{eq-eqb}
 use Rattle.std.proofs.lemmas.Bool.Decides.{eqb_tells}
 use Rattle.std.proofs.lemmas.List.Folds.{find-append}
 use Rattle.app_interface.specs.Application.{App}
-use Rattle.topology.specs.Graph.{AreLinked, IsGraph, are_linked, neighbours_of}
+use Rattle.topology.specs.Graph.{AreLinked, IsGraph, are_linked, neighbours_of, node_bound}
 use Rattle.topology.proofs.Components.{same_leader}
 use Rattle.reset_model.specs.Configuration.{Configuration, local_of, wave_of}
 use Rattle.reset_model.specs.Refinement.{abstract_of}

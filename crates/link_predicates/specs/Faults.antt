@@ -5,7 +5,7 @@ use Rattle.std.specs.List.{flat_map, list_all}
 use Rattle.action_tables.specs.Numbers.{is_among}
 use Rattle.action_tables.specs.Table.{enabled_of}
 use Rattle.app_interface.specs.Application.{App}
-use Rattle.topology.specs.Graph.{neighbours_of}
+use Rattle.topology.specs.Graph.{neighbours_of, node_bound}
 use Rattle.tree_layer.specs.TreeTable.{tree_table}
 use Rattle.tree_layer.specs.TreeTable as tree
 use Rattle.wave_layer.specs.WaveTable.{wave_table}
@@ -82,7 +82,7 @@ node_faults app c i =
 
 -- at all nodes, by ascending node
 abbrev pub faults : {L : Type 0} → App L → Configuration L → List LinkFault
-faults app c = flat_map (node_faults app c) c.graph.ids
+faults app c = flat_map (node_faults app c) c.graph.nodes
 
 -- ---- the application's
 

@@ -2,7 +2,7 @@
 
 ghost use Rattle.std.specs.Prelude.{◌≡◌, ◌≢◌, ◌<◌, ◌++◌, None, Some, IfErr, IfNone, IfOk, IfSome, OnOk, find, flat_map};
 ghost use Rattle.std.specs.Prelude.{length, map, slice_index};
-ghost use Rattle.topology.specs.Graph.{IsNode, neighbours_of};
+ghost use Rattle.topology.specs.Graph.{IsNode, neighbours_of, node_bound};
 ghost use Rattle.reset_model.specs.View.{near_of};
 ghost use Rattle.link_predicates.specs.Faults.{alarm_of, app_row, fault_of, faults, is_of_app, link_faults};
 ghost use Rattle.link_predicates.specs.Faults.{node_faults, own_row};
@@ -15,6 +15,7 @@ use crate::rows;
 use app_interface::Application;
 use reset_machine::{Config, StepRefusal};
 use std::alloc::{AllocError, Global};
+use topology::nodes_are_up;
 
 /// The faults at the node with this identifier: first that of the node itself, then those of its
 /// links, by ascending neighbour. Or a refusal: `StrangeNode`, or `NoMemory`.
@@ -43,9 +44,14 @@ pub fn check_all<P: Application>(
     ensures { IfOk result (λ found. found.items ≡ faults P.app config.now) }
 {
     let mut found = Vec::new(alloc);
-    for index in 0..config.topology().len() {
-        add_node(&mut found, config, index)?;
+    let topology = config.topology();
+    topology.lemma_is_graph();
+    for index in 0..topology.len() {
+        if topology.is_up(index) {
+            add_node(&mut found, config, index)?;
+        }
     }
+    nodes_are_up();
     Ok(found)
 }
 
@@ -67,7 +73,8 @@ fn index_of<P: Application>(config: &Config<P>, at: u32) -> Option<usize>
         IfSome result (λ index. IsNode config.now.graph at × (index < length ids) × (slice_index ids index ≡ at)) }
     ensures none { IfNone result (IsNode config.now.graph at → ⊥) }
 {
-    config.topology().index_of(at)
+    config.lemma_is_graph();
+    config.topology().node_at(at)
 }
 
 // The first fault of the application at the node with this index.

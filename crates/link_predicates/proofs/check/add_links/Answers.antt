@@ -1,6 +1,6 @@
 use Rattle.std.proofs.Common.{◌≡◌, ℕ, ◌++◌, Global, Vec, append-nil, flat_map, map, slice_index, subst, sym, take_all}
 use Rattle.std.proofs.Common.{ap, ◌∙◌}
-use Rattle.topology.specs.Graph.{Graph, AreLinked, are_linked, neighbours_of}
+use Rattle.topology.specs.Graph.{Graph, AreLinked, are_linked, neighbours_of, node_bound}
 use Rattle.reset_machine.proofs.CaseArguments.{near_passes}
 use Rattle.reset_machine.proofs.NearSeen.{at_indexes}
 use Rattle.reset_model.specs.View.{Neighbour, near_of}

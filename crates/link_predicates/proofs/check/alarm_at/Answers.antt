@@ -1,7 +1,7 @@
 use Rattle.std.proofs.Common.{◌≡◌, ◌+◌, drop, find, flat_map, map, slice_index, subst, sym, ap, ap₂, ◌∙◌}
 use Rattle.std.specs.Option.{option_or}
 use Rattle.std.proofs.lemmas.List.{at_drop_all}
-use Rattle.topology.specs.Graph.{Graph, neighbours_of}
+use Rattle.topology.specs.Graph.{Graph, neighbours_of, node_bound}
 use Rattle.reset_machine.proofs.NearSeen.{at_indexes}
 use Rattle.reset_model.specs.View.{Neighbour, near_of}
 use Rattle.link_predicates.specs.Faults.{is_of_app, link_faults}
