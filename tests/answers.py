@@ -171,6 +171,8 @@ fault wave N PHASE N
 fault local N TEXT
 fault down N N
 fault up N N
+fault off N
+fault on N
 draw N
 show
 show N
@@ -192,6 +194,8 @@ BY_WORD = {}
 for shape in SHAPES.split("\n")[1:-1]:
     BY_WORD.setdefault(shape.split(" ")[0], []).append(shape.split(" "))
 ENTRIES = {"claim", "follow", "adopt", "request", "relay", "open", "join", "finish", "mend", "act", "fault"}
+OF_VERSION_3 = (["fault", "off"], ["fault", "on"])  # how the entries begin that earlier versions don't have
+WRITTEN = 3  # the version of a history that is written
 
 
 def has_shape(words, shape):
@@ -207,12 +211,12 @@ def words_of_line(line):
     return words if any(has_shape(words, shape) for shape in BY_WORD.get(words[0], [])) else None
 
 
-def entry_of_line(line):
-    """The same of a line that is an entry of a history."""
+def entry_of_line(line, version=WRITTEN):
+    """The same of a line that is an entry of a history of a version."""
     words = words_of_line(line)
     if words is None or words[0] not in ENTRIES or words[0] == "act" and number(words[2]) is None:
         return None
-    return words
+    return None if version < 3 and words[:2] in OF_VERSION_3 else words
 
 
 # ---- scripts
@@ -264,21 +268,22 @@ def joined(text):
 
 # ---- histories
 
-def modulus_of(first):
-    """The modulus of a history with this first line: all versions but the second have nothing behind their number."""
+def version_of(first):
+    """The version and the modulus of a history with this first line: all versions but the second and the third have
+    nothing behind their number."""
     word, *numbers = first.decode("latin-1").split(" ")
     if word != "reset-history" or len(numbers) not in (1, 2) or number(numbers[0]) is None:
         raise Fault("BadLine 1")
-    if numbers[0] == "2":
+    if numbers[0] in ("2", "3"):
         modulus = number(numbers[-1], SESSIONS) if len(numbers) == 2 else None
         if modulus is None or not is_modulus(modulus):
             raise Fault("BadLine 1")
-        return modulus
+        return int(numbers[0]), modulus
     if len(numbers) == 2:
         raise Fault("BadLine 1")
     if numbers[0] != "1":
         raise Fault("BadVersion")
-    return SESSIONS
+    return 1, SESSIONS
 
 
 def history_of(text):
@@ -286,11 +291,11 @@ def history_of(text):
     first, feed, rest = text.partition(b"\n")
     if not feed:
         raise Fault("BadLine 1")
-    modulus = modulus_of(first)
+    version, modulus = version_of(first)
     *lines, unended = rest.split(b"\n")
     entries = []
     for n, line in enumerate(lines, 2):
-        entries.append(entry_of_line(line))
+        entries.append(entry_of_line(line, version))
         if entries[-1] is None:
             raise Fault(f"BadLine {n}")
         if len(entries) > MOST_ENTRIES:

@@ -11,11 +11,11 @@ NUMBERS = ["0", "1", "2", "3", "7", "8", "255", "256", "65535", "65536", "70000"
            str(SESSIONS + 1), "01", "00", "08", "+1", "-1", "-0", "1_0", "0x1", "1.0", "", "99999999999999999999",
            "9223372036854775808"]
 WORDS = [*NUMBERS, "normal", "initiate", "reset", "Reset", "claim", "open", "act", "fault", "tree", "wave", "local",
-         "down", "up", "pass", "enter", "show", "draw", "---", "#", "-", "hold/-/-", "in/1", "1:0:1", "out/0 ",
+         "down", "up", "off", "on", "pass", "enter", "show", "draw", "---", "#", "-", "hold/-/-", "in/1", "1:0:1", "out/0 ",
          "\t", "\r", "\0", "\x7f", "\xe9", "\ufeff", "~", "!", "x" * 200, "x" * 201, "x" * 256, "1" * 257, "[", "]",
          "{", "}", '"', '"""', "'", "=", ",", "[[", "]]", "nodes", "links", "app", "modulus", "modulus = 2", "true",
          "nan", "1979-05-27", "\\", "\\e", "\\x41", "\\u0041", "\\ud800", "reset-history", "reset-history 1",
-         "reset-history 2", "reset-history 2 8", "\n", "\n\n", "\r\n"]
+         "reset-history 2", "reset-history 2 8", "reset-history 3 8", "\n", "\n\n", "\r\n"]
 VALUES = ["-1", str(MOST + 1), "1.0", "1e3", "inf", '"1"', "true", "1979-05-27", "[]", "[1]", "[[]]", "[1, 2, 3]", "{}",
           "{a = 1}", "9223372036854775807", "-9223372036854775808", "9223372036854775808", '""', "''", "nan",
           "1979-05-27T07:32:00Z", "07:32:00", "00", "1__0"]
@@ -25,7 +25,8 @@ NO_MODULI = [0, 1, 1, -1, -2, SESSIONS + 1, 1 << 62]
 BAD_FIRST = ["reset-history 2", "reset-history 2 0", "reset-history 2 1", f"reset-history 2 {SESSIONS + 1}",
              f"reset-history 1 {SESSIONS}", "reset-history 1 8", "reset-history 2 08", "reset-history 2  8",
              "reset-history 2 8 ", "reset-history 2 8 8", "reset-history 02 8", "reset-history 2 +8", "reset-history 3",
-             "reset-history 3 8", "reset-history 0", f"reset-history {MOST}", f"reset-history {SESSIONS}",
+             "reset-history 3 0", "reset-history 3 1", f"reset-history 3 {SESSIONS + 1}", "reset-history 3 08",
+             "reset-history 3 8 8", "reset-history 03 8", "reset-history 4", "reset-history 4 8", "reset-history 0", f"reset-history {MOST}", f"reset-history {SESSIONS}",
              "reset-history", "reset-history ", "reset-history 1 "]
 
 
@@ -156,7 +157,9 @@ class Maker:
         return self.rng.choice([0, 1, 7, 65535, 65536, MOST])
 
     def node(self, network):
-        return self.rng.choice(list(network.graph)) if self.chance(0.95) else self.stranger()
+        """A node, mostly one that is up."""
+        some = network.graph if network.graph and self.chance(0.95) else network.ids
+        return self.rng.choice(list(some)) if self.chance(0.95) else self.stranger()
 
     def near(self, network, i):
         near = network.graph.get(i)
@@ -206,7 +209,7 @@ class Maker:
     # -- faults
 
     def ids(self, network):
-        some = self.rng.sample(list(network.graph), self.rng.randint(0, min(3, len(network.graph))))
+        some = self.rng.sample(network.ids, self.rng.randint(0, min(3, len(network.ids))))
         if self.chance(0.2):
             some.append(self.rng.choice([1, 9, 65535, 0, 65536]))
         return sorted(set(some)) if self.chance(0.95) else some + some
@@ -215,7 +218,7 @@ class Maker:
         """The text of a local state of the application, or nearly."""
         rng, app = self.rng, network.app
         if self.chance(0.3):
-            text = app.text(network.local[rng.choice(list(network.graph))])
+            text = app.text(network.local[rng.choice(network.ids)])
         elif self.chance(0.03):
             text = rng.choice(["", "~"]) + "1" * rng.choice([1, 199, 200, 201, 220])
         elif app is APPLICATIONS["token"]:
@@ -224,7 +227,7 @@ class Maker:
         elif app is APPLICATIONS["mutex"]:
             text = f"{rng.choice(['in', 'out'])}/{rng.choice(['0', '1', '1', '0', '2'])}"
         elif app is APPLICATIONS["routes"]:
-            hops = [0, 0, 1, 1, 2, 2, 3, 3, len(network.graph), rng.choice([MOST - 1, MOST, MOST + 1])]
+            hops = [0, 0, 1, 1, 2, 2, 3, 3, len(network.ids), rng.choice([MOST - 1, MOST, MOST + 1])]
             text = ",".join(f"{d}:{rng.choice(hops)}:{self.node(network)}" for d in self.ids(network)) or "-"
         else:
             text = "-"
@@ -235,10 +238,10 @@ class Maker:
 
     def fault(self, network):
         rng, i = self.rng, self.node(network)
-        kind = rng.choice(["tree", "tree", "wave", "wave", "local", "local", "down", "up", "draw"])
+        kind = rng.choice(["tree", "tree", "wave", "wave", "local", "local", "down", "up", "up", "draw", "off", "on"])
         if kind == "tree":
             root, father = (rng.choice([self.node(network), self.near(network, i), i, self.stranger()]) for _ in "ab")
-            far = rng.choice([0, 1, 2, 3, len(network.graph), len(network.graph) - 1, MOST, MOST - 1])
+            far = rng.choice([0, 1, 2, 3, len(network.ids), len(network.ids) - 1, MOST, MOST - 1])
             return f"fault tree {i} {root} {father} {far}"
         if kind == "wave":
             last = network.modulus - 1
@@ -249,6 +252,11 @@ class Maker:
             return f"fault local {i} {self.local(network)}"
         if kind == "draw":
             return f"draw {rng.choice([rng.randint(0, 99), rng.randint(0, MOST)])}"
+        if kind == "off":
+            return f"fault off {i}"
+        if kind == "on":
+            down = [it for it in network.ids if it not in network.graph]
+            return f"fault on {rng.choice(down) if down and self.chance(0.9) else i}"
         other = self.near(network, i) if kind == "down" else self.node(network)
         return f"fault {kind} {i} {other}"
 
@@ -281,23 +289,26 @@ class Maker:
             told.append((line, [] if empty else network.answer(line.split(" "))))
         return told
 
-    def first_line(self, modulus):
-        """The first line of a history of this modulus, now and then of another one or of none."""
+    def first_line(self, modulus, lines):
+        """The first line of a history of this modulus, now and then of another one or of none. It is mostly of a
+        version that has the lines."""
         if self.chance(0.1):
             return self.rng.choice(BAD_FIRST)
         told = self.rng.choice(MODULI) if self.chance(0.1) else modulus
-        return "reset-history 1" if told == SESSIONS and self.chance(0.5) else f"reset-history 2 {told}"
+        late = any(entry_of_line(it.encode(), 2) is None for it in lines) and self.chance(0.9)
+        version = 3 if late else self.rng.choice([1, 2, 3] if told == SESSIONS else [2, 3])
+        return "reset-history 1" if version == 1 else f"reset-history {version} {told}"
 
     def history(self, network):
         """The text of a history; now and then it has an entry that is refused."""
-        lines = [self.first_line(network.modulus)]
+        modulus, lines = network.modulus, []
         for line, answer in self.script(network):
             line = answer[0].removeprefix("drawn ") if line.startswith("draw ") else line
             if entry_of_line(line.encode()) and (not answer[-1].startswith("refused") or self.chance(0.02)):
                 lines.append(line)
         if self.chance(0.3):
             lines.append(self.event(network))
-        return "".join(f"{it}\n" for it in lines).encode()
+        return "".join(f"{it}\n" for it in [self.first_line(modulus, lines), *lines]).encode()
 
     # -- damage
 

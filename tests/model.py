@@ -217,6 +217,7 @@ class Network:
     """The configuration that is booted on a graph, and what commands make of it."""
 
     def __init__(self, graph, app, modulus=SESSIONS):
+        self.ids = list(graph)  # of all nodes, those that are down too; the graph has those that are up
         self.app, self.bound, self.modulus = APPLICATIONS[app], len(graph), modulus
         self.put_graph(dict(graph))
         far = {i: away for top in set(self.leaders.values()) for i, away in distances(graph, top).items()}
@@ -387,7 +388,8 @@ class Network:
     # -- faults
 
     def disturb(self, kind, words):
-        put = {"tree": self.put_tree, "wave": self.put_wave, "local": self.put_local, "down": self.cut, "up": self.link}
+        put = {"tree": self.put_tree, "wave": self.put_wave, "local": self.put_local, "down": self.cut, "up": self.link,
+               "off": self.put_off, "on": self.put_on}
         put[kind](*words)
         return "disturbed"
 
@@ -435,13 +437,27 @@ class Network:
             raise Refused("BadValue")
         self.put_graph(graph_of(self.graph, links | {(a, b)}))
 
+    def put_off(self, i):
+        """The node is no node any more, and its links are gone."""
+        self.has(int(i))
+        links = {link for link in self.links() if int(i) not in link}
+        self.put_graph(graph_of(set(self.graph) - {int(i)}, links))
+
+    def put_on(self, i):
+        i = int(i)
+        if i not in self.ids:
+            raise Refused("StrangeNode")
+        if i in self.graph:
+            raise Refused("NodeIsUp")
+        self.put_graph(graph_of([*self.graph, i], self.links()))
+        self.tree[i], self.wave[i], self.local[i] = (i, i, 0), ("normal", 0), self.start(i)
+
     def drawn(self, seed):
         """The fault that a seed draws, as a line."""
         kind, *words = words_of(seed, 5)
-        ids = list(self.graph)
-        nodes = [ids[it % len(ids)] for it in words]
+        nodes = [self.ids[it % len(self.ids)] for it in words]
         if kind % 4 == 0:
-            return f"fault tree {nodes[0]} {nodes[1]} {nodes[2]} {words[3] % (len(ids) + 1)}"
+            return f"fault tree {nodes[0]} {nodes[1]} {nodes[2]} {words[3] % (len(self.ids) + 1)}"
         if kind % 4 == 1:
             return f"fault wave {nodes[0]} {PHASES[words[1] % 3]} {words[2] % 8}"
         return f"fault {'down' if kind % 4 == 2 else 'up'} {nodes[0]} {nodes[1]}"

@@ -40,7 +40,11 @@ impl Network {
 }
 
 /// Writes the faults of these nodes and their number.
-pub fn check(network: &Network, nodes: &[Node], out: &mut impl Write) -> io::Result<()> {
+pub fn check<'n>(
+    network: &'n Network,
+    nodes: impl Iterator<Item = &'n Node>,
+    out: &mut impl Write,
+) -> io::Result<()> {
     let mut found = Vec::new();
     for node in nodes {
         network.faults(node, &mut found);

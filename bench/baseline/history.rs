@@ -24,6 +24,16 @@ enum Entry<'t> {
     Disturbed(Fault<'t>),
 }
 
+impl Entry<'_> {
+    /// The first version of histories that has it.
+    fn version(&self) -> u32 {
+        match self {
+            Entry::Disturbed(Fault::Off { .. } | Fault::On { .. }) => 3,
+            _ => 1,
+        }
+    }
+}
+
 enum BadHistory {
     BadLine(usize),
     BadVersion,
@@ -73,11 +83,12 @@ pub fn verify(network: &mut Network, text: &[u8], out: &mut impl Write) -> io::R
 /// of another modulus.
 fn read_history(modulus: u64, mut text: &[u8]) -> Result<Vec<Entry<'_>>, BadHistory> {
     let first = take_line(&mut text).ok_or(BadHistory::BadLine(1))?;
-    let told = read_first_line(first)?;
+    let (version, told) = read_first_line(first)?;
     let mut entries = Vec::new();
     while !text.is_empty() {
         let line = take_line(&mut text).filter(|line| line.len() <= MAX_LINE);
-        let entry = line.and_then(read_entry).ok_or(BadHistory::BadLine(entries.len() + 2))?;
+        let entry = line.and_then(read_entry).filter(|entry| entry.version() <= version);
+        let entry = entry.ok_or(BadHistory::BadLine(entries.len() + 2))?;
         if entries.len() == MAX_ENTRIES {
             return Err(BadHistory::TooLong);
         }
@@ -86,15 +97,18 @@ fn read_history(modulus: u64, mut text: &[u8]) -> Result<Vec<Entry<'_>>, BadHist
     if told == modulus { Ok(entries) } else { Err(BadHistory::OtherModulus(told)) }
 }
 
-/// The modulus that a first line tells. Only that of version 2 has one, and version 1 had the greatest.
-fn read_first_line(line: &[u8]) -> Result<u64, BadHistory> {
-    let version = line.strip_prefix(b"reset-history ").ok_or(BadHistory::BadLine(1))?;
-    if let Some(word) = version.strip_prefix(b"2 ") {
-        return modulus(word).ok_or(BadHistory::BadLine(1));
+/// The version and the modulus that a first line tells. That of version 1 tells none, and it was the greatest.
+fn read_first_line(line: &[u8]) -> Result<(u32, u64), BadHistory> {
+    let text = line.strip_prefix(b"reset-history ").ok_or(BadHistory::BadLine(1))?;
+    for (version, front) in [(2, b"2 "), (3, b"3 ")] {
+        if let Some(word) = text.strip_prefix(front) {
+            let modulus = modulus(word).ok_or(BadHistory::BadLine(1))?;
+            return Ok((version, modulus));
+        }
     }
-    match number(version) {
-        Some(1) => Ok(SESSIONS),
-        None | Some(2) => Err(BadHistory::BadLine(1)),
+    match number(text) {
+        Some(1) => Ok((1, SESSIONS)),
+        None | Some(2 | 3) => Err(BadHistory::BadLine(1)),
         Some(_) => Err(BadHistory::BadVersion),
     }
 }

@@ -14,6 +14,8 @@ pub enum Fault<'t> {
     Local { at: u32, text: &'t [u8] },
     Down { a: u32, b: u32 },
     Up { a: u32, b: u32 },
+    Off { at: u32 },
+    On { at: u32 },
 }
 
 /// Reads the words of a fault after the word `fault`.
@@ -39,6 +41,8 @@ pub fn read_fault<'t>(mut words: impl Iterator<Item = &'t [u8]>) -> Option<Fault
         }
         b"down" => Fault::Down { a: at, b: number(words.next()?)? },
         b"up" => Fault::Up { a: at, b: number(words.next()?)? },
+        b"off" => Fault::Off { at },
+        b"on" => Fault::On { at },
         _ => return None,
     };
     words.next().is_none().then_some(fault)
@@ -60,6 +64,8 @@ pub fn put_fault(fault: &Fault, out: &mut impl Write) -> io::Result<()> {
         }
         Fault::Down { a, b } => writeln!(out, "fault down {a} {b}"),
         Fault::Up { a, b } => writeln!(out, "fault up {a} {b}"),
+        Fault::Off { at } => writeln!(out, "fault off {at}"),
+        Fault::On { at } => writeln!(out, "fault on {at}"),
     }
 }
 
@@ -84,6 +90,8 @@ impl Network {
             }
             Fault::Down { a, b } => self.unlink(a, b)?,
             Fault::Up { a, b } => self.link(a, b)?,
+            Fault::Off { at } => self.take_off(at)?,
+            Fault::On { at } => self.put_on(at)?,
         }
         Ok(Reply::Disturbed)
     }
@@ -122,6 +130,32 @@ impl Network {
         self.nodes[i].near.remove(to);
         self.nodes[j].near.retain(|place| *place != i);
         self.link_count -= 1;
+        Ok(())
+    }
+
+    /// A node goes down, and its links are gone.
+    fn take_off(&mut self, id: u32) -> Result<(), Refusal> {
+        let at = self.find(id)?;
+        for near in std::mem::take(&mut self.nodes[at].near) {
+            self.nodes[near].near.retain(|place| *place != at);
+            self.link_count -= 1;
+        }
+        self.places[id as usize] = None;
+        Ok(())
+    }
+
+    /// A node that is down comes up, without links, as one would start that is alone.
+    fn put_on(&mut self, id: u32) -> Result<(), Refusal> {
+        let at = self.nodes.binary_search_by_key(&id, |node| node.id);
+        let at = at.map_err(|_| Refusal::StrangeNode)?;
+        if self.places[id as usize].is_some() {
+            return Err(Refusal::NodeIsUp);
+        }
+        self.places[id as usize] = Some(at as u16);
+        let node = &mut self.nodes[at];
+        node.tree = Tree { root: id, father: id, dist: 0 };
+        node.wave = Wave { phase: Phase::Normal, session: 0 };
+        node.local = Local::default();
         Ok(())
     }
 }

@@ -67,9 +67,9 @@ pub struct Node {
 }
 
 pub struct Network {
-    /// By ascending id.
+    /// By ascending id, those that are down too.
     pub nodes: Vec<Node>,
-    /// The place of each id among the nodes.
+    /// The place of each id among the nodes, if it is the id of one that is up.
     pub places: Vec<Option<u16>>,
     pub link_count: usize,
     pub app: App,
@@ -151,6 +151,11 @@ fn ways(near: &[Vec<usize>]) -> Vec<(usize, u32)> {
 impl Network {
     pub fn bound(&self) -> u32 {
         self.nodes.len() as u32
+    }
+
+    /// The nodes that are up.
+    pub fn up_nodes(&self) -> impl Iterator<Item = &Node> {
+        self.nodes.iter().filter(|node| self.places[node.id as usize].is_some())
     }
 
     /// The session after another. Mostly that is one more: a division is left to those where it isn't.

@@ -9,7 +9,7 @@ use crate::network::{App, Network, Node, Tree, Wave};
 use crate::tables::{Answer, Refusal, Reply, Rows};
 use crate::topology::number;
 use std::io::{self, Write};
-use std::slice;
+use std::iter;
 
 /// The most bytes of a line, without its line feed.
 pub const MAX_LINE: usize = 256;
@@ -85,12 +85,12 @@ fn obey<'l>(
         (b"show", Some(Some(at)), None) => ask(network, at, |node| show(network.app, node, out))?,
         (b"enabled", Some(Some(at)), None) => ask(network, at, |node| enabled(network, node, out))?,
         (b"check", Some(Some(at)), None) => {
-            ask(network, at, |node| check(network, slice::from_ref(node), out))?
+            ask(network, at, |node| check(network, iter::once(node), out))?
         }
         (b"show", None, None) => {
-            told(network.nodes.iter().try_for_each(|node| show(network.app, node, out)))?
+            told(network.up_nodes().try_for_each(|node| show(network.app, node, out)))?
         }
-        (b"check", None, None) => told(check(network, &network.nodes, out))?,
+        (b"check", None, None) => told(check(network, network.up_nodes(), out))?,
         (b"ready", None, None) => told(ready(network, out))?,
         _ => return Ok(None),
     };
@@ -134,6 +134,7 @@ fn put_answer(answer: Answer, out: &mut impl Write) -> io::Result<()> {
         Err(Refusal::BadLocal) => out.write_all(b"refused BadLocal\n"),
         Err(Refusal::NoSuchLink) => out.write_all(b"refused NoSuchLink\n"),
         Err(Refusal::LinkIsThere) => out.write_all(b"refused LinkIsThere\n"),
+        Err(Refusal::NodeIsUp) => out.write_all(b"refused NodeIsUp\n"),
     }
 }
 
@@ -192,7 +193,7 @@ fn put_rows(rows: Rows, out: &mut impl Write) -> io::Result<()> {
 fn ready(network: &Network, out: &mut impl Write) -> io::Result<()> {
     out.write_all(b"ready")?;
     let mut none = true;
-    for node in network.nodes.iter().filter(|node| network.is_ready(node)) {
+    for node in network.up_nodes().filter(|node| network.is_ready(node)) {
         write!(out, " {}", node.id)?;
         none = false;
     }

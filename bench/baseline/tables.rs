@@ -33,6 +33,7 @@ pub enum Refusal {
     BadLocal,
     NoSuchLink,
     LinkIsThere,
+    NodeIsUp,
 }
 
 pub type Answer = Result<Reply, Refusal>;

@@ -49,7 +49,7 @@ pub fn run_threads(
         }
     });
     let book = book.into_inner().unwrap();
-    writeln!(history, "reset-history 2 {}", book.network.modulus)?;
+    writeln!(history, "reset-history 3 {}", book.network.modulus)?;
     for entry in &book.entries {
         writeln!(history, "{entry}")?;
     }

@@ -39,7 +39,7 @@ module _ {L : Type 0} (test : ℕ × L → Bool) (v : ℕ → L) where
       → ((list_all test (seen (are_linked g i) v g.ids) ≡ true) ↔ ((j : ℕ) → AreLinked g i j → test (j, v j) ≡ true))
   seen_pass g are i = (
     λ all j linked. let there =
-        are.ends j i (are.symmetric j i ∙ linked) in pass_at (are_linked g i) g.ids there.0 there.1 all j there.2
+        are.within j (are.ends j i (are.symmetric j i ∙ linked)) in pass_at (are_linked g i) g.ids there.0 there.1 all j there.2
         linked,
     λ each. all_pass (are_linked g i) g.ids (λ j there linked. each j linked),
   )

@@ -1,5 +1,5 @@
 // The trait of applications.
-ghost use Rattle.std.specs.Prelude.{◌≡◌, ℕ, ◌≤◌, ◌↔◌, List, Option, None, Some, Err, IsTrue, IfOk, IfSome, OnOk, OnErr};
+ghost use Rattle.std.specs.Prelude.{◌≡◌, ℕ, ◌<◌, ◌≤◌, ◌↔◌, List, Option, None, Some, Err, IsTrue, IfOk, IfSome, OnOk, OnErr};
 ghost use Rattle.std.specs.Prelude.{is_some, length, option_map, slice_get};
 ghost use Rattle.std.specs.Io.KnownBytes.{Appends};
 ghost use Rattle.action_tables.specs.Written.{AppendsPrefix};
@@ -56,7 +56,7 @@ pub trait Application: Send + Sync {
     fn reads(case: u8) -> Option<Reads>
         ensures { result ≡ app.reads case };
 
-    /// The declared start state of the node at this index, and any where no node has it.
+    /// The declared start state of the identifier at this index, up or down, and any where none has it.
     fn on_start(alloc: Global, topology: &Topology, index: usize) -> Result<Self::Local, AllocError>
         ensures { IfSome (slice_get topology.now.ids index)
             (λ id. IfOk result (λ local. local ≡ app.start topology.now id)) };
@@ -121,10 +121,10 @@ pub trait Application: Send + Sync {
     // The text of a local state is one word of a line, of printable bytes.
     ghost one_word: { (local : Self.Local) → IsLocal local → IsPrintableWord (text local) };
 
-    // On every connected graph, and for every bound that the number of nodes doesn't pass, the invariant
-    // holds at the start and each action keeps it.
-    ghost keeps: { (g : Graph) (bound : ℕ) → IsGraph g → IsConnected g → length g.ids ≤ bound
-        → Keeps app g bound (Inv g) };
+    // On every connected graph with a node, and for every bound that the number of its identifiers doesn't
+    // pass, the invariant holds at the start and each action keeps it.
+    ghost keeps: { (g : Graph) (bound : ℕ) → IsGraph g → IsConnected g → 0 < length g.nodes
+        → length g.ids ≤ bound → Keeps app g bound (Inv g) };
 
     // A node's start state hangs on its component alone.
     ghost starts: { StartsByComponent app };

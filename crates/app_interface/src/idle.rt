@@ -39,7 +39,7 @@ impl Application for Idle {
 
     ghost one_word = { idle_word };
 
-    ghost keeps = { λ g bound are whole few. idle_keeps g bound are few };
+    ghost keeps = { λ g bound are whole some few. idle_keeps g bound are few };
 
     ghost starts = { λ g i j are node reached. refl };
 

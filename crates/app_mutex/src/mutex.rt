@@ -44,7 +44,7 @@ impl Application for EdgeReversal {
 
     ghost one_word = { mutex_word };
 
-    ghost keeps = { λ g bound are whole few. mutex_keeps g bound are few };
+    ghost keeps = { λ g bound are whole some few. mutex_keeps g bound are few };
 
     ghost starts = { λ g i j are node reached. refl };
 

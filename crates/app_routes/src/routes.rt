@@ -45,7 +45,7 @@ impl Application for Routes {
 
     ghost one_word = { routes_word };
 
-    ghost keeps = { λ g bound are whole few. routes_keep g bound are few };
+    ghost keeps = { λ g bound are whole some few. routes_keep g bound are few };
 
     ghost starts = { λ g i j are node reached. refl };
 

@@ -1,5 +1,5 @@
 -- There is one token at the start, and each action keeps it the one.
-use Rattle.std.proofs.Common.{◌≡◌, ◌≢◌, ◌⊎◌, ℕ, ◌+◌, ◌-◌, ◌<◌, ◌≤◌, Bool, true, false, not, ◌&&◌, ◌==◌, cond, List, []}
+use Rattle.std.proofs.Common.{◌≡◌, ◌≢◌, ◌⊎◌, ℕ, ◌+◌, ◌<◌, ◌≤◌, Bool, true, false, not, ◌&&◌, ◌==◌, cond, List, []}
 use Rattle.std.proofs.Common.{◌∷◌, Option, Some, None, Ok, Err, length, inl, inr, refl, sym, ap, ap₂, ◌∙◌, subst, arith}
 use Rattle.std.proofs.Common.{eq-eqb, ne_eqb, eqb-true, ⊎_elim}
 use Rattle.std.specs.List.{count_by, sum_by}
@@ -8,12 +8,13 @@ use Rattle.std.specs.Result.{result_ok}
 use Rattle.std.proofs.Math.Bool.{and-false}
 use Rattle.std.proofs.lemmas.Bool.{cases_eq}
 use Rattle.std.specs.Option.{option_map_or}
-use Rattle.std.proofs.lemmas.List.{get_or_default}
 use Rattle.std.proofs.lemmas.List.Sums.{sum_by-cons}
 use Rattle.topology.specs.Components.{component, leader}
 use Rattle.topology.specs.Graph.{Graph, IsGraph, IsConnected, IsNode, IsReached, AreLinked, Changes, are_linked}
-use Rattle.topology.specs.Graph.{greatest, has}
-use Rattle.topology.proofs.Components.{connected_leader, part_leader, same_leader}
+use Rattle.topology.specs.Graph.{greatest, has, is_node}
+use Rattle.topology.proofs.Components.{component_is, connected_leader, greatest_node, part_leader, reached_node}
+use Rattle.topology.proofs.Components.{same_leader}
+use Rattle.topology.proofs.Membership.{has-Contains}
 use Rattle.app_interface.specs.Application.{Action, Fits, is_read, seen}
 use Rattle.app_interface.specs.Ids.{is_id}
 use Rattle.app_interface.specs.Invariant.{Keeps, SameAtNodes}
@@ -217,26 +218,29 @@ acts g are bound i case (Some j) v v' h inv = moved (moves_toward i case j (v i)
 
 -- ---- the start, and the same states
 
-none_counted : (ids : List ℕ) → sum_by (λ k. 0) ids ≡ 0
+none_counted : (nodes : List ℕ) → sum_by (λ k. 0) nodes ≡ 0
 none_counted [] = refl
-none_counted (k ∷ ids) = omega (arith, sum_by-cons (λ k. 0) k ids, none_counted ids)
+none_counted (k ∷ nodes) = omega (arith, sum_by-cons (λ k. 0) k nodes, none_counted nodes)
 
-starts : (g : Graph) → IsGraph g → IsConnected g → HasOneToken g (token_start g)
-starts g are whole =
-    let top : length g.ids - 1 < length g.ids = omega (arith, are.some) in
-    let node : IsNode g (greatest g) = (length g.ids - 1, top, get_or_default g.ids (length g.ids - 1) _ 0 top) in
-    let one : holders g (token_start g) + 0 ≡ sum_by (λ k. 0) g.ids + number_of (greatest g == leader g (greatest g)) =
-    sum_at g are (λ k. 0) (λ k. number_of (k == leader g k)) (greatest g) node
-    (λ k at ne. ap number_of (ne_eqb k (leader g k) (λ same. ne (same ∙ connected_leader g k are whole at)))) in
-    let itself : number_of (greatest g == leader g (greatest g)) ≡ 1 =
-    ap number_of (eq-eqb (greatest g) (leader g (greatest g)) (sym (connected_leader g (greatest g) are whole node))) in
-    let row : (a : ℕ) → count_by (λ b. in_flight g (token_start g) a b) g.ids ≡ 0 =
+starts : (g : Graph) → IsGraph g → IsConnected g → 0 < length g.nodes → HasOneToken g (token_start g)
+starts g are whole some =
+    let node : IsNode g (greatest g) = greatest_node g some in
+    let holds : ℕ → Bool = λ k. is_node g k && (k == leader g k) in
+    let one : holders g (token_start g) + 0 ≡ sum_by (λ k. 0) g.nodes + number_of (holds (greatest g)) =
+    sum_at g are (λ k. 0) (λ k. number_of (holds k)) (greatest g) node
+    (λ k at ne.
+    ap₂ (λ b c. number_of (b && c)) (has-Contains g.nodes k at)
+    (ne_eqb k (leader g k) (λ same. ne (same ∙ connected_leader g k are whole at)))) in
+    let itself : number_of (holds (greatest g)) ≡ 1 =
+    ap₂ (λ b c. number_of (b && c)) (has-Contains g.nodes (greatest g) node)
+    (eq-eqb (greatest g) (leader g (greatest g)) (sym (connected_leader g (greatest g) are whole node))) in
+    let row : (a : ℕ) → count_by (λ b. in_flight g (token_start g) a b) g.nodes ≡ 0 =
     λ a. same_sum g (λ k. 0) (λ b. number_of (in_flight g (token_start g) a b))
-    (λ b at. ap number_of (and-false (are_linked g a b))) ∙ none_counted g.ids in
+    (λ b at. ap number_of (and-false (are_linked g a b))) ∙ none_counted g.nodes in
     let none : flights g (token_start g) ≡ 0 =
-    same_sum g (λ k. 0) (λ a. count_by (λ b. in_flight g (token_start g) a b) g.ids) (λ a at. row a)
-    ∙ none_counted g.ids in
-    omega (arith, one, itself, none, none_counted g.ids)
+    same_sum g (λ k. 0) (λ a. count_by (λ b. in_flight g (token_start g) a b) g.nodes) (λ a at. row a)
+    ∙ none_counted g.nodes in
+    omega (arith, one, itself, none, none_counted g.nodes)
 
 same_token : (g : Graph) (v v' : ℕ → TokenLocal) → SameAtNodes g v v' → HasOneToken g v → HasOneToken g v'
 same_token g v v' same inv =
@@ -244,18 +248,18 @@ same_token g v v' same inv =
     same_sum g (λ a. number_of (v a).hold) (λ a. number_of (v' a).hold)
     (λ a at. ap (λ s. number_of s.hold) (same a at)) in
     let flown : flights g v' ≡ flights g v =
-    same_sum g (λ a. count_by (λ b. in_flight g v a b) g.ids) (λ a. count_by (λ b. in_flight g v' a b) g.ids)
+    same_sum g (λ a. count_by (λ b. in_flight g v a b) g.nodes) (λ a. count_by (λ b. in_flight g v' a b) g.nodes)
     (λ a from. same_sum g (λ b. number_of (in_flight g v a b)) (λ b. number_of (in_flight g v' a b))
     (λ b to. ap₂ (λ x y. number_of (are_linked g a b && differ (has x.given b) (has y.taken a))) (same a from)
     (same b to))) in
     omega (arith, inv, held, flown)
 
 -- one token, at the start and after each action
-pub token_keeps : (g : Graph) (bound : ℕ) → IsGraph g → IsConnected g → length g.ids ≤ bound
-    → Keeps token g bound (HasOneToken g)
-token_keeps g bound are whole few = record {
+pub token_keeps : (g : Graph) (bound : ℕ) → IsGraph g → IsConnected g → 0 < length g.nodes
+    → length g.ids ≤ bound → Keeps token g bound (HasOneToken g)
+token_keeps g bound are whole some few = record {
   same = same_token g;
-  starts = starts g are whole;
+  starts = starts g are whole some;
   acts = acts g are bound;
 }
 
@@ -265,4 +269,8 @@ pub token_starts : (g : Graph) (i j : ℕ) → IsGraph g → IsNode g i → IsRe
 token_starts g i j are node reached =
     let same : leader (component g i) j ≡ leader g j =
     part_leader g i j are node reached ∙ sym (same_leader g i j are node reached) in
-    ap (λ k. record { hold = j == k; given = []; taken = [] }) same
+    let part = component_is g i are node in
+    let here : is_node (component g i) j ≡ true =
+    has-Contains (component g i).nodes j ((part.same_nodes j).1 reached) in
+    let there : is_node g j ≡ true = has-Contains g.nodes j (reached_node g i j are node reached) in
+    ap₂ (λ b k. record { hold = b && (j == k); given = []; taken = [] }) (here ∙ sym there) same

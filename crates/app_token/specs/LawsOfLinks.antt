@@ -55,7 +55,7 @@ module _ (g : Graph) (are : IsGraph g) (v : ℕ → TokenLocal) (i j : ℕ) (lin
       (number_of (is_in_flight i j (v i) (v j)) + number_of (is_in_flight j i (v j) (v i))) ≤ holders g v + flights g v
   on_link =
       let held = two_terms_in_sum g are (λ a. number_of (v a).hold) i j near far apart in
-      let flown = two_terms_in_sum g are (λ a. count_by (λ b. in_flight g v a b) g.ids) i j near far apart in
+      let flown = two_terms_in_sum g are (λ a. count_by (λ b. in_flight g v a b) g.nodes) i j near far apart in
       let leaving = term_in_sum g (λ b. number_of (in_flight g v i b)) j far in
       let arriving = term_in_sum g (λ b. number_of (in_flight g v j b)) i near in
       let leaves : number_of (in_flight g v i j) ≡ number_of (is_in_flight i j (v i) (v j)) = rw linked refl in

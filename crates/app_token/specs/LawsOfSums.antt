@@ -39,32 +39,32 @@ other_sums f h (x ∷ xs) (suc k) lt e =
     )
 
 module _ (g : Graph) where
-  -- what stands in the list is a node
-  node_at : (k : ℕ) → k < length g.ids → IsNode g (get_or g.ids k 0)
-  node_at k lt = (k, lt, get_or_default g.ids k _ 0 lt)
+  -- what stands in the list of nodes is one
+  node_at : (k : ℕ) → k < length g.nodes → IsNode g (get_or g.nodes k 0)
+  node_at k lt = (k, lt, get_or_default g.nodes k _ 0 lt)
 
   -- the same terms at the nodes have the same sum
-  pub same_sum : (f h : ℕ → ℕ) → ((j : ℕ) → IsNode g j → h j ≡ f j) → sum_by h g.ids ≡ sum_by f g.ids
-  same_sum f h e = same_sums f h g.ids (λ k lt. e _ (node_at k lt))
+  pub same_sum : (f h : ℕ → ℕ) → ((j : ℕ) → IsNode g j → h j ≡ f j) → sum_by h g.nodes ≡ sum_by f g.nodes
+  same_sum f h e = same_sums f h g.nodes (λ k lt. e _ (node_at k lt))
 
   -- where one term alone changes, the sum changes by it
   pub sum_at : IsGraph g → (f h : ℕ → ℕ) (i : ℕ) → IsNode g i → ((j : ℕ) → IsNode g j → j ≢ i → h j ≡ f j)
-      → sum_by h g.ids + f i ≡ sum_by f g.ids + h i
+      → sum_by h g.nodes + f i ≡ sum_by f g.nodes + h i
   sum_at are f h i node e =
-      let at : get_or g.ids node.0 0 ≡ i = get_or_default g.ids node.0 0 i node.1 ∙ node.2 in
-      subst (λ j. sum_by h g.ids + f j ≡ sum_by f g.ids + h j) at
-      (other_sums f h g.ids node.0 node.1
-      (λ m ne lt. e _ (node_at m lt) (λ same. ne (index_once g.ids are.ascending m node.0 lt node.1 (same ∙ sym at)))))
+      let at : get_or g.nodes node.0 0 ≡ i = get_or_default g.nodes node.0 0 i node.1 ∙ node.2 in
+      subst (λ j. sum_by h g.nodes + f j ≡ sum_by f g.nodes + h j) at
+      (other_sums f h g.nodes node.0 node.1
+      (λ m ne lt. e _ (node_at m lt) (λ same. ne (index_once g.nodes are.rising m node.0 lt node.1 (same ∙ sym at)))))
 
   -- a sum has the term of each node in it
-  pub term_in_sum : (f : ℕ → ℕ) (i : ℕ) → IsNode g i → f i ≤ sum_by f g.ids
+  pub term_in_sum : (f : ℕ → ℕ) (i : ℕ) → IsNode g i → f i ≤ sum_by f g.nodes
   term_in_sum f i node =
-      subst (λ j. f j ≤ sum_by f g.ids) (get_or_default g.ids node.0 0 i node.1 ∙ node.2)
-      (get_or-le-sum_by f g.ids node.0 0 node.1)
+      subst (λ j. f j ≤ sum_by f g.nodes) (get_or_default g.nodes node.0 0 i node.1 ∙ node.2)
+      (get_or-le-sum_by f g.nodes node.0 0 node.1)
 
   -- and those of two nodes side by side
   pub two_terms_in_sum : IsGraph g → (f : ℕ → ℕ) (i j : ℕ) → IsNode g i → IsNode g j → j ≢ i
-      → f i + f j ≤ sum_by f g.ids
+      → f i + f j ≤ sum_by f g.nodes
   two_terms_in_sum are f i j at to ne =
       -- the sum of the terms but that of i
       let rest : ℕ → ℕ = λ k. cond (k == i) 0 (f k) in
@@ -76,14 +76,14 @@ module _ (g : Graph) where
   pub pairs_at : IsGraph g → (p q : ℕ → ℕ → Bool) (a b : ℕ) → IsNode g a → IsNode g b
       → ((c : ℕ) → IsNode g c → c ≢ b → q a c ≡ p a c) →
       ((j c : ℕ) → IsNode g j → IsNode g c → j ≢ a → q j c ≡ p j c) →
-      sum_by (λ j. count_by (q j) g.ids) g.ids + number_of (p a b)
-      ≡ sum_by (λ j. count_by (p j) g.ids) g.ids + number_of (q a b)
+      sum_by (λ j. count_by (q j) g.nodes) g.nodes + number_of (p a b)
+      ≡ sum_by (λ j. count_by (p j) g.nodes) g.nodes + number_of (q a b)
   pairs_at are p q a b at to row others =
-      let one : count_by (q a) g.ids + number_of (p a b) ≡ count_by (p a) g.ids + number_of (q a b) =
+      let one : count_by (q a) g.nodes + number_of (p a b) ≡ count_by (p a) g.nodes + number_of (q a b) =
       sum_at are (λ c. number_of (p a c)) (λ c. number_of (q a c)) b to (λ c node ne. ap number_of (row c node ne)) in
-      let all : sum_by (λ j. count_by (q j) g.ids) g.ids + count_by (p a) g.ids
-      ≡ sum_by (λ j. count_by (p j) g.ids) g.ids + count_by (q a) g.ids =
-      sum_at are (λ j. count_by (p j) g.ids) (λ j. count_by (q j) g.ids) a at
+      let all : sum_by (λ j. count_by (q j) g.nodes) g.nodes + count_by (p a) g.nodes
+      ≡ sum_by (λ j. count_by (p j) g.nodes) g.nodes + count_by (q a) g.nodes =
+      sum_at are (λ j. count_by (p j) g.nodes) (λ j. count_by (q j) g.nodes) a at
       (λ j node ne. same_sum (λ c. number_of (p j c)) (λ c. number_of (q j c))
       (λ c to. ap number_of (others j c node to ne))) in
       omega (arith, one, all)

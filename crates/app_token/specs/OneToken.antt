@@ -11,11 +11,11 @@ in_flight g v a b = are_linked g a b && is_in_flight a b (v a) (v b)
 
 -- how many nodes hold the token
 abbrev pub holders : Graph → (ℕ → TokenLocal) → ℕ
-holders g v = count_by (λ a. (v a).hold) g.ids
+holders g v = count_by (λ a. (v a).hold) g.nodes
 
 -- how many bits are in flight, over all links and in both directions
 abbrev pub flights : Graph → (ℕ → TokenLocal) → ℕ
-flights g v = sum_by (λ a. count_by (λ b. in_flight g v a b) g.ids) g.ids
+flights g v = sum_by (λ a. count_by (λ b. in_flight g v a b) g.nodes) g.nodes
 
 abbrev pub HasOneToken : Graph → (ℕ → TokenLocal) → Type 0
 HasOneToken g v = holders g v + flights g v ≡ 1

@@ -11,7 +11,7 @@ use Rattle.app_interface.specs.declared.reads.Reads.TheVariants.{Toward, One}
 use Rattle.app_interface.specs.declared.refusal.ClockRefusal.{ClockRefusal}
 use Rattle.app_interface.specs.declared.refusal.ClockRefusal.TheVariants.{NotEnabled}
 use Rattle.topology.specs.Components.{leader}
-use Rattle.topology.specs.Graph.{Graph}
+use Rattle.topology.specs.Graph.{Graph, is_node}
 use Rattle.app_token.specs.Bits.{toggled}
 use Rattle.app_token.specs.TokenLinks.{is_in_flight, token_link_fault}
 use Rattle.app_token.specs.declared.local.TokenLocal.{TokenLocal}
@@ -52,9 +52,9 @@ token_reads case = if 1 == case then Some Toward else (if 2 == case then Some On
 abbrev pub token_names : ℕ → Option (List ℕ)
 token_names case = if 1 == case then Some (codes "pass") else (if 2 == case then Some (codes "take") else None)
 
--- a component's leader holds its token, and nothing is on its way
+-- a component's leader holds its token, and nothing is on its way; what is down holds nothing
 abbrev pub token_start : Graph → ℕ → TokenLocal
-token_start g i = record { hold = i == leader g i; given = []; taken = [] }
+token_start g i = record { hold = is_node g i && (i == leader g i); given = []; taken = [] }
 
 abbrev pub token : App TokenLocal
 token = record {

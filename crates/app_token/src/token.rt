@@ -71,7 +71,7 @@ impl Application for Token {
         index: usize,
     ) -> Result<TokenLocal, AllocError> {
         let hold = match topology.id_at(index) {
-            Some(id) => id == topology.greatest_of(index),
+            Some(id) => topology.is_up(index) && id == topology.greatest_of(index),
             None => false,
         };
         Ok(TokenLocal::start(alloc, hold))

@@ -8,7 +8,7 @@ use Rattle.std.proofs.lemmas.Bool.Decides.{eqb_tells}
 use Rattle.std.proofs.lemmas.List.Folds.{flat_map-map, list_all-append}
 use Rattle.std.proofs.lemmas.Option.{none-some}
 use Rattle.app_interface.specs.Application.{App}
-use Rattle.topology.specs.Graph.{Graph, AreLinked, IsGraph, IsNode, are_linked, neighbours_of, has}
+use Rattle.topology.specs.Graph.{Graph, AreLinked, IsGraph, IsNode, are_linked, neighbours_of, node_bound, has}
 use Rattle.topology.proofs.Membership.{Contains-has, has-Contains, has-filter}
 use Rattle.tree_layer.specs.declared.regs.TreeRegs.{TreeRegs}
 use Rattle.tree_layer.specs.TreeRows.{Adopts, Follows, IsFather, adopt_root, adopt_short, follow_dist, follow_root}
@@ -72,11 +72,11 @@ module _ {L : Type 0} (app : App L) (c : Configuration L) (graph : IsGraph c.gra
   w = wave_of c
 
   abbrev links : ℕ → ℕ → List LinkFault
-  links i j = link_faults app g.bound c.modulus (near_of app c i) (near_of app c j)
+  links i j = link_faults app (node_bound g) c.modulus (near_of app c i) (near_of app c j)
 
   -- what follows the tree's fault at an end, and the wave's
   abbrev last : ℕ → ℕ → List LinkFault
-  last i j = fault_of i j OfApp (app_row app g.bound (near_of app c i) (near_of app c j))
+  last i j = fault_of i j OfApp (app_row app (node_bound g) (near_of app c i) (near_of app c j))
 
   abbrev later : ℕ → ℕ → List LinkFault
   later i j = fault_of i j Wave (wave_row c.modulus (near_of app c i) (near_of app c j)) ++ last i j
@@ -85,7 +85,7 @@ module _ {L : Type 0} (app : App L) (c : Configuration L) (graph : IsGraph c.gra
   linked_there i j linked =
       Contains-has (neighbours_of g i) j
       (has-filter (are_linked g i) g.ids j
-      ∙ and_from _ _ linked (has-Contains g.ids j (graph.ends j i (graph.symmetric j i ∙ linked))))
+      ∙ and_from _ _ linked (has-Contains g.ids j (graph.within j (graph.ends j i (graph.symmetric j i ∙ linked)))))
 
   there_linked : (i j : ℕ) → Contains (neighbours_of g i) j → AreLinked g i j
   there_linked i j there =
@@ -93,15 +93,15 @@ module _ {L : Type 0} (app : App L) (c : Configuration L) (graph : IsGraph c.gra
       (sym (has-filter (are_linked g i) g.ids j) ∙ has-Contains (neighbours_of g i) j there)).0
 
   near_list : (i : ℕ)
-      → flat_map (link_faults app g.bound c.modulus (near_of app c i)) (map (near_of app c) (neighbours_of g i))
+      → flat_map (link_faults app (node_bound g) c.modulus (near_of app c i)) (map (near_of app c) (neighbours_of g i))
       ≡ flat_map (links i) (neighbours_of g i)
-  near_list i = flat_map-map (link_faults app g.bound c.modulus (near_of app c i)) (near_of app c) (neighbours_of g i)
+  near_list i = flat_map-map (link_faults app (node_bound g) c.modulus (near_of app c i)) (near_of app c) (neighbours_of g i)
 
   -- ---- from faults that are all the application's to sound registers
 
   module _ (all : list_all is_of_app (faults app c) ≡ true) where
     node : (i : ℕ) → IsNode g i → list_all is_of_app (node_faults app c i) ≡ true
-    node i there = passes_at is_of_app (node_faults app c) g.ids there.0 there.1 all i there.2
+    node i there = passes_at is_of_app (node_faults app c) g.nodes there.0 there.1 all i there.2
 
     own : (i : ℕ) → IsNode g i → own_row c i ≡ None
     own i there = (no_tree i i (own_row c i) _ (node i there)).0
@@ -114,26 +114,26 @@ module _ {L : Type 0} (app : App L) (c : Configuration L) (graph : IsGraph c.gra
         ∙ (no_tree i i (own_row c i) _ (node i (graph.ends i j linked))).1 in
         passes_at is_of_app (links i) (neighbours_of g i) there.0 there.1 all_links j there.2
 
-    tree : (i j : ℕ) → AreLinked g i j → tree_row g.bound (near_of app c i) (near_of app c j) ≡ None
+    tree : (i j : ℕ) → AreLinked g i j → tree_row (node_bound g) (near_of app c i) (near_of app c j) ≡ None
     tree i j linked =
-        (no_tree i j (tree_row g.bound (near_of app c i) (near_of app c j)) (later i j) (link i j linked)).0
+        (no_tree i j (tree_row (node_bound g) (near_of app c i) (near_of app c j)) (later i j) (link i j linked)).0
 
     wave : (i j : ℕ) → AreLinked g i j → wave_row c.modulus (near_of app c i) (near_of app c j) ≡ None
     wave i j linked =
         (no_wave i j (wave_row c.modulus (near_of app c i) (near_of app c j)) (last i j)
-        (no_tree i j (tree_row g.bound (near_of app c i) (near_of app c j)) (later i j) (link i j linked)).1).0
+        (no_tree i j (tree_row (node_bound g) (near_of app c i) (near_of app c j)) (later i j) (link i j linked)).1).0
 
-    right : (i j : ℕ) (linked : AreLinked g i j) → (IsFather g t i j × Follows g g.bound t i) ⊎ Adopts g g.bound t i j
+    right : (i j : ℕ) (linked : AreLinked g i j) → (IsFather g t i j × Follows g (node_bound g) t i) ⊎ Adopts g (node_bound g) t i j
         → ⊥
-    right i j linked = told_right _ (end_tells g g.bound t graph i j linked) (tree i j linked)
+    right i j linked = told_right _ (end_tells g (node_bound g) t graph i j linked) (tree i j linked)
 
-    follows : (i : ℕ) → Follows g g.bound t i → ⊥
+    follows : (i : ℕ) → Follows g (node_bound g) t i → ⊥
     follows i (follow_root j father near apart) =
         right i j father.linked (inl (father, follow_root j father near apart))
     follows i (follow_dist j father near same apart) =
         right i j father.linked (inl (father, follow_dist j father near same apart))
 
-    adopts : (i j : ℕ) → Adopts g g.bound t i j → ⊥
+    adopts : (i j : ℕ) → Adopts g (node_bound g) t i j → ⊥
     adopts i j (adopt_root linked near higher) = right i j linked (inr (adopt_root linked near higher))
     adopts i j (adopt_short linked near same shorter) = right i j linked (inr (adopt_short linked near same shorter))
 
@@ -155,10 +155,10 @@ module _ {L : Type 0} (app : App L) (c : Configuration L) (graph : IsGraph c.gra
   -- ---- and back
 
   module _ (are : IsSound c) where
-    tree_silent : (i j : ℕ) → AreLinked g i j → tree_row g.bound (near_of app c i) (near_of app c j) ≡ None
-    tree_silent i j linked = told_wrong _ (end_tells g g.bound t graph i j linked) rests
+    tree_silent : (i j : ℕ) → AreLinked g i j → tree_row (node_bound g) (near_of app c i) (near_of app c j) ≡ None
+    tree_silent i j linked = told_wrong _ (end_tells g (node_bound g) t graph i j linked) rests
       where
-        rests : (IsFather g t i j × Follows g g.bound t i) ⊎ Adopts g g.bound t i j → ⊥
+        rests : (IsFather g t i j × Follows g (node_bound g) t i) ⊎ Adopts g (node_bound g) t i j → ⊥
         rests (inl other) = (are.tree i (graph.ends i j linked)).follows other.1
         rests (inr adopts) = (are.tree i (graph.ends i j linked)).adopts j adopts
 
@@ -178,16 +178,16 @@ module _ {L : Type 0} (app : App L) (c : Configuration L) (graph : IsGraph c.gra
     link_silent i j linked =
         ap (λ o. list_all is_of_app (fault_of i j Tree o ++ later i j)) (tree_silent i j linked)
         ∙ ap (λ o. list_all is_of_app (fault_of i j Wave o ++ last i j)) (wave_silent i j linked)
-        ∙ of_app i j (app_row app g.bound (near_of app c i) (near_of app c j))
+        ∙ of_app i j (app_row app (node_bound g) (near_of app c i) (near_of app c j))
 
     node_silent : (i : ℕ) → IsNode g i → list_all is_of_app (node_faults app c i) ≡ true
     node_silent i there =
         ap (λ o. list_all is_of_app
         (fault_of i i Tree o
-        ++ flat_map (link_faults app g.bound c.modulus (near_of app c i)) (map (near_of app c) (neighbours_of g i))))
+        ++ flat_map (link_faults app (node_bound g) c.modulus (near_of app c i)) (map (near_of app c) (neighbours_of g i))))
         (told_wrong _ (own_tells g t graph i) (are.tree i there).claims)
         ∙ ap (list_all is_of_app) (near_list i)
         ∙ all_pass is_of_app (links i) (neighbours_of g i) (λ j near. link_silent i j (there_linked i j near))
 
     pub silent : list_all is_of_app (faults app c) ≡ true
-    silent = all_pass is_of_app (node_faults app c) g.ids node_silent
+    silent = all_pass is_of_app (node_faults app c) g.nodes node_silent

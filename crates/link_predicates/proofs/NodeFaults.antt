@@ -1,34 +1,58 @@
 -- The faults of one link after another are those of all of them.
 use Rattle.std.proofs.Common.{◌≡◌, ℕ, ◌+◌, ◌<◌, ◌==◌, Bool, true, false, List, [], ◌∷◌, ◌++◌, Option, Some, None}
 use Rattle.std.proofs.Common.{Contains, length, take, drop, get_or, slice_index, position, find, flat_map, map, refl}
-use Rattle.std.proofs.Common.{sym, ap, ◌∙◌, add-one, true≢false}
+use Rattle.std.proofs.Common.{append-nil, cond, filter, sym, ap, ◌∙◌, add-one, true≢false}
 use Rattle.std.specs.Option.{IfNone, IfSome, is_some, option_map, option_or}
 use Rattle.std.proofs.Math.Seq.{take-suc}
 use Rattle.std.proofs.lemmas.List.{at_drop_more, flat_map_more}
+use Rattle.std.proofs.lemmas.List.Elements.{filter-append}
 use Rattle.std.proofs.lemmas.List.Folds.{find-append}
 use Rattle.std.proofs.lemmas.List.Quantifiers.{position-Some}
 use Rattle.app_interface.specs.Application.{App}
-use Rattle.topology.specs.Graph.{neighbours_of}
+use Rattle.topology.specs.Graph.{Graph, IsGraph, IsNode, neighbours_of, node_at, node_bound}
 use Rattle.reset_model.specs.Configuration.{Configuration}
 use Rattle.reset_machine.proofs.NearSeen.{at_indexes, one_more}
-use Rattle.reset_model.proofs.Positions.{Contains-position, id_at-position, position-Contains}
+use Rattle.reset_model.proofs.NodePositions.{no_node_placed, node_placed}
+use Rattle.reset_model.proofs.Positions.{id_at-position}
 use Rattle.reset_model.specs.View.{Neighbour, near_of}
 use Rattle.link_predicates.specs.Faults.{alarm_of, app_row, fault_of, is_of_app, link_faults, own_row, tree_row}
 use Rattle.link_predicates.specs.Faults.{wave_row}
 use Rattle.link_predicates.specs.declared.fault.Family.TheVariants.{Tree, Wave, App as OfApp}
 use Rattle.link_predicates.specs.declared.fault.LinkFault.{LinkFault}
 
--- what a search for an identifier says of it
-pub found_node : (ids : List ℕ) (id : ℕ) (o : Option ℕ) → o ≡ position (λ i. i == id) ids
-    → IfSome o (λ index. Contains ids id × (index < length ids) × (slice_index ids index ≡ id))
-found_node ids id None found = tt
-found_node ids id (Some index) found =
-    let place = position-Some (λ i. i == id) ids index 0 (sym found) in
-    (Contains-position ids id index (sym found), place.0, id_at-position ids index id (sym found))
+-- what a search for a node says of it
+pub found_node : (g : Graph) (id : ℕ) (o : Option ℕ) → o ≡ node_at g id
+    → IfSome o (λ index. IsNode g id × (index < length g.ids) × (slice_index g.ids index ≡ id))
+found_node g id None found = tt
+found_node g id (Some index) found =
+    let placed = node_placed g id index (sym found) in
+    let place = position-Some (λ i. i == id) g.ids index 0 placed.1 in
+    (placed.0, place.0, id_at-position g.ids index id placed.1)
 
-pub no_node : (ids : List ℕ) (id : ℕ) (o : Option ℕ) → o ≡ position (λ i. i == id) ids → IfNone o (Contains ids id → ⊥)
-no_node ids id None found = λ there. position-Contains ids id there (sym found)
-no_node ids id (Some index) found = tt
+pub no_node : (g : Graph) → IsGraph g → (id : ℕ) (o : Option ℕ) → o ≡ node_at g id → IfNone o (IsNode g id → ⊥)
+no_node g graph id None found = no_node_placed g graph id (sym found)
+no_node g graph id (Some index) found = tt
+
+-- what is told of the identifiers that are up, with one more identifier: one that is up, and one that is down
+module _ {A : Type 0} (f : ℕ → List A) (p : ℕ → Bool) (xs : List ℕ) (k : ℕ) (found : List A) (short : k < length xs)
+    (so_far : found ≡ flat_map f (filter p (take k xs))) where
+  more : filter p (take (k + 1) xs) ≡ filter p (take k xs) ++ filter p (get_or xs k 0 ∷ [])
+  more =
+      ap (filter p) (ap (λ n. take n xs) (add-one k) ∙ take-suc xs k 0 short)
+      ∙ filter-append p (take k xs) (get_or xs k 0 ∷ [])
+
+  pub one_up : (after : List A) → p (get_or xs k 0) ≡ true → after ≡ found ++ f (get_or xs k 0)
+      → after ≡ flat_map f (filter p (take (k + 1) xs))
+  one_up after up told =
+      told ∙ ap (λ l. l ++ f (get_or xs k 0)) so_far ∙ flat_map_more f [] (filter p (take k xs)) (get_or xs k 0)
+      ∙ ap (λ l. flat_map f (filter p (take k xs) ++ l)) (sym (ap (λ b. cond b (get_or xs k 0 ∷ []) []) up))
+      ∙ ap (flat_map f) (sym more)
+
+  pub one_down : p (get_or xs k 0) ≡ false → found ≡ flat_map f (filter p (take (k + 1) xs))
+  one_down down =
+      so_far
+      ∙ ap (flat_map f) (sym (append-nil (filter p (take k xs)))
+      ∙ ap (λ l. filter p (take k xs) ++ l) (sym (ap (λ b. cond b (get_or xs k 0 ∷ []) []) down)) ∙ sym more)
 
 -- what is told of one more node of a list
 pub more_told : {X A : Type 0} (f : X → List A) (xs : List X) (k : ℕ) (d : X) (first before after : List A)
@@ -121,10 +145,10 @@ none_told N (Some x) found same = tt
 pub alarm_is : {L : Type 0} (app : App L) (c : Configuration L) (i : ℕ) (near : List ℕ)
     → map (λ n. slice_index c.graph.ids n) near ≡ neighbours_of c.graph i
     → find is_of_app
-    (flat_map (link_faults app c.graph.bound c.modulus (near_of app c i)) (at_indexes (near_of app c) c.graph.ids near))
+    (flat_map (link_faults app (node_bound c.graph) c.modulus (near_of app c i)) (at_indexes (near_of app c) c.graph.ids near))
     ≡ alarm_of app c i
 alarm_is app c i near lists =
-    ap (λ js. find is_of_app (flat_map (link_faults app c.graph.bound c.modulus (near_of app c i)) (map (near_of app c) js)))
+    ap (λ js. find is_of_app (flat_map (link_faults app (node_bound c.graph) c.modulus (near_of app c i)) (map (near_of app c) js)))
     lists
     ∙ sym (none_of_own i (own_row c i)
-    (flat_map (link_faults app c.graph.bound c.modulus (near_of app c i)) (map (near_of app c) (neighbours_of c.graph i))))
+    (flat_map (link_faults app (node_bound c.graph) c.modulus (near_of app c i)) (map (near_of app c) (neighbours_of c.graph i))))

@@ -5,7 +5,7 @@ use Rattle.std.specs.Option.{option_map_or}
 use Rattle.std.proofs.lemmas.Bool.{eq-eqb}
 use Rattle.action_tables.specs.Table.{enabled_of}
 use Rattle.app_interface.specs.Application.{App}
-use Rattle.topology.specs.Graph.{Graph, IsGraph, are_linked, neighbours_of}
+use Rattle.topology.specs.Graph.{Graph, IsGraph, are_linked, neighbours_of, node_bound}
 use Rattle.tree_layer.specs.declared.regs.TreeRegs.{TreeRegs}
 use Rattle.tree_layer.specs.TreeRows.{Claims, claimed}
 use Rattle.tree_layer.specs.TreeTable.{LocalView, father_passes, tree_table}
@@ -63,42 +63,42 @@ module _ (g : Graph) (t : ℕ → TreeRegs) (graph : IsGraph g) (i : ℕ) where
   passes linked = option_map_or (λ _. true) (cond linked (Some (t (t i).father)) None) false
 
   whole : (b : Bool) → are_linked g i (t i).father ≡ b
-      → father_passes (λ _. true) (seeing i g.bound (t i) all_near) ≡ passes b
+      → father_passes (λ _. true) (seeing i (node_bound g) (t i) all_near) ≡ passes b
   whole b linked =
       ap (λ o. option_map_or (λ (_ : TreeRegs). true) o false)
-      (regs_of-linked g g.bound 0 t no_wave graph i (t i).father) ∙ ap passes linked
+      (regs_of-linked g (node_bound g) 0 t no_wave graph i (t i).father) ∙ ap passes linked
 
   father_seen : (up : TreeRegs) → are_linked g i (t i).father ≡ true
-      → first_own i g.bound (t i) (((t i).father, up) ∷ []) ≡ first_own i g.bound (t i) all_near
+      → first_own i (node_bound g) (t i) (((t i).father, up) ∷ []) ≡ first_own i (node_bound g) (t i) all_near
   father_seen up linked =
       let near = ((t i).father, up) ∷ [] in
-      same_own_rows i g.bound (t i) near all_near near all_near
+      same_own_rows i (node_bound g) (t i) near all_near near all_near
       (ap (λ b. option_map_or (λ (_ : TreeRegs). true) (cond b (Some up) None) false) (eq-eqb _ _ refl)
       ∙ sym (whole true linked))
 
   no_father_seen : are_linked g i (t i).father ≡ false
-      → first_own i g.bound (t i) [] ≡ first_own i g.bound (t i) all_near
-  no_father_seen stray = same_own_rows i g.bound (t i) [] all_near [] all_near (sym (whole false stray))
+      → first_own i (node_bound g) (t i) [] ≡ first_own i (node_bound g) (t i) all_near
+  no_father_seen stray = same_own_rows i (node_bound g) (t i) [] all_near [] all_near (sym (whole false stray))
 
   -- rows 1 to 4 tell whether what the node knows of its root and father is wrong
-  pub own_tells : Tells (Claims g g.bound t i) (first_own i g.bound (t i) all_near)
+  pub own_tells : Tells (Claims g (node_bound g) t i) (first_own i (node_bound g) (t i) all_near)
   own_tells =
-      let v = seeing i g.bound (t i) all_near in
+      let v = seeing i (node_bound g) (t i) all_near in
       let low = nat_lt (t i).root i in
       let self = (t i).father == i && (not ((t i).root == i) || not ((t i).dist == 0)) in
       let stray = not ((t i).father == i) && not (father_passes (λ _. true) v) in
-      subst (Tells (Claims g g.bound t i)) (sym (first_by (tree_table v all_near) 1 2 3 4))
-      (first_tells (Claims g g.bound t i) (claimed i) low self stray (nat_le g.bound (t i).dist)
-      (claim_is g g.bound 0 t no_wave graph i))
+      subst (Tells (Claims g (node_bound g) t i)) (sym (first_by (tree_table v all_near) 1 2 3 4))
+      (first_tells (Claims g (node_bound g) t i) (claimed i) low self stray (nat_le (node_bound g) (t i).dist)
+      (claim_is g (node_bound g) 0 t no_wave graph i))
 
 -- what is asked at a node with what it has there, by whether its father is a neighbour
 module _ {L : Type 0} (app : App L) (c : Configuration L) (graph : IsGraph c.graph) (i K : ℕ) (own : Neighbour L)
-    (is : own ≡ near_of app c i) (bound : K ≡ c.graph.bound) where
+    (is : own ≡ near_of app c i) (bound : K ≡ node_bound c.graph) where
   asked_alike : (near : TreeRegs → List (ℕ × TreeRegs))
-      → first_own own.id K own.tree (near own.tree) ≡ first_own i c.graph.bound (tree_of c i) (near (tree_of c i))
+      → first_own own.id K own.tree (near own.tree) ≡ first_own i (node_bound c.graph) (tree_of c i) (near (tree_of c i))
   asked_alike near =
       ap (λ k. first_own own.id k own.tree (near own.tree)) bound
-      ∙ ap (λ (n : Neighbour L). first_own n.id c.graph.bound n.tree (near n.tree)) is
+      ∙ ap (λ (n : Neighbour L). first_own n.id (node_bound c.graph) n.tree (near n.tree)) is
 
   linked_alike : are_linked c.graph i own.tree.father ≡ are_linked c.graph i (tree_of c i).father
   linked_alike = ap (λ (n : Neighbour L). are_linked c.graph i n.tree.father) is

@@ -6,7 +6,7 @@ use Rattle.std.proofs.lemmas.Bool.{eq-eqb}
 use Rattle.std.proofs.lemmas.Bool.Decides.{eqb_tells}
 use Rattle.std.proofs.lemmas.List.Folds.{find-append}
 use Rattle.app_interface.specs.Application.{App}
-use Rattle.topology.specs.Graph.{AreLinked, IsGraph, are_linked, neighbours_of}
+use Rattle.topology.specs.Graph.{AreLinked, IsGraph, are_linked, neighbours_of, node_bound}
 use Rattle.topology.proofs.Components.{same_leader}
 use Rattle.reset_model.specs.Configuration.{Configuration, local_of, wave_of}
 use Rattle.reset_model.specs.Refinement.{abstract_of}
@@ -37,23 +37,23 @@ module _ {L : Type 0} (app : App L) (c : Configuration L) where
   joined_local i joined = ap (λ b. cond b (local_of app c i) (app.start c.graph i)) (eq-eqb _ _ joined)
 
   module _ (graph : IsGraph c.graph) (i : ℕ) (joined : HasJoined c.graph (wave_of c) i)
-      (quiet : (j : ℕ) → AreLinked c.graph i j → app.link_fault i c.graph.bound (abstract i) j (abstract j) ≡ None)
+      (quiet : (j : ℕ) → AreLinked c.graph i j → app.link_fault i (node_bound c.graph) (abstract i) j (abstract j) ≡ None)
     where
       silent_row : (j : ℕ) → AreLinked c.graph i j
-          → app_row app c.graph.bound (near_of app c i) (near_of app c j) ≡ None
+          → app_row app (node_bound c.graph) (near_of app c i) (near_of app c j) ≡ None
       silent_row j linked = at (eqb_tells (wave_of c i).session (wave_of c j).session)
         where
           at : ((nat_eq (wave_of c i).session (wave_of c j).session ≡ true)
               × ((wave_of c i).session ≡ (wave_of c j).session))
               ⊎ ((nat_eq (wave_of c i).session (wave_of c j).session ≡ false)
               × ((wave_of c i).session ≢ (wave_of c j).session))
-              → app_row app c.graph.bound (near_of app c i) (near_of app c j) ≡ None
+              → app_row app (node_bound c.graph) (near_of app c i) (near_of app c j) ≡ None
           at (inr apart) =
-              ap (λ b. cond b (app.link_fault i c.graph.bound (local_of app c i) j (local_of app c j)) None) apart.0
+              ap (λ b. cond b (app.link_fault i (node_bound c.graph) (local_of app c i) j (local_of app c j)) None) apart.0
           at (inl same) =
-              ap (λ b. cond b (app.link_fault i c.graph.bound (local_of app c i) j (local_of app c j)) None) same.0
-              ∙ ap (λ own. app.link_fault i c.graph.bound own j (local_of app c j)) (sym (joined_local i joined))
-              ∙ ap (λ theirs. app.link_fault i c.graph.bound (abstract i) j theirs)
+              ap (λ b. cond b (app.link_fault i (node_bound c.graph) (local_of app c i) j (local_of app c j)) None) same.0
+              ∙ ap (λ own. app.link_fault i (node_bound c.graph) own j (local_of app c j)) (sym (joined_local i joined))
+              ∙ ap (λ theirs. app.link_fault i (node_bound c.graph) (abstract i) j theirs)
               (sym (joined_local j
               (sym same.1 ∙ joined
               ∙ ap (λ k. (wave_of c k).session)
@@ -62,9 +62,9 @@ module _ {L : Type 0} (app : App L) (c : Configuration L) where
 
       pub silent : alarm_of app c i ≡ None
       silent =
-          let links = link_faults app c.graph.bound c.modulus (near_of app c i) in
+          let links = link_faults app (node_bound c.graph) c.modulus (near_of app c i) in
           none_of_own i (own_row c i) (flat_map links (map (near_of app c) (neighbours_of c.graph i)))
           ∙ none_found is_of_app links (near_of app c) (are_linked c.graph i) c.graph.ids
-          (λ j linked. app_alone app c.graph.bound c.modulus (near_of app c i) (near_of app c j)
+          (λ j linked. app_alone app (node_bound c.graph) c.modulus (near_of app c i) (near_of app c j)
           ∙ ap (λ o. option_map (λ row. record { at = i; other = j; family = OfApp; row = row }) o)
           (silent_row j linked))

@@ -5,7 +5,7 @@ use Rattle.std.specs.List.{flat_map, list_all}
 use Rattle.action_tables.specs.Numbers.{is_among}
 use Rattle.action_tables.specs.Table.{enabled_of}
 use Rattle.app_interface.specs.Application.{App}
-use Rattle.topology.specs.Graph.{neighbours_of}
+use Rattle.topology.specs.Graph.{neighbours_of, node_bound}
 use Rattle.tree_layer.specs.TreeTable.{tree_table}
 use Rattle.tree_layer.specs.TreeTable as tree
 use Rattle.wave_layer.specs.WaveTable.{wave_table}
@@ -77,12 +77,12 @@ link_faults app K m own other =
 abbrev pub node_faults : {L : Type 0} → App L → Configuration L → ℕ → List LinkFault
 node_faults app c i =
     fault_of i i Tree (own_row c i)
-    ++ flat_map (link_faults app c.graph.bound c.modulus (near_of app c i))
+    ++ flat_map (link_faults app (node_bound c.graph) c.modulus (near_of app c i))
     (map (near_of app c) (neighbours_of c.graph i))
 
 -- at all nodes, by ascending node
 abbrev pub faults : {L : Type 0} → App L → Configuration L → List LinkFault
-faults app c = flat_map (node_faults app c) c.graph.ids
+faults app c = flat_map (node_faults app c) c.graph.nodes
 
 -- ---- the application's
 

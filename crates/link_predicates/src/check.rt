@@ -2,7 +2,7 @@
 
 ghost use Rattle.std.specs.Prelude.{◌≡◌, ◌≢◌, ◌<◌, ◌++◌, None, Some, IfErr, IfNone, IfOk, IfSome, OnOk, find, flat_map};
 ghost use Rattle.std.specs.Prelude.{length, map, slice_index};
-ghost use Rattle.topology.specs.Graph.{IsNode, neighbours_of};
+ghost use Rattle.topology.specs.Graph.{IsNode, neighbours_of, node_bound};
 ghost use Rattle.reset_model.specs.View.{near_of};
 ghost use Rattle.link_predicates.specs.Faults.{alarm_of, app_row, fault_of, faults, is_of_app, link_faults};
 ghost use Rattle.link_predicates.specs.Faults.{node_faults, own_row};
@@ -15,6 +15,7 @@ use crate::rows;
 use app_interface::Application;
 use reset_machine::{Config, StepRefusal};
 use std::alloc::{AllocError, Global};
+use topology::nodes_are_up;
 
 /// The faults at the node with this identifier: first that of the node itself, then those of its
 /// links, by ascending neighbour. Or a refusal: `StrangeNode`, or `NoMemory`.
@@ -43,9 +44,14 @@ pub fn check_all<P: Application>(
     ensures { IfOk result (λ found. found.items ≡ faults P.app config.now) }
 {
     let mut found = Vec::new(alloc);
-    for index in 0..config.topology().len() {
-        add_node(&mut found, config, index)?;
+    let topology = config.topology();
+    topology.lemma_is_graph();
+    for index in 0..topology.len() {
+        if topology.is_up(index) {
+            add_node(&mut found, config, index)?;
+        }
     }
+    nodes_are_up();
     Ok(found)
 }
 
@@ -67,7 +73,8 @@ fn index_of<P: Application>(config: &Config<P>, at: u32) -> Option<usize>
         IfSome result (λ index. IsNode config.now.graph at × (index < length ids) × (slice_index ids index ≡ at)) }
     ensures none { IfNone result (IsNode config.now.graph at → ⊥) }
 {
-    config.topology().index_of(at)
+    config.lemma_is_graph();
+    config.topology().node_at(at)
 }
 
 // The first fault of the application at the node with this index.
@@ -105,7 +112,7 @@ fn link_alarm<P: Application>(
 
 // The bound K of the distances, and the modulus of the sessions.
 fn limits_of<P: Application>(config: &Config<P>) -> Limits
-    ensures bound { result.k ≡ config.now.graph.bound }
+    ensures bound { result.k ≡ node_bound config.now.graph }
     ensures modulus { result.modulus ≡ config.now.modulus }
     ensures some { 0 < result.k }
 {
@@ -161,7 +168,7 @@ fn add_links<P: Application>(
     requires there { own.now ≡ near_of P.app config.now (slice_index config.now.graph.ids index) }
     ensures { OnOk result
         (found.new.items
-        ≡ found.old.items ++ flat_map (link_faults P.app config.now.graph.bound config.now.modulus own.now)
+        ≡ found.old.items ++ flat_map (link_faults P.app (node_bound config.now.graph) config.now.modulus own.now)
         (map (near_of P.app config.now) (neighbours_of config.now.graph (slice_index config.now.graph.ids index)))) }
 {
     config.lemma_is_graph();

@@ -3,6 +3,7 @@ use Rattle.std.proofs.Common.{◌≡◌, ◌≢◌, ℕ, ◌+◌, ◌<◌, ◌�
 use Rattle.std.proofs.Common.{AllPairs, Contains, refl, sym, ap, subst, ◌∙◌, arith, inl, inr, ⊎_elim, ◌⊎◌, map}
 use Rattle.std.proofs.Common.{Bool, true, false}
 use Rattle.std.specs.FinSet as set
+use Rattle.std.specs.List.Sorted.{IsStrictlyIncreasing}
 use Rattle.std.specs.Ordering.{eq_by_cmp}
 use Rattle.std.proofs.lemmas.List.{get_or-map, length-map}
 use Rattle.std.proofs.lemmas.List.Elements.{All-contains, All-weaker, Contains-append_cases, Contains-append_left}
@@ -93,7 +94,7 @@ module _ (shape : Shape) (count seed : ℕ) (some : 0 < count) (few : count ≤ 
   pairs = links ++ map turned links
 
   abbrev graph : Graph
-  graph = record { ids = nodes; bound = count; links = set.from_list pairs }
+  graph = record { ids = nodes; nodes = nodes; links = set.from_list pairs }
 
   linked_from : (a b : ℕ) → AreLinked graph a b → Contains links (a, b) ⊎ Contains links (b, a)
   linked_from a b linked =
@@ -123,14 +124,18 @@ module _ (shape : Shape) (count seed : ℕ) (some : 0 < count) (few : count ≤ 
   upward_link : (a b : ℕ) → Contains links (a, b) → IsUpward count (a, b)
   upward_link a b at = All-contains (IsUpward count) links (a, b) (upward shape count seed some) at
 
+  ascending : IsStrictlyIncreasing nodes
+  ascending k within =
+      let here = number_at count k 0 (omega arith) in
+      let next = number_at count (k + 1) 0 within in
+      omega (arith, here.0, next.0)
+
   as_graph : IsGraph graph
   as_graph = record {
     some = omega (arith, length-range_with_len 1 count);
-    bounded = omega (arith, length-range_with_len 1 count);
-    ascending = λ k within.
-        let here = number_at count k 0 (omega arith) in
-        let next = number_at count (k + 1) 0 within in
-        omega (arith, here.0, next.0);
+    ascending = ascending;
+    rising = ascending;
+    within = λ i at. at;
     symmetric = λ a b. same_tests (are_linked graph a b) (are_linked graph b a) (other_way a b) (other_way b a);
     irreflexive = λ a linked.
         ⊎_elim (λ at. let up = upward_link a a at in absurd (omega (arith, up.upward)))
@@ -147,7 +152,7 @@ module _ (shape : Shape) (count seed : ℕ) (some : 0 < count) (few : count ≤ 
     sound = sound;
     exact = record {
       as_graph = as_graph;
-      bound = sym (length-range_with_len 1 count);
+      up = refl;
       same_nodes = λ i. (λ at. at, λ at. at);
       same_links = λ a b. (linked_from a b, linked_to a b);
     };

@@ -57,7 +57,7 @@ pub strange_here : {L : Type 0} (c : Configuration L) (e : Event) → (IsNode c.
     → IsFired c e (Err refused.StrangeNode)
 strange_here c e none =
     event_fired-strange_node c.graph (node_bound c.graph) c.modulus (tree_of c) (wave_of c) e
-    (no_node c.graph.ids (event_node e) none)
+    (no_node c.graph.nodes (event_node e) none)
 
 -- what an event of one row does, and one of two, of whose rows the command does this
 module _ {L : Type 0} (c at : Configuration L) (e : Event) (id : ℕ) (fired : Result WaveMove WaveRefusal)

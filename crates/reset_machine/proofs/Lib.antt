@@ -11,6 +11,7 @@ pub mod NearSeen
 pub mod Standings
 pub mod Locality
 mod LedNodes
+mod Renewing
 pub mod ReadyLists
 pub mod Doubting
 pub mod Writing

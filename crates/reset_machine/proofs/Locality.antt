@@ -1,5 +1,5 @@
 -- Whether a node has something to do turns on what the node sees alone.
-use Rattle.std.proofs.Common.{◌≡◌, ◌≢◌, ℕ, Bool, true, false, cond, List, [], ◌∷◌, filter, map, slice_index, is_ok}
+use Rattle.std.proofs.Common.{◌≡◌, ◌≢◌, ◌&&◌, ℕ, Bool, true, false, cond, List, [], ◌∷◌, filter, map, slice_index, is_ok}
 use Rattle.std.proofs.Common.{length, ⊎_elim, refl, sym, ap, ap₂, subst, ◌∙◌, arith, Option, None, Some, IfSome}
 use Rattle.std.specs.List.{list_any}
 use Rattle.std.proofs.lemmas.Bool.{false≢true}
@@ -7,7 +7,7 @@ use Rattle.std.proofs.lemmas.List.Elements.{filter_agree}
 use Rattle.action_tables.specs.Numbers.{all_cases}
 use Rattle.action_tables.specs.Table.{enabled_of}
 use Rattle.app_interface.specs.Application.{App}
-use Rattle.topology.specs.Graph.{Graph, IsGraph, are_linked, neighbours_of, node_bound}
+use Rattle.topology.specs.Graph.{Graph, IsGraph, are_linked, is_node, neighbours_of, node_bound}
 use Rattle.tree_layer.specs.TreeTable.{tree_table}
 use Rattle.tree_layer.specs.declared.regs.TreeRegs.{TreeRegs}
 use Rattle.wave_layer.specs.WaveTable.{wave_table}
@@ -18,7 +18,7 @@ use Rattle.reset_model.specs.Planned.{case_taken}
 use Rattle.reset_model.specs.View.{NodeView, near_of, tree_view, view_of, wave_view}
 use Rattle.reset_model.proofs.Positions.{value_at-put_at_other}
 use Rattle.reset_model.proofs.ViewedOutcomes.{case-is, tree_view-is, wave_view-is}
-use Rattle.reset_machine.specs.Enabled.{arguments_of, has_work, is_ready, is_taken}
+use Rattle.reset_machine.specs.Enabled.{arguments_of, has_work, has_work_at, is_ready, is_taken}
 use Rattle.reset_machine.specs.Known.{IsKnown}
 use Rattle.reset_machine.specs.ReadySet.{DoubtsAll, DoubtsAnyAround, DoubtsAround, Settles, Standing, last_in_doubt}
 use Rattle.reset_machine.proofs.NearSeen.{same_neighbour, same_view}
@@ -54,9 +54,9 @@ module _ {L : Type 0} (app : App L) where
       (filter (λ case. list_any (λ with. is_ok (case_taken app v case with)) (arguments_of g v.id (app.reads case)))
       all_cases)
 
-  is_ready-seen : (c : Configuration L) (i : ℕ) → IsGraph c.graph
-      → is_ready app c i ≡ seen_ready c.graph (view_of app c i)
-  is_ready-seen c i graph =
+  work-seen : (c : Configuration L) (i : ℕ) → IsGraph c.graph
+      → has_work_at app c i ≡ seen_ready c.graph (view_of app c i)
+  work-seen c i graph =
       let taken = is_taken app c.graph (node_bound c.graph) (wave_of c) (local_of app c) i in
       let acts =
       filter_agree taken
@@ -75,9 +75,9 @@ module _ {L : Type 0} (app : App L) where
     -- a node that is neither i nor a neighbour of i sees the same
     same_seen : (j : ℕ) → j ≢ i → are_linked c.graph j i ≡ false → view_of app d j ≡ view_of app c j
     same_seen j other stranger =
-        same_view j j d.graph.bound c.graph.bound d.modulus c.modulus (tree_of d j) (tree_of c j) (wave_of d j)
+        same_view j j (node_bound d.graph) (node_bound c.graph) d.modulus c.modulus (tree_of d j) (tree_of c j) (wave_of d j)
         (wave_of c j) (local_of app d j) (local_of app c j) (app.start d.graph j) (app.start c.graph j) _ _ refl
-        (ap (λ (g : Graph). g.bound) agrees.graph) agrees.modulus (agrees.tree j other) (agrees.wave j other)
+        (ap node_bound agrees.graph) agrees.modulus (agrees.tree j other) (agrees.wave j other)
         (agrees.local j other)
         (ap (λ g. app.start g j) agrees.graph)
         (ap (λ g. map (near_of app d) (neighbours_of g j)) agrees.graph
@@ -90,8 +90,10 @@ module _ {L : Type 0} (app : App L) where
     pub same_readiness : IsGraph c.graph → (j : ℕ) → j ≢ i → are_linked c.graph j i ≡ false
         → is_ready app d j ≡ is_ready app c j
     same_readiness graph j other stranger =
-        is_ready-seen d j (subst IsGraph (sym agrees.graph) graph)
-        ∙ ap₂ seen_ready agrees.graph (same_seen j other stranger) ∙ sym (is_ready-seen c j graph)
+        let works : has_work_at app d j ≡ has_work_at app c j =
+        work-seen d j (subst IsGraph (sym agrees.graph) graph)
+        ∙ ap₂ seen_ready agrees.graph (same_seen j other stranger) ∙ sym (work-seen c j graph) in
+        ap₂ (λ (g : Graph) b. is_node g j && b) agrees.graph works
 
   -- ---- what is known, after a write
 

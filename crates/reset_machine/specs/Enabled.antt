@@ -1,12 +1,12 @@
 -- The enabled rows and cases of a node, and the nodes that have something to do.
-use Rattle.std.specs.Prelude.{ℕ, Bool, true, not, ◌||◌, ◌==◌, List, [], ◌∷◌, Option, Some, None, is_ok, map, filter}
+use Rattle.std.specs.Prelude.{ℕ, Bool, true, not, ◌&&◌, ◌||◌, ◌==◌, List, [], ◌∷◌, Option, Some, None, is_ok, map, filter}
 use Rattle.std.specs.List.{list_any}
 use Rattle.action_tables.specs.Numbers.{all_cases}
 use Rattle.action_tables.specs.Table.{enabled_of}
 use Rattle.app_interface.specs.Application.{App}
 use Rattle.app_interface.specs.declared.reads.Reads.{Reads}
 use Rattle.app_interface.specs.declared.reads.Reads.TheVariants.{Alone, Toward, One, All}
-use Rattle.topology.specs.Graph.{Graph, neighbours_of, node_bound}
+use Rattle.topology.specs.Graph.{Graph, is_node, neighbours_of, node_bound}
 use Rattle.tree_layer.specs.TreeTable.{tree_table}
 use Rattle.wave_layer.specs.WaveTable.{wave_table}
 use Rattle.wave_layer.specs.declared.regs.WaveRegs.{WaveRegs}
@@ -51,8 +51,12 @@ abbrev pub enabled_rows : {L : Type 0} → App L → Configuration L → ℕ →
 enabled_rows app c i = record { tree = enabled_trees c i; wave = enabled_waves c i; act = enabled_acts app c i }
 
 -- i has something to do: more than to ask for a reset
+abbrev pub has_work_at : {L : Type 0} → App L → Configuration L → ℕ → Bool
+has_work_at app c i = has_work (enabled_trees c i) (enabled_waves c i) (enabled_acts app c i)
+
+-- i is a node that has something to do
 abbrev pub is_ready : {L : Type 0} → App L → Configuration L → ℕ → Bool
-is_ready app c i = has_work (enabled_trees c i) (enabled_waves c i) (enabled_acts app c i)
+is_ready app c i = is_node c.graph i && has_work_at app c i
 
 -- the ids of the nodes that have something to do, ascending
 abbrev pub ready_of : {L : Type 0} → App L → Configuration L → List ℕ

@@ -1,7 +1,7 @@
 -- A node of a configuration, with its place among the others, and what is seen and done from there.
 use Rattle.std.specs.Prelude.{◌≡◌, ℕ, ◌==◌, true, List, Option, Some, Result, position}
 use Rattle.app_interface.specs.Application.{App}
-use Rattle.topology.specs.Graph.{are_linked, neighbours_of, node_bound}
+use Rattle.topology.specs.Graph.{IsNode, are_linked, neighbours_of, node_bound}
 use Rattle.tree_layer.specs.TreeTable as tree
 use Rattle.wave_layer.specs.WaveTable as wave
 use Rattle.reset_model.specs.declared.event.Event.{Event}
@@ -16,9 +16,9 @@ pub record NodePlace (L : Type 0) : Type 0 where
   pub id : ℕ
   pub index : ℕ
 
--- the index is that of the identifier among the identifiers of all nodes
+-- the index is that of the identifier among all identifiers, and the node is up
 abbrev pub IsPlace : {L : Type 0} → NodePlace L → Type 0
-IsPlace p = position (λ i. i == p.id) p.config.graph.ids ≡ Some p.index
+IsPlace p = (position (λ i. i == p.id) p.config.graph.ids ≡ Some p.index) × IsNode p.config.graph p.id
 
 -- the index n is that of the neighbour with the identifier j
 abbrev pub IsNear : {L : Type 0} → NodePlace L → ℕ → ℕ → Type 0

@@ -499,8 +499,9 @@ impl<P: Application> Config<P> {
         ensures found { IfSome result (λ regs. IsNode self.now.graph id × (regs ≡ tree_of self.now id)) }
         ensures none { IfNone result (IsNode self.now.graph id → ⊥) }
     {
+        self.nodes.lemma_is_graph();
         let trees = self.nodes.trees();
-        match self.nodes.topology().index_of(id) {
+        match self.nodes.topology().node_at(id) {
             Some(ix) => Some(trees[ix]),
             None => None,
         }
@@ -511,8 +512,9 @@ impl<P: Application> Config<P> {
         ensures found { IfSome result (λ regs. IsNode self.now.graph id × (regs ≡ wave_of self.now id)) }
         ensures none { IfNone result (IsNode self.now.graph id → ⊥) }
     {
+        self.nodes.lemma_is_graph();
         let waves = self.nodes.waves();
-        match self.nodes.topology().index_of(id) {
+        match self.nodes.topology().node_at(id) {
             Some(ix) => Some(waves[ix]),
             None => None,
         }
@@ -523,8 +525,9 @@ impl<P: Application> Config<P> {
         ensures found { IfSome result (λ local. IsNode self.now.graph id × (local.now ≡ local_of P.app self.now id)) }
         ensures none { IfNone result (IsNode self.now.graph id → ⊥) }
     {
+        self.nodes.lemma_is_graph();
         let locals = self.nodes.locals();
-        match self.nodes.topology().index_of(id) {
+        match self.nodes.topology().node_at(id) {
             Some(ix) => Some(&locals[ix]),
             None => None,
         }
@@ -556,7 +559,7 @@ impl<P: Application> Config<P> {
     {
         self.nodes.lemma_is_graph();
         let topology = self.nodes.topology();
-        match topology.index_of(id) {
+        match topology.node_at(id) {
             Some(index) => Some(self.session_at(topology.greatest_of(index).get())),
             None => None,
         }

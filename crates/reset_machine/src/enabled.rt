@@ -8,7 +8,7 @@ ghost use Rattle.action_tables.specs.Table.{enabled_of};
 ghost use Rattle.topology.specs.Graph.{node_bound};
 ghost use Rattle.reset_model.specs.Configuration.{local_of, wave_of};
 ghost use Rattle.reset_machine.specs.Enabled.{enabled_acts, enabled_rows, enabled_trees, enabled_waves};
-ghost use Rattle.reset_machine.specs.Enabled.{has_work, is_ready, is_taken};
+ghost use Rattle.reset_machine.specs.Enabled.{has_work, has_work_at, is_taken};
 ghost use Rattle.reset_machine.specs.Place.{case_outcome_at, near_ids};
 ghost use Rattle.tree_layer.specs.TreeTable.{IsView, tree_table};
 ghost use Rattle.wave_layer.specs.WaveTable.{wave_table};
@@ -39,7 +39,7 @@ pub struct Enabled {
 
 impl Enabled {
     // Whether a case is enabled, or a row other than the request.
-    fn is_ready(self) -> bool
+    fn has_any(self) -> bool
         ensures { result ≡ has_work self.tree self.wave self.act }
     {
         self.wave.lemma_is_listed();
@@ -173,17 +173,17 @@ fn is_taken_toward<P: Application>(
 
 /// Whether a case is enabled at the node, or a row other than the request. Its neighbours and children
 /// are read into the vectors: the room of one node serves the next.
-pub fn is_ready<P: Application>(
+pub fn has_work<P: Application>(
     alloc: Global,
     place: &Place<'_, P>,
     near: &mut Vec<(u32, TreeRegs)>,
     children: &mut Vec<(u32, WaveRegs)>,
 ) -> Result<bool, AllocError>
-    ensures { IfOk result (λ ready. ready ≡ is_ready P.app place.now.config place.now.id) }
+    ensures { IfOk result (λ ready. ready ≡ has_work_at P.app place.now.config place.now.id) }
 {
     let tree = enabled_trees(place, near)?;
     let wave = enabled_waves(place, children)?;
     let act = enabled_acts(alloc, place)?;
     let enabled = Enabled { tree, wave, act };
-    Ok(enabled.is_ready())
+    Ok(enabled.has_any())
 }

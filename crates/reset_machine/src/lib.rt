@@ -12,6 +12,7 @@ mod place;
 mod plan;
 mod ready;
 mod ready_set;
+mod renewal;
 mod view;
 
 pub use config::Config;

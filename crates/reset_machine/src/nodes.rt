@@ -4,6 +4,7 @@ ghost use Rattle.std.specs.Prelude.{◌≡◌, ◌<◌, IfErr, IfOk, OnErr, OnOk
 ghost use Rattle.topology.specs.Graph.{IsGraph};
 ghost use Rattle.reset_model.specs.Configuration.{IsShaped, start_list};
 
+use crate::renewal::{copy_all, renew_trees, renew_waves, renewed_locals};
 use app_interface::Application;
 use std::alloc::{AllocError, AllocFailed, Global};
 use std::marker::Model;
@@ -54,7 +55,8 @@ impl<P: Application> Model for Nodes<P> {
 }
 
 impl<P: Application> Nodes<P> {
-    ghost use Rattle.reset_model.specs.Configuration.{with_graph, with_local, with_tree, with_wave};
+    ghost use Rattle.reset_model.specs.Configuration.{with_local, with_tree, with_wave};
+    ghost use Rattle.reset_model.specs.Topologies.{with_topology};
     ghost use Rattle.reset_model.specs.Outcome.{IsBoot};
 
     /// The nodes as they are booted, with sessions counted modulo this number. Where memory is wanting the
@@ -145,15 +147,15 @@ impl<P: Application> Nodes<P> {
         self.locals[index] = local;
     }
 
-    /// Puts a topology of the same nodes, with its start states. Where memory is wanting the topology
-    /// comes back.
+    /// Puts a topology of the same identifiers, with its start states: a node that comes up is its own root, normal in
+    /// session 0, and has its start state. Where memory is wanting the topology comes back.
     pub fn set_topology(
         &mut self,
         alloc: Global,
         topology: Topology,
     ) -> Result<(), AllocFailed<Topology>>
         requires { topology.ids ≡ self.old.graph.ids }
-        ensures ok { OnOk result (self.new ≡ with_graph self.old topology) }
+        ensures ok { OnOk result (self.new ≡ with_topology P.app self.old topology) }
         ensures value_returned { IfErr result (λ e. e.value ≡ topology) }
         ensures kept { OnErr result (self.new ≡ self.old) }
     {
@@ -161,6 +163,14 @@ impl<P: Application> Nodes<P> {
             Ok(starts) => starts,
             Err(AllocError) => return Err(AllocFailed { value: topology }),
         };
+        let before = &self.topology;
+        let locals = match renewed_locals::<P>(alloc, before, &topology, &self.locals) {
+            Ok(locals) => locals,
+            Err(AllocError) => return Err(AllocFailed { value: topology }),
+        };
+        renew_trees(&self.topology, &topology, &mut self.trees);
+        renew_waves(&self.topology, &topology, &mut self.waves);
+        self.locals = locals;
         self.topology = topology;
         self.starts = starts;
         Ok(())
@@ -224,15 +234,4 @@ fn start_all<P: Application>(
         starts.push(P::on_start(alloc, topology, index)?)?;
     }
     Ok(starts)
-}
-
-// A copy of each local state.
-fn copy_all<P: Application>(alloc: Global, locals: &[P::Local]) -> Result<Vec<P::Local>, AllocError>
-    ensures { IfOk result (λ copies. copies.items ≡ locals.now) }
-{
-    let mut copies = Vec::new(alloc);
-    for local in locals {
-        copies.push(P::copy(alloc, local)?)?;
-    }
-    Ok(copies)
 }

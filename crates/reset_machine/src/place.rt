@@ -39,7 +39,7 @@ impl<'a, P: Application> Model for Place<'a, P> {
 }
 
 impl<'a, P: Application> Place<'a, P> {
-    ghost use Rattle.reset_machine.specs.Place.{IsNear, IsPlace, near_ids};
+    ghost use Rattle.reset_machine.specs.Place.{IsNear, near_ids};
 
     /// The node with this identifier. None where there is no such node.
     pub fn of(nodes: &'a Nodes<P>, id: u32) -> Option<Place<'a, P>>
@@ -47,15 +47,17 @@ impl<'a, P: Application> Place<'a, P> {
         ensures node { IfSome result (λ _. IsNode nodes.now.graph id) }
         ensures none { IfNone result (IsNode nodes.now.graph id → ⊥) }
     {
-        match nodes.topology().index_of(id) {
+        nodes.lemma_is_graph();
+        match nodes.topology().node_at(id) {
             Some(index) => Some(Place { nodes, id, index }),
             None => None,
         }
     }
 
-    /// The node at this index.
+    /// The node at this index, which is up.
     pub fn at(nodes: &'a Nodes<P>, index: usize) -> Place<'a, P>
-        requires { index < length nodes.now.graph.ids }
+        requires short { index < length nodes.now.graph.ids }
+        requires node { IsNode nodes.now.graph (slice_index nodes.now.graph.ids index) }
         ensures config { result.config ≡ nodes.now }
         ensures id { result.id ≡ slice_index nodes.now.graph.ids index }
         ensures index { result.index ≡ index }
@@ -69,7 +71,8 @@ impl<'a, P: Application> Place<'a, P> {
     pub fn lemma_is_place(&self)
         ensures graph { IsGraph self.now.config.graph }
         ensures shaped { IsShaped self.now.config }
-        ensures place { IsPlace self.now }
+        ensures place { position (λ i. i == self.now.id) self.now.config.graph.ids ≡ Some self.now.index }
+        ensures node { IsNode self.now.config.graph self.now.id }
     {
         self.nodes.lemma_is_graph();
     }

@@ -3,12 +3,10 @@ use Rattle.std.proofs.Common.{◌≡◌, ◌≢◌, ℕ, suc, Bool, true, false,
 use Rattle.std.proofs.Common.{Some, None, refl, sym, ap, ap₂, subst, ◌∙◌, ⊎_elim, true≢false, arith}
 use Rattle.std.proofs.lemmas.Bool.{cases_Bool, cases_eq, eqb-true, eq-eqb, ne_eqb}
 use Rattle.action_tables.specs.Modulus.{IsModulus}
-use Rattle.app_interface.specs.Application.{App, Action, Fits, is_read, seen}
-use Rattle.app_interface.specs.declared.reads.Reads.{Reads}
-use Rattle.app_interface.specs.declared.reads.Reads.TheVariants.{Alone, Toward, One, All}
+use Rattle.app_interface.specs.Application.{App, Action, is_read, seen}
 use Rattle.app_interface.specs.Invariant.{SameAtNodes}
 use Rattle.topology.specs.Components.{leader, reaches}
-use Rattle.topology.specs.Graph.{Graph, IsGraph, IsNode, AreLinked, IsReached, Changes}
+use Rattle.topology.specs.Graph.{Graph, IsGraph, IsNode, IsReached, Changes}
 use Rattle.topology.proofs.Components.{leader_leads, leader_node, reached_on, reaches_tests, same_leader}
 use Rattle.tree_layer.specs.declared.regs.TreeRegs.{TreeRegs}
 use Rattle.tree_layer.specs.TreeRows.{IsFather}
@@ -26,6 +24,7 @@ use Rattle.reset_model.specs.WavePicture.{HasJoined, WavePicture}
 use Rattle.reset_model.proofs.CompleteResets.{all_awake}
 use Rattle.topology.proofs.Walks.{reached_back}
 use Rattle.reset_model.proofs.Fathers.{father_leader, own_father}
+use Rattle.reset_model.proofs.ReadNodes.{read_linked, read_node}
 use Rattle.reset_model.proofs.WavePictures.{sound_where_picture}
 
 -- ---- abstract runs see the states of the nodes alone
@@ -42,7 +41,7 @@ seen_same {L} p v u (j ∷ js) same =
         same j (0, omega arith, refl) is in rw is (ap₂ (λ x xs. (j, x) ∷ xs) here rest)
     at false is rest = rw is rest
 
-module _ {L : Type 0} (app : App L) (g : Graph) (K : ℕ) where
+module _ {L : Type 0} (app : App L) (g : Graph) (graph : IsGraph g) (K : ℕ) where
   pub run_from : (ss : List AbstractStep) (v u v' : ℕ → L) → SameAtNodes g v u → IsAbstractRun app g K ss u v'
       → IsAbstractRun app g K ss v v'
   run_from [] v u v' same run = λ i node. run i node ∙ same i node
@@ -55,7 +54,8 @@ module _ {L : Type 0} (app : App L) (g : Graph) (K : ℕ) where
       let reads : ℕ → Bool = is_read g i (app.reads case) with in
       let own : v i ≡ u i = sym (same i act.node) in
       let near : seen reads v g.ids ≡ seen reads u g.ids =
-      seen_same reads v u g.ids (λ j node read. sym (same j node)) in (
+      seen_same reads v u g.ids (λ j there read. sym (same j (read_node g graph i (app.reads case) with j act.fits read)))
+      in (
         run.0,
         record {
           node = act.node;
@@ -184,16 +184,6 @@ module _ (g : Graph) (graph : IsGraph g) (K m : ℕ) (counted : IsModulus m) (t 
 
 -- ---- what each step is on the abstract machine
 
--- what a case reads is linked to its node
-pub read_linked : (g : Graph) (i : ℕ) (reads : Option Reads) (with : Option ℕ) (j : ℕ) → Fits g i reads with
-    → is_read g i reads with j ≡ true → AreLinked g i j
-read_linked g i None with j fits read = absurd (true≢false (sym read))
-read_linked g i (Some Alone) with j fits read = absurd (true≢false (sym read))
-read_linked g i (Some Toward) with j fits read = absurd (true≢false (sym read))
-read_linked g i (Some One) None j fits read = absurd fits
-read_linked g i (Some One) (Some k) j fits read = subst (AreLinked g i) (sym (eqb-true j k read)) fits
-read_linked g i (Some All) with j fits read = read
-
 -- the same whether the node has joined or not
 either : {X : Type 0} (b : Bool) (x y : X) → x ≡ y → cond b x y ≡ y
 either true x y same = same
@@ -267,9 +257,10 @@ module _ {L : Type 0} (app : App L) (g : Graph) (graph : IsGraph g) where
     acting joined =
         let reads : ℕ → Bool = is_read g i (app.reads case) with in
         let own : abstract_at w l i ≡ l i = ap (λ b. cond b (l i) (app.start g i)) joined in
-        let there : (j : ℕ) → IsNode g j → reads j ≡ true → abstract_at w l j ≡ l j =
-        λ j node read. ap (λ b. cond b (l j) (app.start g j))
-        (ap₂ (λ s n. nat_eq s (w n).session) (act.agree j node read)
+        let there : (j : ℕ) → Contains g.ids j → reads j ≡ true → abstract_at w l j ≡ l j =
+        λ j at read. ap (λ b. cond b (l j) (app.start g j))
+        (ap₂ (λ s n. nat_eq s (w n).session)
+        (act.agree j (read_node g graph i (app.reads case) with j act.action.fits read) read)
         (same_leader g i j graph act.action.node (j ∷ [], (read_linked g i (app.reads case) with j act.action.fits read, refl)))
         ∙ joined) in
         record {

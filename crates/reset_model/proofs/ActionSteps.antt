@@ -18,6 +18,7 @@ use Rattle.reset_model.specs.Actions.{first_apart, judged, case_outcome_of, acte
 use Rattle.reset_model.specs.declared.event.Event.TheVariants.{Act}
 use Rattle.reset_model.specs.LocalSteps.{is_neighbour}
 use Rattle.reset_model.specs.Steps.{IsNamed}
+use Rattle.reset_model.proofs.ReadNodes.{read_node}
 use Rattle.reset_model.proofs.FirstFound.{find-first, find-none}
 
 -- an action that is no refusal
@@ -134,15 +135,15 @@ module _ {L : Type 0} (app : App L) (g : Graph) (graph : IsGraph g) (K : ℕ) (w
       at (inr other) = absurd (true≢false (sym (ap not other.0) ∙ is))
 
   has_read : (j : ℕ) → IsNode g j → reads j ≡ true → has (filter reads g.ids) j ≡ true
-  has_read j node read = has-filter reads g.ids j ∙ ap₂ (λ b d. b && d) read (has-Contains g.ids j node)
+  has_read j node read = has-filter reads g.ids j ∙ ap₂ (λ b d. b && d) read (has-Contains g.ids j (graph.within j node))
 
-  first_is : (j : ℕ) → first_apart w i (filter reads g.ids) ≡ Some j → IsFirstApart g w i reads j
-  first_is j is =
+  first_is : Fits g i (app.reads case) with → (j : ℕ) → first_apart w i (filter reads g.ids) ≡ Some j → IsFirstApart g w i reads j
+  first_is fits j is =
       let found =
       find-first apart (filter reads g.ids) j (IsStrictlyIncreasing-filter reads g.ids graph.ascending) is in
       let there = sym (has-filter reads g.ids j) ∙ found.0 in
       record {
-        node = Contains-has g.ids j (both (reads j) (has g.ids j) there).1;
+        node = read_node g graph i (app.reads case) with j fits (both (reads j) (has g.ids j) there).0;
         read = (both (reads j) (has g.ids j) there).0;
         apart = λ same. true≢false (sym found.1 ∙ ap not (eq-eqb _ _ same));
         first = λ k node read low. together k (found.2 k (has_read k node read) low);
@@ -161,7 +162,7 @@ module _ {L : Type 0} (app : App L) (g : Graph) (graph : IsGraph g) (K : ℕ) (w
 
   judge : IsNode g i → Fits g i (app.reads case) with → (o : Option ℕ) → first_apart w i (filter reads g.ids) ≡ o
       → (n : Option L) → after ≡ n → IsActed app g K w l i case with (judged None o n)
-  judge node fits (Some j) found n next = disagrees j node fits (first_is j found)
+  judge node fits (Some j) found n next = disagrees j node fits (first_is fits j found)
   judge node fits None found (Some new) next = record { node = node; fits = fits; agree = agree_is found; next = next }
   judge node fits None found None next = not_enabled node fits (agree_is found) next
 
@@ -195,13 +196,13 @@ module _ {L : Type 0} (app : App L) (g : Graph) (graph : IsGraph g) (K : ℕ) (w
   neighbour o is j named = let P : Option ℕ → Type 0 = λ o. is_neighbour g i o ≡ true in subst P named is
 
   pub acted_steps : IsActed app g K w l i case with (acted_of app g K w l i case with)
-  acted_steps = at (has g.ids i) (is_neighbour g i with) refl refl
+  acted_steps = at (has g.nodes i) (is_neighbour g i with) refl refl
     where
-      at : (b d : Bool) → has g.ids i ≡ b → is_neighbour g i with ≡ d
+      at : (b d : Bool) → has g.nodes i ≡ b → is_neighbour g i with ≡ d
           → IsActed app g K w l i case with (acted_of app g K w l i case with)
-      at false d node near = rw node (strange_node (λ there. true≢false (sym (has-Contains g.ids i there) ∙ node)))
+      at false d node near = rw node (strange_node (λ there. true≢false (sym (has-Contains g.nodes i there) ∙ node)))
       at true false node near =
           let other = stranger with near in
-          rw (node, near) (strange_neighbour other.0 (Contains-has g.ids i node) other.1 other.2)
+          rw (node, near) (strange_neighbour other.0 (Contains-has g.nodes i node) other.1 other.2)
       at true true node near =
-          rw (node, near) (outcome (record { node = Contains-has g.ids i node; neighbour = neighbour with near }))
+          rw (node, near) (outcome (record { node = Contains-has g.nodes i node; neighbour = neighbour with near }))

@@ -9,24 +9,10 @@ use Rattle.app_interface.specs.declared.reads.Reads.{Reads}
 use Rattle.app_interface.specs.declared.reads.Reads.TheVariants.{Alone, Toward, One, All}
 use Rattle.topology.specs.Components.{component, IsComponent, reaches}
 use Rattle.topology.specs.Graph.{Graph, IsGraph, IsNode, IsReached, are_linked}
-use Rattle.topology.proofs.Components.{component_ids, component_is, reached_from_test, reached_node, reached_on}
+use Rattle.topology.proofs.Components.{component_is, reached_from_test, reached_node, reached_on}
 use Rattle.topology.proofs.Components.{reaches_tests}
 use Rattle.topology.proofs.Walks.{reached_back}
 use Rattle.reset_model.specs.Refinement.{reset_of}
-use Rattle.reset_model.proofs.Abstractions.{read_linked}
-
--- those that pass a weaker test are seen where the others are left out
-seen_filtered : {L : Type 0} (p q : ℕ → Bool) (v : ℕ → L) (js : List ℕ)
-    → ((j : ℕ) → p j ≡ true → q j ≡ true) → seen p v js ≡ seen p v (filter q js)
-seen_filtered p q v [] weaker = refl
-seen_filtered {L} p q v (j ∷ js) weaker = at (p j) (q j) refl refl (seen_filtered p q v js weaker)
-  where
-    at : (a b : Bool) → p j ≡ a → q j ≡ b → seen p v js ≡ seen p v (filter q js)
-        → seen p v (j ∷ js) ≡ seen p v (filter q (j ∷ js))
-    at true true pj qj rest = rw (pj, qj, pj) (ap (λ xs. (j, v j) ∷ xs) rest)
-    at true false pj qj rest = absurd (true≢false (sym (weaker j pj) ∙ qj))
-    at false true pj qj rest = rw (pj, qj, pj) rest
-    at false false pj qj rest = rw (pj, qj) rest
 
 -- what is seen hangs on the answers of the test alone
 seen_by_test : {L : Type 0} (p q : ℕ → Bool) (v : ℕ → L) (js : List ℕ) → ((j : ℕ) → p j ≡ q j)
@@ -87,12 +73,9 @@ module _ (g : Graph) (graph : IsGraph g) (i : ℕ) (node : IsNode g i) where
       acts_there inside act =
           let reads : ℕ → Bool = is_read g k (app.reads case) with in
           let there : ℕ → Bool = is_read (component g i) k (app.reads case) with in
-          let known : (j : ℕ) → reads j ≡ true → reaches g i j ≡ true =
-          λ j read. (reaches_tests g i j graph node).1
-          (reached_on g i k j inside (j ∷ [], (read_linked g k (app.reads case) with j act.fits read, refl))) in
           let near : seen there v (component g i).ids ≡ seen reads v g.ids =
           sym (seen_by_test reads there v (component g i).ids (read_there k inside (app.reads case) with))
-          ∙ ap (seen reads v) (component_ids g i) ∙ sym (seen_filtered reads (reaches g i) v g.ids known) in
+          ∙ ap (seen reads v) part.ids in
           record {
             node = (part.same_nodes k).1 inside;
             fits = fits_there k inside (app.reads case) with act.fits;

@@ -1,5 +1,5 @@
 -- The outcome of an event is a step of the configuration with its reply, or the first refusal.
-use Rattle.std.proofs.Common.{◌≡◌, ℕ, Bool, true, false, cond, Option}
+use Rattle.std.proofs.Common.{◌≡◌, ℕ, Bool, true, false, cond, Contains, Option}
 use Rattle.std.proofs.Common.{Result, Ok, Err, MatchResult, refl, sym, ap, subst, ◌∙◌}
 use Rattle.app_interface.specs.Application.{App}
 use Rattle.topology.specs.Graph.{Graph, IsGraph, IsNode, Changes, node_bound}
@@ -44,7 +44,8 @@ local_effect-restarts app g l (Mend i) = refl
 local_effect-restarts app g l (Act i case with) = refl
 
 -- a node that restarts has its start state, and any other its own
-restarts_one : {L : Type 0} (app : App L) (c : Configuration L) (i : ℕ) (b : Bool) → IsShaped c → IsNode c.graph i
+restarts_one : {L : Type 0} (app : App L) (c : Configuration L) (i : ℕ) (b : Bool) → IsShaped c
+    → Contains c.graph.ids i
     → Changes c.graph (local_of app c) i (cond b (app.start c.graph i) (local_of app c i))
     (local_map app c.graph (restarted app c i b))
 restarts_one app c i true shaped node = record {
@@ -65,7 +66,7 @@ module _ {L : Type 0} (app : App L) (c : Configuration L) (graph : IsGraph c.gra
       subst Steps
       (ap (λ d. cond d (app.start c.graph (event_node e)) (local_of app c (event_node e))) is
       ∙ sym (local_effect-restarts app c.graph (local_of app c) e))
-      (restarts_one app c (event_node e) b shaped node)
+      (restarts_one app c (event_node e) b shaped (graph.within (event_node e) node))
 
   -- what is planned in a configuration is a step
   fired_is_step : (e : Event) (does : Fired)
@@ -80,7 +81,7 @@ module _ {L : Type 0} (app : App L) (c : Configuration L) (graph : IsGraph c.gra
           enabled = step.enabled;
           trees = record {
             here = value_at-put_at (record { root = 0; father = 0; dist = 0 }) c.graph.ids c.trees (event_node e) regs
-                shaped.trees step.node ∙ step.leaves.tree;
+                shaped.trees (graph.within (event_node e) step.node) ∙ step.leaves.tree;
             others =
                 λ k node other. value_at-put_at_other (record { root = 0; father = 0; dist = 0 }) c.graph.ids c.trees
                 (event_node e) k regs other;
@@ -99,7 +100,7 @@ module _ {L : Type 0} (app : App L) (c : Configuration L) (graph : IsGraph c.gra
           trees = record { here = step.leaves.tree; others = λ k node other. refl };
           waves = record {
             here = value_at-put_at (record { phase = Normal; session = 0 }) c.graph.ids c.waves (event_node e) move.regs
-                shaped.waves step.node ∙ step.leaves.wave;
+                shaped.waves (graph.within (event_node e) step.node) ∙ step.leaves.wave;
             others =
                 λ k node other. value_at-put_at_other (record { phase = Normal; session = 0 }) c.graph.ids c.waves
                 (event_node e) k move.regs other;
@@ -147,7 +148,8 @@ module _ {L : Type 0} (app : App L) (c : Configuration L) (graph : IsGraph c.gra
           new = new;
           next = is.next;
           changes = record {
-            here = value_at-put_at (app.start c.graph i) c.graph.ids c.locals i new shaped.locals is.node;
+            here = value_at-put_at (app.start c.graph i) c.graph.ids c.locals i new shaped.locals
+                (graph.within i is.node);
             others = λ k _ other. value_at-put_at_other (app.start c.graph k) c.graph.ids c.locals i k new other;
           };
         };

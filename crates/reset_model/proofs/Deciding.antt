@@ -172,8 +172,8 @@ pub put-planned : {L : Type 0} (app : App L) (c : Configuration L) (v : NodeView
     → outcome_of app c e ≡ Ok (after_effect c v.id does, reply)
 put-planned {L = L} app c v e does reply seen is =
     let node = planned-node app v e (does, reply) is in
-    let there : has c.graph.ids (event_node e) ≡ true =
-    has-Contains c.graph.ids (event_node e) (subst (λ i. Contains c.graph.ids i) node seen.0) in
+    let there : has c.graph.nodes (event_node e) ≡ true =
+    has-Contains c.graph.nodes (event_node e) (subst (λ i. Contains c.graph.nodes i) node seen.0) in
     let Sees : ℕ → Type 0 = λ i. planned app (view_of app c i) e ≡ Ok (does, reply) in
     let says : planned app (view_of app c v.id) e ≡ Ok (does, reply) = ap (λ w. planned app w e) (sym seen.1) ∙ is in
     ap (λ b. cond (not b) (Err StrangeNode) (written c (event_node e) (planned app (view_of app c (event_node e)) e)))

@@ -7,6 +7,7 @@ pub mod WavePlans
 pub mod TreePlans
 pub mod PlannedSteps
 pub mod FirstFound
+pub mod ReadNodes
 pub mod ActionSteps
 pub mod ConfigurationSteps
 pub mod WordLines

@@ -45,7 +45,7 @@ pub event_fired_at : {L : Type 0} (c at : Configuration L) (e : Event) (id : ℕ
     → event_fired c.graph (node_bound c.graph) c.modulus (tree_of c) (wave_of c) e
     ≡ rows_fired at.graph (node_bound at.graph) at.modulus (tree_of at) (wave_of at) e
 event_fired_at {L = L} c at e id named same id_is named_is node near =
-    event_fired-named c.graph (node_bound c.graph) c.modulus (tree_of c) (wave_of c) e (a_node c.graph.ids (event_node e) node)
+    event_fired-named c.graph (node_bound c.graph) c.modulus (tree_of c) (wave_of c) e (a_node c.graph.nodes (event_node e) node)
     (ap (is_neighbour c.graph (event_node e)) (sym named_is) ∙ ap (λ i. is_neighbour c.graph i named) (sym id_is)
     ∙ ap (λ (k : Configuration L). is_neighbour k.graph id named) (sym same) ∙ near)
     ∙ ap (λ (k : Configuration L). rows_fired k.graph (node_bound k.graph) k.modulus (tree_of k) (wave_of k) e) (sym same)

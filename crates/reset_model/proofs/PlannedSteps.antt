@@ -127,24 +127,24 @@ module _ (g : Graph) (K m : ℕ) (t : ℕ → TreeRegs) (w : ℕ → WaveRegs) (
 
   pub planned_steps : (e : Event) (r : Result Fired StepRefusal) → event_fired g K m t w e ≡ r
       → MatchResult r (IsPlannedStep e) (RowRefused g K m t w e)
-  planned_steps e r is = at (has g.ids (event_node e)) (is_neighbour g (event_node e) (named_node e)) refl refl
+  planned_steps e r is = at (has g.nodes (event_node e)) (is_neighbour g (event_node e) (named_node e)) refl refl
     where
       Steps : Result Fired StepRefusal → Type 0
       Steps r = MatchResult r (IsPlannedStep e) (RowRefused g K m t w e)
 
-      at : (b d : Bool) → has g.ids (event_node e) ≡ b → is_neighbour g (event_node e) (named_node e) ≡ d
+      at : (b d : Bool) → has g.nodes (event_node e) ≡ b → is_neighbour g (event_node e) (named_node e) ≡ d
           → MatchResult r (IsPlannedStep e) (RowRefused g K m t w e)
       at false d node named =
           subst Steps (sym (event_fired-strange_node g K m t w e node) ∙ is)
-          (strange_node (λ there. true≢false (sym (has-Contains g.ids (event_node e) there) ∙ node)))
+          (strange_node (λ there. true≢false (sym (has-Contains g.nodes (event_node e) there) ∙ node)))
       at true false node named =
           let other = stranger (event_node e) (named_node e) named in
           subst Steps (sym (event_fired-strange_neighbour g K m t w e node named) ∙ is)
-          (strange_neighbour other.0 (Contains-has g.ids (event_node e) node) other.1 other.2)
+          (strange_neighbour other.0 (Contains-has g.nodes (event_node e) node) other.1 other.2)
       at true true node named =
           subst Steps (sym (event_fired-named g K m t w e node named) ∙ is)
           (let named_nodes : IsNamed g e = record {
-            node = Contains-has g.ids (event_node e) node;
+            node = Contains-has g.nodes (event_node e) node;
             neighbour = neighbour (event_node e) (named_node e) named;
           } in
           step_of e named_nodes (rows_fired g K m t w e) (event_fires e named_nodes))

@@ -1,12 +1,12 @@
 -- What a run keeps, and what holds of the abstract state because each abstract step keeps it.
 use Rattle.std.proofs.Common.{◌≡◌, ℕ, ◌+◌, ◌<◌, ◌≤◌, Bool, true, false, cond, nat_eq, List, [], ◌∷◌, ◌++◌, length, refl}
-use Rattle.std.proofs.Common.{sym, subst, ◌∙◌, ◌⊎◌, inl, inr, ⊎_elim, arith}
+use Rattle.std.proofs.Common.{sym, ap, subst, ◌∙◌, ◌⊎◌, inl, inr, ⊎_elim, arith}
 use Rattle.std.proofs.lemmas.Bool.{eqb-true}
 use Rattle.app_interface.specs.Application.{App}
 use Rattle.app_interface.specs.Invariant.{Keeps, StartsByComponent}
 use Rattle.topology.specs.Components.{component, IsComponent}
 use Rattle.topology.specs.Graph.{Graph, IsGraph, IsConnected, IsNode, IsReached, node_bound}
-use Rattle.topology.proofs.Components.{component_is}
+use Rattle.topology.proofs.Components.{component_is, reached_itself}
 use Rattle.reset_model.specs.declared.event.Event.{Event}
 use Rattle.reset_model.specs.declared.event.Event.TheVariants.{Claim, Follow, Adopt, Request, Relay, Open, Join, Finish}
 use Rattle.reset_model.specs.declared.event.Event.TheVariants.{Mend, Act}
@@ -136,7 +136,8 @@ module _ {L : Type 0} (app : App L) (g : Graph) (i o : ℕ) (reached : IsReached
       [ true ↦ rest | false ↦ rest ]
 
 module _ {L : Type 0} (app : App L) (Inv : Graph → (ℕ → L) → Type 0) (starts : StartsByComponent app)
-    (keeps : (g : Graph) (bound : ℕ) → IsGraph g → IsConnected g → length g.ids ≤ bound → Keeps app g bound (Inv g))
+    (keeps : (g : Graph) (bound : ℕ) → IsGraph g → IsConnected g → 0 < length g.nodes → length g.ids ≤ bound
+    → Keeps app g bound (Inv g))
     (c c' : Configuration L) (es : List Event) (ds : List Done) (graph : IsGraph c.graph)
     (shaped : IsShaped c) (sound : IsSound c) (run : IsRun app c es ds c') (i : ℕ) (node : IsNode c.graph i) where
   part : IsComponent c.graph i (component c.graph i)
@@ -144,8 +145,9 @@ module _ {L : Type 0} (app : App L) (Inv : Graph → (ℕ → L) → Type 0) (st
 
   here : Keeps app (component c.graph i) (node_bound c.graph) (Inv (component c.graph i))
   here =
-      keeps (component c.graph i) (node_bound c.graph) part.as_graph part.connected
-      (subst (λ K. length (component c.graph i).ids ≤ K) part.bound part.as_graph.bounded)
+      let itself = (part.same_nodes i).1 (reached_itself c.graph i) in
+      keeps (component c.graph i) (node_bound c.graph) part.as_graph part.connected (omega (arith, itself.1))
+      (omega (arith, ap length part.ids))
 
   on_graph_of_end : Inv (component c.graph i) (abstract_of app c') → HoldsAt app Inv c' i
   on_graph_of_end inv =

@@ -55,10 +55,10 @@ module _ {L : Type 0} (app : App L) (c : Configuration L) (graph : IsGraph c.gra
       absurd (sound_rests c.graph (node_bound c.graph) c.modulus (tree_of c) (wave_of c) (Adopt i j) step.node sound (adopts i j)
       step.enabled)
   row_shadow (Request i) t' w' l' step locals on =
-      run_from app c.graph (node_bound c.graph) ss _ _ v'
+      run_from app c.graph graph (node_bound c.graph) ss _ _ v'
       (nothing app c.graph graph (wave_of c) w' i _ (local_of app c) l' step.waves refl locals) on
   row_shadow (Relay i k) t' w' l' step locals on =
-      run_from app c.graph (node_bound c.graph) ss _ _ v'
+      run_from app c.graph graph (node_bound c.graph) ss _ _ v'
       (nothing app c.graph graph (wave_of c) w' i _ (local_of app c) l' step.waves refl locals) on
   row_shadow (Open i) t' w' l' step locals on = (
     abstract_at app c.graph graph w' l',
@@ -67,11 +67,11 @@ module _ {L : Type 0} (app : App L) (c : Configuration L) (graph : IsGraph c.gra
     on,
   )
   row_shadow (Join i) t' w' l' step locals on =
-      run_from app c.graph (node_bound c.graph) ss _ _ v'
+      run_from app c.graph graph (node_bound c.graph) ss _ _ v'
       (joining app c.graph graph (node_bound c.graph) c.modulus shaped.modulus (tree_of c) t' (wave_of c) w' sound i (local_of app c) l'
       locals step) on
   row_shadow (Finish i) t' w' l' step locals on =
-      run_from app c.graph (node_bound c.graph) ss _ _ v'
+      run_from app c.graph graph (node_bound c.graph) ss _ _ v'
       (nothing app c.graph graph (wave_of c) w' i _ (local_of app c) l' step.waves refl locals) on
   row_shadow (Mend i) t' w' l' step locals on =
       absurd (sound_rests c.graph (node_bound c.graph) c.modulus (tree_of c) (wave_of c) (Mend i) step.node sound (mends i)
@@ -98,7 +98,7 @@ module _ {L : Type 0} (app : App L) (c : Configuration L) (graph : IsGraph c.gra
           λ b. IsAbstractRun app c.graph (node_bound c.graph) (cond b (Do i case with ∷ []) [] ++ ss)
           (abstract_of app c) v' in
           subst Goes (sym apart)
-          (run_from app c.graph (node_bound c.graph) ss _ _ v'
+          (run_from app c.graph graph (node_bound c.graph) ss _ _ v'
           (acting_apart app c.graph graph (node_bound c.graph) (wave_of c) i case with (local_of app c)
           (local_of app c') step.locals apart) on)
 

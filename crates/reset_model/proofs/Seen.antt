@@ -114,7 +114,7 @@ pub IsFather-is_child : (g : Graph) (t : ℕ → TreeRegs) (i c : ℕ) → IsGra
     → has (children_of g t i) c ≡ true
 IsFather-is_child g t i c graph father =
     let linked : are_linked g i c ≡ true = graph.symmetric i c ∙ father.linked in
-    let node : has g.ids c ≡ true = has-Contains _ _ (graph.ends c i father.linked) in
+    let node : has g.ids c ≡ true = has-Contains _ _ (graph.within c (graph.ends c i father.linked)) in
     let named : nat_eq (t c).father i ≡ true = eq-eqb _ _ father.named in
     has-children_of g t i c ∙ cc
 

@@ -46,10 +46,14 @@ booted_waves app g m c boot i =
 
 booted_trees : {L : Type 0} (app : App L) (g : Graph) (m : ℕ) (c : Configuration L) → IsGraph g → IsBoot app g m c → (i : ℕ)
     → IsNode g i → IsBooted g i (tree_map g c.trees i)
-booted_trees app g m c graph boot i (k, short, here) =
+booted_trees app g m c graph boot i node =
+    let place = graph.within i node in
+    let k : ℕ = place.0 in
+    let short = place.1 in
+    let here = place.2 in
     let d : TreeRegs = record { root = 0; father = 0; dist = 0 } in
     let at : slice_index g.ids k ≡ i = get_or_default g.ids k 0 i short ∙ here in
-    let booted = boot.trees.each k d (omega (arith, short, boot.trees.count)) in
+    let booted = boot.trees.each k d (omega (arith, short, boot.trees.count)) (subst (IsNode g) (sym at) node) in
     let regs : tree_map g c.trees (slice_index g.ids k) ≡ slice_index_or c.trees k d =
     value_at-place d g.ids c.trees k graph.ascending boot.trees.count short in
     let P : ℕ → Type 0 = λ j. IsBooted g j (tree_map g c.trees j) in
@@ -80,7 +84,7 @@ pub pictures_sound : {L : Type 0} (c : Configuration L) → IsGraph c.graph
     → TreePicture c.graph (tree_of c) → WavePicture c.graph c.modulus (tree_of c) (wave_of c) → IsSound c
 pictures_sound c graph tree wave =
     record {
-      tree = (rests_where_picture c.graph (node_bound c.graph) (tree_of c) graph graph.bounded).1 tree;
+      tree = (rests_where_picture c.graph (node_bound c.graph) (tree_of c) graph (omega arith)).1 tree;
       wave = (sound_where_picture c.graph c.modulus (tree_of c) (wave_of c) graph tree).1 wave;
     }
 

@@ -52,7 +52,8 @@ module _ (g : Graph) (K m : ℕ) (t : ℕ → TreeRegs) (w : ℕ → WaveRegs) (
       ∙ ap (λ b. cond b (Some (t j)) None) (has-filter (are_linked g i) g.ids j ∙ both (are_linked g i j) refl)
     where
       both : (b : Bool) → are_linked g i j ≡ b → (are_linked g i j && has g.ids j) ≡ are_linked g i j
-      both true linked = rw linked (has-Contains g.ids j (graph.ends j i (graph.symmetric j i ∙ linked)))
+      both true linked = rw linked
+          (has-Contains g.ids j (graph.within j (graph.ends j i (graph.symmetric j i ∙ linked))))
       both false linked = rw linked refl
 
   pub near_some : (i j : ℕ) → AreLinked g i j → regs_of j (map (λ k. (k, t k)) (neighbours_of g i)) ≡ Some (t j)

@@ -66,7 +66,7 @@ module _ {L : Type 0} (app : App L) (c : Configuration L) where
   pub tree_view-is : (i : ℕ)
       → tree_view (view_of app c i) ≡ maps.tree_view_of c.graph (node_bound c.graph) (tree_of c) i
   tree_view-is i =
-      ap (λ near. record { id = i; bound = c.graph.bound; own = tree_of c i; near = near })
+      ap (λ near. record { id = i; bound = node_bound c.graph; own = tree_of c i; near = near })
       (map-map (λ (n : Neighbour L). (n.id, n.tree)) (near_of app c) (neighbours_of c.graph i))
 
   waves-is : (js : List ℕ) → near_waves (map (near_of app c) js) ≡ map (λ j. (j, wave_of c j)) js
@@ -78,7 +78,8 @@ module _ {L : Type 0} (app : App L) (c : Configuration L) where
     among-linked i j = has-filter (are_linked c.graph i) c.graph.ids j ∙ at (are_linked c.graph i j) refl
       where
         at : (b : Bool) → are_linked c.graph i j ≡ b → (b && has c.graph.ids j) ≡ b
-        at true linked = has-Contains c.graph.ids j (graph.ends j i (graph.symmetric j i ∙ linked))
+        at true linked = has-Contains c.graph.ids j
+            (graph.within j (graph.ends j i (graph.symmetric j i ∙ linked)))
         at false linked = refl
 
     father-is : (i : ℕ) → father_of (view_of app c i) ≡ father_seen c.graph (tree_of c) (wave_of c) i
@@ -120,10 +121,10 @@ module _ {L : Type 0} (app : App L) (c : Configuration L) where
         let js = neighbours_of c.graph i in
         let read : List (Neighbour L) → Result L StepRefusal = λ ns.
         judged (misfit (app.reads case) with) (near_apart (view_of app c i) ns)
-        (app.next i c.graph.bound case with (local_of app c i) (map (λ n. (n.id, n.local)) ns)) in
+        (app.next i (node_bound c.graph) case with (local_of app c i) (map (λ n. (n.id, n.local)) ns)) in
         ap read (filter-map (λ (n : Neighbour L). p n.id) (near_of app c) js)
         ∙ ap₂ (λ apart locals. judged (misfit (app.reads case) with) apart
-        (app.next i c.graph.bound case with (local_of app c i) locals))
+        (app.next i (node_bound c.graph) case with (local_of app c i) locals))
         (ap (option_map (λ (n : Neighbour L). n.id))
         (find-map (λ (n : Neighbour L). not (n.wave.session == (wave_of c i).session)) (near_of app c)
         (filter p js))

@@ -79,10 +79,6 @@ abbrev pub with_local : {L : Type 0} → Configuration L → ℕ → L → Confi
 with_local c i local =
     configuration c.graph c.modulus c.trees c.waves (put_at c.graph.ids c.locals i local)
 
--- the configuration with another graph
-abbrev pub with_graph : {L : Type 0} → Configuration L → Graph → Configuration L
-with_graph c g = configuration g c.modulus c.trees c.waves c.locals
-
 -- the configuration with other local states
 abbrev pub with_locals : {L : Type 0} → Configuration L → List L → Configuration L
 with_locals c locals = configuration c.graph c.modulus c.trees c.waves locals

@@ -15,3 +15,4 @@ pub mod Completion
 pub mod View
 pub mod Planned
 pub mod SoundSteps
+pub mod Topologies

@@ -3,7 +3,7 @@ use Rattle.std.specs.Prelude.{◌≡◌, ℕ, ◌==◌, if◌then◌else◌, Lis
 use Rattle.std.specs.Map.{lookup}
 use Rattle.std.specs.Option.{option_map_or}
 use Rattle.app_interface.specs.Application.{App}
-use Rattle.topology.specs.Graph.{IsNode, neighbours_of}
+use Rattle.topology.specs.Graph.{IsNode, neighbours_of, node_bound}
 use Rattle.tree_layer.specs.declared.regs.TreeRegs.{TreeRegs}
 use Rattle.tree_layer.specs.TreeTable as tree
 use Rattle.wave_layer.specs.declared.regs.WaveRegs.{WaveRegs}
@@ -42,7 +42,7 @@ near_of app c j = record { id = j; tree = tree_of c j; wave = wave_of c j; local
 abbrev pub view_of : {L : Type 0} → App L → Configuration L → ℕ → NodeView L
 view_of app c i = record {
   id = i;
-  bound = c.graph.bound;
+  bound = node_bound c.graph;
   modulus = c.modulus;
   tree = tree_of c i;
   wave = wave_of c i;

@@ -1,19 +1,22 @@
 // Laws of the definitions.
 
-ghost use Rattle.std.specs.Prelude.{◌≡◌, ◌↔◌, ◌≤◌, ℕ, false, length, MatchResult};
+ghost use Rattle.std.specs.Prelude.{◌≡◌, ◌↔◌, ◌≤◌, ℕ, true, false, length, Contains, MatchResult};
 ghost use Rattle.topology.specs.Graph.{Graph, IsGraph, IsNode, IsReached};
 ghost use Rattle.tree_layer.specs.declared.regs.TreeRegs.{TreeRegs};
 ghost use Rattle.tree_layer.specs.TreePicture.{TreePicture};
 ghost use Rattle.wave_layer.specs.declared.regs.WaveRegs.{WaveRegs};
 ghost use Rattle.reset_model.specs.declared.event.Event.{Event};
 ghost use Rattle.reset_model.specs.declared.step.StepRefusal.{StepRefusal};
-ghost use Rattle.reset_model.specs.Configuration.{Configuration, IsShaped, local_of, tree_of, wave_of, with_graph};
+ghost use Rattle.reset_model.specs.Configuration.{Configuration, IsShaped, local_of, tree_of, wave_of};
 ghost use Rattle.reset_model.specs.Steps.{event_node, IsEnabled, Mends, RegsStep, reply_of, reset_at};
 ghost use Rattle.reset_model.specs.MachineSteps.{IsStep, IsRefused};
 ghost use Rattle.reset_model.specs.Outcome.{IsBoot, map_outcome};
 ghost use Rattle.reset_model.specs.Planned.{outcome_of};
 ghost use Rattle.reset_model.specs.Sound.{Repairs, Sound};
+ghost use Rattle.reset_model.specs.Topologies.{comes_up, with_topology};
 ghost use Rattle.reset_model.specs.WavePicture.{WavePicture, WaveSound};
+ghost use Rattle.tree_layer.specs.TreeRows.{claimed};
+ghost use Rattle.wave_layer.specs.declared.regs.Phase.TheVariants.{Normal};
 ghost use Rattle.reset_model.specs.declared.event.Event.TheVariants.{Finish};
 
 use app_interface::Application;
@@ -24,11 +27,18 @@ pub fn one_boot<P: Application>()
         → c ≡ d }
 {}
 
-/// With another graph of the same nodes a configuration has the registers and the local states that it had.
+/// With another graph of the same identifiers a configuration has the registers and the local states that it
+/// had, but for the nodes that come up, which start anew.
 pub fn states_stay<P: Application>()
-    ensures { (c : Configuration P.Local) (g : Graph) (i : ℕ) → IsShaped c → g.ids ≡ c.graph.ids → IsNode c.graph i
-        → (tree_of (with_graph c g) i ≡ tree_of c i) × (wave_of (with_graph c g) i ≡ wave_of c i)
-        × (local_of P.app (with_graph c g) i ≡ local_of P.app c i) }
+    ensures kept { (c : Configuration P.Local) (g : Graph) (i : ℕ) → IsShaped c → g.ids ≡ c.graph.ids
+        → Contains c.graph.ids i → comes_up c.graph g i ≡ false
+        → (tree_of (with_topology P.app c g) i ≡ tree_of c i) × (wave_of (with_topology P.app c g) i ≡ wave_of c i)
+        × (local_of P.app (with_topology P.app c g) i ≡ local_of P.app c i) }
+    ensures anew { (c : Configuration P.Local) (g : Graph) (i : ℕ) → IsShaped c → g.ids ≡ c.graph.ids
+        → Contains c.graph.ids i → comes_up c.graph g i ≡ true
+        → (tree_of (with_topology P.app c g) i ≡ claimed i)
+        × (wave_of (with_topology P.app c g) i ≡ record { phase = Normal; session = 0 })
+        × (local_of P.app (with_topology P.app c g) i ≡ P.app.start g i) }
 {}
 
 /// The outcome of an event, as a function, is a step with its reply, or the first refusal.

@@ -3,18 +3,19 @@
 use crate::explained::Explanation;
 
 /// Refusals of events and of faults.
-pub const REFUSALS: [Explanation; 11] = [
+pub const REFUSALS: [Explanation; 12] = [
     Explanation {
         word: "StrangeNode",
         text: "\
-The number isn't a node of the topology, or a link of the topology's text ends at a number that\n\
-isn't among its nodes. Name a node that `show` tells, or add it to `nodes`.\n",
+The number isn't a node of the topology, or it is one that is down, or a link of the topology's text\n\
+ends at a number that isn't among its nodes. Name a node that `show` tells, bring it up by\n\
+`fault on I`, or add it to `nodes`.\n",
     },
     Explanation {
         word: "StrangeNeighbour",
         text: "\
 The second number isn't a neighbour of the node. The links of the topology's text say who is; a\n\
-link that is down is none.\n",
+link that is down is none, and a node that went down has lost its links.\n",
     },
     Explanation {
         word: "NoSuchCase",
@@ -66,6 +67,11 @@ There is no link of these two nodes that could be taken down.\n",
         word: "LinkIsThere",
         text: "\
 The link that should come up is there already.\n",
+    },
+    Explanation {
+        word: "NodeIsUp",
+        text: "\
+The node that should come up is up already.\n",
     },
 ];
 
@@ -146,7 +152,7 @@ The link of these two nodes stands twice; a link and its reverse are one link.\n
     Explanation {
         word: "TooManyForThreads",
         text: "\
-`threads` runs one thread for each node, for at most 64 nodes.\n",
+`threads` runs one thread for each node that is up, for at most 64 of them.\n",
     },
     Explanation {
         word: "TooManyForPicture",
@@ -173,19 +179,20 @@ history too: `head -n 2001`.\n",
         text: "\
 The line with this number is no entry of a history, has over 256 bytes or lacks its line feed. A\n\
 history has no comments, no empty lines, no questions and no carriage returns. Its first line is\n\
-`reset-history 2 M` with M from 2 to 4294967296, or `reset-history 1`; an empty file has none.\n",
+`reset-history 3 M` or `reset-history 2 M` with M from 2 to 4294967296, or `reset-history 1`; an\n\
+empty file has none. `fault off` and `fault on` are lines of version 3 alone.\n",
     },
     Explanation {
         word: "BadVersion",
         text: "\
-The first line names a version of histories that this program doesn't read. It reads versions 1\n\
-and 2, `reset-history 1` and `reset-history 2 M`.\n",
+The first line names a version of histories that this program doesn't read. It reads versions 1,\n\
+2 and 3: `reset-history 1`, `reset-history 2 M` and `reset-history 3 M`.\n",
     },
     Explanation {
         word: "OtherModulus",
         text: "\
 The history counts sessions modulo this number, and the topology modulo another. A history's is\n\
-the M of its first line `reset-history 2 M`, a topology's its `modulus`; where there is none, it is\n\
+the M of its first line `reset-history 3 M`, a topology's its `modulus`; where there is none, it is\n\
 4294967296. A history can have happened to topologies of its own number alone.\n",
     },
     Explanation {
@@ -392,9 +399,9 @@ number, toward the neighbour J where it is about one.\n",
     Explanation {
         word: "fault",
         text: "\
-`fault tree`, `fault wave`, `fault local`, `fault down` and `fault up` set the registers or the\n\
-local state of a node, or take a link down or bring one up. `reset-service replay --help` has\n\
-their words.\n",
+`fault tree`, `fault wave` and `fault local` set the registers or the local state of a node,\n\
+`fault down` and `fault up` take a link down or bring one up, `fault off` and `fault on` a node.\n\
+`reset-service replay --help` has their words.\n",
     },
     Explanation {
         word: "draw",
@@ -404,7 +411,7 @@ their words.\n",
     Explanation {
         word: "show",
         text: "\
-`show` or `show I`: the registers and the local state of all nodes, or of node I.\n",
+`show` or `show I`: the registers and the local state of all nodes that are up, or of node I.\n",
     },
     Explanation {
         word: "newest",

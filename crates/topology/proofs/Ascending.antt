@@ -96,6 +96,14 @@ member_by_index xs x None at =
     sym (no_member xs x
     (λ k low e. absurd (true≢false (sym (eq-eqb (get_or xs k 0) x e) ∙ no_index (λ i. eqb i x) xs at k low))))
 
+-- and only there
+pub no_member_no_index : (xs : List ℕ) (x : ℕ) → list_any (λ y. eqb y x) xs ≡ false → position (λ i. eqb i x) xs ≡ None
+no_member_no_index xs x absent = cases (position (λ i. eqb i x) xs) refl
+  where
+    cases : (o : Option ℕ) → position (λ i. eqb i x) xs ≡ o → position (λ i. eqb i x) xs ≡ None
+    cases None at = at
+    cases (Some k) at = absurd (true≢false (member_by_index xs x (Some k) (sym at) ∙ absent))
+
 -- ---- binary search
 
 module _ (xs : List ℕ) (x : ℕ) (up : IsStrictlyIncreasing xs) where
@@ -123,6 +131,11 @@ module _ (xs : List ℕ) (x : ℕ) (up : IsStrictlyIncreasing xs) where
       (cases_lt k i)))
       (λ lt. absurd (omega arith)) in
       rw at (rw (le-ltb (length xs) (length xs) (omega arith)) refl)
+
+  -- a search tells the index
+  pub index_by_search : (r : Result ℕ ℕ) → IsBinarySearchResult (λ y. nat_cmp y x) xs r
+      → result_ok r ≡ position (λ i. eqb i x) xs
+  index_by_search r h = index_of_found r (finds r h)
 
   -- what stands at an index has this index
   pub index_of_item : (k : ℕ) → k < length xs → get_or xs k 0 ≡ x → Some k ≡ position (λ i. eqb i x) xs

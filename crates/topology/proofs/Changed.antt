@@ -1,22 +1,27 @@
 -- The graph of rows to which one link came, or from which one link went.
 use Rattle.std.proofs.Common.{◌≡◌, ◌≢◌, ℕ, ◌+◌, ◌-◌, ◌<◌, ◌≤◌, Bool, true, false, not, ◌&&◌, ◌||◌, ◌⊎◌, List}
 use Rattle.std.proofs.Common.{length, get_or, Vec, Global, inl, inr, sym, refl}
-use Rattle.std.proofs.Common.{ap, ap₂, subst, subst₂, ◌∙◌, arith, ⊎_elim}
+use Rattle.std.proofs.Common.{ap, ap₂, subst, subst₂, ◌∙◌, arith, ⊎_elim, ◌*◌, eqb, eqb-true, eq-eqb, filter}
+use Rattle.std.specs.Cmp.{both_ways as same_tests}
 use Rattle.std.specs.List.Sorted.{IsStrictlyIncreasing}
 use Rattle.std.specs.FinSet as set
 use Rattle.std.specs.Ordering.{eq_by_cmp}
 use Rattle.std.specs.Vec.{with_items}
-use Rattle.std.proofs.lemmas.Bool.{cases_Bool, both_ways, false_from_ne_true}
+use Rattle.std.proofs.lemmas.Bool.{and_from, and_parts, cases_Bool, both_ways, false_from_ne_true, or_cases, or_left}
 use Rattle.std.proofs.lemmas.List.{length-map, with_items_is}
-use Rattle.topology.specs.Building.{joins, Links, Unlinks}
-use Rattle.topology.specs.Changing.{with_link, without_link, IsIndexOf}
+use Rattle.topology.specs.Building.{joins, Isolates, Links, Unlinks}
+use Rattle.topology.specs.Changing.{roll_with, roll_without, with_link, with_node, without_link, without_node}
+use Rattle.topology.specs.Changing.{IsIndexOf}
 use Rattle.topology.specs.Graph.{Graph, pair_cmp, are_linked, has}
-use Rattle.topology.specs.Rows.{near_has, links_of, graph_of, AreIds, AreLeaders, AreLeadersOf, AreRows, AreParts}
+use Rattle.topology.specs.Rows.{row_at, near_has, links_of, graph_of, Roll, AreIds, AreLeadersOf, AreRows, AreParts}
 use Rattle.topology.proofs.Ascending.{member_at, index_of_member, index_once}
 use Rattle.topology.proofs.Counting.{len_both, one_direction}
 use Rattle.topology.proofs.Inserting.{rows_of, joins_ends, joins_own}
 use Rattle.topology.proofs.Joining.{joins_indexes}
-use Rattle.topology.proofs.RowLemmas.{pair_antisymmetric, pair_total, linked_from, linked_at, graph_of_rows}
+use Rattle.topology.proofs.Indexes.{nodes_among, nodes_without}
+use Rattle.topology.proofs.Membership.{has-filter}
+use Rattle.topology.proofs.RowLemmas.{all_tied, linked_at, linked_from, pair_antisymmetric, pair_total, row_here}
+use Rattle.topology.proofs.RowLemmas.{row_of_id, tied_graph}
 
 -- ---- the pairs of a set that one link came to, or went from
 
@@ -78,7 +83,7 @@ by_indexes ids s t at off x y =
 
 -- a number that is none of the ids has no link
 no_link : (ids : List ℕ) (rows : List (List ℕ)) → AreRows (length ids) rows → (x y : ℕ)
-    → ((has ids x ≡ false) ⊎ (has ids y ≡ false)) → are_linked (graph_of ids rows) x y ≡ false
+    → ((has ids x ≡ false) ⊎ (has ids y ≡ false)) → are_linked (graph_of ids ids rows) x y ≡ false
 no_link ids rows as_rows x y none =
     false_from_ne_true _ (λ e.
     let l = linked_from ids rows x y e in
@@ -113,9 +118,9 @@ module _ (ids : List ℕ) (up : IsStrictlyIncreasing ids) (i j : ℕ) (i_in : i 
   module _ (rows new : List (List ℕ)) (was : AreRows (length ids) rows) (are : AreRows (length ids) new) where
     module _ (members : (x y : ℕ) → near_has new x y ≡ (near_has rows x y || joins x y (i, j))) where
       pub linked_more : (x y : ℕ)
-          → are_linked (graph_of ids new) x y ≡ (are_linked (graph_of ids rows) x y || joins x y (a, b))
+          → are_linked (graph_of ids ids new) x y ≡ (are_linked (graph_of ids ids rows) x y || joins x y (a, b))
       linked_more =
-          by_indexes ids (are_linked (graph_of ids new)) (λ x y. are_linked (graph_of ids rows) x y || joins x y (a, b))
+          by_indexes ids (are_linked (graph_of ids ids new)) (λ x y. are_linked (graph_of ids ids rows) x y || joins x y (a, b))
           (λ k l k_in l_in.
           linked_at ids new up are k l k_in l_in ∙ members k l
           ∙ ap₂ (λ s t. s || t) (sym (linked_at ids rows up was k l k_in l_in))
@@ -130,10 +135,10 @@ module _ (ids : List ℕ) (up : IsStrictlyIncreasing ids) (i j : ℕ) (i_in : i 
 
     module _ (members : (x y : ℕ) → near_has new x y ≡ (near_has rows x y && not (joins x y (i, j)))) where
       pub linked_fewer : (x y : ℕ)
-          → are_linked (graph_of ids new) x y ≡ (are_linked (graph_of ids rows) x y && not (joins x y (a, b)))
+          → are_linked (graph_of ids ids new) x y ≡ (are_linked (graph_of ids ids rows) x y && not (joins x y (a, b)))
       linked_fewer =
-          by_indexes ids (are_linked (graph_of ids new))
-          (λ x y. are_linked (graph_of ids rows) x y && not (joins x y (a, b)))
+          by_indexes ids (are_linked (graph_of ids ids new))
+          (λ x y. are_linked (graph_of ids ids rows) x y && not (joins x y (a, b)))
           (λ k l k_in l_in.
           linked_at ids new up are k l k_in l_in ∙ members k l
           ∙ ap₂ (λ s t. s && not t) (sym (linked_at ids rows up was k l k_in l_in))
@@ -145,6 +150,44 @@ module _ (ids : List ℕ) (up : IsStrictlyIncreasing ids) (i j : ℕ) (i_in : i 
       links_fewer =
           set.same_set pair_total pair_antisymmetric _ _
           (λ q. linked_fewer q.0 q.1 ∙ sym (has_fewer (links_of ids rows) a b q))
+
+-- ---- rows that have the links of one index no more
+
+module _ (ids : List ℕ) (up : IsStrictlyIncreasing ids) (i : ℕ) (i_in : i < length ids) (rows new : List (List ℕ))
+    (was : AreRows (length ids) rows) (are : AreRows (length ids) new)
+    (members : (x y : ℕ) → near_has new x y ≡ (near_has rows x y && (not (eqb x i) && not (eqb y i)))) where
+  -- an index has the id at i where it is i
+  same_index : (k : ℕ) → k < length ids → eqb k i ≡ eqb (get_or ids k 0) (get_or ids i 0)
+  same_index k k_in =
+      same_tests _ _
+      (λ e. eq-eqb (get_or ids k 0) (get_or ids i 0) (ap (λ m. get_or ids m 0) (eqb-true k i e)))
+      (λ e. eq-eqb k i (index_once ids up k i k_in i_in (eqb-true (get_or ids k 0) (get_or ids i 0) e)))
+
+  linked_apart : (x y : ℕ) → are_linked (graph_of ids ids new) x y
+      ≡ (are_linked (graph_of ids ids rows) x y && (not (eqb x (get_or ids i 0)) && not (eqb y (get_or ids i 0))))
+  linked_apart =
+      by_indexes ids (are_linked (graph_of ids ids new))
+      (λ x y. are_linked (graph_of ids ids rows) x y
+      && (not (eqb x (get_or ids i 0)) && not (eqb y (get_or ids i 0))))
+      (λ k l k_in l_in.
+      linked_at ids new up are k l k_in l_in ∙ members k l
+      ∙ ap₂ (λ s t. s && t) (sym (linked_at ids rows up was k l k_in l_in))
+      (ap₂ (λ s t. not s && not t) (same_index k k_in) (same_index l l_in)))
+      (λ x y none. no_link ids new are x y none
+      ∙ sym (ap (λ s. s && (not (eqb x (get_or ids i 0)) && not (eqb y (get_or ids i 0))))
+      (no_link ids rows was x y none)))
+
+  -- the links are those neither end of which is the id
+  pub links_apart : links_of ids new
+      ≡ set.retain (links_of ids rows) (λ l. not (eqb l.0 (get_or ids i 0)) && not (eqb l.1 (get_or ids i 0)))
+  links_apart =
+      set.same_set pair_total pair_antisymmetric _ _
+      (λ q. linked_apart q.0 q.1
+      ∙ sym (set.contains-retain (links_of ids rows)
+      (λ l. not (eqb l.0 (get_or ids i 0)) && not (eqb l.1 (get_or ids i 0))) q
+      (λ x tied.
+      ap (λ (p : ℕ × ℕ). not (eqb p.0 (get_or ids i 0)) && not (eqb p.1 (get_or ids i 0)))
+      (sym (pair_antisymmetric q x tied)))))
 
 -- what a test was before it was made false at some places where it was true
 given_back : (p t : Bool) → (t ≡ true → p ≡ true) → p ≡ ((p && not t) || t)
@@ -158,103 +201,200 @@ module _ (ids : List ℕ) (as_ids : AreIds ids) (i j : ℕ) (i_in : i < length i
     (rows new : List (List ℕ)) (was : AreRows (length ids) rows) (are : AreRows (length ids) new)
     (different : get_or ids i 0 ≢ get_or ids j 0)
     (members : (x y : ℕ) → near_has new x y ≡ (near_has rows x y || joins x y (i, j)))
-    (absent : are_linked (graph_of ids rows) (get_or ids i 0) (get_or ids j 0) ≡ false) where
+    (absent : are_linked (graph_of ids ids rows) (get_or ids i 0) (get_or ids j 0) ≡ false) where
   pub two_more : set.len (links_of ids new) ≡ set.len (links_of ids rows) + 2
   two_more =
       ap set.len (links_more ids as_ids.ascending i j i_in j_in rows new was are members)
       ∙ len_both (links_of ids rows) (get_or ids i 0) (get_or ids j 0) different absent
-      ((graph_of_rows ids rows as_ids.ascending was as_ids.some).symmetric (get_or ids j 0) (get_or ids i 0) ∙ absent)
+      ((tied_graph ids ids rows (all_tied ids rows as_ids was)).symmetric (get_or ids j 0) (get_or ids i 0) ∙ absent)
 
--- ---- a topology with one link more
+-- ---- rows from which one link was taken that was there
 
--- what a topology of these rows is, beside one of those before
-pub record Made (ids : List ℕ) (rows : List (List ℕ)) (leaders : List ℕ) (count : ℕ) (g : Graph) : Type 0 where
-  pub parts : AreParts ids rows leaders count
-  pub graph : graph_of ids rows ≡ g
-
-module _ (ids : List ℕ) (rows new : List (List ℕ)) (old_leaders : List ℕ) (count : ℕ)
-    (old : AreParts ids rows old_leaders count) (i j : ℕ) (i_in : i < length ids) (j_in : j < length ids)
-    (leaders : List ℕ) (lead : AreLeaders ids new leaders) where
-  pub linked_parts : (fresh : Bool) → Links (length ids) rows i j fresh new → get_or ids i 0 ≢ get_or ids j 0
-      → are_linked (graph_of ids rows) (get_or ids i 0) (get_or ids j 0) ≡ false →
-      Made ids new leaders (count + 1) (with_link (graph_of ids rows) (get_or ids i 0) (get_or ids j 0))
-  linked_parts fresh put different absent =
-      let up = old.as_ids.ascending in
-      let longer = two_more ids old.as_ids i j i_in j_in rows new old.as_rows put.as_rows different put.members absent in
-      record {
-        parts = record {
-          as_ids = old.as_ids;
-          as_rows = put.as_rows;
-          as_leaders = lead;
-          counted = omega (arith, longer, old.counted);
-        };
-        graph = ap (λ s. record { ids = ids; bound = length ids; links = s })
-            (links_more ids up i j i_in j_in rows new old.as_rows put.as_rows put.members);
-      }
-
--- ---- a topology with one link less
-
-module _ (ids : List ℕ) (rows new : List (List ℕ)) (old_leaders : List ℕ) (count : ℕ)
-    (old : AreParts ids rows old_leaders count) (i j : ℕ) (i_in : i < length ids) (j_in : j < length ids)
-    (taken : Unlinks (length ids) rows i j new)
-    (there : are_linked (graph_of ids rows) (get_or ids i 0) (get_or ids j 0) ≡ true) where
-  near : near_has rows i j ≡ true
-  near = sym (linked_at ids rows old.as_ids.ascending old.as_rows i j i_in j_in) ∙ there
-
+module _ (ids : List ℕ) (as_ids : AreIds ids) (rows new : List (List ℕ)) (was : AreRows (length ids) rows) (i j : ℕ)
+    (i_in : i < length ids) (j_in : j < length ids) (taken : Unlinks (length ids) rows i j new)
+    (near : near_has rows i j ≡ true) where
   near_joined : (x y : ℕ) → joins x y (i, j) ≡ true → near_has rows x y ≡ true
   near_joined x y e =
       ⊎_elim
       (λ (p : (i ≡ x) × (j ≡ y)). subst (λ v. near_has rows v y ≡ true) p.0
       (subst (λ w. near_has rows i w ≡ true) p.1 near))
       (λ (p : (i ≡ y) × (j ≡ x)). subst (λ v. near_has rows v y ≡ true) p.1
-      (subst (λ w. near_has rows j w ≡ true) p.0 (old.as_rows.symmetric j i ∙ near)))
+      (subst (λ w. near_has rows j w ≡ true) p.0 (was.symmetric j i ∙ near)))
       (joins_ends x y (i, j) e)
 
   different : get_or ids i 0 ≢ get_or ids j 0
   different e =
-      let same : i ≡ j = index_once ids old.as_ids.ascending i j i_in j_in e in
-      both_ways (near_has rows j j) (old.as_rows.irreflexive j) (subst (λ k. near_has rows k j ≡ true) same near)
+      let same : i ≡ j = index_once ids as_ids.ascending i j i_in j_in e in
+      both_ways (near_has rows j j) (was.irreflexive j) (subst (λ k. near_has rows k j ≡ true) same near)
 
-  absent : are_linked (graph_of ids new) (get_or ids i 0) (get_or ids j 0) ≡ false
+  absent : are_linked (graph_of ids ids new) (get_or ids i 0) (get_or ids j 0) ≡ false
   absent =
-      linked_at ids new old.as_ids.ascending taken.as_rows i j i_in j_in ∙ taken.members i j
+      linked_at ids new as_ids.ascending taken.as_rows i j i_in j_in ∙ taken.members i j
       ∙ ap₂ (λ s t. s && not t) near (joins_own i j)
 
   -- the pairs before are those now and two more
   pub two_fewer : set.len (links_of ids rows) ≡ set.len (links_of ids new) + 2
   two_fewer =
-      two_more ids old.as_ids i j i_in j_in new rows taken.as_rows old.as_rows different
+      two_more ids as_ids i j i_in j_in new rows taken.as_rows was different
       (λ x y. given_back (near_has rows x y) (joins x y (i, j)) (near_joined x y)
       ∙ ap (λ p. p || joins x y (i, j)) (sym (taken.members x y)))
       absent
 
-  pub graph_without : graph_of ids new ≡ without_link (graph_of ids rows) (get_or ids i 0) (get_or ids j 0)
-  graph_without =
-      ap (λ s. record { ids = ids; bound = length ids; links = s })
-      (links_fewer ids old.as_ids.ascending i j i_in j_in rows new old.as_rows taken.as_rows taken.members)
+-- ---- a topology with one link more
 
-  pub unlinked_parts : (fewer : ℕ) → fewer + 1 ≡ count → (leaders : List ℕ) → AreLeaders ids new leaders
-      → Made ids new leaders fewer (without_link (graph_of ids rows) (get_or ids i 0) (get_or ids j 0))
-  unlinked_parts fewer one_less leaders lead = record {
+-- what a topology of these rows is, beside one of those before
+pub record Made (ids nodes : List ℕ) (rows : List (List ℕ)) (leaders : List ℕ) (count : ℕ) (g : Graph) : Type 0 where
+  pub parts : AreParts ids nodes rows leaders count
+  pub graph : graph_of ids nodes rows ≡ g
+
+module _ (ids nodes : List ℕ) (rows new : List (List ℕ)) (old_leaders : List ℕ) (count : ℕ)
+    (old : AreParts ids nodes rows old_leaders count) (i j : ℕ) (i_in : i < length ids) (j_in : j < length ids)
+    (leaders : List ℕ) (lead : AreLeadersOf (length ids) new leaders) where
+  abbrev as_ids : AreIds ids
+  as_ids = old.tied.as_ids
+
+  abbrev was : AreRows (length ids) rows
+  was = old.tied.as_rows
+
+  pub linked_parts : has nodes (get_or ids i 0) ≡ true → has nodes (get_or ids j 0) ≡ true
+      → (fresh : Bool) → Links (length ids) rows i j fresh new → get_or ids i 0 ≢ get_or ids j 0
+      → are_linked (graph_of ids nodes rows) (get_or ids i 0) (get_or ids j 0) ≡ false →
+      Made ids nodes new leaders (count + 1) (with_link (graph_of ids nodes rows) (get_or ids i 0) (get_or ids j 0))
+  linked_parts i_up j_up fresh put different absent =
+      let longer = two_more ids as_ids i j i_in j_in rows new was put.as_rows different put.members absent in
+      record {
+        parts = record {
+          tied = record {
+            as_ids = as_ids;
+            as_nodes = old.tied.as_nodes;
+            as_rows = put.as_rows;
+            ends = λ x y e.
+                ⊎_elim (old.tied.ends x y)
+                (λ new_one.
+                ⊎_elim (λ (p : (i ≡ x) × (j ≡ y)). subst (λ k. has nodes (get_or ids k 0) ≡ true) p.0 i_up)
+                (λ (p : (i ≡ y) × (j ≡ x)). subst (λ k. has nodes (get_or ids k 0) ≡ true) p.1 j_up)
+                (joins_ends x y (i, j) new_one))
+                (or_cases (near_has rows x y) (joins x y (i, j)) (sym (put.members x y) ∙ e));
+          };
+          as_leaders = lead;
+          counted = omega (arith, longer, old.counted);
+        };
+        graph = ap (λ s. record { ids = ids; nodes = nodes; links = s })
+            (links_more ids as_ids.ascending i j i_in j_in rows new was put.as_rows put.members);
+      }
+
+  -- ---- and with one link less
+
+  pub unlinked_parts : (taken : Unlinks (length ids) rows i j new)
+      → are_linked (graph_of ids nodes rows) (get_or ids i 0) (get_or ids j 0) ≡ true → (fewer : ℕ)
+      → fewer + 1 ≡ count
+      → Made ids nodes new leaders fewer (without_link (graph_of ids nodes rows) (get_or ids i 0) (get_or ids j 0))
+  unlinked_parts taken there fewer one_less =
+      let near : near_has rows i j ≡ true = sym (linked_at ids rows as_ids.ascending was i j i_in j_in) ∙ there in
+      record {
+        parts = record {
+          tied = record {
+            as_ids = as_ids;
+            as_nodes = old.tied.as_nodes;
+            as_rows = taken.as_rows;
+            ends = λ x y e.
+                old.tied.ends x y
+                (and_parts (near_has rows x y) (not (joins x y (i, j))) (sym (taken.members x y) ∙ e)).0;
+          };
+          as_leaders = lead;
+          counted = omega (arith, two_fewer ids as_ids rows new was i j i_in j_in taken near, old.counted, one_less);
+        };
+        graph = ap (λ s. record { ids = ids; nodes = nodes; links = s })
+            (links_fewer ids as_ids.ascending i j i_in j_in rows new was taken.as_rows taken.members);
+      }
+
+-- ---- a topology with one node less
+
+module _ (ids nodes : List ℕ) (rows new : List (List ℕ)) (old_leaders : List ℕ) (count : ℕ)
+    (old : AreParts ids nodes rows old_leaders count) (i : ℕ) (i_in : i < length ids)
+    (leaders : List ℕ) (lead : AreLeadersOf (length ids) new leaders) (taken : Isolates (length ids) rows i new) where
+  -- two pairs of the graph for each index of the row
+  pub row_counted : 2 * length (row_at rows i) ≤ 2 * count
+  row_counted = omega (arith, taken.fewer ids old.tied.as_ids refl, old.counted)
+
+  isolated_end : (x y : ℕ) → near_has new x y ≡ true
+      → has (filter (λ n. not (eqb n (get_or ids i 0))) nodes) (get_or ids x 0) ≡ true
+  isolated_end x y e =
+      let parts =
+      and_parts (near_has rows x y) (not (eqb x i) && not (eqb y i)) (sym (taken.members x y) ∙ e) in
+      let other : not (eqb x i) ≡ true = (and_parts (not (eqb x i)) (not (eqb y i)) parts.1).0 in
+      let x_in : x < length ids = row_of_id (length ids) rows old.tied.as_rows x y parts.0 in
+      has-filter (λ n. not (eqb n (get_or ids i 0))) nodes (get_or ids x 0)
+      ∙ and_from (not (eqb (get_or ids x 0) (get_or ids i 0))) (has nodes (get_or ids x 0))
+      (ap not (sym (same_index ids old.tied.as_ids.ascending i i_in rows new old.tied.as_rows taken.as_rows taken.members
+      x x_in)) ∙ other)
+      (old.tied.ends x y parts.0)
+
+  pub isolated_parts : (fewer : ℕ) → fewer + length (row_at rows i) ≡ count
+      → Made ids (filter (λ n. not (eqb n (get_or ids i 0))) nodes) new leaders fewer
+      (without_node (graph_of ids nodes rows) (get_or ids i 0))
+  isolated_parts fewer so_many_less = record {
     parts = record {
-      as_ids = old.as_ids;
-      as_rows = taken.as_rows;
+      tied = record {
+        as_ids = old.tied.as_ids;
+        as_nodes = nodes_without ids nodes old.tied.as_nodes (get_or ids i 0);
+        as_rows = taken.as_rows;
+        ends = isolated_end;
+      };
       as_leaders = lead;
-      counted = omega (arith, two_fewer, old.counted, one_less);
+      counted = omega (arith, taken.fewer ids old.tied.as_ids refl, old.counted, so_many_less);
     };
-    graph = graph_without;
+    graph = ap (λ s. record { ids = ids; nodes = filter (λ n. not (eqb n (get_or ids i 0))) nodes; links = s })
+        (links_apart ids old.tied.as_ids.ascending i i_in rows new old.tied.as_rows taken.as_rows taken.members);
   }
+
+-- ---- a topology with one node more
+
+pub with_node_made : (roll : Roll) (rows : List (List ℕ)) (leaders : List ℕ) (count : ℕ)
+    → AreParts roll.ids roll.nodes rows leaders count → (x : ℕ) (made : Roll) → made ≡ roll_with roll x
+    → (copy : List (List ℕ)) → copy ≡ rows
+    → Made made.ids made.nodes copy leaders count (with_node (graph_of roll.ids roll.nodes rows) x)
+with_node_made roll rows leaders count old x made made_is copy copy_is =
+    subst (λ (r : Roll). Made r.ids r.nodes copy leaders count (with_node (graph_of roll.ids roll.nodes rows) x))
+    (sym made_is)
+    (subst (λ rs. Made roll.ids more rs leaders count (with_node (graph_of roll.ids roll.nodes rows) x)) (sym copy_is)
+    (record {
+      parts = record {
+        tied = record {
+          as_ids = old.tied.as_ids;
+          as_nodes = nodes_among roll.ids old.tied.as_ids.ascending (λ j. has roll.nodes j || eqb j x);
+          as_rows = old.tied.as_rows;
+          ends = λ i j e.
+              let i_in : i < length roll.ids = row_of_id (length roll.ids) rows old.tied.as_rows i j e in
+              let id : ℕ = get_or roll.ids i 0 in
+              has-filter (λ n. has roll.nodes n || eqb n x) roll.ids id
+              ∙ and_from (has roll.nodes id || eqb id x) (has roll.ids id)
+              (or_left (has roll.nodes id) (eqb id x) (old.tied.ends i j e)) (member_at roll.ids i i_in);
+        };
+        as_leaders = old.as_leaders;
+        counted = old.counted;
+      };
+      graph = refl;
+    }))
+  where
+    more : List ℕ
+    more = filter (λ j. has roll.nodes j || eqb j x) roll.ids
 
 -- ---- the same, where the rows are a copy that was lent to the calls
 
-module _ (ids : List ℕ) (near : List (Vec ℕ Global)) (old_leaders : List ℕ) (count : ℕ)
-    (old : AreParts ids (rows_of near) old_leaders count) (a b i j : ℕ)
-    (at_a : IsIndexOf ids a i) (at_b : IsIndexOf ids b j)
+module _ (roll : Roll) (near : List (Vec ℕ Global)) (old_leaders : List ℕ) (count : ℕ)
+    (old : AreParts roll.ids roll.nodes (rows_of near) old_leaders count)
     (lent_near : List (Vec ℕ Global)) (near_is : lent_near ≡ near) (copy : Vec (Vec ℕ Global) Global)
     (copied : rows_of copy.items ≡ rows_of lent_near)
     (lent : List (Vec ℕ Global)) (lent_is : lent ≡ copy.items) (now : List (Vec ℕ Global)) where
+  abbrev ids : List ℕ
+  ids = roll.ids
+
+  abbrev nodes : List ℕ
+  nodes = roll.nodes
+
   abbrev before : Graph
-  before = graph_of ids (rows_of near)
+  before = graph_of roll.ids roll.nodes (rows_of near)
 
   abbrev changed : List (Vec ℕ Global)
   changed = (with_items copy now).items
@@ -263,7 +403,7 @@ module _ (ids : List ℕ) (near : List (Vec ℕ Global)) (old_leaders : List ℕ
   same_rows = ap rows_of lent_is ∙ copied ∙ ap rows_of near_is
 
   count_is : length lent ≡ length ids
-  count_is = sym (length-map lent (λ row. row.items)) ∙ ap length same_rows ∙ old.as_rows.count
+  count_is = sym (length-map lent (λ row. row.items)) ∙ ap length same_rows ∙ old.tied.as_rows.count
 
   written : length (rows_of now) ≡ length lent → rows_of changed ≡ rows_of now
   written same =
@@ -274,62 +414,115 @@ module _ (ids : List ℕ) (near : List (Vec ℕ Global)) (old_leaders : List ℕ
   -- where the leaders of the rows were found with them lent once more
   module _ (searched : List (Vec ℕ Global)) (searched_is : searched ≡ changed) (leaders : List ℕ)
       (found : AreLeadersOf (length searched) (rows_of searched) leaders) where
-    leads_now : AreRows (length lent) (rows_of now) → AreLeaders ids (rows_of now) leaders
+    leads_now : AreRows (length lent) (rows_of now) → AreLeadersOf (length ids) (rows_of now) leaders
     leads_now as_rows =
         let searched_rows : rows_of searched ≡ rows_of now = ap rows_of searched_is ∙ written as_rows.count in
-        subst (λ r. AreLeaders ids r leaders) searched_rows
-        (found ids old.as_ids
-        (omega (
+        let searched_count : length searched ≡ length ids =
+        omega (
           arith,
           length-map searched (λ row. row.items),
           ap length searched_rows,
           as_rows.count,
           count_is,
-        )))
+        ) in
+        subst₂ (λ n r. AreLeadersOf n r leaders) searched_count searched_rows found
 
-    made_of : (made : List ℕ) → made ≡ ids → length (rows_of now) ≡ length lent → (links : ℕ) (g : Graph)
-        → Made ids (rows_of now) leaders links g → Made made (rows_of changed) leaders links g
-    made_of made made_are same links g result =
-        subst (λ v. Made v (rows_of changed) leaders links g) (sym made_are)
-        (subst (λ r. Made ids r leaders links g) (sym (written same)) result)
+    made_of : (made made_now : Roll) → made ≡ made_now → length (rows_of now) ≡ length lent → (links : ℕ) (g : Graph)
+        → Made made_now.ids made_now.nodes (rows_of now) leaders links g
+        → Made made.ids made.nodes (rows_of changed) leaders links g
+    made_of made made_now made_are same links g result =
+        subst (λ (r : Roll). Made r.ids r.nodes (rows_of changed) leaders links g) (sym made_are)
+        (subst (λ rs. Made made_now.ids made_now.nodes rs leaders links g) (sym (written same)) result)
 
-    pub with_link_made : (made : List ℕ) → made ≡ ids → (fresh : Bool)
+  module _ (a b i j : ℕ) (at_a : IsIndexOf roll.ids a i) (at_b : IsIndexOf roll.ids b j) where
+    pub with_link_made : (searched : List (Vec ℕ Global)) → searched ≡ changed → (leaders : List ℕ)
+        → AreLeadersOf (length searched) (rows_of searched) leaders → (made : Roll) → made ≡ roll
+        → has roll.nodes a ≡ true → has roll.nodes b ≡ true → (fresh : Bool)
         → Links (length lent) (rows_of lent) i j fresh (rows_of now) → a ≢ b → are_linked before a b ≡ false →
-        Made made (rows_of changed) leaders (count + 1) (with_link before a b)
-    with_link_made made made_are fresh put different absent =
+        Made made.ids made.nodes (rows_of changed) leaders (count + 1) (with_link before a b)
+    with_link_made searched searched_is leaders found made made_are a_up b_up fresh put different absent =
         let put_ids : Links (length ids) (rows_of near) i j fresh (rows_of now) =
         subst₂ (λ n r. Links n r i j fresh (rows_of now)) count_is same_rows put in
         let result =
-        linked_parts ids (rows_of near) (rows_of now) old_leaders count old i j at_a.0 at_b.0 leaders
-        (leads_now put.as_rows) fresh put_ids (λ e. different (sym at_a.1 ∙ e ∙ at_b.1))
+        linked_parts ids nodes (rows_of near) (rows_of now) old_leaders count old i j at_a.0 at_b.0 leaders
+        (leads_now searched searched_is leaders found put.as_rows) (ap (has nodes) at_a.1 ∙ a_up)
+        (ap (has nodes) at_b.1 ∙ b_up) fresh put_ids (λ e. different (sym at_a.1 ∙ e ∙ at_b.1))
         (ap₂ (are_linked before) at_a.1 at_b.1 ∙ absent) in
-        made_of made made_are put.as_rows.count (count + 1) (with_link before a b)
-        (subst₂ (λ x y. Made ids (rows_of now) leaders (count + 1) (with_link before x y)) at_a.1 at_b.1 result)
+        made_of searched searched_is leaders found made roll made_are put.as_rows.count (count + 1)
+        (with_link before a b)
+        (subst₂ (λ x y. Made ids nodes (rows_of now) leaders (count + 1) (with_link before x y)) at_a.1 at_b.1 result)
 
-  module _ (taken : Unlinks (length lent) (rows_of lent) i j (rows_of now)) (there : are_linked before a b ≡ true) where
-    taken_ids : Unlinks (length ids) (rows_of near) i j (rows_of now)
-    taken_ids = subst₂ (λ n r. Unlinks n r i j (rows_of now)) count_is same_rows taken
+    module _ (taken : Unlinks (length lent) (rows_of lent) i j (rows_of now)) (there : are_linked before a b ≡ true)
+      where
+        taken_ids : Unlinks (length ids) (rows_of near) i j (rows_of now)
+        taken_ids = subst₂ (λ n r. Unlinks n r i j (rows_of now)) count_is same_rows taken
 
-    there_ids : are_linked before (get_or ids i 0) (get_or ids j 0) ≡ true
-    there_ids = ap₂ (are_linked before) at_a.1 at_b.1 ∙ there
+        there_ids : are_linked before (get_or ids i 0) (get_or ids j 0) ≡ true
+        there_ids = ap₂ (are_linked before) at_a.1 at_b.1 ∙ there
 
-    pub some_link : 1 ≤ count
-    some_link =
+        pub some_link : 1 ≤ count
+        some_link =
+            let as_rows = old.tied.as_rows in
+            let near_there : near_has (rows_of near) i j ≡ true =
+            sym (linked_at ids (rows_of near) old.tied.as_ids.ascending as_rows i j at_a.0 at_b.0) ∙ there_ids in
+            omega (
+              arith,
+              old.counted,
+              two_fewer ids old.tied.as_ids (rows_of near) (rows_of now) as_rows i j at_a.0 at_b.0 taken_ids near_there,
+            )
+
+        pub without_link_made : (searched : List (Vec ℕ Global)) → searched ≡ changed → (leaders : List ℕ)
+            → AreLeadersOf (length searched) (rows_of searched) leaders → (made : Roll) → made ≡ roll →
+            Made made.ids made.nodes (rows_of changed) leaders (count - 1) (without_link before a b)
+        without_link_made searched searched_is leaders found made made_are =
+            let result =
+            unlinked_parts ids nodes (rows_of near) (rows_of now) old_leaders count old i j at_a.0 at_b.0 leaders
+            (leads_now searched searched_is leaders found taken.as_rows) taken_ids there_ids (count - 1)
+            (omega (arith, some_link)) in
+            made_of searched searched_is leaders found made roll made_are taken.as_rows.count (count - 1)
+            (without_link before a b)
+            (subst₂ (λ x y. Made ids nodes (rows_of now) leaders (count - 1) (without_link before x y)) at_a.1 at_b.1
+            result)
+
+  module _ (a i : ℕ) (at_a : IsIndexOf roll.ids a i) (isolated : Isolates (length lent) (rows_of lent) i (rows_of now))
+      (searched : List (Vec ℕ Global)) (searched_is : searched ≡ changed) where
+    -- what was lent once more are rows
+    pub searched_rows : AreRows (length searched) (rows_of searched)
+    searched_rows =
+        let same : rows_of searched ≡ rows_of now = ap rows_of searched_is ∙ written isolated.as_rows.count in
+        let count : length lent ≡ length searched =
+        omega (arith, length-map searched (λ row. row.items), ap length same, isolated.as_rows.count) in
+        subst₂ AreRows count (sym same) isolated.as_rows
+
+  module _ (a i : ℕ) (at_a : IsIndexOf roll.ids a i) (isolated : Isolates (length lent) (rows_of lent) i (rows_of now))
+      (searched : List (Vec ℕ Global)) (searched_is : searched ≡ changed) (leaders : List ℕ)
+      (found : AreLeadersOf (length searched) (rows_of searched) leaders) (row : Vec ℕ Global)
+      (read : row ≡ get_or near i row) (gone : ℕ) (gone_is : gone ≡ length row.items) where
+    isolated_ids : Isolates (length ids) (rows_of near) i (rows_of now)
+    isolated_ids = subst₂ (λ n r. Isolates n r i (rows_of now)) count_is same_rows isolated
+
+    row_is : row_at (rows_of near) i ≡ row.items
+    row_is =
+        row_here (length ids) near old.tied.as_rows i row at_a.0 read
+
+    pub row_links : gone ≤ count
+    row_links =
         omega (
           arith,
-          old.counted,
-          two_fewer ids (rows_of near) (rows_of now) old_leaders count old i j at_a.0 at_b.0 taken_ids
-              there_ids,
+          row_counted ids nodes (rows_of near) (rows_of now) old_leaders count old i at_a.0 leaders
+              (leads_now searched searched_is leaders found isolated.as_rows) isolated_ids,
+          ap length row_is,
+          gone_is,
         )
 
-    pub without_link_made : (searched : List (Vec ℕ Global)) → searched ≡ changed → (leaders : List ℕ)
-        → AreLeadersOf (length searched) (rows_of searched) leaders → (made : List ℕ) → made ≡ ids →
-        Made made (rows_of changed) leaders (count - 1) (without_link before a b)
-    without_link_made searched searched_is leaders found made made_are =
+    pub without_node_made : (made : Roll) → made ≡ roll_without roll a →
+        Made made.ids made.nodes (rows_of changed) leaders (count - gone) (without_node before a)
+    without_node_made made made_is =
         let result =
-        unlinked_parts ids (rows_of near) (rows_of now) old_leaders count old i j at_a.0 at_b.0 taken_ids there_ids
-        (count - 1) (omega (arith, some_link)) leaders
-        (leads_now searched searched_is leaders found taken.as_rows) in
-        made_of searched searched_is leaders found made made_are taken.as_rows.count (count - 1)
-        (without_link before a b)
-        (subst₂ (λ x y. Made ids (rows_of now) leaders (count - 1) (without_link before x y)) at_a.1 at_b.1 result)
+        isolated_parts ids nodes (rows_of near) (rows_of now) old_leaders count old i at_a.0 leaders
+        (leads_now searched searched_is leaders found isolated.as_rows) isolated_ids (count - gone)
+        (omega (arith, row_links, ap length row_is, gone_is)) in
+        made_of searched searched_is leaders found made (roll_without roll a) made_is isolated.as_rows.count
+        (count - gone) (without_node before a)
+        (subst (λ x. Made ids (filter (λ n. not (eqb n x)) nodes) (rows_of now) leaders (count - gone)
+        (without_node before x)) at_a.1 result)

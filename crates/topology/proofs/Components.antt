@@ -1,13 +1,12 @@
 -- The component of a node, and the leader of each.
 use Rattle.std.proofs.Common.{◌≡◌, ◌↔◌, ℕ, ◌-◌, ◌<◌, ◌≤◌, true, ◌&&◌, List, [], ◌∷◌, ◌++◌, length}
-use Rattle.std.proofs.Common.{filter, refl, sym, ap, subst, ◌∙◌, arith}
+use Rattle.std.proofs.Common.{Contains, filter, refl, sym, ap, subst, ◌∙◌, arith}
 use Rattle.std.specs.List.Sorted.{IsStrictlyIncreasing}
 use Rattle.std.specs.FinSet as set
 use Rattle.std.specs.Cmp.{both_ways as same_tests}
 use Rattle.std.proofs.lemmas.Bool.{and_from, and_parts}
 use Rattle.std.proofs.lemmas.List.{get_or_default}
 use Rattle.std.proofs.lemmas.List.Kept.{IsStrictlyIncreasing-filter}
-use Rattle.std.proofs.lemmas.List.Sums.{length-filter, count_by-le-length}
 use Rattle.topology.specs.Graph.{Graph, are_linked, AreLinked, IsConnected, IsGraph, IsLeader, IsNode}
 use Rattle.topology.specs.Graph.{IsReached, IsWalk, greatest, has}
 use Rattle.topology.specs.Components.{reaches, component, leader, IsComponent}
@@ -40,28 +39,42 @@ pub reaches_tests : (g : Graph) (a b : ℕ) → IsGraph g → IsNode g a → (re
 unfolding reaches
 reaches_tests g a b are a_in = (walk_from_test g a (length g.ids) b, test_from_walk g a are a_in b)
 
+-- what the test tells of any two numbers
+pub reached_from_test : (g : Graph) (a b : ℕ) → reaches g a b ≡ true → IsReached g a b
+unfolding reaches
+reached_from_test g a b e = walk_from_test g a (length g.ids) b e
+
 -- ---- the greatest id
 
-pub greatest_node : (g : Graph) → IsGraph g → IsNode g (greatest g)
-greatest_node g are =
-    let last : length g.ids - 1 < length g.ids = omega (arith, are.some) in
-    (length g.ids - 1, last, get_or_default g.ids (length g.ids - 1) _ 0 last)
+pub greatest_node : (g : Graph) → 0 < length g.nodes → IsNode g (greatest g)
+greatest_node g some =
+    let last : length g.nodes - 1 < length g.nodes = omega (arith, some) in
+    (length g.nodes - 1, last, get_or_default g.nodes (length g.nodes - 1) _ 0 last)
 
--- no id is above the greatest
+-- no id of a node is above the greatest
 pub at_most_greatest : (g : Graph) (i : ℕ) → IsGraph g → IsNode g i → i ≤ greatest g
 at_most_greatest g i are (k, low, at) =
     omega (
       arith,
-      rises_weakly g.ids are.ascending k (length g.ids - 1) (omega (arith, low)) (omega (arith, are.some)),
-      get_or_default g.ids k 0 i low ∙ at,
+      rises_weakly g.nodes are.rising k (length g.nodes - 1) (omega (arith, low)) (omega (arith, low)),
+      get_or_default g.nodes k 0 i low ∙ at,
     )
 
 -- ---- the component of a node
 
+pub component_nodes : (g : Graph) (i : ℕ) → (component g i).nodes ≡ filter (reaches g i) g.nodes
+unfolding component
+component_nodes g i = refl
+
+-- its identifiers are those of the graph
+pub component_same_ids : (g : Graph) (i : ℕ) → (component g i).ids ≡ g.ids
+unfolding component
+component_same_ids g i = refl
+
 -- a node has one component
 pub one_part : (g : Graph) (i : ℕ) (h k : Graph) → IsComponent g i h → IsComponent g i k → h ≡ k
 one_part g i h k a b =
-    same_graph h k a.as_graph b.as_graph (a.bound ∙ sym b.bound)
+    same_graph h k a.as_graph b.as_graph (a.ids ∙ sym b.ids)
     (λ j at. (b.same_nodes j).1 ((a.same_nodes j).0 at)) (λ j at. (a.same_nodes j).1 ((b.same_nodes j).0 at))
     (λ x y at. (b.same_links x y).1 ((a.same_links x y).0 at))
     (λ x y at. (a.same_links x y).1 ((b.same_links x y).0 at))
@@ -70,17 +83,17 @@ module _ (g : Graph) (i : ℕ) (are : IsGraph g) (i_in : IsNode g i) where
   component_node : (j : ℕ) → IsNode (component g i) j → IsReached g i j
   unfolding component
   component_node j at =
-      let kept : (reaches g i j && has g.ids j) ≡ true =
-      sym (has-filter (reaches g i) g.ids j) ∙ has-Contains (filter (reaches g i) g.ids) j at in
-      (reaches_tests g i j are i_in).0 (and_parts (reaches g i j) (has g.ids j) kept).0
+      let kept : (reaches g i j && has g.nodes j) ≡ true =
+      sym (has-filter (reaches g i) g.nodes j) ∙ has-Contains (filter (reaches g i) g.nodes) j at in
+      (reaches_tests g i j are i_in).0 (and_parts (reaches g i j) (has g.nodes j) kept).0
 
   node_of_component : (j : ℕ) → IsReached g i j → IsNode (component g i) j
   unfolding component
   node_of_component j r =
-      let kept : (reaches g i j && has g.ids j) ≡ true =
-      and_from (reaches g i j) (has g.ids j) ((reaches_tests g i j are i_in).1 r)
-      (has-Contains g.ids j (reached_node g i j are i_in r)) in
-      Contains-has (filter (reaches g i) g.ids) j (has-filter (reaches g i) g.ids j ∙ kept)
+      let kept : (reaches g i j && has g.nodes j) ≡ true =
+      and_from (reaches g i j) (has g.nodes j) ((reaches_tests g i j are i_in).1 r)
+      (has-Contains g.nodes j (reached_node g i j are i_in r)) in
+      Contains-has (filter (reaches g i) g.nodes) j (has-filter (reaches g i) g.nodes j ∙ kept)
 
   component_links : (a b : ℕ) → are_linked (component g i) a b ≡ (are_linked g a b && reaches g i a)
   unfolding component
@@ -109,26 +122,20 @@ module _ (g : Graph) (i : ℕ) (are : IsGraph g) (i_in : IsNode g i) where
   walk_within a b (c ∷ cs) r w =
       (link_of_component a c r w.0, walk_within c b cs (reached_on g i a c r (c ∷ [], (w.0, refl))) w.1)
 
-  component_bound : (component g i).bound ≡ g.bound
-  unfolding component
-  component_bound = refl
-
-  component_ascends : IsStrictlyIncreasing (component g i).ids
-  unfolding component
-  component_ascends = IsStrictlyIncreasing-filter (reaches g i) g.ids are.ascending
-
-  component_length : length (component g i).ids ≤ length g.ids
-  unfolding component
-  component_length =
-      omega (arith, length-filter (reaches g i) g.ids, count_by-le-length (reaches g i) g.ids)
+  component_rises : IsStrictlyIncreasing (component g i).nodes
+  component_rises =
+      subst IsStrictlyIncreasing (sym (component_nodes g i))
+      (IsStrictlyIncreasing-filter (reaches g i) g.nodes are.rising)
 
   component_graph : IsGraph (component g i)
   component_graph =
-      let here = node_of_component i (reached_itself g i) in
+      let same_ids = component_same_ids g i in
       record {
-        some = omega (arith, here.1);
-        bounded = omega (arith, component_length, are.bounded, component_bound);
-        ascending = component_ascends;
+        some = omega (arith, ap length same_ids, are.some);
+        ascending = subst IsStrictlyIncreasing (sym same_ids) are.ascending;
+        rising = component_rises;
+        within = λ j at. subst (λ xs. Contains xs j) (sym same_ids)
+            (are.within j (reached_node g i j are i_in (component_node j at)));
         symmetric = λ a b. same_tests _ _ (link_back a b) (link_back b a);
         irreflexive = λ a e. are.irreflexive a (component_link a a e).1;
         ends = λ a b e. node_of_component a (component_link a b e).0;
@@ -142,7 +149,7 @@ module _ (g : Graph) (i : ℕ) (are : IsGraph g) (i_in : IsNode g i) where
         let there =
         reached_on g a i b (reached_back g are i a to_a) (component_node b b_in) in
         (there.0, walk_within a b there.0 to_a there.1);
-    bound = component_bound;
+    ids = component_same_ids g i;
     same_nodes = λ j. (component_node j, node_of_component j);
     same_links = λ a b. (component_link a b, λ (p : IsReached g i a × AreLinked g a b). link_of_component a b p.0 p.1);
   }
@@ -156,7 +163,7 @@ same_component g i j are i_in r =
     (record {
       as_graph = of_j.as_graph;
       connected = of_j.connected;
-      bound = of_j.bound;
+      ids = of_j.ids;
       same_nodes = λ k. (
         λ at. reached_on g i j k r ((of_j.same_nodes k).0 at),
         λ there. (of_j.same_nodes k).1 (reached_on g j i k back there),
@@ -180,7 +187,7 @@ whole_component g i are whole i_in =
     (record {
       as_graph = are;
       connected = whole;
-      bound = refl;
+      ids = refl;
       same_nodes = λ j. (λ j_in. whole i j i_in j_in, λ r. reached_node g i j are i_in r);
       same_links = λ a b. (λ e. (whole i a i_in (are.ends a b e), e), λ (p : IsReached g i a × AreLinked g a b). p.1);
     })
@@ -196,8 +203,10 @@ pub leader_leads : (g : Graph) (i : ℕ) → IsGraph g → IsNode g i → IsLead
 unfolding leader
 leader_leads g i are i_in =
     let part = component_is g i are i_in in
+    let here : IsNode (component g i) i = (part.same_nodes i).1 (reached_itself g i) in
+    let some : 0 < length (component g i).nodes = omega (arith, here.1) in
     record {
-      reached = (part.same_nodes (greatest (component g i))).0 (greatest_node (component g i) part.as_graph);
+      reached = (part.same_nodes (greatest (component g i))).0 (greatest_node (component g i) some);
       greatest = λ j r. at_most_greatest (component g i) j part.as_graph ((part.same_nodes j).1 r);
     }
 
@@ -219,13 +228,3 @@ pub part_leader : (g : Graph) (i j : ℕ) → IsGraph g → IsNode g i → IsRea
     → leader (component g i) j ≡ leader g i
 unfolding leader
 part_leader g i j are i_in r = ap greatest (part_component g i j are i_in r)
-
--- ---- as lists and as a test
-
-pub component_ids : (g : Graph) (i : ℕ) → (component g i).ids ≡ filter (reaches g i) g.ids
-unfolding component
-component_ids g i = refl
-
-pub reached_from_test : (g : Graph) (a b : ℕ) → reaches g a b ≡ true → IsReached g a b
-unfolding reaches
-reached_from_test g a b e = walk_from_test g a (length g.ids) b e

@@ -112,7 +112,7 @@ length_both (l ∷ ls) once apart =
 
 -- the pairs of a graph of the links
 pub links_counted : (nodes ids : List ℕ) (links : List (ℕ × ℕ)) (rows : List (List ℕ))
-    → IsGraphOf nodes links (graph_of ids rows) →
+    → IsGraphOf nodes links (graph_of ids ids rows) →
     AllPairs (λ p q. p ≢ q) (ordered_links links) → All (λ l. l.0 ≢ l.1) links
     → 2 * length links ≡ set.len (links_of ids rows)
 links_counted nodes ids links rows of_lists once apart =

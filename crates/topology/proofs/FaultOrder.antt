@@ -15,12 +15,12 @@ use Rattle.topology.specs.Rows.{near_has, graph_of, AreIds}
 use Rattle.topology.specs.declared.fault.TopoFault.{TopoFault}
 use Rattle.topology.specs.declared.fault.TopoFault.TheVariants.{NoNodes, TooManyNodes, BadId, TwiceNode, TooManyLinks}
 use Rattle.topology.specs.declared.fault.TopoFault.TheVariants.{StrangeNode, SelfLink, TwiceLink}
-use Rattle.topology.specs.declared.fault.TopoFault.TheVariants.{NoMemory, NoSuchLink, LinkIsThere}
+use Rattle.topology.specs.declared.fault.TopoFault.TheVariants.{NoMemory, NoSuchLink, LinkIsThere, NodeIsUp}
 use Rattle.topology.specs.declared.fault.TheConstants.{MAX_NODES, MAX_LINKS}
 use Rattle.topology.proofs.Ascending.{contains_from_test, test_from_contains, index_of_member}
 use Rattle.topology.proofs.FirstItems.{no_first, no_first_repeat, first_weaker, ends_known}
 use Rattle.topology.proofs.Inserting.{joins_ends, joins_own, joins_back}
-use Rattle.topology.proofs.RowLemmas.{graph_of_rows, linked_from, linked_to}
+use Rattle.topology.proofs.RowLemmas.{all_tied, linked_from, linked_to, tied_graph}
 
 module _ (nodes : List ℕ) (links : List (ℕ × ℕ)) where
   -- the lists have none of the first k faults
@@ -74,6 +74,7 @@ module _ (nodes : List ℕ) (links : List (ℕ × ℕ)) where
   clean_all before NoMemory x = x
   clean_all before NoSuchLink x = x
   clean_all before LinkIsThere x = x
+  clean_all before NodeIsUp x = x
   clean_all before e x = before e (omega arith) x
 
 -- ---- what checked nodes tell
@@ -175,19 +176,19 @@ module _ (nodes ids : List ℕ) (as_ids : AreIds ids) (sorted : AreSorted nodes 
       (subst (λ (p : ℕ × ℕ). has ids p.0 ≡ true) same both.0, subst (λ (p : ℕ × ℕ). has ids p.1 ≡ true) same both.1)
 
   linked_by : (a b : ℕ) → has ids a ≡ true → has ids b ≡ true → list_any (joins a b) links ≡ true
-      → AreLinked (graph_of ids rows) a b
+      → AreLinked (graph_of ids ids rows) a b
   linked_by a b a_in b_in e =
       let i = index_of_member ids a a_in in
       let j = index_of_member ids b b_in in
       let near : near_has rows i.0 j.0 ≡ true =
       joined.members i.0 j.0 i.1 j.1 ∙ ap₂ (λ x y. list_any (joins x y) links) i.2 j.2 ∙ e in
-      subst (λ x. AreLinked (graph_of ids rows) x b) i.2
-      (subst (λ y. AreLinked (graph_of ids rows) (get_or ids i.0 0) y) j.2 (linked_to ids rows i.0 j.0 i.1 near))
+      subst (λ x. AreLinked (graph_of ids ids rows) x b) i.2
+      (subst (λ y. AreLinked (graph_of ids ids rows) (get_or ids i.0 0) y) j.2 (linked_to ids rows i.0 j.0 i.1 near))
 
-  pub graph_of_lists : IsGraphOf nodes links (graph_of ids rows)
+  pub graph_of_lists : IsGraphOf nodes links (graph_of ids ids rows)
   graph_of_lists = record {
-    as_graph = graph_of_rows ids rows as_ids.ascending joined.as_rows as_ids.some;
-    bound = refl;
+    as_graph = tied_graph ids ids rows (all_tied ids rows as_ids joined.as_rows);
+    up = refl;
     same_nodes =
         λ x. (
           λ at. node_from_id nodes ids as_ids sorted x (test_from_contains ids x at),

@@ -12,6 +12,8 @@ pub mod Reaching
 pub mod Assembling
 pub mod Counting
 pub mod Changed
+pub mod Isolating
+pub mod NodeChanges
 pub mod Membership
 pub mod TopologyTexts
 pub mod Moduli

@@ -1,21 +1,23 @@
 -- What two lists describe is one: one graph, or one first fault.
 use Rattle.std.proofs.Common.{◌≡◌, ℕ, zero, suc, ◌+◌, ◌<◌, ◌⊎◌, List, [], ◌∷◌, ◌++◌, length, get_or, take, drop}
-use Rattle.std.proofs.Common.{Contains, refl, sym, ap, ap₂, subst, ◌∙◌, arith, inl, inr, ⊎_elim, length-append}
+use Rattle.std.proofs.Common.{Bool, true, ◌&&◌, filter, Contains, refl, sym, ap, ap₂, subst, ◌∙◌, arith, inl, inr, ⊎_elim, length-append}
 use Rattle.std.specs.List.Sorted.{IsStrictlyIncreasing}
 use Rattle.std.specs.FinSet as set
 use Rattle.std.specs.Cmp.{both_ways as same_tests}
-use Rattle.std.proofs.lemmas.Bool.{cases_order}
+use Rattle.std.proofs.lemmas.Bool.{and_parts, cases_order}
+use Rattle.std.proofs.lemmas.List.Kept.{IsStrictlyIncreasing-filter}
 use Rattle.std.proofs.lemmas.List.{get_or_append_left, get_or_at, get_or_default, take-append-le}
 use Rattle.std.proofs.Math.Seq.{take-append_seam}
 use Rattle.topology.specs.Faults.{HasFault, IsFirst, IsFirstFault, IsFirstRepeat, IsGraphOf, IsRepeated}
 use Rattle.topology.specs.Faults.{rank_of}
-use Rattle.topology.specs.Graph.{Graph, pair_cmp, AreLinked, IsGraph, IsNode}
+use Rattle.topology.specs.Graph.{Graph, pair_cmp, AreLinked, IsGraph, IsNode, has, is_node}
 use Rattle.topology.specs.declared.fault.TopoFault.{TopoFault}
 use Rattle.topology.specs.declared.fault.TopoFault.TheVariants.{NoNodes, TooManyNodes, BadId, TwiceNode, TooManyLinks}
 use Rattle.topology.specs.declared.fault.TopoFault.TheVariants.{StrangeNode, SelfLink, TwiceLink}
-use Rattle.topology.specs.declared.fault.TopoFault.TheVariants.{NoSuchLink, LinkIsThere, NoMemory}
+use Rattle.topology.specs.declared.fault.TopoFault.TheVariants.{NoSuchLink, LinkIsThere, NodeIsUp, NoMemory}
 use Rattle.topology.proofs.Ascending.{rises}
 use Rattle.topology.proofs.FirstItems.{split_at}
+use Rattle.topology.proofs.Membership.{Contains-has, has-Contains, has-filter}
 use Rattle.topology.proofs.RowLemmas.{pair_total, pair_antisymmetric}
 
 -- ---- one ascending list
@@ -61,21 +63,34 @@ same_ascending (x ∷ xs) (y ∷ ys) xs_up ys_up to from =
         ⊎_elim (λ e. absurd (omega (arith, head, e, below_all y ys ys_up z z_in))) (λ at. at)
         (in_rest x z xs (from z (suc z_in.0, omega (arith, z_in.1), z_in.2)))
 
+-- the nodes of a graph are those of its identifiers that are up
+pub up_are_nodes : (g : Graph) → IsGraph g → filter (is_node g) g.ids ≡ g.nodes
+up_are_nodes g are =
+    same_ascending (filter (is_node g) g.ids) g.nodes (IsStrictlyIncreasing-filter (is_node g) g.ids are.ascending)
+    are.rising
+    (λ i at.
+    let kept : (is_node g i && has g.ids i) ≡ true =
+    sym (has-filter (is_node g) g.ids i) ∙ has-Contains (filter (is_node g) g.ids) i at in
+    Contains-has g.nodes i (and_parts (is_node g i) (has g.ids i) kept).0)
+    (λ i at. Contains-has (filter (is_node g) g.ids) i
+    (has-filter (is_node g) g.ids i
+    ∙ ap₂ (λ a b. a && b) (has-Contains g.nodes i at) (has-Contains g.ids i (are.within i at))))
+
 -- ---- one graph
 
--- two graphs with the same nodes, links and bound are one
-pub same_graph : (g h : Graph) → IsGraph g → IsGraph h → g.bound ≡ h.bound → ((i : ℕ) → IsNode g i → IsNode h i)
+-- two graphs with the same identifiers, nodes and links are one
+pub same_graph : (g h : Graph) → IsGraph g → IsGraph h → g.ids ≡ h.ids → ((i : ℕ) → IsNode g i → IsNode h i)
     → ((i : ℕ) → IsNode h i → IsNode g i) → ((a b : ℕ) → AreLinked g a b → AreLinked h a b)
     → ((a b : ℕ) → AreLinked h a b → AreLinked g a b) → g ≡ h
-same_graph g h g_are h_are bounds to from links_to links_from =
-    let Parts : Type 0 = List ℕ × (ℕ × set.FinSet pair_cmp) in
-    let whole : Parts → Graph = λ p. record { ids = p.0; bound = p.1.0; links = p.1.1 } in
-    let parts : (g.ids, (g.bound, g.links)) ≡ (h.ids, (h.bound, h.links)) =
-    ap₂ (λ a b. (a, b)) ids (ap₂ (λ a b. (a, b)) bounds pairs) in
+same_graph g h g_are h_are ids to from links_to links_from =
+    let Parts : Type 0 = List ℕ × (List ℕ × set.FinSet pair_cmp) in
+    let whole : Parts → Graph = λ p. record { ids = p.0; nodes = p.1.0; links = p.1.1 } in
+    let parts : (g.ids, (g.nodes, g.links)) ≡ (h.ids, (h.nodes, h.links)) =
+    ap₂ (λ a b. (a, b)) ids (ap₂ (λ a b. (a, b)) nodes pairs) in
     ap whole parts
   where
-    ids : g.ids ≡ h.ids
-    ids = same_ascending g.ids h.ids g_are.ascending h_are.ascending to from
+    nodes : g.nodes ≡ h.nodes
+    nodes = same_ascending g.nodes h.nodes g_are.rising h_are.rising to from
 
     pairs : g.links ≡ h.links
     pairs =
@@ -87,8 +102,8 @@ pub one_graph : (nodes : List ℕ) (links : List (ℕ × ℕ)) (g h : Graph) →
 one_graph nodes links g h of_g of_h =
     let to : (i : ℕ) → IsNode g i → IsNode h i = λ i at. (of_h.same_nodes i).1 ((of_g.same_nodes i).0 at) in
     let from : (i : ℕ) → IsNode h i → IsNode g i = λ i at. (of_g.same_nodes i).1 ((of_h.same_nodes i).0 at) in
-    let ids = same_ascending g.ids h.ids of_g.as_graph.ascending of_h.as_graph.ascending to from in
-    same_graph g h of_g.as_graph of_h.as_graph (of_g.bound ∙ ap length ids ∙ sym of_h.bound) to from
+    let nodes = same_ascending g.nodes h.nodes of_g.as_graph.rising of_h.as_graph.rising to from in
+    same_graph g h of_g.as_graph of_h.as_graph (sym of_g.up ∙ nodes ∙ of_h.up) to from
     (λ a b e. (of_h.same_links a b).1 ((of_g.same_links a b).0 e))
     (λ a b e. (of_g.same_links a b).1 ((of_h.same_links a b).0 e))
 
@@ -173,6 +188,7 @@ module _ (nodes : List ℕ) (links : List (ℕ × ℕ)) where
   same_rank NoMemory e same a b = absurd a
   same_rank NoSuchLink e same a b = absurd a
   same_rank LinkIsThere e same a b = absurd a
+  same_rank NodeIsUp e same a b = absurd a
   same_rank f NoMemory same a b = absurd b
   same_rank f e same a b = absurd (omega (arith, same))
 

@@ -94,7 +94,7 @@ module _ (g : Graph) (a : ℕ) where
     one_link_on : (count b c : ℕ) → is_reached g a b count ≡ true → AreLinked g b c
         → is_reached g a c (suc count) ≡ true
     one_link_on count b c e linked =
-        let at = are.ends b c linked in
+        let at = are.within b (are.ends b c linked) in
         or_right (is_reached g a c count) (list_any (leads_to count c) g.ids)
         (list_any-from_Any (leads_to count c) g.ids
         (at.0, b, at.1, at.2, and_from (is_reached g a b count) (are_linked g b c) e linked))
@@ -105,7 +105,7 @@ module _ (g : Graph) (a : ℕ) where
     -- where no node is new, no link leads out
     closed_if_none_new : (count : ℕ) → list_any (is_new count) g.ids ≡ false → IsClosed count
     closed_if_none_new count none b c e linked =
-        let at = are.ends c b (linked_back g are b c linked) in
+        let at = are.within c (are.ends c b (linked_back g are b c linked)) in
         ⊎_elim (λ same. same)
         (λ new.
         let later = one_link_on count b c e linked in
@@ -117,7 +117,8 @@ module _ (g : Graph) (a : ℕ) where
     closed_or_more : IsNode g a → (count : ℕ) → (count < count_by (λ b. is_reached g a b count) g.ids) ⊎ IsClosed count
     closed_or_more a_in zero =
         let here = and_from (is_reached g a a 0) true (reached_here 0) refl in
-        let some = list_any-from_Any (λ b. is_reached g a b 0 && true) g.ids (a_in.0, a, a_in.1, a_in.2, here) in
+        let at = are.within a a_in in
+        let some = list_any-from_Any (λ b. is_reached g a b 0 && true) g.ids (at.0, a, at.1, at.2, here) in
         let none : ℕ → Bool = λ b. false in
         inl (omega (arith, count_more none (λ b. is_reached g a b 0) (λ b e. absurd (true≢false (sym e))) g.ids some))
     closed_or_more a_in (suc count) =

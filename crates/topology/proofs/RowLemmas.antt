@@ -1,6 +1,6 @@
 -- The graph of rows: which ids its rows link.
 use Rattle.std.proofs.Common.{◌≡◌, ℕ, zero, suc, ◌+◌, ◌<◌, Bool, true, false, ◌||◌, eqb, List, [], ◌∷◌, Equal, map}
-use Rattle.std.proofs.Common.{length, get_or, Some, None, position, Vec, Global, Result, is_ok, sym, refl, ap, ap₂}
+use Rattle.std.proofs.Common.{length, get_or, Option, Some, None, is_some, if◌then◌else◌, position, Vec, Global, Result, is_ok, sym, refl, ap, ap₂}
 use Rattle.std.proofs.Common.{subst, ◌∙◌, arith, nat_cmp, eqb-true, eq-eqb}
 use Rattle.std.specs.List.{list_any, range_with_len, flat_map}
 use Rattle.std.specs.List.Sorted.{IsStrictlyIncreasing, IsBinarySearchResult}
@@ -16,9 +16,11 @@ use Rattle.std.proofs.lemmas.List.{get_or_default, get_or-map, length-map}
 use Rattle.std.proofs.lemmas.List.Quantifiers.{position-Some}
 use Rattle.std.specs.Cmp.{both_ways as same_tests}
 use Rattle.std.proofs.lemmas.Option.{none-some}
-use Rattle.topology.specs.Graph.{pair_cmp, are_linked, AreLinked, IsGraph, neighbours_of}
-use Rattle.topology.specs.Rows.{row_at, near_has, pairs_at, links_of, graph_of, AreRows}
-use Rattle.topology.proofs.Ascending.{member_at, index_once, filter_by_row, index_of_item, member_by_search}
+use Rattle.topology.specs.Changing.{IsIndexOf}
+use Rattle.topology.specs.Graph.{pair_cmp, are_linked, AreLinked, IsGraph, has, neighbours_of}
+use Rattle.topology.specs.Rows.{row_at, near_has, pairs_at, links_of, graph_of, AreIds, AreNodes, AreRows, AreTied}
+use Rattle.topology.proofs.Ascending.{contains_from_test, member_at, member_by_index, index_once, filter_by_row}
+use Rattle.topology.proofs.Ascending.{member_by_search, test_from_contains}
 
 -- ---- pairs as keys of a set
 
@@ -72,13 +74,13 @@ module _ (ids : List ℕ) (rows : List (List ℕ)) where
       (any_map (eq_by_cmp pair_cmp (a, b)) (λ j. (get_or ids i 0, get_or ids j 0)) (row_at rows i)) (any_row a b is)
 
   linked_by_rows : (a b : ℕ)
-      → are_linked (graph_of ids rows) a b ≡ list_any (row_links a b) (range_with_len 0 (length ids))
+      → are_linked (graph_of ids ids rows) a b ≡ list_any (row_links a b) (range_with_len 0 (length ids))
   unfolding links_of
   linked_by_rows a b =
       set.contains-from_list pair_total (flat_map (pairs_at ids rows) (range_with_len 0 (length ids))) (a, b)
       ∙ any_row a b (range_with_len 0 (length ids))
 
-  pub linked_from : (a b : ℕ) → AreLinked (graph_of ids rows) a b → Linked ids rows a b
+  pub linked_from : (a b : ℕ) → AreLinked (graph_of ids ids rows) a b → Linked ids rows a b
   linked_from a b e =
       let row = Any-from_list_any (row_links a b) (range_with_len 0 (length ids)) (sym (linked_by_rows a b) ∙ e) in
       let i = row.1 in
@@ -99,7 +101,7 @@ module _ (ids : List ℕ) (rows : List (List ℕ)) where
       }
 
   pub linked_to : (i j : ℕ) → i < length ids → near_has rows i j ≡ true
-      → AreLinked (graph_of ids rows) (get_or ids i 0) (get_or ids j 0)
+      → AreLinked (graph_of ids ids rows) (get_or ids i 0) (get_or ids j 0)
   linked_to i j within e =
       let a = get_or ids i 0 in
       let b = get_or ids j 0 in
@@ -126,7 +128,7 @@ module _ (ids : List ℕ) (rows : List (List ℕ)) where
   module _ (up : IsStrictlyIncreasing ids) (as_rows : AreRows (length ids) rows) where
     -- the ids at two indexes are linked where the row of one has the other
     pub linked_at : (i j : ℕ) → i < length ids → j < length ids
-        → are_linked (graph_of ids rows) (get_or ids i 0) (get_or ids j 0) ≡ near_has rows i j
+        → are_linked (graph_of ids ids rows) (get_or ids i 0) (get_or ids j 0) ≡ near_has rows i j
     linked_at i j i_in j_in =
         same_tests _ _
         (λ e.
@@ -137,19 +139,22 @@ module _ (ids : List ℕ) (rows : List (List ℕ)) where
         subst (λ y. near_has rows i y ≡ true) same_j (subst (λ x. near_has rows x l.j ≡ true) same_i l.near))
         (λ e. linked_to i j i_in e)
 
-    pub linked_symmetric : (a b : ℕ) → AreLinked (graph_of ids rows) a b → AreLinked (graph_of ids rows) b a
+    pub linked_symmetric : (a b : ℕ) → AreLinked (graph_of ids ids rows) a b → AreLinked (graph_of ids ids rows) b a
     linked_symmetric a b e =
         let l = linked_from a b e in
         let back = linked_to l.j l.i (as_rows.within l.i l.j l.near) (as_rows.symmetric l.j l.i ∙ l.near) in
-        subst (λ y. AreLinked (graph_of ids rows) b y) l.first
-        (subst (λ x. AreLinked (graph_of ids rows) x (get_or ids l.i 0)) l.second back)
+        subst (λ y. AreLinked (graph_of ids ids rows) b y) l.first
+        (subst (λ x. AreLinked (graph_of ids ids rows) x (get_or ids l.i 0)) l.second back)
 
-    -- what rows make is a graph
-    pub graph_of_rows : 0 < length ids → IsGraph (graph_of ids rows)
-    graph_of_rows some = record {
+    -- what rows make is a graph, whichever of the ids its links join are the nodes
+    pub graph_of_rows : (nodes : List ℕ) → 0 < length ids → AreNodes ids nodes
+        → ((i j : ℕ) → near_has rows i j ≡ true → has nodes (get_or ids i 0) ≡ true)
+        → IsGraph (graph_of ids nodes rows)
+    graph_of_rows nodes some as_nodes joins_nodes = record {
       some = some;
-      bounded = omega arith;
       ascending = up;
+      rising = as_nodes.rising;
+      within = as_nodes.within;
       symmetric = λ a b. same_tests _ _ (linked_symmetric a b) (linked_symmetric b a);
       irreflexive = λ a e.
           let l = linked_from a a e in
@@ -157,35 +162,93 @@ module _ (ids : List ℕ) (rows : List (List ℕ)) where
           index_once ids up l.i l.j l.within (as_rows.within l.i l.j l.near) (l.first ∙ sym l.second) in
           both_ways (near_has rows l.j l.j) (as_rows.irreflexive l.j)
           (subst (λ k. near_has rows k l.j ≡ true) same l.near);
-      ends = λ a b e. let l = linked_from a b e in (l.i, l.within, get_or_default ids l.i a 0 l.within ∙ l.first);
+      ends = λ a b e.
+          let l = linked_from a b e in
+          contains_from_test nodes a (subst (λ x. has nodes x ≡ true) l.first (joins_nodes l.i l.j l.near));
     }
 
     -- the ids at the row of an index are the neighbours of its id
     pub neighbours_at : (i : ℕ) → i < length ids
-        → map (λ n. get_or ids n 0) (row_at rows i) ≡ neighbours_of (graph_of ids rows) (get_or ids i 0)
+        → map (λ n. get_or ids n 0) (row_at rows i) ≡ neighbours_of (graph_of ids ids rows) (get_or ids i 0)
     neighbours_at i i_in =
-        filter_by_row (are_linked (graph_of ids rows) (get_or ids i 0)) ids (row_at rows i) (as_rows.ascending i)
+        filter_by_row (are_linked (graph_of ids ids rows) (get_or ids i 0)) ids (row_at rows i) (as_rows.ascending i)
         (λ j e. as_rows.within i j e)
         (λ k k_in. linked_at i k i_in k_in)
 
     -- what the index of a number tells of its link with the id at another
     pub linked_at_index : (i b j : ℕ) → i < length ids → Some j ≡ position (λ k. eqb k b) ids
-        → near_has rows i j ≡ are_linked (graph_of ids rows) (get_or ids i 0) b
+        → near_has rows i j ≡ are_linked (graph_of ids ids rows) (get_or ids i 0) b
     linked_at_index i b j i_in at_b =
         let index = position-Some (λ k. eqb k b) ids j 0 (sym at_b) in
         sym (linked_at i j i_in index.0)
-        ∙ ap (are_linked (graph_of ids rows) (get_or ids i 0)) (eqb-true (get_or ids j 0) b index.1)
+        ∙ ap (are_linked (graph_of ids ids rows) (get_or ids i 0)) (eqb-true (get_or ids j 0) b index.1)
 
-    pub unlinked_first : (a b : ℕ) → None ≡ position (λ k. eqb k a) ids → false ≡ are_linked (graph_of ids rows) a b
-    unlinked_first a b none =
-        sym (false_from_ne_true _ (λ e.
-        let l = linked_from a b e in
-        let index : Some l.i ≡ position (λ k. eqb k a) ids = index_of_item ids a up l.i l.within l.first in
-        absurd (none-some l.i (none ∙ sym index))))
+pub tied_graph : (ids nodes : List ℕ) (rows : List (List ℕ)) → AreTied ids nodes rows → IsGraph (graph_of ids nodes rows)
+tied_graph ids nodes rows tied =
+    graph_of_rows ids rows tied.as_ids.ascending tied.as_rows nodes tied.as_ids.some tied.as_nodes tied.ends
 
-    pub unlinked_second : (a b : ℕ) → None ≡ position (λ k. eqb k b) ids → false ≡ are_linked (graph_of ids rows) a b
-    unlinked_second a b none =
-        unlinked_first b a none ∙ same_tests _ _ (linked_symmetric b a) (linked_symmetric a b)
+-- an index with a row that isn't empty is one of an id
+pub row_of_id : (n : ℕ) (rows : List (List ℕ)) → AreRows n rows → (i j : ℕ) → near_has rows i j ≡ true → i < n
+row_of_id n rows are i j near = are.within j i (are.symmetric j i ∙ near)
+
+-- where all ids are up, rows join nodes alone
+pub all_tied : (ids : List ℕ) (rows : List (List ℕ)) → AreIds ids → AreRows (length ids) rows → AreTied ids ids rows
+all_tied ids rows as_ids as_rows = record {
+  as_ids = as_ids;
+  as_nodes = record { rising = as_ids.ascending; within = λ i at. at };
+  as_rows = as_rows;
+  ends = λ i j near. member_at ids i (row_of_id (length ids) rows as_rows i j near);
+}
+
+-- the index of a node among all ids
+abbrev pub index_if_node : List ℕ → List ℕ → ℕ → Option ℕ
+index_if_node ids nodes x = if has nodes x then position (λ k. eqb k x) ids else None
+
+-- a node has the index of its id
+pub node_index : (ids nodes : List ℕ) (x i : ℕ) → Some i ≡ index_if_node ids nodes x
+    → (Some i ≡ position (λ k. eqb k x) ids) × (has nodes x ≡ true)
+node_index ids nodes x i at = cases (has nodes x) refl
+  where
+    cases : (b : Bool) → has nodes x ≡ b → (Some i ≡ position (λ k. eqb k x) ids) × (has nodes x ≡ true)
+    cases true is = (rw is at at, is)
+    cases false is = absurd (none-some i (sym (rw is at at)))
+
+-- and stands there
+pub index_found : (ids nodes : List ℕ) (x i : ℕ) → Some i ≡ index_if_node ids nodes x → IsIndexOf ids x i
+index_found ids nodes x i at =
+    let found = position-Some (λ k. eqb k x) ids i 0 (sym (node_index ids nodes x i at).0) in
+    (found.0, eqb-true (get_or ids i 0) x found.1)
+
+-- what has no such index is no node
+pub no_node_index : (ids nodes : List ℕ) → AreNodes ids nodes → (x : ℕ) → None ≡ index_if_node ids nodes x
+    → has nodes x ≡ false
+no_node_index ids nodes as_nodes x at = cases (has nodes x) refl
+  where
+    cases : (b : Bool) → has nodes x ≡ b → has nodes x ≡ false
+    cases false is = is
+    cases true is =
+        let none : None ≡ position (λ k. eqb k x) ids = rw is at at in
+        let absent : false ≡ has ids x = member_by_index ids x None none in
+        absurd (both_ways (has ids x) (sym absent)
+        (test_from_contains ids x (as_nodes.within x (contains_from_test nodes x is))))
+
+-- nodes are what has such an index
+pub node_by_index : (ids nodes : List ℕ) → AreNodes ids nodes → (x : ℕ) (o : Option ℕ) → o ≡ index_if_node ids nodes x
+    → is_some o ≡ has nodes x
+node_by_index ids nodes as_nodes x (Some i) at = sym (node_index ids nodes x i at).1
+node_by_index ids nodes as_nodes x None at = sym (no_node_index ids nodes as_nodes x at)
+
+-- what is no node has no link
+module _ (ids nodes : List ℕ) (rows : List (List ℕ)) (tied : AreTied ids nodes rows) where
+  pub strange_first : (a b : ℕ) → has nodes a ≡ false → are_linked (graph_of ids nodes rows) a b ≡ false
+  strange_first a b none =
+      false_from_ne_true _ (λ e.
+      let l = linked_from ids rows a b e in
+      both_ways (has nodes a) none (subst (λ x. has nodes x ≡ true) l.first (tied.ends l.i l.j l.near)))
+
+  pub strange_second : (a b : ℕ) → has nodes b ≡ false → are_linked (graph_of ids nodes rows) a b ≡ false
+  strange_second a b none =
+      (tied_graph ids nodes rows tied).symmetric a b ∙ strange_first b a none
 
 module _ (n : ℕ) (near : List (Vec ℕ Global)) (as_rows : AreRows n (map (λ r. r.items) near)) (i : ℕ)
     (row : Vec ℕ Global) (within : i < n) (read : row ≡ get_or near i row) where
@@ -214,7 +277,7 @@ module _ (n : ℕ) (near : List (Vec ℕ Global)) (as_rows : AreRows n (map (λ 
 pub row_neighbours : (ids : List ℕ) (near : List (Vec ℕ Global)) → AreRows (length ids) (map (λ r. r.items) near)
     → (i : ℕ) (row : Vec ℕ Global) → i < length ids → row ≡ get_or near i row →
     IsStrictlyIncreasing ids
-    → map (λ n. get_or ids n 0) row.items ≡ neighbours_of (graph_of ids (map (λ r. r.items) near)) (get_or ids i 0)
+    → map (λ n. get_or ids n 0) row.items ≡ neighbours_of (graph_of ids ids (map (λ r. r.items) near)) (get_or ids i 0)
 row_neighbours ids near as_rows i row within read up =
     ap (map (λ n. get_or ids n 0)) (sym (row_here (length ids) near as_rows i row within read))
     ∙ neighbours_at ids (map (λ r. r.items) near) up as_rows i within
@@ -224,7 +287,7 @@ pub linked_by_search : (ids : List ℕ) (near : List (Vec ℕ Global)) → AreRo
     → IsStrictlyIncreasing ids → (i : ℕ) (row : Vec ℕ Global) → i < length ids → row ≡ get_or near i row →
     (b j : ℕ) → Some j ≡ position (λ k. eqb k b) ids → (r : Result ℕ ℕ)
     → IsBinarySearchResult (λ y. nat_cmp y j) row.items r
-    → is_ok r ≡ are_linked (graph_of ids (map (λ r. r.items) near)) (get_or ids i 0) b
+    → is_ok r ≡ are_linked (graph_of ids ids (map (λ r. r.items) near)) (get_or ids i 0) b
 linked_by_search ids near as_rows up i row within read b j at_b r h =
     found_in_row (length ids) near as_rows i row within read j r h
     ∙ linked_at_index ids (map (λ r. r.items) near) up as_rows i b j within at_b

@@ -44,11 +44,11 @@ distance_turned g a b d are p =
 
 -- ---- what a search finds
 
-module _ (ids : List ℕ) (rows : List (List ℕ)) (as_ids : AreIds ids) (as_rows : AreRows (length ids) rows) (start : ℕ)
+module _ (ids nodes : List ℕ) (rows : List (List ℕ)) (as_ids : AreIds ids) (as_rows : AreRows (length ids) rows) (start : ℕ)
     (marks : List ℕ) (found : AreDistances (length ids) rows start marks) where
   -- a mark below the number of rows is the length of a walk
   pub walk_of_mark : (d i : ℕ) → i < length ids → get_or marks i 0 ≡ d → d < length ids →
-      (cs : List ℕ) × IsWalk (graph_of ids rows) (get_or ids i 0) cs (get_or ids start 0) × (length cs ≡ d)
+      (cs : List ℕ) × IsWalk (graph_of ids nodes rows) (get_or ids i 0) cs (get_or ids start 0) × (length cs ≡ d)
   walk_of_mark zero i i_in e low =
       ⊎_elim
       (λ here. ([], ap (λ k. get_or ids k 0) here.1, refl))
@@ -64,7 +64,7 @@ module _ (ids : List ℕ) (rows : List (List ℕ)) (as_ids : AreIds ids) (as_row
 
   -- and no walk is shorter than the mark
   pub mark_of_walk : (cs : List ℕ) (i : ℕ) → i < length ids
-      → IsWalk (graph_of ids rows) (get_or ids i 0) cs (get_or ids start 0) →
+      → IsWalk (graph_of ids nodes rows) (get_or ids i 0) cs (get_or ids start 0) →
       (get_or marks i 0 < length ids) × (get_or marks i 0 ≤ length cs)
   mark_of_walk [] i i_in w =
       let same : i ≡ start = index_once ids as_ids.ascending i start i_in found.are_reached.within w in
@@ -78,19 +78,19 @@ module _ (ids : List ℕ) (rows : List (List ℕ)) (as_ids : AreIds ids) (as_row
       subst (λ k. near_has rows l.j k ≡ true) same (as_rows.symmetric l.j l.i ∙ l.near) in
       let rest =
       mark_of_walk cs l.j j_in
-      (subst (λ x. IsWalk (graph_of ids rows) x cs (get_or ids start 0)) (sym l.second) w.1) in
+      (subst (λ x. IsWalk (graph_of ids nodes rows) x cs (get_or ids start 0)) (sym l.second) w.1) in
       let step = found.closed l.j i j_in near rest.0 in
       (step.0, omega (arith, step.1, rest.1))
 
   pub reached_of_mark : (i : ℕ) → i < length ids → get_or marks i 0 < length ids
-      → IsReached (graph_of ids rows) (get_or ids i 0) (get_or ids start 0)
+      → IsReached (graph_of ids nodes rows) (get_or ids i 0) (get_or ids start 0)
   reached_of_mark i i_in low = let w = walk_of_mark (get_or marks i 0) i i_in refl low in (w.0, w.1)
 
   -- where a walk leads, the mark is the distance
-  pub distance_of_mark : (i : ℕ) → i < length ids → IsReached (graph_of ids rows) (get_or ids i 0) (get_or ids start 0)
+  pub distance_of_mark : (i : ℕ) → i < length ids → IsReached (graph_of ids nodes rows) (get_or ids i 0) (get_or ids start 0)
       →
       (get_or marks i 0 < length ids)
-      × IsDistance (graph_of ids rows) (get_or ids i 0) (get_or ids start 0) (get_or marks i 0)
+      × IsDistance (graph_of ids nodes rows) (get_or ids i 0) (get_or ids start 0) (get_or marks i 0)
   distance_of_mark i i_in r =
       let low = (mark_of_walk r.0 i i_in r.1).0 in (
         low,
@@ -101,7 +101,7 @@ module _ (ids : List ℕ) (rows : List (List ℕ)) (as_ids : AreIds ids) (as_row
       )
 
   pub mark_tells : (i : ℕ) → i < length ids
-      → IsDistanceOrNone (length ids) (graph_of ids rows) (get_or ids i 0) (get_or ids start 0) (get_or marks i 0)
+      → IsDistanceOrNone (length ids) (graph_of ids nodes rows) (get_or ids i 0) (get_or ids start 0) (get_or marks i 0)
   mark_tells i i_in =
       ⊎_elim
       (λ low. inl (distance_of_mark i i_in (reached_of_mark i i_in low)))

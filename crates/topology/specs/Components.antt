@@ -4,16 +4,16 @@ use Rattle.std.specs.FinSet as set
 use Rattle.topology.specs.Graph.{Graph, IsGraph, IsConnected, IsNode, AreLinked, IsReached, greatest}
 use Rattle.topology.specs.Reaching.{is_reached}
 
--- whether a walk leads from a to b; none needs more links than there are nodes
+-- whether a walk leads from a to b; none needs more links than there are identifiers
 unfoldable pub reaches : Graph → ℕ → ℕ → Bool
 reaches g a b = is_reached g a b (length g.ids)
 
 -- the component of a node, as a graph of its own: the nodes that walks from it lead to, and the links between them;
--- the bound is that of the whole graph
+-- the identifiers are those of the whole graph, so that its K is the same
 unfoldable pub component : Graph → ℕ → Graph
 component g i = record {
-  ids = filter (reaches g i) g.ids;
-  bound = g.bound;
+  ids = g.ids;
+  nodes = filter (reaches g i) g.nodes;
   links = set.retain g.links (λ link. reaches g i link.0);
 }
 
@@ -25,6 +25,6 @@ leader g i = greatest (component g i)
 pub record IsComponent (g : Graph) (i : ℕ) (h : Graph) : Type 0 where
   pub as_graph : IsGraph h
   pub connected : IsConnected h
-  pub bound : h.bound ≡ g.bound
+  pub ids : h.ids ≡ g.ids
   pub same_nodes : (j : ℕ) → (IsNode h j ↔ IsReached g i j)
   pub same_links : (a b : ℕ) → (AreLinked h a b ↔ IsReached g i a × AreLinked g a b)

@@ -3,7 +3,7 @@ use Rattle.std.specs.Prelude.{ℕ, List, ◌++◌, codes, decimal}
 use Rattle.topology.specs.declared.fault.TopoFault.{TopoFault}
 use Rattle.topology.specs.declared.fault.TopoFault.TheVariants.{NoNodes, TooManyNodes, BadId, TwiceNode, TooManyLinks}
 use Rattle.topology.specs.declared.fault.TopoFault.TheVariants.{StrangeNode, SelfLink, TwiceLink}
-use Rattle.topology.specs.declared.fault.TopoFault.TheVariants.{NoMemory, NoSuchLink, LinkIsThere}
+use Rattle.topology.specs.declared.fault.TopoFault.TheVariants.{NoMemory, NoSuchLink, LinkIsThere, NodeIsUp}
 
 -- the text of a fault
 abbrev pub fault_text : TopoFault → List ℕ
@@ -18,3 +18,4 @@ fault_text (TwiceLink a b) = codes "TwiceLink " ++ decimal a ++ codes " " ++ dec
 fault_text NoMemory = codes "NoMemory"
 fault_text NoSuchLink = codes "NoSuchLink"
 fault_text LinkIsThere = codes "LinkIsThere"
+fault_text NodeIsUp = codes "NodeIsUp"

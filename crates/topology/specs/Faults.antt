@@ -6,7 +6,7 @@ use Rattle.topology.specs.Id.{IsId}
 use Rattle.topology.specs.declared.fault.TopoFault.{TopoFault}
 use Rattle.topology.specs.declared.fault.TopoFault.TheVariants.{NoNodes, TooManyNodes, BadId, TwiceNode, TooManyLinks}
 use Rattle.topology.specs.declared.fault.TopoFault.TheVariants.{StrangeNode, SelfLink, TwiceLink}
-use Rattle.topology.specs.declared.fault.TopoFault.TheVariants.{NoMemory, NoSuchLink, LinkIsThere}
+use Rattle.topology.specs.declared.fault.TopoFault.TheVariants.{NoMemory, NoSuchLink, LinkIsThere, NodeIsUp}
 
 -- x is the first of the list that meets P
 pub record IsFirst {X : Type 0} (P : X → Type 0) (xs : List X) (x : X) : Type 0 where
@@ -31,10 +31,10 @@ pub record IsFirstRepeat {X : Type 0} (xs : List X) (x : X) : Type 0 where
   pub earlier : Contains prefix x
   pub distinct : (y : X) → IsRepeated prefix y → ⊥
 
--- the graph has exactly these nodes and links, and the bound K is the number of its nodes
+-- the graph has exactly these nodes and links, and no other identifiers: all are up
 pub record IsGraphOf (nodes : List ℕ) (links : List (ℕ × ℕ)) (g : Graph) : Type 0 where
   pub as_graph : IsGraph g
-  pub bound : g.bound ≡ length g.ids
+  pub up : g.nodes ≡ g.ids
   pub same_nodes : (i : ℕ) → (IsNode g i ↔ Contains nodes i)
   pub same_links : (a b : ℕ) → (AreLinked g a b ↔ (Contains links (a, b) ⊎ Contains links (b, a)))
 
@@ -59,8 +59,9 @@ HasFault nodes links (TwiceLink a b) = IsFirstRepeat (ordered_links links) (a, b
 HasFault nodes links NoMemory = ⊥
 HasFault nodes links NoSuchLink = ⊥
 HasFault nodes links LinkIsThere = ⊥
+HasFault nodes links NodeIsUp = ⊥
 
--- the place of a fault in the order in which they are named
+-- the place of a fault in the order in which they are named; 13 to 18 are the faults of texts
 abbrev pub rank_of : TopoFault → ℕ
 rank_of NoNodes = 1
 rank_of TooManyNodes = 2
@@ -73,6 +74,7 @@ rank_of (TwiceLink a b) = 8
 rank_of NoMemory = 10
 rank_of NoSuchLink = 11
 rank_of LinkIsThere = 12
+rank_of NodeIsUp = 19
 
 -- the lists have the fault, and none that comes before it
 pub record IsFirstFault (nodes : List ℕ) (links : List (ℕ × ℕ)) (f : TopoFault) : Type 0 where

@@ -1,8 +1,9 @@
 -- A graph kept as rows: for each index of an id, the indexes of its neighbours.
 use Rattle.std.specs.Prelude.{◌≡◌, ℕ, ◌<◌, ◌≤◌, Bool, true, false, List, [], All, Option, None, map, length, position}
-use Rattle.std.specs.Prelude.{slice_index, slice_index_or, ◌==◌, ◌*◌}
+use Rattle.std.specs.Prelude.{slice_index, slice_index_or, ◌==◌, ◌*◌, if◌then◌else◌, Contains, refl}
 use Rattle.std.specs.List.{flat_map, range_with_len}
 use Rattle.std.specs.List.Sorted.{IsStrictlyIncreasing}
+use Rattle.std.specs.Coded.{Coded, code_by, coded×, coded_ℕ, coded_list}
 use Rattle.std.specs.FinSet as set
 use Rattle.topology.specs.Graph.{Graph, pair_cmp, has}
 use Rattle.topology.specs.Components.{leader}
@@ -25,8 +26,8 @@ pairs_at ids rows i = map (λ j. (slice_index ids i, slice_index ids j)) (row_at
 unfoldable pub links_of : List ℕ → List (List ℕ) → set.FinSet pair_cmp
 links_of ids rows = set.from_list (flat_map (pairs_at ids rows) (range_with_len 0 (length ids)))
 
-abbrev pub graph_of : List ℕ → List (List ℕ) → Graph
-graph_of ids rows = record { ids = ids; bound = length ids; links = links_of ids rows }
+abbrev pub graph_of : List ℕ → List ℕ → List (List ℕ) → Graph
+graph_of ids nodes rows = record { ids = ids; nodes = nodes; links = links_of ids rows }
 
 -- as many rows as there are indexes, each with ascending indexes, in both directions, none with its own
 pub record AreRows (n : ℕ) (rows : List (List ℕ)) : Type 0 where
@@ -43,29 +44,55 @@ pub record AreIds (ids : List ℕ) : Type 0 where
   pub valid : All IsId ids
   pub ascending : IsStrictlyIncreasing ids
 
--- the table has at each id its index, and at no other number anything
-abbrev pub AreIndexes : List ℕ → List (Option ℕ) → Type 0
-AreIndexes ids indexes = (id : ℕ) → slice_index_or indexes id None ≡ position (λ i. i == id) ids
+-- some of the identifiers, in ascending order
+pub record AreNodes (ids nodes : List ℕ) : Type 0 where
+  pub rising : IsStrictlyIncreasing nodes
+  pub within : (i : ℕ) → Contains nodes i → Contains ids i
 
--- identifiers, and the table of their indexes
-pub record AreIndexed (ids : List ℕ) (indexes : List (Option ℕ)) : Type 0 where
+-- all identifiers, and those of them that are up
+pub record Roll : Type 0 where
+  pub ids : List ℕ
+  pub nodes : List ℕ
+
+-- a roll is stored as the pair of its parts
+abbrev pub roll_code : Coded Roll
+roll_code =
+    code_by (List ℕ × List ℕ) (coded× (coded_list coded_ℕ) (coded_list coded_ℕ)) (λ r. (r.ids, r.nodes))
+    (λ p. record { ids = p.0; nodes = p.1 }) (λ _. refl)
+
+-- the table has at each node its index among the ids, and at no other number anything
+abbrev pub AreIndexes : List ℕ → List ℕ → List (Option ℕ) → Type 0
+AreIndexes ids nodes indexes =
+    (id : ℕ) → slice_index_or indexes id None ≡ (if has nodes id then position (λ i. i == id) ids else None)
+
+-- identifiers and nodes, and the table of the indexes of the nodes, with room for each identifier
+pub record AreIndexed (roll : Roll) (indexes : List (Option ℕ)) : Type 0 where
+  pub as_ids : AreIds roll.ids
+  pub as_nodes : AreNodes roll.ids roll.nodes
+  pub as_indexes : AreIndexes roll.ids roll.nodes indexes
+  pub room : (k : ℕ) → k < length roll.ids → slice_index roll.ids k < length indexes
+
+-- identifiers, nodes and rows, of which those at nodes alone have indexes
+pub record AreTied (ids nodes : List ℕ) (rows : List (List ℕ)) : Type 0 where
   pub as_ids : AreIds ids
-  pub as_indexes : AreIndexes ids indexes
+  pub as_nodes : AreNodes ids nodes
+  pub as_rows : AreRows (length ids) rows
+  pub ends : (i j : ℕ) → near_has rows i j ≡ true → has nodes (slice_index ids i) ≡ true
 
--- the table has at the index of each id the index of its leader
-pub record AreLeaders (ids : List ℕ) (rows : List (List ℕ)) (leaders : List ℕ) : Type 0 where
+-- the table has at the index of each node the index of its leader
+pub record AreLeaders (ids nodes : List ℕ) (rows : List (List ℕ)) (leaders : List ℕ) : Type 0 where
   pub count : length leaders ≡ length ids
   pub within : (k : ℕ) → k < length ids → slice_index leaders k < length ids
-  pub leads : (k : ℕ) → k < length ids
-      → slice_index ids (slice_index leaders k) ≡ leader (graph_of ids rows) (slice_index ids k)
+  pub leads : (k : ℕ) → k < length ids → has nodes (slice_index ids k) ≡ true
+      → slice_index ids (slice_index leaders k) ≡ leader (graph_of ids nodes rows) (slice_index ids k)
 
--- whatever the n ids are that go with the rows
+-- whatever the n ids are that go with the rows, and the nodes
 abbrev pub AreLeadersOf : ℕ → List (List ℕ) → List ℕ → Type 0
-AreLeadersOf n rows leaders = (ids : List ℕ) → AreIds ids → length ids ≡ n → AreLeaders ids rows leaders
+AreLeadersOf n rows leaders =
+    (ids nodes : List ℕ) → AreTied ids nodes rows → length ids ≡ n → AreLeaders ids nodes rows leaders
 
 -- what the fields of a topology are: rows, the table of the leaders, and two pairs for each link that is counted
-pub record AreParts (ids : List ℕ) (rows : List (List ℕ)) (leaders : List ℕ) (count : ℕ) : Type 0 where
-  pub as_ids : AreIds ids
-  pub as_rows : AreRows (length ids) rows
-  pub as_leaders : AreLeaders ids rows leaders
+pub record AreParts (ids nodes : List ℕ) (rows : List (List ℕ)) (leaders : List ℕ) (count : ℕ) : Type 0 where
+  pub tied : AreTied ids nodes rows
+  pub as_leaders : AreLeadersOf (length ids) rows leaders
   pub counted : 2 * count ≡ set.len (links_of ids rows)

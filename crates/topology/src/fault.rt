@@ -12,7 +12,7 @@ pub const MAX_NODES: usize = 1024;
 pub const MAX_LINKS: usize = 8192;
 
 /// Why a list of nodes and a list of links are no topology, in the order in which faults are
-/// named, and why a link can't be put in or taken out. Within one fault the first item of the list
+/// named, and why a link or a node can't be put in or taken out. Within one fault the first item of the list
 /// is named, and of a link its first end first.
 #[derive(Clone, Copy, Debug, PartialEq, Eq)]
 pub enum TopoFault {
@@ -38,6 +38,8 @@ pub enum TopoFault {
     NoSuchLink,
     /// The link that was to be put in is there.
     LinkIsThere,
+    /// The node that was to be put in is up.
+    NodeIsUp,
 }
 
 impl From<AllocError> for TopoFault {
@@ -72,6 +74,7 @@ impl fmt::Display for TopoFault {
             TopoFault::NoMemory => write!(f, "NoMemory"),
             TopoFault::NoSuchLink => write!(f, "NoSuchLink"),
             TopoFault::LinkIsThere => write!(f, "LinkIsThere"),
+            TopoFault::NodeIsUp => write!(f, "NodeIsUp"),
         }
     }
 }

@@ -1,8 +1,13 @@
-ghost use Rattle.std.specs.Prelude.{◌≡◌, ◌↔◌, ℕ, List, length, true};
+ghost use Rattle.std.specs.Prelude.{◌≡◌, ◌↔◌, ℕ, List, filter, length, true};
 ghost use Rattle.topology.specs.declared.fault.TopoFault.{TopoFault};
 ghost use Rattle.topology.specs.Faults.{IsFirstFault, IsTopologyOf};
 ghost use Rattle.topology.specs.Components.{component, IsComponent, leader, reaches};
-ghost use Rattle.topology.specs.Graph.{Graph, IsConnected, IsDistance, IsGraph, IsLeader, IsNode, IsReached, IsWalk};
+ghost use Rattle.topology.specs.Graph.{Graph, IsConnected, IsDistance, IsGraph, IsLeader, IsNode, IsReached, IsWalk, is_node};
+
+/// The nodes of a graph are its identifiers that are up, in their order.
+pub fn nodes_are_up()
+    ensures { (g : Graph) → IsGraph g → filter (is_node g) g.ids ≡ g.nodes }
+{}
 
 /// A walk of a graph leads back over as many links.
 pub fn walks_back()

@@ -12,8 +12,8 @@ use std::alloc::Global;
 
 /// The first end of a link that isn't one of the ids.
 fn first_strange_end(ids: &Ids, links: &[(u32, u32)]) -> Option<u32>
-    ensures { MatchOption result (All (λ x. has ids.now x ≡ true) (ends_of links.now))
-        (IsFirst (λ x. has ids.now x ≡ true → ⊥) (ends_of links.now)) }
+    ensures { MatchOption result (All (λ x. has ids.now.ids x ≡ true) (ends_of links.now))
+        (IsFirst (λ x. has ids.now.ids x ≡ true → ⊥) (ends_of links.now)) }
 {
     for (a, b) in links {
         if ids.index_of(*a).is_none() {
@@ -41,20 +41,22 @@ fn first_self_link(links: &[(u32, u32)]) -> Option<u32>
 
 /// The index of one of the ids.
 fn index_among(ids: &Ids, id: u32) -> usize
-    requires { has ids.now id ≡ true }
-    ensures within { result < length ids.now }
-    ensures value { slice_index ids.now result ≡ id }
+    requires { has ids.now.ids id ≡ true }
+    ensures within { result < length ids.now.ids }
+    ensures value { slice_index ids.now.ids result ≡ id }
 {
     ids.index_of(id).unwrap()
 }
 
-/// The indexes of two of the ids, or `StrangeNode` of the first that is none of them.
+/// The indexes of two of the nodes, or `StrangeNode` of the first that is none of them.
 pub fn end_indexes(ids: &Ids, a: u32, b: u32) -> Result<(usize, usize), TopoFault>
-    ensures ok { IfOk result (λ ends. IsIndexOf ids.now a ends.0 × IsIndexOf ids.now b ends.1) }
-    ensures known { OnOk result (first_of (strange_ends ids.now a b) ≡ None) }
-    ensures err { IfErr result (λ f. first_of (strange_ends ids.now a b) ≡ Some f) }
+    ensures ok { IfOk result (λ ends. IsIndexOf ids.now.ids a ends.0 × IsIndexOf ids.now.ids b ends.1) }
+    ensures up { OnOk result (has ids.now.nodes a ≡ true × has ids.now.nodes b ≡ true) }
+    ensures known { OnOk result (first_of (strange_ends ids.now.nodes a b) ≡ None) }
+    ensures err { IfErr result (λ f. first_of (strange_ends ids.now.nodes a b) ≡ Some f) }
 {
-    match (ids.index_of(a), ids.index_of(b)) {
+    ids.lemma_are_ids();
+    match (ids.node_at(a), ids.node_at(b)) {
         (Some(i), Some(j)) => Ok((i, j)),
         (Some(_), None) => Err(TopoFault::StrangeNode(b)),
         (None, _) => Err(TopoFault::StrangeNode(a)),
@@ -63,9 +65,9 @@ pub fn end_indexes(ids: &Ids, a: u32, b: u32) -> Result<(usize, usize), TopoFaul
 
 /// Puts each link into the rows, or answers `TwiceLink` of the first that repeats an earlier one.
 fn link_all(ids: &Ids, links: &[(u32, u32)], near: &mut [Vec<usize>]) -> Result<(), TopoFault>
-    requires apart { AreApart ids.now links.now }
-    requires empty { AreJoined ids.now [] (map (λ row. row.items) near.old) }
-    ensures ok { OnOk result (AreJoined ids.now links.now (map (λ row. row.items) near.new)) }
+    requires apart { AreApart ids.now.ids links.now }
+    requires empty { AreJoined ids.now.ids [] (map (λ row. row.items) near.old) }
+    ensures ok { OnOk result (AreJoined ids.now.ids links.now (map (λ row. row.items) near.new)) }
     ensures err { IfErr result (λ f. f ≢ TopoFault.NoMemory → (p : ℕ × ℕ)
         × (f ≡ TopoFault.TwiceLink p.0 p.1) × IsFirstRepeat (ordered_links links.now) p) }
 {
@@ -82,8 +84,8 @@ fn link_all(ids: &Ids, links: &[(u32, u32)], near: &mut [Vec<usize>]) -> Result<
 
 /// The rows of these links of the ids, or `TwiceLink` of the first that repeats an earlier one.
 fn linked_rows(alloc: Global, ids: &Ids, links: &[(u32, u32)]) -> Result<Vec<Vec<usize>>, TopoFault>
-    requires apart { AreApart ids.now links.now }
-    ensures ok { IfOk result (λ near. AreJoined ids.now links.now (map (λ row. row.items) near.items)) }
+    requires apart { AreApart ids.now.ids links.now }
+    ensures ok { IfOk result (λ near. AreJoined ids.now.ids links.now (map (λ row. row.items) near.items)) }
     ensures err { IfErr result (λ f. f ≢ TopoFault.NoMemory → (p : ℕ × ℕ)
         × (f ≡ TopoFault.TwiceLink p.0 p.1) × IsFirstRepeat (ordered_links links.now) p) }
 {
@@ -101,11 +103,11 @@ pub fn checked_rows(
     links: &[(u32, u32)],
 ) -> Result<Vec<Vec<usize>>, TopoFault>
     ensures few { OnOk result (length links.now ≤ MAX_LINKS) }
-    ensures apart { OnOk result (AreApart ids.now links.now) }
+    ensures apart { OnOk result (AreApart ids.now.ids links.now) }
     ensures joined { IfOk result (λ near.
-        AreJoined ids.now links.now (map (λ row. row.items) near.items)) }
+        AreJoined ids.now.ids links.now (map (λ row. row.items) near.items)) }
     ensures err { IfErr result (λ f. f ≢ TopoFault.NoMemory → (nodes : List ℕ)
-        → AreSorted nodes ids.now → IsFirstFault nodes links.now f) }
+        → AreSorted nodes ids.now.ids → IsFirstFault nodes links.now f) }
 {
     ids.lemma_are_ids();
     if links.len() > MAX_LINKS {

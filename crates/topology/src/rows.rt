@@ -1,7 +1,7 @@
 ghost use Rattle.std.specs.Prelude.{◌≡◌, ◌≢◌, ◌==◌, ℕ, ◌<◌, ◌≤◌, false, not, IfOk, filter, length, map};
 ghost use Rattle.std.specs.List.Sorted.{IsStrictlyIncreasing};
-ghost use Rattle.topology.specs.Building.{Inserts, Links, Unlinks};
-ghost use Rattle.topology.specs.Rows.{AreRows, near_has};
+ghost use Rattle.topology.specs.Building.{Inserts, Isolates, Links, Unlinks};
+ghost use Rattle.topology.specs.Rows.{AreRows, near_has, row_at};
 
 use std::alloc::{AllocError, Global};
 
@@ -62,6 +62,19 @@ pub fn unlink(near: &mut [Vec<usize>], i: usize, j: usize)
 {
     remove_index(&mut near[i], j);
     remove_index(&mut near[j], i);
+}
+
+/// Takes an index out of all rows, and all indexes out of its row, which `row` has too.
+pub fn isolate(near: &mut [Vec<usize>], index: usize, row: &[usize])
+    requires rows { AreRows (length near.old) (map (λ row. row.items) near.old) }
+    requires within { index < length near.old }
+    requires row { row.now ≡ row_at (map (λ row. row.items) near.old) index }
+    ensures { Isolates (length near.old)
+        (map (λ row. row.items) near.old) index (map (λ row. row.items) near.new) }
+{
+    for other in row {
+        unlink(near, index, *other);
+    }
 }
 
 /// Rows with the same indexes.

@@ -1,8 +1,9 @@
 -- The registers that the nodes of a graph are booted with are one list.
-use Rattle.std.proofs.Common.{◌≡◌, ℕ, List, get_or, sym, ap₂, subst, subst₂, ◌∙◌, arith, ⊎_elim}
-use Rattle.std.proofs.lemmas.Bool.{cases_eq}
+use Rattle.std.proofs.Common.{◌≡◌, ℕ, ◌<◌, List, length, get_or, sym, ap₂, subst, subst₂, ◌∙◌, arith, ⊎_elim}
+use Rattle.std.proofs.lemmas.Bool.{both_ways, cases_Bool, cases_eq}
 use Rattle.std.proofs.lemmas.List.{same_lists}
-use Rattle.topology.specs.Graph.{Graph, IsDistance}
+use Rattle.topology.specs.Graph.{Graph, IsDistance, IsNode, is_node}
+use Rattle.topology.proofs.Membership.{Contains-has, has-Contains}
 use Rattle.topology.proofs.Walks.{same_distance}
 use Rattle.tree_layer.specs.BootTree.{AreBooted, IsBooted, IsNearer}
 use Rattle.tree_layer.specs.declared.regs.TreeRegs.{TreeRegs}
@@ -34,5 +35,13 @@ pub one_boot : (g : Graph) (trees others : List TreeRegs) → AreBooted g trees 
 one_boot g trees others a b =
     same_lists trees others (a.count ∙ sym b.count)
     (λ k d low.
-    one_regs g (get_or g.ids k 0) (get_or trees k d) (get_or others k d) (a.each k d low)
-    (b.each k d (omega (arith, low, a.count, b.count))))
+    let low_b : k < length others = omega (arith, low, a.count, b.count) in
+    let i : ℕ = get_or g.ids k 0 in
+    ⊎_elim
+    (λ up.
+    let node : IsNode g i = Contains-has g.nodes i up in
+    one_regs g i (get_or trees k d) (get_or others k d) (a.each k d low node) (b.each k d low_b node))
+    (λ none.
+    let down : IsNode g i → ⊥ = λ node. both_ways (is_node g i) none (has-Contains g.nodes i node) in
+    a.down k d low down ∙ sym (b.down k d low_b down))
+    (cases_Bool (is_node g i)))

@@ -214,7 +214,9 @@ module _ (g : Graph) (graph : IsGraph g) (t : ℕ → TreeRegs) (picture : TreeP
   dist_below : (i : ℕ) → IsNode g i → (t i).dist < length g.ids
   dist_below i node =
       length_above (λ k. (t k).dist) (suc (t i).dist) g.ids
-      (λ m low. at_distance ((t i).dist - m) m i node (omega arith))
+      (λ m low.
+      let at = at_distance ((t i).dist - m) m i node (omega arith) in
+      (at.0, graph.within at.0 at.1, at.2))
 
   module _ (K : ℕ) (room : length g.ids ≤ K) (i : ℕ) (node : IsNode g i) where
     no_claim : Claims g K t i → ⊥

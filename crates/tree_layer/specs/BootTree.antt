@@ -1,8 +1,9 @@
--- The tree registers that a node is booted with.
+-- The tree registers that an identifier is booted with.
 use Rattle.std.specs.Prelude.{◌≡◌, ◌≢◌, ℕ, ◌+◌, ◌<◌, ◌≤◌, List, length, slice_index, slice_index_or}
 use Rattle.topology.specs.Components.{leader}
-use Rattle.topology.specs.Graph.{Graph, AreLinked, IsDistance, IsLeader}
+use Rattle.topology.specs.Graph.{Graph, AreLinked, IsDistance, IsLeader, IsNode}
 use Rattle.tree_layer.specs.declared.regs.TreeRegs.{TreeRegs}
+use Rattle.tree_layer.specs.TreeRows.{claimed}
 
 -- j is a neighbour of i one step nearer to the root, which is d steps from i
 pub record IsNearer (g : Graph) (root d i j : ℕ) : Type 0 where
@@ -20,16 +21,24 @@ pub record IsBooted (g : Graph) (i : ℕ) (regs : TreeRegs) : Type 0 where
   pub father : i ≢ regs.root → IsNearer g regs.root regs.dist i regs.father
   pub least : (j : ℕ) → IsNearer g regs.root regs.dist i j → regs.father ≤ j
 
--- the registers of all nodes, in the order of the ids
+-- the registers of an identifier: of a node those that it is booted with, and of one that is down those of a
+-- node that claims to be the root
+pub record IsBootedOrDown (g : Graph) (i : ℕ) (regs : TreeRegs) : Type 0 where
+  pub up : IsNode g i → IsBooted g i regs
+  pub down : (IsNode g i → ⊥) → regs ≡ claimed i
+
+-- the registers of all identifiers, up or down, in their order
 pub record AreBooted (g : Graph) (trees : List TreeRegs) : Type 0 where
   pub count : length trees ≡ length g.ids
-  pub each : (ix : ℕ) (regs : TreeRegs) → ix < length trees
+  pub each : (ix : ℕ) (regs : TreeRegs) → ix < length trees → IsNode g (slice_index g.ids ix)
       → IsBooted g (slice_index g.ids ix) (slice_index_or trees ix regs)
+  pub down : (ix : ℕ) (regs : TreeRegs) → ix < length trees → (IsNode g (slice_index g.ids ix) → ⊥)
+      → slice_index_or trees ix regs ≡ claimed (slice_index g.ids ix)
 
 -- the distances of all nodes to their leaders, in the order of the ids
 pub record AreDistances (g : Graph) (distances : List ℕ) : Type 0 where
   pub count : length distances ≡ length g.ids
-  pub each : (k : ℕ) → k < length g.ids
+  pub each : (k : ℕ) → k < length g.ids → IsNode g (slice_index g.ids k)
       → IsDistance g (slice_index g.ids k) (leader g (slice_index g.ids k)) (slice_index distances k)
   pub below : (k : ℕ) → k < length g.ids → slice_index distances k < length g.ids
 

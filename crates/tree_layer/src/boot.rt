@@ -1,27 +1,32 @@
 // The booted spanning tree.
 
-ghost use Rattle.std.specs.Prelude.{◌≡◌, ℕ, ◌<◌, All, length, slice_index, IfOk, MatchOption, OnOk};
-ghost use Rattle.tree_layer.specs.BootTree.{AreBooted, AreDistances, IsBooted, IsFirstNearer, KeepsFound, NoneNearer};
+ghost use Rattle.std.specs.Prelude.{◌≡◌, ℕ, ◌<◌, ◌==◌, ◌&&◌, true, All, length, replicate, slice_index, IfOk, MatchOption};
+ghost use Rattle.std.specs.Prelude.{OnOk};
+ghost use Rattle.topology.specs.Components.{leader};
+ghost use Rattle.topology.specs.Graph.{is_node};
+ghost use Rattle.tree_layer.specs.BootTree.{AreBooted, AreDistances, IsBooted, IsBootedOrDown, IsFirstNearer, KeepsFound};
+ghost use Rattle.tree_layer.specs.BootTree.{NoneNearer};
 
 use crate::regs::TreeRegs;
 use std::alloc::{AllocError, Global};
 use topology::Topology;
 
-/// The registers of each node's place in the tree of shortest ways to the greatest id of its
-/// component, in the order of the ids: the root is that id, the distance the one in the graph, the
-/// father the least neighbour that is one step nearer, and the root's father the root itself.
+/// The registers of each identifier, in their order. Those of a node are its place in the tree of
+/// shortest ways to the greatest id of its component: the root is that id, the distance the one in
+/// the graph, the father the least neighbour that is one step nearer, and the root's father the root
+/// itself. An identifier that is down is its own root and father, at distance 0.
 pub fn boot_tree(alloc: Global, topology: &Topology) -> Result<Vec<TreeRegs>, AllocError>
     ensures { IfOk result (λ trees. AreBooted topology.now trees.items) }
 {
     let distances = leader_distances(alloc, topology)?;
     let mut trees = Vec::with_capacity(alloc, topology.len())?;
     for ix in 0..topology.len() {
-        trees.push(regs_at(topology, &distances, ix))?;
+        trees.push(booted_at(topology, &distances, ix))?;
     }
     Ok(trees)
 }
 
-// The distance of each node to its leader, by index.
+// The distance of each node to its leader, by index, and 0 where there is none.
 fn leader_distances(alloc: Global, topology: &Topology) -> Result<Vec<usize>, AllocError>
     ensures { IfOk result (λ distances. AreDistances topology.now distances.items) }
 {
@@ -36,17 +41,27 @@ fn fill_distances(
     topology: &Topology,
     distances: &mut [usize],
 ) -> Result<(), AllocError>
-    requires { length distances.old ≡ length topology.now.ids }
+    requires { distances.old ≡ replicate (length topology.now.ids) 0 }
     ensures { OnOk result (AreDistances topology.now distances.new) }
 {
     topology.lemma_is_graph();
     for index in 0..topology.len() {
-        if topology.greatest_of(index).get() == topology.ids()[index] {
+        if is_leader(topology, index) {
             let found = topology.distances_from(alloc, index)?;
             keep_found(&found, distances);
         }
     }
     Ok(())
+}
+
+// Whether the identifier at an index is up and the leader of its component.
+fn is_leader(topology: &Topology, index: usize) -> bool
+    requires { index < length topology.now.ids }
+    ensures { result
+        ≡ (is_node topology.now (slice_index topology.now.ids index)
+        && leader topology.now (slice_index topology.now.ids index) == slice_index topology.now.ids index) }
+{
+    topology.is_up(index) && topology.greatest_of(index).get() == topology.ids()[index]
 }
 
 // Keeps the distances that a search found.
@@ -61,9 +76,27 @@ fn keep_found(found: &[usize], distances: &mut [usize])
     }
 }
 
-// The registers of the node at an index, from the distances of all nodes to their leaders.
+// The registers of the identifier at an index, from the distances of all nodes to their leaders.
+fn booted_at(topology: &Topology, distances: &[usize], ix: usize) -> TreeRegs
+    requires place { ix < length topology.now.ids }
+    requires distances { AreDistances topology.now distances.now }
+    ensures { IsBootedOrDown topology.now (slice_index topology.now.ids ix) result }
+{
+    if topology.is_up(ix) {
+        return regs_at(topology, distances, ix);
+    }
+    let id = topology.ids()[ix];
+    TreeRegs {
+        root: id,
+        father: id,
+        dist: 0,
+    }
+}
+
+// The registers of the node at an index.
 fn regs_at(topology: &Topology, distances: &[usize], ix: usize) -> TreeRegs
     requires place { ix < length topology.now.ids }
+    requires up { is_node topology.now (slice_index topology.now.ids ix) ≡ true }
     requires distances { AreDistances topology.now distances.now }
     ensures { IsBooted topology.now (slice_index topology.now.ids ix) result }
 {

@@ -12,7 +12,8 @@ use tree_layer::TreeRegs;
 use wave_layer::WaveRegs;
 
 impl<P: Application> Config<P> {
-    ghost use Rattle.reset_model.specs.Configuration.{with_graph, with_local, with_tree, with_wave};
+    ghost use Rattle.reset_model.specs.Configuration.{with_local, with_tree, with_wave};
+    ghost use Rattle.reset_model.specs.Topologies.{with_topology};
 
     /// Puts tree registers at the node with this identifier, whatever they are, or refuses a
     /// `StrangeNode`.
@@ -21,7 +22,8 @@ impl<P: Application> Config<P> {
         ensures err { IfErr result (λ f. (f ≡ StepRefusal.StrangeNode) × (IsNode self.old.graph at → ⊥)) }
         ensures kept { OnErr result (self.new ≡ self.old) }
     {
-        match self.nodes.topology().index_of(at) {
+        self.nodes.lemma_is_graph();
+        match self.nodes.topology().node_at(at) {
             Some(ix) => {
                 self.set_tree(ix, regs);
                 Ok(())
@@ -37,7 +39,8 @@ impl<P: Application> Config<P> {
         ensures err { IfErr result (λ f. (f ≡ StepRefusal.StrangeNode) × (IsNode self.old.graph at → ⊥)) }
         ensures kept { OnErr result (self.new ≡ self.old) }
     {
-        match self.nodes.topology().index_of(at) {
+        self.nodes.lemma_is_graph();
+        match self.nodes.topology().node_at(at) {
             Some(ix) => {
                 self.set_wave(ix, regs, None);
                 Ok(())
@@ -53,7 +56,8 @@ impl<P: Application> Config<P> {
         ensures err { IfErr result (λ f. (f ≡ (StepRefusal.StrangeNode, local)) × (IsNode self.old.graph at → ⊥)) }
         ensures kept { OnErr result (self.new ≡ self.old) }
     {
-        match self.nodes.topology().index_of(at) {
+        self.nodes.lemma_is_graph();
+        match self.nodes.topology().node_at(at) {
             Some(ix) => {
                 self.set_local(ix, local);
                 Ok(())
@@ -62,16 +66,17 @@ impl<P: Application> Config<P> {
         }
     }
 
-    /// Puts a topology of the same nodes, whatever its links. The modulus, registers and local states stay, and
-    /// an open or a join puts from now on the start state of this topology. Where memory is wanting the
-    /// topology comes back.
+    /// Puts a topology of the same identifiers, whatever its links and whichever of them are up. A node that comes
+    /// up starts anew: it is its own root, normal in session 0, and has its start state. The modulus and the others'
+    /// registers and local states stay, and an open or a join puts from now on the start state of this topology.
+    /// Where memory is wanting the topology comes back.
     pub fn put_topology(
         &mut self,
         alloc: Global,
         topology: Topology,
     ) -> Result<(), AllocFailed<Topology>>
         requires { topology.ids ≡ self.old.graph.ids }
-        ensures ok { OnOk result (self.new ≡ with_graph self.old topology) }
+        ensures ok { OnOk result (self.new ≡ with_topology P.app self.old topology) }
         ensures value_returned { IfErr result (λ e. e.value ≡ topology) }
         ensures kept { OnErr result (self.new ≡ self.old) }
     {

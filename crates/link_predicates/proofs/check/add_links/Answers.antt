@@ -1,6 +1,6 @@
 use Rattle.std.proofs.Common.{◌≡◌, ℕ, ◌++◌, Global, Vec, append-nil, flat_map, map, slice_index, subst, sym, take_all}
 use Rattle.std.proofs.Common.{ap, ◌∙◌}
-use Rattle.topology.specs.Graph.{Graph, AreLinked, are_linked, neighbours_of}
+use Rattle.topology.specs.Graph.{Graph, AreLinked, are_linked, neighbours_of, node_bound}
 use Rattle.reset_machine.proofs.CaseArguments.{near_passes}
 use Rattle.reset_machine.proofs.NearSeen.{at_indexes}
 use Rattle.reset_model.specs.View.{Neighbour, near_of}
@@ -41,12 +41,12 @@ loop-near-preserved g c =
     λ K m other. c.if-not-is_quiet.found.items ≡ before ++ link_faults app K m own other in
     let there = near_of app config (slice_index ids (slice_index near index)) in
     let told : (other : Neighbour g.row.P-Local.Denot) → other ≡ there → Told limits.k limits.modulus other
-    → Told config.graph.bound config.modulus there = λ other is added.
-    subst (λ m. Told config.graph.bound m there) c.limits_of-limits.ensures.modulus
+    → Told (node_bound config.graph) config.modulus there = λ other is added.
+    subst (λ m. Told (node_bound config.graph) m there) c.limits_of-limits.ensures.modulus
     (subst (λ K. Told K limits.modulus there) c.limits_of-limits.ensures.bound
     (subst (Told limits.k limits.modulus) is added)) in
-    let more = λ (added : Told config.graph.bound config.modulus there).
-    more_told_at (near_of app config) (link_faults app config.graph.bound config.modulus own) ids near index _ before _
+    let more = λ (added : Told (node_bound config.graph) config.modulus there).
+    more_told_at (near_of app config) (link_faults app (node_bound config.graph) config.modulus own) ids near index _ before _
     c.loop-near-test.true added c.loop-near.invariant in
     elim c.if-not-is_quiet.branch [
       | then-not-is_quiet+in_ok-add_link w ↦ more
@@ -69,6 +69,6 @@ returns g c =
     let all = take_all c.loop-near.near-index near c.loop-near-test.false in
     c.loop-near.invariant
     ∙ ap (λ ns. c.args.found.now.items
-    ++ flat_map (link_faults app graph.bound config.modulus c.args.own.now) (at_indexes (near_of app config) graph.ids ns)) all
+    ++ flat_map (link_faults app (node_bound graph) config.modulus c.args.own.now) (at_indexes (near_of app config) graph.ids ns)) all
     ∙ ap (λ js. c.args.found.now.items
-    ++ flat_map (link_faults app graph.bound config.modulus c.args.own.now) (map (near_of app config) js)) lists
+    ++ flat_map (link_faults app (node_bound graph) config.modulus c.args.own.now) (map (near_of app config) js)) lists

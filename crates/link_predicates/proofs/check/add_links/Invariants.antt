@@ -10,5 +10,5 @@ invariant-loop-near g l =
     let app = g.P.Application.app in
     l.found.items
     ≡ l.initial.found.items
-    ++ flat_map (link_faults app l.config.graph.bound l.config.modulus l.own)
+    ++ flat_map (link_faults app (node_bound l.config.graph) l.config.modulus l.own)
     (at_indexes (near_of app l.config) l.config.graph.ids (take l.near-index l.near-items))

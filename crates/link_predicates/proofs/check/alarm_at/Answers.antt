@@ -1,7 +1,7 @@
 use Rattle.std.proofs.Common.{◌≡◌, ◌+◌, drop, find, flat_map, map, slice_index, subst, sym, ap, ap₂, ◌∙◌}
 use Rattle.std.specs.Option.{option_or}
 use Rattle.std.proofs.lemmas.List.{at_drop_all}
-use Rattle.topology.specs.Graph.{Graph, neighbours_of}
+use Rattle.topology.specs.Graph.{Graph, neighbours_of, node_bound}
 use Rattle.reset_machine.proofs.NearSeen.{at_indexes}
 use Rattle.reset_model.specs.View.{Neighbour, near_of}
 use Rattle.link_predicates.specs.Faults.{is_of_app, link_faults}
@@ -32,7 +32,7 @@ returns-then-is_some g c =
     (flat_map (link_faults app K m c.end_at-own.result) (at_indexes (near_of app config) graph.ids near)))
     c.limits_of-limits.ensures.bound c.limits_of-limits.ensures.modulus
     ∙ ap (λ (n : Neighbour g.row.P-Local.Denot). find is_of_app
-    (flat_map (link_faults app graph.bound config.modulus n) (at_indexes (near_of app config) graph.ids near)))
+    (flat_map (link_faults app (node_bound graph) config.modulus n) (at_indexes (near_of app config) graph.ids near)))
     c.end_at-own.ensures
     ∙ alarm_is app config i near (subst Lists c.topology.ensures c.neighbours-near-items.ensures.ids)
 
@@ -72,6 +72,6 @@ returns g c =
     (flat_map (link_faults app K m c.end_at-own.result) (at_indexes (near_of app config) graph.ids near)))
     c.limits_of-limits.ensures.bound c.limits_of-limits.ensures.modulus
     ∙ ap (λ (n : Neighbour g.row.P-Local.Denot). find is_of_app
-    (flat_map (link_faults app graph.bound config.modulus n) (at_indexes (near_of app config) graph.ids near)))
+    (flat_map (link_faults app (node_bound graph) config.modulus n) (at_indexes (near_of app config) graph.ids near)))
     c.end_at-own.ensures
     ∙ alarm_is app config i near (subst Lists c.topology.ensures c.neighbours-near-items.ensures.ids)

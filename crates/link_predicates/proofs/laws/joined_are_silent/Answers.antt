@@ -1,6 +1,6 @@
-use Rattle.std.proofs.Common.{◌≤◌, length, sym, subst}
+use Rattle.std.proofs.Common.{◌≤◌, ap, length, sym, subst, arith}
 use Rattle.topology.specs.Components.{component}
-use Rattle.topology.specs.Graph.{IsGraph, IsNode}
+use Rattle.topology.specs.Graph.{AreLinked, IsGraph, IsNode, node_bound}
 use Rattle.topology.proofs.Components.{component_is, reached_itself}
 use Rattle.reset_model.specs.Refinement.{abstract_of}
 use Rattle.link_predicates.proofs.Silence.{silent}
@@ -13,8 +13,9 @@ returns-clause-invariant g c = λ config i graph inv joined.
     silent app config graph i joined
     (λ j linked.
     let part = component_is config.graph i graph (graph.ends i j linked) in
-    let few = subst (λ K. length (component config.graph i).ids ≤ K) part.bound part.as_graph.bounded in
-    (laws.quiet (component config.graph i) config.graph.bound part.as_graph few).at (abstract_of app config) inv i j
+    let few : length (component config.graph i).ids ≤ node_bound config.graph =
+    omega (arith, ap (λ xs. length xs) part.ids) in
+    (laws.quiet (component config.graph i) (node_bound config.graph) part.as_graph few).at (abstract_of app config) inv i j
     ((part.same_links i j).1 (reached_itself config.graph i, linked)))
 
 pub returns-clause-opened : goal.returns-clause-opened
@@ -30,6 +31,7 @@ returns-clause-opened g c = λ before after es ds i o graph shaped sound run rea
     c.invariants.ensures.opened before after es ds graph shaped sound run i (subst (λ h. IsNode h i) kept.0 node) o
     reached opened in
     let part = component_is after.graph i there node in
-    let few = subst (λ K. length (component after.graph i).ids ≤ K) part.bound part.as_graph.bounded in
-    (laws.quiet (component after.graph i) after.graph.bound part.as_graph few).at (abstract_of app after) inv i j
+    let few : length (component after.graph i).ids ≤ node_bound after.graph =
+    omega (arith, ap (λ xs. length xs) part.ids) in
+    (laws.quiet (component after.graph i) (node_bound after.graph) part.as_graph few).at (abstract_of app after) inv i j
     ((part.same_links i j).1 (reached_itself after.graph i, linked)))

@@ -9,4 +9,4 @@ returns-in_default-clause-exact g c = λ _.
     let config = c.args.nodes.now in
     let app = g.P.Application.app in
     acted_of-strange_node app config.graph (node_bound config.graph) (wave_of config) (local_of app config) c.args.at
-    c.args.arguments.case c.args.arguments.with (no_node config.graph.ids c.args.at c.in_default.ensures.none)
+    c.args.arguments.case c.args.arguments.with (no_node config.graph.nodes c.args.at c.in_default.ensures.none)

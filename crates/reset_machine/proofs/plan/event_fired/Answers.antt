@@ -11,7 +11,7 @@ returns-in_default-clause-exact g c = λ _.
     let none = rw c.node.ensures at c.in_default.ensures.none in
     event_fired-strange_node config.graph (node_bound config.graph) config.modulus (tree_of config) (wave_of config)
     c.args.event
-    (no_node config.graph.ids _ none)
+    (no_node config.graph.nodes _ none)
 
 pub returns-in-Ok-clause-exact : goal.returns-in-Ok-clause-exact
 returns-in-Ok-clause-exact g c =

@@ -1,15 +1,11 @@
-use Rattle.std.proofs.Common.{arith, ap₂, ◌∙◌}
-use Rattle.reset_machine.specs.Enabled.{is_ready}
+use Rattle.std.proofs.Common.{arith}
 use Rattle.reset_machine.proofs.Locality.{known_settled}
 use Rattle.reset_machine.proofs.ready.settle_all.Goals as goal
 
 pub loop-index-preserved : goal.loop-index-preserved
 loop-index-preserved g c =
-    let app = g.P.Application.app in
-    known_settled app c.args.nodes.now c.loop-index.standing c.settle.new.self c.in_ok-ready.ready c.in-Some.index
-    c.in-Some.ensures.last.0
-    (c.in_ok-ready.ensures ∙ ap₂ (is_ready app) c.at-place.ensures.config c.at-place.ensures.id) c.loop-index.invariant
-    c.settle.ensures
+    known_settled g.P.Application.app c.args.nodes.now c.loop-index.standing c.settle.new.self c.in_ok-ready.ready
+    c.in-Some.index c.in-Some.ensures.last.0 c.in_ok-ready.ensures c.loop-index.invariant c.settle.ensures
 
 pub loop-index-smaller : goal.loop-index-smaller
 loop-index-smaller g c = omega (arith, c.settle.ensures.fewer, c.in-Some.ensures.some)

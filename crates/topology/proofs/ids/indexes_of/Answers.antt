@@ -26,9 +26,14 @@ loop-index-preserved c =
           )),
     )
 
-pub returns : goal.returns
-returns c =
+pub returns-clause-indexes : goal.returns-clause-indexes
+returns-clause-indexes c =
     let ids = c.args.ids.now in
     let same : c.loop-index.index ≡ length ids = omega (arith, c.loop-index-test.false, c.loop-index.auto.index-end) in
     has_all ids c.requires.ascending c.loop-index.indexes.items
     (subst (λ n. HasFirst ids n c.loop-index.indexes.items) same c.loop-index.invariant.1)
+
+pub returns-clause-room : goal.returns-clause-room
+returns-clause-room c =
+    λ k low.
+    omega (arith, at_most_last c.args.ids.now c.requires.ascending k low, c.loop-index.invariant.0)

@@ -1,5 +1,4 @@
 use Rattle.std.proofs.Common.{◌≡◌, ℕ, ◌+◌, ◌-◌, ◌<◌, length, sym, subst, arith, ◌∙◌}
-use Rattle.topology.specs.Rows.{AreRows}
 use Rattle.topology.specs.Searching.{AreDistances, LeadsReached}
 use Rattle.topology.proofs.Inserting.{rows_of}
 use Rattle.topology.proofs.Leading.{AreLed, led_all, led_more, led_same}
@@ -7,14 +6,14 @@ use Rattle.topology.proofs.leaders.fill_leaders.Goals as goal
 
 pub loop-start-preserved-then-leaders-start : goal.loop-start-preserved-then-leaders-start
 loop-start-preserved-then-leaders-start c =
-    λ ids as_ids same.
+    λ ids nodes tied same.
     let rows = rows_of c.args.near.now in
     let start : ℕ = c.loop-start.start - 1 in
     let next : c.loop-start.start ≡ start + 1 = omega (arith, c.loop-start-test.true) in
     let marks = c.in_ok-distances.distances.items in
-    led_more ids rows as_ids (subst (λ n. AreRows n rows) (sym same) c.requires.rows) start
+    led_more ids nodes rows tied start
     (omega (arith, same, c.loop-start-test.true, c.loop-start.auto.start)) c.loop-start.leaders
-    (subst (λ s. AreLed ids rows s c.loop-start.leaders) next (c.loop-start.invariant ids as_ids same))
+    (subst (λ s. AreLed ids nodes rows s c.loop-start.leaders) next (c.loop-start.invariant ids nodes tied same))
     (c.if-leaders-start.true ∙ sym same) marks
     (subst (λ n. AreDistances n rows start marks) (sym same) c.in_ok-distances.ensures) c.lead_reached.new.leaders
     (subst (λ ds. LeadsReached ds start c.loop-start.leaders c.lead_reached.new.leaders) c.deref.ensures.value
@@ -22,20 +21,20 @@ loop-start-preserved-then-leaders-start c =
 
 pub loop-start-preserved : goal.loop-start-preserved
 loop-start-preserved c =
-    λ ids as_ids same.
+    λ ids nodes tied same.
     let rows = rows_of c.args.near.now in
     let start : ℕ = c.loop-start.start - 1 in
     let next : c.loop-start.start ≡ start + 1 = omega (arith, c.loop-start-test.true) in
-    let led = subst (λ s. AreLed ids rows s c.loop-start.leaders) next (c.loop-start.invariant ids as_ids same) in
+    let led = subst (λ s. AreLed ids nodes rows s c.loop-start.leaders) next (c.loop-start.invariant ids nodes tied same) in
     let start_in : start < length ids = omega (arith, same, c.loop-start-test.true, c.loop-start.auto.start) in
-    led_same ids rows as_ids (subst (λ n. AreRows n rows) (sym same) c.requires.rows) start start_in
+    led_same ids nodes rows tied start start_in
     c.loop-start.leaders led
     (omega (arith, same, led.small start start_in, c.if-leaders-start.false))
 
 pub returns : goal.returns
 returns c =
-    λ ids as_ids same.
+    λ ids nodes tied same.
     let rows = rows_of c.args.near.now in
     let done : c.loop-start.start ≡ 0 = omega (arith, c.loop-start-test.false) in
-    led_all ids rows as_ids (subst (λ n. AreRows n rows) (sym same) c.requires.rows) c.loop-start.leaders
-    (subst (λ s. AreLed ids rows s c.loop-start.leaders) done (c.loop-start.invariant ids as_ids same))
+    led_all ids nodes rows tied c.loop-start.leaders
+    (subst (λ s. AreLed ids nodes rows s c.loop-start.leaders) done (c.loop-start.invariant ids nodes tied same))

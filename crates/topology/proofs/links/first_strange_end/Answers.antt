@@ -10,7 +10,7 @@ use Rattle.topology.proofs.links.first_strange_end.Goals as goal
 
 pub returns-then-is_none : goal.returns-then-is_none
 returns-then-is_none c =
-    let ids = c.args.ids.now in
+    let ids = c.args.ids.now.ids in
     let links = c.args.links.now in
     let k = c.loop-a.a-index in
     let strange : has ids (get_or links k (0, 0)).0 ≡ false =
@@ -22,7 +22,7 @@ returns-then-is_none c =
 
 pub returns-then-is_none-2 : goal.returns-then-is_none-2
 returns-then-is_none-2 c =
-    let ids = c.args.ids.now in
+    let ids = c.args.ids.now.ids in
     let links = c.args.links.now in
     let k = c.loop-a.a-index in
     let known : has ids (get_or links k (0, 0)).0 ≡ true =
@@ -37,7 +37,7 @@ returns-then-is_none-2 c =
 
 pub loop-a-preserved : goal.loop-a-preserved
 loop-a-preserved c =
-    let ids = c.args.ids.now in
+    let ids = c.args.ids.now.ids in
     let links = c.args.links.now in
     let k = c.loop-a.a-index in
     both_ends links k c.loop-a-test.true (λ x. has ids x ≡ true) c.loop-a.invariant
@@ -47,5 +47,5 @@ loop-a-preserved c =
 
 pub returns : goal.returns
 returns c =
-    subst (λ ls. All (λ x. has c.args.ids.now x ≡ true) (ends_of ls))
+    subst (λ ls. All (λ x. has c.args.ids.now.ids x ≡ true) (ends_of ls))
     (take_all c.loop-a.a-index c.args.links.now c.loop-a-test.false) c.loop-a.invariant

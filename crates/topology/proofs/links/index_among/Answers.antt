@@ -6,11 +6,11 @@ use Rattle.topology.proofs.links.index_among.Goals as goal
 pub unwrap-requires : goal.unwrap-requires
 unwrap-requires c =
     let found : is_some c.index_of.result ≡ true =
-    member_by_index c.args.ids.now c.args.id c.index_of.result c.index_of.ensures ∙ c.requires in
+    member_by_index c.args.ids.now.ids c.args.id c.index_of.result c.index_of.ensures ∙ c.requires in
     search rules
 
 pub returns-clause-value : goal.returns-clause-value
 returns-clause-value c =
     eqb-true _ _
-    (position-Some (λ i. i == c.args.id) c.args.ids.now c.unwrap.result 0
+    (position-Some (λ i. i == c.args.id) c.args.ids.now.ids c.unwrap.result 0
     (sym c.index_of.ensures ∙ c.unwrap.ensures)).1

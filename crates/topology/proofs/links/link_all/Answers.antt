@@ -12,18 +12,18 @@ use Rattle.topology.proofs.links.link_all.Goals as goal
 
 pub index_among-i-requires : goal.index_among-i-requires
 index_among-i-requires c =
-    (ends_known c.args.links.now c.loop-a.a-index c.loop-a-test.true (λ x. has c.args.ids.now x ≡ true)
+    (ends_known c.args.links.now c.loop-a.a-index c.loop-a-test.true (λ x. has c.args.ids.now.ids x ≡ true)
     c.requires.apart.known).0
 
 pub index_among-j-requires : goal.index_among-j-requires
 index_among-j-requires c =
-    (ends_known c.args.links.now c.loop-a.a-index c.loop-a-test.true (λ x. has c.args.ids.now x ≡ true)
+    (ends_known c.args.links.now c.loop-a.a-index c.loop-a-test.true (λ x. has c.args.ids.now.ids x ≡ true)
     c.requires.apart.known).1
 
 pub returns-then-not-branch-clause-err : goal.returns-then-not-branch-clause-err
 returns-then-not-branch-clause-err c =
     let links = c.args.links.now in
-    let ids = c.args.ids.now in
+    let ids = c.args.ids.now.ids in
     let k = c.loop-a.a-index in
     let count : length c.loop-a.near ≡ length ids =
     sym (length-map c.loop-a.near (λ row. row.items)) ∙ c.loop-a.invariant.as_rows.count in
@@ -37,7 +37,7 @@ returns-then-not-branch-clause-err c =
     let earlier : Contains (ordered_links (take k links)) (min l.0 l.1, max l.0 l.1) =
     subst₂ (λ a b. Contains (ordered_links (take k links)) (min a b, max a b)) c.index_among-i.ensures.value
     c.index_among-j.ensures.value
-    (link_repeated ids c.lemma_are_ids.ensures.ascending
+    (link_repeated ids c.lemma_are_ids.ensures.ids.ascending
     (take k links) (rows_of c.loop-a.near) (rows_of c.link.new.near)
     c.loop-a.invariant i j c.index_among-i.ensures.within c.index_among-j.ensures.within put) in
     let repeat : IsFirstRepeat (ordered_links links) (min l.0 l.1, max l.0 l.1) =
@@ -49,7 +49,7 @@ returns-then-not-branch-clause-err c =
 pub loop-a-preserved : goal.loop-a-preserved
 loop-a-preserved c =
     let links = c.args.links.now in
-    let ids = c.args.ids.now in
+    let ids = c.args.ids.now.ids in
     let k = c.loop-a.a-index in
     let count : length c.loop-a.near ≡ length ids =
     sym (length-map c.loop-a.near (λ row. row.items)) ∙ c.loop-a.invariant.as_rows.count in
@@ -59,7 +59,7 @@ loop-a-preserved c =
     (rows_of c.link.new.near)) count c.if-not-branch.false c.in_ok-link.ensures in
     subst (λ (ls : List (ℕ × ℕ)). AreJoined ids ls (rows_of c.link.new.near))
     (sym (take_more links k (0, 0) c.loop-a-test.true))
-    (joined_more ids c.lemma_are_ids.ensures.ascending (take k links) (rows_of c.loop-a.near) (rows_of c.link.new.near)
+    (joined_more ids c.lemma_are_ids.ensures.ids.ascending (take k links) (rows_of c.loop-a.near) (rows_of c.link.new.near)
     c.loop-a.invariant c.index_among-i.result c.index_among-j.result
     c.index_among-i.ensures.within c.index_among-j.ensures.within (get_or links k (0, 0)) c.index_among-i.ensures.value
     c.index_among-j.ensures.value put)

@@ -8,4 +8,4 @@ returns g c =
     let read = rw c.locals.ensures.value at c.index-locals-self.is in
     rw (← c.self.view_is)
     (read_at-position (g.P.Application.app.start now.graph place.id) now.graph.ids now.locals place.index place.id _
-    c.locals.ensures.shaped.locals c.self.invariant read)
+    c.locals.ensures.shaped.locals c.self.invariant.0 read)

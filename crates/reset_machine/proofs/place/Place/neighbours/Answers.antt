@@ -9,4 +9,4 @@ returns-clause-ids g c =
     let graph = place.nodes.now.graph in
     let near = rw c.topology.ensures at c.neighbours.ensures.ids in
     rw (← c.self.view_is)
-    (near ∙ ap (neighbours_of graph) (id_at-position graph.ids place.index place.id c.self.invariant))
+    (near ∙ ap (neighbours_of graph) (id_at-position graph.ids place.index place.id c.self.invariant.0))

@@ -1,12 +1,18 @@
 use Rattle.std.proofs.Common.{sym}
-use Rattle.reset_model.proofs.Positions.{Contains-position, position-Contains}
+use Rattle.reset_model.proofs.NodePositions.{no_node_placed, node_placed}
 use Rattle.reset_machine.proofs.place.Place.of.Goals as goal
+
+pub invariant_of-result : goal.invariant_of-result
+invariant_of-result g c =
+    let placed =
+    node_placed c.args.nodes.now.graph c.args.id _ (rw c.topology.ensures at (sym c.in-Some.ensures)) in
+    (placed.1, placed.0)
 
 pub returns-in-Some-clause-node : goal.returns-in-Some-clause-node
 returns-in-Some-clause-node g c =
-    rw (← c.topology.ensures) (Contains-position c.topology.result.now.ids c.args.id _ (sym c.in-Some.ensures))
+    (node_placed c.args.nodes.now.graph c.args.id _ (rw c.topology.ensures at (sym c.in-Some.ensures))).0
 
 pub returns-in-None-clause-none : goal.returns-in-None-clause-none
 returns-in-None-clause-none g c =
-    rw (← c.topology.ensures)
-    (λ node. position-Contains c.topology.result.now.ids c.args.id node (sym c.in-None.ensures))
+    no_node_placed c.args.nodes.now.graph c.lemma_is_graph.ensures.graph c.args.id
+    (rw c.topology.ensures at (sym c.in-None.ensures))

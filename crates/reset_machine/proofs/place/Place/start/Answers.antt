@@ -12,5 +12,5 @@ returns g c =
     let read = rw c.starts.ensures at c.index-starts-self.is in
     rw (← c.self.view_is)
     (read ∙ get_or-map start graph.ids place.index 0 _
-    (position-Some (λ i. i == place.id) graph.ids place.index 0 c.self.invariant).0
-    ∙ ap start (id_at-position graph.ids place.index place.id c.self.invariant))
+    (position-Some (λ i. i == place.id) graph.ids place.index 0 c.self.invariant.0).0
+    ∙ ap start (id_at-position graph.ids place.index place.id c.self.invariant.0))

@@ -8,4 +8,4 @@ returns g c =
     let now = place.nodes.now in
     rw (← c.self.view_is, c.trees.ensures.value)
     (sym (value_at-position (record { root = 0; father = 0; dist = 0 }) now.graph.ids now.trees place.index place.id
-    c.trees.ensures.shaped.trees c.self.invariant))
+    c.trees.ensures.shaped.trees c.self.invariant.0))

@@ -9,4 +9,4 @@ returns g c =
     let now = place.nodes.now in
     rw (← c.self.view_is, c.waves.ensures.value)
     (sym (value_at-position (record { phase = Normal; session = 0 }) now.graph.ids now.waves place.index place.id
-    c.waves.ensures.shaped.waves c.self.invariant))
+    c.waves.ensures.shaped.waves c.self.invariant.0))

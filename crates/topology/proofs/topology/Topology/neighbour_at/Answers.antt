@@ -1,21 +1,22 @@
 use Rattle.std.proofs.Common.{◌≡◌, ◌==◌, ◌<◌, Some, length, position, subst, ap, sym, ◌∙◌, nat_cmp}
 use Rattle.std.specs.List.Sorted.{IsBinarySearchResult}
-use Rattle.topology.specs.Graph.{Graph}
-use Rattle.topology.proofs.RowLemmas.{linked_by_search, unlinked_second}
+use Rattle.topology.specs.Graph.{Graph, node_at}
+use Rattle.topology.proofs.RowLemmas.{linked_by_search, no_node_index, node_index, strange_second}
 use Rattle.topology.proofs.topology.Topology.neighbour_at.Goals as goal
 
 pub returns-in-Some-clause-found : goal.returns-in-Some-clause-found
 returns-in-Some-clause-found c =
     let are = c.self.invariant in
-    let ids = c.self.inside.ids in
+    let ids = c.self.inside.ids.ids in
     let j = c.in-Some.neighbour in
     let within : c.args.index < length ids =
     subst (λ (g : Graph). c.args.index < length g.ids) (sym c.self.view_is) c.requires in
     let is_index : Some j ≡ position (λ i. i == c.args.id) ids =
-    c.in-Some.ensures ∙ ap (λ g. position (λ i. i == c.args.id) g.ids) (sym c.self.view_is) in
+    (node_index ids c.self.inside.ids.nodes c.args.id j
+    (c.in-Some.ensures ∙ ap (λ g. node_at g c.args.id) (sym c.self.view_is))).0 in
     rw (← c.self.view_is) (
       sym is_index,
-      sym (linked_by_search ids _ are.as_rows are.as_ids.ascending c.args.index c.index.result.now within
+      sym (linked_by_search ids _ are.tied.as_rows are.tied.as_ids.ascending c.args.index c.index.result.now within
           c.index.ensures c.args.id j is_index c.binary_search.result
           (subst (λ xs. IsBinarySearchResult (λ y. nat_cmp y j) xs c.binary_search.result) c.deref.ensures.value
           c.binary_search.ensures.position))
@@ -25,14 +26,15 @@ returns-in-Some-clause-found c =
 pub returns-in_default-clause-none : goal.returns-in_default-clause-none
 returns-in_default-clause-none c =
     let are = c.self.invariant in
-    let ids = c.self.inside.ids in
+    let ids = c.self.inside.ids.ids in
     let j = c.in-Some.neighbour in
     let within : c.args.index < length ids =
     subst (λ (g : Graph). c.args.index < length g.ids) (sym c.self.view_is) c.requires in
     let is_index : Some j ≡ position (λ i. i == c.args.id) ids =
-    c.in-Some.ensures ∙ ap (λ g. position (λ i. i == c.args.id) g.ids) (sym c.self.view_is) in
+    (node_index ids c.self.inside.ids.nodes c.args.id j
+    (c.in-Some.ensures ∙ ap (λ g. node_at g c.args.id) (sym c.self.view_is))).0 in
     rw (← c.self.view_is)
-    (sym (linked_by_search ids _ are.as_rows are.as_ids.ascending c.args.index c.index.result.now within c.index.ensures
+    (sym (linked_by_search ids _ are.tied.as_rows are.tied.as_ids.ascending c.args.index c.index.result.now within c.index.ensures
     c.args.id j is_index c.binary_search.result
     (subst (λ xs. IsBinarySearchResult (λ y. nat_cmp y j) xs c.binary_search.result) c.deref.ensures.value
     c.binary_search.ensures.position))
@@ -42,6 +44,6 @@ pub returns-in_default-2-clause-none : goal.returns-in_default-2-clause-none
 returns-in_default-2-clause-none c =
     let are = c.self.invariant in
     rw (← c.self.view_is)
-    (sym (unlinked_second _ _ are.as_ids.ascending are.as_rows _ c.args.id
-    (sym c.in_default.is ∙ c.index_of.ensures
-    ∙ ap (λ g. position (λ k. k == c.args.id) g.ids) (sym c.self.view_is))))
+    (strange_second _ c.self.inside.ids.nodes _ are.tied _ c.args.id
+    (no_node_index _ c.self.inside.ids.nodes are.tied.as_nodes c.args.id
+    (sym c.in_default.is ∙ c.node_at.ensures ∙ ap (λ g. node_at g c.args.id) (sym c.self.view_is))))

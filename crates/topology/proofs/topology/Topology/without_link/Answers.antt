@@ -10,16 +10,16 @@ use Rattle.topology.proofs.topology.Topology.without_link.Goals.{In_ok-copy}
 
 -- what is made of the rows without the link
 made_of : (c : In_ok-copy)
-    → Made c.in_ok-copy.field-0 (rows_of (with_items c.in_ok-rows.rows c.unlink.new.near).items)
+    → Made c.in_ok-copy.field-0.ids c.in_ok-copy.field-0.nodes
+    (rows_of (with_items c.in_ok-rows.rows c.unlink.new.near).items)
     c.in_ok-leaders.leaders.items (c.self.inside.link_count - 1)
-    (without_link (graph_of c.self.inside.ids (rows_of c.self.inside.near.items)) c.args.a c.args.b)
+    (without_link (graph_of c.self.inside.ids.ids c.self.inside.ids.nodes (rows_of c.self.inside.near.items)) c.args.a
+    c.args.b)
 made_of c =
     without_link_made c.self.inside.ids c.self.inside.near.items c.self.inside.leaders.items c.self.inside.link_count
-    c.self.invariant c.args.a
-    c.args.b c.in-Ok.ends.0 c.in-Ok.ends.1
-    c.in-Ok.ensures.ok.0 c.in-Ok.ensures.ok.1 c.deref.result.now c.deref.ensures.value c.in_ok-rows.rows
-    c.in_ok-rows.ensures
-    c.deref_mut.result.now c.deref_mut.ensures.value c.unlink.new.near c.unlink.ensures
+    c.self.invariant c.deref.result.now c.deref.ensures.value c.in_ok-rows.rows c.in_ok-rows.ensures
+    c.deref_mut.result.now c.deref_mut.ensures.value c.unlink.new.near
+    c.args.a c.args.b c.in-Ok.ends.0 c.in-Ok.ends.1 c.in-Ok.ensures.ok.0 c.in-Ok.ensures.ok.1 c.unlink.ensures
     (ap (λ g. are_linked g c.args.a c.args.b) c.self.view_is ∙ sym c.linked.ensures ∙ c.if-not-linked.false)
     c.deref-2.result.now c.deref-2.ensures.value c.in_ok-leaders.leaders.items c.in_ok-leaders.ensures
     c.in_ok-copy.field-0 c.in_ok-copy.ensures
@@ -27,11 +27,9 @@ made_of c =
 pub overflow_sub-result : goal.overflow_sub-result
 overflow_sub-result c =
     some_link c.self.inside.ids c.self.inside.near.items c.self.inside.leaders.items c.self.inside.link_count
-    c.self.invariant c.args.a
-    c.args.b c.in-Ok.ends.0 c.in-Ok.ends.1
-    c.in-Ok.ensures.ok.0 c.in-Ok.ensures.ok.1 c.deref.result.now c.deref.ensures.value c.in_ok-rows.rows
-    c.in_ok-rows.ensures
-    c.deref_mut.result.now c.deref_mut.ensures.value c.unlink.new.near c.unlink.ensures
+    c.self.invariant c.deref.result.now c.deref.ensures.value c.in_ok-rows.rows c.in_ok-rows.ensures
+    c.deref_mut.result.now c.deref_mut.ensures.value c.unlink.new.near
+    c.args.a c.args.b c.in-Ok.ends.0 c.in-Ok.ends.1 c.in-Ok.ensures.ok.0 c.in-Ok.ensures.ok.1 c.unlink.ensures
     (ap (λ g. are_linked g c.args.a c.args.b) c.self.view_is ∙ sym c.linked.ensures ∙ c.if-not-linked.false)
 
 pub invariant_of-result : goal.invariant_of-result

@@ -3,8 +3,8 @@ use Rattle.std.proofs.lemmas.Bool.{lt-ltb, le-ltb}
 use Rattle.action_tables.specs.Numbers.{is_among}
 use Rattle.reset_machine.proofs.CaseArguments.{or_left, or_right}
 use Rattle.reset_machine.proofs.Readiness.{work_counted, or_true, or_false}
-use Rattle.reset_machine.proofs.enabled.Enabled.is_ready.Goals.{then-count-gt0, else-count-gt0}
-use Rattle.reset_machine.proofs.enabled.Enabled.is_ready.Goals as goal
+use Rattle.reset_machine.proofs.enabled.Enabled.has_any.Goals.{then-count-gt0, else-count-gt0}
+use Rattle.reset_machine.proofs.enabled.Enabled.has_any.Goals as goal
 
 pub returns-then-count-count_of : goal.returns-then-count-count_of
 returns-then-count-count_of c =

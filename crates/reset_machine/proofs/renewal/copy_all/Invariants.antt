@@ -1,5 +1,5 @@
 use Rattle.std.proofs.Common.{◌≡◌, take}
-use Rattle.reset_machine.proofs.nodes.copy_all.Given as goal
+use Rattle.reset_machine.proofs.renewal.copy_all.Given as goal
 
 -- those before the index are copied
 abbrev pub invariant-loop-local : goal.invariant-loop-local
