@@ -24,65 +24,65 @@ use Rattle.fault_inject.specs.declared.refusal.FaultRefusal.TheVariants.{LinkIsT
 -- ---- the first refusal, and none
 
 module _ {L : Type 0} (from_text : List ℕ → Option L) (c : Configuration L) where
-  refused : (f : Fault) (r : FaultRefusal) → first_of (refusals from_text c f) ≡ Some r → injected from_text c f ≡ Err r
+  refused : (f : Fault) (r : FaultRefusal) → first_of (refusals from_text c f) ≡ Some r → injected app from_text c f ≡ Err r
   unfolding injected
   refused f r is = rw is refl
 
   allowed : (f : Fault) (new : Configuration L) → first_of (refusals from_text c f) ≡ None → new ≡ damaged from_text c f
-      → injected from_text c f ≡ Ok new
+      → injected app from_text c f ≡ Ok new
   unfolding injected
   allowed f new is made = rw (is, made) refl
 
   -- ---- registers
 
   pub wave_put : (at : ℕ) (regs : WaveRegs) (new : Configuration L) → IsNode c.graph at → new ≡ with_wave c at regs
-      → injected from_text c (SetWave at regs) ≡ Ok new
+      → injected app from_text c (SetWave at regs) ≡ Ok new
   wave_put at regs new node made = allowed (SetWave at regs) new (rw (a_node c.graph.ids at node) refl) made
 
   pub wave_strange : (at : ℕ) (regs : WaveRegs) → (IsNode c.graph at → ⊥)
-      → injected from_text c (SetWave at regs) ≡ Err StrangeNode
+      → injected app from_text c (SetWave at regs) ≡ Err StrangeNode
   wave_strange at regs none = refused (SetWave at regs) StrangeNode (rw (no_node c.graph.ids at none) refl)
 
   pub tree_put : (at : ℕ) (regs : TreeRegs) (new : Configuration L) → is_node c.graph at ≡ true
       → (is_id regs.root && is_id regs.father) ≡ true → new ≡ with_tree c at regs
-      → injected from_text c (SetTree at regs) ≡ Ok new
+      → injected app from_text c (SetTree at regs) ≡ Ok new
   tree_put at regs new node ids made = allowed (SetTree at regs) new (rw (node, ids) refl) made
 
   pub tree_strange : (at : ℕ) (regs : TreeRegs) → is_node c.graph at ≡ false
-      → injected from_text c (SetTree at regs) ≡ Err StrangeNode
+      → injected app from_text c (SetTree at regs) ≡ Err StrangeNode
   tree_strange at regs none = refused (SetTree at regs) StrangeNode (rw none refl)
 
   pub tree_lost : (at : ℕ) (regs : TreeRegs) → (IsNode c.graph at → ⊥)
-      → injected from_text c (SetTree at regs) ≡ Err StrangeNode
+      → injected app from_text c (SetTree at regs) ≡ Err StrangeNode
   tree_lost at regs none = tree_strange at regs (no_node c.graph.ids at none)
 
   pub tree_bad : (at : ℕ) (regs : TreeRegs) → is_node c.graph at ≡ true
       → (is_id regs.root && is_id regs.father) ≡ false
-      → injected from_text c (SetTree at regs) ≡ Err BadValue
+      → injected app from_text c (SetTree at regs) ≡ Err BadValue
   tree_bad at regs node bad = refused (SetTree at regs) BadValue (rw (node, bad) refl)
 
   -- ---- local states
 
   pub local_strange : (at : ℕ) (text : List ℕ) → is_node c.graph at ≡ false
-      → injected from_text c (SetLocal at text) ≡ Err StrangeNode
+      → injected app from_text c (SetLocal at text) ≡ Err StrangeNode
   local_strange at text none = refused (SetLocal at text) StrangeNode (rw none refl)
 
   pub local_lost : (at : ℕ) (text : List ℕ) → (IsNode c.graph at → ⊥)
-      → injected from_text c (SetLocal at text) ≡ Err StrangeNode
+      → injected app from_text c (SetLocal at text) ≡ Err StrangeNode
   local_lost at text none = local_strange at text (no_node c.graph.ids at none)
 
   pub local_long : (at : ℕ) (text : List ℕ) → is_node c.graph at ≡ true → 200 < length text
-      → injected from_text c (SetLocal at text) ≡ Err BadLocal
+      → injected app from_text c (SetLocal at text) ≡ Err BadLocal
   local_long at text node long = refused (SetLocal at text) BadLocal (rw (node, lt-ltb 200 (length text) long) refl)
 
   pub local_bad : (at : ℕ) (text : List ℕ) → is_node c.graph at ≡ true → length text ≤ 200 → from_text text ≡ None
-      → injected from_text c (SetLocal at text) ≡ Err BadLocal
+      → injected app from_text c (SetLocal at text) ≡ Err BadLocal
   local_bad at text node short bad =
       refused (SetLocal at text) BadLocal (rw (node, le-ltb 200 (length text) short, bad) refl)
 
   pub local_put : (at : ℕ) (text : List ℕ) (local : L) (new : Configuration L) → is_node c.graph at ≡ true
       → length text ≤ 200 → from_text text ≡ Some local → new ≡ with_local c at local
-      → injected from_text c (SetLocal at text) ≡ Ok new
+      → injected app from_text c (SetLocal at text) ≡ Ok new
   local_put at text local new node short read made =
       allowed (SetLocal at text) new (rw (node, le-ltb 200 (length text) short, read) refl) (rw read made)
 
@@ -134,7 +134,7 @@ other_fault f is e = true≢false (sym (ap is_memory e) ∙ is)
 module _ {L : Type 0} (from_text : List ℕ → Option L) (c : Configuration L) (a b : ℕ) where
   pub up_refused : (g : Graph) (f : TopoFault) → g ≡ c.graph → is_memory f ≡ false
       → (f ≢ WantOfMemory → link_fault g a b ≡ Some f)
-      → injected from_text c (LinkUp a b) ≡ Err (told f)
+      → injected app from_text c (LinkUp a b) ≡ Err (told f)
   up_refused g f same other is =
       refused from_text c (LinkUp a b) (told f)
       (first_told (up_faults c.graph a b) []
@@ -142,7 +142,7 @@ module _ {L : Type 0} (from_text : List ℕ → Option L) (c : Configuration L) 
 
   pub up_put : (g changed : Graph) (new : Configuration L) → g ≡ c.graph → link_fault g a b ≡ None
       → changed ≡ with_link g a b
-      → new ≡ with_graph c changed → injected from_text c (LinkUp a b) ≡ Ok new
+      → new ≡ with_graph c changed → injected app from_text c (LinkUp a b) ≡ Ok new
   up_put g changed new same is linked made =
       let whole : changed ≡ with_link c.graph a b = linked ∙ ap (λ h. with_link h a b) same in
       allowed from_text c (LinkUp a b) new
@@ -151,7 +151,7 @@ module _ {L : Type 0} (from_text : List ℕ → Option L) (c : Configuration L) 
 
   pub down_refused : (g : Graph) (f : TopoFault) → g ≡ c.graph → is_memory f ≡ false
       → (f ≢ WantOfMemory → unlink_fault g a b ≡ Some f)
-      → injected from_text c (LinkDown a b) ≡ Err (told f)
+      → injected app from_text c (LinkDown a b) ≡ Err (told f)
   down_refused g f same other is =
       refused from_text c (LinkDown a b) (told f)
       (first_told (down_faults c.graph a b) []
@@ -159,7 +159,7 @@ module _ {L : Type 0} (from_text : List ℕ → Option L) (c : Configuration L) 
 
   pub down_put : (g changed : Graph) (new : Configuration L) → g ≡ c.graph → unlink_fault g a b ≡ None
       → changed ≡ without_link g a b
-      → new ≡ with_graph c changed → injected from_text c (LinkDown a b) ≡ Ok new
+      → new ≡ with_graph c changed → injected app from_text c (LinkDown a b) ≡ Ok new
   down_put g changed new same is unlinked made =
       let gone : changed ≡ without_link c.graph a b = unlinked ∙ ap (λ h. without_link h a b) same in
       allowed from_text c (LinkDown a b) new
@@ -169,7 +169,7 @@ module _ {L : Type 0} (from_text : List ℕ → Option L) (c : Configuration L) 
   -- where the topology was put, or memory was wanting
   pub put_or_not : {A : Type 0} (f : Fault) (r : Result A FaultRefusal) (g : Graph) (new : Configuration L)
       → OnOk r (new ≡ with_graph c g)
-      → IfErr r (λ e. e ≡ NoMemory) → (new ≡ with_graph c g → injected from_text c f ≡ Ok new)
-      → MatchResult r (λ _. injected from_text c f ≡ Ok new) (λ e. e ≢ NoMemory → injected from_text c f ≡ Err e)
+      → IfErr r (λ e. e ≡ NoMemory) → (new ≡ with_graph c g → injected app from_text c f ≡ Ok new)
+      → MatchResult r (λ _. injected app from_text c f ≡ Ok new) (λ e. e ≢ NoMemory → injected app from_text c f ≡ Err e)
   put_or_not f (Ok x) g new ok err to = to ok
   put_or_not f (Err e) g new ok err to = λ other. absurd (other err)

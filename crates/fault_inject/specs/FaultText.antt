@@ -6,6 +6,7 @@ use Rattle.action_tables.specs.Cuts.{HasNo}
 use Rattle.wave_layer.specs.Names.{phase_name}
 use Rattle.fault_inject.specs.declared.fault.Fault.{Fault}
 use Rattle.fault_inject.specs.declared.fault.Fault.TheVariants.{SetTree, SetWave, SetLocal, LinkDown, LinkUp}
+use Rattle.fault_inject.specs.declared.fault.Fault.TheVariants.{NodeDown, NodeUp}
 
 -- the words of a fault that puts a local state with this text at a node
 abbrev pub local_words : ℕ → List ℕ → List (List ℕ)
@@ -20,6 +21,8 @@ fault_words (SetWave at regs) =
 fault_words (SetLocal at text) = local_words at text
 fault_words (LinkDown a b) = codes "fault" ∷ codes "down" ∷ decimal a ∷ decimal b ∷ []
 fault_words (LinkUp a b) = codes "fault" ∷ codes "up" ∷ decimal a ∷ decimal b ∷ []
+fault_words (NodeDown at) = codes "fault" ∷ codes "off" ∷ decimal at ∷ []
+fault_words (NodeUp at) = codes "fault" ∷ codes "on" ∷ decimal at ∷ []
 
 -- the one line of a fault: its words, with a space between each two
 abbrev pub fault_line : Fault → List ℕ
@@ -36,6 +39,8 @@ Fits (SetWave at regs) = (at < 2 ^ 32) × (regs.session < 2 ^ 32)
 Fits (SetLocal at text) = (at < 2 ^ 32) × IsOneWord text
 Fits (LinkDown a b) = (a < 2 ^ 32) × (b < 2 ^ 32)
 Fits (LinkUp a b) = (a < 2 ^ 32) × (b < 2 ^ 32)
+Fits (NodeDown at) = at < 2 ^ 32
+Fits (NodeUp at) = at < 2 ^ 32
 
 -- what is read of a line's words: a fault that fits and has them, or none where there is no such fault
 abbrev pub IsReadOf : List (List ℕ) → Option Fault → Type 0

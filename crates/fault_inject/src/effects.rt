@@ -3,9 +3,10 @@
 ghost use Rattle.std.specs.Prelude.{◌≡◌, ◌≢◌, ◌&&◌, Ok, Err, IfErr, MatchResult, OnErr, OnOk};
 ghost use Rattle.topology.specs.Graph.{is_node};
 ghost use Rattle.app_interface.specs.Ids.{is_id};
-ghost use Rattle.reset_model.specs.Configuration.{with_graph};
+ghost use Rattle.reset_model.specs.Topologies.{with_topology};
 ghost use Rattle.fault_inject.specs.Effects.{AsksForMemory, injected};
 ghost use Rattle.fault_inject.specs.declared.fault.Fault.TheVariants.{SetTree, SetWave, SetLocal, LinkDown, LinkUp};
+ghost use Rattle.fault_inject.specs.declared.fault.Fault.TheVariants.{NodeDown, NodeUp};
 
 use crate::fault::Fault;
 use crate::refusal::FaultRefusal;
@@ -26,8 +27,8 @@ pub fn inject<P: Application>(
     config: &mut Config<P>,
     fault: &Fault,
 ) -> Result<(), FaultRefusal>
-    ensures outcome { MatchResult result (λ _. injected P.from_text config.old fault.now ≡ Ok config.new)
-        (λ f. f ≢ FaultRefusal.NoMemory → injected P.from_text config.old fault.now ≡ Err f) }
+    ensures outcome { MatchResult result (λ _. injected P.app P.from_text config.old fault.now ≡ Ok config.new)
+        (λ f. f ≢ FaultRefusal.NoMemory → injected P.app P.from_text config.old fault.now ≡ Err f) }
     ensures kept { OnErr result (config.new ≡ config.old) }
     ensures memory { result ≡ Err FaultRefusal.NoMemory → AsksForMemory fault.now }
 {
@@ -37,6 +38,8 @@ pub fn inject<P: Application>(
         Fault::SetLocal { at, text } => set_local(alloc, config, *at, text.as_bytes()),
         Fault::LinkDown { a, b } => link_down(alloc, config, *a, *b),
         Fault::LinkUp { a, b } => link_up(alloc, config, *a, *b),
+        Fault::NodeDown { at } => node_down(alloc, config, *at),
+        Fault::NodeUp { at } => node_up(alloc, config, *at),
     }
 }
 
@@ -46,8 +49,8 @@ fn set_tree<P: Application>(
     at: u32,
     regs: TreeRegs,
 ) -> Result<(), FaultRefusal>
-    ensures outcome { MatchResult result (λ _. injected P.from_text config.old (SetTree at regs) ≡ Ok config.new)
-        (λ f. injected P.from_text config.old (SetTree at regs) ≡ Err f) }
+    ensures outcome { MatchResult result (λ _. injected P.app P.from_text config.old (SetTree at regs) ≡ Ok config.new)
+        (λ f. injected P.app P.from_text config.old (SetTree at regs) ≡ Err f) }
     ensures kept { OnErr result (config.new ≡ config.old) }
     ensures memory { result ≢ Err FaultRefusal.NoMemory }
 {
@@ -67,7 +70,7 @@ fn set_tree<P: Application>(
 pub fn is_node<P: Application>(config: &Config<P>, at: u32) -> bool
     ensures { result ≡ is_node config.now.graph at }
 {
-    config.topology().index_of(at).is_some()
+    config.topology().node_at(at).is_some()
 }
 
 // Whether the root and the father may be identifiers.
@@ -83,8 +86,8 @@ fn set_wave<P: Application>(
     at: u32,
     regs: WaveRegs,
 ) -> Result<(), FaultRefusal>
-    ensures outcome { MatchResult result (λ _. injected P.from_text config.old (SetWave at regs) ≡ Ok config.new)
-        (λ f. injected P.from_text config.old (SetWave at regs) ≡ Err f) }
+    ensures outcome { MatchResult result (λ _. injected P.app P.from_text config.old (SetWave at regs) ≡ Ok config.new)
+        (λ f. injected P.app P.from_text config.old (SetWave at regs) ≡ Err f) }
     ensures kept { OnErr result (config.new ≡ config.old) }
     ensures memory { result ≢ Err FaultRefusal.NoMemory }
 {
@@ -101,8 +104,8 @@ fn set_local<P: Application>(
     at: u32,
     text: &[u8],
 ) -> Result<(), FaultRefusal>
-    ensures outcome { MatchResult result (λ _. injected P.from_text config.old (SetLocal at text.now) ≡ Ok config.new)
-        (λ f. f ≢ FaultRefusal.NoMemory → injected P.from_text config.old (SetLocal at text.now) ≡ Err f) }
+    ensures outcome { MatchResult result (λ _. injected P.app P.from_text config.old (SetLocal at text.now) ≡ Ok config.new)
+        (λ f. f ≢ FaultRefusal.NoMemory → injected P.app P.from_text config.old (SetLocal at text.now) ≡ Err f) }
     ensures kept { OnErr result (config.new ≡ config.old) }
 {
     if !is_node(config, at) {
@@ -129,8 +132,8 @@ fn link_down<P: Application>(
     a: u32,
     b: u32,
 ) -> Result<(), FaultRefusal>
-    ensures outcome { MatchResult result (λ _. injected P.from_text config.old (LinkDown a b) ≡ Ok config.new)
-        (λ f. f ≢ FaultRefusal.NoMemory → injected P.from_text config.old (LinkDown a b) ≡ Err f) }
+    ensures outcome { MatchResult result (λ _. injected P.app P.from_text config.old (LinkDown a b) ≡ Ok config.new)
+        (λ f. f ≢ FaultRefusal.NoMemory → injected P.app P.from_text config.old (LinkDown a b) ≡ Err f) }
     ensures kept { OnErr result (config.new ≡ config.old) }
 {
     match config.topology().without_link(alloc, a, b) {
@@ -148,8 +151,8 @@ fn link_up<P: Application>(
     a: u32,
     b: u32,
 ) -> Result<(), FaultRefusal>
-    ensures outcome { MatchResult result (λ _. injected P.from_text config.old (LinkUp a b) ≡ Ok config.new)
-        (λ f. f ≢ FaultRefusal.NoMemory → injected P.from_text config.old (LinkUp a b) ≡ Err f) }
+    ensures outcome { MatchResult result (λ _. injected P.app P.from_text config.old (LinkUp a b) ≡ Ok config.new)
+        (λ f. f ≢ FaultRefusal.NoMemory → injected P.app P.from_text config.old (LinkUp a b) ≡ Err f) }
     ensures kept { OnErr result (config.new ≡ config.old) }
 {
     match config.topology().with_link(alloc, a, b) {
@@ -162,14 +165,49 @@ fn link_up<P: Application>(
     }
 }
 
-// Puts a topology of the same nodes.
+// Takes a node down.
+fn node_down<P: Application>(
+    alloc: Global,
+    config: &mut Config<P>,
+    at: u32,
+) -> Result<(), FaultRefusal>
+    ensures outcome { MatchResult result (λ _. injected P.app P.from_text config.old (NodeDown at) ≡ Ok config.new)
+        (λ f. f ≢ FaultRefusal.NoMemory → injected P.app P.from_text config.old (NodeDown at) ≡ Err f) }
+    ensures kept { OnErr result (config.new ≡ config.old) }
+{
+    match config.topology().without_node(alloc, at) {
+        Ok(changed) => put_changed(alloc, config, changed),
+        Err(TopoFault::StrangeNode(_)) => Err(FaultRefusal::StrangeNode),
+        Err(_) => Err(FaultRefusal::NoMemory),
+    }
+}
+
+// Brings a node up.
+fn node_up<P: Application>(
+    alloc: Global,
+    config: &mut Config<P>,
+    at: u32,
+) -> Result<(), FaultRefusal>
+    ensures outcome { MatchResult result (λ _. injected P.app P.from_text config.old (NodeUp at) ≡ Ok config.new)
+        (λ f. f ≢ FaultRefusal.NoMemory → injected P.app P.from_text config.old (NodeUp at) ≡ Err f) }
+    ensures kept { OnErr result (config.new ≡ config.old) }
+{
+    match config.topology().with_node(alloc, at) {
+        Ok(changed) => put_changed(alloc, config, changed),
+        Err(TopoFault::StrangeNode(_)) => Err(FaultRefusal::StrangeNode),
+        Err(TopoFault::NodeIsUp) => Err(FaultRefusal::NodeIsUp),
+        Err(_) => Err(FaultRefusal::NoMemory),
+    }
+}
+
+// Puts a topology of the same identifiers.
 fn put_changed<P: Application>(
     alloc: Global,
     config: &mut Config<P>,
     changed: Topology,
 ) -> Result<(), FaultRefusal>
     requires { changed.ids ≡ config.old.graph.ids }
-    ensures ok { OnOk result (config.new ≡ with_graph config.old changed) }
+    ensures ok { OnOk result (config.new ≡ with_topology P.app config.old changed) }
     ensures err { IfErr result (λ f. f ≡ FaultRefusal.NoMemory) }
     ensures kept { OnErr result (config.new ≡ config.old) }
 {

@@ -18,4 +18,8 @@ pub enum Fault {
     LinkDown { a: u32, b: u32 },
     /// A link between these two comes up.
     LinkUp { a: u32, b: u32 },
+    /// The node goes down, and its links are gone for good.
+    NodeDown { at: u32 },
+    /// The node comes up, and begins anew, without links.
+    NodeUp { at: u32 },
 }

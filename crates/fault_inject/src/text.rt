@@ -62,6 +62,8 @@ fn fault_of(alloc: Global, text: &[u8]) -> Result<Option<Fault>, AllocError>
         b"local" => local_fault(alloc, rest),
         b"down" => Ok(link_down(rest)),
         b"up" => Ok(link_up(rest)),
+        b"off" => Ok(node_down(rest)),
+        b"on" => Ok(node_up(rest)),
         _ => Ok(None),
     }
 }
@@ -126,6 +128,22 @@ fn link_up(text: &[u8]) -> Option<Fault>
     Some(Fault::LinkUp { a, b })
 }
 
+// The fault of a node that goes down.
+fn node_down(text: &[u8]) -> Option<Fault>
+    ensures { IsReadOf (codes "fault" ∷ codes "off" ∷ words_of text.now) result }
+{
+    let at = read_number(text)?;
+    Some(Fault::NodeDown { at })
+}
+
+// The fault of a node that comes up.
+fn node_up(text: &[u8]) -> Option<Fault>
+    ensures { IsReadOf (codes "fault" ∷ codes "on" ∷ words_of text.now) result }
+{
+    let at = read_number(text)?;
+    Some(Fault::NodeUp { at })
+}
+
 // The number that is the first word of a text, and what follows the space after it.
 fn split_number(text: &[u8]) -> Option<(u32, &[u8])>
     ensures found { IfSome result (λ parts. words_of text.now ≡ decimal parts.0 ∷ words_of parts.1.now) }
@@ -169,6 +187,8 @@ pub fn write_fault<W: Write>(fault: &Fault, out: &mut W) -> Result<(), WriteFaul
         Fault::SetLocal { at, text } => put_local(out, *at, text.as_bytes()),
         Fault::LinkDown { a, b } => put_link(out, b"fault down ", *a, *b),
         Fault::LinkUp { a, b } => put_link(out, b"fault up ", *a, *b),
+        Fault::NodeDown { at } => put_node(out, b"fault off ", *at),
+        Fault::NodeUp { at } => put_node(out, b"fault on ", *at),
     }
 }
 
@@ -246,4 +266,12 @@ fn put_link<W: Write>(out: &mut W, command: &[u8], a: u32, b: u32) -> Result<(),
             Part::Number(u64::from(b)),
         ],
     )
+}
+
+// Writes the fault of a node after this command.
+fn put_node<W: Write>(out: &mut W, command: &[u8], at: u32) -> Result<(), WriteFault>
+    ensures ok { OnOk result (Appends (W.contents out.old) (W.contents out.new) (command.now ++ decimal at)) }
+    ensures err { OnErr result (AppendsPrefix (W.contents out.old) (W.contents out.new) (command.now ++ decimal at)) }
+{
+    put_parts(out, &[Part::Text(command), Part::Number(u64::from(at))])
 }

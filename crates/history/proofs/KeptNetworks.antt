@@ -163,7 +163,7 @@ module _ {L : Type 0} (from_text : List ℕ → Option L) (c : Configuration L) 
       let other : a ≢ b = λ same. both_ways (a == b) holds.1.1.0 (eq-eqb a b same) in
       other_links (with_link c.graph a b) refl (graph_more c.graph a b graph node_a node_b other)
 
-  injected_network : (f : Fault) (left : Configuration L) → injected from_text c f ≡ Ok left → IsNetwork left
+  injected_network : (f : Fault) (left : Configuration L) → injected app from_text c f ≡ Ok left → IsNetwork left
   unfolding injected
   injected_network f left is = by_refusal (first_of (refusals from_text c f)) refl is
     where
@@ -199,9 +199,9 @@ module _ {L : Type 0} (app : App L) where
             let same : done.0 ≡ left = cc in
             subst IsNetwork same (applied_network c done.0 e done.1 network ok)
         by_outcome (Err f) err is = absurd (cc)
-    entered_network c left (Disturbed f) network is = by_fault (injected from_text c f) refl is
+    entered_network c left (Disturbed f) network is = by_fault (injected app from_text c f) refl is
       where
-        by_fault : (o : Result (Configuration L) FaultRefusal) → injected from_text c f ≡ o
+        by_fault : (o : Result (Configuration L) FaultRefusal) → injected app from_text c f ≡ o
             → left_by_fault o ≡ Some left → IsNetwork left
         by_fault (Ok done) ok is =
             let same : done ≡ left = cc in subst IsNetwork same (injected_network from_text c network f done ok)

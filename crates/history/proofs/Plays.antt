@@ -100,7 +100,7 @@ module _ {L : Type 0} (app : App L) (from_text : List ℕ → Option L) where
       → entered app from_text d (Step e) ≡ Some left
   entered_step d left e reply is = rw is refl
 
-  entered_fault : (d left : Configuration L) (f : Fault) → injected from_text d f ≡ Ok left
+  entered_fault : (d left : Configuration L) (f : Fault) → injected app from_text d f ≡ Ok left
       → entered app from_text d (Disturbed f) ≡ Some left
   entered_fault d left f is = rw is refl
 
@@ -160,7 +160,7 @@ module _ {L : Type 0} (app : App L) (from_text : List ℕ → Option L) where
   pub played_fault : (c d left : Configuration L) (es : List Entry) (t t' : Openings) (rs : List Report) (f : Fault)
       (position_of : ℕ)
       → IsPlayed app from_text c es d t rs → position_of ≡ length es + 1
-      → injected from_text d f ≡ Ok left
+      → injected app from_text d f ≡ Ok left
       → ((n k : ℕ) → IsWithin t n → n ≤ position_of → told t' k ≡ None)
       → ((n : ℕ) → IsWithin t n → n ≤ position_of → IsWithin t' position_of)
       → IsPlayed app from_text c (es ++ Disturbed f ∷ []) left t' rs

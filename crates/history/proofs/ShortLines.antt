@@ -152,14 +152,14 @@ module _ {L : Type 0} (from_text : List ℕ → Option L) (c left : Configuratio
   unrefused false false None is = let none : ⊥ = cc in absurd none
   unrefused false false (Some local) is = (refl, (local, refl))
 
-  read_local : (text : List ℕ) → injected from_text c (SetLocal at text) ≡ Ok left
+  read_local : (text : List ℕ) → injected app from_text c (SetLocal at text) ≡ Ok left
       → (nat_lt 200 (length text) ≡ false) × ((local : L) × (from_text text ≡ Some local))
   unfolding injected
   read_local text is = unrefused (not (is_node c.graph at)) (nat_lt 200 (length text)) (from_text text) is
 
   -- such a text is one printable word, where all are
   pub local_done : ((text : List ℕ) (local : L) → from_text text ≡ Some local → IsPrintableWord text)
-      → (text : List ℕ) → at < 2 ^ 32 → injected from_text c (SetLocal at text) ≡ Ok left
+      → (text : List ℕ) → at < 2 ^ 32 → injected app from_text c (SetLocal at text) ≡ Ok left
       → HasLine (Disturbed (SetLocal at text))
   local_done words text h is =
       let read = read_local text is in

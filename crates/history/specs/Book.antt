@@ -81,9 +81,9 @@ disturbance b f (Ok left) =
 disturbance b f (Err refusal) = Err (disturb.Refused refusal)
 
 -- what a fault makes of a book, with its position, or the first refusal
-abbrev pub disturbed_book : {L : Type 0} → (List ℕ → Option L) → BookView L → Fault
+abbrev pub disturbed_book : {L : Type 0} → App L → (List ℕ → Option L) → BookView L → Fault
     → Result (BookView L × ℕ) DisturbRefusal
-disturbed_book from_text b f = disturbance b f (injected from_text b.config f)
+disturbed_book app from_text b f = disturbance b f (injected app from_text b.config f)
 
 -- why a book doesn't take a plan that was made on the view v: its node isn't there, or sees something else
 -- now, or there is no room. Want of memory may stand in place of any reason

@@ -22,7 +22,7 @@ left_by_fault (Err f) = None
 -- the configuration after an entry, where it is allowed; from_text gives the local state with a text
 abbrev pub entered : {L : Type 0} → App L → (List ℕ → Option L) → Configuration L → Entry → Option (Configuration L)
 entered app from_text c (Step e) = left_by_step (outcome_of app c e)
-entered app from_text c (Disturbed f) = left_by_fault (injected from_text c f)
+entered app from_text c (Disturbed f) = left_by_fault (injected app from_text c f)
 
 -- what entries leave in turn, where each is allowed where it stands
 unfoldable pub replayed : {L : Type 0} → App L → (List ℕ → Option L) → Configuration L → List Entry

@@ -116,8 +116,8 @@ impl<P: Application> Book<P> {
     /// changes nothing. It tells the position of the entry.
     pub fn disturb(&mut self, alloc: Global, fault: Fault) -> Result<usize, (DisturbRefusal, Fault)>
         ensures outcome { MatchResult result (λ position.
-            disturbed_book P.from_text self.old fault ≡ Ok (self.new, position))
-            (λ e. e.0 ≢ DisturbRefusal.NoMemory → disturbed_book P.from_text self.old fault ≡ Err e.0) }
+            disturbed_book P.app P.from_text self.old fault ≡ Ok (self.new, position))
+            (λ e. e.0 ≢ DisturbRefusal.NoMemory → disturbed_book P.app P.from_text self.old fault ≡ Err e.0) }
         ensures returned { IfErr result (λ e. e.1 ≡ fault) }
         ensures kept { OnErr result (self.new ≡ self.old) }
     {
@@ -142,7 +142,7 @@ impl<P: Application> Book<P> {
     // Why a full book doesn't take the fault: it would be refused, or there is no room.
     fn full_disturb(&self, alloc: Global, fault: &Fault) -> DisturbRefusal
         requires { self.now.limit ≤ length self.now.entries }
-        ensures { result ≢ DisturbRefusal.NoMemory → disturbed_book P.from_text self.now fault.now ≡ Err result }
+        ensures { result ≢ DisturbRefusal.NoMemory → disturbed_book P.app P.from_text self.now fault.now ≡ Err result }
     {
         let Ok(mut copy) = self.player.config.copy(alloc) else {
             return DisturbRefusal::NoMemory;

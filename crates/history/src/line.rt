@@ -45,7 +45,7 @@ fn lemma_act_has_line(at: u32, case: u8, with: Option<u32>)
 // A history may have the line of any fault that is done. The text of a local state, which could spoil a
 // line, is then one printable word of at most 200 bytes.
 pub(crate) fn lemma_fault_has_line<P: Application>(fault: &Fault)
-    ensures { (c left : Configuration P.Local) → injected P.from_text c fault.now ≡ Ok left
+    ensures { (c left : Configuration P.Local) → injected P.app P.from_text c fault.now ≡ Ok left
         → HasLine (Disturbed fault.now) }
 {
     match fault {

@@ -84,8 +84,8 @@ impl<P: Application> Player<P> {
         position: usize,
         fault: &Fault,
     ) -> Result<(), FaultRefusal>
-        ensures outcome { MatchResult result (λ _. injected P.from_text self.old.config fault.now ≡ Ok self.new.config)
-            (λ f. f ≢ FaultRefusal.NoMemory → injected P.from_text self.old.config fault.now ≡ Err f) }
+        ensures outcome { MatchResult result (λ _. injected P.app P.from_text self.old.config fault.now ≡ Ok self.new.config)
+            (λ f. f ≢ FaultRefusal.NoMemory → injected P.app P.from_text self.old.config fault.now ≡ Err f) }
         ensures kept { OnErr result (self.new.config ≡ self.old.config) }
         ensures played { (c : Configuration P.Local) (es : List Entry) → HasPlayed P.app P.from_text c es self.old
             → MatchResult result (λ _. position ≡ length es + 1

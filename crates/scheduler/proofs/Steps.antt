@@ -25,13 +25,13 @@ on_ok (Err f) P Q tells is = tt
 
 module _ {L : Type 0} (from_text : List ℕ → Option L) (b : BookView L) (g : Lcg) where
   pub fault_drawn : (c : Configuration L) (f : Fault) (left : BookView L) (after : Lcg) → c ≡ b.config
-      → f ≡ drawn_fault c.graph.ids (next_words g).0 → after ≡ (next_words g).1 → left ≡ after_fault from_text b f
-      → (left, after) ≡ fault_step from_text b g
+      → f ≡ drawn_fault c.graph.ids (next_words g).0 → after ≡ (next_words g).1 → left ≡ after_fault app from_text b f
+      → (left, after) ≡ fault_step app from_text b g
   unfolding fault_step
   fault_drawn c f left after same is next done =
       let drawn : f ≡ drawn_fault b.config.graph.ids (next_words g).0 =
       is ∙ ap (λ (k : Configuration L). drawn_fault k.graph.ids (next_words g).0) same in
-      ap₂ (λ (l : BookView L) (a : Lcg). (l, a)) (done ∙ ap (after_fault from_text b) drawn) next
+      ap₂ (λ (l : BookView L) (a : Lcg). (l, a)) (done ∙ ap (after_fault app from_text b) drawn) next
 
 pub event_found : {L : Type 0} (app : App L) (c now : Configuration L) (for_node for_event : ℕ)
     (ids ready from : List ℕ) (node : ℕ) (events : List Event) (drawn : Option Event) → now ≡ c → ids ≡ now.graph.ids
@@ -61,18 +61,18 @@ module _ {L : Type 0} (app : App L) (b : BookView L) (g : Lcg) where
 module _ {L : Type 0} (app : App L) (from_text : List ℕ → Option L) (faults : ℕ) (b : BookView L) (g : Lcg) where
   kind_drawn : (kind : ℕ) (next : Lcg) (is_fault : Bool) → (kind, next) ≡ pcg32 g
       → nat_lt (kind % 1000) faults ≡ is_fault
-      → cond is_fault (fault_step from_text b next) (event_step app b next) ≡ drawn_step app from_text faults b g
+      → cond is_fault (fault_step app from_text b next) (event_step app b next) ≡ drawn_step app from_text faults b g
   unfolding drawn_step
   kind_drawn kind next is_fault word is =
-      ap (λ t. cond t (fault_step from_text b next) (event_step app b next)) (sym is)
-      ∙ ap (λ (p : ℕ × Lcg). cond (nat_lt (p.0 % 1000) faults) (fault_step from_text b p.1) (event_step app b p.1)) word
+      ap (λ t. cond t (fault_step app from_text b next) (event_step app b next)) (sym is)
+      ∙ ap (λ (p : ℕ × Lcg). cond (nat_lt (p.0 % 1000) faults) (fault_step app from_text b p.1) (event_step app b p.1)) word
 
   pub step_drawn : {X E : Type 0} (r : Result X E) (left : BookView L × Lcg) (kind : ℕ) (next : Lcg) (is_fault : Bool)
       → (kind, next) ≡ pcg32 g → nat_lt (kind % 1000) faults ≡ is_fault
-      → OnOk r (left ≡ cond is_fault (fault_step from_text b next) (event_step app b next))
+      → OnOk r (left ≡ cond is_fault (fault_step app from_text b next) (event_step app b next))
       → OnOk r (left ≡ drawn_step app from_text faults b g)
   step_drawn r left kind next is_fault word test =
-      let does = cond is_fault (fault_step from_text b next) (event_step app b next) in
+      let does = cond is_fault (fault_step app from_text b next) (event_step app b next) in
       on_ok r (left ≡ does) (left ≡ drawn_step app from_text faults b g)
       (λ is. is ∙ kind_drawn kind next is_fault word test)
 
@@ -127,11 +127,11 @@ module _ {L : Type 0} (app : App L) (from_text : List ℕ → Option L) (faults 
       let one = pcg32 g in
       event_keeps b (drawn_by app b.config one.0 (pcg32 one.1).0)
 
-  fault_step_keeps : (b : BookView L) (g : Lcg) → Keeps b (fault_step from_text b g).0
+  fault_step_keeps : (b : BookView L) (g : Lcg) → Keeps b (fault_step app from_text b g).0
   unfolding fault_step
   fault_step_keeps b g =
       let f = drawn_fault b.config.graph.ids (next_words g).0 in
-      disturbance_keeps b f (injected from_text b.config f)
+      disturbance_keeps b f (injected app from_text b.config f)
 
   either_keeps : (b : BookView L) (is_fault : Bool) (x y : BookView L × Lcg) → Keeps b x.0 → Keeps b y.0
       → Keeps b (cond is_fault x y).0
@@ -142,7 +142,7 @@ module _ {L : Type 0} (app : App L) (from_text : List ℕ → Option L) (faults 
   unfolding drawn_step
   drawn_step_keeps b g =
       let kind = pcg32 g in
-      either_keeps b (nat_lt (kind.0 % 1000) faults) (fault_step from_text b kind.1) (event_step app b kind.1)
+      either_keeps b (nat_lt (kind.0 % 1000) faults) (fault_step app from_text b kind.1) (event_step app b kind.1)
       (fault_step_keeps b kind.1) (event_step_keeps b kind.1)
 
   pub steps_keep : (n : ℕ) (b : BookView L) (g : Lcg) → Keeps b (drawn_steps app from_text faults n b g).0

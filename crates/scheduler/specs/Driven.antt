@@ -50,8 +50,8 @@ after_event app b None = b
 after_event app b (Some e) = left_after b (booked app b e)
 
 -- the book after a fault
-abbrev pub after_fault : {L : Type 0} → (List ℕ → Option L) → BookView L → Fault → BookView L
-after_fault from_text b f = left_after b (disturbed_book from_text b f)
+abbrev pub after_fault : {L : Type 0} → App L → (List ℕ → Option L) → BookView L → Fault → BookView L
+after_fault app from_text b f = left_after b (disturbed_book app from_text b f)
 
 -- the next two words draw an event
 unfoldable pub event_step : {L : Type 0} → App L → BookView L → Lcg → BookView L × Lcg
@@ -61,16 +61,16 @@ event_step app b generator =
     (after_event app b (drawn_by app b.config for_node.0 for_event.0), for_event.1)
 
 -- the next five words draw a fault
-unfoldable pub fault_step : {L : Type 0} → (List ℕ → Option L) → BookView L → Lcg → BookView L × Lcg
-fault_step from_text b generator =
+unfoldable pub fault_step : {L : Type 0} → App L → (List ℕ → Option L) → BookView L → Lcg → BookView L × Lcg
+fault_step app from_text b generator =
     let words = next_words generator in
-    (after_fault from_text b (drawn_fault b.config.graph.ids words.0), words.1)
+    (after_fault app from_text b (drawn_fault b.config.graph.ids words.0), words.1)
 
 -- a step: the next word makes it one of these, a fault in so many of a thousand cases
 unfoldable pub drawn_step : {L : Type 0} → App L → (List ℕ → Option L) → ℕ → BookView L → Lcg → BookView L × Lcg
 drawn_step app from_text faults b generator =
     let kind = pcg32 generator in
-    if nat_lt (kind.0 % 1000) faults then fault_step from_text b kind.1 else event_step app b kind.1
+    if nat_lt (kind.0 % 1000) faults then fault_step app from_text b kind.1 else event_step app b kind.1
 
 -- ---- a run
 

@@ -39,7 +39,7 @@ fn fault_step<P: Application>(
     book: &mut Book<P>,
     random: &mut Lcg64Xsh32,
 ) -> Result<(), AllocError>
-    ensures ok { OnOk result ((book.new, random.new) ≡ fault_step P.from_text book.old random.old) }
+    ensures ok { OnOk result ((book.new, random.new) ≡ fault_step P.app P.from_text book.old random.old) }
     ensures kept { OnErr result (book.new ≡ book.old) }
 {
     let fault = draw_fault(random, book.config());
@@ -52,7 +52,7 @@ fn disturb<P: Application>(
     book: &mut Book<P>,
     fault: Fault,
 ) -> Result<(), AllocError>
-    ensures ok { OnOk result (book.new ≡ after_fault P.from_text book.old fault) }
+    ensures ok { OnOk result (book.new ≡ after_fault P.app P.from_text book.old fault) }
     ensures kept { OnErr result (book.new ≡ book.old) }
 {
     match book.disturb(alloc, fault) {

@@ -20,11 +20,11 @@ module _ {L : Type 0} (m : Meaning L) (c : Configuration L) (told by_seed : Faul
   pub drawn_prefix : AppendsPrefix a b (drawn_text told) → AppendsPrefix a b (disturbed_by_drawn m c by_seed).1
   drawn_prefix prefix =
       let P : Fault → Type 0 = λ f. AppendsPrefix a b (disturbed_by_drawn m c f).1 in
-      subst P is (AppendsPrefix-first a b (drawn_text told) (disturbed c (injected m.from_text c told)).1 prefix)
+      subst P is (AppendsPrefix-first a b (drawn_text told) (disturbed c (injected m.app m.from_text c told)).1 prefix)
 
   -- and then the answer to the fault
   pub drawn_err : Appends a b (drawn_text told) → (d : Option (List ℕ)) {E : Type 0} (r : Result (Unit {0}) E)
-      → OnErr r (AppendsPrefix b d (disturbed c (injected m.from_text c told)).1)
+      → OnErr r (AppendsPrefix b d (disturbed c (injected m.app m.from_text c told)).1)
       → OnErr r (AppendsPrefix a d (disturbed_by_drawn m c by_seed).1)
   drawn_err wrote d (Ok x) err = tt
   drawn_err wrote d (Err e) err =

@@ -60,7 +60,7 @@ module _ {L : Type 0} (app : App L) (from_text : List ℕ → Option L) (c : Con
   damaged_modulus (LinkDown a b) = refl
   damaged_modulus (LinkUp a b) = refl
 
-  injected_keeps : (f : Fault) → FaultKeeps (injected from_text c f)
+  injected_keeps : (f : Fault) → FaultKeeps (injected app from_text c f)
   unfolding injected
   injected_keeps f =
       elim (first_of (refusals from_text c f)) as (λ o. FaultKeeps ((elim o as (λ _. Configuration L
@@ -84,7 +84,7 @@ module _ {L : Type 0} (app : App L) (from_text : List ℕ → Option L) (c : Con
 
   entered_keeps : (entry : Entry) → EntryKeeps (entered app from_text c entry)
   entered_keeps (Step e) = step_keeps (outcome_of app c e) (outcome_keeps e)
-  entered_keeps (Disturbed f) = fault_keeps (injected from_text c f) (injected_keeps f)
+  entered_keeps (Disturbed f) = fault_keeps (injected app from_text c f) (injected_keeps f)
 
 -- what entries leave is of the modulus that they began with
 module _ {L : Type 0} (app : App L) (from_text : List ℕ → Option L) where

@@ -169,7 +169,7 @@ drawn ids seed = drawn_fault ids (next_words (seeded seed)).0
 
 -- the same for a fault that is drawn, which is told first
 abbrev pub disturbed_by_drawn : {L : Type 0} → Meaning L → Configuration L → Fault → Configuration L × List ℕ
-disturbed_by_drawn m c f = let after = disturbed c (injected m.from_text c f) in (after.0, drawn_text f ++ after.1)
+disturbed_by_drawn m c f = let after = disturbed c (injected m.app m.from_text c f) in (after.0, drawn_text f ++ after.1)
 
 -- the line of a node, as its registers and its local state stand
 abbrev pub shown : {L : Type 0} → Meaning L → Configuration L → ℕ → List ℕ
@@ -224,7 +224,7 @@ at_node c i text = if is_node c.graph i then text else refusal_text StrangeNode
 -- the answer to a command
 abbrev pub answered : {L : Type 0} → Meaning L → Configuration L → Command → Configuration L × List ℕ
 answered m c (Step e) = stepped c (outcome_of m.app c e)
-answered m c (Inject f) = disturbed c (injected m.from_text c f)
+answered m c (Inject f) = disturbed c (injected m.app m.from_text c f)
 answered m c (Draw seed) = disturbed_by_drawn m c (drawn c.graph.ids seed)
 answered m c Show = (c, flat_map (shown m c) c.graph.ids)
 answered m c (ShowNode i) = (c, at_node c i (shown m c i))

@@ -49,7 +49,7 @@ abbrev pub event_entries : {L : Type 0} → Meaning L → Configuration L → Ev
 event_entries m c e = event_entry e (outcome_of m.app c e)
 
 abbrev pub fault_entries : {L : Type 0} → Meaning L → Configuration L → Fault → List Entry
-fault_entries m c f = fault_entry f (injected m.from_text c f)
+fault_entries m c f = fault_entry f (injected m.app m.from_text c f)
 
 -- the entries that a line leaves, at most one: its own event or fault, the fault that a seed draws, or the request of a
 -- node that watches and has an alarm

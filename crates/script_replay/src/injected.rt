@@ -27,11 +27,11 @@ pub fn answer_fault<P: Application, W: Write>(
     fault: &Fault,
     out: &mut W,
 ) -> Result<(), RunStop>
-    ensures ok { OnOk result ((config.new ≡ (disturbed config.old (injected P.from_text config.old fault.now)).0)
+    ensures ok { OnOk result ((config.new ≡ (disturbed config.old (injected P.app P.from_text config.old fault.now)).0)
         × Appends (W.contents out.old) (W.contents out.new)
-        (disturbed config.old (injected P.from_text config.old fault.now)).1) }
+        (disturbed config.old (injected P.app P.from_text config.old fault.now)).1) }
     ensures err { OnErr result (AppendsPrefix (W.contents out.old) (W.contents out.new)
-        (disturbed config.old (injected P.from_text config.old fault.now)).1) }
+        (disturbed config.old (injected P.app P.from_text config.old fault.now)).1) }
     ensures stop { IfErr result IsOutputStop }
     ensures memory { result ≡ Err RunStop.NoMemory → config.new ≡ config.old }
 {

@@ -160,7 +160,7 @@ fn record_fault<P: Application>(
     requires { length book.old.entries < book.old.limit }
     ensures { OnOk result (book.new ≡ with_entries book.old
         (fault_entries (meaning_of P.app P.text P.from_text P.names) book.old.config fault)
-        (disturbed book.old.config (injected P.from_text book.old.config fault)).0) }
+        (disturbed book.old.config (injected P.app P.from_text book.old.config fault)).0) }
 {
     match book.disturb(alloc, fault) {
         Ok(_) => Ok(()),

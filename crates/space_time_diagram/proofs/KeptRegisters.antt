@@ -59,7 +59,7 @@ module _ {L : Type 0} (app : App L) (from_text : List ℕ → Option L) where
   damaged_keeps c (LinkDown a b) = record { ids = refl; others = λ i node other. refl }
   damaged_keeps c (LinkUp a b) = record { ids = refl; others = λ i node other. refl }
 
-  injected_keeps : (c after : Configuration L) (f : Fault) → injected from_text c f ≡ Ok after
+  injected_keeps : (c after : Configuration L) (f : Fault) → injected app from_text c f ≡ Ok after
       → KeepsOthers c (fault_node f) after
   unfolding injected
   injected_keeps c after f is = by_refusal (first_of (refusals from_text c f)) is
@@ -84,9 +84,9 @@ module _ {L : Type 0} (app : App L) (from_text : List ℕ → Option L) where
           subst (KeepsOthers c (event_node e)) same
           (step_keeps c done.0 e (outcome_is_step app c graph shaped e done.0 done.1 ok).0)
       by_outcome (Err f) err is = absurd (cc)
-  entry_keeps c after (Disturbed f) graph shaped is = by_fault (injected from_text c f) refl is
+  entry_keeps c after (Disturbed f) graph shaped is = by_fault (injected app from_text c f) refl is
     where
-      by_fault : (o : Result (Configuration L) FaultRefusal) → injected from_text c f ≡ o
+      by_fault : (o : Result (Configuration L) FaultRefusal) → injected app from_text c f ≡ o
           → left_by_fault o ≡ Some after → KeepsOthers c (fault_node f) after
       by_fault (Ok done) ok is =
           let same : done ≡ after = cc in
