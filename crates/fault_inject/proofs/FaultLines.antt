@@ -1,6 +1,6 @@
 -- A fault's line has the fault's words, and no other fault has them.
 use Rattle.std.specs.Prelude.{codes}
-use Rattle.std.proofs.Common.{◌≡◌, ◌≢◌, ℕ, ◌<◌, ◌^◌, List, [], ◌∷◌, ◌++◌, refl, sym, ap, ◌∙◌, arith, get_or, Bool, true}
+use Rattle.std.proofs.Common.{◌≡◌, ◌≢◌, ℕ, ◌+◌, ◌<◌, ◌^◌, List, [], ◌∷◌, ◌++◌, refl, sym, ap, ◌∙◌, arith, get_or, Bool, true}
 use Rattle.std.proofs.Common.{false, not, true≢false, IsTrue, Bor, Option, None, Some, Result, Ok, Err, IfOk, IfSome}
 use Rattle.std.proofs.Common.{IfNone, OnErr}
 use Rattle.std.specs.Option.{is_some}
@@ -17,6 +17,7 @@ use Rattle.fault_inject.specs.FaultText.{Fits, IsLocalFault, IsOneWord, IsReadOf
 use Rattle.wave_layer.specs.Names.{phase_name}
 use Rattle.fault_inject.specs.declared.fault.Fault.{Fault}
 use Rattle.fault_inject.specs.declared.fault.Fault.TheVariants.{SetTree, SetWave, SetLocal, LinkDown, LinkUp}
+use Rattle.fault_inject.specs.declared.fault.Fault.TheVariants.{NodeDown, NodeUp}
 
 -- ---- the words of a line
 
@@ -50,13 +51,15 @@ words_of-fault_line (SetLocal at text) h =
     (words_of-number at _ h.0 ∙ ap (λ ws. decimal at ∷ ws) (words_of-word text h.1.1))
 words_of-fault_line (LinkDown a b) h = ap (λ ws. codes "fault" ∷ codes "down" ∷ ws) (words_of-two a b h.0 h.1)
 words_of-fault_line (LinkUp a b) h = ap (λ ws. codes "fault" ∷ codes "up" ∷ ws) (words_of-two a b h.0 h.1)
+words_of-fault_line (NodeDown at) h = ap (λ ws. codes "fault" ∷ codes "off" ∷ ws) (words_of-decimal at h)
+words_of-fault_line (NodeUp at) h = ap (λ ws. codes "fault" ∷ codes "on" ∷ ws) (words_of-decimal at h)
 
 -- ---- one fault has the words
 
--- the first byte of the second word tells the kinds of faults apart
-abbrev pub kind_byte : List (List ℕ) → ℕ
-kind_byte (command ∷ kind ∷ ws) = get_or kind 0 0
-kind_byte ws = 0
+-- the first two bytes of the second word tell the kinds of faults apart, by their sum
+abbrev pub kind_bytes : List (List ℕ) → ℕ
+kind_bytes (command ∷ kind ∷ ws) = get_or kind 0 0 + get_or kind 1 0
+kind_bytes ws = 0
 
 same_phase : (p q : Phase) → phase_name p ≡ phase_name q → p ≡ q
 same_phase Normal Normal is = refl
@@ -93,7 +96,9 @@ same_words (LinkDown a c) (LinkDown b d) p q is =
     ap (λ n. LinkDown n c) (same_number a b p.0 q.0 (cc)) ∙ ap (λ n. LinkDown b n) (same_number c d p.1 q.1 (cc))
 same_words (LinkUp a c) (LinkUp b d) p q is =
     ap (λ n. LinkUp n c) (same_number a b p.0 q.0 (cc)) ∙ ap (λ n. LinkUp b n) (same_number c d p.1 q.1 (cc))
-same_words f g p q is = absurd (omega (arith, ap kind_byte is))
+same_words (NodeDown a) (NodeDown b) p q is = ap (λ n. NodeDown n) (same_number a b p q (cc))
+same_words (NodeUp a) (NodeUp b) p q is = ap (λ n. NodeUp n) (same_number a b p q (cc))
+same_words f g p q is = absurd (omega (arith, ap kind_bytes is))
 
 pub one_fault : (f g : Fault) → Fits f → Fits g → fault_line f ≡ fault_line g → f ≡ g
 one_fault f g p q is = same_words f g p q (sym (words_of-fault_line f p) ∙ ap words_of is ∙ words_of-fault_line g q)
@@ -115,7 +120,7 @@ no_wave text rest phase session at first second only (SetWave a r) fits is =
     let same : codes "fault" ∷ codes "wave" ∷ decimal at ∷ phase ∷ words_of session ≡ fault_words (SetWave a r) =
     ap (λ ws. codes "fault" ∷ codes "wave" ∷ ws) (sym (first ∙ ap (λ ws. decimal at ∷ ws) second)) ∙ is in
     only r.session fits.1 (line-words session (decimal r.session ∷ []) (cc))
-no_wave text rest phase session at first second only f fits is = absurd (omega (arith, ap kind_byte is))
+no_wave text rest phase session at first second only f fits is = absurd (omega (arith, ap kind_bytes is))
 
 pub no_local : (text rest : List ℕ) (at : ℕ) → words_of text ≡ decimal at ∷ words_of rest
     → ((rest ≢ []) × HasNo 32 rest → ⊥) → IsReadOf (codes "fault" ∷ codes "local" ∷ words_of text) None
@@ -124,7 +129,7 @@ no_local text rest at first only (SetLocal a v) fits is =
     ap (λ ws. codes "fault" ∷ codes "local" ∷ ws) (sym first) ∙ is in
     let text : rest ≡ v = line-words rest (v ∷ []) (cc) in
     only (rw text fits.1)
-no_local text rest at first only f fits is = absurd (omega (arith, ap kind_byte is))
+no_local text rest at first only f fits is = absurd (omega (arith, ap kind_bytes is))
 
 -- ---- a fault has the words
 

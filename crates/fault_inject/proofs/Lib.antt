@@ -1,3 +1,4 @@
 pub mod FaultLines
 mod InjectedFaults
 mod Words
+mod FoundNodes

@@ -70,6 +70,7 @@ fn set_tree<P: Application>(
 pub fn is_node<P: Application>(config: &Config<P>, at: u32) -> bool
     ensures { result ≡ is_node config.now.graph at }
 {
+    config.lemma_is_graph();
     config.topology().node_at(at).is_some()
 }
 

@@ -42,6 +42,9 @@ fn refuses_what_cant_be_done(rt: HostRuntime) -> Result<(), Fail> {
         (b"fault tree 1 1 65536 0".as_slice(), FaultRefusal::BadValue),
         (b"fault local 1 x".as_slice(), FaultRefusal::BadLocal),
         (b"fault local 9 x".as_slice(), FaultRefusal::StrangeNode),
+        (b"fault off 4".as_slice(), FaultRefusal::StrangeNode),
+        (b"fault on 4".as_slice(), FaultRefusal::StrangeNode),
+        (b"fault on 2".as_slice(), FaultRefusal::NodeIsUp),
     ] {
         let mut config = line::<Idle>(rt.alloc())?;
         assert_eq!(rt; do_line(&rt, rt.alloc(), &mut config, text)?, Err(refusal));
@@ -150,7 +153,75 @@ fn leaders(config: &Config<Idle>) -> [Option<u32>; 3] {
 
 fn leader_of(topology: &Topology, id: u32) -> Option<u32> {
     match topology.index_of(id) {
-        Some(index) => Some(topology.greatest_of(index).get()),
-        None => None,
+        Some(index) if topology.is_up(index) => Some(topology.greatest_of(index).get()),
+        _ => None,
     }
+}
+
+// The links of a node that goes down are gone for good, and the others' registers stay. Nothing is known of it until
+// it comes up, and then it begins anew.
+#[test]
+fn takes_a_node_down_and_brings_it_up(rt: HostRuntime) -> Result<(), Fail> {
+    let mut config = line::<Idle>(rt.alloc())?;
+    let done = do_line(&rt, rt.alloc(), &mut config, b"fault wave 3 reset 7")?;
+    assert_eq!(rt; done, Ok(()));
+    let trees = [config.tree_at(1), config.tree_at(2)];
+    let done = do_line(&rt, rt.alloc(), &mut config, b"fault off 3")?;
+    assert_eq!(rt; done, Ok(()));
+    assert_eq!(rt; config.topology().link_count(), 1);
+    assert_eq!(rt; leaders(&config), [Some(2), Some(2), None]);
+    assert_eq!(rt; [config.tree_at(1), config.tree_at(2)], trees);
+    assert_eq!(rt; config.wave_at(3), None);
+    for text in [
+        b"fault off 3".as_slice(),
+        b"fault tree 3 3 3 0".as_slice(),
+        b"fault wave 3 normal 0".as_slice(),
+        b"fault local 3 -".as_slice(),
+        b"fault up 2 3".as_slice(),
+        b"fault down 2 3".as_slice(),
+    ] {
+        let done = do_line(&rt, rt.alloc(), &mut config, text)?;
+        assert_eq!(rt; done, Err(FaultRefusal::StrangeNode));
+    }
+
+    let done = do_line(&rt, rt.alloc(), &mut config, b"fault on 3")?;
+    assert_eq!(rt; done, Ok(()));
+    assert_eq!(rt; leaders(&config), [Some(2), Some(2), Some(3)]);
+    let tree = TreeRegs {
+        root: 3,
+        father: 3,
+        dist: 0,
+    };
+    assert_eq!(rt; config.tree_at(3), Some(tree));
+    let wave = WaveRegs {
+        phase: Phase::Normal,
+        session: 0,
+    };
+    assert_eq!(rt; config.wave_at(3), Some(wave));
+    assert_eq!(rt; [config.tree_at(1), config.tree_at(2)], trees);
+    let done = do_line(&rt, rt.alloc(), &mut config, b"fault on 3")?;
+    assert_eq!(rt; done, Err(FaultRefusal::NodeIsUp));
+    let done = do_line(&rt, rt.alloc(), &mut config, b"fault up 2 3")?;
+    assert_eq!(rt; done, Ok(()));
+    assert_eq!(rt; leaders(&config), [Some(3), Some(3), Some(3)]);
+    Ok(())
+}
+
+#[test]
+fn takes_all_nodes_down(rt: HostRuntime) -> Result<(), Fail> {
+    let mut config = line::<Idle>(rt.alloc())?;
+    for text in [
+        b"fault off 2".as_slice(),
+        b"fault off 1".as_slice(),
+        b"fault off 3".as_slice(),
+    ] {
+        let done = do_line(&rt, rt.alloc(), &mut config, text)?;
+        assert_eq!(rt; done, Ok(()));
+    }
+    assert_eq!(rt; config.topology().node_count(), 0);
+    assert_eq!(rt; leaders(&config), [None, None, None]);
+    let done = do_line(&rt, rt.alloc(), &mut config, b"fault on 1")?;
+    assert_eq!(rt; done, Ok(()));
+    assert_eq!(rt; leaders(&config), [Some(1), None, None]);
+    Ok(())
 }

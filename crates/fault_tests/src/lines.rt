@@ -66,6 +66,15 @@ fn reads_and_writes_links_and_local_states(rt: HostRuntime) -> Result<(), Fail> 
 }
 
 #[test]
+fn reads_and_writes_nodes(rt: HostRuntime) -> Result<(), Fail> {
+    is_the_line_of(&rt, rt.alloc(), b"fault off 3", Fault::NodeDown { at: 3 })?;
+    is_the_line_of(&rt, rt.alloc(), b"fault on 3", Fault::NodeUp { at: 3 })?;
+    let greatest = Fault::NodeUp { at: 4_294_967_295 };
+    is_the_line_of(&rt, rt.alloc(), b"fault on 4294967295", greatest)?;
+    Ok(())
+}
+
+#[test]
 fn refuses_other_lines(rt: HostRuntime) -> Result<(), Fail> {
     for line in [
         b"".as_slice(),
@@ -86,6 +95,12 @@ fn refuses_other_lines(rt: HostRuntime) -> Result<(), Fail> {
         b"fault local 1".as_slice(),
         b"fault local 1 ".as_slice(),
         b"fault local 1 in /0".as_slice(),
+        b"fault off".as_slice(),
+        b"fault off ".as_slice(),
+        b"fault off 1 2".as_slice(),
+        b"fault on 01".as_slice(),
+        b"fault on 1 ".as_slice(),
+        b"fault of 1".as_slice(),
     ] {
         assert_eq!(rt; read_fault(rt.alloc(), line)?, None);
     }

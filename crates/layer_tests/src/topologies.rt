@@ -12,7 +12,10 @@ fn has_three_nodes(line: &Topology) -> bool {
         && line.id_at(3).is_none()
         && line.index_of(2) == Some(1)
         && line.index_of(4).is_none()
+        && line.nodes() == [1, 2, 3].as_slice()
+        && line.is_up(0)
         && line.greatest_of(0).get() == 3
+        && line.is_up(2)
         && line.greatest_of(2).get() == 3
 }
 
@@ -158,7 +161,9 @@ fn names_why_a_link_is_not_taken_out(rt: HostRuntime) -> Result<(), Fail> {
 // Whether these are the leaders of the nodes, in the order of the ids.
 fn has_leaders(topology: &Topology, leaders: &[u32]) -> bool {
     topology.len() == leaders.len()
-        && (0..topology.len()).all(|index| topology.greatest_of(index).get() == leaders[index])
+        && (0..topology.len()).all(|index| {
+            topology.is_up(index) && topology.greatest_of(index).get() == leaders[index]
+        })
 }
 
 // A path of the nodes 1, 3 and 7, and a link of the nodes 2 and 9.
@@ -278,5 +283,89 @@ fn there_is_room_for_8192_links(rt: HostRuntime) -> Result<(), Fail> {
     let one_less = full.without_link(rt.alloc(), 1, 2)?;
     let other = one_less.with_link(rt.alloc(), 139, 138)?;
     assert_eq!(rt; other.link_count(), MAX_LINKS);
+    Ok(())
+}
+
+// Whether these are the nodes 1 and 3 of the line, and no link.
+fn is_line_without_2(topology: &Topology) -> bool {
+    topology.len() == 3
+        && topology.ids() == [1, 2, 3].as_slice()
+        && topology.nodes() == [1, 3].as_slice()
+        && topology.node_count() == 2
+        && topology.link_count() == 0
+        && topology.index_of(2) == Some(1)
+        && topology.node_at(2).is_none()
+        && topology.node_at(3) == Some(2)
+        && !topology.is_up(1)
+        && topology.neighbours(0).is_empty()
+        && topology.neighbours(1).is_empty()
+        && topology.neighbours(2).is_empty()
+        && topology.is_up(0)
+        && topology.greatest_of(0).get() == 1
+}
+
+#[test]
+fn a_node_goes_down_with_its_links(rt: HostRuntime) -> Result<(), Fail> {
+    let line = Topology::build(rt.alloc(), &[1, 2, 3], &[(1, 2), (2, 3)])?;
+    let down = line.without_node(rt.alloc(), 2)?;
+    assert!(rt; is_line_without_2(&down));
+    assert!(rt; is_line_without_2(&down.copy(rt.alloc())?));
+    assert!(rt; has_three_nodes(&line) && has_two_links(&line));
+    Ok(())
+}
+
+#[test]
+fn a_node_comes_up_without_links(rt: HostRuntime) -> Result<(), Fail> {
+    let line = Topology::build(rt.alloc(), &[1, 2, 3], &[(1, 2), (2, 3)])?;
+    let down = line.without_node(rt.alloc(), 2)?;
+    let up = down.with_node(rt.alloc(), 2)?;
+    assert!(rt; up.nodes() == [1, 2, 3].as_slice());
+    assert!(rt; has_leaders(&up, &[1, 2, 3]));
+    assert_eq!(rt; up.link_count(), 0);
+    let linked = up.with_link(rt.alloc(), 2, 3)?;
+    assert!(rt; has_leaders(&linked, &[1, 3, 3]));
+    Ok(())
+}
+
+#[test]
+fn names_why_a_node_does_not_go_down_or_come_up(rt: HostRuntime) -> Result<(), Fail> {
+    let line = Topology::build(rt.alloc(), &[1, 2, 3], &[(1, 2), (2, 3)])?;
+    assert_eq!(rt;
+        fault_of(line.without_node(rt.alloc(), 4)),
+        Some(TopoFault::StrangeNode(4))
+    );
+    assert_eq!(rt;
+        fault_of(line.with_node(rt.alloc(), 4)),
+        Some(TopoFault::StrangeNode(4))
+    );
+    assert_eq!(rt;
+        fault_of(line.with_node(rt.alloc(), 3)),
+        Some(TopoFault::NodeIsUp)
+    );
+    let down = line.without_node(rt.alloc(), 3)?;
+    assert_eq!(rt;
+        fault_of(down.without_node(rt.alloc(), 3)),
+        Some(TopoFault::StrangeNode(3))
+    );
+    assert_eq!(rt;
+        fault_of(down.with_link(rt.alloc(), 2, 3)),
+        Some(TopoFault::StrangeNode(3))
+    );
+    assert_eq!(rt;
+        fault_of(down.without_link(rt.alloc(), 2, 3)),
+        Some(TopoFault::StrangeNode(3))
+    );
+    Ok(())
+}
+
+#[test]
+fn all_nodes_may_be_down(rt: HostRuntime) -> Result<(), Fail> {
+    let two = Topology::build(rt.alloc(), &[5, 4], &[(4, 5)])?;
+    let none = two.without_node(rt.alloc(), 4)?.without_node(rt.alloc(), 5)?;
+    assert_eq!(rt; none.len(), 2);
+    assert_eq!(rt; none.node_count(), 0);
+    assert!(rt; none.nodes().is_empty());
+    let one = none.with_node(rt.alloc(), 4)?;
+    assert!(rt; one.nodes() == [4].as_slice());
     Ok(())
 }

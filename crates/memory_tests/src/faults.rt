@@ -73,3 +73,18 @@ fn links_go_and_come(rt: HostRuntime) {
     let answer = disturb(&rt, rt.alloc(), &mut config, b"fault local 1 no/0");
     assert_eq!(rt; answer, Err(FaultRefusal::BadLocal));
 }
+
+#[test]
+fn nodes_go_and_come(rt: HostRuntime) {
+    let mut config: Config<EdgeReversal> = booted(&rt, rt.alloc(), triangle(&rt, rt.alloc()));
+    let answer = disturb(&rt, rt.alloc(), &mut config, b"fault off 1");
+    assert_eq!(rt; answer, Ok(()));
+    assert_eq!(rt; config.topology().link_count(), 1);
+    let answer = disturb(&rt, rt.alloc(), &mut config, b"fault off 1");
+    assert_eq!(rt; answer, Err(FaultRefusal::StrangeNode));
+    let answer = disturb(&rt, rt.alloc(), &mut config, b"fault on 1");
+    assert_eq!(rt; answer, Ok(()));
+    assert_eq!(rt; config.topology().link_count(), 1);
+    let answer = disturb(&rt, rt.alloc(), &mut config, b"fault on 1");
+    assert_eq!(rt; answer, Err(FaultRefusal::NodeIsUp));
+}

@@ -92,6 +92,19 @@ fn a_link_comes_and_goes(rt: HostRuntime) {
 }
 
 #[test]
+fn a_node_goes_and_comes(rt: HostRuntime) {
+    let line = line(&rt, rt.alloc());
+    let less =
+        again!(&rt; line.without_node(rt.alloc(), 2), TopoFault::NoMemory, line.link_count() == 2);
+    let less = less.expect(&rt, "a node that was up");
+    assert!(rt; less.nodes() == [1, 3].as_slice() && less.link_count() == 0);
+    let more =
+        again!(&rt; less.with_node(rt.alloc(), 2), TopoFault::NoMemory, less.node_count() == 2);
+    let more = more.expect(&rt, "a node that was down");
+    assert!(rt; more.nodes() == [1, 2, 3].as_slice() && more.link_count() == 0);
+}
+
+#[test]
 fn a_topology_is_put(rt: HostRuntime) {
     let mut config: Config<Token> = booted(&rt, rt.alloc(), line(&rt, rt.alloc()));
     let other = triangle(&rt, rt.alloc());

@@ -56,10 +56,10 @@ everyone ids seats none i there =
 -- seats that were told what the book has
 pub seat_lists : {L : Type 0} (app : App L) (from_text : List ℕ → Option L) (b : BookView L) (mark : ℕ)
     (told : List Receipt) (seats : List SeatView) → told ≡ receipts_after app from_text b mark
-    → first_missing b.config.graph.ids seats ≡ None → All (λ s. s.receipts ≡ of_node s.node told) seats
+    → first_missing b.config.graph.nodes seats ≡ None → All (λ s. s.receipts ≡ of_node s.node told) seats
     → AreSeatLists app from_text b mark (map list_of seats)
 seat_lists app from_text b mark told seats is none all = record {
-  all = everyone b.config.graph.ids seats none;
+  all = everyone b.config.graph.nodes seats none;
   told = All-map (λ (l : NodeList). l.1 ≡ seat_list app from_text b mark l.0) list_of seats
       (subst (λ t. All (λ s. s.receipts ≡ of_node s.node t) seats) is all);
 }
@@ -132,14 +132,14 @@ length-map (s ∷ ss) = omega (arith, length-map ss)
 -- all parts of the ledger are there, so its total is the number of the receipts
 pub closes : {L : Type 0} (app : App L) (from_text : List ℕ → Option L) (b : BookView L)
     (mark n total parts amount all_parts : ℕ) (seats : List SeatView) (lists : List NodeList)
-    → IsLocked app from_text b mark total n → IsStrictlyIncreasing b.config.graph.ids
+    → IsLocked app from_text b mark total n → IsStrictlyIncreasing b.config.graph.nodes
     → AreSeatLists app from_text b mark (map list_of seats) → lists ≡ map list_of seats
     → parts ≡ 1 + length lists → amount ≡ sum_by (λ l. length l.1) lists → parts ≤ all_parts → all_parts ≡ n + 1
     → (parts ≡ all_parts → amount ≡ total) → IsClosed app from_text b mark lists
 closes app from_text b mark n total parts amount all_parts seats lists locked up told is has_parts counts within cut
     whole =
     let same : length lists ≡ length seats = ap length is ∙ length-map seats in
-    let many : n ≤ length seats = omega (arith, locked.nodes, as_many b.config.graph.ids seats up told.all) in
+    let many : n ≤ length seats = omega (arith, locked.nodes, as_many b.config.graph.nodes seats up told.all) in
     let all : length lists ≡ n = omega (arith, same, many, within, cut, has_parts) in
     let sum : sum_by (λ l. length l.1) lists ≡ total = sym counts ∙ whole (omega (arith, has_parts, cut, all)) in
     record {
@@ -156,7 +156,7 @@ closes app from_text b mark n total parts amount all_parts seats lists locked up
 
 pub decides : {L : Type 0} (app : App L) (from_text : List ℕ → Option L) (b : BookView L) (mark : ℕ)
     (told : List Receipt) (seats : List SeatView) (r : Result (Unit {0}) CloseFault)
-    → told ≡ receipts_after app from_text b mark → first_missing b.config.graph.ids seats ≡ None
+    → told ≡ receipts_after app from_text b mark → first_missing b.config.graph.nodes seats ≡ None
     → OnOk r (All (λ s. s.receipts ≡ of_node s.node told) seats)
     → IfErr r (λ f. (i : ℕ) → f ≡ ListsDiffer i → IsFirstDiffering told seats i)
     → IfErr r (λ f. (i : ℕ) → f ≢ SeatMissing i)

@@ -55,11 +55,11 @@ pub record IsFirstDiffering (told : List Receipt) (seats : List SeatView) (i : �
 -- the first fault of the seats. Want of memory may stand in place of a list that differs
 abbrev pub IsUnclosed : {L : Type 0} → App L → (List ℕ → Option L) → BookView L → ℕ → List SeatView → CloseFault
     → Type 0
-IsUnclosed app from_text b mark seats (SeatMissing i) = first_missing b.config.graph.ids seats ≡ Some i
+IsUnclosed app from_text b mark seats (SeatMissing i) = first_missing b.config.graph.nodes seats ≡ Some i
 IsUnclosed app from_text b mark seats (ListsDiffer i) =
-    (first_missing b.config.graph.ids seats ≡ None)
+    (first_missing b.config.graph.nodes seats ≡ None)
     × IsFirstDiffering (receipts_after app from_text b mark) seats i
-IsUnclosed app from_text b mark seats NoMemory = first_missing b.config.graph.ids seats ≡ None
+IsUnclosed app from_text b mark seats NoMemory = first_missing b.config.graph.nodes seats ≡ None
 
 -- the fault of the seats by the book that lay under the lock
 pub record IsCloseFault {L : Type 0} (app : App L) (from_text : List ℕ → Option L) (mark nodes : ℕ)

@@ -24,7 +24,7 @@ is_step (Disturbed f) = false
 pub record IsLocked {L : Type 0} (app : App L) (from_text : List ℕ → Option L) (b : BookView L)
     (mark total seats : ℕ) : Type 0 where
   pub book : IsBook app from_text b
-  pub nodes : length b.config.graph.ids ≡ seats
+  pub nodes : length b.config.graph.nodes ≡ seats
   pub counted : mark + total ≡ length b.entries
   pub steps : list_all is_step (drop mark b.entries) ≡ true
 

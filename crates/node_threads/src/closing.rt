@@ -91,10 +91,10 @@ impl<L: Round, P: Application> Locked<L, P> {
     /// told exactly its node's entries since the mark.
     pub fn close_in(&self, alloc: Global, seats: &[Seat<L>]) -> Result<(), CloseFault>
         ensures ok { OnOk result (AreSeatLists P.app P.from_text self.now.book self.now.mark (map list_of seats.now)) }
-        ensures seated { OnOk result (first_missing self.now.book.config.graph.ids seats.now ≡ None) }
+        ensures seated { OnOk result (first_missing self.now.book.config.graph.nodes seats.now ≡ None) }
         ensures err { IfErr result (IsUnclosed P.app P.from_text self.now.book self.now.mark seats.now) }
     {
-        match first_missing(self.book.config().topology().ids(), seats) {
+        match first_missing(self.book.config().topology().nodes(), seats) {
             None => {}
             Some(node) => return Err(CloseFault::SeatMissing(node)),
         }

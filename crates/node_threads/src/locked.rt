@@ -26,7 +26,7 @@ pub struct Locked<L: Round, P: Application> {
     pub(crate) mark: usize,
     pub(crate) tally: Tally<L>,
     ghost mark_is: { mark ≡ L.mark },
-    ghost nodes: { length book.config.graph.ids ≡ L.seats },
+    ghost nodes: { length book.config.graph.nodes ≡ L.seats },
     ghost counted: { mark + tally.total ≡ length book.entries },
     ghost steps: { list_all is_step (drop mark book.entries) ≡ true },
 }

@@ -75,22 +75,22 @@ pub fn run_nodes<P: Application, G: Gate + Sync, R: Threads + Wait + Sync>(
 ) -> Result<Outcome<P>, RunFault<P>>
     requires { turns ≤ 100000 }
     ensures closed { IfOk result (λ o. IsClosed P.app P.from_text o.book (length book.entries) o.seats.items) }
-    ensures few { OnOk result (length book.config.graph.ids ≤ 64) }
+    ensures few { OnOk result (length book.config.graph.nodes ≤ 64) }
     ensures there { OnOk result (IfSome selected (λ i. IsNode book.config.graph i)) }
     ensures strange { IfErr result (λ e. e.cause ≡ RunCause.StrangeNode
         → MatchOption selected ⊥ (λ i. IsNode book.config.graph i → ⊥)) }
-    ensures many { IfErr result (λ e. e.cause ≡ RunCause.TooManyForThreads → 64 < length book.config.graph.ids) }
+    ensures many { IfErr result (λ e. e.cause ≡ RunCause.TooManyForThreads → 64 < length book.config.graph.nodes) }
     ensures back { IfErr result (λ e. (e.cause ≡ RunCause.StrangeNode → e.book ≡ book)
         × (e.cause ≡ RunCause.TooManyForThreads → e.book ≡ book)) }
     ensures stands { IfErr result (λ e. WasLocked P.app P.from_text (length book.entries)
-        (length book.config.graph.ids) (λ b. e.book ≡ b)) }
+        (length book.config.graph.nodes) (λ b. e.book ≡ b)) }
 {
     lemma_stands(&book);
     if !is_there(&book, selected) {
         let cause = RunCause::StrangeNode;
         return Err(RunFault { cause, book });
     }
-    let nodes = book.config().topology().len();
+    let nodes = book.config().topology().node_count();
     if nodes > MAX_SEATS {
         let cause = RunCause::TooManyForThreads;
         return Err(RunFault { cause, book });
@@ -123,7 +123,7 @@ fn run_round<L: Round + Send + Sync, P: Application, G: Gate + Sync, R: Threads 
     requires parts { blank.parts ≡ L.parts }
     requires one_more { L.parts ≡ L.seats + 1 }
     requires mark { length book.entries ≡ L.mark }
-    requires nodes { length book.config.graph.ids ≡ L.seats }
+    requires nodes { length book.config.graph.nodes ≡ L.seats }
     requires stands { WasLocked P.app P.from_text L.mark L.seats (λ b. book ≡ b) }
     ensures closed { IfOk result (λ o. IsClosed P.app P.from_text o.book L.mark o.seats.items) }
     ensures strange { IfErr result (λ e. e.cause ≢ RunCause.StrangeNode) }
@@ -171,7 +171,7 @@ fn run_round<L: Round + Send + Sync, P: Application, G: Gate + Sync, R: Threads 
 
 // A book that was never under a lock stands as one that lay there, with no entry since.
 fn lemma_stands<P: Application>(book: &Book<P>)
-    ensures { WasLocked P.app P.from_text (length book.now.entries) (length book.now.config.graph.ids)
+    ensures { WasLocked P.app P.from_text (length book.now.entries) (length book.now.config.graph.nodes)
         (λ b. book.now ≡ b) }
 {
     book.lemma_is_book();

@@ -44,13 +44,13 @@ pub fn share<L: Round, P: Application>(
     requires parts { blank.parts ≡ L.parts }
     requires one_more { L.parts ≡ L.seats + 1 }
     requires mark { length book.entries ≡ L.mark }
-    requires nodes { length book.config.graph.ids ≡ L.seats }
-    ensures seats { IfOk result (λ r. r.1.items ≡ map empty_seat book.config.graph.ids) }
+    requires nodes { length book.config.graph.nodes ≡ L.seats }
+    ensures seats { IfOk result (λ r. r.1.items ≡ map empty_seat book.config.graph.nodes) }
     ensures few { OnOk result (L.seats ≤ 64) }
     ensures many { IfErr result (λ e. e.0 ≡ ShareFault.TooManyForThreads → 64 < L.seats) }
     ensures returned { IfErr result (λ e. (e.1 ≡ blank) × (e.2 ≡ book)) }
 {
-    let nodes = book.config().topology().len();
+    let nodes = book.config().topology().node_count();
     if nodes > MAX_SEATS {
         return Err((ShareFault::TooManyForThreads, blank, book));
     }
@@ -60,7 +60,7 @@ pub fn share<L: Round, P: Application>(
     };
     let mark = book.len();
     let (tally, all) = blank.open::<L>();
-    let (seats, last) = seat_all(alloc, book.config().topology().ids(), seats, all);
+    let (seats, last) = seat_all(alloc, book.config().topology().nodes(), seats, all);
     let shared = Shared {
         locked: Mutex::new(Locked { book, mark, tally }),
         last,

@@ -30,7 +30,7 @@ pub(crate) fn play<S: Scene, R: Wait + Abort>(
     alloc: Global,
     book: Book<Idle>,
 ) -> Result<(), (ShareFault, Book<Idle>)> {
-    let nodes = book.config().topology().len();
+    let nodes = book.config().topology().node_count();
     let blank = Blank::new(nodes as u64 + 1);
     play_round::<Brand, S, R>(rt, alloc, blank, book)
 }
@@ -45,7 +45,7 @@ fn play_round<L: Round, S: Scene, R: Wait + Abort>(
     requires parts { blank.parts ≡ L.parts }
     requires one_more { L.parts ≡ L.seats + 1 }
     requires mark { length book.entries ≡ L.mark }
-    requires nodes { length book.config.graph.ids ≡ L.seats }
+    requires nodes { length book.config.graph.nodes ≡ L.seats }
 {
     match share::<L, Idle>(alloc, blank, book) {
         Ok((shared, seats)) => {

@@ -309,7 +309,7 @@ fn tokens(rt: &impl Abort, alloc: Global, config: &Config<Token>, leader: u32) -
     assert_eq!(rt; states.len(), ids.len());
     let mut count = 0usize;
     for index in 0..topology.len() {
-        if topology.greatest_of(index).get() != leader {
+        if !topology.is_up(index) || topology.greatest_of(index).get() != leader {
             continue;
         }
         let own = &states[index];

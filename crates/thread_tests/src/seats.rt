@@ -3,6 +3,7 @@
 use crate::rounds::{Scene, applied, closed, planned, play, seen, sees_initiate, three};
 use crate::topologies::{line, opened, star};
 use app_interface::Idle;
+use fault_inject::Fault;
 use history::{ApplyRefusal, Book, BookRefusal, Entry};
 use node_threads::{
     CloseFault, CommitRefusal, Round, Seat, SeatRefusal, ShareFault, Shared, close, select,
@@ -228,6 +229,104 @@ fn sixty_five_nodes_are_too_many_and_the_book_comes_back(rt: HostRuntime) {
             let request = Entry::Step(Event::Request { at: 2 });
             assert_eq!(rt; book.len(), 1);
             assert!(rt; book.entry(1) == Some(&request));
+        }
+    }
+}
+
+// A book of the star with this many nodes, of which those from 2 on go down in turn until so many are up.
+fn thinned_book(rt: &impl Abort, alloc: Global, count: u32, up: u32) -> Book<Idle> {
+    let mut book = opened::<Idle>(rt, alloc, star(rt, alloc, count));
+    for at in 2..count.saturating_sub(up).saturating_add(2) {
+        assert!(rt; book.disturb(alloc, Fault::NodeDown { at }).is_ok());
+    }
+    book
+}
+
+struct OfThoseUp;
+
+impl Scene for OfThoseUp {
+    fn play<L: Round, R: Wait + Abort>(
+        rt: &R,
+        alloc: Global,
+        shared: Shared<L, Idle>,
+        seats: Vec<Seat<L>>,
+    ) {
+        assert_eq!(rt; seats.len(), 2);
+        for (seat, node) in seats.iter().zip([1, 2]) {
+            assert_eq!(rt; seat.node(), node);
+        }
+        match close(alloc, shared, seats) {
+            Ok(outcome) => assert_eq!(rt; outcome.book.len(), 1),
+            Err(_) => panic!(rt; "the seats of all nodes that are up"),
+        }
+    }
+}
+
+#[test]
+fn nodes_that_are_up_have_seats(rt: HostRuntime) {
+    let mut book = opened::<Idle>(&rt, rt.alloc(), line(&rt, rt.alloc()));
+    assert!(rt; book.disturb(rt.alloc(), Fault::NodeDown { at: 3 }).is_ok());
+    assert!(rt; play::<OfThoseUp, HostRuntime>(&rt, rt.alloc(), book).is_ok());
+}
+
+struct Empty;
+
+impl Scene for Empty {
+    fn play<L: Round, R: Wait + Abort>(
+        rt: &R,
+        alloc: Global,
+        shared: Shared<L, Idle>,
+        seats: Vec<Seat<L>>,
+    ) {
+        assert!(rt; seats.is_empty());
+        match close(alloc, shared, seats) {
+            Ok(outcome) => {
+                assert_eq!(rt; outcome.book.len(), 3);
+                assert!(rt; outcome.seats.is_empty());
+            }
+            Err(_) => panic!(rt; "no node is up"),
+        }
+    }
+}
+
+#[test]
+fn no_node_is_up_and_none_has_a_seat(rt: HostRuntime) {
+    let mut book = opened::<Idle>(&rt, rt.alloc(), line(&rt, rt.alloc()));
+    for at in [1, 2, 3] {
+        assert!(rt; book.disturb(rt.alloc(), Fault::NodeDown { at }).is_ok());
+    }
+    assert!(rt; play::<Empty, HostRuntime>(&rt, rt.alloc(), book).is_ok());
+}
+
+struct ManyUp;
+
+impl Scene for ManyUp {
+    fn play<L: Round, R: Wait + Abort>(
+        rt: &R,
+        alloc: Global,
+        shared: Shared<L, Idle>,
+        seats: Vec<Seat<L>>,
+    ) {
+        assert_eq!(rt; seats.len(), 64);
+        assert!(rt; seats.iter().all(|seat| seat.node() == 1 || seat.node() > 961));
+        assert!(rt; close(alloc, shared, seats).is_ok());
+    }
+}
+
+#[test]
+fn sixty_four_nodes_of_1024_are_shared(rt: HostRuntime) {
+    let book = thinned_book(&rt, rt.alloc(), 1024, 64);
+    assert!(rt; play::<ManyUp, HostRuntime>(&rt, rt.alloc(), book).is_ok());
+}
+
+#[test]
+fn sixty_five_nodes_of_1024_are_too_many(rt: HostRuntime) {
+    let book = thinned_book(&rt, rt.alloc(), 1024, 65);
+    match play::<ManyUp, HostRuntime>(&rt, rt.alloc(), book) {
+        Ok(()) => panic!(rt; "too many nodes"),
+        Err((fault, book)) => {
+            assert_eq!(rt; fault, ShareFault::TooManyForThreads);
+            assert_eq!(rt; book.config().topology().node_count(), 65);
         }
     }
 }

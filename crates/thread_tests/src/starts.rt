@@ -3,6 +3,7 @@
 use crate::topologies::{line, opened, small, star};
 use crate::turns::Still;
 use app_interface::Idle;
+use fault_inject::Fault;
 use history::{Book, Entry};
 use node_threads::{Outcome, RunCause, run_nodes};
 use reset_machine::Event;
@@ -59,6 +60,36 @@ fn without_a_selected_node_nothing_happens(rt: HostRuntime) {
     assert_eq!(rt; outcome.seats.len(), 3);
     for list in &outcome.seats {
         assert!(rt; list.receipts.is_empty());
+    }
+}
+
+// The book of the line, of which these nodes are down.
+fn line_without(rt: &impl Abort, alloc: Global, down: &[u32]) -> Book<Idle> {
+    let mut book = opened::<Idle>(rt, alloc, line(rt, alloc));
+    for at in down {
+        assert!(rt; book.disturb(alloc, Fault::NodeDown { at: *at }).is_ok());
+    }
+    book
+}
+
+#[test]
+fn no_node_is_up_and_nothing_happens(rt: HostRuntime) {
+    let book = line_without(&rt, rt.alloc(), &[1, 2, 3]);
+    let outcome = run(&rt, rt.alloc(), book, None);
+    assert_eq!(rt; outcome.book.len(), 3);
+    assert!(rt; outcome.seats.is_empty());
+}
+
+#[test]
+fn a_node_that_is_down_is_strange_and_has_no_seat(rt: HostRuntime) {
+    let (cause, book) = refusal(&rt, rt.alloc(), line_without(&rt, rt.alloc(), &[3]), Some(3));
+    assert_eq!(rt; cause, RunCause::StrangeNode);
+    assert_eq!(rt; book.len(), 1);
+    let outcome = run(&rt, rt.alloc(), book, Some(1));
+    assert_eq!(rt; outcome.seats.len(), 2);
+    assert!(rt; has_step(&outcome.book, 2, Event::Request { at: 1 }));
+    for list in &outcome.seats {
+        assert!(rt; list.node == 1 || list.node == 2);
     }
 }
 

@@ -60,7 +60,7 @@ impl Topology {
     pub fn node_count(&self) -> usize
         ensures { result ≡ length self.now.nodes }
     {
-        self.ids.nodes().len()
+        self.nodes().len()
     }
 
     /// The number of links.
@@ -84,6 +84,13 @@ impl Topology {
         ensures { result.now ≡ self.now.ids }
     {
         self.ids.as_slice()
+    }
+
+    /// The identifiers of the nodes, which are those that are up, ascending.
+    pub fn nodes(&self) -> &[u32]
+        ensures { result.now ≡ self.now.nodes }
+    {
+        self.ids.nodes()
     }
 
     /// The identifier at this index. None from the number of identifiers on.

@@ -26,6 +26,6 @@ returns-in-Err-with_capacity-clause-err g c =
       total = l.tally.total;
       locked = c.lemma_is_locked.ensures.locked;
       why =
-          subst (λ seats. first_missing l.book.config.graph.ids seats ≡ None) c.deref.ensures.value
+          subst (λ seats. first_missing l.book.config.graph.nodes seats ≡ None) c.deref.ensures.value
           c.in-Ok.ensures.seated;
     }

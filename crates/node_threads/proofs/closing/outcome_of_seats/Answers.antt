@@ -50,8 +50,8 @@ returns-clause-closed g c =
     let same : length l.lists.items ≡ length seats = omega (arith, c.in-None.ensures.steps.0, l.invariant.2) in
     closes app from_text b g.L.Round.mark g.L.Round.seats c.args.locked.tally.total l.all.parts l.all.amount
     g.L.Ledger.parts seats l.lists.items c.lemma_is_locked.ensures.locked
-    (subst (λ (k : Configuration g.row.P-Local.Denot). IsStrictlyIncreasing k.graph.ids) c.config.ensures
-    c.lemma_is_graph.ensures.graph.ascending)
+    (subst (λ (k : Configuration g.row.P-Local.Denot). IsStrictlyIncreasing k.graph.nodes) c.config.ensures
+    c.lemma_is_graph.ensures.graph.rising)
     (subst (λ m. AreSeatLists app from_text b m (map list_of seats)) c.lemma_is_locked.ensures.mark c.requires.seats)
     (collected_all _ _ _ _ _ same l.invariant.0) l.invariant.0.has_parts l.invariant.0.counts l.invariant.1
     c.lemma_one_more.ensures c.audit.ensures.whole

@@ -8,9 +8,9 @@ pub returns-in-Ok : goal.returns-in-Ok
 returns-in-Ok g c =
     let l = c.args.self.now in
     let seats = c.args.seats.now in
-    let ids = c.ids.ensures ∙ ap (λ (t : Graph). t.ids) (c.topology.ensures ∙ ap (λ k. k.graph) c.config.ensures) in
-    let none : first_missing l.book.config.graph.ids seats ≡ None =
-    sym (c.first_missing.ensures ∙ ap (λ is. first_missing is seats) ids) ∙ c.in-None.is in
+    let nodes = c.nodes.ensures ∙ ap (λ (t : Graph). t.nodes) (c.topology.ensures ∙ ap (λ k. k.graph) c.config.ensures) in
+    let none : first_missing l.book.config.graph.nodes seats ≡ None =
+    sym (c.first_missing.ensures ∙ ap (λ is. first_missing is seats) nodes) ∙ c.in-None.is in
     let both = decides g.P.Application.app g.P.Application.from_text l.book l.mark c.deref.result.now seats
     c.compared.result (c.deref.ensures.value ∙ c.in-Ok.ensures) none c.compared.ensures.ok c.compared.ensures.differs
     c.compared.ensures.all in

@@ -7,7 +7,7 @@ use Rattle.node_threads.proofs.locked.Locked.commit_in.Goals as goal
 pub invariant_of-self-clause-nodes : goal.invariant_of-self-clause-nodes
 invariant_of-self-clause-nodes g c =
     let l = c.args.self.now in
-    ap (λ k. length k.ids) (booked_graph g.P.Application.app l.book c.args.plan.event c.apply.new.self
+    ap (λ k. length k.nodes) (booked_graph g.P.Application.app l.book c.args.plan.event c.apply.new.self
     c.in-Ok-apply.receipt
     c.in-Ok-apply.ensures.ok.0) ∙ l.nodes
 

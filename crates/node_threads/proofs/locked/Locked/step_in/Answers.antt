@@ -7,7 +7,7 @@ use Rattle.node_threads.proofs.locked.Locked.step_in.Goals as goal
 pub invariant_of-self-clause-nodes : goal.invariant_of-self-clause-nodes
 invariant_of-self-clause-nodes g c =
     let l = c.args.self.now in
-    ap (λ k. length k.ids) (booked_graph g.P.Application.app l.book c.args.event c.step.new.self c.in-Ok-step.receipt
+    ap (λ k. length k.nodes) (booked_graph g.P.Application.app l.book c.args.event c.step.new.self c.in-Ok-step.receipt
     c.in-Ok-step.ensures.outcome) ∙ l.nodes
 
 pub invariant_of-self-clause-counted : goal.invariant_of-self-clause-counted
