@@ -131,7 +131,22 @@ no_local text rest at first only (SetLocal a v) fits is =
     only (rw text fits.1)
 no_local text rest at first only f fits is = absurd (omega (arith, ap kind_bytes is))
 
+pub no_off : (text : List ℕ) → ((n : ℕ) → n < 2 ^ 32 → text ≡ decimal n → ⊥)
+    → IsReadOf (codes "fault" ∷ codes "off" ∷ words_of text) None
+no_off text only (NodeDown b) fits is = only b fits (line-words text (decimal b ∷ []) (cc))
+no_off text only f fits is = absurd (omega (arith, ap kind_bytes is))
+
+pub no_on : (text : List ℕ) → ((n : ℕ) → n < 2 ^ 32 → text ≡ decimal n → ⊥)
+    → IsReadOf (codes "fault" ∷ codes "on" ∷ words_of text) None
+no_on text only (NodeUp b) fits is = only b fits (line-words text (decimal b ∷ []) (cc))
+no_on text only f fits is = absurd (omega (arith, ap kind_bytes is))
+
 -- ---- a fault has the words
+
+pub number_found : (text kind : List ℕ) (n : ℕ) → text ≡ decimal n → n < 2 ^ 32
+    → codes "fault" ∷ kind ∷ words_of text ≡ codes "fault" ∷ kind ∷ decimal n ∷ []
+number_found text kind n is small =
+    ap (λ ws. codes "fault" ∷ kind ∷ ws) (ap words_of is ∙ words_of-decimal n small)
 
 pub wave_found : (text rest word session : List ℕ) (at n : ℕ) (phase : Phase)
     → words_of text ≡ decimal at ∷ words_of rest → words_of rest ≡ word ∷ words_of session

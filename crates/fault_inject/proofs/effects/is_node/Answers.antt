@@ -1,4 +1,4 @@
-use Rattle.std.proofs.Common.{is_some, sym, ap, ◌∙◌}
+use Rattle.std.proofs.Common.{is_some, ap, ◌∙◌}
 use Rattle.topology.specs.Graph.{Graph, node_at}
 use Rattle.fault_inject.proofs.FoundNodes.{node_tested}
 use Rattle.fault_inject.proofs.effects.is_node.Goals as goal
