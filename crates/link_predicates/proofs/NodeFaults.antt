@@ -1,11 +1,11 @@
 -- The faults of one link after another are those of all of them.
 use Rattle.std.proofs.Common.{◌≡◌, ℕ, ◌+◌, ◌<◌, ◌==◌, Bool, true, false, List, [], ◌∷◌, ◌++◌, Option, Some, None}
-use Rattle.std.proofs.Common.{Contains, length, take, drop, get_or, slice_index, position, find, flat_map, map, refl}
+use Rattle.std.proofs.Common.{length, take, drop, get_or, slice_index, find, flat_map, map, refl}
 use Rattle.std.proofs.Common.{append-nil, cond, filter, sym, ap, ◌∙◌, add-one, true≢false}
 use Rattle.std.specs.Option.{IfNone, IfSome, is_some, option_map, option_or}
 use Rattle.std.proofs.Math.Seq.{take-suc}
 use Rattle.std.proofs.lemmas.List.{at_drop_more, flat_map_more}
-use Rattle.std.proofs.lemmas.List.Elements.{filter-append}
+use Rattle.std.proofs.lemmas.List.Elements.{filter_more}
 use Rattle.std.proofs.lemmas.List.Folds.{find-append}
 use Rattle.std.proofs.lemmas.List.Quantifiers.{position-Some}
 use Rattle.app_interface.specs.Application.{App}
@@ -36,23 +36,20 @@ no_node g graph id (Some index) found = tt
 -- what is told of the identifiers that are up, with one more identifier: one that is up, and one that is down
 module _ {A : Type 0} (f : ℕ → List A) (p : ℕ → Bool) (xs : List ℕ) (k : ℕ) (found : List A) (short : k < length xs)
     (so_far : found ≡ flat_map f (filter p (take k xs))) where
-  more : filter p (take (k + 1) xs) ≡ filter p (take k xs) ++ filter p (get_or xs k 0 ∷ [])
-  more =
-      ap (filter p) (ap (λ n. take n xs) (add-one k) ∙ take-suc xs k 0 short)
-      ∙ filter-append p (take k xs) (get_or xs k 0 ∷ [])
+  -- what is told of those before the index that are up, and of this one where b says that it is
+  abbrev told_with : Bool → List A
+  told_with b = flat_map f (filter p (take k xs) ++ cond b (get_or xs k 0 ∷ []) [])
 
   pub one_up : (after : List A) → p (get_or xs k 0) ≡ true → after ≡ found ++ f (get_or xs k 0)
       → after ≡ flat_map f (filter p (take (k + 1) xs))
   one_up after up told =
       told ∙ ap (λ l. l ++ f (get_or xs k 0)) so_far ∙ flat_map_more f [] (filter p (take k xs)) (get_or xs k 0)
-      ∙ ap (λ l. flat_map f (filter p (take k xs) ++ l)) (sym (ap (λ b. cond b (get_or xs k 0 ∷ []) []) up))
-      ∙ ap (flat_map f) (sym more)
+      ∙ ap told_with (sym up) ∙ ap (flat_map f) (sym (filter_more p xs k 0 short))
 
   pub one_down : p (get_or xs k 0) ≡ false → found ≡ flat_map f (filter p (take (k + 1) xs))
   one_down down =
-      so_far
-      ∙ ap (flat_map f) (sym (append-nil (filter p (take k xs)))
-      ∙ ap (λ l. filter p (take k xs) ++ l) (sym (ap (λ b. cond b (get_or xs k 0 ∷ []) []) down)) ∙ sym more)
+      so_far ∙ ap (flat_map f) (sym (append-nil (filter p (take k xs)))) ∙ ap told_with (sym down)
+      ∙ ap (flat_map f) (sym (filter_more p xs k 0 short))
 
 -- what is told of one more node of a list
 pub more_told : {X A : Type 0} (f : X → List A) (xs : List X) (k : ℕ) (d : X) (first before after : List A)

@@ -1,4 +1,5 @@
 use Rattle.std.proofs.Common.{◌≡◌, ◌++◌, flat_map, take}
+use Rattle.topology.specs.Graph.{node_bound}
 use Rattle.reset_machine.proofs.NearSeen.{at_indexes}
 use Rattle.reset_model.specs.View.{near_of}
 use Rattle.link_predicates.specs.Faults.{link_faults}

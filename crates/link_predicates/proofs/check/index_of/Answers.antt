@@ -1,5 +1,5 @@
-use Rattle.std.proofs.Common.{sym, ap, subst, ◌∙◌}
-use Rattle.topology.specs.Graph.{Graph, IsGraph, node_at}
+use Rattle.std.proofs.Common.{ap, ◌∙◌}
+use Rattle.topology.specs.Graph.{Graph, node_at}
 use Rattle.link_predicates.proofs.NodeFaults.{found_node, no_node}
 use Rattle.link_predicates.proofs.check.index_of.Goals as goal
 

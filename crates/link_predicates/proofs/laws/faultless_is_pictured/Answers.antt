@@ -1,4 +1,4 @@
-use Rattle.std.proofs.Common.{◌≤◌, length, arith}
+use Rattle.std.proofs.Common.{arith}
 use Rattle.topology.specs.Graph.{node_bound}
 use Rattle.reset_model.specs.Configuration.{tree_of, wave_of}
 use Rattle.link_predicates.proofs.laws.faultless_is_pictured.Goals as goal

@@ -1,6 +1,6 @@
 use Rattle.std.proofs.Common.{◌≤◌, ap, length, sym, subst, arith}
 use Rattle.topology.specs.Components.{component}
-use Rattle.topology.specs.Graph.{AreLinked, IsGraph, IsNode, node_bound}
+use Rattle.topology.specs.Graph.{IsGraph, IsNode, node_bound}
 use Rattle.topology.proofs.Components.{component_is, reached_itself}
 use Rattle.reset_model.specs.Refinement.{abstract_of}
 use Rattle.link_predicates.proofs.Silence.{silent}
