@@ -76,7 +76,7 @@ The commands of a script, at node I with its neighbour J and its child C:
   show, show I, newest, enabled I, ready
   check, check I, alarm I, watch I
   fault tree I ROOT FATHER DIST, fault wave I PHASE SESSION, fault local I TEXT
-  fault down A B, fault up A B, draw SEED
+  fault down A B, fault up A B, fault off I, fault on I, draw SEED
 A CASE is the name of an action of the application, or its number. They are
   act I pass J, act I take J    of token
   act I enter, act I leave      of mutex
@@ -126,15 +126,15 @@ status 2.",
     input: HISTORY_HELP,
     after_help: "\
 A history:
-  reset-history 2 8
+  reset-history 3 8
   request 3
   open 3
-The first line is `reset-history 2 M`, where sessions are counted modulo M, the topology's
-`modulus`; `reset-history 1` is read as one with M = 4294967296. Each line after the first is one
-entry, a command of a script that `replay` answers with `applied`, `complete NUMBER` or
-`disturbed`, an action with the number of its case; `reset-service replay --help` tells the
-commands. There are no comments, no empty lines, no questions and no draws, and each line, the last
-one too, ends with a line feed.
+The first line is `reset-history 3 M`, where sessions are counted modulo M, the topology's
+`modulus`. `reset-history 2 M` is read too, and `reset-history 1` as one with M = 4294967296; these
+two have neither `fault off` nor `fault on`. Each line after the first is one entry, a command of a
+script that `replay` answers with `applied`, `complete NUMBER` or `disturbed`, an action with the
+number of its case; `reset-service replay --help` tells the commands. There are no comments, no
+empty lines, no questions and no draws, and each line, the last one too, ends with a line feed.
 
 Example:
   reset-service verify examples/verified-wave/topology.toml examples/verified-wave/history",

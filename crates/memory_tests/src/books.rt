@@ -15,7 +15,7 @@ use std::process::Abort;
 use test_networks::WHOLE_RESET;
 use wave_layer::{Phase, WaveRegs};
 
-const HISTORY: &[u8] = b"reset-history 2 4294967296\nrequest 1\nrelay 2 1\n";
+const HISTORY: &[u8] = b"reset-history 3 4294967296\nrequest 1\nfault off 3\nrelay 2 1\n";
 
 const REFUSED: &[u8] = b"reset-history 1\nrequest 3\nopen 3\njoin 1\n";
 
@@ -118,7 +118,7 @@ fn entries_are_verified(rt: HostRuntime) {
         answer => answer,
     };
     match summary {
-        Ok(summary) => assert!(rt; summary.entries == 2 && summary.reports.is_empty()),
+        Ok(summary) => assert!(rt; summary.entries == 3 && summary.reports.is_empty()),
         Err(_) => panic!(rt; "entries that are allowed"),
     }
 }
@@ -139,7 +139,7 @@ fn a_text_is_verified(rt: HostRuntime) {
             answer => answer,
         };
         match (told, refused) {
-            (Ok(summary), None) => assert_eq!(rt; summary.entries, 2),
+            (Ok(summary), None) => assert_eq!(rt; summary.entries, 3),
             (Err(fault), Some(at)) => {
                 assert_eq!(rt; fault, ReaderFault::Entries(VerifyFault::NotEnabledAt(at)));
             }

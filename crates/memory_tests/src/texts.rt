@@ -109,14 +109,14 @@ fn a_thread_of_a_node_alone_is_told(rt: HostRuntime) {
         assert!(rt; out.text().is_empty());
     } else {
         assert_eq!(rt; result, Ok(Status::Good));
-        assert!(rt; history.text().starts_with(b"reset-history 2 4294967296\n"));
+        assert!(rt; history.text().starts_with(b"reset-history 3 4294967296\n"));
         return;
     }
     let (result, history, out) = alone(&rt, rt.alloc());
     assert_eq!(rt; result, Ok(Status::Good));
     assert_eq!(rt;
         history.text(),
-        b"reset-history 2 4294967296\nrequest 7\nopen 7\nfinish 7\n".as_slice()
+        b"reset-history 3 4294967296\nrequest 7\nopen 7\nfinish 7\n".as_slice()
     );
     assert_eq!(rt;
         out.text(),
