@@ -1,5 +1,5 @@
 -- The line of an entry is its own, and has no line feed.
-use Rattle.std.proofs.Common.{◌≡◌, ℕ, true, true≢false, List, [], ◌∷◌, get_or, refl, sym, ap, ◌∙◌}
+use Rattle.std.proofs.Common.{◌≡◌, ℕ, All, true, true≢false, List, [], ◌∷◌, get_or, slice_index_or, refl, sym, ap, ◌∙◌}
 use Rattle.std.proofs.Common.{arith}
 use Rattle.std.specs.Prelude.{codes}
 use Rattle.std.specs.Char.{is_ascii_graphic}
@@ -19,10 +19,11 @@ use Rattle.reset_model.proofs.PlainLines.{event_plain, joined, letters, number}
 use Rattle.fault_inject.specs.FaultText as fault
 use Rattle.fault_inject.specs.declared.fault.Fault.{Fault}
 use Rattle.fault_inject.specs.declared.fault.Fault.TheVariants.{SetTree, SetWave, SetLocal, LinkDown, LinkUp}
+use Rattle.fault_inject.specs.declared.fault.Fault.TheVariants.{NodeDown, NodeUp}
 use Rattle.fault_inject.proofs.FaultLines.{one_fault}
 use Rattle.history.specs.declared.entry.Entry.{Entry}
 use Rattle.history.specs.declared.entry.Entry.TheVariants.{Step, Disturbed}
-use Rattle.history.specs.HistoryText.{Fits, IsPrintable, entry_line}
+use Rattle.history.specs.HistoryText.{Fits, HasLine, HasLineIn, IsInVersion, IsPrintable, entry_line}
 
 -- ---- no line feed
 
@@ -68,6 +69,12 @@ fault_plain (LinkDown a b) h p =
 fault_plain (LinkUp a b) h p =
     joined (codes "fault") (codes "up" ∷ decimal a ∷ decimal b ∷ [])
     (letters (codes "fault") refl, (letters (codes "up") refl, (number a h.0, (number b h.1, tt))))
+fault_plain (NodeDown at) h p =
+    joined (codes "fault") (codes "off" ∷ decimal at ∷ [])
+    (letters (codes "fault") refl, (letters (codes "off") refl, (number at h, tt)))
+fault_plain (NodeUp at) h p =
+    joined (codes "fault") (codes "on" ∷ decimal at ∷ [])
+    (letters (codes "fault") refl, (letters (codes "on") refl, (number at h, tt)))
 
 pub entry_plain : (entry : Entry) → Fits entry → HasNo 10 (entry_line entry)
 entry_plain (Step e) h = event_plain e h
@@ -94,6 +101,8 @@ fault_second (SetWave at regs) = refl
 fault_second (SetLocal at text) = refl
 fault_second (LinkDown a b) = refl
 fault_second (LinkUp a b) = refl
+fault_second (NodeDown at) = refl
+fault_second (NodeUp at) = refl
 
 pub one_entry : (a b : Entry) → Fits a → Fits b → entry_line a ≡ entry_line b → a ≡ b
 one_entry (Step e) (Step f) h k is = ap Step (one_event e f h k is)
@@ -101,3 +110,19 @@ one_entry (Disturbed f) (Disturbed g) h k is = ap Disturbed (one_fault f g h.0 k
 one_entry (Step e) (Disturbed f) h k is = absurd (event_second e (ap (λ line. get_or line 1 0) is ∙ fault_second f))
 one_entry (Disturbed f) (Step e) h k is =
     absurd (event_second e (ap (λ line. get_or line 1 0) (sym is) ∙ fault_second f))
+
+-- ---- the version that is written
+
+-- it has all entries
+newest_has : (entry : Entry) → IsInVersion 3 entry
+newest_has (Step e) = tt
+newest_has (Disturbed (SetTree at regs)) = tt
+newest_has (Disturbed (SetWave at regs)) = tt
+newest_has (Disturbed (SetLocal at text)) = tt
+newest_has (Disturbed (LinkDown a b)) = tt
+newest_has (Disturbed (LinkUp a b)) = tt
+newest_has (Disturbed (NodeDown at)) = omega arith
+newest_has (Disturbed (NodeUp at)) = omega arith
+
+pub all_newest : (es : List Entry) → All HasLine es → All (HasLineIn 3) es
+all_newest es lines = λ k d short. record { line = lines k d short; known = newest_has (slice_index_or es k d) }

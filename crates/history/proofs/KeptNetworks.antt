@@ -1,27 +1,31 @@
 -- Entries leave a network where there was one: a graph, whose nodes have their registers and local states.
 use Rattle.std.proofs.Common.{◌≡◌, ◌≢◌, ℕ, ◌==◌, ◌&&◌, ◌||◌, not, Bool, true, false, cond, List, [], ◌∷◌}
-use Rattle.std.proofs.Common.{length, Option, Some, None, Result, Ok, Err, ◌⊎◌, inl, inr, ⊎_elim}
-use Rattle.std.proofs.Common.{refl, sym, ap, ap₂, subst, ◌∙◌}
+use Rattle.std.proofs.Common.{Option, Some, None, Result, Ok, Err, ◌⊎◌, inl, inr, ⊎_elim}
+use Rattle.std.proofs.Common.{refl, sym, ap₂, subst, ◌∙◌}
 use Rattle.std.specs.List.{AllByRecursion}
 use Rattle.std.specs.Option.{option_and_then}
-use Rattle.std.proofs.lemmas.Bool.{and_parts, both_ways, eq-eqb, or_cases, or_left}
+use Rattle.std.proofs.lemmas.Bool.{and_parts, both_ways, eq-eqb, or_cases}
 use Rattle.app_interface.specs.Application.{App}
 use Rattle.topology.specs.Building.{joins}
-use Rattle.topology.specs.Changing.{Reason, first_of, with_link, without_link}
+use Rattle.topology.specs.Changing.{Reason, first_of, with_link, with_node, without_link, without_node}
 use Rattle.topology.specs.Graph.{AreLinked, Graph, IsGraph, IsNode, are_linked, is_node}
 use Rattle.topology.proofs.Changed.{has_fewer, has_more}
 use Rattle.topology.proofs.Inserting.{joins_back, joins_ends}
 use Rattle.topology.proofs.Membership.{Contains-has}
-use Rattle.reset_model.specs.Configuration.{Configuration, IsShaped, with_graph}
+use Rattle.topology.proofs.NodeChanges.{graph_with, graph_without}
+use Rattle.reset_model.specs.Configuration.{Configuration, IsShaped}
 use Rattle.reset_model.specs.Planned.{Outcome, outcome_of}
+use Rattle.reset_model.specs.Topologies.{with_topology}
 use Rattle.reset_model.specs.declared.event.Event.{Event}
 use Rattle.reset_model.specs.declared.step.Reply.{Reply}
 use Rattle.reset_model.proofs.ConfigurationSteps.{outcome_is_step}
+use Rattle.reset_model.proofs.OtherGraphs.{shaped-with_topology}
 use Rattle.reset_model.proofs.RunShadows.{step_graph}
 use Rattle.reset_model.proofs.Shapes.{length-put_at, outcome_shaped}
 use Rattle.fault_inject.specs.Effects.{damaged, injected, refusals, with_read}
 use Rattle.fault_inject.specs.declared.fault.Fault.{Fault}
 use Rattle.fault_inject.specs.declared.fault.Fault.TheVariants.{SetTree, SetWave, SetLocal, LinkDown, LinkUp}
+use Rattle.fault_inject.specs.declared.fault.Fault.TheVariants.{NodeDown, NodeUp}
 use Rattle.fault_inject.specs.declared.refusal.FaultRefusal.{FaultRefusal}
 use Rattle.history.specs.declared.entry.Entry.{Entry}
 use Rattle.history.specs.declared.entry.Entry.TheVariants.{Step, Disturbed}
@@ -48,8 +52,9 @@ module _ (g : Graph) (a b : ℕ) where
         λ x y e. (and_parts (are_linked g x y) (not (joins x y (a, b))) (sym (linked_fewer x y) ∙ e)).0 in
         record {
           some = are.some;
-          bounded = are.bounded;
           ascending = are.ascending;
+          rising = are.rising;
+          within = are.within;
           symmetric = λ x y. linked_fewer x y
               ∙ ap₂ (λ s t. s && not t) (are.symmetric x y) (joins_back x y (a, b))
               ∙ sym (linked_fewer y x);
@@ -67,8 +72,9 @@ module _ (g : Graph) (a b : ℕ) where
       graph_more : IsGraph (with_link g a b)
       graph_more = record {
         some = are.some;
-        bounded = are.bounded;
         ascending = are.ascending;
+        rising = are.rising;
+        within = are.within;
         symmetric = λ x y. linked_more x y
             ∙ ap₂ (λ s t. s || t) (are.symmetric x y) (joins_back x y (a, b))
             ∙ sym (linked_more y x);
@@ -100,7 +106,7 @@ not_false : (b : Bool) → not b ≡ false → b ≡ true
 not_false true e = refl
 not_false false e = sym e
 
-module _ {L : Type 0} (from_text : List ℕ → Option L) (c : Configuration L) (network : IsNetwork c) where
+module _ {L : Type 0} (app : App L) (from_text : List ℕ → Option L) (c : Configuration L) (network : IsNetwork c) where
   abbrev graph : IsGraph c.graph
   graph = network.graph
 
@@ -119,22 +125,14 @@ module _ {L : Type 0} (from_text : List ℕ → Option L) (c : Configuration L) 
     };
   }
 
-  -- a configuration with the same nodes has the same shape
-  other_links : (g : Graph) → g.ids ≡ c.graph.ids → IsGraph g → IsNetwork (with_graph c g)
-  other_links g same are = record {
-    graph = are;
-    shaped = record {
-      modulus = shaped.modulus;
-      trees = shaped.trees ∙ ap length (sym same);
-      waves = shaped.waves ∙ ap length (sym same);
-      locals = shaped.locals ∙ ap length (sym same);
-    };
-  }
+  -- under a graph of the same identifiers each has its registers and its local state
+  other_graph : (g : Graph) → g.ids ≡ c.graph.ids → IsGraph g → IsNetwork (with_topology app c g)
+  other_graph g same are = record { graph = are; shaped = shaped-with_topology app c g same shaped }
 
   is_there : (i : ℕ) → not (is_node c.graph i) ≡ false → IsNode c.graph i
-  is_there i e = Contains-has c.graph.ids i (not_false (is_node c.graph i) e)
+  is_there i e = Contains-has c.graph.nodes i (not_false (is_node c.graph i) e)
 
-  damaged_network : (f : Fault) → first_of (refusals from_text c f) ≡ None → IsNetwork (damaged from_text c f)
+  damaged_network : (f : Fault) → first_of (refusals from_text c f) ≡ None → IsNetwork (damaged app from_text c f)
   damaged_network (SetTree at regs) none = record {
     graph = graph;
     shaped = record {
@@ -155,13 +153,15 @@ module _ {L : Type 0} (from_text : List ℕ → Option L) (c : Configuration L) 
   }
   damaged_network (SetLocal at text) none = with_read_network at (from_text text)
   damaged_network (LinkDown a b) none =
-      other_links (without_link c.graph a b) refl (graph_less c.graph a b graph)
+      other_graph (without_link c.graph a b) refl (graph_less c.graph a b graph)
   damaged_network (LinkUp a b) none =
       let holds = none_holds (refusals from_text c (LinkUp a b)) none in
       let node_a = is_there a holds.0 in
       let node_b = is_there b holds.1.0 in
       let other : a ≢ b = λ same. both_ways (a == b) holds.1.1.0 (eq-eqb a b same) in
-      other_links (with_link c.graph a b) refl (graph_more c.graph a b graph node_a node_b other)
+      other_graph (with_link c.graph a b) refl (graph_more c.graph a b graph node_a node_b other)
+  damaged_network (NodeDown at) none = other_graph (without_node c.graph at) refl (graph_without c.graph at graph)
+  damaged_network (NodeUp at) none = other_graph (with_node c.graph at) refl (graph_with c.graph at graph)
 
   injected_network : (f : Fault) (left : Configuration L) → injected app from_text c f ≡ Ok left → IsNetwork left
   unfolding injected
@@ -169,10 +169,10 @@ module _ {L : Type 0} (from_text : List ℕ → Option L) (c : Configuration L) 
     where
       by_refusal : (o : Option FaultRefusal) → first_of (refusals from_text c f) ≡ o
           → (elim o as (λ _. Configuration L → Result (Configuration L) FaultRefusal)
-          [ None ↦ λ d. Ok d | Some refusal ↦ λ d. Err refusal ]) (damaged from_text c f) ≡ Ok left
+          [ None ↦ λ d. Ok d | Some refusal ↦ λ d. Err refusal ]) (damaged app from_text c f) ≡ Ok left
           → IsNetwork left
       by_refusal None none is =
-          let same : damaged from_text c f ≡ left = cc in
+          let same : damaged app from_text c f ≡ left = cc in
           subst IsNetwork same (damaged_network f none)
       by_refusal (Some r) some is = absurd (cc)
 
@@ -204,7 +204,7 @@ module _ {L : Type 0} (app : App L) where
         by_fault : (o : Result (Configuration L) FaultRefusal) → injected app from_text c f ≡ o
             → left_by_fault o ≡ Some left → IsNetwork left
         by_fault (Ok done) ok is =
-            let same : done ≡ left = cc in subst IsNetwork same (injected_network from_text c network f done ok)
+            let same : done ≡ left = cc in subst IsNetwork same (injected_network app from_text c network f done ok)
         by_fault (Err refusal) err is = absurd (cc)
 
     pub replayed_network : (es : List Entry) (c left : Configuration L) → IsNetwork c

@@ -1,6 +1,6 @@
 -- One entry more of what was played.
 use Rattle.std.proofs.Common.{◌≡◌, ℕ, suc, ◌+◌, ◌≤◌, ◌<◌, ◌==◌, true, false, not, if◌then◌else◌, List, [], ◌∷◌, ◌++◌}
-use Rattle.std.proofs.Common.{length, position, Option, Some, None, Ok, Err, is_some, refl, ap, sym, ◌∙◌, arith}
+use Rattle.std.proofs.Common.{length, position, Option, Some, None, Ok, Err, is_some, refl, ap, subst, sym, ◌∙◌, arith}
 use Rattle.std.proofs.Common.{append_assoc, append-nil, take, drop, slice_index_or, add-one, ◌≢◌}
 use Rattle.std.proofs.Math.Seq.{split_at, take-suc}
 use Rattle.std.proofs.lemmas.List.{length-append, length-take}
@@ -14,8 +14,10 @@ use Rattle.reset_model.specs.Configuration.{Configuration}
 use Rattle.reset_model.specs.Planned.{outcome_of, planned, written}
 use Rattle.reset_model.specs.View.{view_of}
 use Rattle.reset_model.specs.declared.step.StepRefusal.TheVariants.{StrangeNode}
+use Rattle.reset_model.proofs.NodePositions.{a_node}
 use Rattle.reset_model.proofs.Positions.{list_any-position}
-use Rattle.topology.specs.Graph.{Graph, is_node}
+use Rattle.topology.specs.Graph.{Graph, IsGraph, is_node}
+use Rattle.topology.proofs.Membership.{Contains-has}
 use Rattle.reset_model.specs.Steps.{event_node}
 use Rattle.fault_inject.specs.Effects.{injected}
 use Rattle.fault_inject.specs.declared.fault.Fault.{Fault}
@@ -104,25 +106,32 @@ module _ {L : Type 0} (app : App L) (from_text : List ℕ → Option L) where
       → entered app from_text d (Disturbed f) ≡ Some left
   entered_fault d left f is = rw is refl
 
-  -- the node of a step is there
-  step_found : (d left : Configuration L) (e : Event) (reply : Reply) → outcome_of app d e ≡ Ok (left, reply)
-      → is_some (position (λ i. i == event_node e) d.graph.ids) ≡ true
-  step_found d left e reply is =
-      sym (list_any-position d.graph.ids (event_node e))
-      ∙ (elim (is_node d.graph (event_node e)) as (λ b. (if not b then Err StrangeNode else written d
+  -- the node of a step is up
+  step_up : (d left : Configuration L) (e : Event) (reply : Reply) → outcome_of app d e ≡ Ok (left, reply)
+      → is_node d.graph (event_node e) ≡ true
+  step_up d left e reply is =
+      elim (is_node d.graph (event_node e)) as (λ b. (if not b then Err StrangeNode else written d
       (event_node e) (planned app (view_of app d (event_node e)) e)) ≡ Ok (left, reply) → b ≡ true)
-      [ false ↦ λ err. cc | true ↦ λ ok. refl ] is)
+      [ false ↦ λ err. cc | true ↦ λ ok. refl ] is
+
+  -- so it is one of the identifiers
+  step_found : (d left : Configuration L) (e : Event) (reply : Reply) → IsGraph d.graph
+      → outcome_of app d e ≡ Ok (left, reply) → is_some (position (λ i. i == event_node e) d.graph.ids) ≡ true
+  step_found d left e reply graph is =
+      sym (list_any-position d.graph.ids (event_node e))
+      ∙ a_node d.graph.ids (event_node e)
+      (graph.within (event_node e) (Contains-has d.graph.nodes (event_node e) (step_up d left e reply is)))
 
   pub played_step : (c d left : Configuration L) (es : List Entry) (t t' : Openings) (rs rs' : List Report) (e :
       Event) (reply : Reply) (position_of : ℕ)
       → IsPlayed app from_text c es d t rs → position_of ≡ length es + 1
-      → outcome_of app d e ≡ Ok (left, reply) → left.graph ≡ d.graph
+      → outcome_of app d e ≡ Ok (left, reply) → left.graph ≡ d.graph → IsGraph left.graph
       → rs' ≡ rs ++ reported reply (told_of t left.graph.ids (event_node e)) position_of
       → ((n i k : ℕ) → IsWithin t n → n < position_of → position (λ j. j == i) left.graph.ids ≡ Some k → told t' k
       ≡ opened_by e i position_of (told t k))
       → ((n : ℕ) → IsWithin t n → n ≤ position_of → IsWithin t' position_of)
       → IsPlayed app from_text c (es ++ Step e ∷ []) left t' rs'
-  played_step c d left es t t' rs rs' e reply at played here is same told_reports opened within =
+  played_step c d left es t t' rs rs' e reply at played here is same graph told_reports opened within =
       let length_is : length (es ++ Step e ∷ []) ≡ at = length-append es (Step e ∷ []) ∙ sym here in
       let recent_is : length (recent [] es) ≡ length es = omega (arith, recent_length [] es) in
       let entry = entered_step d left e reply is in
@@ -138,7 +147,7 @@ module _ {L : Type 0} (app : App L) (from_text : List ℕ → Option L) where
         within = rw length_is (within (length es) played.within (omega (arith, here)));
         reports =
             told_reports
-            ∙ (let node_is = step_found d left e reply is in
+            ∙ (let node_is = step_found d left e reply (subst IsGraph same graph) is in
             let opening = told_found t d.graph.ids (event_node e) (recent [] es) node_is (played.openings (event_node
             e)) in
             rw (same, opening, here, ← recent_is, played.reports) (rw (

@@ -10,6 +10,7 @@ use Rattle.std.proofs.lemmas.List.{length-append}
 use Rattle.std.proofs.lemmas.List.Elements.{All-push}
 use Rattle.action_tables.specs.Cuts.{HasNo}
 use Rattle.action_tables.specs.LawsOfCuts.{HasNo-append, has_byte}
+use Rattle.action_tables.specs.Modulus.{IsModulus}
 use Rattle.reset_model.specs.EventText as event
 use Rattle.reset_model.specs.declared.event.Event.{Event}
 use Rattle.fault_inject.specs.FaultText as fault
@@ -20,11 +21,12 @@ use Rattle.history.specs.declared.entry.Entry.TheVariants.{Step, Disturbed}
 use Rattle.history.specs.declared.lines.Lines.{Lines}
 use Rattle.history.specs.declared.lines.Reading.{Reading}
 use Rattle.history.specs.declared.read.BookText.{BookText}
+use Rattle.history.specs.declared.read.Header.{Header}
 use Rattle.history.specs.declared.text.BookFault.{BookFault}
 use Rattle.history.specs.declared.text.BookFault.TheVariants.{BadLine, BadVersion, TooLong, NoMemory, ReadFailed}
-use Rattle.history.specs.HistoryText.{Begins, BeginsWith, HasLine, IsPrintable, IsReadAs, IsReadWhole, ended}
-use Rattle.history.specs.HistoryText.{IsFirstLine, IsOtherVersion, entries_text, entry_line, lines_text}
-use Rattle.history.specs.HistoryText.{version_1, version_2, version_line}
+use Rattle.history.specs.HistoryText.{Begins, BeginsWith, HasLineIn, IsInVersion, IsPrintable, IsReadAs, IsReadWhole}
+use Rattle.history.specs.HistoryText.{IsFirstLine, IsOtherVersion, ended, entries_text, entry_line, lines_text}
+use Rattle.history.specs.HistoryText.{version_1, version_2, version_3, version_line}
 use Rattle.history.specs.Reading.{GoesOn, HasRead, IsBadVersion, IsFaulty, IsSoFar, next_line}
 use Rattle.history.proofs.HistoryLines.{entry_plain}
 use Rattle.history.proofs.FirstLines.{first_plain, version_plain}
@@ -62,11 +64,11 @@ begins_same line line' more plain plain' (rest, is) = (same_ended line line' mor
 
 -- ---- what goes on
 
-pub goes_on : (now : Option ℕ) (es : List Entry) (line bytes text : List ℕ) → IsSoFar now es line text
+pub goes_on : (now : Option Header) (es : List Entry) (line bytes text : List ℕ) → IsSoFar now es line text
     → IsSoFar now es (line ++ bytes) (text ++ bytes)
-goes_on (Some m) es line bytes text b = record {
+goes_on (Some h) es line bytes text b = record {
   first = b.first;
-  version = b.version;
+  names = b.names;
   lines = b.lines;
   few = b.few;
   spelled = ap (λ t. t ++ bytes) b.spelled ∙ append_assoc (lines_text b.first es) line bytes;
@@ -77,15 +79,16 @@ is_some : (xs ys : List ℕ) → 0 < length xs → xs ++ ys ≢ []
 is_some xs ys some is = omega (arith, some, length-append xs ys, ap length is)
 
 -- a text can't go on so, where what comes after its whole lines begins with no line
-bad_next : (now : Option ℕ) (es : List Entry) (line text : List ℕ) → IsSoFar now es line text → 0 < length line
-    → IsStuck line → ((m : ℕ) (first : List ℕ) → IsFirstLine m first → BeginsWith line first → ⊥)
+bad_next : (now : Option Header) (es : List Entry) (line text : List ℕ) → IsSoFar now es line text → 0 < length line
+    → ((v : ℕ) → IsStuck v line)
+    → ((v m : ℕ) (first : List ℕ) → IsFirstLine v m first → BeginsWith line first → ⊥)
     → ((v : ℕ) → IsOtherVersion v → BeginsWith line (version_line v) → ⊥)
     → IsReadAs text (Err (BadLine (next_line now (length es))))
-bad_next (Some m) es line text b some stuck none other =
-    IsReadAs.bad_line m es line b (λ is. omega (arith, some, ap length is)) stuck
+bad_next (Some h) es line text b some stuck none other =
+    IsReadAs.bad_line h.version h.modulus es line b (λ is. omega (arith, some, ap length is)) (stuck h.version)
 bad_next None es line text is some stuck none other =
     IsReadAs.no_version
-    (λ m first version begins. none m first version (subst (λ t. BeginsWith t first) is.1 begins))
+    (λ v m first names begins. none v m first names (subst (λ t. BeginsWith t first) is.1 begins))
     (λ v is_other begins. other v is_other (subst (λ t. BeginsWith t (version_line v)) is.1 begins))
 
 -- the line goes on
@@ -97,8 +100,8 @@ has_more r new before bytes text read plain is short = record {
     counted = read.lines.counted;
     so_far =
         let es = before ++ r.lines.entries.items in
-        subst (λ line. IsSoFar r.lines.modulus es line (text ++ bytes)) (sym is)
-        (goes_on r.lines.modulus es r.line.items bytes text read.lines.so_far);
+        subst (λ line. IsSoFar r.lines.header es line (text ++ bytes)) (sym is)
+        (goes_on r.lines.header es r.line.items bytes text read.lines.so_far);
   };
   plain = subst (HasNo 10) (sym is) (HasNo-append 10 r.line.items bytes read.plain plain);
   short = omega (arith, ap length is, length-append r.line.items bytes, short);
@@ -112,17 +115,17 @@ pub record WholeLines (lines : Lines) (before : List Entry) (line text : List �
 
 pub whole_lines : (lines : Lines) (before : List Entry) (line text : List ℕ) → GoesOn lines before line text
     → WholeLines lines before line text
-whole_lines lines before line text on = of lines.modulus (before ++ lines.entries.items) on.so_far (λ whole so_far cut.
+whole_lines lines before line text on = of lines.header (before ++ lines.entries.items) on.so_far (λ whole so_far cut.
     record { whole = whole; on = record { counted = on.counted; so_far = so_far }; cut = cut })
   where
-    of : (now : Option ℕ) (es : List Entry) → IsSoFar now es line text
+    of : (now : Option Header) (es : List Entry) → IsSoFar now es line text
         → ((whole : List ℕ) → IsSoFar now es [] whole → text ≡ whole ++ line → WholeLines lines before line text)
         → WholeLines lines before line text
-    of (Some m) es b k =
+    of (Some h) es b k =
         k (lines_text b.first es)
         (record {
           first = b.first;
-          version = b.version;
+          names = b.names;
           lines = b.lines;
           few = b.few;
           spelled = sym (append-nil (lines_text b.first es));
@@ -163,7 +166,7 @@ faulty_more text done rest line after bytes fault cut found faulty more =
     (faulty (after ++ more))
 
 -- a line of over 256 bytes
-pub bad_long : (now : Option ℕ) (es : List Entry) (line bytes text : List ℕ) → IsSoFar now es line text → HasNo 10 line
+pub bad_long : (now : Option Header) (es : List Entry) (line bytes text : List ℕ) → IsSoFar now es line text → HasNo 10 line
     → HasNo 10 bytes
     → 256 < length bytes + length line → IsFaulty (text ++ bytes) (BadLine (next_line now (length es)))
 bad_long now es line bytes text so plain plain' long more =
@@ -174,8 +177,8 @@ bad_long now es line bytes text so plain plain' long more =
     bad_next now es ((line ++ bytes) ++ more) ((text ++ bytes) ++ more)
     (goes_on now es (line ++ bytes) more (text ++ bytes) (goes_on now es line bytes text so))
     (omega (arith, size, long, length-append (line ++ bytes) more))
-    (λ entry has begins. late (entry_line entry) has.short begins)
-    (λ m first version begins. late first (short_first m first version) begins)
+    (λ v entry has begins. late (entry_line entry) has.line.short begins)
+    (λ v m first names begins. late first (short_first v m first names) begins)
     (λ v other begins. late (version_line v) (short_version v other.small) begins)
   where
     short_version : (v : ℕ) → v < 2 ^ 32 → length (version_line v) ≤ 256
@@ -187,47 +190,55 @@ bad_long now es line bytes text so plain plain' long more =
               (omega (arith, small)) (omega (arith, small)),
         )
 
-    short_first : (m : ℕ) (first : List ℕ) → IsFirstLine m first → length first ≤ 256
-    short_first m first (version_1 wide is) = omega (arith, ap length is)
-    short_first m first (version_2 counted is) =
+    short_numbered : (start first : List ℕ) (m : ℕ) → length start ≤ 16 → first ≡ start ++ decimal m → IsModulus m
+        → length first ≤ 256
+    short_numbered start first m few is counted =
         omega (
           arith,
+          few,
           ap length is,
-          length-append (codes "reset-history 2 ") (decimal m),
+          length-append start (decimal m),
           length-decimal-le 10 m (omega arith)
               (omega (arith, counted.wide)) (omega (arith, counted.wide)),
         )
 
+    short_first : (v m : ℕ) (first : List ℕ) → IsFirstLine v m first → length first ≤ 256
+    short_first v m first (version_1 one wide is) = omega (arith, ap length is)
+    short_first v m first (version_2 two counted is) =
+        short_numbered (codes "reset-history 2 ") first m (omega arith) is counted
+    short_first v m first (version_3 three counted is) =
+        short_numbered (codes "reset-history 3 ") first m (omega arith) is counted
+
 -- a text that ends in a line without its line feed, or before its first
-pub bad_end : (now : Option ℕ) (es : List Entry) (line text : List ℕ) → IsSoFar now es line text → HasNo 10 line
+pub bad_end : (now : Option Header) (es : List Entry) (line text : List ℕ) → IsSoFar now es line text → HasNo 10 line
     → (now ≢ None → line ≢ [])
     → IsReadAs text (Err (BadLine (next_line now (length es))))
-bad_end (Some m) es line text b plain some =
-    IsReadAs.bad_line m es line b (some (λ is. some-none m is))
+bad_end (Some h) es line text b plain some =
+    IsReadAs.bad_line h.version h.modulus es line b (some (λ is. some-none h is))
     (λ entry has begins. no_whole line (entry_line entry) plain begins)
   where
-    some-none : (m : ℕ) → Some m ≢ None
-    some-none m is = cc
+    some-none : (h : Header) → Some h ≢ None
+    some-none h is = cc
 bad_end None es line text is plain some =
     IsReadAs.no_version
-    (λ m first version begins. no_whole line first plain (subst (λ t. BeginsWith t first) is.1 begins))
+    (λ v m first names begins. no_whole line first plain (subst (λ t. BeginsWith t first) is.1 begins))
     (λ v other begins. no_whole line (version_line v) plain
     (subst (λ t. BeginsWith t (version_line v)) is.1 begins))
 
 -- a text that ends after whole lines
-pub good_end : (m : ℕ) (es : List Entry) (line text : List ℕ) → IsSoFar (Some m) es line text → length line ≡ 0
-    → IsReadAs text (Ok (m, es))
-good_end m es [] text so none = IsReadAs.history m es so
-good_end m es (b ∷ line) text so none = absurd (omega (arith, none))
+pub good_end : (h : Header) (es : List Entry) (line text : List ℕ) → IsSoFar (Some h) es line text → length line ≡ 0
+    → IsReadAs text (Ok (h.modulus, es))
+good_end h es [] text so none = IsReadAs.history h.version h.modulus es so
+good_end h es (b ∷ line) text so none = absurd (omega (arith, none))
 
 -- ---- whole lines
 
 -- a first line
-pub begun_by : (m : ℕ) (es : List Entry) (line text : List ℕ) → IsSoFar None es [] text → IsFirstLine m line
-    → IsSoFar (Some m) es [] (text ++ ended line)
-begun_by m es line text so version = record {
+pub begun_by : (h : Header) (es : List Entry) (line text : List ℕ) → IsSoFar None es [] text
+    → IsFirstLine h.version h.modulus line → IsSoFar (Some h) es [] (text ++ ended line)
+begun_by h es line text so names = record {
   first = line;
-  version = version;
+  names = names;
   lines = λ k d few. absurd (omega (arith, few, ap length so.0));
   few = omega (arith, ap length so.0);
   spelled =
@@ -243,8 +254,8 @@ bad_version es line text (BadLine n) so plain bad = λ more.
     (subst (λ t. BeginsWith ((t ++ ended line) ++ more) other) so.1 begins) in
     subst (λ k. IsReadAs ((text ++ ended line) ++ more) (Err (BadLine k))) (sym bad.0)
     (IsReadAs.no_version
-    (λ m other version begins. bad.1 m
-    (subst (IsFirstLine m) (sym (first other (first_plain m other version) begins)) version))
+    (λ v m other names begins. bad.1 v m
+    (subst (IsFirstLine v m) (sym (first other (first_plain v m other names) begins)) names))
     (λ v other begins. bad.2 v other (first (version_line v) (version_plain v other.small) begins)))
 bad_version es line text BadVersion so plain bad = λ more.
     let (v, other, spelled) = bad in
@@ -255,14 +266,13 @@ bad_version es line text NoMemory so plain bad = absurd bad
 bad_version es line text ReadFailed so plain bad = absurd bad
 
 -- an entry's line
-pub one_more : (now : Option ℕ) (es : List Entry) (entry : Entry) (line text : List ℕ) → now ≢ None
-    → IsSoFar now es [] text → length es ≢ 1000000
-    → HasLine entry → line ≡ entry_line entry → IsSoFar now (es ++ entry ∷ []) [] (text ++ ended line)
-one_more None es entry line text is b some has same = absurd (is refl)
-one_more (Some m) es entry line text is b some has same = record {
+one_more : (v m : ℕ) (es : List Entry) (entry : Entry) (line text : List ℕ) → Begins text v m es []
+    → length es ≢ 1000000 → HasLineIn v entry → line ≡ entry_line entry
+    → Begins (text ++ ended line) v m (es ++ entry ∷ []) []
+one_more v m es entry line text b some has same = record {
   first = b.first;
-  version = b.version;
-  lines = All-push HasLine es entry b.lines has;
+  names = b.names;
+  lines = All-push (HasLineIn v) es entry b.lines has;
   few = omega (arith, length-append es (entry ∷ []), b.few, some);
   spelled =
       ap (λ t. t ++ ended line) (b.spelled ∙ append-nil (lines_text b.first es))
@@ -279,57 +289,72 @@ one_more (Some m) es entry line text is b some has same = record {
         ap (λ t. ended (entry_line e) ++ t) (texts es entry)
         ∙ sym (append_assoc (ended (entry_line e)) (entries_text es) (ended (entry_line entry)))
 
--- the entry is kept and counted
-pub one_kept : (now : Option ℕ) (count : ℕ) (before es new : List Entry) (entry : Entry) (line text : List ℕ)
-    → now ≢ None → count ≡ length (before ++ es) → IsSoFar now (before ++ es) [] text → count ≢ 1000000
-    → HasLine entry → line ≡ entry_line entry → new ≡ es ++ entry ∷ []
-    → (count + 1 ≡ length (before ++ new)) × IsSoFar now (before ++ new) [] (text ++ ended line)
-one_kept now count before es new entry line text is counted so_far some has same kept =
-    let more : before ++ new ≡ (before ++ es) ++ entry ∷ [] =
-    ap (λ l. before ++ l) kept ∙ sym (append_assoc before es (entry ∷ [])) in (
-      omega (arith, counted, ap length more, length-append (before ++ es) (entry ∷ [])),
-      subst (λ l. IsSoFar now l [] (text ++ ended line)) (sym more)
-          (one_more now (before ++ es) entry line text is so_far (λ full. some (counted ∙ full)) has same),
-    )
-
 -- the text goes on with a whole line
-with_line : (m : ℕ) (es : List Entry) (line text more : List ℕ) → Begins text m es []
-    → Begins ((text ++ ended line) ++ more) m es (ended line ++ more)
-with_line m es line text more b =
-    goes_on (Some m) es (ended line) more (text ++ ended line) (goes_on (Some m) es [] (ended line) text b)
+with_line : (h : Header) (es : List Entry) (line text more : List ℕ) → IsSoFar (Some h) es [] text
+    → IsSoFar (Some h) es (ended line ++ more) ((text ++ ended line) ++ more)
+with_line h es line text more so =
+    goes_on (Some h) es (ended line) more (text ++ ended line) (goes_on (Some h) es [] (ended line) text so)
 
-pub no_entry : (now : Option ℕ) (es : List Entry) (line text : List ℕ) → now ≢ None → IsSoFar now es [] text
-    → HasNo 10 line
-    → ((entry : Entry) → HasLine entry → line ≡ entry_line entry → ⊥)
-    → IsFaulty (text ++ ended line) (BadLine (next_line now (length es)))
-no_entry None es line text is b plain none = absurd (is refl)
-no_entry (Some m) es line text is b plain none = λ more.
-    IsReadAs.bad_line m es (ended line ++ more) (with_line m es line text more b)
-    (is_some (ended line) more (omega (arith, length-append line (10 ∷ []))))
-    (λ entry has begins. none entry has
-    (begins_same line (entry_line entry) more plain (entry_plain entry has.fits) begins))
+-- the first line was read, and said this
+module _ (now : Option Header) (h : Header) (is : now ≡ Some h) where
+  abbrev header_in : (es : List Entry) (line text : List ℕ) → IsSoFar now es line text → IsSoFar (Some h) es line text
+  header_in es line text so = subst (λ o. IsSoFar o es line text) is so
 
-pub too_many : (now : Option ℕ) (es : List Entry) (entry : Entry) (line text : List ℕ) → now ≢ None
-    → IsSoFar now es [] text → length es ≡ 1000000
-    → HasLine entry → line ≡ entry_line entry → IsFaulty (text ++ ended line) TooLong
-too_many None es entry line text is b full has same = absurd (is refl)
-too_many (Some m) es entry line text is b full has same = λ more.
-    IsReadAs.too_long m es (ended line ++ more) entry (with_line m es line text more b) full has
-    (more, ap (λ l. ended l ++ more) same)
+  -- the entry is kept and counted
+  pub one_kept : (count : ℕ) (before es new : List Entry) (entry : Entry) (line text : List ℕ)
+      → count ≡ length (before ++ es) → IsSoFar now (before ++ es) [] text → count ≢ 1000000
+      → HasLineIn h.version entry → line ≡ entry_line entry → new ≡ es ++ entry ∷ []
+      → (count + 1 ≡ length (before ++ new)) × IsSoFar now (before ++ new) [] (text ++ ended line)
+  one_kept count before es new entry line text counted so some has same kept =
+      let more : before ++ new ≡ (before ++ es) ++ entry ∷ [] =
+      ap (λ l. before ++ l) kept ∙ sym (append_assoc before es (entry ∷ [])) in (
+        omega (arith, counted, ap length more, length-append (before ++ es) (entry ∷ [])),
+        subst (λ l. IsSoFar now l [] (text ++ ended line)) (sym more)
+            (subst (λ o. IsSoFar o ((before ++ es) ++ entry ∷ []) [] (text ++ ended line)) (sym is)
+            (one_more h.version h.modulus (before ++ es) entry line text (header_in (before ++ es) [] text so)
+            (λ full. some (counted ∙ full)) has same)),
+      )
+
+  pub no_entry : (es : List Entry) (line text : List ℕ) → IsSoFar now es [] text → HasNo 10 line
+      → ((entry : Entry) → HasLineIn h.version entry → line ≡ entry_line entry → ⊥)
+      → IsFaulty (text ++ ended line) (BadLine (next_line now (length es)))
+  no_entry es line text so plain none =
+      subst (λ o. IsFaulty (text ++ ended line) (BadLine (next_line o (length es)))) (sym is)
+      (λ more.
+      IsReadAs.bad_line h.version h.modulus es (ended line ++ more)
+      (with_line h es line text more (header_in es [] text so))
+      (is_some (ended line) more (omega (arith, length-append line (10 ∷ []))))
+      (λ entry has begins. none entry has
+      (begins_same line (entry_line entry) more plain (entry_plain entry has.line.fits) begins)))
+
+  pub too_many : (es : List Entry) (entry : Entry) (line text : List ℕ) → IsSoFar now es [] text
+      → length es ≡ 1000000 → HasLineIn h.version entry → line ≡ entry_line entry
+      → IsFaulty (text ++ ended line) TooLong
+  too_many es entry line text so full has same = λ more.
+      IsReadAs.too_long h.version h.modulus es (ended line ++ more) entry
+      (with_line h es line text more (header_in es [] text so)) full has
+      (more, ap (λ l. ended l ++ more) same)
 
 -- ---- lines of no entry
 
-pub is_no_entry : (line : List ℕ) → ((e : Event) → event.Fits e → line ≡ event.event_line e → ⊥)
-    → ((f : Fault) → fault.Fits f → IsPrintable f → line ≡ fault.fault_line f → ⊥) → (entry : Entry) → HasLine entry
-    → line ≡ entry_line entry → ⊥
-is_no_entry line no_event no_fault (Step e) has is = no_event e has.fits is
-is_no_entry line no_event no_fault (Disturbed f) has is = no_fault f has.fits.0 has.fits.1 is
+module _ (v : ℕ) (line : List ℕ) where
+  -- the line is that of no fault that this version has
+  abbrev pub IsNoFault : Type 0
+  IsNoFault = (f : Fault) → fault.Fits f → IsPrintable f → IsInVersion v (Disturbed f) → line ≡ fault.fault_line f → ⊥
 
--- the line of a fault whose text isn't printable
-pub is_unprintable : (line : List ℕ) (g : Fault) → fault.Fits g → line ≡ fault.fault_line g → (IsPrintable g → ⊥)
-    → (f : Fault) → fault.Fits f → IsPrintable f → line ≡ fault.fault_line f → ⊥
-is_unprintable line g fits spelled not f fits' printable is =
-    not (subst IsPrintable (one_fault f g fits' fits (sym is ∙ spelled)) printable)
+  pub is_no_entry : ((e : Event) → event.Fits e → line ≡ event.event_line e → ⊥) → IsNoFault → (entry : Entry)
+      → HasLineIn v entry → line ≡ entry_line entry → ⊥
+  is_no_entry no_event no_fault (Step e) has is = no_event e has.line.fits is
+  is_no_entry no_event no_fault (Disturbed f) has is =
+      no_fault f has.line.fits.0 has.line.fits.1 has.known is
+
+  -- the line of a fault whose text isn't printable, or that the version lacks
+  pub is_other_fault : (g : Fault) → fault.Fits g → line ≡ fault.fault_line g
+      → (IsPrintable g × IsInVersion v (Disturbed g) → ⊥) → IsNoFault
+  is_other_fault g fits spelled none f fits' printable known is =
+      none
+      (subst (λ h. IsPrintable h × IsInVersion v (Disturbed h)) (one_fault f g fits' fits (sym is ∙ spelled))
+      (printable, known))
 
 -- ---- what a reader gives
 

@@ -8,6 +8,7 @@ use Rattle.std.specs.Option.{is_none}
 use Rattle.std.proofs.lemmas.Bool.{ltb-false}
 use Rattle.std.proofs.lemmas.Fmt.{length-decimal-le}
 use Rattle.std.proofs.lemmas.List.{length-append}
+use Rattle.app_interface.specs.Application.{App}
 use Rattle.app_interface.specs.PrintableWord.{IsPrintableWord}
 use Rattle.topology.specs.Graph.{is_node}
 use Rattle.topology.specs.Changing.{first_of, when}
@@ -24,6 +25,7 @@ use Rattle.reset_model.specs.declared.event.Event.TheVariants.{Finish, Mend, Act
 use Rattle.fault_inject.specs.Effects.{injected, with_read}
 use Rattle.fault_inject.specs.FaultText as fault
 use Rattle.fault_inject.specs.declared.fault.Fault.TheVariants.{SetTree, SetWave, SetLocal, LinkDown, LinkUp}
+use Rattle.fault_inject.specs.declared.fault.Fault.TheVariants.{NodeDown, NodeUp}
 use Rattle.fault_inject.specs.declared.refusal.FaultRefusal.{FaultRefusal}
 use Rattle.fault_inject.specs.declared.refusal.FaultRefusal.TheVariants.{StrangeNode, BadLocal}
 use Rattle.history.specs.declared.entry.Entry.TheVariants.{Step, Disturbed}
@@ -125,6 +127,16 @@ down_has a b h = record { fits = (h, tt); short = link_short (codes "down") a b 
 pub up_has : (a b : ℕ) → fault.Fits (LinkUp a b) → HasLine (Disturbed (LinkUp a b))
 up_has a b h = record { fits = (h, tt); short = link_short (codes "up") a b (omega arith) h.0 h.1 }
 
+node_short : (kind : List ℕ) (at : ℕ) → IsShort kind → at < 2 ^ 32
+    → length (join_with_byte 32 (codes "fault" ∷ kind ∷ decimal at ∷ [])) ≤ 256
+node_short kind at word h = fault_short kind (decimal at ∷ []) word (number at h, tt) (omega arith)
+
+pub off_has : (at : ℕ) → fault.Fits (NodeDown at) → HasLine (Disturbed (NodeDown at))
+off_has at h = record { fits = (h, tt); short = node_short (codes "off") at (omega arith) h }
+
+pub on_has : (at : ℕ) → fault.Fits (NodeUp at) → HasLine (Disturbed (NodeUp at))
+on_has at h = record { fits = (h, tt); short = node_short (codes "on") at (omega arith) h }
+
 local_has : (at : ℕ) (text : List ℕ) → at < 2 ^ 32 → length text ≤ 200 → IsPrintableWord text
     → HasLine (Disturbed (SetLocal at text))
 local_has at text h short word =
@@ -137,7 +149,7 @@ local_has at text h short word =
 
 -- ---- texts of local states
 
-module _ {L : Type 0} (from_text : List ℕ → Option L) (c left : Configuration L) (at : ℕ) where
+module _ {L : Type 0} (app : App L) (from_text : List ℕ → Option L) (c left : Configuration L) (at : ℕ) where
   abbrev answered : Option FaultRefusal → Configuration L → Result (Configuration L) FaultRefusal
   answered None c = Ok c
   answered (Some refusal) c = Err refusal

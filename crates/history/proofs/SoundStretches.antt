@@ -34,7 +34,8 @@ quiet_events app from_text (e ∷ events) c left network sound is =
 
 pub sound_stretch : {L : Type 0} (app : App L) (Inv : Graph → (ℕ → L) → Type 0)
     → StartsByComponent app
-    → ((g : Graph) (bound : ℕ) → IsGraph g → IsConnected g → length g.ids ≤ bound → Keeps app g bound (Inv g))
+    → ((g : Graph) (bound : ℕ) → IsGraph g → IsConnected g → 0 < length g.nodes → length g.ids ≤ bound
+    → Keeps app g bound (Inv g))
     → (from_text : List ℕ → Option L) (opening : Configuration L) (es : List Entry) (s : Stretch L)
     → IsNetwork opening → IsStretch app from_text opening es s → IsSound s.here → IsSoundStretch app Inv s
 sound_stretch app Inv starts keeps from_text opening es s network is sound =

@@ -54,6 +54,8 @@ pub(crate) fn lemma_fault_has_line<P: Application>(fault: &Fault)
         Fault::SetLocal { at, .. } => lemma_is_number(*at),
         Fault::LinkDown { a, b } => lemma_are_numbers(*a, *b),
         Fault::LinkUp { a, b } => lemma_are_numbers(*a, *b),
+        Fault::NodeDown { at } => lemma_is_number(*at),
+        Fault::NodeUp { at } => lemma_is_number(*at),
     }
 }
 

@@ -1,7 +1,7 @@
 // The lines of a history, as they come.
 
 ghost use Rattle.std.specs.Prelude.{◌≡◌, ◌≢◌, ◌++◌, ◌∷◌, [], ℕ, ◌+◌, ◌≤◌, List, length, IfErr, IfOk};
-ghost use Rattle.std.specs.Prelude.{OnOk, Ok, Err, IfNone, IfSome, false};
+ghost use Rattle.std.specs.Prelude.{OnOk, Ok, Err, IfNone, IfSome, Some, None, false};
 ghost use Rattle.std.specs.Io.KnownBytes.{Consumes, IsAtEnd};
 ghost use Rattle.history.specs.declared.entry.Entry.{Entry};
 ghost use Rattle.action_tables.specs.Cuts.{HasNo};
@@ -9,7 +9,7 @@ ghost use Rattle.history.specs.HistoryText.{IsReadAs, IsReadWhole, ended};
 
 use crate::book::MAX_ENTRIES;
 use crate::entry::Entry;
-use crate::read::{BookText, read_entry, read_first_line};
+use crate::read::{BookText, Header, read_entry, read_first_line};
 use crate::text::BookFault;
 use memchr::memchr;
 use std::alloc::{AllocError, Global};
@@ -29,11 +29,11 @@ pub struct Reading {
     line: Vec<u8>,
 }
 
-// Whole lines of a history: the modulus that the first one has, once it was read, how many entries there were,
-// and those that are kept.
+// Whole lines of a history: what the first one says, once it was read, how many entries there were, and those that
+// are kept.
 #[derive(Drop)]
 struct Lines {
-    modulus: Option<u64>,
+    header: Option<Header>,
     count: usize,
     entries: Vec<Entry>,
     ghost few: { count ≤ 1000000 },
@@ -49,7 +49,7 @@ impl Reading {
     {
         Reading {
             lines: Lines {
-                modulus: None,
+                header: None,
                 count: 0,
                 entries: Vec::new(alloc),
             },
@@ -154,8 +154,8 @@ impl Reading {
         if !self.line.is_empty() {
             return Err(self.lines.bad_line());
         }
-        match self.lines.modulus {
-            Some(modulus) => Ok((modulus, self.lines.count)),
+        match self.lines.header {
+            Some(header) => Ok((header.modulus, self.lines.count)),
             None => Err(self.lines.bad_line()),
         }
     }
@@ -213,11 +213,40 @@ impl Lines {
             → IsFaulty (text ++ ended line.now) f) }
         ensures device { IfErr result (λ f. f ≢ BookFault.ReadFailed) }
     {
-        if self.modulus.is_none() {
-            self.modulus = Some(read_first_line(line)?);
-            return Ok(());
+        match self.header {
+            Some(header) => self.take_entry(alloc, header, line),
+            None => self.take_first(line),
         }
-        let entry = match read_entry(alloc, line) {
+    }
+
+    // Takes the first line.
+    fn take_first(&mut self, line: &[u8]) -> Result<(), BookFault>
+        requires { self.old.header ≡ None }
+        ensures ok { OnOk result ((before : List Entry) (text : List ℕ) → GoesOn self.old before [] text
+            → GoesOn self.new before [] (text ++ ended line.now)) }
+        ensures err { IfErr result
+            (λ f. f ≢ BookFault.NoMemory
+            → (before : List Entry) (text : List ℕ) → HasNo 10 line.now → GoesOn self.old before [] text
+            → IsFaulty (text ++ ended line.now) f) }
+        ensures device { IfErr result (λ f. f ≢ BookFault.ReadFailed) }
+    {
+        self.header = Some(read_first_line(line)?);
+        Ok(())
+    }
+
+    // Takes a line after the first one, which said this.
+    #[inline(always)]
+    fn take_entry(&mut self, alloc: Global, header: Header, line: &[u8]) -> Result<(), BookFault>
+        requires { self.old.header ≡ Some header }
+        ensures ok { OnOk result ((before : List Entry) (text : List ℕ) → GoesOn self.old before [] text
+            → GoesOn self.new before [] (text ++ ended line.now)) }
+        ensures err { IfErr result
+            (λ f. f ≢ BookFault.NoMemory
+            → (before : List Entry) (text : List ℕ) → HasNo 10 line.now → GoesOn self.old before [] text
+            → IsFaulty (text ++ ended line.now) f) }
+        ensures device { IfErr result (λ f. f ≢ BookFault.ReadFailed) }
+    {
+        let entry = match read_entry(alloc, header.version, line) {
             Ok(Some(entry)) => entry,
             Ok(None) => return Err(self.bad_line()),
             Err(AllocError) => return Err(BookFault::NoMemory),
@@ -236,9 +265,9 @@ impl Lines {
 
     // That the next line is bad.
     fn bad_line(&self) -> BookFault
-        ensures { result ≡ BookFault.BadLine (next_line self.now.modulus self.now.count) }
+        ensures { result ≡ BookFault.BadLine (next_line self.now.header self.now.count) }
     {
-        match self.modulus {
+        match self.header {
             Some(_) => BookFault::BadLine(self.count + 2),
             None => BookFault::BadLine(1),
         }

@@ -70,6 +70,7 @@ impl<P: Application> Player<P> {
         }
         match self.config.step(alloc, event) {
             Ok(reply) => {
+                self.config.lemma_is_graph();
                 self.note(position, event, reply);
                 Ok(reply)
             }
@@ -169,6 +170,7 @@ impl<P: Application> Player<P> {
         let event = plan.event();
         match self.config.put_plan(plan) {
             Ok(reply) => {
+                self.config.lemma_is_graph();
                 self.note(position, event, reply);
                 Ok(reply)
             }

@@ -7,9 +7,10 @@ ghost use Rattle.std.specs.Char.{is_ascii_graphic};
 ghost use Rattle.std.specs.Io.KnownBytes.{IsAtEnd};
 ghost use Rattle.std.specs.List.{list_all};
 ghost use Rattle.history.specs.declared.entry.Entry.{Entry};
-ghost use Rattle.history.specs.HistoryText.{HasLine, IsPrintable, IsReadAs, IsReadWhole, entry_line};
+ghost use Rattle.history.specs.HistoryText.{HasLineIn, IsInVersion, IsPrintable, IsReadAs, IsReadWhole, entry_line};
 ghost use Rattle.history.specs.HistoryText.{IsFirstLine};
-ghost use Rattle.history.specs.Reading.{IsBadVersion};
+ghost use Rattle.history.specs.Reading.{IsBadVersion, NamesModulus};
+ghost use Rattle.history.specs.declared.entry.Entry.TheVariants.{Disturbed};
 ghost use Rattle.action_tables.specs.Modulus.{IsModulus};
 ghost use Rattle.std.specs.Fmt.{decimal};
 
@@ -29,6 +30,13 @@ pub struct BookText {
     pub modulus: u64,
     /// Its entries.
     pub entries: Vec<Entry>,
+}
+
+// What the first line of a history says: its version, and the modulus of its sessions.
+#[derive(Clone, Copy)]
+pub struct Header {
+    pub version: u8,
+    pub modulus: u64,
 }
 
 /// Reads a history to its end, or to the first line that it can't have.
@@ -52,9 +60,9 @@ pub fn read_book<R: Read>(alloc: Global, reader: &mut R) -> Result<BookText, Boo
     Err(BookFault::ReadFailed)
 }
 
-// Reads the first line: the modulus of a history that begins with it.
-pub fn read_first_line(line: &[u8]) -> Result<u64, BookFault>
-    ensures ok { IfOk result (λ m. IsFirstLine m line.now) }
+// Reads the first line: what it says of the history that begins with it.
+pub fn read_first_line(line: &[u8]) -> Result<Header, BookFault>
+    ensures ok { IfOk result (λ h. IsFirstLine h.version h.modulus line.now) }
     ensures err { IfErr result (IsBadVersion line.now) }
 {
     let Some((word, rest)) = cut(line, b' ') else {
@@ -64,38 +72,61 @@ pub fn read_first_line(line: &[u8]) -> Result<u64, BookFault>
         return Err(BookFault::BadLine(1));
     }
     match cut(rest, b' ') {
-        Some((version, modulus)) => modulus_of(version, modulus),
-        None => version_of(rest),
+        Some((version, modulus)) => with_modulus(version, modulus),
+        None => version_alone(rest),
     }
 }
 
-// The modulus of a first line that names a version alone.
-fn version_of(version: &[u8]) -> Result<u64, BookFault>
+// What a first line says that names a version alone.
+fn version_alone(version: &[u8]) -> Result<Header, BookFault>
     requires { HasNo 32 version.now }
-    ensures ok { IfOk result (λ m. IsFirstLine m (codes "reset-history " ++ version.now)) }
+    ensures ok { IfOk result (λ h. IsFirstLine h.version h.modulus (codes "reset-history " ++ version.now)) }
     ensures err { IfErr result (IsBadVersion (codes "reset-history " ++ version.now)) }
 {
     match read_number(version) {
-        Some(1) => Ok(MAX_MODULUS),
+        Some(1) => Ok(Header {
+            version: 1,
+            modulus: MAX_MODULUS,
+        }),
         Some(2) => Err(BookFault::BadLine(1)),
+        Some(3) => Err(BookFault::BadLine(1)),
         Some(_) => Err(BookFault::BadVersion),
         None => Err(BookFault::BadLine(1)),
     }
 }
 
-// The modulus of a first line that names a version and goes on.
-fn modulus_of(version: &[u8], modulus: &[u8]) -> Result<u64, BookFault>
+// What a first line says that names a version and goes on.
+fn with_modulus(version: &[u8], modulus: &[u8]) -> Result<Header, BookFault>
     requires { HasNo 32 version.now }
-    ensures ok { IfOk result (λ m. IsFirstLine m (codes "reset-history " ++ (version.now ++ 32 ∷ modulus.now))) }
+    ensures ok { IfOk result (λ h. IsFirstLine h.version h.modulus
+        (codes "reset-history " ++ (version.now ++ 32 ∷ modulus.now))) }
     ensures err { IfErr result (IsBadVersion (codes "reset-history " ++ (version.now ++ 32 ∷ modulus.now))) }
 {
-    if version != b"2".as_slice() {
+    let Some(version) = read_version(version) else {
         return Err(BookFault::BadLine(1));
-    }
+    };
     match read_modulus(modulus) {
-        Some(modulus) => Ok(modulus),
+        Some(modulus) => Ok(Header { version, modulus }),
         None => Err(BookFault::BadLine(1)),
     }
+}
+
+// The version that a word names, of those whose first line names a modulus too.
+fn read_version(word: &[u8]) -> Option<u8>
+    ensures found { IfSome result (λ v. NamesModulus v × (word.now ≡ decimal v)) }
+    ensures only { IfNone result ((v : ℕ) → NamesModulus v → word.now ≡ decimal v → ⊥) }
+{
+    let version = match read_number(word) {
+        Some(version) => version,
+        None => return None,
+    };
+    if version == 2 {
+        return Some(2);
+    }
+    if version == 3 {
+        return Some(3);
+    }
+    None
 }
 
 // The modulus that a word spells. It is the one number that may be 4294967296.
@@ -112,12 +143,13 @@ fn read_modulus(word: &[u8]) -> Option<u64>
     }
 }
 
-// The entry of a line.
+// The entry of a line in a history of this version.
 #[inline(always)]
-pub fn read_entry(alloc: Global, line: &[u8]) -> Result<Option<Entry>, AllocError>
-    ensures found { IfOk result (λ read. IfSome read (λ entry. HasLine entry × (line.now ≡ entry_line entry))) }
+pub fn read_entry(alloc: Global, version: u8, line: &[u8]) -> Result<Option<Entry>, AllocError>
+    ensures found { IfOk result
+        (λ read. IfSome read (λ entry. HasLineIn version entry × (line.now ≡ entry_line entry))) }
     ensures only { IfOk result
-        (λ read. IfNone read ((entry : Entry) → HasLine entry → line.now ≡ entry_line entry → ⊥)) }
+        (λ read. IfNone read ((entry : Entry) → HasLineIn version entry → line.now ≡ entry_line entry → ⊥)) }
 {
     if line.len() > MAX_LINE {
         return Ok(None);
@@ -126,8 +158,19 @@ pub fn read_entry(alloc: Global, line: &[u8]) -> Result<Option<Entry>, AllocErro
         return Ok(Some(Entry::Step(event)));
     }
     match read_fault(alloc, line)? {
-        Some(fault) if is_printable(&fault) => Ok(Some(Entry::Disturbed(fault))),
+        Some(fault) if is_entry_in(version, &fault) => Ok(Some(Entry::Disturbed(fault))),
         _ => Ok(None),
+    }
+}
+
+// Whether the fault may stand in a history of this version: it is printable, and the version has it.
+fn is_entry_in(version: u8, fault: &Fault) -> bool
+    ensures { IsTrue result ↔ (IsPrintable fault.now × IsInVersion version (Disturbed fault.now)) }
+{
+    match fault {
+        Fault::NodeDown { .. } => version >= 3,
+        Fault::NodeUp { .. } => version >= 3,
+        _ => is_printable(fault),
     }
 }
 

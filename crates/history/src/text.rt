@@ -24,7 +24,7 @@ pub enum BookFault {
     /// The line with this number, the first that is no entry's, is longer than 256 bytes or lacks its
     /// line feed. Lines count from 1.
     BadLine(usize),
-    /// The history has another version than 1 and 2.
+    /// The history has another version than 1, 2 and 3.
     BadVersion,
     /// There is an entry after the millionth.
     TooLong,
@@ -78,7 +78,7 @@ fn put_first_line<W: Write>(out: &mut W, modulus: u64) -> Result<(), WriteFault>
     put_parts(
         out,
         &[
-            Part::Text(b"reset-history 2 "),
+            Part::Text(b"reset-history 3 "),
             Part::Number(modulus),
             Part::Text(b"\n"),
         ],

@@ -31,7 +31,7 @@ returns-in-Some-cut-clause-err c =
     let line =
     begins c.args.line.now c.in-Some.word.now c.in-Some.rest.now c.in-Some.ensures.found word
     ∙ ap (λ l. codes "reset-history " ++ l) c.in-Some-cut.ensures.found in
-    subst (λ l. IfErr c.modulus_of.result (IsBadVersion l)) (sym line) c.modulus_of.ensures.err
+    subst (λ l. IfErr c.with_modulus.result (IsBadVersion l)) (sym line) c.with_modulus.ensures.err
 
 pub returns-in-None-clause-err : goal.returns-in-None-clause-err
 returns-in-None-clause-err c =
@@ -39,4 +39,4 @@ returns-in-None-clause-err c =
     (bytes_eq-Decides c.in-Some.word.now (codes "reset-history")).0
     (not_false _ (rw c.as_slice.ensures at c.if-ne.ensures)) in
     let line = begins c.args.line.now c.in-Some.word.now c.in-Some.rest.now c.in-Some.ensures.found word in
-    subst (λ l. IfErr c.version_of.result (IsBadVersion l)) (sym line) c.version_of.ensures.err
+    subst (λ l. IfErr c.version_alone.result (IsBadVersion l)) (sym line) c.version_alone.ensures.err

@@ -6,7 +6,7 @@ pub returns-then-bytes-len-gt-MAX_LINE-clause-err : goal.returns-then-bytes-len-
 returns-then-bytes-len-gt-MAX_LINE-clause-err c memory before text plain read =
     let self = c.args.self.now in
     rw (c.bad_line.ensures, read.lines.counted)
-    (bad_long self.lines.modulus (before ++ self.lines.entries.items) self.line.items c.args.bytes.now text
+    (bad_long self.lines.header (before ++ self.lines.entries.items) self.line.items c.args.bytes.now text
     read.lines.so_far read.plain plain
     (omega (arith, c.if-bytes-len-gt-MAX_LINE.true, c.len.ensures)))
 

@@ -12,5 +12,5 @@ returns-in-Ok-clause-played g c =
     c.note.new.self.openings now.reports.items c.note.new.self.reports.items
     c.args.plan.event c.in-Ok.reply c.args.position before at c.in-Ok.ensures.outcome
     (step_graph app now.config c.put_plan.new.self c.args.plan.event c.in-Ok.ensures.ok.0)
-    (rw c.event-event.ensures at c.note.ensures.reports) (rw c.event-event.ensures at c.note.ensures.openings)
+    c.lemma_is_graph.ensures.graph (rw c.event-event.ensures at c.note.ensures.reports) (rw c.event-event.ensures at c.note.ensures.openings)
     c.note.ensures.within)

@@ -13,4 +13,4 @@ returns-in-Ok-step-clause-played g c =
     c.args.event c.in-Ok-step.reply c.args.position (c.make_room.ensures.played start es before) at
     c.in-Ok-step.ensures.outcome
     (step_graph app room.config c.step.new.self c.args.event c.in-Ok-step.ensures.ok)
-    c.note.ensures.reports c.note.ensures.openings c.note.ensures.within)
+    c.lemma_is_graph.ensures.graph c.note.ensures.reports c.note.ensures.openings c.note.ensures.within)
