@@ -14,6 +14,7 @@ use Rattle.fault_inject.proofs.FaultLines.{words_of-fault_line}
 use Rattle.fault_inject.specs.FaultText.{fault_words}
 use Rattle.fault_inject.specs.declared.fault.Fault.{Fault}
 use Rattle.fault_inject.specs.declared.fault.Fault.TheVariants.{SetTree, SetWave, SetLocal, LinkDown, LinkUp}
+use Rattle.fault_inject.specs.declared.fault.Fault.TheVariants.{NodeDown, NodeUp}
 use Rattle.script_replay.specs.declared.script.Command.{Command}
 use Rattle.script_replay.specs.declared.script.Command.TheVariants.{Step, Inject, Draw, Show, ShowNode, Newest, Enabled}
 use Rattle.script_replay.specs.declared.script.Command.TheVariants.{Ready, Check, CheckNode, Alarm, Watch}
@@ -104,6 +105,8 @@ fault_begins (SetWave at regs) = refl
 fault_begins (SetLocal at text) = refl
 fault_begins (LinkDown a b) = refl
 fault_begins (LinkUp a b) = refl
+fault_begins (NodeDown at) = refl
+fault_begins (NodeUp at) = refl
 
 pub no_fault : (f : Fault) {ws : List (List ℕ)} → fault_words f ≡ ws → (first_bytes ws ≡ two_bytes (codes "fault") → ⊥)
     → ⊥
@@ -118,6 +121,8 @@ event_is_no_fault e f is = no_event e is (begins_fault f)
     begins_fault (SetLocal at text) = refl
     begins_fault (LinkDown a b) = refl
     begins_fault (LinkUp a b) = refl
+    begins_fault (NodeDown at) = refl
+    begins_fault (NodeUp at) = refl
 
 -- ---- a word and more
 

@@ -36,6 +36,7 @@ use Rattle.fault_inject.specs.FaultText as fault
 use Rattle.fault_inject.proofs.FaultLines.{one_fault}
 use Rattle.fault_inject.specs.declared.fault.Fault.{Fault}
 use Rattle.fault_inject.specs.declared.fault.Fault.TheVariants.{SetTree, SetWave, SetLocal, LinkDown, LinkUp}
+use Rattle.fault_inject.specs.declared.fault.Fault.TheVariants.{NodeDown, NodeUp}
 use Rattle.wave_layer.specs.declared.regs.Phase.{Phase}
 use Rattle.wave_layer.specs.declared.regs.Phase.TheVariants.{Normal, Initiate, Reset}
 use Rattle.action_tables.specs.Cuts.{HasNo}
@@ -208,7 +209,13 @@ faults_spell names line m n k l p q r s = (
   by_words ((p, q, r, s), tt),
   (
     by_words ((p, r), tt),
-    (by_words ((p, r), tt), (by_words ((p, r), tt), (by_words ((p, q), tt), (by_words ((p, q), tt), tt)))),
+    (
+      by_words ((p, r), tt),
+      (
+        by_words ((p, r), tt),
+        (by_words ((p, q), tt), (by_words ((p, q), tt), (by_words (p, tt), (by_words (p, tt), tt)))),
+      ),
+    ),
   ),
 )
 
@@ -282,9 +289,11 @@ among : (c : Command) → CommandFits c → IsPlaced c
 among (Inject (SetTree a regs)) h =
     (21, rw (value a h.0.0, value regs.root h.0.1, value regs.father h.0.2, value regs.dist h.0.3) refl)
 among (Inject (SetWave a regs)) h = wave_among a regs.session regs.phase h.0.0 h.0.1
-among (Inject (SetLocal a text)) h = (27, rw (value a h.0.0, is_text-from text h.0.1.0 h.1) refl)
+among (Inject (SetLocal a text)) h = (29, rw (value a h.0.0, is_text-from text h.0.1.0 h.1) refl)
 among (Inject (LinkDown a b)) h = (25, rw (value a h.0.0, value b h.0.1) refl)
 among (Inject (LinkUp a b)) h = (26, rw (value a h.0.0, value b h.0.1) refl)
+among (Inject (NodeDown a)) h = (27, rw (value a h.0) refl)
+among (Inject (NodeUp a)) h = (28, rw (value a h.0) refl)
 among (Draw seed) h = (20, ap (λ n. Some (Draw n)) (value seed h))
 among Show h = (0, refl)
 among (ShowNode a) h = (1, ap (λ n. Some (ShowNode n)) (value a h))

@@ -16,6 +16,7 @@ use Rattle.reset_model.specs.declared.step.StepRefusal.TheVariants.{StrangeNode}
 use Rattle.fault_inject.specs.Effects.{damaged, injected, refusals, with_read}
 use Rattle.fault_inject.specs.declared.fault.Fault.{Fault}
 use Rattle.fault_inject.specs.declared.fault.Fault.TheVariants.{SetTree, SetWave, SetLocal, LinkDown, LinkUp}
+use Rattle.fault_inject.specs.declared.fault.Fault.TheVariants.{NodeDown, NodeUp}
 use Rattle.fault_inject.specs.declared.refusal.FaultRefusal.{FaultRefusal}
 use Rattle.history.specs.Entries.{entered, left_by_fault, left_by_step, replayed}
 use Rattle.history.specs.declared.entry.Entry.{Entry}
@@ -53,19 +54,21 @@ module _ {L : Type 0} (app : App L) (from_text : List ℕ → Option L) (c : Con
   read_modulus at None = refl
   read_modulus at (Some local) = refl
 
-  damaged_modulus : (f : Fault) → (damaged from_text c f).modulus ≡ c.modulus
+  damaged_modulus : (f : Fault) → (damaged app from_text c f).modulus ≡ c.modulus
   damaged_modulus (SetTree at regs) = refl
   damaged_modulus (SetWave at regs) = refl
   damaged_modulus (SetLocal at text) = read_modulus at (from_text text)
   damaged_modulus (LinkDown a b) = refl
   damaged_modulus (LinkUp a b) = refl
+  damaged_modulus (NodeDown at) = refl
+  damaged_modulus (NodeUp at) = refl
 
   injected_keeps : (f : Fault) → FaultKeeps (injected app from_text c f)
   unfolding injected
   injected_keeps f =
       elim (first_of (refusals from_text c f)) as (λ o. FaultKeeps ((elim o as (λ _. Configuration L
       → Result (Configuration L) FaultRefusal) [ None ↦ λ d. Ok d | Some refusal ↦ λ d. Err refusal ])
-      (damaged from_text c f))) [ None ↦ damaged_modulus f | Some refusal ↦ tt ]
+      (damaged app from_text c f))) [ None ↦ damaged_modulus f | Some refusal ↦ tt ]
 
   -- ---- an entry
 

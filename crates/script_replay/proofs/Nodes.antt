@@ -1,12 +1,11 @@
 -- Which nodes can be shown, and what is answered of the enabled rows.
 use Rattle.std.specs.Prelude.{codes}
-use Rattle.std.proofs.Common.{◌≡◌, ◌≢◌, ℕ, zero, suc, ◌<◌, nat_eq, Bool, true, false, ◌||◌, ◌++◌, if◌then◌else◌, List}
-use Rattle.std.proofs.Common.{[], ◌∷◌, refl, sym, ap, ◌∙◌, arith, length, get_or, Contains, position, is_some, ◌==◌}
-use Rattle.std.proofs.Common.{true≢false, Option, Some, None, IfSome, IfNone}
-use Rattle.std.specs.List.{list_any}
+use Rattle.std.proofs.Common.{◌≡◌, ◌≢◌, ℕ, ◌<◌, Bool, true, false, ◌++◌, if◌then◌else◌, List, refl, sym, ap, ◌∙◌}
+use Rattle.std.proofs.Common.{arith, length, get_or, Option, Some, None, IfSome, IfNone}
 use Rattle.std.proofs.lemmas.Bool.Decides.{nat_tests}
 use Rattle.std.proofs.lemmas.Grind.{get_or_default_zero}
 use Rattle.topology.specs.Graph.{IsNode, is_node}
+use Rattle.topology.proofs.Membership.{Contains-has, has-Contains}
 use Rattle.tree_layer.specs.declared.regs.TreeRegs.{TreeRegs}
 use Rattle.wave_layer.specs.declared.regs.WaveRegs.{WaveRegs}
 use Rattle.reset_model.specs.declared.step.StepRefusal.{StepRefusal}
@@ -15,7 +14,6 @@ use Rattle.reset_machine.specs.Enabled.{enabled_rows, ready_of}
 use Rattle.reset_machine.specs.declared.enabled.Enabled.{Enabled}
 use Rattle.reset_model.specs.Configuration.{Configuration, tree_of, wave_of, local_of}
 use Rattle.reset_model.specs.WavePicture.{HasJoined}
-use Rattle.reset_model.proofs.Positions.{Contains-position, list_any-position}
 use Rattle.app_interface.specs.Application.{App}
 use Rattle.link_predicates.specs.Faults.{alarm_of, faults, node_faults}
 use Rattle.link_predicates.specs.declared.fault.LinkFault.{LinkFault}
@@ -27,43 +25,18 @@ use Rattle.script_replay.specs.Output.{found_status, newest_head, newest_line, n
 use Rattle.script_replay.specs.Output.{faults_text, node_faults_lines, ready_line, ready_text, refusal_text, shown}
 use Rattle.script_replay.specs.Output.{watched}
 
-or_first : (a b : Bool) → a ≡ true → (a || b) ≡ true
-or_first true b h = refl
-or_first false b h = absurd (cc)
-
-or_second : (a b : Bool) → b ≡ true → (a || b) ≡ true
-or_second true b h = refl
-or_second false b h = h
-
-or_neither : (a b : Bool) → a ≡ false → b ≡ false → (a || b) ≡ false
-or_neither true b p q = absurd (cc)
-or_neither false b p q = q
-
-present : (ids : List ℕ) (i k : ℕ) → k < length ids → get_or ids k i ≡ i → list_any (λ n. nat_eq n i) ids ≡ true
-present [] i k inside here = absurd (omega arith)
-present (x ∷ xs) i zero inside here = or_first (nat_eq x i) (list_any (λ n. nat_eq n i) xs) (grind (arith, nat_tests))
-present (x ∷ xs) i (suc k) inside here =
-    or_second (nat_eq x i) (list_any (λ n. nat_eq n i) xs) (present xs i k (omega arith) here)
-
-absent : (ids : List ℕ) (i : ℕ) → (Contains ids i → ⊥) → list_any (λ n. nat_eq n i) ids ≡ false
-absent [] i h = refl
-absent (x ∷ xs) i h =
-    let apart : x ≢ i = λ e. h (0, omega arith, e) in
-    or_neither (nat_eq x i) (list_any (λ n. nat_eq n i) xs) (grind (arith, nat_tests))
-    (absent xs i (λ m. h (suc m.0, omega (arith, m.1), m.2)))
-
 pub node_there : {L : Type 0} (c : Configuration L) (i : ℕ) → IsNode c.graph i → is_node c.graph i ≡ true
-node_there c i node = present c.graph.ids i node.0 node.1 node.2
-
-pub no_node_there : {L : Type 0} (c : Configuration L) (i : ℕ) → (IsNode c.graph i → ⊥) → is_node c.graph i ≡ false
-no_node_there c i none = absent c.graph.ids i none
+node_there c i node = has-Contains c.graph.nodes i node
 
 pub node_of : {L : Type 0} (c : Configuration L) (i : ℕ) → is_node c.graph i ≡ true → IsNode c.graph i
-node_of c i there = go (position (λ k. k == i) c.graph.ids) refl
+node_of c i there = Contains-has c.graph.nodes i there
+
+pub no_node_there : {L : Type 0} (c : Configuration L) (i : ℕ) → (IsNode c.graph i → ⊥) → is_node c.graph i ≡ false
+no_node_there c i none = go (is_node c.graph i) refl
   where
-    go : (o : Option ℕ) → position (λ k. k == i) c.graph.ids ≡ o → IsNode c.graph i
-    go (Some n) is = Contains-position c.graph.ids i n is
-    go None is = absurd (true≢false (sym there ∙ list_any-position c.graph.ids i ∙ ap is_some is))
+    go : (b : Bool) → is_node c.graph i ≡ b → is_node c.graph i ≡ false
+    go true there = absurd (none (node_of c i there))
+    go false out = out
 
 -- the text of a node is told at it, and a refusal elsewhere
 pub told_node : {L : Type 0} (c : Configuration L) (i : ℕ) (text : List ℕ) → IsNode c.graph i → at_node c i text ≡ text
@@ -83,11 +56,11 @@ told_refused c i text refusal known memory =
 -- ---- the nodes by index
 
 -- of the i-th node its own text is told
-pub told_at : {L : Type 0} (c : Configuration L) (line : ℕ → List ℕ) (i : ℕ) → i < length c.graph.ids
-    → at_node c (get_or c.graph.ids i 0) (line (get_or c.graph.ids i 0)) ≡ line (get_or c.graph.ids i 0)
+pub told_at : {L : Type 0} (c : Configuration L) (line : ℕ → List ℕ) (i : ℕ) → i < length c.graph.nodes
+    → at_node c (get_or c.graph.nodes i 0) (line (get_or c.graph.nodes i 0)) ≡ line (get_or c.graph.nodes i 0)
 told_at c line i inside =
-    told_node c (get_or c.graph.ids i 0) (line (get_or c.graph.ids i 0))
-    (i, inside, get_or_default_zero c.graph.ids i (get_or c.graph.ids i 0) inside)
+    told_node c (get_or c.graph.nodes i 0) (line (get_or c.graph.nodes i 0))
+    (i, inside, get_or_default_zero c.graph.nodes i (get_or c.graph.nodes i 0) inside)
 
 -- the line of a node, from what stands there
 pub shown_node : {L : Type 0} (m : Meaning L) (c : Configuration L) (i : ℕ) (tree : TreeRegs) (wave : WaveRegs)

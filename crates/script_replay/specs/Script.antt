@@ -12,6 +12,7 @@ use Rattle.reset_model.specs.EventText.{event_words, neighbour_words, Fits}
 use Rattle.reset_model.specs.Words.{words_of}
 use Rattle.fault_inject.specs.FaultText as fault
 use Rattle.fault_inject.specs.declared.fault.Fault.TheVariants.{SetTree, SetWave, SetLocal, LinkDown, LinkUp}
+use Rattle.fault_inject.specs.declared.fault.Fault.TheVariants.{NodeDown, NodeUp}
 use Rattle.history.specs.HistoryText.{IsPrintable}
 use Rattle.wave_layer.specs.declared.regs.Phase.TheVariants.{Normal, Initiate, Reset}
 use Rattle.reset_model.specs.declared.event.Event.TheVariants.{Claim, Follow, Adopt, Request, Relay, Open, Join, Finish}
@@ -139,7 +140,7 @@ faults_with m n k l =
     ∷ Inject (SetWave m (record { phase = Normal; session = k }))
     ∷ Inject (SetWave m (record { phase = Initiate; session = k }))
     ∷ Inject (SetWave m (record { phase = Reset; session = k }))
-    ∷ Inject (LinkDown m n) ∷ Inject (LinkUp m n) ∷ []
+    ∷ Inject (LinkDown m n) ∷ Inject (LinkUp m n) ∷ Inject (NodeDown m) ∷ Inject (NodeUp m) ∷ []
 
 -- the fault that puts the local state with this text, if it is one
 abbrev pub local_faults_with : ℕ → List ℕ → List Command

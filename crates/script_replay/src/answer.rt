@@ -55,6 +55,7 @@ fn put_graph_fault<W: Write>(out: &mut W, fault: TopoFault) -> Result<(), WriteF
         TopoFault::NoMemory => put_bytes(out, b"bad topology NoMemory\n"),
         TopoFault::NoSuchLink => put_bytes(out, b"bad topology NoSuchLink\n"),
         TopoFault::LinkIsThere => put_bytes(out, b"bad topology LinkIsThere\n"),
+        TopoFault::NodeIsUp => put_bytes(out, b"bad topology NodeIsUp\n"),
     }
 }
 

@@ -92,6 +92,7 @@ fn put_fault_refusal<W: Write>(out: &mut W, refusal: FaultRefusal) -> Result<(),
         FaultRefusal::BadLocal => put_bytes(out, b"refused BadLocal\n"),
         FaultRefusal::NoSuchLink => put_bytes(out, b"refused NoSuchLink\n"),
         FaultRefusal::LinkIsThere => put_bytes(out, b"refused LinkIsThere\n"),
+        FaultRefusal::NodeIsUp => put_bytes(out, b"refused NodeIsUp\n"),
         FaultRefusal::NoMemory => put_bytes(out, b"refused NoMemory\n"),
     }
 }

@@ -18,16 +18,16 @@ use std::io::Write;
 use tree_layer::TreeRegs;
 use wave_layer::WaveRegs;
 
-/// Writes the line of each node, ascending.
+/// Writes the line of each node that is up, ascending.
 pub fn show_all<P: Application, W: Write>(config: &Config<P>, out: &mut W) -> Result<(), WriteFault>
     ensures ok { OnOk result
         (Appends (W.contents out.old) (W.contents out.new)
-        (flat_map (shown (meaning_of P.app P.text P.from_text P.names) config.now) config.now.graph.ids)) }
+        (flat_map (shown (meaning_of P.app P.text P.from_text P.names) config.now) config.now.graph.nodes)) }
     ensures err { OnErr result
         (AppendsPrefix (W.contents out.old) (W.contents out.new)
-        (flat_map (shown (meaning_of P.app P.text P.from_text P.names) config.now) config.now.graph.ids)) }
+        (flat_map (shown (meaning_of P.app P.text P.from_text P.names) config.now) config.now.graph.nodes)) }
 {
-    for id in config.topology().ids() {
+    for id in config.topology().nodes() {
         show_node(config, *id, out)?;
     }
     Ok(())
@@ -107,20 +107,20 @@ fn put_local<P: Application, W: Write>(local: &P::Local, out: &mut W) -> Result<
     put_bytes(out, b"\n")
 }
 
-/// Writes the local state of each node in the newest session, ascending.
+/// Writes the local state of each node that is up, in the newest session, ascending.
 pub fn show_newest<P: Application, W: Write>(
     config: &Config<P>,
     out: &mut W,
 ) -> Result<(), WriteFault>
     ensures ok { OnOk result
         (Appends (W.contents out.old) (W.contents out.new)
-        (flat_map (newest_line (meaning_of P.app P.text P.from_text P.names) config.now) config.now.graph.ids)) }
+        (flat_map (newest_line (meaning_of P.app P.text P.from_text P.names) config.now) config.now.graph.nodes)) }
     ensures err { OnErr result
         (AppendsPrefix (W.contents out.old) (W.contents out.new)
-        (flat_map (newest_line (meaning_of P.app P.text P.from_text P.names) config.now) config.now.graph.ids)) }
+        (flat_map (newest_line (meaning_of P.app P.text P.from_text P.names) config.now) config.now.graph.nodes)) }
 {
-    for id in config.topology().ids() {
-        newest_of(config, *id, out)?;
+    for node in config.topology().nodes() {
+        newest_of(config, *node, out)?;
     }
     Ok(())
 }

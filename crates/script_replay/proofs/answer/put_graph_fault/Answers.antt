@@ -39,3 +39,6 @@ returns-in-NoSuchLink-clause-ok g c = rw c.in-NoSuchLink.is c.put_bytes-in-NoSuc
 
 pub returns-in-LinkIsThere-clause-ok : goal.returns-in-LinkIsThere-clause-ok
 returns-in-LinkIsThere-clause-ok g c = rw c.in-LinkIsThere.is c.put_bytes-in-LinkIsThere.ensures.ok
+
+pub returns-in-NodeIsUp-clause-ok : goal.returns-in-NodeIsUp-clause-ok
+returns-in-NodeIsUp-clause-ok g c = rw c.in-NodeIsUp.is c.put_bytes-in-NodeIsUp.ensures.ok

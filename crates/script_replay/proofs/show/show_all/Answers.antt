@@ -13,9 +13,9 @@ returns-in_err-show_node-clause-err g c =
     let m = meaning_of g.P.Application.app g.P.Application.text g.P.Application.from_text g.P.Application.names in
     let config = c.args.config.now in
     let i = c.loop-id.id-index in
-    let items : c.ids-id-items.result.now ≡ config.graph.ids =
-    c.ids-id-items.ensures ∙ ap (λ (t : Graph). t.ids) c.topology.ensures in
-    let inside : i < length config.graph.ids = subst (λ (ids : List ℕ). i < length ids) items c.loop-id-test.true in
+    let items : c.nodes-id-items.result.now ≡ config.graph.nodes =
+    c.nodes-id-items.ensures ∙ ap (λ (t : Graph). t.nodes) c.topology.ensures in
+    let inside : i < length config.graph.nodes = subst (λ (ids : List ℕ). i < length ids) items c.loop-id-test.true in
     let P : List ℕ → Type 0 =
     λ ids. AppendsPrefix (g.W.Write.contents c.loop-id.out) (g.W.Write.contents c.show_node.new.out)
     (at_node config (get_or ids i 0) (shown m config (get_or ids i 0))) in
@@ -23,6 +23,6 @@ returns-in_err-show_node-clause-err g c =
     λ t. AppendsPrefix (g.W.Write.contents c.loop-id.out) (g.W.Write.contents c.show_node.new.out) t in
     OnErr-always _ _
     (AppendsPrefix-piece (g.W.Write.contents c.args.out.now) (g.W.Write.contents c.loop-id.out)
-    (g.W.Write.contents c.show_node.new.out) (shown m config) config.graph.ids i 0 inside
+    (g.W.Write.contents c.show_node.new.out) (shown m config) config.graph.nodes i 0 inside
     c.loop-id.invariant
     (subst Q (told_at config (shown m config) i inside) (subst P items c.in_err-show_node.ensures.err)))

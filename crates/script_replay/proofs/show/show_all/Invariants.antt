@@ -11,4 +11,4 @@ invariant-loop-id g l =
     Appends (g.W.Write.contents l.initial.out) (g.W.Write.contents l.out)
     (flat_map
     (shown (meaning_of g.P.Application.app g.P.Application.text g.P.Application.from_text g.P.Application.names)
-    l.config) (take l.id-index l.config.graph.ids))
+    l.config) (take l.id-index l.config.graph.nodes))

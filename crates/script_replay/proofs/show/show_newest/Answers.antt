@@ -12,29 +12,29 @@ pub returns-in_err-newest_of-clause-err : goal.returns-in_err-newest_of-clause-e
 returns-in_err-newest_of-clause-err g c =
     let m = meaning_of g.P.Application.app g.P.Application.text g.P.Application.from_text g.P.Application.names in
     let config = c.args.config.now in
-    let i = c.loop-id.id-index in
-    let items : c.ids-id-items.result.now ≡ config.graph.ids =
-    c.ids-id-items.ensures ∙ ap (λ (t : Graph). t.ids) c.topology.ensures in
-    let inside : i < length config.graph.ids = subst (λ (ids : List ℕ). i < length ids) items c.loop-id-test.true in
+    let i = c.loop-node.node-index in
+    let items : c.nodes-node-items.result.now ≡ config.graph.nodes =
+    c.nodes-node-items.ensures ∙ ap (λ (t : Graph). t.nodes) c.topology.ensures in
+    let inside : i < length config.graph.nodes = subst (λ (ids : List ℕ). i < length ids) items c.loop-node-test.true in
     let P : List ℕ → Type 0 =
-    λ ids. AppendsPrefix (g.W.Write.contents c.loop-id.out) (g.W.Write.contents c.newest_of.new.out)
+    λ ids. AppendsPrefix (g.W.Write.contents c.loop-node.out) (g.W.Write.contents c.newest_of.new.out)
     (newest_line m config (get_or ids i 0)) in
     OnErr-always _ _
-    (AppendsPrefix-piece (g.W.Write.contents c.args.out.now) (g.W.Write.contents c.loop-id.out)
-    (g.W.Write.contents c.newest_of.new.out) (newest_line m config) config.graph.ids i 0 inside
-    c.loop-id.invariant (subst P items c.in_err-newest_of.ensures.err))
+    (AppendsPrefix-piece (g.W.Write.contents c.args.out.now) (g.W.Write.contents c.loop-node.out)
+    (g.W.Write.contents c.newest_of.new.out) (newest_line m config) config.graph.nodes i 0 inside
+    c.loop-node.invariant (subst P items c.in_err-newest_of.ensures.err))
 
-pub loop-id-preserved : goal.loop-id-preserved
-loop-id-preserved g c =
+pub loop-node-preserved : goal.loop-node-preserved
+loop-node-preserved g c =
     let m = meaning_of g.P.Application.app g.P.Application.text g.P.Application.from_text g.P.Application.names in
     let config = c.args.config.now in
-    let i = c.loop-id.id-index in
-    let items : c.ids-id-items.result.now ≡ config.graph.ids =
-    c.ids-id-items.ensures ∙ ap (λ (t : Graph). t.ids) c.topology.ensures in
-    let inside : i < length config.graph.ids = subst (λ (ids : List ℕ). i < length ids) items c.loop-id-test.true in
+    let i = c.loop-node.node-index in
+    let items : c.nodes-node-items.result.now ≡ config.graph.nodes =
+    c.nodes-node-items.ensures ∙ ap (λ (t : Graph). t.nodes) c.topology.ensures in
+    let inside : i < length config.graph.nodes = subst (λ (ids : List ℕ). i < length ids) items c.loop-node-test.true in
     let P : List ℕ → Type 0 =
-    λ ids. Appends (g.W.Write.contents c.loop-id.out) (g.W.Write.contents c.newest_of.new.out)
+    λ ids. Appends (g.W.Write.contents c.loop-node.out) (g.W.Write.contents c.newest_of.new.out)
     (newest_line m config (get_or ids i 0)) in
-    Appends-piece (g.W.Write.contents c.args.out.now) (g.W.Write.contents c.loop-id.out)
-    (g.W.Write.contents c.newest_of.new.out) (newest_line m config) config.graph.ids i 0 inside
-    c.loop-id.invariant (subst P items c.in_ok-newest_of.ensures.ok)
+    Appends-piece (g.W.Write.contents c.args.out.now) (g.W.Write.contents c.loop-node.out)
+    (g.W.Write.contents c.newest_of.new.out) (newest_line m config) config.graph.nodes i 0 inside
+    c.loop-node.invariant (subst P items c.in_ok-newest_of.ensures.ok)

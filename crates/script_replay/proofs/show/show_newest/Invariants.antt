@@ -6,9 +6,9 @@ use Rattle.script_replay.specs.Meaning.{meaning_of}
 use Rattle.script_replay.specs.Output.{newest_line}
 use Rattle.script_replay.proofs.show.show_newest.Given as goal
 
-abbrev pub invariant-loop-id : goal.invariant-loop-id
-invariant-loop-id g l =
+abbrev pub invariant-loop-node : goal.invariant-loop-node
+invariant-loop-node g l =
     Appends (g.W.Write.contents l.initial.out) (g.W.Write.contents l.out)
     (flat_map
     (newest_line (meaning_of g.P.Application.app g.P.Application.text g.P.Application.from_text g.P.Application.names)
-    l.config) (take l.id-index l.config.graph.ids))
+    l.config) (take l.node-index l.config.graph.nodes))
