@@ -8,6 +8,8 @@ mod histories;
 #[cfg(test)]
 mod line;
 #[cfg(test)]
+mod nodes;
+#[cfg(test)]
 mod positions;
 #[cfg(test)]
 mod texts;

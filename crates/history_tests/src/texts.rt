@@ -1,6 +1,7 @@
 // The texts of histories.
 
 use crate::line::{line, line_counting};
+use fault_inject::Fault;
 use history::{
     Book, BookFault, Entry, MAX_ENTRIES, ReaderFault, Summary, VerifyFault, read_book, verify,
     verify_reader, write_book,
@@ -15,7 +16,7 @@ use test_devices::{Endless, FailingReader};
 use test_networks::WHOLE_RESET;
 
 // The history of one whole reset of the line.
-const RESET_HISTORY: &[u8] = b"reset-history 2 4294967296
+const RESET_HISTORY: &[u8] = b"reset-history 3 4294967296
 request 1
 relay 2 1
 relay 3 2
@@ -92,12 +93,12 @@ fn a_book_is_written_with_its_modulus(rt: HostRuntime) {
     assert!(rt; write_book(&book, &mut text).is_ok());
     assert_eq!(rt;
         text.as_slice(),
-        b"reset-history 2 8\nrequest 1\n".as_slice()
+        b"reset-history 3 8\nrequest 1\n".as_slice()
     );
 }
 
 #[test]
-fn both_versions_are_read(rt: HostRuntime) {
+fn each_version_is_read(rt: HostRuntime) {
     for (text, modulus) in [
         (b"reset-history 1\nrequest 1\n".as_slice(), 4_294_967_296),
         (b"reset-history 2 2\nrequest 1\n".as_slice(), 2),
@@ -107,6 +108,15 @@ fn both_versions_are_read(rt: HostRuntime) {
         ),
         (
             b"reset-history 2 4294967296\nrequest 1\n".as_slice(),
+            4_294_967_296,
+        ),
+        (b"reset-history 3 2\nrequest 1\n".as_slice(), 2),
+        (
+            b"reset-history 3 4294967295\nrequest 1\n".as_slice(),
+            4_294_967_295,
+        ),
+        (
+            b"reset-history 3 4294967296\nrequest 1\n".as_slice(),
             4_294_967_296,
         ),
     ] {
@@ -133,14 +143,24 @@ fn names_a_bad_first_line(rt: HostRuntime) {
         b"reset-history 2 4294967297\n",
         b"reset-history 2 08\n",
         b"reset-history 2 eight\n",
+        // So version 3.
+        b"reset-history 3\n",
+        b"reset-history 3 \n",
+        b"reset-history 3 1\n",
+        b"reset-history 3 4294967297\n",
+        b"reset-history 3 08\n",
         // Another number than the version's.
         b"reset-history 2 8 8\n",
+        b"reset-history 3 8 8\n",
         b"reset-history 1 8\n",
         b"reset-history 1 4294967296\n",
+        b"reset-history 4 8\n",
         b"reset-history 9 8\n",
         b"reset-history 02 8\n",
+        b"reset-history 03 8\n",
         // No line feed.
         b"reset-history 2 8",
+        b"reset-history 3 8",
     ] {
         assert_eq!(rt; fault_of(&rt, rt.alloc(), text), BookFault::BadLine(1));
     }
@@ -150,7 +170,7 @@ fn names_a_bad_first_line(rt: HostRuntime) {
 fn names_another_version(rt: HostRuntime) {
     for text in [
         b"reset-history 0\n".as_slice(),
-        b"reset-history 3\n",
+        b"reset-history 4\n",
         b"reset-history 4294967295\n",
     ] {
         assert_eq!(rt; fault_of(&rt, rt.alloc(), text), BookFault::BadVersion);
@@ -181,6 +201,34 @@ fn names_the_first_bad_line(rt: HostRuntime) {
     assert_eq!(rt; fault_of(&rt, rt.alloc(), cut), BookFault::BadLine(3));
     let other = b"reset-history 9\n".as_slice();
     assert_eq!(rt; fault_of(&rt, rt.alloc(), other), BookFault::BadVersion);
+}
+
+#[test]
+fn faults_of_nodes_come_with_version_3(rt: HostRuntime) {
+    for text in [
+        b"reset-history 1\nfault off 3\n".as_slice(),
+        b"reset-history 1\nfault on 3\n",
+        b"reset-history 2 8\nfault off 3\n",
+        b"reset-history 2 8\nfault on 3\n",
+        // The line of no fault in any version.
+        b"reset-history 3 8\nfault off\n",
+        b"reset-history 3 8\nfault off 03\n",
+        b"reset-history 3 8\nfault on 3 \n",
+        b"reset-history 3 8\nfault on 4294967296\n",
+    ] {
+        assert_eq!(rt; fault_of(&rt, rt.alloc(), text), BookFault::BadLine(2));
+    }
+    let later = b"reset-history 2 8\nfault down 1 2\nrequest 1\nfault off 3\n".as_slice();
+    assert_eq!(rt; fault_of(&rt, rt.alloc(), later), BookFault::BadLine(4));
+    let mut rest = b"reset-history 3 8\nfault off 3\nfault on 4294967295\n".as_slice();
+    match read_book(rt.alloc(), &mut rest) {
+        Ok(text) => {
+            let off = Entry::Disturbed(Fault::NodeDown { at: 3 });
+            let on = Entry::Disturbed(Fault::NodeUp { at: 4_294_967_295 });
+            assert!(rt; text.entries.as_slice() == [off, on].as_slice());
+        }
+        Err(_) => panic!(rt; "a history of version 3"),
+    }
 }
 
 #[test]
@@ -259,6 +307,8 @@ fn verifies_what_a_reader_gives(rt: HostRuntime) {
 fn verifies_a_history_of_its_modulus(rt: HostRuntime) {
     let mut eight = b"reset-history 2 8\nrequest 1\nrelay 2 1\n".as_slice();
     assert_eq!(rt; verdict_modulo_8(&rt, rt.alloc(), &mut eight), Ok((2, 0)));
+    let mut third = b"reset-history 3 8\nrequest 1\nrelay 2 1\n".as_slice();
+    assert_eq!(rt; verdict_modulo_8(&rt, rt.alloc(), &mut third), Ok((2, 0)));
     let mut first = b"reset-history 1\nrequest 1\nrelay 2 1\n".as_slice();
     assert_eq!(rt; verdict(&rt, rt.alloc(), &mut first), Ok((2, 0)));
 }
@@ -269,6 +319,7 @@ fn another_modulus_is_told(rt: HostRuntime) {
         (b"reset-history 1\nrequest 1\n".as_slice(), 4_294_967_296),
         (b"reset-history 2 2\nrequest 1\n".as_slice(), 2),
         (b"reset-history 2 9\n".as_slice(), 9),
+        (b"reset-history 3 9\n".as_slice(), 9),
         // It comes before an entry that isn't allowed.
         (b"reset-history 1\njoin 1\n".as_slice(), 4_294_967_296),
     ] {
