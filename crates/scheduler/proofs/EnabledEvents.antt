@@ -96,7 +96,7 @@ module _ {L : Type 0} (app : App L) (c : Configuration L) (i : ℕ) where
   enabled_there node =
       let v = view_of app c i in
       let same : (e : Event) → IsOwn v e → is_ok (outcome_of app c e) ≡ is_allowed app v e =
-      λ e own. ok_outcome e true (a_node c.graph.ids i node) own ∙ ok_written (planned app v e) in
+      λ e own. ok_outcome e true (a_node c.graph.nodes i node) own ∙ ok_written (planned app v e) in
       filter_alike (λ e. is_ok (outcome_of app c e)) (is_allowed app v) (candidates v)
       (All-weaker (IsOwn v) (λ e. is_ok (outcome_of app c e) ≡ is_allowed app v e) same (candidates v)
       (own_candidates v))
@@ -105,6 +105,6 @@ module _ {L : Type 0} (app : App L) (c : Configuration L) (i : ℕ) where
   enabled_nowhere strange =
       let v = view_of app c i in
       let refused : (e : Event) → IsOwn v e → is_ok (outcome_of app c e) ≡ false =
-      λ e own. ok_outcome e false (no_node c.graph.ids i strange) own in
+      λ e own. ok_outcome e false (no_node c.graph.nodes i strange) own in
       filter_none (λ e. is_ok (outcome_of app c e)) (candidates v)
       (All-weaker (IsOwn v) (λ e. is_ok (outcome_of app c e) ≡ false) refused (candidates v) (own_candidates v))

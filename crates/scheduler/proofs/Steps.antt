@@ -1,6 +1,7 @@
 -- What the steps of a drawn run leave.
 use Rattle.std.proofs.Common.{◌≡◌, ℕ, zero, suc, ◌+◌, ◌%◌, Bool, true, false, cond, nat_lt, add-one, refl, sym, ap, ap₂}
 use Rattle.std.proofs.Common.{◌∙◌, List, Option, Some, None, Result, Ok, Err, OnOk}
+use Rattle.std.specs.Option.{option_and_then}
 use Rattle.rand_pcg.specs.Lcg.{Lcg}
 use Rattle.rand_pcg.specs.Pcg.{pcg32}
 use Rattle.app_interface.specs.Application.{App}
@@ -10,11 +11,11 @@ use Rattle.reset_model.specs.Planned.{Outcome, outcome_of}
 use Rattle.fault_inject.specs.declared.fault.Fault.{Fault}
 use Rattle.fault_inject.specs.declared.refusal.FaultRefusal.{FaultRefusal}
 use Rattle.reset_machine.specs.Enabled.{ready_of}
-use Rattle.fault_inject.specs.Drawn.{drawn_fault, drawn_node, next_words}
+use Rattle.fault_inject.specs.Drawn.{drawn_fault, next_words}
 use Rattle.fault_inject.specs.Effects.{injected}
 use Rattle.history.specs.Book.{BookView, book_outcome, disturbance, is_full}
 use Rattle.scheduler.specs.Driven.{after_event, after_fault, drawn_by, drawn_step, drawn_steps, event_step, fault_step}
-use Rattle.scheduler.specs.Driven.{drawable_nodes, drawn_event, enabled_events, left_after, or_all}
+use Rattle.scheduler.specs.Driven.{drawn_of, enabled_events, left_after, or_all}
 
 -- what was done tells more
 pub on_ok : {X E : Type 0} (r : Result X E) (P Q : Type 0) → (P → Q) → OnOk r P → OnOk r Q
@@ -23,7 +24,7 @@ on_ok (Err f) P Q tells is = tt
 
 -- ---- a step
 
-module _ {L : Type 0} (from_text : List ℕ → Option L) (b : BookView L) (g : Lcg) where
+module _ {L : Type 0} (app : App L) (from_text : List ℕ → Option L) (b : BookView L) (g : Lcg) where
   pub fault_drawn : (c : Configuration L) (f : Fault) (left : BookView L) (after : Lcg) → c ≡ b.config
       → f ≡ drawn_fault c.graph.ids (next_words g).0 → after ≡ (next_words g).1 → left ≡ after_fault app from_text b f
       → (left, after) ≡ fault_step app from_text b g
@@ -33,17 +34,32 @@ module _ {L : Type 0} (from_text : List ℕ → Option L) (b : BookView L) (g : 
       is ∙ ap (λ (k : Configuration L). drawn_fault k.graph.ids (next_words g).0) same in
       ap₂ (λ (l : BookView L) (a : Lcg). (l, a)) (done ∙ ap (after_fault app from_text b) drawn) next
 
-pub event_found : {L : Type 0} (app : App L) (c now : Configuration L) (for_node for_event : ℕ)
-    (ids ready from : List ℕ) (node : ℕ) (events : List Event) (drawn : Option Event) → now ≡ c → ids ≡ now.graph.ids
-    → ready ≡ ready_of app c
-    → from ≡ or_all ids ready → node ≡ drawn_node from for_node → events ≡ enabled_events app now node
-    → drawn ≡ drawn_event events for_event → drawn ≡ drawn_by app c for_node for_event
-unfolding drawn_by
-event_found app c now for_node for_event ids ready from node events drawn same all busy among at there is =
-    let nodes : from ≡ drawable_nodes app c =
-    among ∙ ap₂ or_all (all ∙ ap (λ (k : Configuration _). k.graph.ids) same) busy in
-    let here : node ≡ drawn_node (drawable_nodes app c) for_node = at ∙ ap (λ l. drawn_node l for_node) nodes in
-    is ∙ ap (λ es. drawn_event es for_event) (there ∙ ap₂ (enabled_events app) same here)
+-- the event that two words draw, by the node that the first of them draws, if any
+module _ {L : Type 0} (app : App L) (c now : Configuration L) (for_node for_event : ℕ) (ready : List ℕ)
+    (node : Option ℕ) (same : now ≡ c) (busy : ready ≡ ready_of app c)
+    (draws : node ≡ drawn_of (or_all now.graph.nodes ready) for_node) where
+  of_node : Option ℕ → Option Event
+  of_node o = option_and_then (λ at. drawn_of (enabled_events app c at) for_event) o
+
+  by_node : of_node node ≡ drawn_by app c for_node for_event
+  unfolding drawn_by of_node
+  by_node =
+      ap of_node
+      (draws
+      ∙ ap₂ (λ (k : Configuration L) (ids : List ℕ). drawn_of (or_all k.graph.nodes ids) for_node) same busy)
+
+  pub event_found : (at : ℕ) (events : List Event) (drawn : Option Event) → node ≡ Some at
+      → events ≡ enabled_events app now at → drawn ≡ drawn_of events for_event
+      → drawn ≡ drawn_by app c for_node for_event
+  unfolding of_node
+  event_found at events drawn there enabled is =
+      is
+      ∙ ap (λ es. drawn_of es for_event) (enabled ∙ ap (λ (k : Configuration L). enabled_events app k at) same)
+      ∙ ap of_node (sym there) ∙ by_node
+
+  pub no_event_found : node ≡ None → None ≡ drawn_by app c for_node for_event
+  unfolding of_node
+  no_event_found none = ap of_node (sym none) ∙ by_node
 
 module _ {L : Type 0} (app : App L) (b : BookView L) (g : Lcg) where
   pub event_drawn : (for_node for_event : ℕ) (first second : Lcg) (before left : BookView L) (drawn : Option Event)

@@ -1,6 +1,7 @@
 -- Drawn runs: which events and faults happen to a book, as a generator of random words draws them.
 use Rattle.std.specs.Prelude.{ℕ, zero, suc, ◌%◌, nat_lt, if◌then◌else◌, is_ok, filter, length, slice_get}
 use Rattle.std.specs.Prelude.{List, [], ◌∷◌, Option, Some, None, Result, Ok, Err}
+use Rattle.std.specs.Option.{option_and_then}
 use Rattle.rand_pcg.specs.Lcg.{Lcg}
 use Rattle.rand_pcg.specs.Pcg.{pcg32}
 use Rattle.app_interface.specs.Application.{App}
@@ -11,7 +12,7 @@ use Rattle.reset_model.specs.View.{view_of}
 use Rattle.reset_machine.specs.Enabled.{ready_of}
 use Rattle.node_choices.specs.Choice.{candidates}
 use Rattle.fault_inject.specs.declared.fault.Fault.{Fault}
-use Rattle.fault_inject.specs.Drawn.{drawn_fault, drawn_node, next_words, seeded}
+use Rattle.fault_inject.specs.Drawn.{drawn_fault, next_words, seeded}
 use Rattle.history.specs.Book.{BookView, booked, disturbed_book}
 
 -- ---- what may be drawn
@@ -20,22 +21,24 @@ use Rattle.history.specs.Book.{BookView, booked, disturbed_book}
 abbrev pub enabled_events : {L : Type 0} → App L → Configuration L → ℕ → List Event
 enabled_events app c i = filter (λ e. is_ok (outcome_of app c e)) (candidates (view_of app c i))
 
+-- these, or all where there are none of them
 abbrev pub or_all : List ℕ → List ℕ → List ℕ
 or_all all [] = all
 or_all all (i ∷ ready) = i ∷ ready
 
--- the nodes of which one is drawn: those that have something to do, and all where none has
+-- the nodes of which one is drawn: those that have something to do, and all that are up where none has
 abbrev pub drawable_nodes : {L : Type 0} → App L → Configuration L → List ℕ
-drawable_nodes app c = or_all c.graph.ids (ready_of app c)
+drawable_nodes app c = or_all c.graph.nodes (ready_of app c)
 
--- the event that a word draws of these, if there is one
-abbrev pub drawn_event : List Event → ℕ → Option Event
-drawn_event events word = slice_get events (word % length events)
+-- what a word draws of a list, if there is anything in it
+abbrev pub drawn_of : {X : Type 0} → List X → ℕ → Option X
+drawn_of xs word = slice_get xs (word % length xs)
 
--- the event that two words draw: the first its node, the second which of those that are enabled there
+-- the event that two words draw: the first its node, if any is up, the second which of those that are enabled there, if
+-- any is
 unfoldable pub drawn_by : {L : Type 0} → App L → Configuration L → ℕ → ℕ → Option Event
 drawn_by app c for_node for_event =
-    drawn_event (enabled_events app c (drawn_node (drawable_nodes app c) for_node)) for_event
+    option_and_then (λ node. drawn_of (enabled_events app c node) for_event) (drawn_of (drawable_nodes app c) for_node)
 
 -- ---- a step
 

@@ -1,9 +1,8 @@
 // A step of a drawn run.
 
 ghost use Rattle.std.specs.Prelude.{◌≡◌, ◌<◌, IfOk, OnErr, OnOk, length};
-ghost use Rattle.fault_inject.specs.Drawn.{drawn_node};
-ghost use Rattle.scheduler.specs.Driven.{after_event, after_fault, drawable_nodes, drawn_by, drawn_event};
-ghost use Rattle.scheduler.specs.Driven.{drawn_step, event_step, fault_step, or_all};
+ghost use Rattle.scheduler.specs.Driven.{after_event, after_fault, drawn_by, drawn_of, drawn_step, event_step};
+ghost use Rattle.scheduler.specs.Driven.{fault_step, or_all};
 
 use crate::events::enabled_events;
 use app_interface::Application;
@@ -13,6 +12,7 @@ use rand_core::utils::NextWord;
 use rand_pcg::Lcg64Xsh32;
 use reset_machine::Event;
 use std::alloc::{AllocError, Global};
+use topology::{Topology, nodes_are_up};
 
 /// Draws a fault in so many of a thousand cases, and else an event, and does it. What is refused changes nothing.
 /// Where memory is wanting the book stays as it was.
@@ -103,33 +103,52 @@ fn drawn_by<P: Application>(
 {
     let ready = book.ready(alloc)?;
     let config = book.config();
-    config.lemma_is_graph();
-    let at = drawn_node(or_all(config.topology().ids(), &ready), for_node);
-    let events = enabled_events(alloc, config, at)?;
-    Ok(drawn_event(&events, for_event))
+    match drawn_node(alloc, config.topology(), &ready, for_node)? {
+        Some(at) => {
+            let events = enabled_events(alloc, config, at)?;
+            Ok(drawn_of(&events, for_event))
+        }
+        None => Ok(None),
+    }
 }
 
-// The nodes that are ready, or all where none is.
-fn or_all<'a>(all: &'a [u32], ready: &'a [u32]) -> &'a [u32]
-    ensures { result.now ≡ or_all all.now ready.now }
+// The node that a word draws: of those that are ready, or of all that are up where none is, if any is.
+fn drawn_node(
+    alloc: Global,
+    topology: &Topology,
+    ready: &[u32],
+    word: u32,
+) -> Result<Option<u32>, AllocError>
+    ensures { IfOk result (λ node. node ≡ drawn_of (or_all topology.now.nodes ready.now) word) }
 {
-    if ready.is_empty() { all } else { ready }
+    if ready.is_empty() {
+        let nodes = all_nodes(alloc, topology)?;
+        return Ok(drawn_of(&nodes, word));
+    }
+    Ok(drawn_of(ready, word))
 }
 
-// The identifier that a word draws.
-fn drawn_node(ids: &[u32], word: u32) -> u32
-    requires { 0 < length ids.now }
-    ensures { result ≡ drawn_node ids.now word }
+// The nodes, which are the identifiers that are up.
+fn all_nodes(alloc: Global, topology: &Topology) -> Result<Vec<u32>, AllocError>
+    ensures { IfOk result (λ nodes. nodes.items ≡ topology.now.nodes) }
 {
-    ids[word as usize % ids.len()]
+    topology.lemma_is_graph();
+    let mut nodes = Vec::new(alloc);
+    for (index, id) in topology.ids().iter().enumerate() {
+        if topology.is_up(index) {
+            nodes.push(*id)?;
+        }
+    }
+    nodes_are_up();
+    Ok(nodes)
 }
 
-// The event that a word draws, if there is one.
-fn drawn_event(events: &[Event], word: u32) -> Option<Event>
-    ensures { result ≡ drawn_event events.now word }
+// What a word draws of a list, if there is anything in it.
+fn drawn_of<T: Copy>(items: &[T], word: u32) -> Option<T>
+    ensures { result ≡ drawn_of items.now word }
 {
-    if events.is_empty() {
+    if items.is_empty() {
         return None;
     }
-    Some(events[word as usize % events.len()])
+    Some(items[word as usize % items.len()])
 }
