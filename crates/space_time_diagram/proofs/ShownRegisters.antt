@@ -6,7 +6,7 @@ use Rattle.std.proofs.lemmas.Bool.{le-leb}
 use Rattle.std.proofs.lemmas.Bool.Decides.{eqb_tells, leb_tells}
 use Rattle.std.specs.Option.{option_and_then, option_map_or}
 use Rattle.app_interface.specs.Application.{App}
-use Rattle.topology.specs.Graph.{IsGraph, IsNode}
+use Rattle.topology.specs.Graph.{IsGraph}
 use Rattle.wave_layer.specs.declared.regs.WaveRegs.{WaveRegs}
 use Rattle.reset_model.specs.Configuration.{Configuration, IsShaped, wave_of}
 use Rattle.history.specs.declared.entry.Entry.{Entry}
@@ -126,7 +126,7 @@ module _ {L : Type 0} (app : App L) (from_text : List ℕ → Option L) (lane : 
         stay c after (e ∷ []) graph shaped (ap (λ o. option_and_then (λ left. Some left) o) is)
 
     -- what is seen of the node after one more band
-    one_more : (c after : Configuration L) (at p q : ℕ) → KeepsOthers c at after → IsNode c.graph i → p ≤ q → q ≤ count
+    one_more : (c after : Configuration L) (at p q : ℕ) → KeepsOthers c at after → Contains c.graph.ids i → p ≤ q → q ≤ count
         → cond (covers i (row_y q) (band lane count p at (wave_of after at))) (wave_of after at) (wave_of c i)
         ≡ wave_of after i
     one_more c after at p q keeps node above within = by (eqb_tells at i)
@@ -142,7 +142,7 @@ module _ {L : Type 0} (app : App L) (from_text : List ℕ → Option L) (lane : 
             ∙ sym (keeps.others i node (λ same. t.1 (sym same)))
 
     entries_seen : (es : List Entry) (c here : Configuration L) (p k : ℕ) → IsGraph c.graph
-        → IsShaped c → IsNode c.graph i → p + k ≤ count → replayed app from_text c (take k es) ≡ Some here
+        → IsShaped c → Contains c.graph.ids i → p + k ≤ count → replayed app from_text c (take k es) ≡ Some here
         → seen i (row_y (p + k)) (wave_of c i) (bands_from app from_text lane count c (p + 1) es) ≡ wave_of here i
     unfolding bands_from replayed
     entries_seen [] c here p zero graph shaped node within is =
@@ -158,7 +158,7 @@ module _ {L : Type 0} (app : App L) (from_text : List ℕ → Option L) (lane : 
         (omega (arith, within)) rest) (entered app from_text c e) refl is
       where
         by_entry : ((after : Configuration L) → IsGraph after.graph → IsShaped after
-            → IsNode after.graph i → replayed app from_text after (take k es) ≡ Some here
+            → Contains after.graph.ids i → replayed app from_text after (take k es) ≡ Some here
             → seen i (row_y ((p + 1) + k)) (wave_of after i)
             (bands_from app from_text lane count after (p + 1 + 1) es) ≡ wave_of here i)
             → (o : Option (Configuration L)) → entered app from_text c e ≡ o
@@ -168,9 +168,9 @@ module _ {L : Type 0} (app : App L) (from_text : List ℕ → Option L) (lane : 
             ∷ bands_from app from_text lane count after (p + 1 + 1) es) o []) ≡ wave_of here i
         by_entry later None none is = absurd (cc)
         by_entry later (Some after) some is =
-            let keeps = entry_keeps app from_text c after e graph shaped some in
+            let keeps = entry_keeps app from_text c after e shaped some in
             let network = network_after c after e graph shaped some in
-            let there : IsNode after.graph i = subst (λ ids. Contains ids i) (sym keeps.ids) node in
+            let there : Contains after.graph.ids i = subst (λ ids. Contains ids i) (sym keeps.ids) node in
             let row : p + suc k ≡ (p + 1) + k = omega arith in
             ap (λ v. seen i (row_y (p + suc k)) v (bands_from app from_text lane count after (p + 1 + 1) es))
             (one_more c after (entry_node e) (p + 1) (p + suc k) keeps node (omega arith) within)
@@ -183,7 +183,7 @@ pub registers_seen : {L : Type 0} (app : App L) (from_text : List ℕ → Option
     → ((c left : Configuration L) (es : List Entry) → IsGraph c.graph → IsShaped c
     → replayed app from_text c es ≡ Some left → IsGraph left.graph × IsShaped left)
     → (c here : Configuration L) (es : List Entry) (place i : ℕ) (before : WaveRegs) → IsGraph c.graph
-    → IsShaped c → IsNode c.graph i → place ≤ length es
+    → IsShaped c → Contains c.graph.ids i → place ≤ length es
     → replayed app from_text c (take place es) ≡ Some here
     → seen i (row_y place) before (bands_of app from_text c es) ≡ wave_of here i
 registers_seen app from_text stay c here es place i before graph shaped node within is =

@@ -10,6 +10,7 @@ use Rattle.reset_model.specs.Configuration.{Configuration, wave_of}
 use Rattle.reset_model.specs.Steps.{event_node}
 use Rattle.fault_inject.specs.declared.fault.Fault.{Fault}
 use Rattle.fault_inject.specs.declared.fault.Fault.TheVariants.{SetTree, SetWave, SetLocal, LinkDown, LinkUp}
+use Rattle.fault_inject.specs.declared.fault.Fault.TheVariants.{NodeDown, NodeUp}
 use Rattle.history.specs.declared.entry.Entry.{Entry}
 use Rattle.history.specs.declared.entry.Entry.TheVariants.{Step, Disturbed}
 use Rattle.history.specs.Entries.{entered}
@@ -17,13 +18,15 @@ use Rattle.space_time_diagram.specs.declared.band.Band.{Band}
 use Rattle.space_time_diagram.specs.Lanes.{lane_of}
 use Rattle.space_time_diagram.specs.Page.{height_below, lane_x, row_y}
 
--- the node on whose lane a fault stands: of a link, the first end that it names
+-- the node on whose lane a fault stands: its own, and of a link the first end that it names
 abbrev pub fault_node : Fault → ℕ
 fault_node (SetTree at regs) = at
 fault_node (SetWave at regs) = at
 fault_node (SetLocal at text) = at
 fault_node (LinkDown a b) = a
 fault_node (LinkUp a b) = a
+fault_node (NodeDown at) = at
+fault_node (NodeUp at) = at
 
 -- the node on whose lane an entry stands
 abbrev pub entry_node : Entry → ℕ

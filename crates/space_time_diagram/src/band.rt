@@ -41,12 +41,13 @@ pub fn entry_node(entry: &Entry) -> u32
     }
 }
 
-// The node on whose lane a fault stands: of a link, the first end that it names.
+// The node on whose lane a fault stands: its own, and of a link the first end that it names.
 fn fault_node(fault: &Fault) -> u32
     ensures { result ≡ fault_node fault.now }
 {
     match fault {
         Fault::SetTree { at, .. } | Fault::SetWave { at, .. } | Fault::SetLocal { at, .. } => *at,
+        Fault::NodeDown { at } | Fault::NodeUp { at } => *at,
         Fault::LinkDown { a, .. } | Fault::LinkUp { a, .. } => *a,
     }
 }

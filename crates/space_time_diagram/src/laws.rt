@@ -1,7 +1,7 @@
 // What a picture shows.
 
-ghost use Rattle.std.specs.Prelude.{◌≡◌, ℕ, ◌<◌, ◌≤◌, List, Some, length, take};
-ghost use Rattle.topology.specs.Graph.{IsGraph, IsNode};
+ghost use Rattle.std.specs.Prelude.{◌≡◌, ℕ, ◌<◌, ◌≤◌, Contains, List, Some, length, take};
+ghost use Rattle.topology.specs.Graph.{IsGraph};
 ghost use Rattle.wave_layer.specs.declared.regs.WaveRegs.{WaveRegs};
 ghost use Rattle.reset_model.specs.Configuration.{Configuration, IsShaped, tree_of, wave_of};
 ghost use Rattle.history.specs.declared.entry.Entry.{Entry};
@@ -15,22 +15,23 @@ use app_interface::Application;
 use history::replays_stay_shaped;
 
 /// What a picture shows of a node in the row of a position, where a later band is painted over an earlier one, is what
-/// the wave registers of the node are after the entries up to that position. Row 0 shows the opening.
+/// the wave registers of the node are after the entries up to that position. Row 0 shows the opening. A node that is
+/// down shows those that it had.
 pub fn bands_show_registers<P: Application>()
     ensures { (c here : Configuration P.Local) (es : List Entry) (place i : ℕ) (before : WaveRegs) → IsGraph c.graph
-        → IsShaped c → IsNode c.graph i → place ≤ length es
+        → IsShaped c → Contains c.graph.ids i → place ≤ length es
         → replayed P.app P.from_text c (take place es) ≡ Some here
         → seen i (row_y place) before (bands_of P.app P.from_text c es) ≡ wave_of here i }
 {
     replays_stay_shaped::<P>();
 }
 
-/// Each node has a lane of its own, among the first as many as there are nodes, and those nearer to the root have
-/// theirs before the others.
+/// Each node, up or down, has a lane of its own, among the first as many as there are identifiers, and those nearer to
+/// the root have theirs before the others.
 pub fn nodes_have_lanes<P: Application>()
-    ensures apart { (c : Configuration P.Local) (i j : ℕ) → IsNode c.graph i → IsNode c.graph j
+    ensures apart { (c : Configuration P.Local) (i j : ℕ) → Contains c.graph.ids i → Contains c.graph.ids j
         → lane_of c i ≡ lane_of c j → i ≡ j }
-    ensures within { (c : Configuration P.Local) (i : ℕ) → IsNode c.graph i → lane_of c i < length c.graph.ids }
-    ensures nearer { (c : Configuration P.Local) (i j : ℕ) → IsNode c.graph i
+    ensures within { (c : Configuration P.Local) (i : ℕ) → Contains c.graph.ids i → lane_of c i < length c.graph.ids }
+    ensures nearer { (c : Configuration P.Local) (i j : ℕ) → Contains c.graph.ids i
         → (tree_of c i).dist < (tree_of c j).dist → lane_of c i < lane_of c j }
 {}
