@@ -12,7 +12,7 @@ use rand_core::utils::NextWord;
 use rand_pcg::Lcg64Xsh32;
 use reset_machine::Event;
 use std::alloc::{AllocError, Global};
-use topology::{Topology, nodes_are_up};
+use topology::Topology;
 
 /// Draws a fault in so many of a thousand cases, and else an event, and does it. What is refused changes nothing.
 /// Where memory is wanting the book stays as it was.
@@ -103,7 +103,7 @@ fn drawn_by<P: Application>(
 {
     let ready = book.ready(alloc)?;
     let config = book.config();
-    match drawn_node(alloc, config.topology(), &ready, for_node)? {
+    match drawn_node(config.topology(), &ready, for_node) {
         Some(at) => {
             let events = enabled_events(alloc, config, at)?;
             Ok(drawn_of(&events, for_event))
@@ -113,34 +113,14 @@ fn drawn_by<P: Application>(
 }
 
 // The node that a word draws: of those that are ready, or of all that are up where none is, if any is.
-fn drawn_node(
-    alloc: Global,
-    topology: &Topology,
-    ready: &[u32],
-    word: u32,
-) -> Result<Option<u32>, AllocError>
-    ensures { IfOk result (λ node. node ≡ drawn_of (or_all topology.now.nodes ready.now) word) }
+fn drawn_node(topology: &Topology, ready: &[u32], word: u32) -> Option<u32>
+    ensures { result ≡ drawn_of (or_all topology.now.nodes ready.now) word }
 {
     if ready.is_empty() {
-        let nodes = all_nodes(alloc, topology)?;
-        return Ok(drawn_of(&nodes, word));
+        drawn_of(topology.nodes(), word)
+    } else {
+        drawn_of(ready, word)
     }
-    Ok(drawn_of(ready, word))
-}
-
-// The nodes, which are the identifiers that are up.
-fn all_nodes(alloc: Global, topology: &Topology) -> Result<Vec<u32>, AllocError>
-    ensures { IfOk result (λ nodes. nodes.items ≡ topology.now.nodes) }
-{
-    topology.lemma_is_graph();
-    let mut nodes = Vec::new(alloc);
-    for (index, id) in topology.ids().iter().enumerate() {
-        if topology.is_up(index) {
-            nodes.push(*id)?;
-        }
-    }
-    nodes_are_up();
-    Ok(nodes)
 }
 
 // What a word draws of a list, if there is anything in it.
