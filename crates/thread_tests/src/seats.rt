@@ -320,8 +320,8 @@ fn sixty_four_nodes_of_1024_are_shared(rt: HostRuntime) {
 }
 
 #[test]
-fn sixty_five_nodes_of_1024_are_too_many(rt: HostRuntime) {
-    let book = thinned_book(&rt, rt.alloc(), 1024, 65);
+fn sixty_five_nodes_of_70_are_too_many(rt: HostRuntime) {
+    let book = thinned_book(&rt, rt.alloc(), 70, 65);
     match play::<ManyUp, HostRuntime>(&rt, rt.alloc(), book) {
         Ok(()) => panic!(rt; "too many nodes"),
         Err((fault, book)) => {

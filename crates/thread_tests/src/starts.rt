@@ -87,10 +87,11 @@ fn a_node_that_is_down_is_strange_and_has_no_seat(rt: HostRuntime) {
     assert_eq!(rt; book.len(), 1);
     let outcome = run(&rt, rt.alloc(), book, Some(1));
     assert_eq!(rt; outcome.seats.len(), 2);
-    assert!(rt; has_step(&outcome.book, 2, Event::Request { at: 1 }));
-    for list in &outcome.seats {
-        assert!(rt; list.node == 1 || list.node == 2);
+    for (list, node) in outcome.seats.iter().zip([1, 2]) {
+        assert_eq!(rt; list.node, node);
     }
+    let first = outcome.seats[0].receipts.first();
+    assert!(rt; first.is_some_and(|receipt| receipt.event == Event::Request { at: 1 }));
 }
 
 // The request and its relays.
