@@ -361,7 +361,9 @@ fn names_why_a_node_does_not_go_down_or_come_up(rt: HostRuntime) -> Result<(), F
 #[test]
 fn all_nodes_may_be_down(rt: HostRuntime) -> Result<(), Fail> {
     let two = Topology::build(rt.alloc(), &[5, 4], &[(4, 5)])?;
-    let none = two.without_node(rt.alloc(), 4)?.without_node(rt.alloc(), 5)?;
+    let none = two
+        .without_node(rt.alloc(), 4)?
+        .without_node(rt.alloc(), 5)?;
     assert_eq!(rt; none.len(), 2);
     assert_eq!(rt; none.node_count(), 0);
     assert!(rt; none.nodes().is_empty());

@@ -15,8 +15,7 @@ returns-in-Some-clause-ok g c =
 
 pub returns-in-None-clause-err : goal.returns-in-None-clause-err
 returns-in-None-clause-err g c =
-    let missing = rw (c.topology.ensures, c.self.view_is) at (sym c.in-None.ensures) in
-    (
+    let missing = rw (c.topology.ensures, c.self.view_is) at (sym c.in-None.ensures) in (
       refl,
       no_node_placed c.args.self.now.graph (rw (← c.self.view_is) c.lemma_is_graph.ensures.graph) c.args.at missing,
     )

@@ -24,14 +24,16 @@ invariant_of-self g c =
     let waves_before : length c.deref_mut-2.result.now ≡ length new.ids =
     ap length c.deref_mut-2.ensures.value ∙ shaped.waves ∙ count in
     let waves : length c.renew_waves.new.waves ≡ length new.ids =
-    ap length c.renew_waves.ensures ∙ length-renewed comes fresh new.ids c.deref_mut-2.result.now waves_before in
-    (record {
-      modulus = shaped.modulus;
-      trees = ap length (take_written i.trees.len c.renew_trees.new.trees i.trees.items
-          (trees ∙ sym trees_before ∙ c.deref_mut.ensures.len)) ∙ trees;
-      waves = ap length (take_written i.waves.len c.renew_waves.new.waves i.waves.items
-          (waves ∙ sym waves_before ∙ c.deref_mut-2.ensures.len)) ∙ waves;
-      locals = ap length c.in-Ok-renewed_locals.ensures
-          ∙ length-renewed comes (g.P.Application.app.start new) new.ids c.deref.result.now
-          (ap length c.deref.ensures.value ∙ shaped.locals ∙ count);
-    }, c.in-Ok.ensures)
+    ap length c.renew_waves.ensures ∙ length-renewed comes fresh new.ids c.deref_mut-2.result.now waves_before in (
+      record {
+        modulus = shaped.modulus;
+        trees = ap length (take_written i.trees.len c.renew_trees.new.trees i.trees.items
+            (trees ∙ sym trees_before ∙ c.deref_mut.ensures.len)) ∙ trees;
+        waves = ap length (take_written i.waves.len c.renew_waves.new.waves i.waves.items
+            (waves ∙ sym waves_before ∙ c.deref_mut-2.ensures.len)) ∙ waves;
+        locals = ap length c.in-Ok-renewed_locals.ensures
+            ∙ length-renewed comes (g.P.Application.app.start new) new.ids c.deref.result.now
+            (ap length c.deref.ensures.value ∙ shaped.locals ∙ count);
+      },
+      c.in-Ok.ensures,
+    )
