@@ -48,7 +48,7 @@ impl Write for Page {
     }
 }
 
-/// The links, registers and local states of a network of the nodes 1, 2 and 3.
+/// The links, registers and local states of a network of the nodes 1, 2 and 3, of which some may be down.
 #[derive(Drop)]
 pub(crate) struct Picture {
     links: usize,
@@ -61,9 +61,8 @@ impl Picture {
     pub(crate) fn of<P: Application>(rt: &impl Abort, config: &Config<P>) -> Picture {
         let mut locals = Page::new();
         for id in [1, 2, 3] {
-            match config.local_at(id) {
-                Some(local) => assert!(rt; P::show(local, &mut locals).is_ok()),
-                None => panic!(rt; "the node is there"),
+            if let Some(local) = config.local_at(id) {
+                assert!(rt; P::show(local, &mut locals).is_ok());
             }
         }
         Picture {
