@@ -13,8 +13,8 @@ use std::alloc::{AllocError, Global};
 use std::io::Write;
 use topology::Topology;
 
-/// The application without cases in which a node starts with whether it is linked to its leader. There is
-/// never memory for the start state of a node with three links.
+/// The application without cases in which a node starts with whether it is linked to its leader, which one that is
+/// down is not. There is never memory for the start state of a node with three links.
 pub(crate) struct LeaderLink;
 
 impl Application for LeaderLink {
@@ -44,7 +44,7 @@ impl Application for LeaderLink {
 
     ghost one_word = { bit_word };
 
-    ghost keeps = { λ g bound are whole few. record {
+    ghost keeps = { λ g bound are whole some few. record {
       same = λ v v' h inv. tt;
       starts = tt;
       acts = λ i case with v v' h inv. tt;
@@ -73,7 +73,8 @@ impl Application for LeaderLink {
         if topology.neighbours(index).len() == 3 {
             return Err(AllocError);
         }
-        Ok(topology.linked(id.get(), topology.greatest_of(index).get()))
+        topology.lemma_is_graph();
+        Ok(topology.is_up(index) && topology.linked(id.get(), topology.greatest_of(index).get()))
     }
 
     fn can(

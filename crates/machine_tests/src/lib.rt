@@ -13,6 +13,8 @@ mod machine;
 #[cfg(test)]
 mod moduli;
 #[cfg(test)]
+mod nodes_down;
+#[cfg(test)]
 mod pictures;
 #[cfg(test)]
 mod plans;

@@ -10,7 +10,7 @@ use wave_layer::Modulus;
 
 // The nodes of one component in the midst of a reset that the greatest has opened, each with a local state of its
 // own. Sessions are counted modulo 8.
-fn resetting(
+pub(crate) fn resetting(
     rt: &impl Abort,
     alloc: Global,
     nodes: &[u32],
@@ -20,8 +20,10 @@ fn resetting(
     let mut config = booted_modulo::<LeaderLink>(alloc, nodes, links, modulus).expect(
         rt, "a graph",
     );
-    config.topology().lemma_is_graph();
-    let greatest = config.topology().greatest_of(0).get();
+    let topology = config.topology();
+    topology.lemma_is_graph();
+    assert!(rt; topology.is_up(0));
+    let greatest = topology.greatest_of(0).get();
     for event in [
         Event::Request { at: greatest },
         Event::Open { at: greatest },
@@ -37,7 +39,11 @@ fn resetting(
     config
 }
 
-fn copied(rt: &impl Abort, alloc: Global, config: &Config<LeaderLink>) -> Config<LeaderLink> {
+pub(crate) fn copied(
+    rt: &impl Abort,
+    alloc: Global,
+    config: &Config<LeaderLink>,
+) -> Config<LeaderLink> {
     match config.copy(alloc) {
         Ok(copy) => copy,
         Err(_) => panic!(rt; "memory for a copy"),
@@ -71,7 +77,12 @@ fn has_links(topology: &Topology, links: &[(u32, u32)]) -> bool {
 }
 
 // The state that a node restarts with.
-fn start_at(rt: &impl Abort, alloc: Global, config: &Config<LeaderLink>, id: u32) -> bool {
+pub(crate) fn start_at(
+    rt: &impl Abort,
+    alloc: Global,
+    config: &Config<LeaderLink>,
+    id: u32,
+) -> bool {
     match config.view(alloc, id) {
         Ok(view) => *view.start(),
         Err(_) => panic!(rt; "what a node sees"),
