@@ -1,5 +1,5 @@
 -- What node threads keep is a run of the abstract machine, whose reports are true.
-use Rattle.std.proofs.Common.{◌≡◌, ◌≤◌, ◌+◌, ℕ, Bool, true, false, if◌then◌else◌, nat_eq, List, [], ◌∷◌}
+use Rattle.std.proofs.Common.{◌≡◌, ◌<◌, ◌≤◌, ◌+◌, ℕ, Bool, true, false, if◌then◌else◌, nat_eq, List, [], ◌∷◌}
 use Rattle.std.proofs.Common.{All, Contains, IsSome, Ok, Option, Some, None, ◌↔◌, arith, length, map, refl, sym}
 use Rattle.std.proofs.Common.{ap, ◌∙◌, subst, append-nil}
 use Rattle.std.proofs.lemmas.Bool.{eqb-true}
@@ -12,7 +12,7 @@ use Rattle.app_routes.specs.Ways.{HasRoutes}
 use Rattle.app_token.specs.OneToken.{HasOneToken}
 use Rattle.topology.specs.Components.{component}
 use Rattle.topology.specs.Graph.{Graph, IsConnected, IsGraph, IsNode}
-use Rattle.topology.proofs.Components.{component_is, reached_node}
+use Rattle.topology.proofs.Components.{component_is, reached_itself}
 use Rattle.topology.specs.declared.text.AppName.{AppName}
 use Rattle.topology.specs.declared.text.AppName.TheVariants.{Idle, Token, Mutex, Routes}
 use Rattle.reset_model.specs.declared.event.Event.{Event}
@@ -61,14 +61,17 @@ either_way false x y e = refl
 
 pub booted_invariant : {L : Type 0} (app : App L) (Inv : Graph → (ℕ → L) → Type 0)
     → StartsByComponent app
-    → ((g : Graph) (bound : ℕ) → IsGraph g → IsConnected g → length g.ids ≤ bound → Keeps app g bound (Inv g))
+    → ((g : Graph) (bound : ℕ) → IsGraph g → IsConnected g → 0 < length g.nodes → length g.ids ≤ bound
+    → Keeps app g bound (Inv g))
     → (g : Graph) (modulus : ℕ) (c : Configuration L) → IsGraph g → IsBoot app g modulus c
     → (i : ℕ) → IsNode c.graph i → HoldsAt app Inv c i
 booted_invariant {L = L} app Inv starts keeps g modulus c graph boot i node =
     let here : IsGraph c.graph = subst IsGraph (sym boot.graph) graph in
     let part = component_is c.graph i here node in
-    let known = keeps (component c.graph i) (length (component c.graph i).ids) part.as_graph part.connected (omega arith)
-    in
+    let itself = (part.same_nodes i).1 (reached_itself c.graph i) in
+    let known =
+    keeps (component c.graph i) (length (component c.graph i).ids) part.as_graph part.connected
+    (omega (arith, itself.1)) (omega arith) in
     let locals : c.locals ≡ map (app.start c.graph) c.graph.ids =
     boot.locals ∙ ap (λ (h : Graph). map (app.start h) h.ids) (sym boot.graph) in
     known.same (app.start (component c.graph i)) (abstract_of app c)
@@ -157,7 +160,7 @@ module _ {L : Type 0} (m : Meaning L) (Inv : Graph → (ℕ → L) → Type 0) w
               let before : IsNode c.graph i = subst (λ h. IsNode h i) (sym boot.graph) node in
               lawful.invariant i before (hold g modulus c graph boot i before);
           told = ap (λ (o : Output). o.0) is
-              ∙ ap (λ (h : Graph). threads_line (length h.ids) (length events) (length reports)) boot.graph;
+              ∙ ap (λ (h : Graph). threads_line (length h.nodes) (length events) (length reports)) boot.graph;
           true_reports = All-weaker (Contains reports) (IsTrueReport m.app m.from_text c es s)
               (λ r there. All-contains (λ x. IsIn s x.finished → IsTrueReport m.app m.from_text c es s x) reports r
               known there (inside c left events r ((are c es r).0 there))) reports (All-contains_itself reports);

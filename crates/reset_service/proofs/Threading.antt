@@ -68,9 +68,9 @@ OneReading =
 
 module _ {L : Type 0} (m : Meaning L) (c : Configuration L) where
   pub kept_by : OneReading → (text : List ℕ) (modulus : ℕ) (es : List Entry) (s : Summary)
-      → length c.graph.ids ≤ 64 → IsReadAs text (Ok (modulus, es)) → list_all is_step es ≡ true
+      → length c.graph.nodes ≤ 64 → IsReadAs text (Ok (modulus, es)) → list_all is_step es ≡ true
       → IsVerdict m.app m.from_text c text (Ok s)
-      → (nodes reports : ℕ) → nodes ≡ length c.graph.ids → reports ≡ length s.reports.items
+      → (nodes reports : ℕ) → nodes ≡ length c.graph.nodes → reports ≡ length s.reports.items
       → IsKept m c text (threads_line nodes s.entries reports, Good)
   kept_by reading text modulus es s few read all (ds, other, sum) nodes reports n r =
       let same : ◌≡◌ {A = Result (ℕ × List Entry) BookFault} (Ok (c.modulus, ds)) (Ok (modulus, es)) =
@@ -82,15 +82,15 @@ module _ {L : Type 0} (m : Meaning L) (c : Configuration L) where
       kept made.0 few (subst (λ xs. IsReadAs text (Ok (c.modulus, xs))) is other)
       (subst (λ xs. IsSome (replayed m.app m.from_text c xs)) is sum.allowed)
       (ap (λ k. (threads_line k s.entries reports, Good)) n
-      ∙ ap (λ k. (threads_line (length c.graph.ids) k reports, Good))
+      ∙ ap (λ k. (threads_line (length c.graph.nodes) k reports, Good))
       (sum.entries ∙ ap length is ∙ steps_count made.0)
-      ∙ ap (λ k. (threads_line (length c.graph.ids) (length made.0) k, Good))
+      ∙ ap (λ k. (threads_line (length c.graph.nodes) (length made.0) k, Good))
       (r ∙ ap length sum.reports ∙ ap (λ xs. length (reports_of m.app m.from_text c xs)) is))
 
   -- a run that gave no outcome is told of where there are too many nodes
   pub many_kept : (r : Result Told RunStop) (cause : RunCause)
       → IfOk r (λ told. (told ≡ TooManyNodes) × (cause ≡ TooManyForThreads))
-      → (cause ≡ TooManyForThreads → 64 < length c.graph.ids)
+      → (cause ≡ TooManyForThreads → 64 < length c.graph.nodes)
       → IfOk r (λ told. IsKept m c (told_history told) (told_output told))
   many_kept (Ok told) cause (is, by) many =
       subst (λ x. IsKept m c (told_history x) (told_output x)) (sym is) (too_many (many by) refl)

@@ -48,11 +48,11 @@ too_many_text = ended (codes "bad topology TooManyForThreads")
 -- it: a step after the other, each allowed where it stands, and no fault
 pub data IsKept {L : Type 0} (m : Meaning L) (c : Configuration L) (history : List ℕ) (output : List ℕ × Status) :
     Type 0 where
-  too_many : 64 < length c.graph.ids → output ≡ (too_many_text, BadInput) → IsKept m c history output
-  kept : (events : List Event) → length c.graph.ids ≤ 64 → IsReadAs history (Ok (c.modulus, steps events))
+  too_many : 64 < length c.graph.nodes → output ≡ (too_many_text, BadInput) → IsKept m c history output
+  kept : (events : List Event) → length c.graph.nodes ≤ 64 → IsReadAs history (Ok (c.modulus, steps events))
       → IsSome (replayed m.app m.from_text c (steps events))
       → output ≡ (
-        threads_line (length c.graph.ids) (length events)
+        threads_line (length c.graph.nodes) (length events)
             (length (reports_of m.app m.from_text c (steps events))),
         Good,
       )
@@ -119,7 +119,7 @@ pub record TellsRun {L : Type 0} (m : Meaning L) (Inv : Graph → (ℕ → L) �
   pub stretch : IsStretch m.app m.from_text opening (steps events) (whole opening events left)
   pub lawful : IsSoundStretch m.app Inv (whole opening events left)
   pub invariant : (i : ℕ) → IsNode g i → HoldsAt m.app Inv left i
-  pub told : line ≡ threads_line (length g.ids) (length events)
+  pub told : line ≡ threads_line (length g.nodes) (length events)
       (length (reports_of m.app m.from_text opening (steps events)))
   pub true_reports : All (IsTrueReport m.app m.from_text opening (steps events) (whole opening events left))
       (reports_of m.app m.from_text opening (steps events))

@@ -129,10 +129,9 @@ fn run_from<P: Application, R: Threads + Wait + Sync>(
     ensures unkept { IfOk result (λ told. (told_output told).1 ≡ Status.BadInput → told_history told ≡ []) }
     ensures stop { IfErr result IsRunStop }
 {
-    opening.topology().lemma_is_graph();
-    let least = opening.topology().ids()[0];
+    let least = opening.topology().nodes().first().copied();
     let book = Book::open_book(alloc, opening.copy(alloc)?, MAX_ENTRIES);
-    match run_nodes(rt, alloc, &NoGate, book, turns, Some(least)) {
+    match run_nodes(rt, alloc, &NoGate, book, turns, least) {
         Ok(outcome) => judge(alloc, opening, &outcome.book),
         Err(fault) => stopped_by(fault.cause),
     }
@@ -153,7 +152,7 @@ fn stopped_by(cause: RunCause) -> Result<Told, RunStop>
 
 // Judges the history that was kept from an opening on, which is told where its verification takes it.
 fn judge<P: Application>(alloc: Global, opening: Config<P>, book: &Book<P>) -> Result<Told, RunStop>
-    requires few { length opening.graph.ids ≤ 64 }
+    requires few { length opening.graph.nodes ≤ 64 }
     requires steps { IsTrue (list_all is_step book.now.entries) }
     ensures ok { IfOk result (λ told. IsKept (meaning_of P.app P.text P.from_text P.names) opening
         (told_history told) (told_output told)) }
@@ -161,7 +160,7 @@ fn judge<P: Application>(alloc: Global, opening: Config<P>, book: &Book<P>) -> R
     ensures stop { IfErr result IsRunStop }
 {
     one_reading_a_text();
-    let nodes = opening.topology().len();
+    let nodes = opening.topology().node_count();
     let history = text_of(alloc, book)?;
     let mut rest = history.as_slice();
     match verify_reader(alloc, opening, &mut rest) {

@@ -14,6 +14,6 @@ returns-in-Ok-clause-ok g c =
     c.args.book.now.entries c.in-Ok.summary c.requires.few c.in_ok-history.ensures.read c.requires.steps
     (subst (λ t. IsVerdict m.app m.from_text c.args.opening t (Ok c.in-Ok.summary))
     (whole ∙ c.as_slice-rest.ensures.value) verdict)
-    c.len-nodes.result (length c.as_slice-reports.result.now)
-    (c.len-nodes.ensures ∙ ap (λ (h : Graph). length h.ids) c.topology.ensures)
+    c.node_count-nodes.result (length c.as_slice-reports.result.now)
+    (c.node_count-nodes.ensures ∙ ap (λ (h : Graph). length h.nodes) c.topology.ensures)
     (ap length c.as_slice-reports.ensures.value)
