@@ -40,6 +40,25 @@ fn a_history_of_another_modulus_is_told(rt: HostRuntime) {
     assert_eq!(rt; out.as_slice(), b"bad history OtherModulus 8\n".as_slice());
 }
 
+// Only version 3 has nodes that go down.
+#[test]
+fn an_older_history_has_no_node_that_goes_down(rt: HostRuntime) {
+    let mut out = Vec::new(rt.alloc());
+    let mut history = b"reset-history 2 8\nfault off 3\n".as_slice();
+    let result = verify_text(rt.alloc(), LINE, &mut history, &mut out);
+    assert_eq!(rt; result, Ok(Status::BadInput));
+    assert_eq!(rt; out.as_slice(), b"bad history BadLine 2\n".as_slice());
+}
+
+#[test]
+fn a_node_that_is_down_asks_for_nothing(rt: HostRuntime) {
+    let mut out = Vec::new(rt.alloc());
+    let mut history = b"reset-history 3 4294967296\nfault off 3\nrequest 3\n".as_slice();
+    let result = verify_text(rt.alloc(), LINE, &mut history, &mut out);
+    assert_eq!(rt; result, Ok(Status::NotEnabled));
+    assert_eq!(rt; out.as_slice(), b"not enabled at 2\n".as_slice());
+}
+
 #[test]
 fn an_early_join_is_not_enabled(rt: HostRuntime) {
     let mut out = Vec::new(rt.alloc());

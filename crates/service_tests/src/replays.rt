@@ -2,7 +2,7 @@
 // answers to single lines are, and where a joined text is cut, is shown on the program itself.
 
 use crate::calls::{ALL, LINE, ONE_WAVE, READING};
-use reset_service::{RunStop, Status, print_tables, read_text, replay_text};
+use reset_service::{RunStop, Status, print_tables, read_text, record_text, replay_text};
 use std::test::Fail;
 use test_devices::{Endless, FailingReader, FailingWriter, Fault};
 
@@ -67,6 +67,58 @@ fn each_component_has_its_newest_states(rt: HostRuntime) {
     let result = replay_text(rt.alloc(), APART, script, &mut out);
     assert_eq!(rt; result, Ok(Status::Good));
     assert_eq!(rt; out.as_slice(), APART_ANSWERS);
+}
+
+// The leader of a line goes down, and the two nodes that are left are reset by themselves before it comes up.
+const TOKEN_LINE: &[u8] = b"nodes = [1, 2, 3]\nlinks = [[1, 2], [2, 3]]\napp = \"token\"\n";
+
+const LEADER_OFF: &[u8] =
+    b"fault off 3\nrequest 3\nclaim 2\nfollow 1\ncheck\nrequest 2\nopen 2\nnewest\n\
+      fault on 3\nshow 3\nfault on 3\nfault off 9\n";
+
+const LEADER_OFF_ANSWERS: &[u8] =
+    b"disturbed\nrefused StrangeNode\napplied\napplied\nfaults 0\napplied\napplied\n\
+      newest 1 unjoined\nnewest 2 hold/-/-\n\
+      disturbed\nnode 3 tree 3 3 0 wave normal 0 local hold/-/-\nrefused NodeIsUp\nrefused StrangeNode\n";
+
+const LEADER_OFF_HISTORY: &[u8] =
+    b"reset-history 3 4294967296\nfault off 3\nclaim 2\nfollow 1\nrequest 2\nopen 2\nfault on 3\n";
+
+#[test]
+fn the_leader_goes_down_and_comes_up(rt: HostRuntime) {
+    let mut out = Vec::new(rt.alloc());
+    let result = replay_text(rt.alloc(), TOKEN_LINE, LEADER_OFF, &mut out);
+    assert_eq!(rt; result, Ok(Status::Good));
+    assert_eq!(rt; out.as_slice(), LEADER_OFF_ANSWERS);
+}
+
+#[test]
+fn nodes_that_go_down_and_come_up_are_recorded(rt: HostRuntime) {
+    let mut out = Vec::new(rt.alloc());
+    let mut history = Vec::new(rt.alloc());
+    let mut script = LEADER_OFF;
+    let result = record_text(rt.alloc(), TOKEN_LINE, &mut script, &mut history, &mut out);
+    assert_eq!(rt; result, Ok(Status::Good));
+    assert_eq!(rt; out.as_slice(), LEADER_OFF_ANSWERS);
+    assert_eq!(rt; history.as_slice(), LEADER_OFF_HISTORY);
+}
+
+// A node of the line is down, and then all are.
+const ALL_OFF: &[u8] =
+    b"fault off 2\nshow\nshow 2\nenabled 2\ncheck 2\nalarm 2\nwatch 2\nfault up 1 2\nrelay 1 2\nready\n\
+      fault off 1\nfault off 3\nshow\nnewest\nready\ncheck\n";
+
+const ALL_OFF_ANSWERS: &[u8] = b"disturbed\nnode 1 tree 3 2 2 wave normal 0 local -\n\
+      node 3 tree 3 3 0 wave normal 0 local -\n\
+      refused StrangeNode\nrefused StrangeNode\nrefused StrangeNode\nrefused StrangeNode\nrefused StrangeNode\n\
+      refused StrangeNode\nrefused StrangeNeighbour\nready 1\ndisturbed\ndisturbed\nready -\nfaults 0\n";
+
+#[test]
+fn nodes_that_are_down_are_strange(rt: HostRuntime) {
+    let mut out = Vec::new(rt.alloc());
+    let result = replay_text(rt.alloc(), LINE, ALL_OFF, &mut out);
+    assert_eq!(rt; result, Ok(Status::Good));
+    assert_eq!(rt; out.as_slice(), ALL_OFF_ANSWERS);
 }
 
 #[test]

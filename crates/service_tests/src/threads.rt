@@ -10,7 +10,7 @@ use test_devices::{FailingWriter, Fault};
 // A node without neighbours does what it does in one order.
 const ALONE: &[u8] = b"nodes = [7]\nlinks = []\napp = \"idle\"\n";
 
-const HISTORY: &[u8] = b"reset-history 2 4294967296\nrequest 7\nopen 7\nfinish 7\n";
+const HISTORY: &[u8] = b"reset-history 3 4294967296\nrequest 7\nopen 7\nfinish 7\n";
 
 const LINE: &[u8] = b"threads 1 nodes 3 entries 1 reports\n";
 
@@ -99,7 +99,7 @@ fn as_many_as_64_nodes_have_threads(rt: HostRuntime) -> Result<(), AllocError> {
     let result = run_path(&rt, rt.alloc(), 64, &mut history, &mut out)?;
     assert_eq!(rt; result, Ok(Status::Good));
     assert!(rt; out.starts_with(b"threads 64 nodes "));
-    assert!(rt; history.starts_with(b"reset-history 2 4294967296\n"));
+    assert!(rt; history.starts_with(b"reset-history 3 4294967296\n"));
     Ok(())
 }
 
