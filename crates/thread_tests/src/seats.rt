@@ -308,7 +308,11 @@ impl Scene for ManyUp {
         seats: Vec<Seat<L>>,
     ) {
         assert_eq!(rt; seats.len(), 64);
-        assert!(rt; seats.iter().all(|seat| seat.node() == 1 || seat.node() > 961));
+        assert!(rt;
+            seats
+                .iter()
+                .all(|seat| seat.node() == 1 || seat.node() > 961)
+        );
         assert!(rt; close(alloc, shared, seats).is_ok());
     }
 }

@@ -82,7 +82,12 @@ fn no_node_is_up_and_nothing_happens(rt: HostRuntime) {
 
 #[test]
 fn a_node_that_is_down_is_strange_and_has_no_seat(rt: HostRuntime) {
-    let (cause, book) = refusal(&rt, rt.alloc(), line_without(&rt, rt.alloc(), &[3]), Some(3));
+    let (cause, book) = refusal(
+        &rt,
+        rt.alloc(),
+        line_without(&rt, rt.alloc(), &[3]),
+        Some(3),
+    );
     assert_eq!(rt; cause, RunCause::StrangeNode);
     assert_eq!(rt; book.len(), 1);
     let outcome = run(&rt, rt.alloc(), book, Some(1));
