@@ -31,7 +31,7 @@ impl Gate for Still {
 // Shares the booted line and plays a part of a reset at its seats.
 fn play<R: Wait + Abort>(rt: &R, alloc: Global) {
     let book = opened::<Idle>(rt, alloc);
-    let nodes = book.config().topology().len();
+    let nodes = book.config().topology().node_count();
     let blank = Blank::new(nodes as u64 + 1);
     play_round::<Brand, R>(rt, alloc, blank, book)
 }
@@ -41,7 +41,7 @@ fn play_round<L: Round, R: Wait + Abort>(rt: &R, alloc: Global, blank: Blank, bo
     requires parts { blank.parts ≡ L.parts }
     requires one_more { L.parts ≡ L.seats + 1 }
     requires mark { length book.entries ≡ L.mark }
-    requires nodes { length book.config.graph.ids ≡ L.seats }
+    requires nodes { length book.config.graph.nodes ≡ L.seats }
 {
     match share::<L, Idle>(alloc, blank, book) {
         Ok((shared, seats)) => reset_begins(rt, alloc, shared, seats),
