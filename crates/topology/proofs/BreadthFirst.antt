@@ -10,7 +10,7 @@ use Rattle.topology.specs.Rows.{row_at, near_has, AreRows}
 use Rattle.topology.specs.Searching.{unmarked, MarksRow, QueuesMarked, AreReached, AreQueued}
 
 -- a mark at an index that had none
-one_fewer : (n k mark : ℕ) (marks : List ℕ) → k < length marks → get_or marks k 0 ≡ n → mark ≢ n
+pub one_fewer : (n k mark : ℕ) (marks : List ℕ) → k < length marks → get_or marks k 0 ≡ n → mark ≢ n
     → unmarked n (set marks k mark) + 1 ≡ unmarked n marks
 one_fewer n k mark marks within free other =
     let f : ℕ → ℕ = λ m. cond (eqb m n) 1 0 in
@@ -25,7 +25,7 @@ some_unmarked n k marks within free =
 
 -- ---- one index of a row after another
 
-module _ (n mark : ℕ) (old before : List ℕ) (room : mark + unmarked n old ≤ n) (now reached : List ℕ)
+module _ (n mark : ℕ) (old before : List ℕ) (differs : 0 < unmarked n old → mark ≢ n) (now reached : List ℕ)
     (count : length now ≡ length old) (kept : (k : ℕ) → get_or old k 0 ≢ n → get_or now k 0 ≡ get_or old k 0)
     (queued : QueuesMarked n mark old now before reached) (i : ℕ) (i_in : i < length now) (free : get_or now i 0 ≡ n)
   where
@@ -33,7 +33,7 @@ module _ (n mark : ℕ) (old before : List ℕ) (room : mark + unmarked n old �
     was_free = ⊎_elim (λ e. e) (λ ne. sym (kept i ne) ∙ free) (cases_eq (get_or old i 0) n)
 
     mark_differs : mark ≢ n
-    mark_differs same = absurd (omega (arith, some_unmarked n i old (omega (arith, count)) was_free))
+    mark_differs = differs (omega (arith, some_unmarked n i old (omega (arith, count)) was_free))
 
     -- an index that gets the mark comes behind the others
     pub queue_more : QueuesMarked n mark old (set now i mark) before (reached ++ i ∷ [])

@@ -1,7 +1,7 @@
 -- The first item of a list with a property, and the first that repeats an earlier one.
 use Rattle.std.proofs.Common.{◌≡◌, ℕ, suc, ◌+◌, ◌<◌, ◌≤◌, ◌≢◌, List, [], ◌∷◌, ◌++◌, length, get_or, take, drop, All}
 use Rattle.std.proofs.Common.{AllPairs, Contains, sym, refl, ap, subst, ◌∙◌, arith, take-append-drop, length-append}
-use Rattle.std.proofs.lemmas.List.{take_all, take_more, drop_more, append_assoc, get_or_append_left, get_or_at}
+use Rattle.std.proofs.lemmas.List.{take_all, drop_more, append_assoc, get_or_append_left, get_or_at}
 use Rattle.std.proofs.lemmas.List.{get_or_default}
 use Rattle.std.proofs.lemmas.List.Elements.{All-contains, All-append, All-cons, All-nil, Contains-append_right}
 use Rattle.std.proofs.lemmas.List.Concat.{flat_map-append}
@@ -80,12 +80,6 @@ apart_push xs x apart absent =
 -- ---- the ends of links
 
 module _ (links : List (ℕ × ℕ)) (k : ℕ) (within : k < length links) where
-  pub ends_more : ends_of (take (k + 1) links)
-      ≡ ends_of (take k links) ++ (get_or links k (0, 0)).0 ∷ (get_or links k (0, 0)).1 ∷ []
-  ends_more =
-      let f : ℕ × ℕ → List ℕ = λ l. l.0 ∷ l.1 ∷ [] in
-      ap ends_of (take_more links k (0, 0) within) ∙ flat_map-append f (take k links) (get_or links k (0, 0) ∷ [])
-
   pub ends_whole : ends_of links
       ≡ ends_of (take k links) ++ (get_or links k (0, 0)).0 ∷ (get_or links k (0, 0)).1 ∷ ends_of (drop (k + 1) links)
   ends_whole =
@@ -107,15 +101,6 @@ module _ (links : List (ℕ × ℕ)) (k : ℕ) (within : k < length links) where
       (ends_whole ∙ sym (append_assoc (ends_of (take k links)) (a ∷ []) (b ∷ ends_of (drop (k + 1) links))))
       (All-append (λ y. P y → ⊥) (ends_of (take k links)) (a ∷ []) none
       (All-cons (λ y. P y → ⊥) a [] first (All-nil (λ y. P y → ⊥)))) here
-
-  pub both_ends : (P : ℕ → Type 0) → All P (ends_of (take k links)) → P (get_or links k (0, 0)).0
-      → P (get_or links k (0, 0)).1 → All P (ends_of (take (k + 1) links))
-  both_ends P all first second =
-      let a = (get_or links k (0, 0)).0 in
-      let b = (get_or links k (0, 0)).1 in
-      subst (All P) (sym ends_more)
-      (All-append P (ends_of (take k links)) (a ∷ b ∷ []) all
-      (All-cons P a (b ∷ []) first (All-cons P b [] second (All-nil P))))
 
   pub ends_known : (P : ℕ → Type 0) → All P (ends_of links) → P (get_or links k (0, 0)).0 × P (get_or links k (0, 0)).1
   ends_known P all =

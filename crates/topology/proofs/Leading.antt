@@ -1,16 +1,16 @@
 -- The leaders of indexes, found from the greatest start on.
-use Rattle.std.proofs.Common.{◌≡◌, ℕ, ◌+◌, ◌<◌, ◌≤◌, true, List, length, get_or, sym}
+use Rattle.std.proofs.Common.{◌≡◌, ℕ, ◌+◌, ◌<◌, ◌≤◌, true, List, [], ◌∷◌, length, get_or, sym, ap}
 use Rattle.std.proofs.Common.{subst, ◌∙◌, arith, ⊎_elim}
 use Rattle.std.proofs.lemmas.Bool.{cases_eq, cases_lt}
 use Rattle.topology.specs.Components.{leader}
-use Rattle.topology.specs.Graph.{Graph, IsGraph, IsLeader, IsNode, IsReached, has}
-use Rattle.topology.specs.Rows.{graph_of, AreLeaders, AreTied}
-use Rattle.topology.specs.Searching.{AreDistances, LeadsReached}
-use Rattle.topology.proofs.Ascending.{rises_weakly}
+use Rattle.topology.specs.Graph.{Graph, IsGraph, IsLeader, IsNode, IsReached, IsWalk, has}
+use Rattle.topology.specs.Rows.{graph_of, near_has, AreLeaders, AreTied}
+use Rattle.topology.specs.Searching.{IsRowWalk, LeadsReached}
+use Rattle.topology.proofs.Ascending.{index_once, rises_weakly}
 use Rattle.topology.proofs.Components.{leader_leads, one_leader, reached_itself, reached_node, reached_on}
 use Rattle.topology.proofs.Membership.{Contains-has}
-use Rattle.topology.proofs.RowLemmas.{tied_graph}
-use Rattle.topology.proofs.Walks.{index_of_node, mark_of_walk, reached_back, reached_of_mark}
+use Rattle.topology.proofs.RowLemmas.{linked_from, linked_to, tied_graph}
+use Rattle.topology.proofs.Walks.{index_of_node, reached_back}
 
 -- a walk leads from the id at one index to the id at another
 abbrev pub IsReachedAt : List ℕ → List ℕ → List (List ℕ) → ℕ → ℕ → Type 0
@@ -70,57 +70,72 @@ module _ (ids nodes : List ℕ) (rows : List (List ℕ)) (tied : AreTied ids nod
     }
 
     -- a start without a leader is the leader of all that reach it
-    module _ (free : get_or leaders start 0 ≡ n) (marks : List ℕ) (found : AreDistances n rows start marks)
-        (new : List ℕ) (leads : LeadsReached marks start leaders new) where
-      low_mark : (k : ℕ) → k < n → IsReachedAt ids nodes rows k start → get_or marks k 0 < n
-      low_mark k k_in r = (mark_of_walk ids nodes rows tied.as_ids tied.as_rows start marks found r.0 k k_in r.1).0
+    module _ (free : get_or leaders start 0 ≡ n) (new : List ℕ) (leads : LeadsReached n rows start leaders new) where
+      -- none of these has one yet
+      none_yet : (k : ℕ) → k < n → IsReachedAt ids nodes rows k start → get_or leaders k 0 ≡ n
+      none_yet k k_in r =
+          ⊎_elim
+          (λ low.
+          let top = get_or leaders k 0 in
+          let to_top = joined start k top (turned k start r) (led.reached k k_in low) in
+          absurd (omega (arith, led.free start top start_in low free to_top, led.above k k_in)))
+          (λ high. omega (arith, led.small k k_in))
+          (cases_lt (get_or leaders k 0) n)
 
-      reaches_start : (k : ℕ) → k < n → get_or marks k 0 < n → IsReachedAt ids nodes rows k start
-      reaches_start k k_in low = reached_of_mark ids nodes rows tied.as_ids tied.as_rows start marks found k k_in low
+      -- link by link of a walk to the start
+      led_by_walk : (cs : List ℕ) (i : ℕ) → i < n → IsWalk g (get_or ids i 0) cs (get_or ids start 0)
+          → get_or new i 0 ≡ start
+      led_by_walk [] i i_in w =
+          let same : i ≡ start = index_once ids tied.as_ids.ascending i start i_in start_in w in
+          ap (λ k. get_or new k 0) same ∙ leads.itself
+      led_by_walk (c ∷ cs) i i_in w =
+          let l = linked_from ids rows (get_or ids i 0) c w.0 in
+          let j_in : l.j < n = tied.as_rows.within l.i l.j l.near in
+          let same : l.i ≡ i = index_once ids tied.as_ids.ascending l.i i l.within i_in l.first in
+          let near : near_has rows l.j i ≡ true =
+          subst (λ k. near_has rows l.j k ≡ true) same (tied.as_rows.symmetric l.j l.i ∙ l.near) in
+          let rest : IsWalk g (get_or ids l.j 0) cs (get_or ids start 0) =
+          subst (λ x. IsWalk g x cs (get_or ids start 0)) (sym l.second) w.1 in
+          leads.closed l.j i (none_yet l.j j_in (cs, rest)) (led_by_walk cs l.j j_in rest) near
+          (none_yet i i_in (c ∷ cs, w))
 
-      marks_count : length marks ≡ n
-      marks_count = found.are_reached.count
-
-      here : (k : ℕ) → k < n → get_or marks k 0 < n → get_or new k 0 ≡ start
-      here k k_in low = leads.reached k (omega (arith, marks_count)) (omega (arith, marks_count))
-
-      there : (k : ℕ) → k < n → n ≤ get_or marks k 0 → get_or new k 0 ≡ get_or leaders k 0
-      there k k_in high = leads.others k (omega (arith, marks_count)) (omega (arith, marks_count))
+      -- row by row of a walk to the start
+      reached_by_rows : (ks : List ℕ) (i : ℕ) → i < n → IsRowWalk rows i ks start → IsReachedAt ids nodes rows i start
+      reached_by_rows [] i i_in w = ([], ap (λ k. get_or ids k 0) w)
+      reached_by_rows (k ∷ ks) i i_in w =
+          let r = reached_by_rows ks k (tied.as_rows.within i k w.0) w.1 in
+          (get_or ids k 0 ∷ r.0, (linked_to ids rows i k i_in w.0, r.1))
 
       pub led_more : AreLed ids nodes rows start new
       led_more = record {
         count = leads.count ∙ led.count;
         small = λ k k_in.
-            ⊎_elim (λ low. omega (arith, here k k_in low))
-            (λ high. omega (arith, there k k_in high, led.small k k_in))
-            (cases_lt (get_or marks k 0) n);
+            ⊎_elim (λ same. omega (arith, same, led.small k k_in)) (λ led_now. omega (arith, led_now.1)) (leads.each k);
         above = λ k k_in.
-            ⊎_elim (λ low. omega (arith, here k k_in low))
-            (λ high. omega (arith, there k k_in high, led.above k k_in))
-            (cases_lt (get_or marks k 0) n);
+            ⊎_elim (λ same. omega (arith, same, led.above k k_in)) (λ led_now. omega (arith, led_now.1)) (leads.each k);
         reached = λ k k_in less.
-            ⊎_elim (λ low. subst (λ i. IsReachedAt ids nodes rows k i) (sym (here k k_in low)) (reaches_start k k_in low))
-            (λ high.
-            let same = there k k_in high in
+            ⊎_elim
+            (λ same.
             subst (λ i. IsReachedAt ids nodes rows k i) (sym same) (led.reached k k_in (omega (arith, same, less))))
-            (cases_lt (get_or marks k 0) n);
+            (λ led_now.
+            subst (λ i. IsReachedAt ids nodes rows k i) (sym led_now.1) (reached_by_rows led_now.2 k k_in led_now.3))
+            (leads.each k);
         greatest = λ k j k_in j_in less r.
-            ⊎_elim
-            (λ low.
-            let from_start = joined start k j (turned k start (reaches_start k k_in low)) r in
-            omega (arith, here k k_in low, led.free start j start_in j_in free from_start))
-            (λ high.
-            let same = there k k_in high in
-            omega (arith, same, led.greatest k j k_in j_in (omega (arith, same, less)) r))
-            (cases_lt (get_or marks k 0) n);
+            ⊎_elim (λ same. omega (arith, same, led.greatest k j k_in j_in (omega (arith, same, less)) r))
+            (λ led_now.
+            let from_start = joined start k j (turned k start (reached_by_rows led_now.2 k k_in led_now.3)) r in
+            omega (arith, led_now.1, led.free start j start_in j_in free from_start))
+            (leads.each k);
         free = λ k j k_in j_in e r.
-            ⊎_elim (λ low. absurd (omega (arith, here k k_in low, e)))
-            (λ high.
             ⊎_elim
-            (λ same. absurd (omega (arith, low_mark k k_in (subst (λ i. IsReachedAt ids nodes rows k i) same r))))
-            (λ other. omega (arith, led.free k j k_in j_in (sym (there k k_in high) ∙ e) r))
+            (λ same. ⊎_elim
+            (λ at_start.
+            let to_start : IsReachedAt ids nodes rows k start = subst (λ i. IsReachedAt ids nodes rows k i) at_start r in
+            absurd (omega (arith, led_by_walk to_start.0 k k_in to_start.1, e)))
+            (λ other. omega (arith, led.free k j k_in j_in (sym same ∙ e) r))
             (cases_eq j start))
-            (cases_lt (get_or marks k 0) n);
+            (λ led_now. absurd (omega (arith, led_now.1, e)))
+            (leads.each k);
       }
 
   -- after the last start each has its leader

@@ -6,6 +6,7 @@ pub mod Removing
 pub mod FirstItems
 pub mod Joining
 pub mod BreadthFirst
+pub mod Flooding
 pub mod FaultOrder
 pub mod Walks
 pub mod Reaching

@@ -63,7 +63,7 @@ module _ (ids nodes : List ℕ) (rows : List (List ℕ)) (as_ids : AreIds ids) (
       (found.are_reached.reached i i_in (omega arith))
 
   -- and no walk is shorter than the mark
-  pub mark_of_walk : (cs : List ℕ) (i : ℕ) → i < length ids
+  mark_of_walk : (cs : List ℕ) (i : ℕ) → i < length ids
       → IsWalk (graph_of ids nodes rows) (get_or ids i 0) cs (get_or ids start 0) →
       (get_or marks i 0 < length ids) × (get_or marks i 0 ≤ length cs)
   mark_of_walk [] i i_in w =
@@ -82,7 +82,7 @@ module _ (ids nodes : List ℕ) (rows : List (List ℕ)) (as_ids : AreIds ids) (
       let step = found.closed l.j i j_in near rest.0 in
       (step.0, omega (arith, step.1, rest.1))
 
-  pub reached_of_mark : (i : ℕ) → i < length ids → get_or marks i 0 < length ids
+  reached_of_mark : (i : ℕ) → i < length ids → get_or marks i 0 < length ids
       → IsReached (graph_of ids nodes rows) (get_or ids i 0) (get_or ids start 0)
   reached_of_mark i i_in low = let w = walk_of_mark (get_or marks i 0) i i_in refl low in (w.0, w.1)
 

@@ -1,5 +1,5 @@
 -- What a breadth-first search leaves: at each index its distance to the start, or n where no walk leads there.
-use Rattle.std.specs.Prelude.{◌≡◌, ◌≢◌, ℕ, ◌+◌, ◌<◌, ◌≤◌, true, false, ◌⊎◌, List, length, count_by, slice_index, ◌==◌}
+use Rattle.std.specs.Prelude.{◌≡◌, ◌≢◌, ℕ, ◌+◌, ◌<◌, ◌≤◌, true, false, ◌⊎◌, List, [], ◌∷◌, length, count_by, slice_index, ◌==◌}
 use Rattle.topology.specs.Graph.{has}
 use Rattle.topology.specs.Rows.{near_has}
 
@@ -54,10 +54,22 @@ pub record AreDistances (n : ℕ) (rows : List (List ℕ)) (start : ℕ) (marks 
   pub closed : (i j : ℕ) → i < n → near_has rows i j ≡ true → slice_index marks i < n →
       (slice_index marks j < n) × (slice_index marks j ≤ slice_index marks i + 1)
 
--- the indexes with a distance have the start for their leader, and the others what they had
-pub record LeadsReached (distances : List ℕ) (start : ℕ) (old new : List ℕ) : Type 0 where
+-- from i through the indexes of the list to j, each in the row of the one before
+abbrev pub IsRowWalk : List (List ℕ) → ℕ → List ℕ → ℕ → Type 0
+IsRowWalk rows i [] j = i ≡ j
+IsRowWalk rows i (k ∷ ks) j = (near_has rows i k ≡ true) × IsRowWalk rows k ks j
+
+-- k keeps its leader; or it had none, which n tells, and follows the start now, to which a walk over rows leads
+abbrev pub KeepsOrFollows : ℕ → List (List ℕ) → ℕ → List ℕ → List ℕ → ℕ → Type 0
+KeepsOrFollows n rows start old new k =
+    (slice_index new k ≡ slice_index old k)
+    ⊎ ((slice_index old k ≡ n) × (slice_index new k ≡ start) × (ks : List ℕ) × IsRowWalk rows k ks start)
+
+-- the start leads itself; each index keeps its leader or follows the start from now on; and where one does, so do
+-- its neighbours that had no leader
+pub record LeadsReached (n : ℕ) (rows : List (List ℕ)) (start : ℕ) (old new : List ℕ) : Type 0 where
   pub count : length new ≡ length old
-  pub reached : (k : ℕ) → k < length distances → slice_index distances k < length distances
-      → slice_index new k ≡ start
-  pub others : (k : ℕ) → k < length distances → length distances ≤ slice_index distances k
-      → slice_index new k ≡ slice_index old k
+  pub itself : slice_index new start ≡ start
+  pub each : (k : ℕ) → KeepsOrFollows n rows start old new k
+  pub closed : (i j : ℕ) → slice_index old i ≡ n → slice_index new i ≡ start → near_has rows i j ≡ true
+      → slice_index old j ≡ n → slice_index new j ≡ start

@@ -12,14 +12,15 @@ use std::alloc::Global;
 
 /// The first end of a link that isn't one of the ids.
 fn first_strange_end(ids: &Ids, links: &[(u32, u32)]) -> Option<u32>
+    requires all_up { ids.now.nodes ≡ ids.now.ids }
     ensures { MatchOption result (All (λ x. has ids.now.ids x ≡ true) (ends_of links.now))
         (IsFirst (λ x. has ids.now.ids x ≡ true → ⊥) (ends_of links.now)) }
 {
     for (a, b) in links {
-        if ids.index_of(*a).is_none() {
+        if !ids.is_up(*a) {
             return Some(*a);
         }
-        if ids.index_of(*b).is_none() {
+        if !ids.is_up(*b) {
             return Some(*b);
         }
     }
@@ -41,11 +42,12 @@ fn first_self_link(links: &[(u32, u32)]) -> Option<u32>
 
 /// The index of one of the ids.
 fn index_among(ids: &Ids, id: u32) -> usize
-    requires { has ids.now.ids id ≡ true }
+    requires all_up { ids.now.nodes ≡ ids.now.ids }
+    requires known { has ids.now.ids id ≡ true }
     ensures within { result < length ids.now.ids }
     ensures value { slice_index ids.now.ids result ≡ id }
 {
-    ids.index_of(id).unwrap()
+    ids.node_at(id).unwrap()
 }
 
 /// The indexes of two of the nodes, or `StrangeNode` of the first that is none of them.
@@ -65,6 +67,7 @@ pub fn end_indexes(ids: &Ids, a: u32, b: u32) -> Result<(usize, usize), TopoFaul
 
 /// Puts each link into the rows, or answers `TwiceLink` of the first that repeats an earlier one.
 fn link_all(ids: &Ids, links: &[(u32, u32)], near: &mut [Vec<usize>]) -> Result<(), TopoFault>
+    requires all_up { ids.now.nodes ≡ ids.now.ids }
     requires apart { AreApart ids.now.ids links.now }
     requires empty { AreJoined ids.now.ids [] (map (λ row. row.items) near.old) }
     ensures ok { OnOk result (AreJoined ids.now.ids links.now (map (λ row. row.items) near.new)) }
@@ -84,6 +87,7 @@ fn link_all(ids: &Ids, links: &[(u32, u32)], near: &mut [Vec<usize>]) -> Result<
 
 /// The rows of these links of the ids, or `TwiceLink` of the first that repeats an earlier one.
 fn linked_rows(alloc: Global, ids: &Ids, links: &[(u32, u32)]) -> Result<Vec<Vec<usize>>, TopoFault>
+    requires all_up { ids.now.nodes ≡ ids.now.ids }
     requires apart { AreApart ids.now.ids links.now }
     ensures ok { IfOk result (λ near. AreJoined ids.now.ids links.now (map (λ row. row.items) near.items)) }
     ensures err { IfErr result (λ f. f ≢ TopoFault.NoMemory → (p : ℕ × ℕ)
@@ -102,6 +106,7 @@ pub fn checked_rows(
     ids: &Ids,
     links: &[(u32, u32)],
 ) -> Result<Vec<Vec<usize>>, TopoFault>
+    requires all_up { ids.now.nodes ≡ ids.now.ids }
     ensures few { OnOk result (length links.now ≤ MAX_LINKS) }
     ensures apart { OnOk result (AreApart ids.now.ids links.now) }
     ensures joined { IfOk result (λ near.

@@ -1,4 +1,4 @@
-ghost use Rattle.std.specs.Prelude.{◌≡◌, ℕ, ◌+◌, ◌<◌, ◌≤◌, [], All, IfOk, length, map, replicate};
+ghost use Rattle.std.specs.Prelude.{◌≡◌, ◌≢◌, ℕ, ◌+◌, ◌<◌, ◌≤◌, [], All, IfOk, length, map, replicate};
 ghost use Rattle.std.specs.Vec.{vec_capacity};
 ghost use Rattle.topology.specs.Rows.{AreRows};
 ghost use Rattle.topology.specs.Searching.{AreDistances, MarksRow, QueuesMarked, unmarked};
@@ -7,9 +7,15 @@ use std::alloc::{AllocError, Global};
 
 /// Puts a mark at the indexes of a row that have the mark `free`, and puts these indexes behind those
 /// that were reached before.
-fn mark_row(row: &[usize], free: usize, mark: usize, marks: &mut [usize], reached: &mut Vec<usize>)
+pub fn mark_row(
+    row: &[usize],
+    free: usize,
+    mark: usize,
+    marks: &mut [usize],
+    reached: &mut Vec<usize>,
+)
     requires within { All (λ j. j < length marks.old) row.now }
-    requires room { mark + unmarked free marks.old ≤ free }
+    requires differs { 0 < unmarked free marks.old → mark ≢ free }
     requires capacity { length reached.old.items + unmarked free marks.old ≤ vec_capacity reached.old }
     ensures marked { MarksRow free row.now mark marks.old marks.new }
     ensures queued { QueuesMarked free mark marks.old marks.new reached.old.items reached.new.items }

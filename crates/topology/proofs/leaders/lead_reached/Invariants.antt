@@ -1,12 +1,14 @@
-use Rattle.std.proofs.Common.{◌≡◌, ℕ, ◌<◌, ◌≤◌, length, slice_index}
+use Rattle.std.proofs.Common.{◌-◌, ◌≤◌, length, map}
+use Rattle.std.specs.Vec.{vec_capacity}
+use Rattle.topology.proofs.Flooding.{AreFollowing}
 use Rattle.topology.proofs.leaders.lead_reached.Given as goal
 
-abbrev pub invariant-loop-index : goal.invariant-loop-index
-invariant-loop-index l = record {
-  count : length l.leaders ≡ length l.initial.leaders;
-  reached : (k : ℕ) → k < l.index → slice_index l.distances k < length l.distances
-      → slice_index l.leaders k ≡ l.start;
-  others : (k : ℕ) → k < l.index → length l.distances ≤ slice_index l.distances k
-      → slice_index l.leaders k ≡ slice_index l.initial.leaders k;
-  later : (k : ℕ) → l.index ≤ k → slice_index l.leaders k ≡ slice_index l.initial.leaders k;
+abbrev pub invariant-loop-place : goal.invariant-loop-place
+invariant-loop-place l = record {
+  following :
+      AreFollowing (length l.near) (map (λ row. row.items) l.near) l.start l.place l.fn.leaders l.leaders l.reached.items;
+  capacity : length l.near ≤ vec_capacity l.reached;
 }
+
+abbrev pub decreases-loop-place : goal.decreases-loop-place
+decreases-loop-place l = length l.near - l.place

@@ -10,4 +10,4 @@ returns c =
     subst (AreLeaders ids nodes (rows_of c.args.near.now))
     (sym (with_items_is c.in_ok-leaders.leaders c.fill_leaders.new.leaders
     (omega (arith, c.fill_leaders.auto.leaders, c.deref_mut.ensures.len))))
-    (c.in_ok-fill_leaders.ensures ids nodes tied same)
+    (c.fill_leaders.ensures ids nodes tied same)

@@ -10,13 +10,13 @@ use Rattle.topology.proofs.Inserting.{rows_of}
 use Rattle.topology.proofs.Joining.{joined_more, link_repeated, ordered_whole}
 use Rattle.topology.proofs.links.link_all.Goals as goal
 
-pub index_among-i-requires : goal.index_among-i-requires
-index_among-i-requires c =
+pub index_among-i-requires-clause-known : goal.index_among-i-requires-clause-known
+index_among-i-requires-clause-known c =
     (ends_known c.args.links.now c.loop-a.a-index c.loop-a-test.true (λ x. has c.args.ids.now.ids x ≡ true)
     c.requires.apart.known).0
 
-pub index_among-j-requires : goal.index_among-j-requires
-index_among-j-requires c =
+pub index_among-j-requires-clause-known : goal.index_among-j-requires-clause-known
+index_among-j-requires-clause-known c =
     (ends_known c.args.links.now c.loop-a.a-index c.loop-a-test.true (λ x. has c.args.ids.now.ids x ≡ true)
     c.requires.apart.known).1
 

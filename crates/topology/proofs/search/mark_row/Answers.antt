@@ -16,7 +16,7 @@ loop-index-preserved c =
         queued =
             subst (QueuesMarked c.args.free c.args.mark old _ before)
             (sym (rw w.unwrap.ensures at w.push.ensures.items))
-            (queue_more c.args.free c.args.mark old before c.requires.room c.loop-index.marks c.loop-index.reached.items
+            (queue_more c.args.free c.args.mark old before c.requires.differs c.loop-index.marks c.loop-index.reached.items
             so_far.marked.count so_far.marked.kept so_far.queued
             (get_or c.args.row.now c.loop-index.index-index 0)
             (omega (arith, c.requires.within c.loop-index.index-index 0)) w.if-marks-index.true);
