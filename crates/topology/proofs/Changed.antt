@@ -10,10 +10,10 @@ use Rattle.std.specs.Vec.{with_items}
 use Rattle.std.proofs.lemmas.Bool.{and_from, and_parts, cases_Bool, both_ways, false_from_ne_true, or_cases, or_left}
 use Rattle.std.proofs.lemmas.List.{length-map, with_items_is}
 use Rattle.topology.specs.Building.{joins, Isolates, Links, Unlinks}
-use Rattle.topology.specs.Changing.{roll_with, roll_without, with_link, with_node, without_link, without_node}
+use Rattle.topology.specs.Changing.{members_with, members_without, with_link, with_node, without_link, without_node}
 use Rattle.topology.specs.Changing.{IsIndexOf}
 use Rattle.topology.specs.Graph.{Graph, pair_cmp, are_linked, has}
-use Rattle.topology.specs.Rows.{row_at, near_has, links_of, graph_of, Roll, AreIds, AreLeadersOf, AreRows, AreParts}
+use Rattle.topology.specs.Rows.{row_at, near_has, links_of, graph_of, Membership, AreIds, AreLeadersOf, AreRows, AreParts}
 use Rattle.topology.proofs.Ascending.{member_at, index_of_member, index_once}
 use Rattle.topology.proofs.Counting.{len_both, one_direction}
 use Rattle.topology.proofs.Inserting.{rows_of, joins_ends, joins_own}
@@ -350,26 +350,26 @@ module _ (ids nodes : List ℕ) (rows new : List (List ℕ)) (old_leaders : List
 
 -- ---- a topology with one node more
 
-pub with_node_made : (roll : Roll) (rows : List (List ℕ)) (leaders : List ℕ) (count : ℕ)
-    → AreParts roll.ids roll.nodes rows leaders count → (x : ℕ) (made : Roll) → made ≡ roll_with roll x
+pub with_node_made : (members : Membership) (rows : List (List ℕ)) (leaders : List ℕ) (count : ℕ)
+    → AreParts members.ids members.nodes rows leaders count → (x : ℕ) (made : Membership) → made ≡ members_with members x
     → (copy : List (List ℕ)) → copy ≡ rows
-    → Made made.ids made.nodes copy leaders count (with_node (graph_of roll.ids roll.nodes rows) x)
-with_node_made roll rows leaders count old x made made_is copy copy_is =
-    subst (λ (r : Roll). Made r.ids r.nodes copy leaders count (with_node (graph_of roll.ids roll.nodes rows) x))
+    → Made made.ids made.nodes copy leaders count (with_node (graph_of members.ids members.nodes rows) x)
+with_node_made members rows leaders count old x made made_is copy copy_is =
+    subst (λ (r : Membership). Made r.ids r.nodes copy leaders count (with_node (graph_of members.ids members.nodes rows) x))
     (sym made_is)
-    (subst (λ rs. Made roll.ids more rs leaders count (with_node (graph_of roll.ids roll.nodes rows) x)) (sym copy_is)
+    (subst (λ rs. Made members.ids more rs leaders count (with_node (graph_of members.ids members.nodes rows) x)) (sym copy_is)
     (record {
       parts = record {
         tied = record {
           as_ids = old.tied.as_ids;
-          as_nodes = nodes_among roll.ids old.tied.as_ids.ascending (λ j. has roll.nodes j || eqb j x);
+          as_nodes = nodes_among members.ids old.tied.as_ids.ascending (λ j. has members.nodes j || eqb j x);
           as_rows = old.tied.as_rows;
           ends = λ i j e.
-              let i_in : i < length roll.ids = row_of_id (length roll.ids) rows old.tied.as_rows i j e in
-              let id : ℕ = get_or roll.ids i 0 in
-              has-filter (λ n. has roll.nodes n || eqb n x) roll.ids id
-              ∙ and_from (has roll.nodes id || eqb id x) (has roll.ids id)
-              (or_left (has roll.nodes id) (eqb id x) (old.tied.ends i j e)) (member_at roll.ids i i_in);
+              let i_in : i < length members.ids = row_of_id (length members.ids) rows old.tied.as_rows i j e in
+              let id : ℕ = get_or members.ids i 0 in
+              has-filter (λ n. has members.nodes n || eqb n x) members.ids id
+              ∙ and_from (has members.nodes id || eqb id x) (has members.ids id)
+              (or_left (has members.nodes id) (eqb id x) (old.tied.ends i j e)) (member_at members.ids i i_in);
         };
         as_leaders = old.as_leaders;
         counted = old.counted;
@@ -378,23 +378,23 @@ with_node_made roll rows leaders count old x made made_is copy copy_is =
     }))
   where
     more : List ℕ
-    more = filter (λ j. has roll.nodes j || eqb j x) roll.ids
+    more = filter (λ j. has members.nodes j || eqb j x) members.ids
 
 -- ---- the same, where the rows are a copy that was lent to the calls
 
-module _ (roll : Roll) (near : List (Vec ℕ Global)) (old_leaders : List ℕ) (count : ℕ)
-    (old : AreParts roll.ids roll.nodes (rows_of near) old_leaders count)
+module _ (members : Membership) (near : List (Vec ℕ Global)) (old_leaders : List ℕ) (count : ℕ)
+    (old : AreParts members.ids members.nodes (rows_of near) old_leaders count)
     (lent_near : List (Vec ℕ Global)) (near_is : lent_near ≡ near) (copy : Vec (Vec ℕ Global) Global)
     (copied : rows_of copy.items ≡ rows_of lent_near)
     (lent : List (Vec ℕ Global)) (lent_is : lent ≡ copy.items) (now : List (Vec ℕ Global)) where
   abbrev ids : List ℕ
-  ids = roll.ids
+  ids = members.ids
 
   abbrev nodes : List ℕ
-  nodes = roll.nodes
+  nodes = members.nodes
 
   abbrev before : Graph
-  before = graph_of roll.ids roll.nodes (rows_of near)
+  before = graph_of members.ids members.nodes (rows_of near)
 
   abbrev changed : List (Vec ℕ Global)
   changed = (with_items copy now).items
@@ -427,17 +427,17 @@ module _ (roll : Roll) (near : List (Vec ℕ Global)) (old_leaders : List ℕ) (
         ) in
         subst₂ (λ n r. AreLeadersOf n r leaders) searched_count searched_rows found
 
-    made_of : (made made_now : Roll) → made ≡ made_now → length (rows_of now) ≡ length lent → (links : ℕ) (g : Graph)
+    made_of : (made made_now : Membership) → made ≡ made_now → length (rows_of now) ≡ length lent → (links : ℕ) (g : Graph)
         → Made made_now.ids made_now.nodes (rows_of now) leaders links g
         → Made made.ids made.nodes (rows_of changed) leaders links g
     made_of made made_now made_are same links g result =
-        subst (λ (r : Roll). Made r.ids r.nodes (rows_of changed) leaders links g) (sym made_are)
+        subst (λ (r : Membership). Made r.ids r.nodes (rows_of changed) leaders links g) (sym made_are)
         (subst (λ rs. Made made_now.ids made_now.nodes rs leaders links g) (sym (written same)) result)
 
-  module _ (a b i j : ℕ) (at_a : IsIndexOf roll.ids a i) (at_b : IsIndexOf roll.ids b j) where
+  module _ (a b i j : ℕ) (at_a : IsIndexOf members.ids a i) (at_b : IsIndexOf members.ids b j) where
     pub with_link_made : (searched : List (Vec ℕ Global)) → searched ≡ changed → (leaders : List ℕ)
-        → AreLeadersOf (length searched) (rows_of searched) leaders → (made : Roll) → made ≡ roll
-        → has roll.nodes a ≡ true → has roll.nodes b ≡ true → (fresh : Bool)
+        → AreLeadersOf (length searched) (rows_of searched) leaders → (made : Membership) → made ≡ members
+        → has members.nodes a ≡ true → has members.nodes b ≡ true → (fresh : Bool)
         → Links (length lent) (rows_of lent) i j fresh (rows_of now) → a ≢ b → are_linked before a b ≡ false →
         Made made.ids made.nodes (rows_of changed) leaders (count + 1) (with_link before a b)
     with_link_made searched searched_is leaders found made made_are a_up b_up fresh put different absent =
@@ -448,7 +448,7 @@ module _ (roll : Roll) (near : List (Vec ℕ Global)) (old_leaders : List ℕ) (
         (leads_now searched searched_is leaders found put.as_rows) (ap (has nodes) at_a.1 ∙ a_up)
         (ap (has nodes) at_b.1 ∙ b_up) fresh put_ids (λ e. different (sym at_a.1 ∙ e ∙ at_b.1))
         (ap₂ (are_linked before) at_a.1 at_b.1 ∙ absent) in
-        made_of searched searched_is leaders found made roll made_are put.as_rows.count (count + 1)
+        made_of searched searched_is leaders found made members made_are put.as_rows.count (count + 1)
         (with_link before a b)
         (subst₂ (λ x y. Made ids nodes (rows_of now) leaders (count + 1) (with_link before x y)) at_a.1 at_b.1 result)
 
@@ -472,19 +472,19 @@ module _ (roll : Roll) (near : List (Vec ℕ Global)) (old_leaders : List ℕ) (
             )
 
         pub without_link_made : (searched : List (Vec ℕ Global)) → searched ≡ changed → (leaders : List ℕ)
-            → AreLeadersOf (length searched) (rows_of searched) leaders → (made : Roll) → made ≡ roll →
+            → AreLeadersOf (length searched) (rows_of searched) leaders → (made : Membership) → made ≡ members →
             Made made.ids made.nodes (rows_of changed) leaders (count - 1) (without_link before a b)
         without_link_made searched searched_is leaders found made made_are =
             let result =
             unlinked_parts ids nodes (rows_of near) (rows_of now) old_leaders count old i j at_a.0 at_b.0 leaders
             (leads_now searched searched_is leaders found taken.as_rows) taken_ids there_ids (count - 1)
             (omega (arith, some_link)) in
-            made_of searched searched_is leaders found made roll made_are taken.as_rows.count (count - 1)
+            made_of searched searched_is leaders found made members made_are taken.as_rows.count (count - 1)
             (without_link before a b)
             (subst₂ (λ x y. Made ids nodes (rows_of now) leaders (count - 1) (without_link before x y)) at_a.1 at_b.1
             result)
 
-  module _ (a i : ℕ) (at_a : IsIndexOf roll.ids a i) (isolated : Isolates (length lent) (rows_of lent) i (rows_of now))
+  module _ (a i : ℕ) (at_a : IsIndexOf members.ids a i) (isolated : Isolates (length lent) (rows_of lent) i (rows_of now))
       (searched : List (Vec ℕ Global)) (searched_is : searched ≡ changed) where
     -- what was lent once more are rows
     pub searched_rows : AreRows (length searched) (rows_of searched)
@@ -494,7 +494,7 @@ module _ (roll : Roll) (near : List (Vec ℕ Global)) (old_leaders : List ℕ) (
         omega (arith, length-map searched (λ row. row.items), ap length same, isolated.as_rows.count) in
         subst₂ AreRows count (sym same) isolated.as_rows
 
-  module _ (a i : ℕ) (at_a : IsIndexOf roll.ids a i) (isolated : Isolates (length lent) (rows_of lent) i (rows_of now))
+  module _ (a i : ℕ) (at_a : IsIndexOf members.ids a i) (isolated : Isolates (length lent) (rows_of lent) i (rows_of now))
       (searched : List (Vec ℕ Global)) (searched_is : searched ≡ changed) (leaders : List ℕ)
       (found : AreLeadersOf (length searched) (rows_of searched) leaders) (row : Vec ℕ Global)
       (read : row ≡ get_or near i row) (gone : ℕ) (gone_is : gone ≡ length row.items) where
@@ -515,14 +515,14 @@ module _ (roll : Roll) (near : List (Vec ℕ Global)) (old_leaders : List ℕ) (
           gone_is,
         )
 
-    pub without_node_made : (made : Roll) → made ≡ roll_without roll a →
+    pub without_node_made : (made : Membership) → made ≡ members_without members a →
         Made made.ids made.nodes (rows_of changed) leaders (count - gone) (without_node before a)
     without_node_made made made_is =
         let result =
         isolated_parts ids nodes (rows_of near) (rows_of now) old_leaders count old i at_a.0 leaders
         (leads_now searched searched_is leaders found isolated.as_rows) isolated_ids (count - gone)
         (omega (arith, row_links, ap length row_is, gone_is)) in
-        made_of searched searched_is leaders found made (roll_without roll a) made_is isolated.as_rows.count
+        made_of searched searched_is leaders found made (members_without members a) made_is isolated.as_rows.count
         (count - gone) (without_node before a)
         (subst (λ x. Made ids (filter (λ n. not (eqb n x)) nodes) (rows_of now) leaders (count - gone)
         (without_node before x)) at_a.1 result)

@@ -8,9 +8,9 @@ use Rattle.std.proofs.lemmas.List.Kept.{IsStrictlyIncreasing-filter}
 use Rattle.std.proofs.lemmas.List.Quantifiers.{position-Some}
 use Rattle.std.proofs.lemmas.Option.{none-some, same_Some}
 use Rattle.std.proofs.lemmas.Bool.{cases_eq, eqb-true, and_parts}
-use Rattle.topology.specs.Changing.{roll_with, roll_without}
+use Rattle.topology.specs.Changing.{members_with, members_without}
 use Rattle.topology.specs.Graph.{has}
-use Rattle.topology.specs.Rows.{Roll, AreIndexed, AreIndexes, AreNodes}
+use Rattle.topology.specs.Rows.{Membership, AreIndexed, AreIndexes, AreNodes}
 use Rattle.topology.proofs.Ascending.{index_of_item, member_at, no_member_no_index, rises, rises_weakly}
 use Rattle.topology.proofs.Membership.{Contains-has, has-Contains, has-filter}
 
@@ -111,67 +111,67 @@ only_old : (b c : Bool) → (b ≡ true → c ≡ true) → ((b || false) && c) 
 only_old true c to = to refl
 only_old false c to = refl
 
-module _ (roll : Roll) (indexes : List (Option ℕ)) (are : AreIndexed roll indexes) where
+module _ (members : Membership) (indexes : List (Option ℕ)) (are : AreIndexed members indexes) where
   abbrev index_at : Bool → ℕ → Option ℕ
-  index_at b id = if b then position (λ i. eqb i id) roll.ids else None
+  index_at b id = if b then position (λ i. eqb i id) members.ids else None
 
   -- a node has a place in the table
-  pub node_room : (x : ℕ) → has roll.nodes x ≡ true → x < length indexes
+  pub node_room : (x : ℕ) → has members.nodes x ≡ true → x < length indexes
   node_room x up =
-      let at = are.as_nodes.within x (Contains-has roll.nodes x up) in
-      omega (arith, are.room at.0 at.1, get_or_default roll.ids at.0 0 x at.1, at.2)
+      let at = are.as_nodes.within x (Contains-has members.nodes x up) in
+      omega (arith, are.room at.0 at.1, get_or_default members.ids at.0 0 x at.1, at.2)
 
-  pub indexed_without : (x : ℕ) → has roll.nodes x ≡ true
-      → AreIndexed (roll_without roll x) (set indexes x None)
+  pub indexed_without : (x : ℕ) → has members.nodes x ≡ true
+      → AreIndexed (members_without members x) (set indexes x None)
   indexed_without x up =
-      let left : List ℕ = filter (λ j. not (eqb j x)) roll.nodes in
+      let left : List ℕ = filter (λ j. not (eqb j x)) members.nodes in
       record {
         as_ids = are.as_ids;
-        as_nodes = nodes_without roll.ids roll.nodes are.as_nodes x;
+        as_nodes = nodes_without members.ids members.nodes are.as_nodes x;
         room = λ k low. omega (arith, are.room k low, length-set indexes x None);
         as_indexes = λ id.
             ⊎_elim
             (λ (here : id ≡ x).
             let gone : has left x ≡ false =
-            has-filter (λ j. not (eqb j x)) roll.nodes x
-            ∙ ap (λ b. not b && has roll.nodes x) (eq-eqb x x refl) in
+            has-filter (λ j. not (eqb j x)) members.nodes x
+            ∙ ap (λ b. not b && has members.nodes x) (eq-eqb x x refl) in
             subst (λ y. get_or (set indexes x None) y None ≡ index_at (has left y) y) (sym here)
             (get_or-set_same indexes x None None (node_room x up) ∙ sym (ap (λ b. index_at b x) gone)))
             (λ (other : id ≢ x).
-            let kept : has left id ≡ has roll.nodes id =
-            has-filter (λ j. not (eqb j x)) roll.nodes id
-            ∙ ap (λ b. not b && has roll.nodes id) (ne_eqb id x other) in
+            let kept : has left id ≡ has members.nodes id =
+            has-filter (λ j. not (eqb j x)) members.nodes id
+            ∙ ap (λ b. not b && has members.nodes id) (ne_eqb id x other) in
             get_or-set_other indexes x id None None other ∙ are.as_indexes id
             ∙ sym (ap (λ b. index_at b id) kept))
             (cases_eq id x);
       }
 
-  pub indexed_with : (k : ℕ) → k < length roll.ids
-      → AreIndexed (roll_with roll (get_or roll.ids k 0)) (set indexes (get_or roll.ids k 0) (Some k))
+  pub indexed_with : (k : ℕ) → k < length members.ids
+      → AreIndexed (members_with members (get_or members.ids k 0)) (set indexes (get_or members.ids k 0) (Some k))
   indexed_with k low =
-      let x : ℕ = get_or roll.ids k 0 in
-      let more : List ℕ = filter (λ j. has roll.nodes j || eqb j x) roll.ids in
+      let x : ℕ = get_or members.ids k 0 in
+      let more : List ℕ = filter (λ j. has members.nodes j || eqb j x) members.ids in
       record {
         as_ids = are.as_ids;
-        as_nodes = nodes_among roll.ids are.as_ids.ascending (λ j. has roll.nodes j || eqb j x);
+        as_nodes = nodes_among members.ids are.as_ids.ascending (λ j. has members.nodes j || eqb j x);
         room = λ l l_in. omega (arith, are.room l l_in, length-set indexes x (Some k));
         as_indexes = λ id.
             ⊎_elim
             (λ (here : id ≡ x).
             let new : has more x ≡ true =
-            has-filter (λ j. has roll.nodes j || eqb j x) roll.ids x
-            ∙ ap₂ (λ b c. (has roll.nodes x || b) && c) (eq-eqb x x refl) (member_at roll.ids k low)
-            ∙ only_new (has roll.nodes x) in
+            has-filter (λ j. has members.nodes j || eqb j x) members.ids x
+            ∙ ap₂ (λ b c. (has members.nodes x || b) && c) (eq-eqb x x refl) (member_at members.ids k low)
+            ∙ only_new (has members.nodes x) in
             subst (λ y. get_or (set indexes x (Some k)) y None ≡ index_at (has more y) y) (sym here)
             (get_or-set_same indexes x (Some k) None (are.room k low)
-            ∙ index_of_item roll.ids x are.as_ids.ascending k low refl
+            ∙ index_of_item members.ids x are.as_ids.ascending k low refl
             ∙ sym (ap (λ b. index_at b x) new)))
             (λ (other : id ≢ x).
-            let kept : has more id ≡ has roll.nodes id =
-            has-filter (λ j. has roll.nodes j || eqb j x) roll.ids id
-            ∙ ap (λ b. (has roll.nodes id || b) && has roll.ids id) (ne_eqb id x other)
-            ∙ only_old (has roll.nodes id) (has roll.ids id)
-            (λ e. has-Contains roll.ids id (are.as_nodes.within id (Contains-has roll.nodes id e))) in
+            let kept : has more id ≡ has members.nodes id =
+            has-filter (λ j. has members.nodes j || eqb j x) members.ids id
+            ∙ ap (λ b. (has members.nodes id || b) && has members.ids id) (ne_eqb id x other)
+            ∙ only_old (has members.nodes id) (has members.ids id)
+            (λ e. has-Contains members.ids id (are.as_nodes.within id (Contains-has members.nodes id e))) in
             get_or-set_other indexes x id (Some k) None other ∙ are.as_indexes id
             ∙ sym (ap (λ b. index_at b id) kept))
             (cases_eq id x);

@@ -3,7 +3,7 @@ use Rattle.std.specs.Prelude.{◌≡◌, ℕ, ◌<◌, ◌*◌, Bool, not, nat_l
 use Rattle.std.specs.Prelude.{slice_index, ◌==◌, if◌then◌else◌}
 use Rattle.std.specs.FinSet as set
 use Rattle.topology.specs.Graph.{Graph, are_linked, has, is_node}
-use Rattle.topology.specs.Rows.{Roll}
+use Rattle.topology.specs.Rows.{Membership}
 use Rattle.topology.specs.declared.fault.TopoFault.{TopoFault}
 use Rattle.topology.specs.declared.fault.TopoFault.TheVariants.{TooManyLinks, StrangeNode, SelfLink}
 use Rattle.topology.specs.declared.fault.TopoFault.TheVariants.{NoSuchLink, LinkIsThere, NodeIsUp}
@@ -28,13 +28,13 @@ without_node g i = record {
 abbrev pub with_node : Graph → ℕ → Graph
 with_node g i = record { ids = g.ids; nodes = filter (λ j. has g.nodes j || j == i) g.ids; links = g.links }
 
--- the roll where i is no node
-abbrev pub roll_without : Roll → ℕ → Roll
-roll_without r i = record { ids = r.ids; nodes = filter (λ j. not (j == i)) r.nodes }
+-- the same identifiers, of which i is no node
+abbrev pub members_without : Membership → ℕ → Membership
+members_without r i = record { ids = r.ids; nodes = filter (λ j. not (j == i)) r.nodes }
 
--- the roll where i is a node
-abbrev pub roll_with : Roll → ℕ → Roll
-roll_with r i = record { ids = r.ids; nodes = filter (λ j. has r.nodes j || j == i) r.ids }
+-- the same identifiers, of which i is a node
+abbrev pub members_with : Membership → ℕ → Membership
+members_with r i = record { ids = r.ids; nodes = filter (λ j. has r.nodes j || j == i) r.ids }
 
 -- what is told where this holds
 pub record Reason (F : Type 0) : Type 0 where

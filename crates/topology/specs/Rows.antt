@@ -50,13 +50,13 @@ pub record AreNodes (ids nodes : List ℕ) : Type 0 where
   pub within : (i : ℕ) → Contains nodes i → Contains ids i
 
 -- all identifiers, and those of them that are up
-pub record Roll : Type 0 where
+pub record Membership : Type 0 where
   pub ids : List ℕ
   pub nodes : List ℕ
 
--- a roll is stored as the pair of its parts
-abbrev pub roll_code : Coded Roll
-roll_code =
+-- a membership is stored as the pair of its parts
+abbrev pub membership_code : Coded Membership
+membership_code =
     code_by (List ℕ × List ℕ) (coded× (coded_list coded_ℕ) (coded_list coded_ℕ)) (λ r. (r.ids, r.nodes))
     (λ p. record { ids = p.0; nodes = p.1 }) (λ _. refl)
 
@@ -66,11 +66,11 @@ AreIndexes ids nodes indexes =
     (id : ℕ) → slice_index_or indexes id None ≡ (if has nodes id then position (λ i. i == id) ids else None)
 
 -- identifiers and nodes, and the table of the indexes of the nodes, with room for each identifier
-pub record AreIndexed (roll : Roll) (indexes : List (Option ℕ)) : Type 0 where
-  pub as_ids : AreIds roll.ids
-  pub as_nodes : AreNodes roll.ids roll.nodes
-  pub as_indexes : AreIndexes roll.ids roll.nodes indexes
-  pub room : (k : ℕ) → k < length roll.ids → slice_index roll.ids k < length indexes
+pub record AreIndexed (members : Membership) (indexes : List (Option ℕ)) : Type 0 where
+  pub as_ids : AreIds members.ids
+  pub as_nodes : AreNodes members.ids members.nodes
+  pub as_indexes : AreIndexes members.ids members.nodes indexes
+  pub room : (k : ℕ) → k < length members.ids → slice_index members.ids k < length indexes
 
 -- identifiers, nodes and rows, of which those at nodes alone have indexes
 pub record AreTied (ids nodes : List ℕ) (rows : List (List ℕ)) : Type 0 where

@@ -1,6 +1,6 @@
 ghost use Rattle.std.specs.Prelude.{◌≡◌, ◌==◌, ◌||◌, ◌<◌, true, None, ℕ, IfOk, filter, length, not, position};
 ghost use Rattle.std.specs.Prelude.{if◌then◌else◌, slice_index};
-ghost use Rattle.topology.specs.Changing.{roll_with, roll_without};
+ghost use Rattle.topology.specs.Changing.{members_with, members_without};
 ghost use Rattle.topology.specs.Graph.{has};
 ghost use Rattle.topology.specs.Rows.{AreIds, AreIndexes, AreNodes};
 
@@ -17,11 +17,11 @@ pub struct Ids {
 }
 
 impl Model for Ids {
-    ghost use Rattle.topology.specs.Rows.{Roll, roll_code, AreIndexed};
+    ghost use Rattle.topology.specs.Rows.{Membership, membership_code, AreIndexed};
 
-    ghost Value = { Roll };
+    ghost Value = { Membership };
 
-    ghost coded = { roll_code };
+    ghost coded = { membership_code };
 
     ghost view = { λ r. record { ids = r.ascending.items; nodes = r.nodes.items } };
 
@@ -113,7 +113,7 @@ impl Ids {
     /// The same identifiers, where this one is no node.
     pub fn without_node(&self, alloc: Global, id: u32) -> Result<Ids, AllocError>
         requires { has self.now.nodes id ≡ true }
-        ensures { IfOk result (λ changed. changed ≡ roll_without self.now id) }
+        ensures { IfOk result (λ changed. changed ≡ members_without self.now id) }
     {
         let ascending = &self.ascending;
         let nodes = &self.nodes;
@@ -133,7 +133,7 @@ impl Ids {
     /// The same identifiers, where the one at this index is a node.
     pub fn with_node(&self, alloc: Global, index: usize) -> Result<Ids, AllocError>
         requires { index < length self.now.ids }
-        ensures { IfOk result (λ changed. changed ≡ roll_with self.now (slice_index self.now.ids index)) }
+        ensures { IfOk result (λ changed. changed ≡ members_with self.now (slice_index self.now.ids index)) }
     {
         let ascending = &self.ascending;
         let indexes = &self.indexes;
@@ -151,13 +151,13 @@ impl Ids {
 }
 
 // The nodes, and the identifier as one of them.
-fn nodes_with(alloc: Global, roll: &Ids, id: u32) -> Result<Vec<u32>, AllocError>
+fn nodes_with(alloc: Global, members: &Ids, id: u32) -> Result<Vec<u32>, AllocError>
     ensures { IfOk result (λ nodes.
-        nodes.items ≡ filter (λ j. has roll.now.nodes j || j == id) roll.now.ids) }
+        nodes.items ≡ filter (λ j. has members.now.nodes j || j == id) members.now.ids) }
 {
     let mut nodes = Vec::new(alloc);
-    for other in roll.as_slice() {
-        if roll.is_up(*other) || *other == id {
+    for other in members.as_slice() {
+        if members.is_up(*other) || *other == id {
             nodes.push(*other)?;
         }
     }

@@ -3,4 +3,4 @@ use Rattle.topology.specs.Graph.{has}
 use Rattle.topology.proofs.ids.nodes_with.Given as goal
 
 abbrev pub invariant-loop-other : goal.invariant-loop-other
-invariant-loop-other l = l.nodes.items ≡ filter (λ j. has l.roll.nodes j || j == l.id) (take l.other-index l.roll.ids)
+invariant-loop-other l = l.nodes.items ≡ filter (λ j. has l.members.nodes j || j == l.id) (take l.other-index l.members.ids)

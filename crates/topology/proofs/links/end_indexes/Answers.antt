@@ -25,18 +25,18 @@ returns-in-Some-Some-clause-up c = (
 
 pub returns-in-Some-Some-clause-known : goal.returns-in-Some-Some-clause-known
 returns-in-Some-Some-clause-known c =
-    let roll = c.args.ids.now in
-    rw (known roll.ids roll.nodes _ _ c.in-Some-Some.ensures, known roll.ids roll.nodes _ _ c.in-Some-Some.ensures') refl
+    let members = c.args.ids.now in
+    rw (known members.ids members.nodes _ _ c.in-Some-Some.ensures, known members.ids members.nodes _ _ c.in-Some-Some.ensures') refl
 
 pub returns-in-Some-None-clause-err : goal.returns-in-Some-None-clause-err
 returns-in-Some-None-clause-err c =
-    let roll = c.args.ids.now in
+    let members = c.args.ids.now in
     rw (
-      known roll.ids roll.nodes _ _ c.in-Some-None.ensures,
-      strange roll.ids roll.nodes c.lemma_are_ids.ensures.nodes _ c.in-Some-None.ensures',
+      known members.ids members.nodes _ _ c.in-Some-None.ensures,
+      strange members.ids members.nodes c.lemma_are_ids.ensures.nodes _ c.in-Some-None.ensures',
     ) refl
 
 pub returns-in-None-default-clause-err : goal.returns-in-None-default-clause-err
 returns-in-None-default-clause-err c =
-    let roll = c.args.ids.now in
-    rw (strange roll.ids roll.nodes c.lemma_are_ids.ensures.nodes _ (sym c.in-None-default.is-0 ∙ c.node_at.ensures)) refl
+    let members = c.args.ids.now in
+    rw (strange members.ids members.nodes c.lemma_are_ids.ensures.nodes _ (sym c.in-None-default.is-0 ∙ c.node_at.ensures)) refl

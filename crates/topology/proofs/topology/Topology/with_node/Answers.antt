@@ -1,7 +1,7 @@
 use Rattle.std.proofs.Common.{◌≡◌, ◌==◌, Some, None, true, false, ap, refl, rules, sym, subst, get_or, position, ◌∙◌}
 use Rattle.std.proofs.lemmas.Bool.{eqb-true}
 use Rattle.std.proofs.lemmas.List.Quantifiers.{position-Some}
-use Rattle.topology.specs.Changing.{roll_with, with_node}
+use Rattle.topology.specs.Changing.{members_with, with_node}
 use Rattle.topology.specs.Graph.{Graph, is_node}
 use Rattle.topology.specs.Rows.{graph_of}
 use Rattle.topology.proofs.Ascending.{member_by_index}
@@ -23,23 +23,23 @@ returns-then-is_up-clause-err c =
     let up : is_node g c.args.id ≡ true = ap (is_node g) (sym same) ∙ sym c.if-is_up.ensures in
     λ _. rw (sym (member_by_index g.ids c.args.id (Some c.in-Some.index) c.in-Some.ensures), up) refl
 
--- what is made of the roll with the node
+-- what is made of the members with the node
 made_of : (c : In_ok-leaders)
     → Made c.in_ok-ids.ids.ids c.in_ok-ids.ids.nodes (rows_of c.in_ok-rows.rows.items)
     c.in_ok-leaders.leaders.items c.self.inside.link_count
     (with_node (graph_of c.self.inside.ids.ids c.self.inside.ids.nodes (rows_of c.self.inside.near.items)) c.args.id)
 made_of c =
-    let roll = c.self.inside.ids in
+    let members = c.self.inside.ids in
     let at =
-    position-Some (λ k. k == c.args.id) roll.ids c.in-Some.index 0
+    position-Some (λ k. k == c.args.id) members.ids c.in-Some.index 0
     (ap (λ (g : Graph). position (λ k. k == c.args.id) g.ids) c.self.view_is ∙ sym c.in-Some.ensures) in
     let leaders_are : c.in_ok-leaders.leaders.items ≡ c.self.inside.leaders.items = search rules in
     subst (λ ls. Made c.in_ok-ids.ids.ids c.in_ok-ids.ids.nodes
     (rows_of c.in_ok-rows.rows.items) ls c.self.inside.link_count
-    (with_node (graph_of roll.ids roll.nodes (rows_of c.self.inside.near.items)) c.args.id)) (sym leaders_are)
-    (with_node_made roll (rows_of c.self.inside.near.items) c.self.inside.leaders.items c.self.inside.link_count
+    (with_node (graph_of members.ids members.nodes (rows_of c.self.inside.near.items)) c.args.id)) (sym leaders_are)
+    (with_node_made members (rows_of c.self.inside.near.items) c.self.inside.leaders.items c.self.inside.link_count
     c.self.invariant c.args.id c.in_ok-ids.ids
-    (c.in_ok-ids.ensures ∙ ap (roll_with roll) (eqb-true (get_or roll.ids c.in-Some.index 0) c.args.id at.1))
+    (c.in_ok-ids.ensures ∙ ap (members_with members) (eqb-true (get_or members.ids c.in-Some.index 0) c.args.id at.1))
     (rows_of c.in_ok-rows.rows.items)
     (c.in_ok-rows.ensures ∙ ap rows_of c.deref.ensures.value))
 
