@@ -24,6 +24,33 @@ fn do_line(
     }
 }
 
+// Does the faults of the lines, of which none is refused.
+fn do_lines(
+    rt: &impl Abort,
+    alloc: Global,
+    config: &mut Config<Idle>,
+    lines: &[&[u8]],
+) -> Result<(), Fail> {
+    for line in lines {
+        assert_eq!(rt; do_line(rt, alloc, config, line)?, Ok(()));
+    }
+    Ok(())
+}
+
+// Each of the lines is refused for this reason.
+fn refuse_lines(
+    rt: &impl Abort,
+    alloc: Global,
+    config: &mut Config<Idle>,
+    lines: &[&[u8]],
+    refusal: FaultRefusal,
+) -> Result<(), Fail> {
+    for line in lines {
+        assert_eq!(rt; do_line(rt, alloc, config, line)?, Err(refusal));
+    }
+    Ok(())
+}
+
 #[test]
 fn refuses_what_cant_be_done(rt: HostRuntime) -> Result<(), Fail> {
     for (text, refusal) in [
@@ -54,16 +81,11 @@ fn refuses_what_cant_be_done(rt: HostRuntime) -> Result<(), Fail> {
 }
 
 #[test]
-fn writes_registers_and_local_states(rt: HostRuntime) -> Result<(), Fail> {
+fn writes_tree_registers(rt: HostRuntime) -> Result<(), Fail> {
     let mut config = line::<Idle>(rt.alloc())?;
     let others = [config.tree_at(1), config.tree_at(3)];
-    let done = do_line(
-        &rt,
-        rt.alloc(),
-        &mut config,
-        b"fault tree 2 65535 9 4294967295",
-    )?;
-    assert_eq!(rt; done, Ok(()));
+    let lines = [b"fault tree 2 65535 9 4294967295".as_slice()];
+    do_lines(&rt, rt.alloc(), &mut config, &lines)?;
     let tree = TreeRegs {
         root: 65_535,
         father: 9,
@@ -71,19 +93,24 @@ fn writes_registers_and_local_states(rt: HostRuntime) -> Result<(), Fail> {
     };
     assert_eq!(rt; config.tree_at(2), Some(tree));
     assert_eq!(rt; [config.tree_at(1), config.tree_at(3)], others);
+    Ok(())
+}
 
+#[test]
+fn writes_wave_registers_and_local_states(rt: HostRuntime) -> Result<(), Fail> {
+    let mut config = line::<Idle>(rt.alloc())?;
     let others = [config.wave_at(1), config.wave_at(2)];
-    let done = do_line(&rt, rt.alloc(), &mut config, b"fault wave 3 reset 7")?;
-    assert_eq!(rt; done, Ok(()));
+    let lines = [
+        b"fault wave 3 reset 7".as_slice(),
+        b"fault local 1 -".as_slice(),
+    ];
+    do_lines(&rt, rt.alloc(), &mut config, &lines)?;
     let wave = WaveRegs {
         phase: Phase::Reset,
         session: 7,
     };
     assert_eq!(rt; config.wave_at(3), Some(wave));
     assert_eq!(rt; [config.wave_at(1), config.wave_at(2)], others);
-
-    let done = do_line(&rt, rt.alloc(), &mut config, b"fault local 1 -")?;
-    assert_eq!(rt; done, Ok(()));
     assert_eq!(rt; config.topology().link_count(), 2);
     Ok(())
 }
@@ -110,14 +137,17 @@ fn writes_sessions_beyond_the_modulus(rt: HostRuntime) -> Result<(), Fail> {
 #[test]
 fn takes_links_out_and_puts_them_in(rt: HostRuntime) -> Result<(), Fail> {
     let mut config = booted::<Idle>(rt.alloc(), &[1, 2, 3], &[(1, 2), (2, 3), (1, 3)])?;
-    let done = do_line(&rt, rt.alloc(), &mut config, b"fault down 3 1")?;
-    assert_eq!(rt; done, Ok(()));
+    do_lines(
+        &rt,
+        rt.alloc(),
+        &mut config,
+        &[b"fault down 3 1".as_slice()],
+    )?;
     assert!(rt; !config.topology().linked(1, 3));
     assert!(rt; config.topology().linked(1, 2));
     assert!(rt; config.topology().linked(2, 3));
 
-    let done = do_line(&rt, rt.alloc(), &mut config, b"fault up 1 3")?;
-    assert_eq!(rt; done, Ok(()));
+    do_lines(&rt, rt.alloc(), &mut config, &[b"fault up 1 3".as_slice()])?;
     assert!(rt; config.topology().linked(3, 1));
     assert_eq!(rt; config.topology().link_count(), 3);
     Ok(())
@@ -128,20 +158,34 @@ fn takes_links_out_and_puts_them_in(rt: HostRuntime) -> Result<(), Fail> {
 fn takes_a_link_out_that_parts_the_line(rt: HostRuntime) -> Result<(), Fail> {
     let mut config = line::<Idle>(rt.alloc())?;
     let trees = [1, 2, 3].map(|id| config.tree_at(id));
-    let done = do_line(&rt, rt.alloc(), &mut config, b"fault down 1 2")?;
-    assert_eq!(rt; done, Ok(()));
+    do_lines(
+        &rt,
+        rt.alloc(),
+        &mut config,
+        &[b"fault down 1 2".as_slice()],
+    )?;
     assert_eq!(rt; config.topology().link_count(), 1);
     assert_eq!(rt; leaders(&config), [Some(1), Some(3), Some(3)]);
     assert_eq!(rt; [1, 2, 3].map(|id| config.tree_at(id)), trees);
+    Ok(())
+}
 
-    let done = do_line(&rt, rt.alloc(), &mut config, b"fault down 3 2")?;
-    assert_eq!(rt; done, Ok(()));
+// A link that comes up makes one component of two.
+#[test]
+fn takes_all_links_out_and_puts_one_in(rt: HostRuntime) -> Result<(), Fail> {
+    let mut config = line::<Idle>(rt.alloc())?;
+    let lines = [b"fault down 1 2".as_slice(), b"fault down 3 2".as_slice()];
+    do_lines(&rt, rt.alloc(), &mut config, &lines)?;
     assert_eq!(rt; leaders(&config), [Some(1), Some(2), Some(3)]);
-    let done = do_line(&rt, rt.alloc(), &mut config, b"fault down 3 2")?;
-    assert_eq!(rt; done, Err(FaultRefusal::NoSuchLink));
-
-    let done = do_line(&rt, rt.alloc(), &mut config, b"fault up 1 3")?;
-    assert_eq!(rt; done, Ok(()));
+    let gone = [b"fault down 3 2".as_slice()];
+    refuse_lines(
+        &rt,
+        rt.alloc(),
+        &mut config,
+        &gone,
+        FaultRefusal::NoSuchLink,
+    )?;
+    do_lines(&rt, rt.alloc(), &mut config, &[b"fault up 1 3".as_slice()])?;
     assert_eq!(rt; leaders(&config), [Some(3), Some(2), Some(3)]);
     Ok(())
 }
@@ -159,34 +203,51 @@ fn leader_of(topology: &Topology, id: u32) -> Option<u32> {
 }
 
 // The links of a node that goes down are gone for good, and the others' registers stay. Nothing is known of it until
-// it comes up, and then it begins anew.
+// it comes up.
 #[test]
-fn takes_a_node_down_and_brings_it_up(rt: HostRuntime) -> Result<(), Fail> {
+fn takes_a_node_down(rt: HostRuntime) -> Result<(), Fail> {
     let mut config = line::<Idle>(rt.alloc())?;
-    let done = do_line(&rt, rt.alloc(), &mut config, b"fault wave 3 reset 7")?;
-    assert_eq!(rt; done, Ok(()));
     let trees = [config.tree_at(1), config.tree_at(2)];
-    let done = do_line(&rt, rt.alloc(), &mut config, b"fault off 3")?;
-    assert_eq!(rt; done, Ok(()));
+    do_lines(&rt, rt.alloc(), &mut config, &[b"fault off 3".as_slice()])?;
     assert_eq!(rt; config.topology().link_count(), 1);
     assert_eq!(rt; leaders(&config), [Some(2), Some(2), None]);
     assert_eq!(rt; [config.tree_at(1), config.tree_at(2)], trees);
     assert_eq!(rt; config.wave_at(3), None);
-    for text in [
+    Ok(())
+}
+
+#[test]
+fn refuses_a_node_that_is_down(rt: HostRuntime) -> Result<(), Fail> {
+    let mut config = line::<Idle>(rt.alloc())?;
+    do_lines(&rt, rt.alloc(), &mut config, &[b"fault off 3".as_slice()])?;
+    let lines = [
         b"fault off 3".as_slice(),
         b"fault tree 3 3 3 0".as_slice(),
         b"fault wave 3 normal 0".as_slice(),
         b"fault local 3 -".as_slice(),
         b"fault up 2 3".as_slice(),
         b"fault down 2 3".as_slice(),
-    ] {
-        let done = do_line(&rt, rt.alloc(), &mut config, text)?;
-        assert_eq!(rt; done, Err(FaultRefusal::StrangeNode));
-    }
+    ];
+    refuse_lines(
+        &rt,
+        rt.alloc(),
+        &mut config,
+        &lines,
+        FaultRefusal::StrangeNode,
+    )
+}
 
-    let done = do_line(&rt, rt.alloc(), &mut config, b"fault on 3")?;
-    assert_eq!(rt; done, Ok(()));
-    assert_eq!(rt; leaders(&config), [Some(2), Some(2), Some(3)]);
+// A node that comes up begins anew, and the others' registers stay.
+#[test]
+fn brings_a_node_up(rt: HostRuntime) -> Result<(), Fail> {
+    let mut config = line::<Idle>(rt.alloc())?;
+    let trees = [config.tree_at(1), config.tree_at(2)];
+    let lines = [
+        b"fault wave 3 reset 7".as_slice(),
+        b"fault off 3".as_slice(),
+        b"fault on 3".as_slice(),
+    ];
+    do_lines(&rt, rt.alloc(), &mut config, &lines)?;
     let tree = TreeRegs {
         root: 3,
         father: 3,
@@ -199,10 +260,18 @@ fn takes_a_node_down_and_brings_it_up(rt: HostRuntime) -> Result<(), Fail> {
     };
     assert_eq!(rt; config.wave_at(3), Some(wave));
     assert_eq!(rt; [config.tree_at(1), config.tree_at(2)], trees);
-    let done = do_line(&rt, rt.alloc(), &mut config, b"fault on 3")?;
-    assert_eq!(rt; done, Err(FaultRefusal::NodeIsUp));
-    let done = do_line(&rt, rt.alloc(), &mut config, b"fault up 2 3")?;
-    assert_eq!(rt; done, Ok(()));
+    Ok(())
+}
+
+#[test]
+fn links_a_node_that_has_come_up(rt: HostRuntime) -> Result<(), Fail> {
+    let mut config = line::<Idle>(rt.alloc())?;
+    let lines = [b"fault off 3".as_slice(), b"fault on 3".as_slice()];
+    do_lines(&rt, rt.alloc(), &mut config, &lines)?;
+    assert_eq!(rt; leaders(&config), [Some(2), Some(2), Some(3)]);
+    let on = [b"fault on 3".as_slice()];
+    refuse_lines(&rt, rt.alloc(), &mut config, &on, FaultRefusal::NodeIsUp)?;
+    do_lines(&rt, rt.alloc(), &mut config, &[b"fault up 2 3".as_slice()])?;
     assert_eq!(rt; leaders(&config), [Some(3), Some(3), Some(3)]);
     Ok(())
 }
@@ -210,18 +279,15 @@ fn takes_a_node_down_and_brings_it_up(rt: HostRuntime) -> Result<(), Fail> {
 #[test]
 fn takes_all_nodes_down(rt: HostRuntime) -> Result<(), Fail> {
     let mut config = line::<Idle>(rt.alloc())?;
-    for text in [
+    let lines = [
         b"fault off 2".as_slice(),
         b"fault off 1".as_slice(),
         b"fault off 3".as_slice(),
-    ] {
-        let done = do_line(&rt, rt.alloc(), &mut config, text)?;
-        assert_eq!(rt; done, Ok(()));
-    }
+    ];
+    do_lines(&rt, rt.alloc(), &mut config, &lines)?;
     assert_eq!(rt; config.topology().node_count(), 0);
     assert_eq!(rt; leaders(&config), [None, None, None]);
-    let done = do_line(&rt, rt.alloc(), &mut config, b"fault on 1")?;
-    assert_eq!(rt; done, Ok(()));
+    do_lines(&rt, rt.alloc(), &mut config, &[b"fault on 1".as_slice()])?;
     assert_eq!(rt; leaders(&config), [Some(1), None, None]);
     Ok(())
 }
