@@ -1,3 +1,4 @@
+pub mod Builders
 pub mod Jobs
 pub mod PathRows
 pub mod NoHelp

@@ -3,9 +3,12 @@ use Rattle.std.specs.Prelude.{◌≡◌, ◌≢◌, ◌≤◌, ◌⊎◌, ⊤, �
 use Rattle.std.specs.Prelude.{IsSomeAnd}
 use Rattle.std.specs.Prelude.{option_and_then, option_map}
 use Rattle.std.specs.Str.Parse.{IsNumeral, digits_value, without_leading_plus}
-use Rattle.clap.specs.Words.{App, Kinds, Row, Rule, Text, IsAmong, fault_of, first_of, kind_of, new_app, new_rule}
-use Rattle.clap.specs.Words.{one_of, subcommand_of, with_rule, with_subcommand}
+use Rattle.clap.specs.Words.{App, Kinds, Row, Rule, Text, IsAmong, app_of, fault_of, first_of, kind_of}
+use Rattle.clap.specs.Words.{new_app, new_rule, one_of, rule_of, subcommand_of, with_rule, with_subcommand}
 use Rattle.clap.specs.Simple.{on_top}
+use Rattle.clap.specs.declared.builder.arg.Arg.{Arg}
+use Rattle.clap.specs.declared.builder.command.Command.{Command}
+use Rattle.clap.specs.declared.builder.command.Command.TheViews.{out-Command as fields_of}
 use Rattle.clap.specs.declared.builder.value_parser.ValueParser.TheVariants.{Unsigned}
 use Rattle.clap.specs.declared.error.Error.{Error}
 use Rattle.clap.specs.declared.error.ErrorKind.TheVariants.{InvalidValue, OutOfMemory}
@@ -90,13 +93,16 @@ tables_command = new_app (codes "tables")
 abbrev pub new_program : App
 new_program = on_top (λ s. record s { has_version = true }) (new_app (codes "reset-service"))
 
--- with the subcommands that read two texts
+-- with the subcommands that read a script
+abbrev pub scripts_program : App
+scripts_program =
+    with_subcommand (with_subcommand new_program (texts_command (codes "replay") (codes "SCRIPT")).top)
+    (texts_command (codes "check") (codes "SCRIPT")).top
+
+-- with those that read a history
 abbrev pub texts_program : App
 texts_program =
-    with_subcommand
-    (with_subcommand
-    (with_subcommand (with_subcommand new_program (texts_command (codes "replay") (codes "SCRIPT")).top)
-    (texts_command (codes "check") (codes "SCRIPT")).top) (texts_command (codes "verify") (codes "HISTORY")).top)
+    with_subcommand (with_subcommand scripts_program (texts_command (codes "verify") (codes "HISTORY")).top)
     (texts_command (codes "picture") (codes "HISTORY")).top
 
 -- with those that write a history
@@ -211,6 +217,14 @@ IsInvalidValue (BadWords error) = kind_of error ≡ InvalidValue
 IsInvalidValue NoMemory = ⊤
 
 -- ---- what private clauses cite
+
+-- the command is this one, with no argument that its subcommands take too
+unfoldable pub IsCommand : App → Command → Type 0
+IsCommand app command = (app_of command ≡ app) × ((fields_of command).has_globals ≡ false)
+
+-- the argument reads as this rule, and no subcommand takes it too
+unfoldable pub IsWord : Rule → Arg → Type 0
+IsWord rule word = (rule_of word ≡ rule) × (word.global ≡ false)
 
 -- a value was found for each of the two paths
 abbrev pub HasTexts : Text → List Row → Type 0

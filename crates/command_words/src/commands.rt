@@ -1,13 +1,14 @@
 // The commands of the program and their help, as `clap` reads and prints them.
 
-ghost use Rattle.std.specs.Prelude.{◌≡◌, IfOk, codes, false};
-ghost use Rattle.clap.specs.Words.{app_of, rule_of};
-ghost use Rattle.clap.specs.declared.builder.command.Command.TheViews.{out-Command as fields_of};
-ghost use Rattle.command_words.specs.Words.{drive_command, explain_command, file_option, histories_program};
-ghost use Rattle.command_words.specs.Words.{number_option, optional, path, program, record_command, tables_command};
-ghost use Rattle.command_words.specs.Words.{texts_command, texts_program, threads_command, topology_command, within};
+ghost use Rattle.std.specs.Prelude.{◌≡◌, IfOk, codes};
+ghost use Rattle.clap.specs.Words.{App, Rule, app_of, new_app, with_rule, with_subcommand};
+ghost use Rattle.command_words.specs.Words.{IsCommand, IsWord, drive_command, explain_command, file_option};
+ghost use Rattle.command_words.specs.Words.{histories_program, new_program, number_option, optional, path, program};
+ghost use Rattle.command_words.specs.Words.{record_command, scripts_program, tables_command, texts_command};
+ghost use Rattle.command_words.specs.Words.{texts_program, threads_command, topology_command, within};
 
-use clap::{Arg, Command, value_parser};
+use clap::builder::ValueParser;
+use clap::{Arg, Command};
 use std::alloc::{AllocError, Global};
 
 // The program's version, which `--version` prints.
@@ -44,11 +45,10 @@ const SCRIPT_HELP: &str = "A file with one command a line";
 
 const HISTORY_HELP: &str = "A file with the history, one entry a line";
 
-// What `--help` says of a subcommand that reads two files.
+// What `--help` says of a subcommand.
 struct Help {
     about: &'static str,
     long_about: &'static str,
-    input: &'static str,
     after_help: &'static str,
 }
 
@@ -59,7 +59,6 @@ Runs a script on a topology, from its booted configuration.
 
 Each command writes its answer to standard output. A command that is refused changes
 nothing, and the run goes on; a bad line ends it.",
-    input: SCRIPT_HELP,
     after_help: "\
 A topology:
   nodes = [1, 2, 3]
@@ -100,7 +99,6 @@ The script is run as `replay` runs it. Then each link whose ends contradict each
 in a line `link AT OTHER FAMILY ROW`: the node, its neighbour (or the node itself), which table
 (tree, wave or app) and which of its rows; `reset-service tables` prints the tables. The last line is
 `faults COUNT`, and the exit status is 1 where COUNT isn't 0. After a bad line nothing is checked.",
-    input: SCRIPT_HELP,
     after_help: "\
 Example:
   reset-service check examples/sound-network/topology.toml examples/sound-network/script",
@@ -123,7 +121,6 @@ such entry, and the exit status is 1; in the file it is one line further down. A
 history is answered by `bad history` and its first bad line, and one that counts sessions modulo
 another number than the topology by `bad history OtherModulus` and that number, both with exit
 status 2.",
-    input: HISTORY_HELP,
     after_help: "\
 A history:
   reset-history 3 8
@@ -140,9 +137,9 @@ Example:
   reset-service verify examples/verified-wave/topology.toml examples/verified-wave/history",
 };
 
-const RECORD_ABOUT: &str = "Runs a script as `replay` does, and writes what happened as a history";
-
-const RECORD_LONG_ABOUT: &str = "\
+const RECORD_HELP: Help = Help {
+    about: "Runs a script as `replay` does, and writes what happened as a history",
+    long_about: "\
 Runs a script as `replay` does, and writes what happened as a history.
 
 Standard output and the exit status are those of `replay`. Before the first answer, each event that
@@ -150,17 +147,16 @@ is applied and each fault that is done is written to FILE as an entry, in order:
 fault of a line, the fault that `draw` draws, and the request that `watch` makes after an alarm. What
 is refused, questions and comments leave no entry, and a bad line ends the history too. `verify` and
 `picture` accept it. The file is created, or emptied where it is there; it stays empty where the
-topology is bad or the script is too long.";
-
-const RECORD_AFTER_HELP: &str = "\
+topology is bad or the script is too long.",
+    after_help: "\
 Example:
   reset-service record examples/one-wave/topology.toml examples/one-wave/script --history history
-  reset-service verify examples/one-wave/topology.toml history";
+  reset-service verify examples/one-wave/topology.toml history",
+};
 
-const THREADS_ABOUT: &str =
-    "Runs a thread for each node, and writes what the nodes did as a history";
-
-const THREADS_LONG_ABOUT: &str = "\
+const THREADS_HELP: Help = Help {
+    about: "Runs a thread for each node, and writes what the nodes did as a history",
+    long_about: "\
 Runs a thread for each node, and writes what the nodes did as a history.
 
 The network starts from the booted configuration of its topology. The node with the least
@@ -173,12 +169,12 @@ history, which `verify` accepts; the file is created, or emptied where it is the
 were completed.
 
 A topology of over 64 nodes is answered by `bad topology TooManyForThreads`, and the exit status
-is 2.";
-
-const THREADS_AFTER_HELP: &str = "\
+is 2.",
+    after_help: "\
 Example:
   reset-service threads examples/one-wave/topology.toml --turns 100 --history history
-  reset-service verify examples/one-wave/topology.toml history";
+  reset-service verify examples/one-wave/topology.toml history",
+};
 
 const FEW_NODES_HELP: &str =
     "A file in TOML that names the nodes, at most 64, the links between them, and the application";
@@ -202,10 +198,9 @@ effect says. `enabled I` in a script gives the numbers of the rows that node I m
 A row of a link table is asked at each end of a link: own is the end at which it is asked,
 other the far end.";
 
-const DRIVE_ABOUT: &str =
-    "Drives a network by a seeded scheduler, and writes what it did as a history";
-
-const DRIVE_LONG_ABOUT: &str = "\
+const DRIVE_HELP: Help = Help {
+    about: "Drives a network by a seeded scheduler, and writes what it did as a history",
+    long_about: "\
 Drives a network by a seeded scheduler, and writes what it did as a history.
 
 The network starts from the booted configuration of its topology. At each of N steps the scheduler
@@ -214,12 +209,12 @@ are enabled there, requests included; or, in about P of a thousand steps, a faul
 give the same history on every machine. It is written to FILE, and `verify` accepts it; the file is
 created, or emptied where it is there. A drawn fault may be refused, and then the step does
 nothing. Then one line is printed, `drove E entries R reports`: the entries of the history, and the
-resets that were completed.";
-
-const DRIVE_AFTER_HELP: &str = "\
+resets that were completed.",
+    after_help: "\
 Example:
   reset-service drive examples/one-wave/topology.toml --steps 1000 --seed 7 --history history
-  reset-service verify examples/one-wave/topology.toml history";
+  reset-service verify examples/one-wave/topology.toml history",
+};
 
 const STEPS_HELP: &str = "How many steps it takes, from 1 to 1000000";
 
@@ -238,15 +233,14 @@ its node, with its line as a text that shows where the pointer rests. A lane has
 node's phase, and behind it that of its session, so that a reset is seen to go down the tree and to
 end. A line across all lanes is a completed reset. At most 64 nodes and 2,000 entries are drawn. What
 can't be drawn is answered in place of a picture: the exit status tells.",
-    input: HISTORY_HELP,
     after_help: "\
 Example:
   reset-service picture examples/verified-wave/topology.toml examples/verified-wave/history > wave.svg",
 };
 
-const SHAPE_ABOUT: &str = "Writes the text of a topology of a standard shape";
-
-const SHAPE_LONG_ABOUT: &str = "\
+const SHAPE_HELP: Help = Help {
+    about: "Writes the text of a topology of a standard shape",
+    long_about: "\
 Writes the text of a topology of a standard shape, with the nodes 1 to N.
 
   path    each node is linked with the next one
@@ -256,13 +250,13 @@ Writes the text of a topology of a standard shape, with the nodes 1 to N.
   grid    rows as wide as they are many, each node linked with the next one and the one below
   random  each node is linked with one or two lesser ones, which are drawn by the seed
 
-A name that isn't known is answered in place of the text, and the exit status is 2.";
-
-const SHAPE_AFTER_HELP: &str = "\
+A name that isn't known is answered in place of the text, and the exit status is 2.",
+    after_help: "\
 Example:
-  reset-service topology grid 16 --app mutex > topology.toml";
+  reset-service topology grid 16 --app mutex > topology.toml",
+};
 
-const SHAPE_HELP: &str = "ring, path, star, grid, tree or random";
+const SHAPE_NAME_HELP: &str = "ring, path, star, grid, tree or random";
 
 const NODES_HELP: &str = "How many nodes it has, from 1 to 1024";
 
@@ -271,16 +265,15 @@ const SHAPE_SEED_HELP: &str =
 
 const APP_HELP: &str = "idle, token, mutex or routes; idle where this is left out";
 
-const EXPLAIN_ABOUT: &str =
-    "Tells what a word that the program prints or reads means, and what to do";
-
-const EXPLAIN_LONG_ABOUT: &str = "\
+const EXPLAIN_HELP: Help = Help {
+    about: "Tells what a word that the program prints or reads means, and what to do",
+    long_about: "\
 Tells what a word that the program prints or reads means, and what to do: a refusal, a fault of a
-topology or of a history, or a command of a script.";
-
-const EXPLAIN_AFTER_HELP: &str = "\
+topology or of a history, or a command of a script.",
+    after_help: "\
 Example:
-  reset-service explain NotEnabled";
+  reset-service explain NotEnabled",
+};
 
 const WORD_HELP: &str =
     "One word of an answer or of a script, as `NotEnabled`, `complete` or `not`";
@@ -289,39 +282,49 @@ const WORD_HELP: &str =
 pub fn command_line<'a>(alloc: Global) -> Result<Command<'a>, AllocError>
     ensures { IfOk result (λ command. app_of command ≡ program) }
 {
-    histories_line(alloc)?
-        .subcommand(shape_words(alloc)?)?
-        .subcommand(explain_words(alloc)?)?
-        .subcommand(tables_words(alloc))
+    let line = with_command(histories_line(alloc), shape_words(alloc));
+    let line = with_command(line, explain_words(alloc));
+    with_command(line, Ok(tables_words(alloc)))
 }
 
 // The program with the subcommands that read two texts, and those that write a history.
 fn histories_line<'a>(alloc: Global) -> Result<Command<'a>, AllocError>
-    ensures { IfOk result (λ command. app_of command ≡ histories_program) }
+    ensures { IfOk result (IsCommand histories_program) }
 {
-    texts_line(alloc)?
-        .subcommand(record_words(alloc)?)?
-        .subcommand(threads_words(alloc)?)?
-        .subcommand(drive_words(alloc)?)
+    let line = with_command(texts_line(alloc), record_words(alloc));
+    let line = with_command(line, threads_words(alloc));
+    with_command(line, drive_words(alloc))
 }
 
 // The program with the subcommands that read two texts.
 fn texts_line<'a>(alloc: Global) -> Result<Command<'a>, AllocError>
-    ensures { IfOk result (λ command. app_of command ≡ texts_program) }
+    ensures { IfOk result (IsCommand texts_program) }
 {
-    let replay = texts_words(alloc, "replay", "SCRIPT", &REPLAY_HELP)?;
-    let check = texts_words(alloc, "check", "SCRIPT", &CHECK_HELP)?;
-    let verify = texts_words(alloc, "verify", "HISTORY", &VERIFY_HELP)?;
-    let picture = texts_words(alloc, "picture", "HISTORY", &PICTURE_HELP)?;
+    let verify = texts_words(alloc, "verify", "HISTORY", HISTORY_HELP, &VERIFY_HELP);
+    let picture = texts_words(alloc, "picture", "HISTORY", HISTORY_HELP, &PICTURE_HELP);
+    let line = with_command(scripts_line(alloc), verify);
+    with_command(line, picture)
+}
+
+// The program with the subcommands that read a script.
+fn scripts_line<'a>(alloc: Global) -> Result<Command<'a>, AllocError>
+    ensures { IfOk result (IsCommand scripts_program) }
+{
+    let replay = texts_words(alloc, "replay", "SCRIPT", SCRIPT_HELP, &REPLAY_HELP);
+    let check = texts_words(alloc, "check", "SCRIPT", SCRIPT_HELP, &CHECK_HELP);
+    let line = with_command(Ok(program_words(alloc)), replay);
+    with_command(line, check)
+}
+
+// The program before it has subcommands.
+fn program_words<'a>(alloc: Global) -> Command<'a>
+    ensures { IsCommand new_program result }
+{
     Command::new(alloc, "reset-service")
         .version(VERSION)
         .about(ABOUT)
         .long_about(LONG_ABOUT)
         .after_help(AFTER_HELP)
-        .subcommand(replay)?
-        .subcommand(check)?
-        .subcommand(verify)?
-        .subcommand(picture)
 }
 
 // A subcommand with the paths of a topology and of another file.
@@ -329,187 +332,187 @@ fn texts_words<'a>(
     alloc: Global,
     name: &'a str,
     input: &'a str,
+    input_help: &'a str,
     help: &Help,
 ) -> Result<Command<'a>, AllocError>
-    ensures app { IfOk result (λ command. app_of command ≡ texts_command name.entry.now input.entry.now) }
-    ensures local { IfOk result (λ command. (fields_of command).has_globals ≡ false) }
+    ensures { IfOk result (IsCommand (texts_command name.entry.now input.entry.now)) }
 {
-    Command::new(alloc, name)
-        .about(help.about)
-        .long_about(help.long_about)
-        .after_help(help.after_help)
-        .arg(path_word(alloc, "TOPOLOGY", TOPOLOGY_HELP))?
-        .arg(path_word(alloc, input, help.input))
+    let line = Ok(bare_words(alloc, name, help));
+    let line = with_argument(line, path_word(alloc, "TOPOLOGY", TOPOLOGY_HELP));
+    with_argument(line, path_word(alloc, input, input_help))
 }
 
 // The subcommand with the paths of a topology, of a script and of a file for the history.
 fn record_words<'a>(alloc: Global) -> Result<Command<'a>, AllocError>
-    ensures app { IfOk result (λ command. app_of command ≡ record_command) }
-    ensures local { IfOk result (λ command. (fields_of command).has_globals ≡ false) }
+    ensures { IfOk result (IsCommand record_command) }
 {
-    Command::new(alloc, "record")
-        .about(RECORD_ABOUT)
-        .long_about(RECORD_LONG_ABOUT)
-        .after_help(RECORD_AFTER_HELP)
-        .arg(path_word(alloc, "TOPOLOGY", TOPOLOGY_HELP))?
-        .arg(path_word(alloc, "SCRIPT", SCRIPT_HELP))?
-        .arg(history_word(alloc))
+    let line = Ok(bare_words(alloc, "record", &RECORD_HELP));
+    let line = with_argument(line, path_word(alloc, "TOPOLOGY", TOPOLOGY_HELP));
+    let line = with_argument(line, path_word(alloc, "SCRIPT", SCRIPT_HELP));
+    with_argument(line, history_word(alloc))
 }
 
 // The subcommand with the path of a topology, a number of turns and the path of a file for the history.
 fn threads_words<'a>(alloc: Global) -> Result<Command<'a>, AllocError>
-    ensures app { IfOk result (λ command. app_of command ≡ threads_command) }
-    ensures local { IfOk result (λ command. (fields_of command).has_globals ≡ false) }
+    ensures { IfOk result (IsCommand threads_command) }
 {
-    Command::new(alloc, "threads")
-        .about(THREADS_ABOUT)
-        .long_about(THREADS_LONG_ABOUT)
-        .after_help(THREADS_AFTER_HELP)
-        .arg(path_word(alloc, "TOPOLOGY", FEW_NODES_HELP))?
-        .arg(turns_word(alloc))?
-        .arg(history_word(alloc))
+    let line = Ok(bare_words(alloc, "threads", &THREADS_HELP));
+    let line = with_argument(line, path_word(alloc, "TOPOLOGY", FEW_NODES_HELP));
+    let line = with_argument(line, turns_word(alloc));
+    with_argument(line, history_word(alloc))
 }
 
 // The subcommand with the path of a topology, the numbers of a seeded scheduler and the path of a file for the history.
 fn drive_words<'a>(alloc: Global) -> Result<Command<'a>, AllocError>
-    ensures app { IfOk result (λ command. app_of command ≡ drive_command) }
-    ensures local { IfOk result (λ command. (fields_of command).has_globals ≡ false) }
+    ensures { IfOk result (IsCommand drive_command) }
 {
-    Command::new(alloc, "drive")
-        .about(DRIVE_ABOUT)
-        .long_about(DRIVE_LONG_ABOUT)
-        .after_help(DRIVE_AFTER_HELP)
-        .arg(path_word(alloc, "TOPOLOGY", TOPOLOGY_HELP))?
-        .arg(steps_word(alloc))?
-        .arg(seed_word(alloc, true, DRIVE_SEED_HELP))?
-        .arg(history_word(alloc))?
-        .arg(faults_word(alloc))
+    let line = Ok(bare_words(alloc, "drive", &DRIVE_HELP));
+    let line = with_argument(line, path_word(alloc, "TOPOLOGY", TOPOLOGY_HELP));
+    let line = with_argument(line, steps_word(alloc));
+    let line = with_argument(line, seed_word(alloc, true, DRIVE_SEED_HELP));
+    let line = with_argument(line, history_word(alloc));
+    with_argument(line, faults_word(alloc))
 }
 
 // The subcommand with the name of a shape, a number of nodes, a seed and the name of an application.
 fn shape_words<'a>(alloc: Global) -> Result<Command<'a>, AllocError>
-    ensures app { IfOk result (λ command. app_of command ≡ topology_command) }
-    ensures local { IfOk result (λ command. (fields_of command).has_globals ≡ false) }
+    ensures { IfOk result (IsCommand topology_command) }
 {
-    Command::new(alloc, "topology")
-        .about(SHAPE_ABOUT)
-        .long_about(SHAPE_LONG_ABOUT)
-        .after_help(SHAPE_AFTER_HELP)
-        .arg(path_word(alloc, "SHAPE", SHAPE_HELP))?
-        .arg(nodes_word(alloc))?
-        .arg(seed_word(alloc, false, SHAPE_SEED_HELP))?
-        .arg(app_word(alloc))
+    let line = Ok(bare_words(alloc, "topology", &SHAPE_HELP));
+    let line = with_argument(line, path_word(alloc, "SHAPE", SHAPE_NAME_HELP));
+    let line = with_argument(line, nodes_word(alloc));
+    let line = with_argument(line, seed_word(alloc, false, SHAPE_SEED_HELP));
+    with_argument(line, app_word(alloc))
 }
 
 fn explain_words<'a>(alloc: Global) -> Result<Command<'a>, AllocError>
-    ensures app { IfOk result (λ command. app_of command ≡ explain_command) }
-    ensures local { IfOk result (λ command. (fields_of command).has_globals ≡ false) }
+    ensures { IfOk result (IsCommand explain_command) }
 {
-    Command::new(alloc, "explain")
-        .about(EXPLAIN_ABOUT)
-        .long_about(EXPLAIN_LONG_ABOUT)
-        .after_help(EXPLAIN_AFTER_HELP)
-        .arg(path_word(alloc, "WORD", WORD_HELP))
+    let line = Ok(bare_words(alloc, "explain", &EXPLAIN_HELP));
+    with_argument(line, path_word(alloc, "WORD", WORD_HELP))
 }
 
 fn tables_words<'a>(alloc: Global) -> Command<'a>
-    ensures app { app_of result ≡ tables_command }
-    ensures local { (fields_of result).has_globals ≡ false }
+    ensures { IsCommand tables_command result }
 {
     Command::new(alloc, "tables")
         .about(TABLES_ABOUT)
         .long_about(TABLES_LONG_ABOUT)
 }
 
-// The path of a file, or another word, which has to be given.
-fn path_word<'a>(alloc: Global, name: &'a str, help: &'a str) -> Arg<'a>
-    ensures rule { rule_of result ≡ path name.entry.now }
-    ensures local { result.global ≡ false }
+// The subcommand of this name, before it has arguments.
+fn bare_words<'a>(alloc: Global, name: &'a str, help: &Help) -> Command<'a>
+    ensures { IsCommand (new_app name.entry.now) result }
 {
-    Arg::new(alloc, name).required(true).help(help)
+    Command::new(alloc, name)
+        .about(help.about)
+        .long_about(help.long_about)
+        .after_help(help.after_help)
+}
+
+// The command with one more argument. Where memory was wanting before, it still is: so a chain of these is a plain
+// sequence, and only its end is looked at.
+fn with_argument<'a>(
+    line: Result<Command<'a>, AllocError>,
+    word: Arg<'a>,
+) -> Result<Command<'a>, AllocError>
+    ensures { (app : App) (rule : Rule) → IfOk line.entry (IsCommand app) → IsWord rule word.entry
+        → IfOk result (IsCommand (with_rule app rule)) }
+{
+    line?.arg(word)
+}
+
+// The command with one more subcommand, in the same way.
+fn with_command<'a>(
+    line: Result<Command<'a>, AllocError>,
+    words: Result<Command<'a>, AllocError>,
+) -> Result<Command<'a>, AllocError>
+    ensures { (app below : App) → IfOk line.entry (IsCommand app) → IfOk words.entry (IsCommand below)
+        → IfOk result (IsCommand (with_subcommand app below.top)) }
+{
+    line?.subcommand(words?)
 }
 
 // How many turns each node takes, which has to be given.
 fn turns_word<'a>(alloc: Global) -> Arg<'a>
-    ensures rule { rule_of result ≡ number_option (codes "turns") 1 100000 }
-    ensures local { result.global ≡ false }
+    ensures { IsWord (number_option (codes "turns") 1 100000) result }
 {
-    Arg::new(alloc, "turns")
-        .long("turns")
-        .value_name("N")
-        .required(true)
-        .value_parser(value_parser!(u64).range(1..=100_000))
-        .help(TURNS_HELP)
+    let turns = option_word(alloc, "turns", "N", true, TURNS_HELP);
+    number_word(turns, 1, 100_000)
 }
 
 // How many steps a scheduler takes, which has to be given.
 fn steps_word<'a>(alloc: Global) -> Arg<'a>
-    ensures rule { rule_of result ≡ number_option (codes "steps") 1 1000000 }
-    ensures local { result.global ≡ false }
+    ensures { IsWord (number_option (codes "steps") 1 1000000) result }
 {
-    Arg::new(alloc, "steps")
-        .long("steps")
-        .value_name("N")
-        .required(true)
-        .value_parser(value_parser!(u64).range(1..=1_000_000))
-        .help(STEPS_HELP)
+    let steps = option_word(alloc, "steps", "N", true, STEPS_HELP);
+    number_word(steps, 1, 1_000_000)
 }
 
 // What random words are drawn by.
 fn seed_word<'a>(alloc: Global, required: bool, help: &'a str) -> Arg<'a>
-    ensures rule { rule_of result ≡ record (number_option (codes "seed") 0 4294967295) { required = required } }
-    ensures local { result.global ≡ false }
+    ensures { IsWord (record (number_option (codes "seed") 0 4294967295) { required = required }) result }
 {
-    Arg::new(alloc, "seed")
-        .long("seed")
-        .value_name("S")
-        .required(required)
-        .value_parser(value_parser!(u64).range(0..=4_294_967_295))
-        .help(help)
+    let seed = option_word(alloc, "seed", "S", required, help);
+    number_word(seed, 0, 4_294_967_295)
 }
 
 // How many of a thousand steps are faults, which may be left out.
 fn faults_word<'a>(alloc: Global) -> Arg<'a>
-    ensures rule { rule_of result ≡ optional (number_option (codes "faults") 0 1000) }
-    ensures local { result.global ≡ false }
+    ensures { IsWord (optional (number_option (codes "faults") 0 1000)) result }
 {
-    Arg::new(alloc, "faults")
-        .long("faults")
-        .value_name("P")
-        .value_parser(value_parser!(u64).range(0..=1000))
-        .help(FAULTS_HELP)
+    let faults = option_word(alloc, "faults", "P", false, FAULTS_HELP);
+    number_word(faults, 0, 1000)
 }
 
 // How many nodes a shape has, which has to be given.
 fn nodes_word<'a>(alloc: Global) -> Arg<'a>
-    ensures rule { rule_of result ≡ within 1 1024 (path (codes "N")) }
-    ensures local { result.global ≡ false }
+    ensures { IsWord (within 1 1024 (path (codes "N"))) result }
 {
-    Arg::new(alloc, "N")
-        .required(true)
-        .value_parser(value_parser!(u64).range(1..=1024))
-        .help(NODES_HELP)
+    number_word(path_word(alloc, "N", NODES_HELP), 1, 1024)
 }
 
 // The name of an application, which may be left out.
 fn app_word<'a>(alloc: Global) -> Arg<'a>
-    ensures rule { rule_of result ≡ optional (file_option (codes "app")) }
-    ensures local { result.global ≡ false }
+    ensures { IsWord (optional (file_option (codes "app"))) result }
 {
-    Arg::new(alloc, "app")
-        .long("app")
-        .value_name("A")
-        .help(APP_HELP)
+    option_word(alloc, "app", "A", false, APP_HELP)
 }
 
 // The path of the file for the history, which has to be given.
 fn history_word<'a>(alloc: Global) -> Arg<'a>
-    ensures rule { rule_of result ≡ file_option (codes "history") }
-    ensures local { result.global ≡ false }
+    ensures { IsWord (file_option (codes "history")) result }
 {
-    Arg::new(alloc, "history")
-        .long("history")
-        .value_name("FILE")
-        .required(true)
-        .help(HISTORY_FILE_HELP)
+    option_word(alloc, "history", "FILE", true, HISTORY_FILE_HELP)
+}
+
+// The path of a file, or another word, which has to be given.
+fn path_word<'a>(alloc: Global, name: &'a str, help: &'a str) -> Arg<'a>
+    ensures { IsWord (path name.entry.now) result }
+{
+    Arg::new(alloc, name).required(true).help(help)
+}
+
+// A value behind its name.
+fn option_word<'a>(
+    alloc: Global,
+    name: &'a str,
+    value: &'a str,
+    required: bool,
+    help: &'a str,
+) -> Arg<'a>
+    ensures { IsWord (record (file_option name.entry.now) { required = required }) result }
+{
+    Arg::new(alloc, name)
+        .long(name)
+        .value_name(value)
+        .required(required)
+        .help(help)
+}
+
+// The argument, whose value is a number from the least to the most.
+fn number_word<'a>(word: Arg<'a>, least: u64, most: u64) -> Arg<'a>
+    ensures { (rule : Rule) → IsWord rule word.entry → IsWord (within least most rule) result }
+{
+    word.value_parser(ValueParser::unsigned(least, most))
 }

@@ -113,16 +113,26 @@ fn job_of<'a>(matches: &ArgMatches<'a>) -> Job<'a>
 {
     match matches.subcommand() {
         None => Job::Joined,
-        Some(("replay", values)) => Job::Replay(paths_of(values, "SCRIPT")),
-        Some(("check", values)) => Job::Check(paths_of(values, "SCRIPT")),
-        Some(("verify", values)) => Job::Verify(paths_of(values, "HISTORY")),
-        Some(("picture", values)) => Job::Picture(paths_of(values, "HISTORY")),
-        Some(("record", values)) => Job::Record(record_words_of(values)),
-        Some(("threads", values)) => Job::Threads(thread_words_of(values)),
-        Some(("drive", values)) => Job::Drive(drive_words_of(values)),
-        Some(("topology", values)) => Job::Shape(shape_words_of(values)),
-        Some(("explain", values)) => Job::Explain(word_of(values)),
-        Some(_) => Job::Tables,
+        Some((name, values)) => named_job(name, values),
+    }
+}
+
+// The job of the subcommand of this name, whose matches have the values that it needs.
+fn named_job<'a>(name: &str, values: &ArgMatches<'a>) -> Job<'a>
+    requires { HasJob (Some (name.now, rows_of (found_of values.now))) }
+    ensures { AskedBy (Some (name.now, rows_of (found_of values.now))) result }
+{
+    match name {
+        "replay" => Job::Replay(paths_of(values, "SCRIPT")),
+        "check" => Job::Check(paths_of(values, "SCRIPT")),
+        "verify" => Job::Verify(paths_of(values, "HISTORY")),
+        "picture" => Job::Picture(paths_of(values, "HISTORY")),
+        "record" => Job::Record(record_words_of(values)),
+        "threads" => Job::Threads(thread_words_of(values)),
+        "drive" => Job::Drive(drive_words_of(values)),
+        "topology" => Job::Shape(shape_words_of(values)),
+        "explain" => Job::Explain(word_of(values)),
+        _ => Job::Tables,
     }
 }
 

@@ -1,19 +1,17 @@
-use Rattle.std.proofs.Common.{◌≡◌, ◌∙◌, ap, ap₂}
+use Rattle.std.proofs.Common.{◌≡◌}
 use Rattle.std.proofs.lemmas.Result.{IfOk-weaker}
-use Rattle.clap.specs.Words.{App, app_of, with_subcommand}
-use Rattle.command_words.specs.Words.{explain_command, histories_program, program, topology_command}
+use Rattle.clap.specs.Words.{app_of}
+use Rattle.clap.specs.declared.builder.command.Command.{Command}
+use Rattle.command_words.specs.Words.{IsCommand, program}
 use Rattle.command_words.proofs.commands.command_line.Goals as goal
+
+is_app : (c : Command) → IsCommand program c → app_of c ≡ program
+unfolding IsCommand
+is_app c is = is.0
 
 pub returns : goal.returns
 unfolding program
 returns c =
-    let one : app_of c.in_ok-subcommand.field-0 ≡ with_subcommand histories_program topology_command.top =
-    c.in_ok-subcommand.ensures.shape c.in_ok-shape_words.ensures.local
-    ∙ ap₂ with_subcommand c.in_ok-histories_line.ensures (ap (λ (a : App). a.top) c.in_ok-shape_words.ensures.app) in
-    let two : app_of c.in_ok-subcommand-2.field-0
-    ≡ with_subcommand (with_subcommand histories_program topology_command.top) explain_command.top =
-    c.in_ok-subcommand-2.ensures.shape c.in_ok-explain_words.ensures.local
-    ∙ ap₂ with_subcommand one (ap (λ (a : App). a.top) c.in_ok-explain_words.ensures.app) in
-    IfOk-weaker c.subcommand-3.result _ _
-    (λ r h. h.shape c.tables_words.ensures.local
-    ∙ ap₂ with_subcommand two (ap (λ (a : App). a.top) c.tables_words.ensures.app)) c.subcommand-3.ensures
+    let one = c.with_command-line.ensures _ _ c.histories_line.ensures c.shape_words.ensures in
+    let two = c.with_command-line-2.ensures _ _ one c.explain_words.ensures in
+    IfOk-weaker c.with_command.result _ _ is_app (c.with_command.ensures _ _ two c.tables_words.ensures)

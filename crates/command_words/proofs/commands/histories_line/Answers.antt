@@ -1,18 +1,7 @@
-use Rattle.std.proofs.Common.{◌≡◌, ◌∙◌, ap, ap₂}
-use Rattle.std.proofs.lemmas.Result.{IfOk-weaker}
-use Rattle.clap.specs.Words.{App, app_of, with_subcommand}
-use Rattle.command_words.specs.Words.{record_command, texts_program, threads_command}
 use Rattle.command_words.proofs.commands.histories_line.Goals as goal
 
 pub returns : goal.returns
 returns c =
-    let one : app_of c.in_ok-subcommand.field-0 ≡ with_subcommand texts_program record_command.top =
-    c.in_ok-subcommand.ensures.shape c.in_ok-record_words.ensures.local
-    ∙ ap₂ with_subcommand c.in_ok-texts_line.ensures (ap (λ (a : App). a.top) c.in_ok-record_words.ensures.app) in
-    let two : app_of c.in_ok-subcommand-2.field-0
-    ≡ with_subcommand (with_subcommand texts_program record_command.top) threads_command.top =
-    c.in_ok-subcommand-2.ensures.shape c.in_ok-threads_words.ensures.local
-    ∙ ap₂ with_subcommand one (ap (λ (a : App). a.top) c.in_ok-threads_words.ensures.app) in
-    IfOk-weaker c.subcommand-3.result _ _
-    (λ r h. h.shape c.in_ok-drive_words.ensures.local
-    ∙ ap₂ with_subcommand two (ap (λ (a : App). a.top) c.in_ok-drive_words.ensures.app)) c.subcommand-3.ensures
+    let one = c.with_command-line.ensures _ _ c.texts_line.ensures c.record_words.ensures in
+    let two = c.with_command-line-2.ensures _ _ one c.threads_words.ensures in
+    c.with_command.ensures _ _ two c.drive_words.ensures
