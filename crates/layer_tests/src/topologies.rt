@@ -1,8 +1,50 @@
 // Graphs and what their readers tell. What a bad topology is answered with is shown on the program itself.
 
+use Change::{Down, Link, Unlink, Up};
 use action_tables::MAX_MODULUS;
+use std::alloc::{AllocGlobal, Global};
+use std::process::Abort;
 use std::test::Fail;
 use topology::{AppName, MAX_LINKS, NodeId, ReadFault, TopoFault, Topology, read_topology};
+
+// A change of a topology.
+#[derive(Clone, Copy)]
+enum Change {
+    Link(u32, u32),
+    Unlink(u32, u32),
+    Up(u32),
+    Down(u32),
+}
+
+fn changed(alloc: Global, topology: &Topology, change: Change) -> Result<Topology, TopoFault> {
+    match change {
+        Link(a, b) => topology.with_link(alloc, a, b),
+        Unlink(a, b) => topology.without_link(alloc, a, b),
+        Up(id) => topology.with_node(alloc, id),
+        Down(id) => topology.without_node(alloc, id),
+    }
+}
+
+// The topology of these nodes and links, none of which is refused.
+fn built(rt: &(impl Abort + AllocGlobal), nodes: &[u32], links: &[(u32, u32)]) -> Topology {
+    Topology::build(rt.alloc(), nodes, links).expect(rt, "a topology")
+}
+
+// The topology after a change that isn't refused.
+fn after(rt: &(impl Abort + AllocGlobal), topology: &Topology, change: Change) -> Topology {
+    changed(rt.alloc(), topology, change).expect(rt, "a change")
+}
+
+// Each of these changes is refused for its reason.
+fn refuses(rt: &(impl Abort + AllocGlobal), topology: &Topology, faults: &[(Change, TopoFault)]) {
+    for (change, fault) in faults {
+        assert_eq!(rt; changed(rt.alloc(), topology, *change).err(), Some(*fault));
+    }
+}
+
+fn linked(topology: &Topology, a: u32, b: u32) -> bool {
+    topology.linked(a, b)
+}
 
 // Whether these are the nodes 1, 2 and 3.
 fn has_three_nodes(line: &Topology) -> bool {
@@ -33,11 +75,10 @@ fn has_two_links(line: &Topology) -> bool {
 }
 
 #[test]
-fn reads_a_line_given_in_mixed_order(rt: HostRuntime) -> Result<(), Fail> {
-    let line = Topology::build(rt.alloc(), &[2, 3, 1], &[(3, 2), (1, 2)])?;
+fn reads_a_line_given_in_mixed_order(rt: HostRuntime) {
+    let line = built(&rt, &[2, 3, 1], &[(3, 2), (1, 2)]);
     assert!(rt; has_three_nodes(&line));
     assert!(rt; has_two_links(&line));
-    Ok(())
 }
 
 // Whether these are the links of the star of the nodes 5, 20, 40 and 41, as identifiers find them.
@@ -52,19 +93,30 @@ fn finds_the_star(star: &Topology) -> bool {
 }
 
 #[test]
-fn finds_neighbours_by_identifier(rt: HostRuntime) -> Result<(), Fail> {
-    let star = Topology::build(rt.alloc(), &[5, 20, 40, 41], &[(41, 5), (41, 20), (40, 41)])?;
+fn finds_neighbours_by_identifier(rt: HostRuntime) {
+    let star = built(&rt, &[5, 20, 40, 41], &[(41, 5), (41, 20), (40, 41)]);
     assert!(rt; finds_the_star(&star));
-    Ok(())
+}
+
+// These are the distances from the node at this index, by index.
+fn measures(
+    rt: &(impl Abort + AllocGlobal),
+    topology: &Topology,
+    index: usize,
+    distances: &[usize],
+) {
+    assert_eq!(rt; topology.len(), distances.len());
+    assert!(rt; index < topology.len());
+    let measured = topology
+        .distances_from(rt.alloc(), index)
+        .expect(rt, "memory");
+    assert_eq!(rt; measured.as_slice(), distances);
 }
 
 #[test]
-fn measures_a_cycle_of_four(rt: HostRuntime) -> Result<(), Fail> {
-    let cycle = Topology::build(rt.alloc(), &[1, 2, 3, 4], &[(1, 2), (2, 3), (3, 4), (4, 1)])?;
-    assert_eq!(rt; cycle.len(), 4);
-    let distances = cycle.distances_from(rt.alloc(), 1)?;
-    assert_eq!(rt; distances.as_slice(), [1, 0, 1, 2].as_slice());
-    Ok(())
+fn measures_a_cycle_of_four(rt: HostRuntime) {
+    let cycle = built(&rt, &[1, 2, 3, 4], &[(1, 2), (2, 3), (3, 4), (4, 1)]);
+    measures(&rt, &cycle, 1, &[1, 0, 1, 2]);
 }
 
 #[test]
@@ -73,7 +125,7 @@ fn reads_the_text_of_a_line(rt: HostRuntime) -> Result<(), Fail> {
     let read = read_topology(rt.alloc(), text)?;
     let line = &read.topology;
     assert_eq!(rt; line.len(), 3);
-    assert!(rt; line.linked(1, 2) && line.linked(3, 2) && !line.linked(1, 3));
+    assert!(rt; linked(line, 1, 2) && linked(line, 3, 2) && !linked(line, 1, 3));
     assert_eq!(rt; read.app, AppName::Routes);
     assert_eq!(rt; read.modulus, MAX_MODULUS);
     Ok(())
@@ -87,17 +139,36 @@ fn reads_the_text_of_two_components(rt: HostRuntime) -> Result<(), Fail> {
     Ok(())
 }
 
+// The modulus of a text. None where it isn't read.
+fn modulus_of(alloc: Global, text: &[u8]) -> Option<u64> {
+    match read_topology(alloc, text) {
+        Ok(read) => Some(read.modulus),
+        Err(_) => None,
+    }
+}
+
 #[test]
-fn reads_a_modulus(rt: HostRuntime) -> Result<(), Fail> {
-    let text = b"nodes = [1]\nlinks = []\napp = \"idle\"\nmodulus = 8\n";
-    assert_eq!(rt; read_topology(rt.alloc(), text)?.modulus, 8);
-    let least = b"modulus = 2\nnodes = [1]\nlinks = []\napp = \"idle\"\n";
-    assert_eq!(rt; read_topology(rt.alloc(), least)?.modulus, 2);
-    let greatest = b"nodes = [1]\nlinks = []\nmodulus = 4294967296\napp = \"idle\"\n";
-    assert_eq!(rt; read_topology(rt.alloc(), greatest)?.modulus, 4_294_967_296);
-    let none = b"nodes = [1]\nlinks = []\napp = \"idle\"\n";
-    assert_eq!(rt; read_topology(rt.alloc(), none)?.modulus, 4_294_967_296);
-    Ok(())
+fn reads_a_modulus(rt: HostRuntime) {
+    for (text, modulus) in [
+        (
+            b"nodes = [1]\nlinks = []\napp = \"idle\"\nmodulus = 8\n".as_slice(),
+            8,
+        ),
+        (
+            b"modulus = 2\nnodes = [1]\nlinks = []\napp = \"idle\"\n".as_slice(),
+            2,
+        ),
+        (
+            b"nodes = [1]\nlinks = []\nmodulus = 4294967296\napp = \"idle\"\n".as_slice(),
+            4_294_967_296,
+        ),
+        (
+            b"nodes = [1]\nlinks = []\napp = \"idle\"\n".as_slice(),
+            4_294_967_296,
+        ),
+    ] {
+        assert_eq!(rt; modulus_of(rt.alloc(), text), Some(modulus));
+    }
 }
 
 // Why a text isn't read.
@@ -120,42 +191,29 @@ fn refuses_what_is_no_modulus(rt: HostRuntime) {
     assert_eq!(rt; text_fault(rt, unknown_app), Some(ReadFault::WrongKind));
 }
 
-// Why a call gave no topology.
-fn fault_of(changed: Result<Topology, TopoFault>) -> Option<TopoFault> {
-    match changed {
-        Ok(_) => None,
-        Err(fault) => Some(fault),
-    }
+#[test]
+fn names_why_a_link_is_not_put_in(rt: HostRuntime) {
+    let line = built(&rt, &[2, 3, 1], &[(3, 2), (1, 2)]);
+    let faults = [
+        (Link(8, 9), TopoFault::StrangeNode(8)),
+        (Link(1, 4), TopoFault::StrangeNode(4)),
+        (Link(5, 5), TopoFault::StrangeNode(5)),
+        (Link(3, 3), TopoFault::SelfLink(3)),
+        (Link(2, 3), TopoFault::LinkIsThere),
+    ];
+    refuses(&rt, &line, &faults);
 }
 
 #[test]
-fn names_why_a_link_is_not_put_in(rt: HostRuntime) -> Result<(), Fail> {
-    let line = Topology::build(rt.alloc(), &[2, 3, 1], &[(3, 2), (1, 2)])?;
-    let first = fault_of(line.with_link(rt.alloc(), 8, 9));
-    assert_eq!(rt; first, Some(TopoFault::StrangeNode(8)));
-    let second = fault_of(line.with_link(rt.alloc(), 1, 4));
-    assert_eq!(rt; second, Some(TopoFault::StrangeNode(4)));
-    let both = fault_of(line.with_link(rt.alloc(), 5, 5));
-    assert_eq!(rt; both, Some(TopoFault::StrangeNode(5)));
-    let own = fault_of(line.with_link(rt.alloc(), 3, 3));
-    assert_eq!(rt; own, Some(TopoFault::SelfLink(3)));
-    let there = fault_of(line.with_link(rt.alloc(), 2, 3));
-    assert_eq!(rt; there, Some(TopoFault::LinkIsThere));
-    Ok(())
-}
-
-#[test]
-fn names_why_a_link_is_not_taken_out(rt: HostRuntime) -> Result<(), Fail> {
-    let line = Topology::build(rt.alloc(), &[2, 3, 1], &[(3, 2), (1, 2)])?;
-    let first = fault_of(line.without_link(rt.alloc(), 7, 1));
-    assert_eq!(rt; first, Some(TopoFault::StrangeNode(7)));
-    let second = fault_of(line.without_link(rt.alloc(), 3, 0));
-    assert_eq!(rt; second, Some(TopoFault::StrangeNode(0)));
-    let absent = fault_of(line.without_link(rt.alloc(), 1, 3));
-    assert_eq!(rt; absent, Some(TopoFault::NoSuchLink));
-    let own = fault_of(line.without_link(rt.alloc(), 2, 2));
-    assert_eq!(rt; own, Some(TopoFault::NoSuchLink));
-    Ok(())
+fn names_why_a_link_is_not_taken_out(rt: HostRuntime) {
+    let line = built(&rt, &[2, 3, 1], &[(3, 2), (1, 2)]);
+    let faults = [
+        (Unlink(7, 1), TopoFault::StrangeNode(7)),
+        (Unlink(3, 0), TopoFault::StrangeNode(0)),
+        (Unlink(1, 3), TopoFault::NoSuchLink),
+        (Unlink(2, 2), TopoFault::NoSuchLink),
+    ];
+    refuses(&rt, &line, &faults);
 }
 
 // Whether these are the leaders of the nodes, in the order of the ids.
@@ -167,60 +225,55 @@ fn has_leaders(topology: &Topology, leaders: &[u32]) -> bool {
 }
 
 // A path of the nodes 1, 3 and 7, and a link of the nodes 2 and 9.
-fn path_and_link(rt: HostRuntime) -> Result<Topology, TopoFault> {
-    Topology::build(rt.alloc(), &[9, 7, 3, 2, 1], &[(7, 3), (2, 9), (1, 3)])
+fn path_and_link(rt: &(impl Abort + AllocGlobal)) -> Topology {
+    built(rt, &[9, 7, 3, 2, 1], &[(7, 3), (2, 9), (1, 3)])
+}
+
+// A topology that equals this one.
+fn copied(rt: &(impl Abort + AllocGlobal), topology: &Topology) -> Topology {
+    topology.copy(rt.alloc()).expect(rt, "memory")
 }
 
 #[test]
-fn each_component_has_its_leader(rt: HostRuntime) -> Result<(), Fail> {
-    let parted = path_and_link(rt)?;
+fn each_component_has_its_leader(rt: HostRuntime) {
+    let parted = path_and_link(&rt);
     assert_eq!(rt; parted.link_count(), 3);
     assert!(rt; has_leaders(&parted, &[7, 9, 7, 7, 9]));
-    assert!(rt; has_leaders(&parted.copy(rt.alloc())?, &[7, 9, 7, 7, 9]));
-    let unlinked = Topology::build(rt.alloc(), &[4, 2, 8], &[])?;
+    assert!(rt; has_leaders(&copied(&rt, &parted), &[7, 9, 7, 7, 9]));
+    let unlinked = built(&rt, &[4, 2, 8], &[]);
     assert!(rt; has_leaders(&unlinked, &[2, 4, 8]));
-    Ok(())
 }
 
 // The number of nodes stands where no walk leads.
 #[test]
-fn measures_one_component(rt: HostRuntime) -> Result<(), Fail> {
-    let parted = path_and_link(rt)?;
-    assert_eq!(rt; parted.len(), 5);
-    let from_7 = parted.distances_from(rt.alloc(), 3)?;
-    assert_eq!(rt; from_7.as_slice(), [2, 5, 1, 0, 5].as_slice());
-    let from_2 = parted.distances_from(rt.alloc(), 1)?;
-    assert_eq!(rt; from_2.as_slice(), [5, 0, 5, 5, 1].as_slice());
-    Ok(())
+fn measures_one_component(rt: HostRuntime) {
+    let parted = path_and_link(&rt);
+    measures(&rt, &parted, 3, &[2, 5, 1, 0, 5]);
+    measures(&rt, &parted, 1, &[5, 0, 5, 5, 1]);
 }
 
 #[test]
-fn a_link_joins_two_components(rt: HostRuntime) -> Result<(), Fail> {
-    let parted = path_and_link(rt)?;
-    let joined = parted.with_link(rt.alloc(), 2, 1)?;
+fn a_link_joins_two_components(rt: HostRuntime) {
+    let joined = after(&rt, &path_and_link(&rt), Link(2, 1));
     assert!(rt; has_leaders(&joined, &[9, 9, 9, 9, 9]));
-    assert_eq!(rt; joined.len(), 5);
-    let distances = joined.distances_from(rt.alloc(), 4)?;
-    assert_eq!(rt; distances.as_slice(), [2, 1, 3, 4, 0].as_slice());
-    let again = joined.without_link(rt.alloc(), 1, 2)?;
+    measures(&rt, &joined, 4, &[2, 1, 3, 4, 0]);
+    let again = after(&rt, &joined, Unlink(1, 2));
     assert!(rt; has_leaders(&again, &[7, 9, 7, 7, 9]));
-    Ok(())
 }
 
 #[test]
-fn a_bridge_parts_two_components(rt: HostRuntime) -> Result<(), Fail> {
+fn a_bridge_parts_two_components(rt: HostRuntime) {
     // two triangles, 1 4 5 and 2 3 6, with a bridge from 5 to 3
     let links = [(1, 4), (4, 5), (5, 1), (2, 3), (3, 6), (6, 2), (5, 3)];
-    let bridged = Topology::build(rt.alloc(), &[1, 2, 3, 4, 5, 6], &links)?;
+    let bridged = built(&rt, &[1, 2, 3, 4, 5, 6], &links);
     assert!(rt; has_leaders(&bridged, &[6, 6, 6, 6, 6, 6]));
-    let parted = bridged.without_link(rt.alloc(), 3, 5)?;
+    let parted = after(&rt, &bridged, Unlink(3, 5));
     assert_eq!(rt; parted.link_count(), 6);
     assert!(rt; has_leaders(&parted, &[5, 6, 6, 5, 5, 6]));
-    let path = parted.without_link(rt.alloc(), 3, 6)?;
+    let path = after(&rt, &parted, Unlink(3, 6));
     assert!(rt; has_leaders(&path, &[5, 6, 6, 5, 5, 6]));
-    let three = path.without_link(rt.alloc(), 2, 6)?;
+    let three = after(&rt, &path, Unlink(2, 6));
     assert!(rt; has_leaders(&three, &[5, 3, 3, 5, 5, 6]));
-    Ok(())
 }
 
 // Whether two graphs of four nodes have the same rows.
@@ -236,22 +289,20 @@ fn has_the_rows_of(a: &Topology, b: &Topology) -> bool {
 }
 
 #[test]
-fn a_link_is_taken_out_and_put_back(rt: HostRuntime) -> Result<(), Fail> {
-    let cycle = Topology::build(rt.alloc(), &[9, 4, 7, 2], &[(2, 4), (4, 7), (7, 9), (9, 2)])?;
-    let opened = cycle.without_link(rt.alloc(), 9, 2)?;
+fn a_link_is_taken_out_and_put_back(rt: HostRuntime) {
+    let cycle = built(&rt, &[9, 4, 7, 2], &[(2, 4), (4, 7), (7, 9), (9, 2)]);
+    let opened = after(&rt, &cycle, Unlink(9, 2));
     assert!(rt; !has_the_rows_of(&cycle, &opened));
-    assert!(rt; !opened.linked(2, 9) && !opened.linked(9, 2) && opened.linked(7, 9));
+    assert!(rt; !linked(&opened, 2, 9) && !linked(&opened, 9, 2) && linked(&opened, 7, 9));
     assert_eq!(rt; opened.link_count(), 3);
-    let distances = opened.distances_from(rt.alloc(), 0)?;
-    assert_eq!(rt; distances.as_slice(), [0, 1, 2, 3].as_slice());
-    let closed = opened.with_link(rt.alloc(), 2, 9)?;
+    measures(&rt, &opened, 0, &[0, 1, 2, 3]);
+    let closed = after(&rt, &opened, Link(2, 9));
     assert!(rt; has_the_rows_of(&cycle, &closed));
-    Ok(())
 }
 
 // The first links, up to `most`, of each node to each later one.
-fn first_links(rt: HostRuntime, nodes: u32, most: usize) -> Result<Vec<(u32, u32)>, Fail> {
-    let mut links = Vec::new(rt.alloc());
+fn first_links(alloc: Global, nodes: u32, most: usize) -> Result<Vec<(u32, u32)>, Fail> {
+    let mut links = Vec::new(alloc);
     for a in 1..nodes {
         for b in a..nodes {
             if links.len() < most {
@@ -262,26 +313,28 @@ fn first_links(rt: HostRuntime, nodes: u32, most: usize) -> Result<Vec<(u32, u32
     Ok(links)
 }
 
-#[test]
-fn there_is_room_for_8192_links(rt: HostRuntime) -> Result<(), Fail> {
+// A topology of 139 nodes with as many links as there may be, and none of 138 and 139.
+fn full_topology(rt: &(impl Abort + AllocGlobal)) -> Result<Topology, Fail> {
     let mut nodes = Vec::new(rt.alloc());
     for node in 1..140u32 {
         nodes.push(node)?;
     }
-    let links = first_links(rt, 139, MAX_LINKS)?;
-    let full = Topology::build(rt.alloc(), &nodes, &links)?;
+    let links = first_links(rt.alloc(), 139, MAX_LINKS)?;
+    Ok(built(rt, &nodes, &links))
+}
+
+#[test]
+fn there_is_room_for_8192_links(rt: HostRuntime) -> Result<(), Fail> {
+    let full = full_topology(&rt)?;
     assert_eq!(rt; full.link_count(), MAX_LINKS);
-    assert!(rt; full.linked(1, 2) && !full.linked(138, 139));
-    assert_eq!(rt;
-        fault_of(full.with_link(rt.alloc(), 138, 139)),
-        Some(TopoFault::TooManyLinks)
-    );
-    assert_eq!(rt;
-        fault_of(full.with_link(rt.alloc(), 1, 2)),
-        Some(TopoFault::LinkIsThere)
-    );
-    let one_less = full.without_link(rt.alloc(), 1, 2)?;
-    let other = one_less.with_link(rt.alloc(), 139, 138)?;
+    assert!(rt; linked(&full, 1, 2) && !linked(&full, 138, 139));
+    let faults = [
+        (Link(138, 139), TopoFault::TooManyLinks),
+        (Link(1, 2), TopoFault::LinkIsThere),
+    ];
+    refuses(&rt, &full, &faults);
+    let one_less = after(&rt, &full, Unlink(1, 2));
+    let other = after(&rt, &one_less, Link(139, 138));
     assert_eq!(rt; other.link_count(), MAX_LINKS);
     Ok(())
 }
@@ -304,70 +357,56 @@ fn is_line_without_2(topology: &Topology) -> bool {
         && topology.greatest_of(0).get() == 1
 }
 
-#[test]
-fn a_node_goes_down_with_its_links(rt: HostRuntime) -> Result<(), Fail> {
-    let line = Topology::build(rt.alloc(), &[1, 2, 3], &[(1, 2), (2, 3)])?;
-    let down = line.without_node(rt.alloc(), 2)?;
-    assert!(rt; is_line_without_2(&down));
-    assert!(rt; is_line_without_2(&down.copy(rt.alloc())?));
-    assert!(rt; has_three_nodes(&line) && has_two_links(&line));
-    Ok(())
+// The line of the nodes 1, 2 and 3.
+fn line(rt: &(impl Abort + AllocGlobal)) -> Topology {
+    built(rt, &[1, 2, 3], &[(1, 2), (2, 3)])
 }
 
 #[test]
-fn a_node_comes_up_without_links(rt: HostRuntime) -> Result<(), Fail> {
-    let line = Topology::build(rt.alloc(), &[1, 2, 3], &[(1, 2), (2, 3)])?;
-    let down = line.without_node(rt.alloc(), 2)?;
-    let up = down.with_node(rt.alloc(), 2)?;
+fn a_node_goes_down_with_its_links(rt: HostRuntime) {
+    let line = line(&rt);
+    let down = after(&rt, &line, Down(2));
+    assert!(rt; is_line_without_2(&down));
+    assert!(rt; is_line_without_2(&copied(&rt, &down)));
+    assert!(rt; has_three_nodes(&line) && has_two_links(&line));
+}
+
+#[test]
+fn a_node_comes_up_without_links(rt: HostRuntime) {
+    let up = after(&rt, &after(&rt, &line(&rt), Down(2)), Up(2));
     assert!(rt; up.nodes() == [1, 2, 3].as_slice());
     assert!(rt; has_leaders(&up, &[1, 2, 3]));
     assert_eq!(rt; up.link_count(), 0);
-    let linked = up.with_link(rt.alloc(), 2, 3)?;
+    let linked = after(&rt, &up, Link(2, 3));
     assert!(rt; has_leaders(&linked, &[1, 3, 3]));
-    Ok(())
 }
 
 #[test]
-fn names_why_a_node_does_not_go_down_or_come_up(rt: HostRuntime) -> Result<(), Fail> {
-    let line = Topology::build(rt.alloc(), &[1, 2, 3], &[(1, 2), (2, 3)])?;
-    assert_eq!(rt;
-        fault_of(line.without_node(rt.alloc(), 4)),
-        Some(TopoFault::StrangeNode(4))
-    );
-    assert_eq!(rt;
-        fault_of(line.with_node(rt.alloc(), 4)),
-        Some(TopoFault::StrangeNode(4))
-    );
-    assert_eq!(rt;
-        fault_of(line.with_node(rt.alloc(), 3)),
-        Some(TopoFault::NodeIsUp)
-    );
-    let down = line.without_node(rt.alloc(), 3)?;
-    assert_eq!(rt;
-        fault_of(down.without_node(rt.alloc(), 3)),
-        Some(TopoFault::StrangeNode(3))
-    );
-    assert_eq!(rt;
-        fault_of(down.with_link(rt.alloc(), 2, 3)),
-        Some(TopoFault::StrangeNode(3))
-    );
-    assert_eq!(rt;
-        fault_of(down.without_link(rt.alloc(), 2, 3)),
-        Some(TopoFault::StrangeNode(3))
-    );
-    Ok(())
+fn names_why_a_node_does_not_go_down_or_come_up(rt: HostRuntime) {
+    let line = line(&rt);
+    let faults = [
+        (Down(4), TopoFault::StrangeNode(4)),
+        (Up(4), TopoFault::StrangeNode(4)),
+        (Up(3), TopoFault::NodeIsUp),
+    ];
+    refuses(&rt, &line, &faults);
+    let faults_of_3 = [Down(3), Link(2, 3), Unlink(2, 3)].map(|change| (
+        change,
+        TopoFault::StrangeNode(3),
+    ));
+    refuses(&rt, &after(&rt, &line, Down(3)), &faults_of_3);
+}
+
+// Whether both of two identifiers are down.
+fn are_both_down(two: &Topology) -> bool {
+    two.len() == 2 && two.node_count() == 0 && two.nodes().is_empty()
 }
 
 #[test]
-fn all_nodes_may_be_down(rt: HostRuntime) -> Result<(), Fail> {
-    let two = Topology::build(rt.alloc(), &[5, 4], &[(4, 5)])?;
-    let none = two
-        .without_node(rt.alloc(), 4)?
-        .without_node(rt.alloc(), 5)?;
-    assert_eq!(rt; none.len(), 2);
-    assert_eq!(rt; none.node_count(), 0);
-    assert!(rt; none.nodes().is_empty());
-    let one = none.with_node(rt.alloc(), 4)?;
+fn all_nodes_may_be_down(rt: HostRuntime) {
+    let two = built(&rt, &[5, 4], &[(4, 5)]);
+    let none = after(&rt, &after(&rt, &two, Down(4)), Down(5));
+    assert!(rt; are_both_down(&none));
+    let one = after(&rt, &none, Up(4));
     assert!(rt; one.nodes() == [4].as_slice());
-    Ok(())
 }

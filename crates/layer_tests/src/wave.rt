@@ -122,6 +122,20 @@ fn effect(case: u8, own: WaveRegs, father: FatherSeen, modulus: Modulus) -> Wave
     }
 }
 
+// Whether the child that is named asks for a wave.
+fn is_asked(named: Option<u32>, first: WaveRegs, second: WaveRegs) -> bool {
+    match named {
+        Some(3) => first.phase == Phase::Initiate,
+        Some(8) => second.phase == Phase::Initiate,
+        _ => false,
+    }
+}
+
+// Whether a child with these registers is done with the session.
+fn is_done(child: WaveRegs, session: u32) -> bool {
+    child.phase != Phase::Reset && child.session == session
+}
+
 fn plain(
     case: u8,
     own: WaveRegs,
@@ -132,12 +146,8 @@ fn plain(
     named: Option<u32>,
 ) -> Result<WaveMove, WaveRefusal> {
     let is_child = named == Some(3) || named == Some(8);
-    let asked = (named == Some(3) && first.phase == Phase::Initiate)
-        || (named == Some(8) && second.phase == Phase::Initiate);
-    let done = first.phase != Phase::Reset
-        && second.phase != Phase::Reset
-        && first.session == own.session
-        && second.session == own.session;
+    let asked = is_asked(named, first, second);
+    let done = is_done(first, own.session) && is_done(second, own.session);
     if case == 0 || case > 11 {
         Err(WaveRefusal::NoSuchCase)
     } else if (case == 2 && !is_child) || (case != 2 && named.is_some()) {
@@ -274,23 +284,28 @@ const SUCCESSORS: [(u32, u64, u32); 9] = [
     (4_294_967_295, 3, 1),
 ];
 
-#[test]
-fn sessions_are_opened_and_joined_modulo(rt: HostRuntime) {
-    for (session, value, next) in SUCCESSORS {
-        let modulus = modulus(&rt, value);
-        let restarts = Ok(restarted(reset(next)));
+// The session after this one is `next`: the root opens it, and others join their fathers in it.
+fn is_followed_by(rt: &impl Abort, session: u32, value: u64, next: u32) {
+    let modulus = modulus(rt, value);
+    let restarts = Ok(restarted(reset(next)));
+    assert_eq!(rt;
+        open(initiate(session), true, modulus),
+        restarts,
+        "{session} modulo {value}"
+    );
+    for own in [normal(session), initiate(session)] {
         assert_eq!(rt;
-            open(initiate(session), true, modulus),
+            join(own, Is(reset(next)), modulus),
             restarts,
             "{session} modulo {value}"
         );
-        for own in [normal(session), initiate(session)] {
-            assert_eq!(rt;
-                join(own, Is(reset(next)), modulus),
-                restarts,
-                "{session} modulo {value}"
-            );
-        }
+    }
+}
+
+#[test]
+fn sessions_are_opened_and_joined_modulo(rt: HostRuntime) {
+    for (session, value, next) in SUCCESSORS {
+        is_followed_by(&rt, session, value, next);
     }
 }
 

@@ -3,6 +3,8 @@
 use action_tables::{
     CaseRow, CaseSet, Part, WriteFault, print_rows, put_bytes, put_list, put_number, put_parts,
 };
+use std::alloc::AllocGlobal;
+use std::process::Abort;
 use std::test::Fail;
 use test_devices::{FailingWriter, Fault};
 
@@ -23,14 +25,19 @@ fn writes_no_bytes_without_a_call(rt: HostRuntime) {
     assert_eq!(rt; out.writes(), 0);
 }
 
+// A writer that fails at the call `stop` has taken these bytes of "hello", and is called no more.
+fn hello_stops_at(rt: &(impl Abort + AllocGlobal), fault: Fault, stop: usize, taken: &[u8]) {
+    let mut out = FailingWriter::new(rt.alloc(), 1, stop, fault);
+    assert_eq!(rt; put_bytes(&mut out, b"hello"), Err(WriteFault));
+    assert_eq!(rt; out.taken(), taken);
+    assert_eq!(rt; out.writes(), stop);
+}
+
 #[test]
 fn tries_nothing_again(rt: HostRuntime) {
     for fault in [Fault::Error, Fault::Zero] {
         for stop in 1..=5 {
-            let mut out = FailingWriter::new(rt.alloc(), 1, stop, fault);
-            assert_eq!(rt; put_bytes(&mut out, b"hello"), Err(WriteFault));
-            assert_eq!(rt; out.taken(), &b"hello"[..stop - 1]);
-            assert_eq!(rt; out.writes(), stop);
+            hello_stops_at(&rt, fault, stop, &b"hello"[..stop - 1]);
         }
     }
 }
@@ -47,23 +54,29 @@ fn writes_numbers(rt: HostRuntime) -> Result<(), Fail> {
     Ok(())
 }
 
+const ROW: CaseRow<'static> = CaseRow {
+    number: 12,
+    name: "rest",
+    guard: "tired",
+    effect: "sleep",
+};
+
+// A writer that fails at the call `stop` has taken these bytes of the table of the row.
+fn row_stops_at(rt: &(impl Abort + AllocGlobal), fault: Fault, stop: usize, taken: &[u8]) {
+    let mut out = FailingWriter::new(rt.alloc(), 1, stop, fault);
+    assert_eq!(rt; print_rows("day", &[ROW], &mut out), Err(WriteFault));
+    assert_eq!(rt; out.taken(), taken);
+}
+
 #[test]
 fn stops_at_the_first_fault(rt: HostRuntime) {
-    let row = CaseRow {
-        number: 12,
-        name: "rest",
-        guard: "tired",
-        effect: "sleep",
-    };
     let text = b"table day\n12 rest | tired | sleep\n";
     let mut out = FailingWriter::new(rt.alloc(), 3, 0, Fault::Error);
-    assert_eq!(rt; print_rows("day", &[row], &mut out), Ok(()));
+    assert_eq!(rt; print_rows("day", &[ROW], &mut out), Ok(()));
     assert_eq!(rt; out.taken(), text.as_slice());
     for fault in [Fault::Error, Fault::Zero] {
         for stop in 1..=text.len() {
-            let mut out = FailingWriter::new(rt.alloc(), 1, stop, fault);
-            assert_eq!(rt; print_rows("day", &[row], &mut out), Err(WriteFault));
-            assert_eq!(rt; out.taken(), &text[..stop - 1]);
+            row_stops_at(&rt, fault, stop, &text[..stop - 1]);
         }
     }
 }
