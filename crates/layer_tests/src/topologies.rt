@@ -301,26 +301,26 @@ fn a_link_is_taken_out_and_put_back(rt: HostRuntime) {
 }
 
 // The first links, up to `most`, of each node to each later one.
-fn first_links(alloc: Global, nodes: u32, most: usize) -> Result<Vec<(u32, u32)>, Fail> {
-    let mut links = Vec::new(alloc);
+fn first_links(rt: &(impl Abort + AllocGlobal), nodes: u32, most: usize) -> Vec<(u32, u32)> {
+    let mut links = Vec::new(rt.alloc());
     for a in 1..nodes {
         for b in a..nodes {
             if links.len() < most {
-                links.push((a, b + 1))?;
+                links.push((a, b + 1)).expect(rt, "memory");
             }
         }
     }
-    Ok(links)
+    links
 }
 
 // A topology of 139 nodes with as many links as there may be, and none of 138 and 139.
-fn full_topology(rt: &(impl Abort + AllocGlobal)) -> Result<Topology, Fail> {
+fn full_topology(rt: &(impl Abort + AllocGlobal)) -> Topology {
     let mut nodes = Vec::new(rt.alloc());
     for node in 1..140u32 {
-        nodes.push(node)?;
+        nodes.push(node).expect(rt, "memory");
     }
-    let links = first_links(rt.alloc(), 139, MAX_LINKS)?;
-    Ok(built(rt, &nodes, &links))
+    let links = first_links(rt, 139, MAX_LINKS);
+    built(rt, &nodes, &links)
 }
 
 fn is_full(topology: &Topology) -> bool {
@@ -328,8 +328,8 @@ fn is_full(topology: &Topology) -> bool {
 }
 
 #[test]
-fn there_is_room_for_8192_links(rt: HostRuntime) -> Result<(), Fail> {
-    let full = full_topology(&rt)?;
+fn there_is_room_for_8192_links(rt: HostRuntime) {
+    let full = full_topology(&rt);
     assert!(rt; is_full(&full));
     assert!(rt; linked(&full, 1, 2) && !linked(&full, 138, 139));
     let faults = [
@@ -337,10 +337,13 @@ fn there_is_room_for_8192_links(rt: HostRuntime) -> Result<(), Fail> {
         (Link(1, 2), TopoFault::LinkIsThere),
     ];
     refuses(&rt, &full, &faults);
-    let one_less = after(&rt, &full, Unlink(1, 2));
+}
+
+#[test]
+fn a_link_that_is_taken_out_leaves_room(rt: HostRuntime) {
+    let one_less = after(&rt, &full_topology(&rt), Unlink(1, 2));
     let other = after(&rt, &one_less, Link(139, 138));
     assert!(rt; is_full(&other));
-    Ok(())
 }
 
 // Whether these are the nodes 1 and 3 of the line, and no link.
@@ -361,14 +364,9 @@ fn is_line_without_2(topology: &Topology) -> bool {
         && topology.greatest_of(0).get() == 1
 }
 
-// The line of the nodes 1, 2 and 3.
-fn line(rt: &(impl Abort + AllocGlobal)) -> Topology {
-    built(rt, &[1, 2, 3], &[(1, 2), (2, 3)])
-}
-
 #[test]
 fn a_node_goes_down_with_its_links(rt: HostRuntime) {
-    let line = line(&rt);
+    let line = built(&rt, &[1, 2, 3], &[(1, 2), (2, 3)]);
     let down = after(&rt, &line, Down(2));
     assert!(rt; is_line_without_2(&down));
     assert!(rt; is_line_without_2(&copied(&rt, &down)));
@@ -377,7 +375,8 @@ fn a_node_goes_down_with_its_links(rt: HostRuntime) {
 
 #[test]
 fn a_node_comes_up_without_links(rt: HostRuntime) {
-    let up = after(&rt, &after(&rt, &line(&rt), Down(2)), Up(2));
+    let line = built(&rt, &[1, 2, 3], &[(1, 2), (2, 3)]);
+    let up = after(&rt, &after(&rt, &line, Down(2)), Up(2));
     assert!(rt; up.nodes() == [1, 2, 3].as_slice());
     assert!(rt; has_leaders(&up, &[1, 2, 3]));
     assert_eq!(rt; up.link_count(), 0);
@@ -387,7 +386,7 @@ fn a_node_comes_up_without_links(rt: HostRuntime) {
 
 #[test]
 fn names_why_a_node_does_not_go_down_or_come_up(rt: HostRuntime) {
-    let line = line(&rt);
+    let line = built(&rt, &[1, 2, 3], &[(1, 2), (2, 3)]);
     let faults = [
         (Down(4), TopoFault::StrangeNode(4)),
         (Up(4), TopoFault::StrangeNode(4)),
