@@ -240,6 +240,10 @@ fn each_component_has_its_leader(rt: HostRuntime) {
     assert_eq!(rt; parted.link_count(), 3);
     assert!(rt; has_leaders(&parted, &[7, 9, 7, 7, 9]));
     assert!(rt; has_leaders(&copied(&rt, &parted), &[7, 9, 7, 7, 9]));
+}
+
+#[test]
+fn each_node_without_links_is_its_leader(rt: HostRuntime) {
     let unlinked = built(&rt, &[4, 2, 8], &[]);
     assert!(rt; has_leaders(&unlinked, &[2, 4, 8]));
 }

@@ -8,13 +8,24 @@ use std::process::Abort;
 use std::test::Fail;
 use test_devices::{FailingWriter, Fault};
 
+// What comes of "hello" on this writer: the answer, the bytes taken, and the number of its calls.
+fn writes_hello(
+    rt: &impl Abort,
+    mut out: FailingWriter,
+    done: Result<(), WriteFault>,
+    taken: &[u8],
+    calls: usize,
+) {
+    assert_eq!(rt; put_bytes(&mut out, b"hello"), done);
+    assert_eq!(rt; out.taken(), taken);
+    assert_eq!(rt; out.writes(), calls);
+}
+
 #[test]
 fn writes_all_bytes_in_pieces(rt: HostRuntime) {
     for (step, calls) in [(1, 5), (2, 3), (9, 1)] {
-        let mut out = FailingWriter::new(rt.alloc(), step, 0, Fault::Error);
-        assert_eq!(rt; put_bytes(&mut out, b"hello"), Ok(()));
-        assert_eq!(rt; out.taken(), b"hello".as_slice());
-        assert_eq!(rt; out.writes(), calls);
+        let out = FailingWriter::new(rt.alloc(), step, 0, Fault::Error);
+        writes_hello(&rt, out, Ok(()), b"hello", calls);
     }
 }
 
@@ -25,19 +36,12 @@ fn writes_no_bytes_without_a_call(rt: HostRuntime) {
     assert_eq!(rt; out.writes(), 0);
 }
 
-// A writer that fails at the call `stop` has taken these bytes of "hello", and is called no more.
-fn hello_stops_at(rt: &(impl Abort + AllocGlobal), fault: Fault, stop: usize, taken: &[u8]) {
-    let mut out = FailingWriter::new(rt.alloc(), 1, stop, fault);
-    assert_eq!(rt; put_bytes(&mut out, b"hello"), Err(WriteFault));
-    assert_eq!(rt; out.taken(), taken);
-    assert_eq!(rt; out.writes(), stop);
-}
-
 #[test]
 fn tries_nothing_again(rt: HostRuntime) {
     for fault in [Fault::Error, Fault::Zero] {
         for stop in 1..=5 {
-            hello_stops_at(&rt, fault, stop, &b"hello"[..stop - 1]);
+            let out = FailingWriter::new(rt.alloc(), 1, stop, fault);
+            writes_hello(&rt, out, Err(WriteFault), &b"hello"[..stop - 1], stop);
         }
     }
 }
