@@ -1,6 +1,6 @@
 // The configurations that books had.
 
-use crate::line::{line, single};
+use crate::line::{book_of_line, config_of, has_entry, has_newest, has_wave, single, takes_all};
 use app_interface::Idle;
 use history::{AtFault, Book, Entry, MAX_ENTRIES, read_book, write_book};
 use reset_machine::{Config, Event};
@@ -9,29 +9,22 @@ use std::process::Abort;
 use test_networks::WHOLE_RESET;
 use wave_layer::{Phase, WaveRegs};
 
-// The configuration of the book at this position.
-fn config_of(rt: &impl Abort, alloc: Global, book: &Book<Idle>, position: usize) -> Config<Idle> {
-    match book.config_at(alloc, position) {
-        Ok(config) => config,
-        Err(_) => panic!(rt; "a configuration"),
-    }
-}
-
-#[test]
-fn config_at(rt: HostRuntime) {
-    let mut book = Book::open_book(rt.alloc(), line(&rt, rt.alloc()), MAX_ENTRIES);
-    for event in WHOLE_RESET {
-        assert!(rt; book.step(rt.alloc(), event).is_ok());
-    }
-    let opening = config_of(&rt, rt.alloc(), &book, 0);
-    assert_eq!(rt; opening.newest_session(3), Some(0));
-    let opened = config_of(&rt, rt.alloc(), &book, 4);
-    assert_eq!(rt; opened.newest_session(3), Some(1));
+// Node 3 has opened session 1.
+fn has_opened(rt: &impl Abort, config: &Config<Idle>) {
+    has_newest(rt, config, 3, Some(1));
     let regs = WaveRegs {
         phase: Phase::Reset,
         session: 1,
     };
-    assert!(rt; opened.wave_at(3) == Some(regs));
+    has_wave(rt, config, 3, Some(regs));
+}
+
+#[test]
+fn config_at(rt: HostRuntime) {
+    let mut book = book_of_line(&rt, rt.alloc(), MAX_ENTRIES);
+    takes_all(&rt, rt.alloc(), &mut book, &WHOLE_RESET);
+    has_newest(&rt, &config_of(&rt, rt.alloc(), &book, 0), 3, Some(0));
+    has_opened(&rt, &config_of(&rt, rt.alloc(), &book, 4));
     let last = config_of(&rt, rt.alloc(), &book, 9);
     assert!(rt; last.trees() == book.config().trees());
     assert!(rt; last.waves() == book.config().waves());
@@ -50,9 +43,7 @@ fn resets_of_one(rt: &impl Abort, alloc: Global) -> Book<Idle> {
         Event::Finish { at: 7 },
     ];
     for _ in 0..342 {
-        for event in reset {
-            assert!(rt; book.step(alloc, event).is_ok());
-        }
+        takes_all(rt, alloc, &mut book, &reset);
     }
     book
 }
@@ -60,15 +51,25 @@ fn resets_of_one(rt: &impl Abort, alloc: Global) -> Book<Idle> {
 #[test]
 fn segment_border(rt: HostRuntime) {
     let book = resets_of_one(&rt, rt.alloc());
-    assert!(rt; book.entry(1024) == Some(&Entry::Step(Event::Request { at: 7 })));
-    assert!(rt; book.entry(1025) == Some(&Entry::Step(Event::Open { at: 7 })));
+    has_entry(&rt, &book, 1024, &Entry::Step(Event::Request { at: 7 }));
+    has_entry(&rt, &book, 1025, &Entry::Step(Event::Open { at: 7 }));
     let regs = WaveRegs {
         phase: Phase::Initiate,
         session: 341,
     };
     let config = config_of(&rt, rt.alloc(), &book, 1024);
-    assert!(rt; config.wave_at(7) == Some(regs));
+    has_wave(&rt, &config, 7, Some(regs));
     assert_eq!(rt; book.reports().len(), 342);
+}
+
+// The entries are those of the book, from its first on.
+fn are_those_of(book: &Book<Idle>, entries: &[Entry]) -> bool {
+    for (index, entry) in entries.iter().enumerate() {
+        if book.entry(index.saturating_add(1)) != Some(entry) {
+            return false;
+        }
+    }
+    true
 }
 
 #[test]
@@ -80,9 +81,7 @@ fn segments_are_written_in_turn(rt: HostRuntime) {
     match read_book(rt.alloc(), &mut rest) {
         Ok(text) => {
             assert_eq!(rt; text.entries.len(), 1026);
-            for (index, entry) in text.entries.iter().enumerate() {
-                assert!(rt; book.entry(index + 1) == Some(entry));
-            }
+            assert!(rt; are_those_of(&book, &text.entries));
         }
         Err(_) => panic!(rt; "a history"),
     }

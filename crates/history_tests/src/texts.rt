@@ -1,12 +1,14 @@
 // The texts of histories.
 
-use crate::line::{line, line_counting};
+use crate::histories::{is_history, report};
+use crate::line::{book_of_line, line, line_counting, takes_all};
+use app_interface::Idle;
 use fault_inject::Fault;
 use history::{
-    Book, BookFault, Entry, MAX_ENTRIES, ReaderFault, Summary, VerifyFault, read_book, verify,
+    Book, BookFault, BookText, Entry, MAX_ENTRIES, ReaderFault, Summary, VerifyFault, read_book,
     verify_reader, write_book,
 };
-use reset_machine::Event;
+use reset_machine::{Config, Event};
 use std::alloc::Global;
 use std::io;
 use std::io::Read;
@@ -52,53 +54,70 @@ impl Read for Joins {
     }
 }
 
-// Why a text is no history.
-fn fault_of(rt: &impl Abort, alloc: Global, text: &[u8]) -> BookFault {
-    let mut rest = text;
-    match read_book(alloc, &mut rest) {
+// What the reader gives is no history, and why.
+fn is_no_history<R: Read>(rt: &impl Abort, alloc: Global, reader: &mut R, why: BookFault) {
+    match read_book(alloc, reader) {
         Ok(_) => panic!(rt; "no history"),
-        Err(fault) => fault,
+        Err(fault) => assert_eq!(rt; fault, why),
     }
 }
 
-#[test]
-fn a_book_is_written_and_read(rt: HostRuntime) -> Result<(), Fail> {
-    let mut book = Book::open_book(rt.alloc(), line(&rt, rt.alloc()), MAX_ENTRIES);
-    for event in WHOLE_RESET {
-        assert!(rt; book.step(rt.alloc(), event).is_ok());
-    }
-    let mut text = Vec::new(rt.alloc());
-    assert!(rt; write_book(&book, &mut text).is_ok());
-    assert!(rt; text.as_slice() == RESET_HISTORY);
-    let mut rest = text.as_slice();
-    match read_book(rt.alloc(), &mut rest) {
-        Ok(text) => {
-            assert_eq!(rt; text.modulus, 4_294_967_296);
-            match verify(rt.alloc(), line(&rt, rt.alloc()), &text.entries) {
-                Ok(summary) => assert_eq!(rt; summary.reports.len(), 1),
-                Err(_) => panic!(rt; "a history of the line"),
-            }
-        }
+// The same of a text.
+fn is_bad(rt: &impl Abort, alloc: Global, text: &[u8], why: BookFault) {
+    let mut rest = text;
+    is_no_history(rt, alloc, &mut rest, why);
+}
+
+// What a history is read as.
+fn read(rt: &impl Abort, alloc: Global, text: &[u8]) -> BookText {
+    let mut rest = text;
+    match read_book(alloc, &mut rest) {
+        Ok(text) => text,
         Err(_) => panic!(rt; "a history"),
     }
-    Ok(())
+}
+
+// The text of the book.
+fn written(rt: &impl Abort, alloc: Global, book: &Book<Idle>) -> Vec<u8> {
+    let mut text = Vec::new(alloc);
+    assert!(rt; write_book(book, &mut text).is_ok());
+    text
+}
+
+#[test]
+fn a_book_is_written_and_read(rt: HostRuntime) {
+    let mut book = book_of_line(&rt, rt.alloc(), MAX_ENTRIES);
+    takes_all(&rt, rt.alloc(), &mut book, &WHOLE_RESET);
+    let text = written(&rt, rt.alloc(), &book);
+    assert!(rt; text.as_slice() == RESET_HISTORY);
+    let read = read(&rt, rt.alloc(), &text);
+    assert_eq!(rt; read.modulus, 4_294_967_296);
+    let opening = line(&rt, rt.alloc());
+    is_history(&rt, rt.alloc(), opening, &read.entries, &[report(1, 4, 9)]);
 }
 
 #[test]
 fn a_book_is_written_with_its_modulus(rt: HostRuntime) {
     let config = line_counting(&rt, rt.alloc(), 8);
     let mut book = Book::open_book(rt.alloc(), config, MAX_ENTRIES);
-    assert!(rt; book.step(rt.alloc(), Event::Request { at: 1 }).is_ok());
-    let mut text = Vec::new(rt.alloc());
-    assert!(rt; write_book(&book, &mut text).is_ok());
+    takes_all(&rt, rt.alloc(), &mut book, &[Event::Request { at: 1 }]);
+    let text = written(&rt, rt.alloc(), &book);
     assert_eq!(rt;
         text.as_slice(),
         b"reset-history 3 8\nrequest 1\n".as_slice()
     );
 }
 
+// The text is a history of this modulus with these entries.
+fn is_read_as(rt: &impl Abort, alloc: Global, text: &[u8], modulus: u64, entries: &[Entry]) {
+    let read = read(rt, alloc, text);
+    assert_eq!(rt; read.modulus, modulus);
+    assert!(rt; read.entries.as_slice() == entries);
+}
+
 #[test]
 fn each_version_is_read(rt: HostRuntime) {
+    let request = [Entry::Step(Event::Request { at: 1 })];
     for (text, modulus) in [
         (b"reset-history 1\nrequest 1\n".as_slice(), 4_294_967_296),
         (b"reset-history 2 2\nrequest 1\n".as_slice(), 2),
@@ -120,15 +139,7 @@ fn each_version_is_read(rt: HostRuntime) {
             4_294_967_296,
         ),
     ] {
-        let mut rest = text;
-        match read_book(rt.alloc(), &mut rest) {
-            Ok(text) => {
-                assert_eq!(rt; text.modulus, modulus);
-                let request = Entry::Step(Event::Request { at: 1 });
-                assert!(rt; text.entries.as_slice() == [request].as_slice());
-            }
-            Err(_) => panic!(rt; "a history modulo {modulus}"),
-        }
+        is_read_as(&rt, rt.alloc(), text, modulus, &request);
     }
 }
 
@@ -162,7 +173,7 @@ fn names_a_bad_first_line(rt: HostRuntime) {
         b"reset-history 2 8",
         b"reset-history 3 8",
     ] {
-        assert_eq!(rt; fault_of(&rt, rt.alloc(), text), BookFault::BadLine(1));
+        is_bad(&rt, rt.alloc(), text, BookFault::BadLine(1));
     }
 }
 
@@ -173,7 +184,7 @@ fn names_another_version(rt: HostRuntime) {
         b"reset-history 4\n",
         b"reset-history 4294967295\n",
     ] {
-        assert_eq!(rt; fault_of(&rt, rt.alloc(), text), BookFault::BadVersion);
+        is_bad(&rt, rt.alloc(), text, BookFault::BadVersion);
     }
 }
 
@@ -185,7 +196,7 @@ fn names_the_first_bad_line(rt: HostRuntime) {
         b"reset-history 01\n",
         b"reset-histor 2\n",
     ] {
-        assert_eq!(rt; fault_of(&rt, rt.alloc(), text), BookFault::BadLine(1));
+        is_bad(&rt, rt.alloc(), text, BookFault::BadLine(1));
     }
     for text in [
         b"reset-history 1\nrequest 01\n".as_slice(),
@@ -195,12 +206,12 @@ fn names_the_first_bad_line(rt: HostRuntime) {
         b"reset-history 1\nshow\n",
         b"reset-history 1\nfault local 1 \x07\n",
     ] {
-        assert_eq!(rt; fault_of(&rt, rt.alloc(), text), BookFault::BadLine(2));
+        is_bad(&rt, rt.alloc(), text, BookFault::BadLine(2));
     }
     let cut = b"reset-history 1\nrequest 1\nrela".as_slice();
-    assert_eq!(rt; fault_of(&rt, rt.alloc(), cut), BookFault::BadLine(3));
+    is_bad(&rt, rt.alloc(), cut, BookFault::BadLine(3));
     let other = b"reset-history 9\n".as_slice();
-    assert_eq!(rt; fault_of(&rt, rt.alloc(), other), BookFault::BadVersion);
+    is_bad(&rt, rt.alloc(), other, BookFault::BadVersion);
 }
 
 #[test]
@@ -216,91 +227,104 @@ fn faults_of_nodes_come_with_version_3(rt: HostRuntime) {
         b"reset-history 3 8\nfault on 3 \n",
         b"reset-history 3 8\nfault on 4294967296\n",
     ] {
-        assert_eq!(rt; fault_of(&rt, rt.alloc(), text), BookFault::BadLine(2));
+        is_bad(&rt, rt.alloc(), text, BookFault::BadLine(2));
     }
     let later = b"reset-history 2 8\nfault down 1 2\nrequest 1\nfault off 3\n".as_slice();
-    assert_eq!(rt; fault_of(&rt, rt.alloc(), later), BookFault::BadLine(4));
-    let mut rest = b"reset-history 3 8\nfault off 3\nfault on 4294967295\n".as_slice();
-    match read_book(rt.alloc(), &mut rest) {
-        Ok(text) => {
-            let off = Entry::Disturbed(Fault::NodeDown { at: 3 });
-            let on = Entry::Disturbed(Fault::NodeUp { at: 4_294_967_295 });
-            assert!(rt; text.entries.as_slice() == [off, on].as_slice());
+    is_bad(&rt, rt.alloc(), later, BookFault::BadLine(4));
+}
+
+#[test]
+fn version_3_has_faults_of_nodes(rt: HostRuntime) {
+    let off = Entry::Disturbed(Fault::NodeDown { at: 3 });
+    let on = Entry::Disturbed(Fault::NodeUp { at: 4_294_967_295 });
+    let text = b"reset-history 3 8\nfault off 3\nfault on 4294967295\n".as_slice();
+    is_read_as(&rt, rt.alloc(), text, 8, &[off, on]);
+}
+
+// The entries are these steps.
+fn are_steps(entries: &[Entry], steps: &[Event]) -> bool {
+    for (entry, event) in entries.iter().zip(steps) {
+        if *entry != Entry::Step(*event) {
+            return false;
         }
-        Err(_) => panic!(rt; "a history of version 3"),
     }
+    entries.len() == steps.len()
 }
 
 #[test]
 fn reads_piece_by_piece(rt: HostRuntime) {
     let mut pieces = FailingReader::new(RESET_HISTORY, 0);
     match read_book(rt.alloc(), &mut pieces) {
-        Ok(text) => {
-            assert_eq!(rt; text.entries.len(), 9);
-            for (entry, event) in text.entries.iter().zip(WHOLE_RESET) {
-                assert!(rt; *entry == Entry::Step(event));
-            }
-        }
+        Ok(text) => assert!(rt; are_steps(&text.entries, &WHOLE_RESET)),
         Err(_) => panic!(rt; "a history"),
     }
-    match read_book(rt.alloc(), &mut Endless) {
-        Ok(_) => panic!(rt; "no history"),
-        Err(fault) => assert_eq!(rt; fault, BookFault::BadLine(1)),
-    }
+    is_no_history(&rt, rt.alloc(), &mut Endless, BookFault::BadLine(1));
 }
 
 #[test]
 fn each_failed_read_is_told(rt: HostRuntime) {
     for stop in 1..=16 {
         let mut failing = FailingReader::new(RESET_HISTORY, stop);
-        match read_book(rt.alloc(), &mut failing) {
-            Ok(_) => panic!(rt; "a failed read"),
-            Err(fault) => assert_eq!(rt; fault, BookFault::ReadFailed),
-        }
+        is_no_history(&rt, rt.alloc(), &mut failing, BookFault::ReadFailed);
         assert_eq!(rt; failing.reads(), stop);
     }
 }
 
-// How many entries and reports the text of a history has on the line, or why it is none there.
+// How many entries and reports the text of a history has from the opening on, or why it is none there.
+fn verdict_from<R: Read>(
+    alloc: Global,
+    opening: Config<Idle>,
+    reader: &mut R,
+) -> Result<(usize, usize), ReaderFault> {
+    let summary = verify_reader(alloc, opening, reader)?;
+    Ok((summary.entries, summary.reports.len()))
+}
+
+// The same of the line.
 fn verdict<R: Read>(
     rt: &impl Abort,
     alloc: Global,
     reader: &mut R,
 ) -> Result<(usize, usize), ReaderFault> {
-    let summary = verify_reader(alloc, line(rt, alloc), reader)?;
-    Ok((summary.entries, summary.reports.len()))
+    verdict_from(alloc, line(rt, alloc), reader)
 }
 
-// The same on the line of which sessions are counted modulo 8.
+// The same of the line of which sessions are counted modulo 8.
 fn verdict_modulo_8<R: Read>(
     rt: &impl Abort,
     alloc: Global,
     reader: &mut R,
 ) -> Result<(usize, usize), ReaderFault> {
-    let summary = verify_reader(alloc, line_counting(rt, alloc, 8), reader)?;
-    Ok((summary.entries, summary.reports.len()))
+    verdict_from(alloc, line_counting(rt, alloc, 8), reader)
 }
 
 #[test]
 fn verifies_what_a_reader_gives(rt: HostRuntime) {
-    let mut whole = RESET_HISTORY;
-    assert_eq!(rt; verdict(&rt, rt.alloc(), &mut whole), Ok((9, 1)));
-    let mut header = b"reset-history 1\n".as_slice();
-    assert_eq!(rt; verdict(&rt, rt.alloc(), &mut header), Ok((0, 0)));
-    let mut two = b"reset-history 1\nrequest 1\nrelay 2 1\n".as_slice();
-    assert_eq!(rt; verdict(&rt, rt.alloc(), &mut two), Ok((2, 0)));
-    let mut cut = b"reset-history 1\nrequest 1\nrela".as_slice();
-    let bad_line = Err(ReaderFault::Text(BookFault::BadLine(3)));
-    assert_eq!(rt; verdict(&rt, rt.alloc(), &mut cut), bad_line);
-    let mut other = b"reset-history 9\n".as_slice();
-    let bad_version = Err(ReaderFault::Text(BookFault::BadVersion));
-    assert_eq!(rt; verdict(&rt, rt.alloc(), &mut other), bad_version);
-    let mut early = b"reset-history 1\nrequest 3\nopen 3\njoin 1\n".as_slice();
-    let refused = Err(ReaderFault::Entries(VerifyFault::NotEnabledAt(3)));
-    assert_eq!(rt; verdict(&rt, rt.alloc(), &mut early), refused);
-    // A bad line comes before an entry that isn't allowed, wherever the two stand.
-    let mut both = b"reset-history 1\njoin 1\nrequest 01\n".as_slice();
-    assert_eq!(rt; verdict(&rt, rt.alloc(), &mut both), bad_line);
+    for (text, told) in [
+        (RESET_HISTORY, (9, 1)),
+        (b"reset-history 1\n".as_slice(), (0, 0)),
+        (b"reset-history 1\nrequest 1\nrelay 2 1\n", (2, 0)),
+    ] {
+        let mut rest = text;
+        assert_eq!(rt; verdict(&rt, rt.alloc(), &mut rest), Ok(told));
+    }
+}
+
+#[test]
+fn tells_why_a_reader_gives_no_history(rt: HostRuntime) {
+    let bad_line = ReaderFault::Text(BookFault::BadLine(3));
+    let bad_version = ReaderFault::Text(BookFault::BadVersion);
+    let refused = ReaderFault::Entries(VerifyFault::NotEnabledAt(3));
+    for (text, told) in [
+        (b"reset-history 1\nrequest 1\nrela".as_slice(), bad_line),
+        (b"reset-history 9\n", bad_version),
+        (b"reset-history 1\nrequest 3\nopen 3\njoin 1\n", refused),
+        // A bad line comes before an entry that isn't allowed, wherever the two stand.
+        (b"reset-history 1\njoin 1\nrequest 01\n", bad_line),
+    ] {
+        let mut rest = text;
+        assert_eq!(rt; verdict(&rt, rt.alloc(), &mut rest), Err(told));
+    }
 }
 
 #[test]
