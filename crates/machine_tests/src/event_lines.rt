@@ -2,11 +2,12 @@
 
 use action_tables::WriteFault;
 use reset_machine::{Event, read_event, split_wave_event, split_word, write_event};
-use std::test::Fail;
+use std::alloc::Global;
+use std::process::Abort;
 use test_devices::{FailingWriter, Fault};
 
 #[test]
-fn reads_and_writes_each_line(rt: HostRuntime) -> Result<(), Fail> {
+fn reads_and_writes_each_line(rt: HostRuntime) {
     let lines = [
         (b"claim 4".as_slice(), Event::Claim { at: 4 }),
         (b"follow 5".as_slice(), Event::Follow { at: 5 }),
@@ -29,52 +30,71 @@ fn reads_and_writes_each_line(rt: HostRuntime) -> Result<(), Fail> {
         ),
     ];
     for (line, event) in lines {
-        assert_eq!(rt; read_event(line), Some(event));
-        let mut out = Vec::new(rt.alloc());
-        assert_eq!(rt; write_event(&event, &mut out), Ok(()));
-        assert_eq!(rt; out.as_slice(), line);
+        is_read(&rt, line, event);
+        is_written(&rt, rt.alloc(), event, line);
     }
-    Ok(())
+}
+
+fn is_read(rt: &impl Abort, line: &[u8], event: Event) {
+    assert_eq!(rt; read_event(line), Some(event));
+}
+
+fn is_written(rt: &impl Abort, alloc: Global, event: Event, line: &[u8]) {
+    let mut out = Vec::new(alloc);
+    assert_eq!(rt; write_event(&event, &mut out), Ok(()));
+    assert_eq!(rt; out.as_slice(), line);
 }
 
 fn action(at: u32, case: u8, with: Option<u32>) -> Event {
     Event::Act { at, case, with }
 }
 
+fn cuts(rt: &impl Abort, text: &[u8], cut: Option<(&[u8], &[u8])>) {
+    assert_eq!(rt; split_word(text), cut);
+}
+
 #[test]
 fn cuts_at_the_first_space(rt: HostRuntime) {
-    let cut = (b"show".as_slice(), b"3".as_slice());
-    assert_eq!(rt; split_word(b"show 3"), Some(cut));
-    let cut = (b"".as_slice(), b" a ".as_slice());
-    assert_eq!(rt; split_word(b"  a "), Some(cut));
-    assert_eq!(rt; split_word(b"show"), None);
-    assert_eq!(rt; split_word(b""), None);
+    cuts(&rt, b"show 3", Some((b"show", b"3")));
+    cuts(&rt, b"  a ", Some((b"", b" a ")));
+    cuts(&rt, b"show", None);
+    cuts(&rt, b"", None);
+}
+
+fn splits(rt: &impl Abort, text: &[u8], split: Option<(Event, &[u8])>) {
+    assert_eq!(rt; split_wave_event(text), split);
 }
 
 #[test]
 fn splits_off_the_command_of_a_wave(rt: HostRuntime) {
     let relay = Event::Relay { at: 2, child: 1 };
-    let split = (relay, b"open 3\n".as_slice());
-    assert_eq!(rt; split_wave_event(b"relay 2 1\nopen 3\n"), Some(split));
-    assert_eq!(rt; split_wave_event(b"relay 2 1"), None);
-    assert_eq!(rt; split_wave_event(b"relay 2\n1\n"), None);
-    assert_eq!(rt; split_wave_event(b"claim 2\n"), None);
+    splits(&rt, b"relay 2 1\nopen 3\n", Some((relay, b"open 3\n")));
+    splits(&rt, b"relay 2 1", None);
+    splits(&rt, b"relay 2\n1\n", None);
+    splits(&rt, b"claim 2\n", None);
+}
+
+// The write after these bytes of the line fails, and it is the last.
+fn stops_after(rt: &impl Abort, alloc: Global, event: Event, before: &[u8], fault: Fault) {
+    let stop = before.len().saturating_add(1);
+    let mut out = FailingWriter::new(alloc, 1, stop, fault);
+    assert_eq!(rt; write_event(&event, &mut out), Err(WriteFault));
+    assert_eq!(rt; out.taken(), before);
+    assert_eq!(rt; out.writes(), stop);
+}
+
+fn stops_anywhere(rt: &impl Abort, alloc: Global, line: &[u8], event: Event) {
+    for fault in [Fault::Error, Fault::Zero] {
+        for before in 0..line.len() {
+            stops_after(rt, alloc, event, &line[..before], fault);
+        }
+    }
 }
 
 #[test]
 fn stops_at_the_first_fault(rt: HostRuntime) {
-    let lines = [
-        (b"relay 70 6".as_slice(), Event::Relay { at: 70, child: 6 }),
-        (b"act 70 6 31".as_slice(), action(70, 6, Some(31))),
-    ];
-    for (line, event) in lines {
-        for fault in [Fault::Error, Fault::Zero] {
-            for stop in 1..=line.len() {
-                let mut out = FailingWriter::new(rt.alloc(), 1, stop, fault);
-                assert_eq!(rt; write_event(&event, &mut out), Err(WriteFault));
-                assert_eq!(rt; out.taken(), &line[..stop - 1]);
-                assert_eq!(rt; out.writes(), stop);
-            }
-        }
-    }
+    let relay = Event::Relay { at: 70, child: 6 };
+    stops_anywhere(&rt, rt.alloc(), b"relay 70 6", relay);
+    let act = action(70, 6, Some(31));
+    stops_anywhere(&rt, rt.alloc(), b"act 70 6 31", act);
 }

@@ -19,4 +19,8 @@ mod pictures;
 #[cfg(test)]
 mod plans;
 #[cfg(test)]
+mod steps;
+#[cfg(test)]
+mod told;
+#[cfg(test)]
 mod topologies;

@@ -1,95 +1,122 @@
+use crate::steps::{applies, copied, ran};
+use crate::told::{NORMAL, are_same, has_newest, have_trees, have_waves, is_seen, seen};
 use app_interface::Idle;
 use reset_machine::{Config, Done, Event, Reply, StepRefusal, View};
 use std::alloc::Global;
 use std::process::Abort;
 use test_networks::WHOLE_RESET;
 use tree_layer::TreeRegs;
-use wave_layer::{Phase, WaveRegs};
 
 // The booted line of the nodes 1, 2 and 3.
 pub fn line(rt: &impl Abort, alloc: Global) -> Config<Idle> {
     test_networks::line(alloc).expect(rt, "the line")
 }
 
-// The wave registers of the nodes 1, 2 and 3.
-pub fn waves(rt: &impl Abort, config: &Config<Idle>) -> [WaveRegs; 3] {
-    [1, 2, 3].map(|id| config.wave_at(id).expect(rt, "a node of the line"))
+// The tree registers of a node of the line.
+fn tree(father: u32, dist: u32) -> TreeRegs {
+    TreeRegs {
+        root: 3,
+        father,
+        dist,
+    }
+}
+
+// The nodes have their places in the tree, and no reset has begun.
+fn is_booted(rt: &impl Abort, config: &Config<Idle>) {
+    have_trees(rt, config, &[(1, 3, 2, 2), (2, 3, 3, 1), (3, 3, 3, 0)]);
+    have_waves(rt, config, &[1, 2, 3], NORMAL);
+}
+
+fn has_limits(rt: &impl Abort, config: &Config<Idle>) {
+    assert_eq!(rt; config.topology().len(), 3);
+    assert_eq!(rt; config.modulus().get(), 4_294_967_296);
+}
+
+fn begins_in_session_0(rt: &impl Abort, config: &Config<Idle>) {
+    for (id, newest) in [(1, Some(0)), (3, Some(0)), (4, None)] {
+        assert_eq!(rt; config.newest_session(id), newest, "node {id}");
+    }
 }
 
 #[test]
 fn boots_the_line(rt: HostRuntime) {
     let config = line(&rt, rt.alloc());
-    let trees = [1, 2, 3].map(|id| config.tree_at(id).expect(&rt, "a node of the line"));
-    let tree = |father, dist| TreeRegs {
-        root: 3,
-        father,
-        dist,
-    };
-    assert_eq!(rt; trees, [tree(2, 2), tree(3, 1), tree(3, 0)]);
-    let normal = WaveRegs {
-        phase: Phase::Normal,
-        session: 0,
-    };
-    assert_eq!(rt; waves(&rt, &config), [normal, normal, normal]);
-    assert_eq!(rt; config.tree_at(4), None);
-    assert_eq!(rt; config.wave_at(4), None);
-    assert_eq!(rt; config.topology().len(), 3);
-    for (id, newest) in [(1, Some(0)), (3, Some(0)), (4, None)] {
-        assert_eq!(rt; config.newest_session(id), newest, "node {id}");
-    }
-    assert_eq!(rt; config.modulus().get(), 4_294_967_296);
+    is_booted(&rt, &config);
+    has_limits(&rt, &config);
+    begins_in_session_0(&rt, &config);
+    drop(config);
 }
 
-#[test]
-fn a_copy_keeps_its_session(rt: HostRuntime) {
-    let mut config = line(&rt, rt.alloc());
-    let copy = match config.copy(rt.alloc()) {
-        Ok(copy) => copy,
-        Err(_) => panic!(rt; "memory for a copy"),
-    };
-    let answers = match config.run(rt.alloc(), &WHOLE_RESET) {
-        Ok(answers) => answers,
-        Err(_) => panic!(rt; "memory for the answers"),
-    };
+// Eight steps are applied, and the last completes session 1.
+fn completes_at_last(rt: &impl Abort, answers: &[Done]) {
     assert_eq!(rt; answers.len(), 9);
     for answer in &answers[..8] {
         assert_eq!(rt; *answer, Done::Did(Reply::Applied));
     }
     assert_eq!(rt; answers[8], Done::Did(Reply::Complete(1)));
-    assert_eq!(rt; config.newest_session(1), Some(1));
-    assert_eq!(rt; copy.newest_session(1), Some(0));
-    assert_eq!(rt; waves(&rt, &copy)[0].phase, Phase::Normal);
+}
+
+#[test]
+fn a_copy_keeps_its_session(rt: HostRuntime) {
+    let mut config = line(&rt, rt.alloc());
+    let copy = copied(&rt, rt.alloc(), &config);
+    completes_at_last(&rt, &ran(&rt, rt.alloc(), &mut config, &WHOLE_RESET));
+    has_newest(&rt, &config, 1, 1);
+    has_newest(&rt, &copy, 1, 0);
+    have_waves(&rt, &copy, &[1], NORMAL);
+    drop(copy);
+    drop(config);
+}
+
+// Nothing is read of a node that there is not, and nothing put there.
+fn is_strange(rt: &impl Abort, config: &mut Config<Idle>, id: u32) {
+    assert_eq!(rt; config.tree_at(id), None);
+    assert_eq!(rt; config.wave_at(id), None);
+    let strange = Err(StepRefusal::StrangeNode);
+    assert_eq!(rt; config.put_tree(id, tree(2, 2)), strange);
+    assert_eq!(rt; config.put_wave(id, NORMAL), strange);
 }
 
 #[test]
 fn strangers_have_no_registers(rt: HostRuntime) {
     let mut config = line(&rt, rt.alloc());
-    let tree = config.tree_at(1).expect(&rt, "a node");
-    let wave = config.wave_at(1).expect(&rt, "a node");
-    assert_eq!(rt; config.put_tree(4, tree), Err(StepRefusal::StrangeNode));
-    assert_eq!(rt; config.put_wave(0, wave), Err(StepRefusal::StrangeNode));
+    is_strange(&rt, &mut config, 4);
+    is_strange(&rt, &mut config, 0);
     assert_eq!(rt;
         config.enabled(rt.alloc(), 4),
         Err(StepRefusal::StrangeNode)
     );
+    drop(config);
+}
+
+// Whether the nodes have local states, and whether these are of the newest session.
+fn have_locals(rt: &impl Abort, config: &Config<Idle>, nodes: &[(u32, bool, bool)]) {
+    for (id, has_local, is_newest) in nodes {
+        assert_eq!(rt; config.local_at(*id).is_some(), *has_local, "node {id}");
+        assert_eq!(rt; config.newest_local(*id).is_some(), *is_newest, "node {id}");
+    }
 }
 
 #[test]
 fn local_states_are_the_newest_where_joined(rt: HostRuntime) {
     let mut config = line(&rt, rt.alloc());
-    for id in [1, 2, 3] {
-        assert!(rt; config.local_at(id).is_some());
-        assert!(rt; config.newest_local(id).is_some());
-    }
-    for event in [Event::Request { at: 3 }, Event::Open { at: 3 }] {
-        assert_eq!(rt; config.step(rt.alloc(), event), Ok(Reply::Applied));
-    }
-    assert!(rt; config.newest_local(1).is_none());
-    assert!(rt; config.newest_local(2).is_none());
-    assert!(rt; config.newest_local(3).is_some());
-    assert!(rt; config.local_at(1).is_some());
-    assert!(rt; config.local_at(4).is_none());
-    assert!(rt; config.newest_local(4).is_none());
+    let nodes = [(1, true, true), (2, true, true), (3, true, true)];
+    have_locals(&rt, &config, &nodes);
+    let opens = [Event::Request { at: 3 }, Event::Open { at: 3 }];
+    applies(&rt, rt.alloc(), &mut config, &opens);
+    let nodes = [
+        (1, true, false),
+        (2, true, false),
+        (3, true, true),
+        (4, false, false),
+    ];
+    have_locals(&rt, &config, &nodes);
+    puts_local(&rt, &mut config);
+    drop(config);
+}
+
+// A local state is put at a node, and not at a stranger.
+fn puts_local(rt: &impl Abort, config: &mut Config<Idle>) {
     assert_eq!(rt; config.put_local(1, ()), Ok(()));
     assert_eq!(rt;
         config.put_local(4, ()),
@@ -97,26 +124,12 @@ fn local_states_are_the_newest_where_joined(rt: HostRuntime) {
     );
 }
 
-// What a node of the line sees.
-pub fn seen(rt: &impl Abort, alloc: Global, config: &Config<Idle>, at: u32) -> View<Idle> {
-    match config.view(alloc, at) {
-        Ok(view) => view,
-        Err(_) => panic!(rt; "memory for a view"),
-    }
-}
-
 // Whether this is what node 2 of the booted line sees.
 fn is_of_the_middle(view: &View<Idle>) -> bool {
-    let tree = |father, dist| TreeRegs {
-        root: 3,
-        father,
-        dist,
-    };
     view.id() == 2
         && view.k() == 3
         && view.tree() == tree(3, 1)
-        && view.wave().phase == Phase::Normal
-        && view.wave().session == 0
+        && view.wave() == NORMAL
         && view.near_len() == 2
         && view
             .near(0)
@@ -132,16 +145,16 @@ fn a_view_is_what_its_node_sees_now(rt: HostRuntime) {
     let mut config = line(&rt, rt.alloc());
     let view = seen(&rt, rt.alloc(), &config, 2);
     assert!(rt; is_of_the_middle(&view));
-    assert!(rt; config.view_is(&view));
-    assert_eq!(rt;
-        config.step(rt.alloc(), Event::Request { at: 1 }),
-        Ok(Reply::Applied)
-    );
-    assert!(rt; !config.view_is(&view));
+    is_seen(&rt, &config, &view, true);
+    applies(&rt, rt.alloc(), &mut config, &[Event::Request { at: 1 }]);
+    is_seen(&rt, &config, &view, false);
     let later = seen(&rt, rt.alloc(), &config, 2);
-    assert!(rt; config.view_is(&later));
-    assert!(rt; view.same(&view));
-    assert!(rt; !view.same(&later));
+    is_seen(&rt, &config, &later, true);
+    are_same(&rt, &view, &view, true);
+    are_same(&rt, &view, &later, false);
+    drop(later);
+    drop(view);
+    drop(config);
 }
 
 #[test]
@@ -151,4 +164,5 @@ fn a_stranger_sees_nothing(rt: HostRuntime) {
         Ok(_) => panic!(rt; "node 4 is none of the line"),
         Err(refusal) => assert_eq!(rt; refusal, StepRefusal::StrangeNode),
     }
+    drop(config);
 }

@@ -1,8 +1,11 @@
 // Sessions modulo a number: whole waves, the session after the last, and sessions that only a fault leaves.
 
-use crate::machine::{line, seen, waves};
+use crate::machine::line;
+use crate::plans::planned;
+use crate::steps::{applies, copied, ran};
+use crate::told::{are_same, has_newest, have_waves, is_seen, seen};
 use app_interface::Idle;
-use reset_machine::{Config, Done, Event, Reply};
+use reset_machine::{Config, Done, Event, Plan, Reply, View};
 use std::alloc::Global;
 use std::process::Abort;
 use test_networks::{WHOLE_RESET, line_modulo};
@@ -31,66 +34,77 @@ fn put_phases(rt: &impl Abort, config: &mut Config<Idle>, phases: [Phase; 3], se
 
 const ASKED: [Phase; 3] = [Phase::Normal, Phase::Normal, Phase::Initiate];
 
+fn has_modulus(rt: &impl Abort, config: &Config<Idle>, value: u64) {
+    assert_eq!(rt; config.modulus().get(), value);
+}
+
+// Does a whole reset, which completes this session.
+fn resets(rt: &impl Abort, alloc: Global, config: &mut Config<Idle>, session: u32) {
+    let answers = ran(rt, alloc, config, &WHOLE_RESET);
+    let last = Done::Did(Reply::Complete(session));
+    assert!(rt; answers.last() == Some(&last), "session {session}");
+}
+
 #[test]
 fn two_waves_modulo_2_end_with_session_0(rt: HostRuntime) {
     let mut config = counting(&rt, rt.alloc(), 2);
     for session in [1, 0] {
-        match config.run(rt.alloc(), &WHOLE_RESET) {
-            Ok(answers) => {
-                let last = Done::Did(Reply::Complete(session));
-                assert!(rt; answers.last() == Some(&last), "session {session}");
-            }
-            Err(_) => panic!(rt; "memory for the answers"),
-        }
-        let normal = regs(Phase::Normal, session);
-        assert_eq!(rt; waves(&rt, &config), [normal, normal, normal]);
+        resets(&rt, rt.alloc(), &mut config, session);
+        have_waves(&rt, &config, &[1, 2, 3], regs(Phase::Normal, session));
     }
-    assert_eq!(rt; config.newest_session(1), Some(0));
+    has_newest(&rt, &config, 1, 0);
+    drop(config);
 }
 
 #[test]
 fn after_4294967295_comes_session_0(rt: HostRuntime) {
     let mut config = line(&rt, rt.alloc());
     put_phases(&rt, &mut config, ASKED, 4_294_967_295);
-    assert_eq!(rt;
-        config.step(rt.alloc(), Event::Open { at: 3 }),
-        Ok(Reply::Applied)
-    );
-    assert_eq!(rt; config.wave_at(3), Some(regs(Phase::Reset, 0)));
+    applies(&rt, rt.alloc(), &mut config, &[Event::Open { at: 3 }]);
+    have_waves(&rt, &config, &[3], regs(Phase::Reset, 0));
+    drop(config);
 }
 
 #[test]
 fn sessions_beyond_the_modulus_are_left_by_a_reset(rt: HostRuntime) {
     let mut config = counting(&rt, rt.alloc(), 8);
     put_phases(&rt, &mut config, ASKED, 9);
-    for event in [
+    let joins = [
         Event::Open { at: 3 },
         Event::Join { at: 2 },
         Event::Join { at: 1 },
-    ] {
-        assert_eq!(rt; config.step(rt.alloc(), event), Ok(Reply::Applied));
-    }
-    let reset = regs(Phase::Reset, 2);
-    assert_eq!(rt; waves(&rt, &config), [reset, reset, reset]);
+    ];
+    applies(&rt, rt.alloc(), &mut config, &joins);
+    have_waves(&rt, &config, &[1, 2, 3], regs(Phase::Reset, 2));
+    drop(config);
 }
 
 #[test]
 fn a_copy_keeps_its_modulus(rt: HostRuntime) {
     let config = counting(&rt, rt.alloc(), 8);
-    match config.copy(rt.alloc()) {
-        Ok(copy) => assert_eq!(rt; copy.modulus().get(), 8),
-        Err(_) => panic!(rt; "memory for a copy"),
-    }
+    has_modulus(&rt, &copied(&rt, rt.alloc(), &config), 8);
+    drop(config);
+}
+
+// Whether the view is one of so many nodes whose sessions are counted modulo this number.
+fn has_limits(rt: &impl Abort, view: &View<Idle>, bound: u32, value: u64, expected: bool) {
+    assert_eq!(rt; view.has_limits(bound, modulus(rt, value)), expected);
+}
+
+fn counts_modulo(rt: &impl Abort, view: &View<Idle>, value: u64) {
+    assert_eq!(rt; view.modulus().get(), value);
 }
 
 #[test]
 fn a_view_has_the_modulus(rt: HostRuntime) {
     let config = counting(&rt, rt.alloc(), 2);
     let view = seen(&rt, rt.alloc(), &config, 1);
-    assert_eq!(rt; view.modulus().get(), 2);
-    assert!(rt; view.has_limits(3, modulus(&rt, 2)));
-    assert!(rt; !view.has_limits(3, modulus(&rt, 8)));
-    assert!(rt; !view.has_limits(2, modulus(&rt, 2)));
+    counts_modulo(&rt, &view, 2);
+    has_limits(&rt, &view, 3, 2, true);
+    has_limits(&rt, &view, 3, 8, false);
+    has_limits(&rt, &view, 2, 2, false);
+    drop(view);
+    drop(config);
 }
 
 #[test]
@@ -98,32 +112,36 @@ fn a_view_modulo_2_is_none_modulo_8(rt: HostRuntime) {
     let two = counting(&rt, rt.alloc(), 2);
     let eight = counting(&rt, rt.alloc(), 8);
     let view = seen(&rt, rt.alloc(), &two, 1);
-    let other = seen(&rt, rt.alloc(), &eight, 1);
-    assert!(rt; !view.same(&other));
-    assert!(rt; two.view_is(&view));
-    assert!(rt; !eight.view_is(&view));
+    are_same(&rt, &view, &seen(&rt, rt.alloc(), &eight, 1), false);
+    is_seen(&rt, &two, &view, true);
+    is_seen(&rt, &eight, &view, false);
+    drop(view);
+    drop(eight);
+    drop(two);
+}
+
+// Whether the plan is put.
+fn puts(rt: &impl Abort, config: &mut Config<Idle>, plan: Plan<Idle>, expected: bool) {
+    assert_eq!(rt; config.put_plan(plan).is_ok(), expected);
 }
 
 #[test]
 fn a_plan_opens_session_0_after_the_last(rt: HostRuntime) {
     let mut config = counting(&rt, rt.alloc(), 8);
     put_phases(&rt, &mut config, ASKED, 7);
-    let view = seen(&rt, rt.alloc(), &config, 3);
-    match view.plan(rt.alloc(), Event::Open { at: 3 }) {
-        Ok(plan) => assert!(rt; config.put_plan(plan).is_ok()),
-        Err(_) => panic!(rt; "a plan"),
-    }
-    assert_eq!(rt; config.wave_at(3), Some(regs(Phase::Reset, 0)));
+    let plan = planned(&rt, rt.alloc(), &config, Event::Open { at: 3 });
+    puts(&rt, &mut config, plan, true);
+    have_waves(&rt, &config, &[3], regs(Phase::Reset, 0));
+    drop(config);
 }
 
 #[test]
 fn a_plan_modulo_2_is_put_back_modulo_8(rt: HostRuntime) {
     let two = counting(&rt, rt.alloc(), 2);
     let mut eight = counting(&rt, rt.alloc(), 8);
-    let view = seen(&rt, rt.alloc(), &two, 1);
-    match view.plan(rt.alloc(), Event::Request { at: 1 }) {
-        Ok(plan) => assert!(rt; eight.put_plan(plan).is_err()),
-        Err(_) => panic!(rt; "a plan"),
-    }
-    assert_eq!(rt; eight.wave_at(1), Some(regs(Phase::Normal, 0)));
+    let plan = planned(&rt, rt.alloc(), &two, Event::Request { at: 1 });
+    puts(&rt, &mut eight, plan, false);
+    have_waves(&rt, &eight, &[1], regs(Phase::Normal, 0));
+    drop(eight);
+    drop(two);
 }

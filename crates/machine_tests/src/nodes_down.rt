@@ -1,13 +1,23 @@
 // Topologies that are put with nodes that go down or come up.
 
 use crate::leader_link::LeaderLink;
-use crate::topologies::{copied, resetting, start_at};
-use reset_machine::{Config, Event, Reply, StepRefusal};
+use crate::steps::{applies, completes, copied};
+use crate::told::NORMAL;
+use crate::topologies::{keeps, resetting, start_at};
+use reset_machine::{Config, Event, StepRefusal};
 use std::alloc::Global;
 use std::process::Abort;
 use topology::Topology;
 use tree_layer::TreeRegs;
-use wave_layer::{Phase, WaveRegs};
+
+// The tree registers of a node that knows of no other.
+fn alone(id: u32) -> TreeRegs {
+    TreeRegs {
+        root: id,
+        father: id,
+        dist: 0,
+    }
+}
 
 // The line of the nodes 1, 2, 3 in the midst of a reset, which node 1 hasn't joined.
 fn line(rt: &impl Abort, alloc: Global) -> Config<LeaderLink> {
@@ -43,36 +53,38 @@ fn are_ready(rt: &impl Abort, alloc: Global, config: &mut Config<LeaderLink>, id
     }
 }
 
-// Whether the node has in both the same registers and the same local state.
-fn keeps(after: &Config<LeaderLink>, before: &Config<LeaderLink>, id: u32) -> bool {
-    after.tree_at(id) == before.tree_at(id)
-        && after.wave_at(id) == before.wave_at(id)
-        && after.local_at(id) == before.local_at(id)
-}
-
-// Nothing is read of the node, and nothing put there.
-fn is_strange(rt: &impl Abort, alloc: Global, config: &mut Config<LeaderLink>, id: u32) {
+// Nothing is read of the node.
+fn reads_nothing(rt: &impl Abort, config: &Config<LeaderLink>, id: u32) {
     assert_eq!(rt; config.tree_at(id), None);
     assert_eq!(rt; config.wave_at(id), None);
     assert_eq!(rt; config.local_at(id), None);
     assert_eq!(rt; config.newest_session(id), None);
     assert_eq!(rt; config.newest_local(id), None);
+}
+
+// Nothing is put at the node.
+fn puts_nothing(rt: &impl Abort, config: &mut Config<LeaderLink>, id: u32) {
     let strange = StepRefusal::StrangeNode;
-    let tree = TreeRegs {
-        root: id,
-        father: id,
-        dist: 0,
-    };
-    let wave = WaveRegs {
-        phase: Phase::Normal,
-        session: 0,
-    };
-    assert_eq!(rt; config.put_tree(id, tree), Err(strange));
-    assert_eq!(rt; config.put_wave(id, wave), Err(strange));
+    assert_eq!(rt; config.put_tree(id, alone(id)), Err(strange));
+    assert_eq!(rt; config.put_wave(id, NORMAL), Err(strange));
     assert_eq!(rt; config.put_local(id, true), Err((strange, true)));
+}
+
+// Nothing is read of the node, nothing put there, and nothing done.
+fn is_strange(rt: &impl Abort, alloc: Global, config: &mut Config<LeaderLink>, id: u32) {
+    reads_nothing(rt, config, id);
+    puts_nothing(rt, config, id);
+    let strange = StepRefusal::StrangeNode;
     assert_eq!(rt; config.step(alloc, Event::Request { at: id }), Err(strange));
     assert_eq!(rt; config.enabled(alloc, id), Err(strange));
     assert!(rt; config.view(alloc, id).is_err());
+}
+
+// The nodes keep their registers and their local states.
+fn all_keep(rt: &impl Abort, after: &Config<LeaderLink>, before: &Config<LeaderLink>, ids: &[u32]) {
+    for id in ids {
+        assert!(rt; keeps(after, before, *id), "node {id}");
+    }
 }
 
 #[test]
@@ -87,60 +99,78 @@ fn a_node_that_is_down_is_strange(rt: HostRuntime) {
         let refused = Err(StepRefusal::StrangeNeighbour);
         assert_eq!(rt; config.step(rt.alloc(), event), refused, "{event:?}");
     }
+    drop(config);
 }
 
 // The father of node 1 is gone, and node 3 waits for nobody any more. The registers of node 2 would make it ready, if
 // it were up: its father isn't a neighbour.
 #[test]
+fn the_others_go_on(rt: HostRuntime) {
+    let mut config = line(&rt, rt.alloc());
+    are_ready(&rt, rt.alloc(), &mut config, &[1]);
+    takes_down(&rt, rt.alloc(), &mut config, 2);
+    are_ready(&rt, rt.alloc(), &mut config, &[1, 3]);
+    applies(&rt, rt.alloc(), &mut config, &[Event::Claim { at: 1 }]);
+    completes(&rt, rt.alloc(), &mut config, &[Event::Finish { at: 3 }], 1);
+    are_ready(&rt, rt.alloc(), &mut config, &[]);
+    drop(config);
+}
+
+#[test]
 fn the_others_keep_what_they_have(rt: HostRuntime) {
     let mut config = line(&rt, rt.alloc());
     let before = copied(&rt, rt.alloc(), &config);
-    are_ready(&rt, rt.alloc(), &mut config, &[1]);
     takes_down(&rt, rt.alloc(), &mut config, 2);
     assert_eq!(rt; config.topology().len(), 3);
     assert_eq!(rt; config.topology().node_count(), 2);
+    all_keep(&rt, &config, &before, &[1, 3]);
     for (id, newest) in [(1, 0), (3, 1)] {
-        assert!(rt; keeps(&config, &before, id), "node {id}");
         assert_eq!(rt; config.newest_session(id), Some(newest), "node {id}");
         assert_eq!(rt; start_at(&rt, rt.alloc(), &config, id), false, "node {id}");
     }
-    are_ready(&rt, rt.alloc(), &mut config, &[1, 3]);
-    assert_eq!(rt;
-        config.step(rt.alloc(), Event::Claim { at: 1 }),
-        Ok(Reply::Applied)
-    );
-    let complete = Ok(Reply::Complete(1));
-    assert_eq!(rt; config.step(rt.alloc(), Event::Finish { at: 3 }), complete);
-    are_ready(&rt, rt.alloc(), &mut config, &[]);
+    drop(before);
+    drop(config);
 }
 
 // Node 2 was in the reset, and its local state was true.
 #[test]
 fn a_node_that_comes_up_starts_anew(rt: HostRuntime) {
     let mut config = line(&rt, rt.alloc());
-    let before = copied(&rt, rt.alloc(), &config);
     assert_eq!(rt; config.local_at(2), Some(&true));
     takes_down(&rt, rt.alloc(), &mut config, 2);
     brings_up(&rt, rt.alloc(), &mut config, 2);
-    let alone = TreeRegs {
-        root: 2,
-        father: 2,
-        dist: 0,
-    };
-    let normal = WaveRegs {
-        phase: Phase::Normal,
-        session: 0,
-    };
-    assert_eq!(rt; config.tree_at(2), Some(alone));
-    assert_eq!(rt; config.wave_at(2), Some(normal));
-    assert_eq!(rt; config.local_at(2), Some(&false));
-    assert_eq!(rt; config.newest_session(2), Some(0));
-    assert_eq!(rt; config.newest_local(2), Some(&false));
+    starts_anew(&rt, &config, 2);
     assert_eq!(rt; config.topology().link_count(), 0);
-    for id in [1, 3] {
-        assert!(rt; keeps(&config, &before, id), "node {id}");
-    }
+    drop(config);
+}
+
+// The node has the registers and the local state of one that has begun, alone in its component.
+fn starts_anew(rt: &impl Abort, config: &Config<LeaderLink>, id: u32) {
+    assert_eq!(rt; config.tree_at(id), Some(alone(id)));
+    assert_eq!(rt; config.wave_at(id), Some(NORMAL));
+    assert_eq!(rt; config.local_at(id), Some(&false));
+    assert_eq!(rt; config.newest_session(id), Some(0));
+    assert_eq!(rt; config.newest_local(id), Some(&false));
+}
+
+#[test]
+fn the_others_keep_what_they_have_as_a_node_comes_up(rt: HostRuntime) {
+    let mut config = line(&rt, rt.alloc());
+    let before = copied(&rt, rt.alloc(), &config);
+    takes_down(&rt, rt.alloc(), &mut config, 2);
+    brings_up(&rt, rt.alloc(), &mut config, 2);
+    all_keep(&rt, &config, &before, &[1, 3]);
     are_ready(&rt, rt.alloc(), &mut config, &[1, 3]);
+    drop(before);
+    drop(config);
+}
+
+fn puts_link(rt: &impl Abort, alloc: Global, config: &mut Config<LeaderLink>, a: u32, b: u32) {
+    let topology = config
+        .topology()
+        .with_link(alloc, a, b)
+        .expect(rt, "no link");
+    put(rt, alloc, config, topology);
 }
 
 // A link to node 3 makes node 2 a node with another start state, and leaves what it has.
@@ -150,18 +180,14 @@ fn a_link_to_a_node_that_came_up_renews_nothing(rt: HostRuntime) {
     takes_down(&rt, rt.alloc(), &mut config, 2);
     brings_up(&rt, rt.alloc(), &mut config, 2);
     let before = copied(&rt, rt.alloc(), &config);
-    let topology = config
-        .topology()
-        .with_link(rt.alloc(), 2, 3)
-        .expect(&rt, "no link");
-    put(&rt, rt.alloc(), &mut config, topology);
-    for id in [1, 2, 3] {
-        assert!(rt; keeps(&config, &before, id), "node {id}");
-    }
+    puts_link(&rt, rt.alloc(), &mut config, 2, 3);
+    all_keep(&rt, &config, &before, &[1, 2, 3]);
     assert_eq!(rt; start_at(&rt, rt.alloc(), &config, 2), true);
     assert_eq!(rt; config.newest_session(2), Some(1));
     assert_eq!(rt; config.newest_local(2), None);
     are_ready(&rt, rt.alloc(), &mut config, &[1, 2, 3]);
+    drop(before);
+    drop(config);
 }
 
 #[test]
@@ -176,10 +202,9 @@ fn all_nodes_go_down_and_one_comes_up(rt: HostRuntime) {
         is_strange(&rt, rt.alloc(), &mut config, id);
     }
     brings_up(&rt, rt.alloc(), &mut config, 3);
-    for event in [Event::Request { at: 3 }, Event::Open { at: 3 }] {
-        assert_eq!(rt; config.step(rt.alloc(), event), Ok(Reply::Applied));
-    }
+    let opens = [Event::Request { at: 3 }, Event::Open { at: 3 }];
+    applies(&rt, rt.alloc(), &mut config, &opens);
     are_ready(&rt, rt.alloc(), &mut config, &[3]);
-    let complete = Ok(Reply::Complete(1));
-    assert_eq!(rt; config.step(rt.alloc(), Event::Finish { at: 3 }), complete);
+    completes(&rt, rt.alloc(), &mut config, &[Event::Finish { at: 3 }], 1);
+    drop(config);
 }

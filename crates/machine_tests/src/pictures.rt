@@ -1,5 +1,7 @@
 // The local predicates and the pictures of the whole network, over every assignment of registers.
 
+use crate::steps::applies;
+use crate::told::have_trees;
 use action_tables::MAX_MODULUS;
 use app_interface::Idle;
 use reset_machine::{Config, Event};
@@ -196,6 +198,30 @@ fn no_mending_row_is_enabled_in_a_wave_alone(rt: HostRuntime) {
     }
 }
 
+fn puts_tree(rt: &impl Abort, config: &mut Config<Idle>, id: u32, regs: TreeRegs) {
+    assert_eq!(rt; config.put_tree(id, regs), Ok(()));
+}
+
+// Of the rows of the tree table these are enabled at the node or not.
+fn has_tree_rows(
+    rt: &impl Abort,
+    alloc: Global,
+    config: &Config<Idle>,
+    id: u32,
+    rows: &[(u8, bool)],
+) {
+    let enabled = config.enabled(alloc, id).expect(rt, "a node").tree;
+    for &(row, is_enabled) in rows {
+        assert_eq!(rt; enabled.has(row), is_enabled, "node {id}, row {row}");
+    }
+}
+
+// So many rows of the tree table are enabled at the node.
+fn counts_tree_rows(rt: &impl Abort, alloc: Global, config: &Config<Idle>, id: u32, count: u32) {
+    let enabled = config.enabled(alloc, id).expect(rt, "a node").tree;
+    assert_eq!(rt; enabled.count(), count);
+}
+
 #[test]
 fn each_repair_leads_on(rt: HostRuntime) {
     // The registers of node 2 are torn; a claim and an adoption mend them.
@@ -205,19 +231,13 @@ fn each_repair_leads_on(rt: HostRuntime) {
         father: 3,
         dist: 4_294_967_295,
     };
-    assert_eq!(rt; config.put_tree(2, torn), Ok(()));
-    let rows = config.enabled(rt.alloc(), 2).expect(&rt, "a node").tree;
-    assert_eq!(rt; [4, 8].map(|row| rows.has(row)), [true, true]);
-    assert_eq!(rt; rows.count(), 2);
-    for event in [Event::Claim { at: 2 }, Event::Adopt { at: 2, from: 3 }] {
-        assert!(rt; config.step(rt.alloc(), event).is_ok());
-    }
-    let mended = TreeRegs {
-        root: 3,
-        father: 3,
-        dist: 1,
-    };
-    assert_eq!(rt; config.tree_at(2), Some(mended));
+    puts_tree(&rt, &mut config, 2, torn);
+    has_tree_rows(&rt, rt.alloc(), &config, 2, &[(4, true), (8, true)]);
+    counts_tree_rows(&rt, rt.alloc(), &config, 2, 2);
+    let repairs = [Event::Claim { at: 2 }, Event::Adopt { at: 2, from: 3 }];
+    applies(&rt, rt.alloc(), &mut config, &repairs);
+    have_trees(&rt, &config, &[(2, 3, 3, 1)]);
+    drop(config);
 }
 
 #[test]
@@ -228,10 +248,16 @@ fn an_impossible_root_is_followed_and_adopted(rt: HostRuntime) {
         father: 3,
         dist: 0,
     };
-    assert_eq!(rt; config.put_tree(2, impossible), Ok(()));
-    for (id, rows) in [(1, [true, true]), (2, [true, false]), (3, [false, true])] {
-        let enabled = config.enabled(rt.alloc(), id).expect(&rt, "a node").tree;
-        assert_eq!(rt; [5, 7].map(|row| enabled.has(row)), rows, "node {id}");
-        assert_eq!(rt; enabled.has(1) || enabled.has(4) || enabled.has(8), false);
+    puts_tree(&rt, &mut config, 2, impossible);
+    for (id, follows, adopts) in [(1, true, true), (2, true, false), (3, false, true)] {
+        let rows = [
+            (5, follows),
+            (7, adopts),
+            (1, false),
+            (4, false),
+            (8, false),
+        ];
+        has_tree_rows(&rt, rt.alloc(), &config, id, &rows);
     }
+    drop(config);
 }

@@ -1,12 +1,20 @@
-use crate::machine::{line, seen};
+use crate::machine::line;
+use crate::steps::applies;
+use crate::told::seen;
 use app_interface::Idle;
 use reset_machine::{Config, Event, Plan, Reply, StepRefusal, View};
 use std::alloc::Global;
 use std::process::Abort;
 use wave_layer::Phase;
 
-fn planned(rt: &impl Abort, alloc: Global, view: &View<Idle>, event: Event) -> Plan<Idle> {
-    match view.plan(alloc, event) {
+// The plan of an event that its node can do.
+pub(crate) fn planned(
+    rt: &impl Abort,
+    alloc: Global,
+    config: &Config<Idle>,
+    event: Event,
+) -> Plan<Idle> {
+    match seen(rt, alloc, config, event.node()).plan(alloc, event) {
         Ok(plan) => plan,
         Err(_) => panic!(rt; "a plan"),
     }
@@ -20,40 +28,62 @@ fn refusal(alloc: Global, view: &View<Idle>, event: Event) -> Option<StepRefusal
     }
 }
 
-fn asks(config: &Config<Idle>, id: u32) -> bool {
-    config
+// Whether the node asks for a reset.
+fn asks(rt: &impl Abort, config: &Config<Idle>, id: u32, expected: bool) {
+    let asks = config
         .wave_at(id)
-        .is_some_and(|regs| regs.phase == Phase::Initiate)
+        .is_some_and(|regs| regs.phase == Phase::Initiate);
+    assert_eq!(rt; asks, expected, "node {id}");
+}
+
+// The plan is that of an event that is applied, and was made on this view.
+fn is_planned(rt: &impl Abort, plan: &Plan<Idle>, event: Event, view: &View<Idle>) {
+    assert_eq!(rt; plan.event(), event);
+    assert_eq!(rt; plan.reply(), Reply::Applied);
+    assert!(rt; plan.seen_view().same(view));
+}
+
+// Puts the plan of an event that is applied.
+fn puts(rt: &impl Abort, config: &mut Config<Idle>, plan: Plan<Idle>) {
+    match config.put_plan(plan) {
+        Ok(reply) => assert_eq!(rt; reply, Reply::Applied),
+        Err(_) => panic!(rt; "its node sees the same"),
+    }
+}
+
+// The plan comes back, as it was made on this view.
+fn returns(rt: &impl Abort, config: &mut Config<Idle>, plan: Plan<Idle>, view: &View<Idle>) {
+    match config.put_plan(plan) {
+        Ok(_) => panic!(rt; "its node sees something else"),
+        Err(plan) => assert!(rt; plan.seen_view().same(view)),
+    }
 }
 
 #[test]
 fn a_plan_is_put_where_its_node_sees_the_same(rt: HostRuntime) {
     let mut config = line(&rt, rt.alloc());
     let view = seen(&rt, rt.alloc(), &config, 1);
-    let plan = planned(&rt, rt.alloc(), &view, Event::Request { at: 1 });
-    assert_eq!(rt; plan.event(), Event::Request { at: 1 });
-    assert_eq!(rt; plan.reply(), Reply::Applied);
-    assert!(rt; plan.seen_view().same(&view));
-    assert!(rt; !asks(&config, 1));
-    match config.put_plan(plan) {
-        Ok(reply) => assert_eq!(rt; reply, Reply::Applied),
-        Err(_) => panic!(rt; "node 1 sees the same"),
-    }
-    assert!(rt; asks(&config, 1));
+    let request = Event::Request { at: 1 };
+    let plan = planned(&rt, rt.alloc(), &config, request);
+    is_planned(&rt, &plan, request, &view);
+    asks(&rt, &config, 1, false);
+    puts(&rt, &mut config, plan);
+    asks(&rt, &config, 1, true);
+    drop(view);
+    drop(config);
 }
 
 #[test]
 fn a_plan_comes_back_where_its_node_sees_something_else(rt: HostRuntime) {
     let mut config = line(&rt, rt.alloc());
     let view = seen(&rt, rt.alloc(), &config, 2);
-    let plan = planned(&rt, rt.alloc(), &view, Event::Request { at: 2 });
-    let request = Event::Request { at: 1 };
-    assert_eq!(rt; config.step(rt.alloc(), request), Ok(Reply::Applied));
-    match config.put_plan(plan) {
-        Ok(_) => panic!(rt; "a neighbour of node 2 has asked"),
-        Err(plan) => assert!(rt; plan.seen_view().same(&view)),
-    }
-    assert!(rt; !asks(&config, 2));
+    let plan = planned(&rt, rt.alloc(), &config, Event::Request { at: 2 });
+    // Node 1 is a neighbour of node 2.
+    applies(&rt, rt.alloc(), &mut config, &[Event::Request { at: 1 }]);
+    returns(&rt, &mut config, plan, &view);
+    asks(&rt, &config, 2, false);
+    drop(view);
+    drop(config);
 }
 
 #[test]
@@ -80,4 +110,6 @@ fn a_view_refuses_what_its_node_cannot_do(rt: HostRuntime) {
     for (event, why) in refused {
         assert_eq!(rt; refusal(rt.alloc(), &view, event), Some(why));
     }
+    drop(view);
+    drop(config);
 }

@@ -1,7 +1,9 @@
 // Topologies that are put under the registers and the local states.
 
 use crate::leader_link::LeaderLink;
-use reset_machine::{Config, Event, Reply};
+use crate::steps::{applies, copied};
+use crate::told::seen;
+use reset_machine::{Config, Event};
 use std::alloc::{AllocFailed, Global};
 use std::process::Abort;
 use test_networks::booted_modulo;
@@ -24,30 +26,19 @@ pub(crate) fn resetting(
     topology.lemma_is_graph();
     assert!(rt; topology.is_up(0));
     let greatest = topology.greatest_of(0).get();
-    for event in [
+    let joins = Event::Join { at: greatest - 1 };
+    let steps = [
         Event::Request { at: greatest },
         Event::Open { at: greatest },
-        Event::Join { at: greatest - 1 },
-    ] {
-        assert_eq!(rt; config.step(alloc, event), Ok(Reply::Applied));
-    }
+        joins,
+    ];
+    applies(rt, alloc, &mut config, &steps);
     let mut local = false;
     for id in nodes {
         assert_eq!(rt; config.put_local(*id, local), Ok(()));
         local = !local;
     }
     config
-}
-
-pub(crate) fn copied(
-    rt: &impl Abort,
-    alloc: Global,
-    config: &Config<LeaderLink>,
-) -> Config<LeaderLink> {
-    match config.copy(alloc) {
-        Ok(copy) => copy,
-        Err(_) => panic!(rt; "memory for a copy"),
-    }
 }
 
 // Puts the topology of the same nodes with these links.
@@ -71,6 +62,13 @@ fn have_same_states(a: &Config<LeaderLink>, b: &Config<LeaderLink>) -> bool {
         && a.locals() == b.locals()
 }
 
+// Whether the node has in both the same registers and the same local state.
+pub(crate) fn keeps(after: &Config<LeaderLink>, before: &Config<LeaderLink>, id: u32) -> bool {
+    after.tree_at(id) == before.tree_at(id)
+        && after.wave_at(id) == before.wave_at(id)
+        && after.local_at(id) == before.local_at(id)
+}
+
 // Whether the topology has these links and no others.
 fn has_links(topology: &Topology, links: &[(u32, u32)]) -> bool {
     topology.link_count() == links.len() && links.iter().all(|&(a, b)| topology.linked(a, b))
@@ -83,10 +81,7 @@ pub(crate) fn start_at(
     config: &Config<LeaderLink>,
     id: u32,
 ) -> bool {
-    match config.view(alloc, id) {
-        Ok(view) => *view.start(),
-        Err(_) => panic!(rt; "what a node sees"),
-    }
+    *seen(rt, alloc, config, id).start()
 }
 
 #[test]
@@ -97,48 +92,64 @@ fn a_topology_is_put_under_the_states(rt: HostRuntime) {
     let mut config = resetting(&rt, rt.alloc(), &nodes, &line);
     let before = copied(&rt, rt.alloc(), &config);
     assert!(rt; has_links(config.topology(), &line));
-    assert_eq!(rt; start_at(&rt, rt.alloc(), &config, 1), false);
     assert!(rt; put_links(&rt, rt.alloc(), &mut config, &nodes, &triangle).is_ok());
     assert!(rt; has_links(config.topology(), &triangle));
     assert!(rt; have_same_states(&config, &before));
     for id in nodes {
-        assert_eq!(rt; config.tree_at(id), before.tree_at(id), "node {id}");
-        assert_eq!(rt; config.wave_at(id), before.wave_at(id), "node {id}");
-        assert_eq!(rt; config.local_at(id), before.local_at(id), "node {id}");
+        assert!(rt; keeps(&config, &before, id), "node {id}");
     }
-    // Node 1 has now a link to node 3, and so it restarts with another state than before.
+    drop(before);
+    drop(config);
+}
+
+// With a link to node 3 node 1 restarts with another state than before.
+#[test]
+fn a_node_restarts_with_the_state_of_the_topology_that_was_put(rt: HostRuntime) {
+    let nodes = [1, 2, 3];
+    let mut config = resetting(&rt, rt.alloc(), &nodes, &[(1, 2), (2, 3)]);
+    assert_eq!(rt; start_at(&rt, rt.alloc(), &config, 1), false);
+    let triangle = [(1, 2), (2, 3), (1, 3)];
+    assert!(rt; put_links(&rt, rt.alloc(), &mut config, &nodes, &triangle).is_ok());
     assert_eq!(rt; start_at(&rt, rt.alloc(), &config, 1), true);
     assert_eq!(rt; config.local_at(1), Some(&false));
-    assert_eq!(rt;
-        config.step(rt.alloc(), Event::Join { at: 1 }),
-        Ok(Reply::Applied)
-    );
+    applies(&rt, rt.alloc(), &mut config, &[Event::Join { at: 1 }]);
     assert_eq!(rt; config.local_at(1), Some(&true));
+    drop(config);
+}
+
+// There is no memory for the start state of the node in the middle of the star.
+fn refuses_star(
+    rt: &impl Abort,
+    alloc: Global,
+    config: &mut Config<LeaderLink>,
+    star: &[(u32, u32)],
+) {
+    match put_links(rt, alloc, config, &[1, 2, 3, 4], star) {
+        Ok(()) => panic!(rt; "there is no memory for a start state"),
+        Err(failed) => assert!(rt; has_links(&failed.value, star)),
+    }
 }
 
 #[test]
 fn without_memory_the_topology_comes_back(rt: HostRuntime) {
-    let nodes = [1, 2, 3, 4];
     let line = [(1, 2), (2, 3), (3, 4)];
-    let mut config = resetting(&rt, rt.alloc(), &nodes, &line);
+    let mut config = resetting(&rt, rt.alloc(), &[1, 2, 3, 4], &line);
     let before = copied(&rt, rt.alloc(), &config);
-    // There is no memory for the start state of the node in the middle of the star.
     for star in [
         [(1, 2), (1, 3), (1, 4)],
         [(2, 1), (2, 3), (2, 4)],
         [(3, 1), (3, 2), (3, 4)],
         [(4, 1), (4, 2), (4, 3)],
     ] {
-        match put_links(&rt, rt.alloc(), &mut config, &nodes, &star) {
-            Ok(()) => panic!(rt; "there is no memory for a start state"),
-            Err(failed) => assert!(rt; has_links(&failed.value, &star)),
-        }
+        refuses_star(&rt, rt.alloc(), &mut config, &star);
         assert!(rt; has_links(config.topology(), &line));
         assert!(rt; have_same_states(&config, &before));
         for (id, start) in [(1, false), (2, false), (3, true), (4, false)] {
             assert_eq!(rt; start_at(&rt, rt.alloc(), &config, id), start);
         }
     }
+    drop(before);
+    drop(config);
 }
 
 // Without its link to node 3 node 2 is the leader of the nodes 1 and 2.
@@ -151,4 +162,6 @@ fn a_topology_that_parts_the_nodes_is_put(rt: HostRuntime) {
     assert!(rt; have_same_states(&config, &before));
     let starts = nodes.map(|id| start_at(&rt, rt.alloc(), &config, id));
     assert_eq!(rt; starts, [true, false, false]);
+    drop(before);
+    drop(config);
 }

@@ -1,0 +1,80 @@
+// What a configuration tells of its nodes, and what they see.
+
+use app_interface::Application;
+use reset_machine::{Config, View};
+use std::alloc::Global;
+use std::process::Abort;
+use tree_layer::TreeRegs;
+use wave_layer::{Phase, WaveRegs};
+
+pub(crate) const NORMAL: WaveRegs = WaveRegs {
+    phase: Phase::Normal,
+    session: 0,
+};
+
+// These nodes have these roots, fathers and distances.
+pub(crate) fn have_trees<P: Application>(
+    rt: &impl Abort,
+    config: &Config<P>,
+    nodes: &[(u32, u32, u32, u32)],
+) {
+    for &(id, root, father, dist) in nodes {
+        let regs = TreeRegs { root, father, dist };
+        assert_eq!(rt; config.tree_at(id), Some(regs), "node {id}");
+    }
+}
+
+// These nodes have these wave registers.
+pub(crate) fn have_waves<P: Application>(
+    rt: &impl Abort,
+    config: &Config<P>,
+    ids: &[u32],
+    regs: WaveRegs,
+) {
+    for id in ids {
+        assert_eq!(rt; config.wave_at(*id), Some(regs), "node {id}");
+    }
+}
+
+// The newest session of the component of this node is this one.
+pub(crate) fn has_newest<P: Application>(
+    rt: &impl Abort,
+    config: &Config<P>,
+    id: u32,
+    session: u32,
+) {
+    assert_eq!(rt; config.newest_session(id), Some(session), "node {id}");
+}
+
+// What a node sees.
+pub(crate) fn seen<P: Application>(
+    rt: &impl Abort,
+    alloc: Global,
+    config: &Config<P>,
+    at: u32,
+) -> View<P> {
+    match config.view(alloc, at) {
+        Ok(view) => view,
+        Err(_) => panic!(rt; "memory for a view"),
+    }
+}
+
+// Whether the view is what its node sees now.
+pub(crate) fn is_seen<P: Application>(
+    rt: &impl Abort,
+    config: &Config<P>,
+    view: &View<P>,
+    expected: bool,
+) {
+    assert_eq!(rt; config.view_is(view), expected);
+}
+
+// Whether the two views are of the same.
+pub(crate) fn are_same<P: Application>(
+    rt: &impl Abort,
+    view: &View<P>,
+    other: &View<P>,
+    expected: bool,
+) {
+    assert_eq!(rt; view.same(other), expected);
+}
