@@ -51,21 +51,15 @@ fn each_component_has_its_newest_session(rt: HostRuntime) {
         (5, Some(1), true),
         (6, None, false),
     ] {
-        is_newest(&rt, &config, id, newest, has_joined);
+        has_newest(&rt, &config, id, newest);
+        joined(&rt, &config, id, has_joined);
     }
     drop(config);
 }
 
-// Whether the newest session of the node's component is this one, and whether the node has joined it.
-fn is_newest(
-    rt: &impl Abort,
-    config: &Config<Idle>,
-    id: u32,
-    newest: Option<u32>,
-    has_joined: bool,
-) {
-    assert_eq!(rt; config.newest_session(id), newest, "node {id}");
-    assert_eq!(rt; config.newest_local(id).is_some(), has_joined, "node {id}");
+// Whether the node has joined the newest session of its component.
+fn joined(rt: &impl Abort, config: &Config<Idle>, id: u32, expected: bool) {
+    assert_eq!(rt; config.newest_local(id).is_some(), expected, "node {id}");
 }
 
 #[test]
@@ -82,7 +76,7 @@ fn a_completion_is_one_of_its_component(rt: HostRuntime) {
     completes(&rt, rt.alloc(), &mut config, &PAIR_RESET[1..], 1);
     completes(&rt, rt.alloc(), &mut config, &PAIR_RESET, 2);
     for (id, session) in [(1, 1), (2, 1), (3, 1), (4, 2), (5, 2)] {
-        has_newest(&rt, &config, id, session);
+        has_newest(&rt, &config, id, Some(session));
     }
     drop(config);
 }

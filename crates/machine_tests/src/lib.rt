@@ -19,6 +19,8 @@ mod pictures;
 #[cfg(test)]
 mod plans;
 #[cfg(test)]
+mod puts;
+#[cfg(test)]
 mod steps;
 #[cfg(test)]
 mod told;

@@ -1,5 +1,9 @@
+use crate::puts::{puts_tree, puts_wave};
 use crate::steps::{applies, copied, ran};
-use crate::told::{NORMAL, are_same, has_newest, have_trees, have_waves, is_seen, seen};
+use crate::told::{
+    NORMAL, are_same, enables_nothing, has_newest, has_tree, has_wave, have_trees, have_waves,
+    is_seen, seen, sees_nothing,
+};
 use app_interface::Idle;
 use reset_machine::{Config, Done, Event, Reply, StepRefusal, View};
 use std::alloc::Global;
@@ -32,18 +36,14 @@ fn has_limits(rt: &impl Abort, config: &Config<Idle>) {
     assert_eq!(rt; config.modulus().get(), 4_294_967_296);
 }
 
-fn begins_in_session_0(rt: &impl Abort, config: &Config<Idle>) {
-    for (id, newest) in [(1, Some(0)), (3, Some(0)), (4, None)] {
-        assert_eq!(rt; config.newest_session(id), newest, "node {id}");
-    }
-}
-
 #[test]
 fn boots_the_line(rt: HostRuntime) {
     let config = line(&rt, rt.alloc());
     is_booted(&rt, &config);
     has_limits(&rt, &config);
-    begins_in_session_0(&rt, &config);
+    for (id, newest) in [(1, Some(0)), (3, Some(0)), (4, None)] {
+        has_newest(&rt, &config, id, newest);
+    }
     drop(config);
 }
 
@@ -61,8 +61,8 @@ fn a_copy_keeps_its_session(rt: HostRuntime) {
     let mut config = line(&rt, rt.alloc());
     let copy = copied(&rt, rt.alloc(), &config);
     completes_at_last(&rt, &ran(&rt, rt.alloc(), &mut config, &WHOLE_RESET));
-    has_newest(&rt, &config, 1, 1);
-    has_newest(&rt, &copy, 1, 0);
+    has_newest(&rt, &config, 1, Some(1));
+    has_newest(&rt, &copy, 1, Some(0));
     have_waves(&rt, &copy, &[1], NORMAL);
     drop(copy);
     drop(config);
@@ -70,11 +70,11 @@ fn a_copy_keeps_its_session(rt: HostRuntime) {
 
 // Nothing is read of a node that there is not, and nothing put there.
 fn is_strange(rt: &impl Abort, config: &mut Config<Idle>, id: u32) {
-    assert_eq!(rt; config.tree_at(id), None);
-    assert_eq!(rt; config.wave_at(id), None);
+    has_tree(rt, config, id, None);
+    has_wave(rt, config, id, None);
     let strange = Err(StepRefusal::StrangeNode);
-    assert_eq!(rt; config.put_tree(id, tree(2, 2)), strange);
-    assert_eq!(rt; config.put_wave(id, NORMAL), strange);
+    puts_tree(rt, config, id, tree(2, 2), strange);
+    puts_wave(rt, config, id, NORMAL, strange);
 }
 
 #[test]
@@ -82,10 +82,7 @@ fn strangers_have_no_registers(rt: HostRuntime) {
     let mut config = line(&rt, rt.alloc());
     is_strange(&rt, &mut config, 4);
     is_strange(&rt, &mut config, 0);
-    assert_eq!(rt;
-        config.enabled(rt.alloc(), 4),
-        Err(StepRefusal::StrangeNode)
-    );
+    enables_nothing(&rt, rt.alloc(), &config, 4);
     drop(config);
 }
 
@@ -160,9 +157,6 @@ fn a_view_is_what_its_node_sees_now(rt: HostRuntime) {
 #[test]
 fn a_stranger_sees_nothing(rt: HostRuntime) {
     let config = line(&rt, rt.alloc());
-    match config.view(rt.alloc(), 4) {
-        Ok(_) => panic!(rt; "node 4 is none of the line"),
-        Err(refusal) => assert_eq!(rt; refusal, StepRefusal::StrangeNode),
-    }
+    sees_nothing(&rt, rt.alloc(), &config, 4);
     drop(config);
 }

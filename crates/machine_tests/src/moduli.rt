@@ -1,11 +1,12 @@
 // Sessions modulo a number: whole waves, the session after the last, and sessions that only a fault leaves.
 
 use crate::machine::line;
-use crate::plans::planned;
+use crate::plans::{planned, puts, returns};
+use crate::puts::puts_wave;
 use crate::steps::{applies, copied, ran};
 use crate::told::{are_same, has_newest, have_waves, is_seen, seen};
 use app_interface::Idle;
-use reset_machine::{Config, Done, Event, Plan, Reply, View};
+use reset_machine::{Config, Done, Event, Reply, View};
 use std::alloc::Global;
 use std::process::Abort;
 use test_networks::{WHOLE_RESET, line_modulo};
@@ -24,15 +25,12 @@ fn regs(phase: Phase, session: u32) -> WaveRegs {
     WaveRegs { phase, session }
 }
 
-// Puts the phases of the nodes 1, 2 and 3, all in this session.
-fn put_phases(rt: &impl Abort, config: &mut Config<Idle>, phases: [Phase; 3], session: u32) {
-    for (at, phase) in [1, 2, 3].into_iter().zip(phases) {
-        let put = config.put_wave(at, regs(phase, session));
-        assert_eq!(rt; put, Ok(()));
+// Node 3 asks for a reset, and all nodes are in this session.
+fn put_asked(rt: &impl Abort, config: &mut Config<Idle>, session: u32) {
+    for (at, phase) in [(1, Phase::Normal), (2, Phase::Normal), (3, Phase::Initiate)] {
+        puts_wave(rt, config, at, regs(phase, session), Ok(()));
     }
 }
-
-const ASKED: [Phase; 3] = [Phase::Normal, Phase::Normal, Phase::Initiate];
 
 fn has_modulus(rt: &impl Abort, config: &Config<Idle>, value: u64) {
     assert_eq!(rt; config.modulus().get(), value);
@@ -52,14 +50,14 @@ fn two_waves_modulo_2_end_with_session_0(rt: HostRuntime) {
         resets(&rt, rt.alloc(), &mut config, session);
         have_waves(&rt, &config, &[1, 2, 3], regs(Phase::Normal, session));
     }
-    has_newest(&rt, &config, 1, 0);
+    has_newest(&rt, &config, 1, Some(0));
     drop(config);
 }
 
 #[test]
 fn after_4294967295_comes_session_0(rt: HostRuntime) {
     let mut config = line(&rt, rt.alloc());
-    put_phases(&rt, &mut config, ASKED, 4_294_967_295);
+    put_asked(&rt, &mut config, 4_294_967_295);
     applies(&rt, rt.alloc(), &mut config, &[Event::Open { at: 3 }]);
     have_waves(&rt, &config, &[3], regs(Phase::Reset, 0));
     drop(config);
@@ -68,7 +66,7 @@ fn after_4294967295_comes_session_0(rt: HostRuntime) {
 #[test]
 fn sessions_beyond_the_modulus_are_left_by_a_reset(rt: HostRuntime) {
     let mut config = counting(&rt, rt.alloc(), 8);
-    put_phases(&rt, &mut config, ASKED, 9);
+    put_asked(&rt, &mut config, 9);
     let joins = [
         Event::Open { at: 3 },
         Event::Join { at: 2 },
@@ -82,7 +80,9 @@ fn sessions_beyond_the_modulus_are_left_by_a_reset(rt: HostRuntime) {
 #[test]
 fn a_copy_keeps_its_modulus(rt: HostRuntime) {
     let config = counting(&rt, rt.alloc(), 8);
-    has_modulus(&rt, &copied(&rt, rt.alloc(), &config), 8);
+    let copy = copied(&rt, rt.alloc(), &config);
+    has_modulus(&rt, &copy, 8);
+    drop(copy);
     drop(config);
 }
 
@@ -120,17 +120,12 @@ fn a_view_modulo_2_is_none_modulo_8(rt: HostRuntime) {
     drop(two);
 }
 
-// Whether the plan is put.
-fn puts(rt: &impl Abort, config: &mut Config<Idle>, plan: Plan<Idle>, expected: bool) {
-    assert_eq!(rt; config.put_plan(plan).is_ok(), expected);
-}
-
 #[test]
 fn a_plan_opens_session_0_after_the_last(rt: HostRuntime) {
     let mut config = counting(&rt, rt.alloc(), 8);
-    put_phases(&rt, &mut config, ASKED, 7);
+    put_asked(&rt, &mut config, 7);
     let plan = planned(&rt, rt.alloc(), &config, Event::Open { at: 3 });
-    puts(&rt, &mut config, plan, true);
+    puts(&rt, &mut config, plan);
     have_waves(&rt, &config, &[3], regs(Phase::Reset, 0));
     drop(config);
 }
@@ -139,9 +134,11 @@ fn a_plan_opens_session_0_after_the_last(rt: HostRuntime) {
 fn a_plan_modulo_2_is_put_back_modulo_8(rt: HostRuntime) {
     let two = counting(&rt, rt.alloc(), 2);
     let mut eight = counting(&rt, rt.alloc(), 8);
+    let view = seen(&rt, rt.alloc(), &two, 1);
     let plan = planned(&rt, rt.alloc(), &two, Event::Request { at: 1 });
-    puts(&rt, &mut eight, plan, false);
+    returns(&rt, &mut eight, plan, &view);
     have_waves(&rt, &eight, &[1], regs(Phase::Normal, 0));
+    drop(view);
     drop(eight);
     drop(two);
 }

@@ -1,9 +1,10 @@
 // Topologies that are put with nodes that go down or come up.
 
 use crate::leader_link::LeaderLink;
-use crate::steps::{applies, completes, copied};
-use crate::told::NORMAL;
-use crate::topologies::{keeps, resetting, start_at};
+use crate::puts::{puts_tree, puts_wave};
+use crate::steps::{applies, completes, copied, refuses};
+use crate::told::{NORMAL, enables_nothing, has_newest, has_tree, has_wave, sees_nothing};
+use crate::topologies::{has_local, keeps, resetting, start_at};
 use reset_machine::{Config, Event, StepRefusal};
 use std::alloc::Global;
 use std::process::Abort;
@@ -53,20 +54,25 @@ fn are_ready(rt: &impl Abort, alloc: Global, config: &mut Config<LeaderLink>, id
     }
 }
 
+// The node has joined the newest session of its component with this local state, if it has joined it.
+fn has_newest_local(rt: &impl Abort, config: &Config<LeaderLink>, id: u32, local: Option<&bool>) {
+    assert_eq!(rt; config.newest_local(id), local);
+}
+
 // Nothing is read of the node.
 fn reads_nothing(rt: &impl Abort, config: &Config<LeaderLink>, id: u32) {
-    assert_eq!(rt; config.tree_at(id), None);
-    assert_eq!(rt; config.wave_at(id), None);
-    assert_eq!(rt; config.local_at(id), None);
-    assert_eq!(rt; config.newest_session(id), None);
-    assert_eq!(rt; config.newest_local(id), None);
+    has_tree(rt, config, id, None);
+    has_wave(rt, config, id, None);
+    has_local(rt, config, id, None);
+    has_newest(rt, config, id, None);
+    has_newest_local(rt, config, id, None);
 }
 
 // Nothing is put at the node.
 fn puts_nothing(rt: &impl Abort, config: &mut Config<LeaderLink>, id: u32) {
     let strange = StepRefusal::StrangeNode;
-    assert_eq!(rt; config.put_tree(id, alone(id)), Err(strange));
-    assert_eq!(rt; config.put_wave(id, NORMAL), Err(strange));
+    puts_tree(rt, config, id, alone(id), Err(strange));
+    puts_wave(rt, config, id, NORMAL, Err(strange));
     assert_eq!(rt; config.put_local(id, true), Err((strange, true)));
 }
 
@@ -74,10 +80,10 @@ fn puts_nothing(rt: &impl Abort, config: &mut Config<LeaderLink>, id: u32) {
 fn is_strange(rt: &impl Abort, alloc: Global, config: &mut Config<LeaderLink>, id: u32) {
     reads_nothing(rt, config, id);
     puts_nothing(rt, config, id);
-    let strange = StepRefusal::StrangeNode;
-    assert_eq!(rt; config.step(alloc, Event::Request { at: id }), Err(strange));
-    assert_eq!(rt; config.enabled(alloc, id), Err(strange));
-    assert!(rt; config.view(alloc, id).is_err());
+    let request = Event::Request { at: id };
+    refuses(rt, alloc, config, request, StepRefusal::StrangeNode);
+    enables_nothing(rt, alloc, config, id);
+    sees_nothing(rt, alloc, config, id);
 }
 
 // The nodes keep their registers and their local states.
@@ -96,8 +102,8 @@ fn a_node_that_is_down_is_strange(rt: HostRuntime) {
         Event::Adopt { at: 1, from: 2 },
         Event::Relay { at: 3, child: 2 },
     ] {
-        let refused = Err(StepRefusal::StrangeNeighbour);
-        assert_eq!(rt; config.step(rt.alloc(), event), refused, "{event:?}");
+        let strange = StepRefusal::StrangeNeighbour;
+        refuses(&rt, rt.alloc(), &mut config, event, strange);
     }
     drop(config);
 }
@@ -125,7 +131,7 @@ fn the_others_keep_what_they_have(rt: HostRuntime) {
     assert_eq!(rt; config.topology().node_count(), 2);
     all_keep(&rt, &config, &before, &[1, 3]);
     for (id, newest) in [(1, 0), (3, 1)] {
-        assert_eq!(rt; config.newest_session(id), Some(newest), "node {id}");
+        has_newest(&rt, &config, id, Some(newest));
         assert_eq!(rt; start_at(&rt, rt.alloc(), &config, id), false, "node {id}");
     }
     drop(before);
@@ -136,7 +142,7 @@ fn the_others_keep_what_they_have(rt: HostRuntime) {
 #[test]
 fn a_node_that_comes_up_starts_anew(rt: HostRuntime) {
     let mut config = line(&rt, rt.alloc());
-    assert_eq!(rt; config.local_at(2), Some(&true));
+    has_local(&rt, &config, 2, Some(&true));
     takes_down(&rt, rt.alloc(), &mut config, 2);
     brings_up(&rt, rt.alloc(), &mut config, 2);
     starts_anew(&rt, &config, 2);
@@ -146,11 +152,11 @@ fn a_node_that_comes_up_starts_anew(rt: HostRuntime) {
 
 // The node has the registers and the local state of one that has begun, alone in its component.
 fn starts_anew(rt: &impl Abort, config: &Config<LeaderLink>, id: u32) {
-    assert_eq!(rt; config.tree_at(id), Some(alone(id)));
-    assert_eq!(rt; config.wave_at(id), Some(NORMAL));
-    assert_eq!(rt; config.local_at(id), Some(&false));
-    assert_eq!(rt; config.newest_session(id), Some(0));
-    assert_eq!(rt; config.newest_local(id), Some(&false));
+    has_tree(rt, config, id, Some(alone(id)));
+    has_wave(rt, config, id, Some(NORMAL));
+    has_local(rt, config, id, Some(&false));
+    has_newest(rt, config, id, Some(0));
+    has_newest_local(rt, config, id, Some(&false));
 }
 
 #[test]
@@ -183,8 +189,8 @@ fn a_link_to_a_node_that_came_up_renews_nothing(rt: HostRuntime) {
     puts_link(&rt, rt.alloc(), &mut config, 2, 3);
     all_keep(&rt, &config, &before, &[1, 2, 3]);
     assert_eq!(rt; start_at(&rt, rt.alloc(), &config, 2), true);
-    assert_eq!(rt; config.newest_session(2), Some(1));
-    assert_eq!(rt; config.newest_local(2), None);
+    has_newest(&rt, &config, 2, Some(1));
+    has_newest_local(&rt, &config, 2, None);
     are_ready(&rt, rt.alloc(), &mut config, &[1, 2, 3]);
     drop(before);
     drop(config);

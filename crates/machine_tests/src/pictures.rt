@@ -1,5 +1,6 @@
 // The local predicates and the pictures of the whole network, over every assignment of registers.
 
+use crate::puts::puts_tree;
 use crate::steps::applies;
 use crate::told::have_trees;
 use action_tables::MAX_MODULUS;
@@ -198,10 +199,6 @@ fn no_mending_row_is_enabled_in_a_wave_alone(rt: HostRuntime) {
     }
 }
 
-fn puts_tree(rt: &impl Abort, config: &mut Config<Idle>, id: u32, regs: TreeRegs) {
-    assert_eq!(rt; config.put_tree(id, regs), Ok(()));
-}
-
 // Of the rows of the tree table these are enabled at the node or not.
 fn has_tree_rows(
     rt: &impl Abort,
@@ -231,7 +228,7 @@ fn each_repair_leads_on(rt: HostRuntime) {
         father: 3,
         dist: 4_294_967_295,
     };
-    puts_tree(&rt, &mut config, 2, torn);
+    puts_tree(&rt, &mut config, 2, torn, Ok(()));
     has_tree_rows(&rt, rt.alloc(), &config, 2, &[(4, true), (8, true)]);
     counts_tree_rows(&rt, rt.alloc(), &config, 2, 2);
     let repairs = [Event::Claim { at: 2 }, Event::Adopt { at: 2, from: 3 }];
@@ -248,7 +245,7 @@ fn an_impossible_root_is_followed_and_adopted(rt: HostRuntime) {
         father: 3,
         dist: 0,
     };
-    puts_tree(&rt, &mut config, 2, impossible);
+    puts_tree(&rt, &mut config, 2, impossible, Ok(()));
     for (id, follows, adopts) in [(1, true, true), (2, true, false), (3, false, true)] {
         let rows = [
             (5, follows),

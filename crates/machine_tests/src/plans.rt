@@ -44,7 +44,7 @@ fn is_planned(rt: &impl Abort, plan: &Plan<Idle>, event: Event, view: &View<Idle
 }
 
 // Puts the plan of an event that is applied.
-fn puts(rt: &impl Abort, config: &mut Config<Idle>, plan: Plan<Idle>) {
+pub(crate) fn puts(rt: &impl Abort, config: &mut Config<Idle>, plan: Plan<Idle>) {
     match config.put_plan(plan) {
         Ok(reply) => assert_eq!(rt; reply, Reply::Applied),
         Err(_) => panic!(rt; "its node sees the same"),
@@ -52,7 +52,12 @@ fn puts(rt: &impl Abort, config: &mut Config<Idle>, plan: Plan<Idle>) {
 }
 
 // The plan comes back, as it was made on this view.
-fn returns(rt: &impl Abort, config: &mut Config<Idle>, plan: Plan<Idle>, view: &View<Idle>) {
+pub(crate) fn returns(
+    rt: &impl Abort,
+    config: &mut Config<Idle>,
+    plan: Plan<Idle>,
+    view: &View<Idle>,
+) {
     match config.put_plan(plan) {
         Ok(_) => panic!(rt; "its node sees something else"),
         Err(plan) => assert!(rt; plan.seen_view().same(view)),

@@ -1,7 +1,7 @@
-// What the tests do with a configuration, which is never refused and never without memory.
+// What the tests do with a configuration. There is memory for it.
 
 use app_interface::Application;
-use reset_machine::{Config, Done, Event, Reply};
+use reset_machine::{Config, Done, Event, Reply, StepRefusal};
 use std::alloc::Global;
 use std::process::Abort;
 
@@ -37,6 +37,17 @@ pub(crate) fn completes<P: Application>(
         };
         assert_eq!(rt; config.step(alloc, *step), Ok(reply), "step {place}");
     }
+}
+
+// Does the step, which is refused.
+pub(crate) fn refuses<P: Application>(
+    rt: &impl Abort,
+    alloc: Global,
+    config: &mut Config<P>,
+    step: Event,
+    refusal: StepRefusal,
+) {
+    assert_eq!(rt; config.step(alloc, step), Err(refusal), "{step:?}");
 }
 
 // What comes of the steps.

@@ -1,7 +1,7 @@
 // What a configuration tells of its nodes, and what they see.
 
 use app_interface::Application;
-use reset_machine::{Config, View};
+use reset_machine::{Config, StepRefusal, View};
 use std::alloc::Global;
 use std::process::Abort;
 use tree_layer::TreeRegs;
@@ -12,6 +12,26 @@ pub(crate) const NORMAL: WaveRegs = WaveRegs {
     session: 0,
 };
 
+// The node has these tree registers, or there is no such node.
+pub(crate) fn has_tree<P: Application>(
+    rt: &impl Abort,
+    config: &Config<P>,
+    id: u32,
+    regs: Option<TreeRegs>,
+) {
+    assert_eq!(rt; config.tree_at(id), regs, "node {id}");
+}
+
+// The node has these wave registers, or there is no such node.
+pub(crate) fn has_wave<P: Application>(
+    rt: &impl Abort,
+    config: &Config<P>,
+    id: u32,
+    regs: Option<WaveRegs>,
+) {
+    assert_eq!(rt; config.wave_at(id), regs, "node {id}");
+}
+
 // These nodes have these roots, fathers and distances.
 pub(crate) fn have_trees<P: Application>(
     rt: &impl Abort,
@@ -19,8 +39,7 @@ pub(crate) fn have_trees<P: Application>(
     nodes: &[(u32, u32, u32, u32)],
 ) {
     for &(id, root, father, dist) in nodes {
-        let regs = TreeRegs { root, father, dist };
-        assert_eq!(rt; config.tree_at(id), Some(regs), "node {id}");
+        has_tree(rt, config, id, Some(TreeRegs { root, father, dist }));
     }
 }
 
@@ -32,18 +51,18 @@ pub(crate) fn have_waves<P: Application>(
     regs: WaveRegs,
 ) {
     for id in ids {
-        assert_eq!(rt; config.wave_at(*id), Some(regs), "node {id}");
+        has_wave(rt, config, *id, Some(regs));
     }
 }
 
-// The newest session of the component of this node is this one.
+// The newest session of the component of this node is this one, if there is such a node.
 pub(crate) fn has_newest<P: Application>(
     rt: &impl Abort,
     config: &Config<P>,
     id: u32,
-    session: u32,
+    newest: Option<u32>,
 ) {
-    assert_eq!(rt; config.newest_session(id), Some(session), "node {id}");
+    assert_eq!(rt; config.newest_session(id), newest, "node {id}");
 }
 
 // What a node sees.
@@ -77,4 +96,27 @@ pub(crate) fn are_same<P: Application>(
     expected: bool,
 ) {
     assert_eq!(rt; view.same(other), expected);
+}
+
+// Nothing can be enabled at a node that there is not.
+pub(crate) fn enables_nothing<P: Application>(
+    rt: &impl Abort,
+    alloc: Global,
+    config: &Config<P>,
+    id: u32,
+) {
+    assert_eq!(rt; config.enabled(alloc, id), Err(StepRefusal::StrangeNode));
+}
+
+// Nothing is seen by a node that there is not.
+pub(crate) fn sees_nothing<P: Application>(
+    rt: &impl Abort,
+    alloc: Global,
+    config: &Config<P>,
+    id: u32,
+) {
+    match config.view(alloc, id) {
+        Ok(_) => panic!(rt; "there is no node {id}"),
+        Err(refusal) => assert_eq!(rt; refusal, StepRefusal::StrangeNode),
+    }
 }

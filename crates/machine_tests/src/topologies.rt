@@ -74,6 +74,32 @@ fn has_links(topology: &Topology, links: &[(u32, u32)]) -> bool {
     topology.link_count() == links.len() && links.iter().all(|&(a, b)| topology.linked(a, b))
 }
 
+// Puts the topology of the same nodes with these links, for which there is memory.
+fn puts_links(
+    rt: &impl Abort,
+    alloc: Global,
+    config: &mut Config<LeaderLink>,
+    nodes: &[u32],
+    links: &[(u32, u32)],
+) {
+    assert!(rt; put_links(rt, alloc, config, nodes, links).is_ok());
+}
+
+// The topology of the configuration has these links and no others.
+fn is_linked(rt: &impl Abort, config: &Config<LeaderLink>, links: &[(u32, u32)]) {
+    assert!(rt; has_links(config.topology(), links));
+}
+
+// The node has this local state, or there is no such node.
+pub(crate) fn has_local(
+    rt: &impl Abort,
+    config: &Config<LeaderLink>,
+    id: u32,
+    local: Option<&bool>,
+) {
+    assert_eq!(rt; config.local_at(id), local);
+}
+
 // The state that a node restarts with.
 pub(crate) fn start_at(
     rt: &impl Abort,
@@ -91,9 +117,9 @@ fn a_topology_is_put_under_the_states(rt: HostRuntime) {
     let triangle = [(1, 2), (2, 3), (1, 3)];
     let mut config = resetting(&rt, rt.alloc(), &nodes, &line);
     let before = copied(&rt, rt.alloc(), &config);
-    assert!(rt; has_links(config.topology(), &line));
-    assert!(rt; put_links(&rt, rt.alloc(), &mut config, &nodes, &triangle).is_ok());
-    assert!(rt; has_links(config.topology(), &triangle));
+    is_linked(&rt, &config, &line);
+    puts_links(&rt, rt.alloc(), &mut config, &nodes, &triangle);
+    is_linked(&rt, &config, &triangle);
     assert!(rt; have_same_states(&config, &before));
     for id in nodes {
         assert!(rt; keeps(&config, &before, id), "node {id}");
@@ -109,11 +135,11 @@ fn a_node_restarts_with_the_state_of_the_topology_that_was_put(rt: HostRuntime) 
     let mut config = resetting(&rt, rt.alloc(), &nodes, &[(1, 2), (2, 3)]);
     assert_eq!(rt; start_at(&rt, rt.alloc(), &config, 1), false);
     let triangle = [(1, 2), (2, 3), (1, 3)];
-    assert!(rt; put_links(&rt, rt.alloc(), &mut config, &nodes, &triangle).is_ok());
+    puts_links(&rt, rt.alloc(), &mut config, &nodes, &triangle);
     assert_eq!(rt; start_at(&rt, rt.alloc(), &config, 1), true);
-    assert_eq!(rt; config.local_at(1), Some(&false));
+    has_local(&rt, &config, 1, Some(&false));
     applies(&rt, rt.alloc(), &mut config, &[Event::Join { at: 1 }]);
-    assert_eq!(rt; config.local_at(1), Some(&true));
+    has_local(&rt, &config, 1, Some(&true));
     drop(config);
 }
 
@@ -142,7 +168,7 @@ fn without_memory_the_topology_comes_back(rt: HostRuntime) {
         [(4, 1), (4, 2), (4, 3)],
     ] {
         refuses_star(&rt, rt.alloc(), &mut config, &star);
-        assert!(rt; has_links(config.topology(), &line));
+        is_linked(&rt, &config, &line);
         assert!(rt; have_same_states(&config, &before));
         for (id, start) in [(1, false), (2, false), (3, true), (4, false)] {
             assert_eq!(rt; start_at(&rt, rt.alloc(), &config, id), start);
@@ -158,10 +184,11 @@ fn a_topology_that_parts_the_nodes_is_put(rt: HostRuntime) {
     let nodes = [1, 2, 3];
     let mut config = resetting(&rt, rt.alloc(), &nodes, &[(1, 2), (2, 3)]);
     let before = copied(&rt, rt.alloc(), &config);
-    assert!(rt; put_links(&rt, rt.alloc(), &mut config, &nodes, &[(1, 2)]).is_ok());
+    puts_links(&rt, rt.alloc(), &mut config, &nodes, &[(1, 2)]);
     assert!(rt; have_same_states(&config, &before));
-    let starts = nodes.map(|id| start_at(&rt, rt.alloc(), &config, id));
-    assert_eq!(rt; starts, [true, false, false]);
+    for (id, start) in [(1, true), (2, false), (3, false)] {
+        assert_eq!(rt; start_at(&rt, rt.alloc(), &config, id), start);
+    }
     drop(before);
     drop(config);
 }
