@@ -1,6 +1,6 @@
 // What a node does by itself, in a network that isn't damaged.
 
-use crate::topologies::{booted, line, star};
+use crate::topologies::{booted, booted_line, star};
 use app_interface::{Application, Idle};
 use app_mutex::EdgeReversal;
 use app_routes::Routes;
@@ -25,6 +25,27 @@ pub(crate) fn next_at<P: Application>(
     }
 }
 
+// The node does this by itself, or nothing.
+pub(crate) fn chooses<P: Application>(
+    rt: &impl Abort,
+    alloc: Global,
+    config: &Config<P>,
+    at: u32,
+    event: Option<Event>,
+) {
+    assert_eq!(rt; next_at(rt, alloc, config, at), event, "node {at}");
+}
+
+// Does the event, which isn't refused.
+pub(crate) fn takes<P: Application>(
+    rt: &impl Abort,
+    alloc: Global,
+    config: &mut Config<P>,
+    event: Event,
+) {
+    assert!(rt; config.step(alloc, event).is_ok(), "{event:?}");
+}
+
 // Puts wave registers at a node.
 pub(crate) fn put_wave<P: Application>(
     rt: &impl Abort,
@@ -39,7 +60,7 @@ pub(crate) fn put_wave<P: Application>(
 
 // What the nodes 1, 2 and 3 of the booted line do by themselves.
 fn first_choices<P: Application>(rt: &impl Abort, alloc: Global) -> [Option<Event>; 3] {
-    let config = booted::<P>(rt, alloc, line(rt, alloc));
+    let config = booted_line::<P>(rt, alloc);
     [1, 2, 3].map(|at| next_at(rt, alloc, &config, at))
 }
 
@@ -66,28 +87,25 @@ fn after_the_boot_only_the_application_acts(rt: HostRuntime) {
 
 #[test]
 fn a_request_is_relayed_by_the_father_alone(rt: HostRuntime) {
-    let mut config = booted::<Idle>(&rt, rt.alloc(), line(&rt, rt.alloc()));
-    assert!(rt; config.step(rt.alloc(), Event::Request { at: 1 }).is_ok());
-    assert_eq!(rt; next_at(&rt, rt.alloc(), &config, 1), None);
+    let mut config = booted_line::<Idle>(&rt, rt.alloc());
+    takes(&rt, rt.alloc(), &mut config, Event::Request { at: 1 });
+    chooses(&rt, rt.alloc(), &config, 1, None);
     let relay = Some(Event::Relay { at: 2, child: 1 });
-    assert_eq!(rt; next_at(&rt, rt.alloc(), &config, 2), relay);
-    assert_eq!(rt; next_at(&rt, rt.alloc(), &config, 3), None);
+    chooses(&rt, rt.alloc(), &config, 2, relay);
+    chooses(&rt, rt.alloc(), &config, 3, None);
 }
 
 #[test]
 fn after_the_request_a_reset_goes_by_itself(rt: HostRuntime) {
-    let mut config = booted::<Idle>(&rt, rt.alloc(), line(&rt, rt.alloc()));
+    let mut config = booted_line::<Idle>(&rt, rt.alloc());
     for event in WHOLE_RESET {
-        let next = next_at(&rt, rt.alloc(), &config, event.node());
-        if event == (Event::Request { at: 1 }) {
-            assert_eq!(rt; next, None);
-        } else {
-            assert_eq!(rt; next, Some(event));
-        }
-        assert!(rt; config.step(rt.alloc(), event).is_ok());
+        let asks = event == (Event::Request { at: 1 });
+        let next = if asks { None } else { Some(event) };
+        chooses(&rt, rt.alloc(), &config, event.node(), next);
+        takes(&rt, rt.alloc(), &mut config, event);
     }
     for at in [1, 2, 3] {
-        assert_eq!(rt; next_at(&rt, rt.alloc(), &config, at), None);
+        chooses(&rt, rt.alloc(), &config, at, None);
     }
 }
 
@@ -96,51 +114,49 @@ fn the_least_child_that_asks_is_relayed_first(rt: HostRuntime) {
     // Node 5 is the leader and node 1 its child, whose children are the nodes 2, 3 and 4.
     let mut config = booted::<Idle>(&rt, rt.alloc(), star(&rt, rt.alloc(), 5));
     for child in [4, 3, 2] {
-        assert!(rt;
-            config
-                .step(rt.alloc(), Event::Request { at: child })
-                .is_ok()
-        );
+        takes(&rt, rt.alloc(), &mut config, Event::Request { at: child });
         let relay = Some(Event::Relay { at: 1, child });
-        assert_eq!(rt; next_at(&rt, rt.alloc(), &config, 1), relay);
+        chooses(&rt, rt.alloc(), &config, 1, relay);
     }
 }
 
 #[test]
 fn a_request_is_relayed_before_the_application_acts(rt: HostRuntime) {
-    let mut config = booted::<Token>(&rt, rt.alloc(), line(&rt, rt.alloc()));
-    assert!(rt; config.step(rt.alloc(), Event::Request { at: 2 }).is_ok());
+    let mut config = booted_line::<Token>(&rt, rt.alloc());
+    takes(&rt, rt.alloc(), &mut config, Event::Request { at: 2 });
     let relay = Some(Event::Relay { at: 3, child: 2 });
-    assert_eq!(rt; next_at(&rt, rt.alloc(), &config, 3), relay);
+    chooses(&rt, rt.alloc(), &config, 3, relay);
 }
 
 #[test]
 fn a_node_joins_before_it_relays(rt: HostRuntime) {
-    let mut config = booted::<Idle>(&rt, rt.alloc(), line(&rt, rt.alloc()));
+    let mut config = booted_line::<Idle>(&rt, rt.alloc());
     put_wave(&rt, &mut config, 1, Phase::Initiate, 0);
     put_wave(&rt, &mut config, 3, Phase::Reset, 1);
     let join = Some(Event::Join { at: 2 });
-    assert_eq!(rt; next_at(&rt, rt.alloc(), &config, 2), join);
+    chooses(&rt, rt.alloc(), &config, 2, join);
+}
+
+// The leader of the line opens a session after this one.
+fn opens_after<P: Application>(rt: &impl Abort, alloc: Global, session: u32) {
+    let mut config = booted_line::<P>(rt, alloc);
+    for (at, phase) in [(1, Phase::Normal), (2, Phase::Normal), (3, Phase::Initiate)] {
+        put_wave(rt, &mut config, at, phase, session);
+    }
+    chooses(rt, alloc, &config, 3, Some(Event::Open { at: 3 }));
 }
 
 #[test]
 fn a_session_is_opened_after_the_last_too(rt: HostRuntime) {
     for session in [4294967294, 4294967295] {
-        let mut idle = booted::<Idle>(&rt, rt.alloc(), line(&rt, rt.alloc()));
-        let mut token = booted::<Token>(&rt, rt.alloc(), line(&rt, rt.alloc()));
-        for (at, phase) in [(1, Phase::Normal), (2, Phase::Normal), (3, Phase::Initiate)] {
-            put_wave(&rt, &mut idle, at, phase, session);
-            put_wave(&rt, &mut token, at, phase, session);
-        }
-        let open = Some(Event::Open { at: 3 });
-        assert_eq!(rt; next_at(&rt, rt.alloc(), &idle, 3), open);
-        assert_eq!(rt; next_at(&rt, rt.alloc(), &token, 3), open);
+        opens_after::<Idle>(&rt, rt.alloc(), session);
+        opens_after::<Token>(&rt, rt.alloc(), session);
     }
 }
 
 // What node 2 of the line does by itself where the three nodes have local states with these texts.
 fn token_choice(rt: &impl Abort, alloc: Global, texts: [&[u8]; 3]) -> Option<Event> {
-    let mut config = booted::<Token>(rt, alloc, line(rt, alloc));
+    let mut config = booted_line::<Token>(rt, alloc);
     for (at, text) in [(1, texts[0]), (2, texts[1]), (3, texts[2])] {
         match Token::read_local(alloc, text) {
             Ok(local) => assert!(rt; config.put_local(at, local).is_ok()),

@@ -3,8 +3,10 @@
 ghost use Rattle.std.specs.Prelude.{◌≡◌, ◌+◌, length};
 
 use app_interface::Idle;
-use history::{Book, Receipt};
-use node_threads::{Outcome, Round, Seat, ShareFault, Shared, close, share};
+use history::{Book, Entry, Receipt};
+use node_threads::{
+    CommitRefusal, Outcome, Round, Seat, SeatRefusal, ShareFault, Shared, close, select, share,
+};
 use reset_machine::{Event, Plan, Reply, View};
 use std::alloc::Global;
 use std::marker::Brand;
@@ -122,7 +124,90 @@ pub(crate) fn applied(position: usize, event: Event) -> Receipt {
     }
 }
 
-// The outcome of the sharing with these seats, which close it.
+// What the seat's node is told when it is selected.
+pub(crate) fn selects<L: Round, R: Wait + Abort>(
+    rt: &R,
+    alloc: Global,
+    shared: &Shared<L, Idle>,
+    seat: &mut Seat<L>,
+    told: Result<Receipt, SeatRefusal>,
+) {
+    assert_eq!(rt; select(rt, alloc, shared, seat), told);
+}
+
+// What the seat is told of a step.
+pub(crate) fn steps<L: Round, R: Wait + Abort>(
+    rt: &R,
+    alloc: Global,
+    shared: &Shared<L, Idle>,
+    seat: &mut Seat<L>,
+    event: Event,
+    told: Result<Receipt, SeatRefusal>,
+) {
+    assert_eq!(rt; shared.step(rt, alloc, seat, event), told);
+}
+
+// Commits the plan at the seat, which is told this.
+pub(crate) fn commits<L: Round, R: Wait + Abort>(
+    rt: &R,
+    alloc: Global,
+    shared: &Shared<L, Idle>,
+    seat: &mut Seat<L>,
+    plan: Plan<Idle>,
+    told: Receipt,
+) {
+    match shared.commit(rt, alloc, seat, plan) {
+        Ok(receipt) => assert_eq!(rt; receipt, told),
+        Err(_) => panic!(rt; "a plan of now"),
+    }
+}
+
+// Why the plan isn't committed, which comes back.
+pub(crate) fn refused<L: Round, R: Wait + Abort>(
+    rt: &R,
+    alloc: Global,
+    shared: &Shared<L, Idle>,
+    seat: &mut Seat<L>,
+    plan: Plan<Idle>,
+) -> (CommitRefusal<Idle>, Plan<Idle>) {
+    match shared.commit(rt, alloc, seat, plan) {
+        Ok(_) => panic!(rt; "a plan that isn't committed"),
+        Err(answer) => answer,
+    }
+}
+
+// The seat has these receipts.
+pub(crate) fn has_receipts<L: Round>(rt: &impl Abort, seat: &Seat<L>, receipts: &[Receipt]) {
+    assert!(rt; seat.receipts() == receipts);
+}
+
+// The book has so many entries.
+pub(crate) fn has_entries(rt: &impl Abort, outcome: &Outcome<Idle>, count: usize) {
+    assert_eq!(rt; outcome.book.len(), count);
+}
+
+// The entry at this position is this step.
+pub(crate) fn has_step(rt: &impl Abort, book: &Book<Idle>, position: usize, event: Event) {
+    assert!(rt;
+        book.entry(position) == Some(&Entry::Step(event)),
+        "entry {position}"
+    );
+}
+
+// The outcome of the sharing with the seats of all nodes, which close it.
+pub(crate) fn outcome_of<L: Round>(
+    rt: &impl Abort,
+    alloc: Global,
+    shared: Shared<L, Idle>,
+    seats: Vec<Seat<L>>,
+) -> Outcome<Idle> {
+    match close(alloc, shared, seats) {
+        Ok(outcome) => outcome,
+        Err(_) => panic!(rt; "the seats of all nodes"),
+    }
+}
+
+// The same of the seats of the nodes 1, 2, 3.
 pub(crate) fn closed<L: Round>(
     rt: &impl Abort,
     alloc: Global,
@@ -134,8 +219,5 @@ pub(crate) fn closed<L: Round>(
     all.push(first).expect(rt, "memory for a seat");
     all.push(second).expect(rt, "memory for a seat");
     all.push(third).expect(rt, "memory for a seat");
-    match close(alloc, shared, all) {
-        Ok(outcome) => outcome,
-        Err(_) => panic!(rt; "the seats of all nodes"),
-    }
+    outcome_of(rt, alloc, shared, all)
 }

@@ -1,5 +1,6 @@
 // Runs with a thread for each node, on several topologies.
 
+use crate::choice::takes;
 use crate::topologies::{booted, grid, line, line_and_pair, opened, ring, star};
 use crate::turns::Still;
 use app_interface::{Application, Here, Idle, Seen};
@@ -247,7 +248,7 @@ fn exclusion_runs<R: Threads + Wait + Sync + Abort>(rt: &R, alloc: Global, shape
         let steps = run::<EdgeReversal, R>(rt, alloc, shape);
         let mut config = booted_shape::<EdgeReversal>(rt, alloc, shape);
         for event in &steps {
-            assert!(rt; config.step(alloc, *event).is_ok());
+            takes(rt, alloc, &mut config, *event);
             assert!(rt; neighbours_exclude(&config));
         }
     }
@@ -301,33 +302,47 @@ fn arrives(
     Token::can(here, 2, Some(from.id), &free, &[from])
 }
 
+// Whether the node with this index has this leader.
+fn is_led_by(topology: &Topology, index: usize, leader: u32) -> bool {
+    index < topology.len() && topology.is_up(index) && topology.greatest_of(index).get() == leader
+}
+
+// How often the token is at the node with this index, held there or on its way to it.
+fn tokens_at(
+    rt: &impl Abort,
+    alloc: Global,
+    topology: &Topology,
+    states: &[TokenLocal],
+    index: usize,
+) -> usize {
+    let ids = topology.ids();
+    assert!(rt; index < ids.len() && states.len() == ids.len());
+    let own = &states[index];
+    let here = Here {
+        id: ids[index],
+        k: 64,
+    };
+    let mut count = usize::from(own.hold);
+    for near in topology.neighbours(index) {
+        let from = Seen {
+            id: ids[*near],
+            local: &states[*near],
+        };
+        if arrives(rt, alloc, here, own, from) {
+            count = count.saturating_add(1);
+        }
+    }
+    count
+}
+
 // How often the token of the component with this leader is there: held by a node, or on its way.
 fn tokens(rt: &impl Abort, alloc: Global, config: &Config<Token>, leader: u32) -> usize {
     let topology = config.topology();
-    let ids = topology.ids();
     let states = states_of(rt, alloc, config);
-    assert_eq!(rt; states.len(), ids.len());
     let mut count = 0usize;
     for index in 0..topology.len() {
-        if !topology.is_up(index) || topology.greatest_of(index).get() != leader {
-            continue;
-        }
-        let own = &states[index];
-        if own.hold {
-            count = count.saturating_add(1);
-        }
-        let here = Here {
-            id: ids[index],
-            k: 64,
-        };
-        for near in topology.neighbours(index) {
-            let from = Seen {
-                id: ids[*near],
-                local: &states[*near],
-            };
-            if arrives(rt, alloc, here, own, from) {
-                count = count.saturating_add(1);
-            }
+        if is_led_by(topology, index, leader) {
+            count = count.saturating_add(tokens_at(rt, alloc, topology, &states, index));
         }
     }
     count
@@ -339,7 +354,7 @@ fn token_runs<R: Threads + Wait + Sync + Abort>(rt: &R, alloc: Global, shape: Sh
         let steps = run::<Token, R>(rt, alloc, shape);
         let mut config = booted_shape::<Token>(rt, alloc, shape);
         for event in &steps {
-            assert!(rt; config.step(alloc, *event).is_ok());
+            takes(rt, alloc, &mut config, *event);
             for leader in leaders_of(shape) {
                 assert_eq!(rt; tokens(rt, alloc, &config, *leader), 1);
             }

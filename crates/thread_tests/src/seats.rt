@@ -1,14 +1,16 @@
 // Seats: what a commit at them answers, and how they close a sharing.
 
-use crate::rounds::{Scene, applied, closed, planned, play, seen, sees_initiate, three};
-use crate::topologies::{line, opened, star};
-use app_interface::Idle;
-use fault_inject::Fault;
-use history::{ApplyRefusal, Book, BookRefusal, Entry};
-use node_threads::{
-    CloseFault, CommitRefusal, Round, Seat, SeatRefusal, ShareFault, Shared, close, select,
+use crate::rounds::{
+    Scene, applied, closed, commits, has_entries, has_receipts, has_step, outcome_of, planned,
+    play, refused, seen, sees_initiate, selects, three,
 };
-use reset_machine::{Event, StepRefusal, View};
+use crate::topologies::{line, opened, star, takes, takes_down};
+use app_interface::Idle;
+use history::{ApplyRefusal, Book, BookRefusal};
+use node_threads::{
+    CloseFault, CommitRefusal, Round, Seat, SeatRefusal, ShareFault, Shared, close,
+};
+use reset_machine::{Event, Plan, StepRefusal, View};
 use std::alloc::Global;
 use std::process::Abort;
 use std::sync::Wait;
@@ -17,6 +19,18 @@ use std::sync::Wait;
 fn play_line<S: Scene, R: Wait + Abort>(rt: &R, alloc: Global) {
     let book = opened::<Idle>(rt, alloc, line(rt, alloc));
     assert!(rt; play::<S, R>(rt, alloc, book).is_ok());
+}
+
+// The seat is of this node, which sees its own registers there.
+fn is_of<L: Round, R: Wait + Abort>(
+    rt: &R,
+    alloc: Global,
+    shared: &Shared<L, Idle>,
+    seat: &Seat<L>,
+    node: u32,
+) {
+    assert_eq!(rt; seat.node(), node);
+    assert_eq!(rt; seen(rt, alloc, shared, seat).id(), node);
 }
 
 struct Beginning;
@@ -30,9 +44,8 @@ impl Scene for Beginning {
     ) {
         assert_eq!(rt; seats.len(), 3);
         for (seat, node) in seats.iter().zip([1, 2, 3]) {
-            assert_eq!(rt; seat.node(), node);
-            assert!(rt; seat.receipts().is_empty());
-            assert_eq!(rt; seen(rt, alloc, &shared, seat).id(), node);
+            has_receipts(rt, seat, &[]);
+            is_of(rt, alloc, &shared, seat, node);
         }
     }
 }
@@ -54,22 +67,26 @@ impl Scene for Committing {
         let (mut first, second, third) = three(rt, seats);
         let request = Event::Request { at: 1 };
         let plan = planned(rt, alloc, &shared, &first, request);
-        match shared.commit(rt, alloc, &mut first, plan) {
-            Ok(receipt) => assert_eq!(rt; receipt, applied(1, request)),
-            Err(_) => panic!(rt; "a plan of now"),
-        }
-        assert!(rt; first.receipts() == [applied(1, request)].as_slice());
+        let told = applied(1, request);
+        commits(rt, alloc, &shared, &mut first, plan, told);
+        has_receipts(rt, &first, &[told]);
         let again = SeatRefusal::Refused(BookRefusal::Refused(StepRefusal::NotEnabled));
-        assert_eq!(rt; select(rt, alloc, &shared, &mut first), Err(again));
+        selects(rt, alloc, &shared, &mut first, Err(again));
         let outcome = closed(rt, alloc, shared, (first, second, third));
-        assert_eq!(rt; outcome.book.len(), 1);
-        assert!(rt; outcome.book.entry(1) == Some(&Entry::Step(request)));
+        has_entries(rt, &outcome, 1);
+        has_step(rt, &outcome.book, 1, request);
     }
 }
 
 #[test]
 fn a_committed_plan_is_the_first_entry(rt: HostRuntime) {
     play_line::<Committing, HostRuntime>(&rt, rt.alloc());
+}
+
+// The plan is of this event, as this node saw it.
+fn is_plan(rt: &impl Abort, plan: &Plan<Idle>, node: u32, event: Event) {
+    assert_eq!(rt; plan.event(), event);
+    assert_eq!(rt; plan.seen_view().id(), node);
 }
 
 struct Mistaking;
@@ -84,17 +101,12 @@ impl Scene for Mistaking {
         let (first, mut second, third) = three(rt, seats);
         let request = Event::Request { at: 1 };
         let plan = planned(rt, alloc, &shared, &first, request);
-        match shared.commit(rt, alloc, &mut second, plan) {
-            Ok(_) => panic!(rt; "a plan of node 1 at the seat of node 2"),
-            Err((refusal, back)) => {
-                assert!(rt; matches!(refusal, CommitRefusal::NotYours));
-                assert_eq!(rt; back.event(), request);
-                assert_eq!(rt; back.seen_view().id(), 1);
-            }
-        }
-        assert!(rt; second.receipts().is_empty());
+        let (refusal, back) = refused(rt, alloc, &shared, &mut second, plan);
+        assert!(rt; matches!(refusal, CommitRefusal::NotYours));
+        is_plan(rt, &back, 1, request);
+        has_receipts(rt, &second, &[]);
         let outcome = closed(rt, alloc, shared, (first, second, third));
-        assert_eq!(rt; outcome.book.len(), 0);
+        has_entries(rt, &outcome, 0);
     }
 }
 
@@ -114,6 +126,13 @@ fn seen_instead(rt: &impl Abort, refusal: CommitRefusal<Idle>) -> View<Idle> {
     }
 }
 
+// Node 2 sees now that node 1 is initiate, and didn't when the plan was made.
+fn is_overtaken(rt: &impl Abort, now: &View<Idle>, plan: &Plan<Idle>) {
+    assert_eq!(rt; now.id(), 2);
+    assert!(rt; sees_initiate(now, 1));
+    assert!(rt; !sees_initiate(plan.seen_view(), 1));
+}
+
 struct Overtaking;
 
 impl Scene for Overtaking {
@@ -127,30 +146,40 @@ impl Scene for Overtaking {
         let (one, two) = (Event::Request { at: 1 }, Event::Request { at: 2 });
         let early = planned(rt, alloc, &shared, &first, one);
         let late = planned(rt, alloc, &shared, &second, two);
-        match shared.commit(rt, alloc, &mut first, early) {
-            Ok(receipt) => assert_eq!(rt; receipt, applied(1, one)),
-            Err(_) => panic!(rt; "a plan of now"),
-        }
-        match shared.commit(rt, alloc, &mut second, late) {
-            Ok(_) => panic!(rt; "a stale plan"),
-            Err((refusal, back)) => {
-                let now = seen_instead(rt, refusal);
-                assert_eq!(rt; now.id(), 2);
-                assert!(rt; sees_initiate(&now, 1));
-                assert!(rt; !sees_initiate(back.seen_view(), 1));
-                assert_eq!(rt; back.event(), two);
-            }
-        }
+        commits(rt, alloc, &shared, &mut first, early, applied(1, one));
+        let (refusal, back) = refused(rt, alloc, &shared, &mut second, late);
+        is_overtaken(rt, &seen_instead(rt, refusal), &back);
+        is_plan(rt, &back, 2, two);
         assert_eq!(rt; second.node(), 2);
-        assert!(rt; second.receipts().is_empty());
+        has_receipts(rt, &second, &[]);
         let outcome = closed(rt, alloc, shared, (first, second, third));
-        assert_eq!(rt; outcome.book.len(), 1);
+        has_entries(rt, &outcome, 1);
     }
 }
 
 #[test]
 fn a_plan_that_a_neighbour_overtook_comes_back_stale(rt: HostRuntime) {
     play_line::<Overtaking, HostRuntime>(&rt, rt.alloc());
+}
+
+// Node 2 is missing where these two seats close the sharing, and all comes back.
+fn lacks_node_2<L: Round>(
+    rt: &impl Abort,
+    alloc: Global,
+    shared: Shared<L, Idle>,
+    first: Seat<L>,
+    third: Seat<L>,
+) -> (Shared<L, Idle>, Vec<Seat<L>>) {
+    let mut some = Vec::new(alloc);
+    some.push(first).expect(rt, "memory for a seat");
+    some.push(third).expect(rt, "memory for a seat");
+    match close(alloc, shared, some) {
+        Ok(_) => panic!(rt; "node 2 has no seat"),
+        Err((fault, shared, back)) => {
+            assert_eq!(rt; fault, CloseFault::SeatMissing(2));
+            (shared, back)
+        }
+    }
 }
 
 struct Missing;
@@ -163,23 +192,12 @@ impl Scene for Missing {
         seats: Vec<Seat<L>>,
     ) {
         let (mut first, second, third) = three(rt, seats);
-        assert!(rt; select(rt, alloc, &shared, &mut first).is_ok());
-        let mut some = Vec::new(alloc);
-        some.push(first).expect(rt, "memory for a seat");
-        some.push(third).expect(rt, "memory for a seat");
-        let (shared, mut back) = match close(alloc, shared, some) {
-            Ok(_) => panic!(rt; "node 2 has no seat"),
-            Err((fault, shared, back)) => {
-                assert_eq!(rt; fault, CloseFault::SeatMissing(2));
-                (shared, back)
-            }
-        };
+        let request = Event::Request { at: 1 };
+        selects(rt, alloc, &shared, &mut first, Ok(applied(1, request)));
+        let (shared, mut back) = lacks_node_2(rt, alloc, shared, first, third);
         assert_eq!(rt; back.len(), 2);
         back.push(second).expect(rt, "memory for a seat");
-        match close(alloc, shared, back) {
-            Ok(outcome) => assert_eq!(rt; outcome.book.len(), 1),
-            Err(_) => panic!(rt; "the seats of all nodes"),
-        }
+        has_entries(rt, &outcome_of(rt, alloc, shared, back), 1);
     }
 }
 
@@ -198,17 +216,14 @@ impl Scene for Many {
         seats: Vec<Seat<L>>,
     ) {
         assert_eq!(rt; seats.len(), 64);
-        match close(alloc, shared, seats) {
-            Ok(outcome) => assert_eq!(rt; outcome.book.len(), 1),
-            Err(_) => panic!(rt; "the seats of all nodes"),
-        }
+        has_entries(rt, &outcome_of(rt, alloc, shared, seats), 1);
     }
 }
 
 // A book of the star with this many nodes, whose entry is a request at node 2.
 fn star_book(rt: &impl Abort, alloc: Global, count: u32) -> Book<Idle> {
     let mut book = opened::<Idle>(rt, alloc, star(rt, alloc, count));
-    assert!(rt; book.step(alloc, Event::Request { at: 2 }).is_ok());
+    takes(rt, alloc, &mut book, Event::Request { at: 2 });
     book
 }
 
@@ -218,26 +233,31 @@ fn sixty_four_nodes_are_shared(rt: HostRuntime) {
     assert!(rt; play::<Many, HostRuntime>(&rt, rt.alloc(), book).is_ok());
 }
 
-#[test]
-fn sixty_five_nodes_are_too_many_and_the_book_comes_back(rt: HostRuntime) {
-    let book = star_book(&rt, rt.alloc(), 65);
-    match play::<Many, HostRuntime>(&rt, rt.alloc(), book) {
+// The book, which has too many nodes to be shared, as it comes back.
+fn too_many<S: Scene, R: Wait + Abort>(rt: &R, alloc: Global, book: Book<Idle>) -> Book<Idle> {
+    match play::<S, R>(rt, alloc, book) {
         Ok(()) => panic!(rt; "too many nodes"),
         Err((fault, book)) => {
             assert_eq!(rt; fault, ShareFault::TooManyForThreads);
-            assert_eq!(rt; book.config().topology().len(), 65);
-            let request = Entry::Step(Event::Request { at: 2 });
-            assert_eq!(rt; book.len(), 1);
-            assert!(rt; book.entry(1) == Some(&request));
+            book
         }
     }
+}
+
+#[test]
+fn sixty_five_nodes_are_too_many_and_the_book_comes_back(rt: HostRuntime) {
+    let book = star_book(&rt, rt.alloc(), 65);
+    let book = too_many::<Many, HostRuntime>(&rt, rt.alloc(), book);
+    assert_eq!(rt; book.config().topology().len(), 65);
+    assert_eq!(rt; book.len(), 1);
+    has_step(&rt, &book, 1, Event::Request { at: 2 });
 }
 
 // A book of the star with this many nodes, of which those from 2 on go down in turn until so many are up.
 fn thinned_book(rt: &impl Abort, alloc: Global, count: u32, up: u32) -> Book<Idle> {
     let mut book = opened::<Idle>(rt, alloc, star(rt, alloc, count));
     for at in 2..count.saturating_sub(up).saturating_add(2) {
-        assert!(rt; book.disturb(alloc, Fault::NodeDown { at }).is_ok());
+        takes_down(rt, alloc, &mut book, at);
     }
     book
 }
@@ -255,17 +275,14 @@ impl Scene for OfThoseUp {
         for (seat, node) in seats.iter().zip([1, 2]) {
             assert_eq!(rt; seat.node(), node);
         }
-        match close(alloc, shared, seats) {
-            Ok(outcome) => assert_eq!(rt; outcome.book.len(), 1),
-            Err(_) => panic!(rt; "the seats of all nodes that are up"),
-        }
+        has_entries(rt, &outcome_of(rt, alloc, shared, seats), 1);
     }
 }
 
 #[test]
 fn nodes_that_are_up_have_seats(rt: HostRuntime) {
     let mut book = opened::<Idle>(&rt, rt.alloc(), line(&rt, rt.alloc()));
-    assert!(rt; book.disturb(rt.alloc(), Fault::NodeDown { at: 3 }).is_ok());
+    takes_down(&rt, rt.alloc(), &mut book, 3);
     assert!(rt; play::<OfThoseUp, HostRuntime>(&rt, rt.alloc(), book).is_ok());
 }
 
@@ -279,13 +296,9 @@ impl Scene for Empty {
         seats: Vec<Seat<L>>,
     ) {
         assert!(rt; seats.is_empty());
-        match close(alloc, shared, seats) {
-            Ok(outcome) => {
-                assert_eq!(rt; outcome.book.len(), 3);
-                assert!(rt; outcome.seats.is_empty());
-            }
-            Err(_) => panic!(rt; "no node is up"),
-        }
+        let outcome = outcome_of(rt, alloc, shared, seats);
+        has_entries(rt, &outcome, 3);
+        assert!(rt; outcome.seats.is_empty());
     }
 }
 
@@ -293,7 +306,7 @@ impl Scene for Empty {
 fn no_node_is_up_and_none_has_a_seat(rt: HostRuntime) {
     let mut book = opened::<Idle>(&rt, rt.alloc(), line(&rt, rt.alloc()));
     for at in [1, 2, 3] {
-        assert!(rt; book.disturb(rt.alloc(), Fault::NodeDown { at }).is_ok());
+        takes_down(&rt, rt.alloc(), &mut book, at);
     }
     assert!(rt; play::<Empty, HostRuntime>(&rt, rt.alloc(), book).is_ok());
 }
@@ -313,7 +326,7 @@ impl Scene for ManyUp {
                 .iter()
                 .all(|seat| seat.node() == 1 || seat.node() > 961)
         );
-        assert!(rt; close(alloc, shared, seats).is_ok());
+        let _ = outcome_of(rt, alloc, shared, seats);
     }
 }
 
@@ -326,11 +339,6 @@ fn sixty_four_nodes_of_1024_are_shared(rt: HostRuntime) {
 #[test]
 fn sixty_five_nodes_of_70_are_too_many(rt: HostRuntime) {
     let book = thinned_book(&rt, rt.alloc(), 70, 65);
-    match play::<ManyUp, HostRuntime>(&rt, rt.alloc(), book) {
-        Ok(()) => panic!(rt; "too many nodes"),
-        Err((fault, book)) => {
-            assert_eq!(rt; fault, ShareFault::TooManyForThreads);
-            assert_eq!(rt; book.config().topology().node_count(), 65);
-        }
-    }
+    let book = too_many::<ManyUp, HostRuntime>(&rt, rt.alloc(), book);
+    assert_eq!(rt; book.config().topology().node_count(), 65);
 }

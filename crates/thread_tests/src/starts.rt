@@ -1,11 +1,11 @@
 // How a run begins, and what it refuses.
 
-use crate::topologies::{line, opened, small, star};
+use crate::rounds::has_step;
+use crate::topologies::{line, opened, small, star, takes, takes_down};
 use crate::turns::Still;
 use app_interface::Idle;
-use fault_inject::Fault;
-use history::{Book, Entry};
-use node_threads::{Outcome, RunCause, run_nodes};
+use history::Book;
+use node_threads::{Outcome, RunCause, SeatList, run_nodes};
 use reset_machine::Event;
 use std::alloc::Global;
 use std::process::Abort;
@@ -38,17 +38,12 @@ fn refusal<R: Threads + Wait + Sync + Abort>(
     }
 }
 
-// Whether the book has this step at this position.
-fn has_step(book: &Book<Idle>, position: usize, event: Event) -> bool {
-    book.entry(position) == Some(&Entry::Step(event))
-}
-
 #[test]
 fn the_first_entry_is_the_request_of_the_selected_node(rt: HostRuntime) {
     for _ in 0..20 {
         let book = opened::<Idle>(&rt, rt.alloc(), line(&rt, rt.alloc()));
         let outcome = run(&rt, rt.alloc(), book, Some(1));
-        assert!(rt; has_step(&outcome.book, 1, Event::Request { at: 1 }));
+        has_step(&rt, &outcome.book, 1, Event::Request { at: 1 });
     }
 }
 
@@ -67,7 +62,7 @@ fn without_a_selected_node_nothing_happens(rt: HostRuntime) {
 fn line_without(rt: &impl Abort, alloc: Global, down: &[u32]) -> Book<Idle> {
     let mut book = opened::<Idle>(rt, alloc, line(rt, alloc));
     for at in down {
-        assert!(rt; book.disturb(alloc, Fault::NodeDown { at: *at }).is_ok());
+        takes_down(rt, alloc, &mut book, *at);
     }
     book
 }
@@ -112,34 +107,41 @@ fn asked() -> [Event; 3] {
 fn asked_book(rt: &impl Abort, alloc: Global) -> Book<Idle> {
     let mut book = opened::<Idle>(rt, alloc, line(rt, alloc));
     for event in asked() {
-        assert!(rt; book.step(alloc, event).is_ok());
+        takes(rt, alloc, &mut book, event);
     }
     book
 }
 
-// Whether the book begins with the request and its relays.
-fn begins_asked(book: &Book<Idle>) -> bool {
+// The book begins with the request and its relays.
+fn begins_asked(rt: &impl Abort, book: &Book<Idle>) {
     for (event, position) in asked().into_iter().zip(1..=3) {
-        if !has_step(book, position, event) {
-            return false;
-        }
+        has_step(rt, book, position, event);
     }
-    true
+}
+
+// How many receipts the lists have, each of which is of a position after this one.
+fn receipts_after(rt: &impl Abort, lists: &[SeatList], position: usize) -> usize {
+    let mut count = 0usize;
+    for list in lists {
+        count = count.saturating_add(list.receipts.len());
+        assert!(rt;
+            list.receipts
+                .iter()
+                .all(|receipt| receipt.position > position)
+        );
+    }
+    count
 }
 
 #[test]
 fn what_the_book_had_stays_at_its_beginning(rt: HostRuntime) {
     let book = asked_book(&rt, rt.alloc());
     let outcome = run(&rt, rt.alloc(), book, None);
-    assert!(rt; begins_asked(&outcome.book));
+    begins_asked(&rt, &outcome.book);
     // The leader alone may go on.
-    assert!(rt; has_step(&outcome.book, 4, Event::Open { at: 3 }));
-    let mut told = 3usize;
-    for list in &outcome.seats {
-        told = told.saturating_add(list.receipts.len());
-        assert!(rt; list.receipts.iter().all(|receipt| receipt.position > 3));
-    }
-    assert_eq!(rt; told, outcome.book.len());
+    has_step(&rt, &outcome.book, 4, Event::Open { at: 3 });
+    let told = receipts_after(&rt, &outcome.seats, 3);
+    assert_eq!(rt; told.saturating_add(3), outcome.book.len());
 }
 
 #[test]
@@ -148,21 +150,21 @@ fn a_strange_node_is_refused_and_the_book_comes_back(rt: HostRuntime) {
     let (cause, book) = refusal(&rt, rt.alloc(), book, Some(9));
     assert_eq!(rt; cause, RunCause::StrangeNode);
     assert_eq!(rt; book.len(), 3);
-    assert!(rt; begins_asked(&book));
+    begins_asked(&rt, &book);
 }
 
 #[test]
 fn too_many_nodes_are_refused_and_the_book_comes_back(rt: HostRuntime) {
     let mut book = opened::<Idle>(&rt, rt.alloc(), star(&rt, rt.alloc(), 65));
     let request = Event::Request { at: 7 };
-    assert!(rt; book.step(rt.alloc(), request).is_ok());
+    takes(&rt, rt.alloc(), &mut book, request);
     let (cause, book) = refusal(&rt, rt.alloc(), book, Some(1));
     assert_eq!(rt; cause, RunCause::TooManyForThreads);
     // A strange node is told first.
     let (cause, book) = refusal(&rt, rt.alloc(), book, Some(66));
     assert_eq!(rt; cause, RunCause::StrangeNode);
     assert_eq!(rt; book.len(), 1);
-    assert!(rt; has_step(&book, 1, request));
+    has_step(&rt, &book, 1, request);
 }
 
 #[test]
@@ -171,6 +173,6 @@ fn a_full_book_is_no_fault(rt: HostRuntime) {
     let outcome = run(&rt, rt.alloc(), book, Some(3));
     // The leader asks and opens. Then there is no room for node 2 to join.
     assert_eq!(rt; outcome.book.len(), 2);
-    assert!(rt; has_step(&outcome.book, 1, Event::Request { at: 3 }));
-    assert!(rt; has_step(&outcome.book, 2, Event::Open { at: 3 }));
+    has_step(&rt, &outcome.book, 1, Event::Request { at: 3 });
+    has_step(&rt, &outcome.book, 2, Event::Open { at: 3 });
 }

@@ -1,15 +1,30 @@
 // Steps at the seats of the line.
 
-use crate::rounds::{Scene, applied, closed, play, seen, sees_initiate, three};
-use crate::topologies::{booted, line, opened};
+use crate::rounds::{
+    Scene, applied, closed, has_entries, has_receipts, has_step, play, seen, sees_initiate,
+    selects, steps, three,
+};
+use crate::topologies::{booted_line, line, opened};
 use app_interface::Idle;
-use history::{Entry, Receipt};
-use node_threads::{Round, Seat, SeatRefusal, Shared, select};
+use history::Receipt;
+use node_threads::{Round, Seat, SeatList, SeatRefusal, Shared};
 use reset_machine::{Config, Event, Reply};
 use std::alloc::Global;
 use std::process::Abort;
 use std::sync::Wait;
 use test_networks::WHOLE_RESET;
+
+// Node 1 is told the one receipt, node 2 the other, and node 3 none.
+fn has_lists(rt: &impl Abort, lists: &[SeatList], first: Receipt, second: Receipt) {
+    assert_eq!(rt; lists.len(), 3);
+    for list in lists {
+        match list.node {
+            1 => assert!(rt; list.receipts.as_slice() == [first].as_slice()),
+            2 => assert!(rt; list.receipts.as_slice() == [second].as_slice()),
+            _ => assert!(rt; list.receipts.is_empty()),
+        }
+    }
+}
 
 struct Relaying;
 
@@ -23,22 +38,15 @@ impl Scene for Relaying {
         let (mut first, mut second, third) = three(rt, seats);
         assert!(rt; !sees_initiate(&seen(rt, alloc, &shared, &second), 1));
         let asked = applied(1, Event::Request { at: 1 });
-        assert_eq!(rt; select(rt, alloc, &shared, &mut first), Ok(asked));
+        selects(rt, alloc, &shared, &mut first, Ok(asked));
         assert!(rt; sees_initiate(&seen(rt, alloc, &shared, &second), 1));
         let relay = Event::Relay { at: 2, child: 1 };
         let relayed = applied(2, relay);
-        assert_eq!(rt; shared.step(rt, alloc, &mut second, relay), Ok(relayed));
+        steps(rt, alloc, &shared, &mut second, relay, Ok(relayed));
         let outcome = closed(rt, alloc, shared, (first, second, third));
-        assert_eq!(rt; outcome.book.len(), 2);
-        assert!(rt; outcome.book.entry(2) == Some(&Entry::Step(relay)));
-        assert_eq!(rt; outcome.seats.len(), 3);
-        for list in &outcome.seats {
-            match list.node {
-                1 => assert!(rt; list.receipts.as_slice() == [asked].as_slice()),
-                2 => assert!(rt; list.receipts.as_slice() == [relayed].as_slice()),
-                _ => assert!(rt; list.receipts.is_empty()),
-            }
-        }
+        has_entries(rt, &outcome, 2);
+        has_step(rt, &outcome.book, 2, relay);
+        has_lists(rt, &outcome.seats, asked, relayed);
     }
 }
 
@@ -60,11 +68,11 @@ impl Scene for Straying {
         let (mut first, second, third) = three(rt, seats);
         let other = Event::Request { at: 2 };
         let refused = Err(SeatRefusal::NotYours);
-        assert_eq!(rt; shared.step(rt, alloc, &mut first, other), refused);
-        assert!(rt; first.receipts().is_empty());
+        steps(rt, alloc, &shared, &mut first, other, refused);
+        has_receipts(rt, &first, &[]);
         assert!(rt; !sees_initiate(&seen(rt, alloc, &shared, &first), 2));
         let outcome = closed(rt, alloc, shared, (first, second, third));
-        assert_eq!(rt; outcome.book.len(), 0);
+        has_entries(rt, &outcome, 0);
     }
 }
 
@@ -74,23 +82,40 @@ fn a_step_of_another_node_is_refused(rt: HostRuntime) {
     assert!(rt; play::<Straying, HostRuntime>(&rt, rt.alloc(), book).is_ok());
 }
 
-// Does the event at the seat of its node.
-fn step_at<L: Round, R: Wait + Abort>(
+// Does the event of the receipt at the seat of its node, which is told it.
+fn steps_at<L: Round, R: Wait + Abort>(
     rt: &R,
     alloc: Global,
     shared: &Shared<L, Idle>,
     seats: &mut [Seat<L>],
-    event: Event,
-) -> Receipt {
+    receipt: Receipt,
+) {
     for seat in seats {
-        if seat.node() == event.node() {
-            match shared.step(rt, alloc, seat, event) {
-                Ok(receipt) => return receipt,
-                Err(_) => panic!(rt; "a step"),
-            }
+        if seat.node() == receipt.event.node() {
+            steps(rt, alloc, shared, seat, receipt.event, Ok(receipt));
+            return;
         }
     }
     panic!(rt; "a seat of the node")
+}
+
+// Does the event in the configuration, which answers this.
+fn answers(rt: &impl Abort, alloc: Global, config: &mut Config<Idle>, event: Event, reply: Reply) {
+    assert_eq!(rt; config.step(alloc, event), Ok(reply));
+}
+
+// Whether the views of the seat's node are the same.
+fn sees_as<L: Round, R: Wait + Abort>(
+    rt: &R,
+    alloc: Global,
+    shared: &Shared<L, Idle>,
+    seat: &Seat<L>,
+    config: &Config<Idle>,
+) -> bool {
+    match config.view(alloc, seat.node()) {
+        Ok(view) => view.same(&seen(rt, alloc, shared, seat)),
+        Err(_) => false,
+    }
 }
 
 // Whether each seat's node sees what it sees in the configuration.
@@ -102,11 +127,7 @@ fn sees_the_same<L: Round, R: Wait + Abort>(
     config: &Config<Idle>,
 ) -> bool {
     for seat in seats {
-        let same = match config.view(alloc, seat.node()) {
-            Ok(view) => view.same(&seen(rt, alloc, shared, seat)),
-            Err(_) => false,
-        };
-        if !same {
+        if !sees_as(rt, alloc, shared, seat, config) {
             return false;
         }
     }
@@ -122,7 +143,7 @@ impl Scene for WholeReset {
         shared: Shared<L, Idle>,
         mut seats: Vec<Seat<L>>,
     ) {
-        let mut config = booted::<Idle>(rt, alloc, line(rt, alloc));
+        let mut config = booted_line::<Idle>(rt, alloc);
         assert!(rt; sees_the_same(rt, alloc, &shared, &seats, &config));
         for (event, position) in WHOLE_RESET.into_iter().zip(1..=9) {
             let reply = if position == 9 {
@@ -130,13 +151,13 @@ impl Scene for WholeReset {
             } else {
                 Reply::Applied
             };
-            assert_eq!(rt; config.step(alloc, event), Ok(reply));
+            answers(rt, alloc, &mut config, event, reply);
             let receipt = Receipt {
                 position,
                 event,
                 reply,
             };
-            assert_eq!(rt; step_at(rt, alloc, &shared, &mut seats, event), receipt);
+            steps_at(rt, alloc, &shared, &mut seats, receipt);
             assert!(rt; sees_the_same(rt, alloc, &shared, &seats, &config));
         }
     }

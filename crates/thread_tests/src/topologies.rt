@@ -2,9 +2,10 @@
 
 ghost use Rattle.std.specs.Prelude.{◌≤◌};
 
-use app_interface::Application;
+use app_interface::{Application, Idle};
+use fault_inject::Fault;
 use history::{Book, MAX_ENTRIES};
-use reset_machine::Config;
+use reset_machine::{Config, Event};
 use std::alloc::Global;
 use std::process::Abort;
 use test_networks::greatest_modulus;
@@ -91,4 +92,22 @@ pub(crate) fn small<P: Application>(rt: &impl Abort, alloc: Global, limit: usize
     requires { limit ≤ 1000000 }
 {
     Book::open_book(alloc, booted::<P>(rt, alloc, line(rt, alloc)), limit)
+}
+
+// Does the step, which isn't refused.
+pub(crate) fn takes(rt: &impl Abort, alloc: Global, book: &mut Book<Idle>, event: Event) {
+    assert!(rt; book.step(alloc, event).is_ok(), "{event:?}");
+}
+
+// The node goes down.
+pub(crate) fn takes_down(rt: &impl Abort, alloc: Global, book: &mut Book<Idle>, at: u32) {
+    assert!(rt;
+        book.disturb(alloc, Fault::NodeDown { at }).is_ok(),
+        "node {at}"
+    );
+}
+
+// The line of the nodes 1, 2, 3, booted.
+pub(crate) fn booted_line<P: Application>(rt: &impl Abort, alloc: Global) -> Config<P> {
+    booted::<P>(rt, alloc, line(rt, alloc))
 }

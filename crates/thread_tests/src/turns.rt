@@ -1,9 +1,9 @@
 // The turns of one node, in one thread.
 
-use crate::rounds::{Scene, applied, play, three};
+use crate::rounds::{Scene, applied, has_receipts, play, selects, three};
 use crate::topologies::small;
 use app_interface::Idle;
-use node_threads::{Gate, Round, Seat, Shared, TurnsEnd, node_turns, select};
+use node_threads::{Gate, Round, Seat, Shared, TurnsEnd, node_turns};
 use reset_machine::Event;
 use std::alloc::Global;
 use std::process::Abort;
@@ -18,6 +18,20 @@ impl Gate for Still {
     fn committed(&self, _node: u32) {}
 }
 
+// How ten turns, or fewer, end at the seat.
+fn turns_end<L: Round, R: Wait + Abort>(
+    rt: &R,
+    alloc: Global,
+    shared: &Shared<L, Idle>,
+    seat: &mut Seat<L>,
+    turns: u32,
+    end: TurnsEnd,
+) {
+    assert!(rt; turns <= 10);
+    let ended = node_turns(rt, alloc, &Still, shared, seat, turns);
+    assert_eq!(rt; ended, end);
+}
+
 struct Turning;
 
 impl Scene for Turning {
@@ -28,23 +42,21 @@ impl Scene for Turning {
         seats: Vec<Seat<L>>,
     ) {
         let (mut first, mut second, mut third) = three(rt, seats);
-        let nothing = node_turns(rt, alloc, &Still, &shared, &mut first, 10);
-        assert_eq!(rt; nothing, TurnsEnd::Done);
-        assert!(rt; first.receipts().is_empty());
+        turns_end(rt, alloc, &shared, &mut first, 10, TurnsEnd::Done);
+        has_receipts(rt, &first, &[]);
         let request = applied(1, Event::Request { at: 3 });
         let open = applied(2, Event::Open { at: 3 });
         let join = applied(3, Event::Join { at: 2 });
-        assert_eq!(rt; select(rt, alloc, &shared, &mut third), Ok(request));
-        let opened = node_turns(rt, alloc, &Still, &shared, &mut third, 10);
-        assert_eq!(rt; opened, TurnsEnd::Done);
-        assert!(rt; third.receipts() == [request, open].as_slice());
+        selects(rt, alloc, &shared, &mut third, Ok(request));
+        turns_end(rt, alloc, &shared, &mut third, 10, TurnsEnd::Done);
+        has_receipts(rt, &third, &[request, open]);
         // It takes no turn, then one, and then it waits for node 1.
-        for (turns, told) in [(0, 0), (1, 1), (10, 1)] {
-            let joined = node_turns(rt, alloc, &Still, &shared, &mut second, turns);
-            assert_eq!(rt; joined, TurnsEnd::Done);
-            assert_eq!(rt; second.receipts().len(), told);
+        turns_end(rt, alloc, &shared, &mut second, 0, TurnsEnd::Done);
+        has_receipts(rt, &second, &[]);
+        for turns in [1, 10] {
+            turns_end(rt, alloc, &shared, &mut second, turns, TurnsEnd::Done);
+            has_receipts(rt, &second, &[join]);
         }
-        assert!(rt; second.receipts() == [join].as_slice());
     }
 }
 
@@ -65,15 +77,13 @@ impl Scene for Filling {
     ) {
         let (first, second, mut third) = three(rt, seats);
         let request = applied(1, Event::Request { at: 3 });
-        assert_eq!(rt; select(rt, alloc, &shared, &mut third), Ok(request));
-        let full = node_turns(rt, alloc, &Still, &shared, &mut third, 10);
-        assert_eq!(rt; full, TurnsEnd::BookFull);
-        assert!(rt; third.receipts() == [request].as_slice());
+        selects(rt, alloc, &shared, &mut third, Ok(request));
+        turns_end(rt, alloc, &shared, &mut third, 10, TurnsEnd::BookFull);
+        has_receipts(rt, &third, &[request]);
         // A node with nothing to do doesn't see that the book is full.
         for mut seat in [first, second] {
-            let idle = node_turns(rt, alloc, &Still, &shared, &mut seat, 10);
-            assert_eq!(rt; idle, TurnsEnd::Done);
-            assert!(rt; seat.receipts().is_empty());
+            turns_end(rt, alloc, &shared, &mut seat, 10, TurnsEnd::Done);
+            has_receipts(rt, &seat, &[]);
         }
     }
 }
