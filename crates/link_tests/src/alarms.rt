@@ -12,6 +12,7 @@ fn two_neighbours_that_are_in_raise_the_alarm(rt: HostRuntime) {
     alarms(&rt, &config, 2, Some(told[1]));
     alarms(&rt, &config, 3, None);
     finds(&rt, rt.alloc(), &config, &told);
+    drop(config);
 }
 
 // Node 2 is in without the turn of either link: the first in order is told.
@@ -21,6 +22,7 @@ fn the_first_fault_is_told(rt: HostRuntime) {
     put_text(&rt, rt.alloc(), &mut config, 2, b"in/0");
     put_text(&rt, rt.alloc(), &mut config, 3, b"out/1");
     alarms(&rt, &config, 2, Some(fault(2, 1, Family::App, 2)));
+    drop(config);
 }
 
 #[test]
@@ -29,6 +31,7 @@ fn a_quiet_network_has_no_alarm(rt: HostRuntime) {
     for id in [1, 2, 3, 9] {
         alarms(&rt, &config, id, None);
     }
+    drop(config);
 }
 
 #[test]

@@ -81,6 +81,7 @@ fn a_node_that_is_cut_off_resets_itself(rt: HostRuntime) {
     claims_and_is_reset(&rt, rt.alloc(), &mut config);
     assert_eq!(rt; config.newest_session(1), Some(1));
     assert_eq!(rt; config.newest_session(2), Some(0));
+    drop(config);
 }
 
 #[test]
@@ -94,6 +95,7 @@ fn a_link_that_comes_back_joins_a_reset_node(rt: HostRuntime) {
     leaves(&rt, rt.alloc(), &mut config, adopt, Reply::Applied, &late);
     let mend = Event::Mend { at: 1 };
     leaves(&rt, rt.alloc(), &mut config, mend, Reply::Applied, &[]);
+    drop(config);
 }
 
 // One component is in a session that the other hasn't, and in the midst of its reset.
@@ -104,6 +106,7 @@ fn two_components_have_no_fault(rt: HostRuntime) {
     for event in [Event::Request { at: 5 }, Event::Open { at: 5 }] {
         leaves(&rt, rt.alloc(), &mut config, event, Reply::Applied, &[]);
     }
+    drop(config);
 }
 
 // The node is asked in vain.
@@ -121,6 +124,7 @@ fn a_node_that_is_down_is_not_checked(rt: HostRuntime) {
     takes_down(&rt, rt.alloc(), &mut config, 2);
     finds(&rt, rt.alloc(), &config, &[fault(1, 1, Family::Tree, 3)]);
     is_strange(&rt, rt.alloc(), &config, 2);
+    drop(config);
 }
 
 #[test]
@@ -134,6 +138,7 @@ fn no_fault_is_found_where_all_nodes_are_down(rt: HostRuntime) {
         is_strange(&rt, rt.alloc(), &config, id);
         alarms(&rt, &config, id, None);
     }
+    drop(config);
 }
 
 // Two neighbours are in, and one of them goes down.
@@ -144,6 +149,7 @@ fn a_node_that_goes_down_ends_the_alarm(rt: HostRuntime) {
     takes_down(&rt, rt.alloc(), &mut config, 2);
     alarms(&rt, &config, 1, None);
     alarms(&rt, &config, 2, None);
+    drop(config);
 }
 
 // The leader goes down, and the nodes that are left follow the next one.
@@ -172,4 +178,5 @@ fn a_leader_that_goes_down_comes_back(rt: HostRuntime) {
     leaves(&rt, rt.alloc(), &mut config, adopt, Reply::Applied, &behind);
     let follow = Event::Follow { at: 1 };
     leaves(&rt, rt.alloc(), &mut config, follow, Reply::Applied, &[]);
+    drop(config);
 }

@@ -16,6 +16,7 @@ use wave_layer::Phase;
 fn a_sound_network_has_no_fault(rt: HostRuntime) {
     let config = booted_line::<EdgeReversal>(&rt, rt.alloc());
     finds(&rt, rt.alloc(), &config, &[]);
+    drop(config);
 }
 
 #[test]
@@ -25,6 +26,7 @@ fn a_stranger_is_refused(rt: HostRuntime) {
         Ok(_) => panic!(rt; "9 is no node"),
         Err(refusal) => assert_eq!(rt; refusal, StepRefusal::StrangeNode),
     }
+    drop(config);
 }
 
 // A booted network of node 3 alone, or of a triangle.
@@ -44,6 +46,7 @@ fn a_wrong_root_or_father_is_told_of_the_node(rt: HostRuntime) {
         let mut config = network(&rt, rt.alloc(), &[3], &[]);
         put_tree(&rt, &mut config, 3, regs);
         finds(&rt, rt.alloc(), &config, &[fault(3, 3, Family::Tree, row)]);
+        drop(config);
     }
 }
 
@@ -59,6 +62,7 @@ fn a_wrong_distance_is_told_of_the_link(rt: HostRuntime) {
         put_tree(&rt, &mut config, 1, own);
         put_tree(&rt, &mut config, 2, up);
         finds_at(&rt, rt.alloc(), &config, 1, &[told]);
+        drop(config);
     }
 }
 
@@ -67,6 +71,7 @@ fn a_greater_root_is_told_of_the_link(rt: HostRuntime) {
     let mut config = booted_line::<Idle>(&rt, rt.alloc());
     put_tree(&rt, &mut config, 1, tree(5, 2, 0));
     finds_at(&rt, rt.alloc(), &config, 2, &[fault(2, 1, Family::Tree, 7)]);
+    drop(config);
 }
 
 #[test]
@@ -74,6 +79,7 @@ fn a_shorter_way_is_told(rt: HostRuntime) {
     let mut config = network(&rt, rt.alloc(), &[1, 2, 3], &[(1, 2), (2, 3), (1, 3)]);
     put_tree(&rt, &mut config, 1, tree(3, 2, 2));
     finds(&rt, rt.alloc(), &config, &[fault(1, 3, Family::Tree, 8)]);
+    drop(config);
 }
 
 // What is told at node 1 of the line, from its wave registers and those of its father.
@@ -95,6 +101,7 @@ fn a_torn_wave_is_told_of_the_link(rt: HostRuntime) {
             1,
             &[fault(1, 2, Family::Wave, row)],
         );
+        drop(config);
     }
 }
 
@@ -106,6 +113,7 @@ fn a_foreign_session_is_told_of_the_link(rt: HostRuntime) {
     put_wave(&rt, &mut config, 2, wave(Phase::Normal, 9));
     put_wave(&rt, &mut config, 3, wave(Phase::Reset, 2));
     finds(&rt, rt.alloc(), &config, &[fault(1, 2, Family::Wave, 9)]);
+    drop(config);
 }
 
 #[test]
@@ -114,6 +122,7 @@ fn a_node_that_is_to_join_session_0_has_no_fault(rt: HostRuntime) {
     put_wave(&rt, &mut config, 1, wave(Phase::Normal, 7));
     put_wave(&rt, &mut config, 2, wave(Phase::Reset, 0));
     finds_at(&rt, rt.alloc(), &config, 1, &[]);
+    drop(config);
 }
 
 #[test]
@@ -128,6 +137,7 @@ fn a_node_that_is_late_for_session_0_is_told(rt: HostRuntime) {
         1,
         &[fault(1, 2, Family::Wave, 11)],
     );
+    drop(config);
 }
 
 #[test]
@@ -135,6 +145,7 @@ fn a_node_that_is_to_join_has_no_fault(rt: HostRuntime) {
     let mut config = booted_line::<Idle>(&rt, rt.alloc());
     put_wave(&rt, &mut config, 2, wave(Phase::Reset, 1));
     finds_at(&rt, rt.alloc(), &config, 1, &[]);
+    drop(config);
 }
 
 // Node 1 mends itself.
@@ -150,6 +161,7 @@ fn a_mended_reset_is_told_no_more(rt: HostRuntime) {
     finds(&rt, rt.alloc(), &config, &[fault(1, 2, Family::Wave, 8)]);
     mends(&rt, rt.alloc(), &mut config);
     finds(&rt, rt.alloc(), &config, &[]);
+    drop(config);
 }
 
 #[test]
@@ -163,6 +175,7 @@ fn a_link_may_fail_in_each_family(rt: HostRuntime) {
         fault(1, 2, Family::App, 1),
     ];
     finds_at(&rt, rt.alloc(), &config, 1, &faults);
+    drop(config);
 }
 
 #[test]
@@ -170,4 +183,5 @@ fn sessions_apart_have_no_fault_of_the_application(rt: HostRuntime) {
     let mut config = two_are_in(&rt, rt.alloc());
     put_wave(&rt, &mut config, 1, wave(Phase::Normal, 7));
     finds_at(&rt, rt.alloc(), &config, 1, &[fault(1, 2, Family::Wave, 9)]);
+    drop(config);
 }
