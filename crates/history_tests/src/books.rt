@@ -35,6 +35,7 @@ fn reports_a_whole_reset(rt: HostRuntime) {
     };
     assert!(rt; book.reports() == [reset].as_slice());
     has_a_whole_reset(&rt, &book);
+    drop(book);
 }
 
 // The book answers this to the event.
@@ -63,6 +64,7 @@ fn refuses_before_it_is_full(rt: HostRuntime) {
     let refused = Err(BookRefusal::Refused(StepRefusal::NotEnabled));
     answers(&rt, rt.alloc(), &mut book, join, refused);
     assert_eq!(rt; book.len(), 8);
+    drop(book);
 }
 
 // A fault of the tree registers of this node.
@@ -87,6 +89,7 @@ fn tells_the_place_of_a_fault(rt: HostRuntime) {
     let full = (DisturbRefusal::BookFull, tree_fault(2));
     disturbs(&rt, rt.alloc(), &mut book, tree_fault(2), Err(full));
     has_entry(&rt, &book, 1, &Entry::Disturbed(tree_fault(2)));
+    drop(book);
 }
 
 // What the event would do at its node, as the book is now.
@@ -149,6 +152,7 @@ fn applies_a_plan_once(rt: HostRuntime) {
     let refusal = refusal_of(&rt, rt.alloc(), &mut book, second, request);
     assert_eq!(rt; seen_instead(&rt, refusal).id(), 3);
     assert_eq!(rt; book.len(), 1);
+    drop(book);
 }
 
 #[test]
@@ -165,6 +169,7 @@ fn a_full_book_applies_no_plan(rt: HostRuntime) {
     let refusal = refusal_of(&rt, rt.alloc(), &mut book, last, open);
     assert!(rt; matches!(refusal, ApplyRefusal::BookFull));
     assert_eq!(rt; book.len(), 2);
+    drop(book);
 }
 
 #[test]
@@ -178,6 +183,7 @@ fn a_neighbours_step_makes_a_plan_stale(rt: HostRuntime) {
     let refusal = refusal_of(&rt, rt.alloc(), &mut book, second, other);
     assert!(rt; sees_initiate(&seen_instead(&rt, refusal), 1));
     assert_eq!(rt; book.len(), 1);
+    drop(book);
 }
 
 // Whether the node with this view sees that the node with this identifier, the least of its neighbours, is
@@ -198,6 +204,8 @@ fn a_plan_of_another_topology_is_strange(rt: HostRuntime) {
     let refusal = refusal_of(&rt, rt.alloc(), &mut book, plan, request);
     assert!(rt; matches!(refusal, ApplyRefusal::StrangeNode));
     assert_eq!(rt; book.len(), 0);
+    drop(book);
+    drop(other);
 }
 
 #[test]
@@ -211,4 +219,5 @@ fn mends_what_was_disturbed(rt: HostRuntime) {
     disturbs(&rt, rt.alloc(), &mut book, fault, Ok(1));
     let mend = Event::Mend { at: 1 };
     answers(&rt, rt.alloc(), &mut book, mend, Ok(applied(2, mend)));
+    drop(book);
 }

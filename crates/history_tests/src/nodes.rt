@@ -51,6 +51,8 @@ fn configurations_of_a_node_off_and_on(rt: HostRuntime) {
     let on = config_of(&rt, rt.alloc(), &book, 2);
     is_on(&rt, &on);
     assert!(rt; on.trees() == book.config().trees());
+    drop(on);
+    drop(book);
 }
 
 #[test]
@@ -70,6 +72,7 @@ fn a_node_off_and_on_is_written_and_verified(rt: HostRuntime) {
         }
         Err(_) => panic!(rt; "a history of the line"),
     }
+    drop(book);
 }
 
 #[test]
@@ -86,6 +89,7 @@ fn refuses_faults_of_nodes(rt: HostRuntime) {
     let full = (DisturbRefusal::BookFull, on());
     disturbs(&rt, rt.alloc(), &mut book, on(), Err(full));
     assert_eq!(rt; book.len(), 1);
+    drop(book);
 }
 
 #[test]

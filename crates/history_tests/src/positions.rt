@@ -32,6 +32,8 @@ fn config_at(rt: HostRuntime) {
         Ok(_) => panic!(rt; "a position past the last"),
         Err(fault) => assert_eq!(rt; fault, AtFault::NoPosition),
     }
+    drop(last);
+    drop(book);
 }
 
 // The book of the node 7, which reset itself 342 times: 1,026 entries.
@@ -60,6 +62,8 @@ fn segment_border(rt: HostRuntime) {
     let config = config_of(&rt, rt.alloc(), &book, 1024);
     has_wave(&rt, &config, 7, Some(regs));
     assert_eq!(rt; book.reports().len(), 342);
+    drop(config);
+    drop(book);
 }
 
 // The entries are those of the book, from its first on.
@@ -85,4 +89,5 @@ fn segments_are_written_in_turn(rt: HostRuntime) {
         }
         Err(_) => panic!(rt; "a history"),
     }
+    drop(book);
 }

@@ -94,6 +94,7 @@ fn a_book_is_written_and_read(rt: HostRuntime) {
     assert_eq!(rt; read.modulus, 4_294_967_296);
     let opening = line(&rt, rt.alloc());
     is_history(&rt, rt.alloc(), opening, &read.entries, &[report(1, 4, 9)]);
+    drop(book);
 }
 
 #[test]
@@ -106,6 +107,7 @@ fn a_book_is_written_with_its_modulus(rt: HostRuntime) {
         text.as_slice(),
         b"reset-history 3 8\nrequest 1\n".as_slice()
     );
+    drop(book);
 }
 
 // The text is a history of this modulus with these entries.
