@@ -1,10 +1,11 @@
 // The replay of a script whose history is kept.
 
-ghost use Rattle.std.specs.Prelude.{◌≡◌, ℕ, List, OnOk};
+ghost use Rattle.std.specs.Prelude.{◌≡◌, ℕ, List, Option, Err, IfErr, OnOk};
+ghost use Rattle.std.specs.Io.KnownBytes.{Appends};
 ghost use Rattle.topology.specs.TopologyText.{IsReadFault};
 ghost use Rattle.script_replay.specs.Lines.{GaveText, IsReadFrom};
 ghost use Rattle.script_replay.specs.Meaning.{meaning_of};
-ghost use Rattle.script_replay.specs.Recorded.{IsRecord, IsRecordFrom, IsRecordOf, IsRecorded, LeavesRecord};
+ghost use Rattle.script_replay.specs.Recorded.{IsHistory, IsRecord, IsRecordFrom, IsRecordOf, IsRecorded, LeavesRecord};
 
 use crate::input::read_text;
 use crate::network::{Network, read_network};
@@ -82,7 +83,7 @@ fn record_booted<P: Application, H: Write, W: Write>(
         (H.contents history.old) (H.contents history.new) (W.contents out.old) (W.contents out.new) result }
 {
     match Config::<P>::boot(alloc, network.topology, network.modulus) {
-        Ok(opening) => record_script(alloc, opening, script, history, out),
+        Ok(mut config) => record_script(alloc, &mut config, script, history, out),
         Err(_) => Err(RunStop::NoMemory),
     }
 }
@@ -90,15 +91,35 @@ fn record_booted<P: Application, H: Write, W: Write>(
 // Records a script from this configuration on.
 fn record_script<P: Application, H: Write, W: Write>(
     alloc: Global,
-    opening: Config<P>,
+    config: &mut Config<P>,
     script: &[u8],
     history: &mut H,
     out: &mut W,
 ) -> Result<Status, RunStop>
-    ensures { LeavesRecord (IsRecord (meaning_of P.app P.text P.from_text P.names) opening script.now)
+    ensures { LeavesRecord (IsRecord (meaning_of P.app P.text P.from_text P.names) config.old script.now)
         (H.contents history.old) (H.contents history.new) (W.contents out.old) (W.contents out.new) result }
 {
-    let text = history_of(alloc, &opening, script)?;
+    match put_history(alloc, config, script, history) {
+        Ok(()) => run_script(alloc, Purpose::Replay, config, script, out),
+        Err(stop) => Err(stop),
+    }
+}
+
+// Writes the history of a script. A stop leaves what a recording may that has written no answer yet.
+fn put_history<P: Application, H: Write>(
+    alloc: Global,
+    opening: &Config<P>,
+    script: &[u8],
+    history: &mut H,
+) -> Result<(), RunStop>
+    ensures ok { OnOk result ((text : List ℕ)
+        × IsHistory (meaning_of P.app P.text P.from_text P.names) opening.now script.now text
+        × Appends (H.contents history.old) (H.contents history.new) text) }
+    ensures err { IfErr result (λ stop. (output : Option (List ℕ)) → LeavesRecord
+        (IsRecord (meaning_of P.app P.text P.from_text P.names) opening.now script.now)
+        (H.contents history.old) (H.contents history.new) output output (Err stop)) }
+{
+    let text = history_of(alloc, opening, script)?;
     put_bytes(history, &text)?;
-    run_script(alloc, Purpose::Replay, opening, script, out)
+    Ok(())
 }

@@ -38,10 +38,39 @@ pub fn history_of<P: Application>(
     if script.len() > MAX_TEXT {
         return Ok(Vec::new(alloc));
     }
-    let mut book = Book::open_book(alloc, opening.copy(alloc)?, MAX_ENTRIES);
-    record_lines(alloc, &mut book, script)?;
+    kept_history(alloc, opening.copy(alloc)?, script)
+}
+
+// The text of the history of a script that isn't too long.
+fn kept_history<P: Application>(
+    alloc: Global,
+    opening: Config<P>,
+    script: &[u8],
+) -> Result<Vec<u8>, AllocError>
+    requires { length script.now ≤ MAX_TEXT }
+    ensures { IfOk result (λ text.
+        IsHistory (meaning_of P.app P.text P.from_text P.names) opening script.now text.items) }
+{
+    let mut book = Book::open_book(alloc, opening, MAX_ENTRIES);
+    history_in(alloc, &mut book, script)
+}
+
+// The same, with the entries in a book that was just opened.
+fn history_in<P: Application>(
+    alloc: Global,
+    book: &mut Book<P>,
+    script: &[u8],
+) -> Result<Vec<u8>, AllocError>
+    requires short { length script.now ≤ MAX_TEXT }
+    requires opening { book.old.opening ≡ book.old.config }
+    requires fresh { book.old.entries ≡ [] }
+    requires room { book.old.limit ≡ MAX_ENTRIES }
+    ensures { IfOk result (λ text.
+        IsHistory (meaning_of P.app P.text P.from_text P.names) book.old.config script.now text.items) }
+{
+    record_lines(alloc, book, script)?;
     book.lemma_is_book();
-    text_of(alloc, &book)
+    text_of(alloc, book)
 }
 
 /// The text of a book's history, which is read as its modulus and its entries.

@@ -167,7 +167,7 @@ fn run_booted<P: Application, W: Write>(
     ensures stop { IfErr result IsOutputStop }
 {
     match Config::<P>::boot(alloc, network.topology, network.modulus) {
-        Ok(config) => run_script(alloc, purpose, config, script, out),
+        Ok(mut config) => run_script(alloc, purpose, &mut config, script, out),
         Err(_) => Err(RunStop::NoMemory),
     }
 }
@@ -209,20 +209,20 @@ pub fn refuse_input<W: Write>(out: &mut W, text: &[u8]) -> Result<Status, RunSto
 pub(crate) fn run_script<P: Application, W: Write>(
     alloc: Global,
     purpose: Purpose,
-    mut config: Config<P>,
+    config: &mut Config<P>,
     script: &[u8],
     out: &mut W,
 ) -> Result<Status, RunStop>
     ensures leaves { Leaves
-        (λ output. output ≡ script_output (meaning_of P.app P.text P.from_text P.names) purpose config script.now)
+        (λ output. output ≡ script_output (meaning_of P.app P.text P.from_text P.names) purpose config.old script.now)
         (W.contents out.old) (W.contents out.new) result }
     ensures stop { IfErr result IsOutputStop }
 {
     if script.len() > MAX_TEXT {
         return refuse_script(out);
     }
-    match answer_lines(alloc, &mut config, script, out) {
-        Ok(answered) => end_run(alloc, purpose, &config, answered, out),
+    match answer_lines(alloc, config, script, out) {
+        Ok(answered) => end_run(alloc, purpose, config, answered, out),
         Err(stop) => Err(stop),
     }
 }
