@@ -14,3 +14,4 @@ pub mod Stretches
 pub mod KeptModulus
 pub mod Noting
 pub mod LeftRecords
+pub mod Written

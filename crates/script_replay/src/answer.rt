@@ -14,7 +14,7 @@ use crate::injected::{answer_draw, answer_fault};
 use crate::rows::{answer_enabled, answer_ready};
 use crate::script::Command;
 use crate::show::{show_all, show_newest, show_node};
-use crate::status::RunStop;
+use crate::status::{RunStop, written};
 use action_tables::{Part, WriteFault, put_bytes, put_number, put_parts};
 use app_interface::Application;
 use reset_machine::{Config, Event, Reply, StepRefusal};
@@ -125,9 +125,9 @@ pub fn answer<P: Application, W: Write>(
         Command::Step(event) => answer_step(alloc, config, event, out),
         Command::Inject(fault) => answer_fault(alloc, config, &fault, out),
         Command::Draw(seed) => answer_draw(alloc, config, seed, out),
-        Command::Show => Ok(show_all(config, out)?),
-        Command::ShowNode(at) => Ok(show_node(config, at, out)?),
-        Command::Newest => Ok(show_newest(config, out)?),
+        Command::Show => written(show_all(config, out)),
+        Command::ShowNode(at) => written(show_node(config, at, out)),
+        Command::Newest => written(show_newest(config, out)),
         Command::Enabled(at) => answer_enabled(alloc, config, at, out),
         Command::Ready => answer_ready(alloc, config, out),
         Command::Check => {
@@ -135,7 +135,7 @@ pub fn answer<P: Application, W: Write>(
             Ok(())
         }
         Command::CheckNode(at) => answer_check_node(alloc, config, at, out),
-        Command::Alarm(at) => Ok(answer_alarm(config, at, out)?),
+        Command::Alarm(at) => written(answer_alarm(config, at, out)),
         Command::Watch(at) => answer_watch(alloc, config, at, out),
     }
 }

@@ -12,7 +12,7 @@ ghost use Rattle.script_replay.specs.declared.script.Command.TheVariants.{Watch}
 ghost use Rattle.script_replay.specs.Stops.{IsOutputStop};
 
 use crate::answer::{answer_step, put_numbered, put_refusal};
-use crate::status::{RunStop, Status};
+use crate::status::{RunStop, Status, written};
 use action_tables::{Part, WriteFault, put_bytes, put_parts};
 use app_interface::Application;
 use fault_inject::is_node;
@@ -69,9 +69,9 @@ pub fn answer_check_node<P: Application, W: Write>(
     ensures stop { IfErr result IsOutputStop }
 {
     match check_node(alloc, config, at) {
-        Ok(found) => Ok(put_faults(out, &found)?),
+        Ok(found) => written(put_faults(out, &found)),
         Err(StepRefusal::NoMemory) => Err(RunStop::NoMemory),
-        Err(refusal) => Ok(put_refusal(out, refusal)?),
+        Err(refusal) => written(put_refusal(out, refusal)),
     }
 }
 
@@ -113,7 +113,7 @@ pub fn answer_watch<P: Application, W: Write>(
     if is_node(&*config, at) {
         watch_node(alloc, config, at, out)
     } else {
-        Ok(put_refusal(out, StepRefusal::StrangeNode)?)
+        written(put_refusal(out, StepRefusal::StrangeNode))
     }
 }
 

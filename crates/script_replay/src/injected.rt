@@ -9,7 +9,7 @@ ghost use Rattle.script_replay.specs.Output.{answered, disturbed, drawn, drawn_t
 ghost use Rattle.script_replay.specs.declared.script.Command.TheVariants.{Draw};
 ghost use Rattle.script_replay.specs.Stops.{IsOutputStop};
 
-use crate::status::RunStop;
+use crate::status::{RunStop, written};
 use action_tables::{WriteFault, put_bytes};
 use app_interface::Application;
 use fault_inject::{Fault, FaultRefusal, draw_fault, inject, write_fault};
@@ -36,9 +36,9 @@ pub fn answer_fault<P: Application, W: Write>(
     ensures memory { result ≡ Err RunStop.NoMemory → config.new ≡ config.old }
 {
     match inject(alloc, config, fault) {
-        Ok(()) => Ok(put_bytes(out, b"disturbed\n")?),
+        Ok(()) => written(put_bytes(out, b"disturbed\n")),
         Err(FaultRefusal::NoMemory) => Err(RunStop::NoMemory),
-        Err(refusal) => Ok(put_fault_refusal(out, refusal)?),
+        Err(refusal) => written(put_fault_refusal(out, refusal)),
     }
 }
 

@@ -213,13 +213,14 @@ fn question_of(word: &[u8], rest: &[u8]) -> Option<Command>
     ensures fits { IfSome result IsPlain }
     ensures only { IfNone result ((at : ℕ) → at < 2 ^ 32 → AsksAbout at (word.now ∷ words_of rest.now) → ⊥) }
 {
+    let number = read_number(rest)?;
     match word {
-        b"show" => Some(Command::ShowNode(read_number(rest)?)),
-        b"enabled" => Some(Command::Enabled(read_number(rest)?)),
-        b"check" => Some(Command::CheckNode(read_number(rest)?)),
-        b"alarm" => Some(Command::Alarm(read_number(rest)?)),
-        b"watch" => Some(Command::Watch(read_number(rest)?)),
-        b"draw" => Some(Command::Draw(read_number(rest)?)),
+        b"show" => Some(Command::ShowNode(number)),
+        b"enabled" => Some(Command::Enabled(number)),
+        b"check" => Some(Command::CheckNode(number)),
+        b"alarm" => Some(Command::Alarm(number)),
+        b"watch" => Some(Command::Watch(number)),
+        b"draw" => Some(Command::Draw(number)),
         _ => None,
     }
 }

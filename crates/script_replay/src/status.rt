@@ -1,6 +1,6 @@
 // How a run ends.
 
-ghost use Rattle.std.specs.Prelude.{◌≡◌, Some};
+ghost use Rattle.std.specs.Prelude.{◌≡◌, Err, IfErr, IfOk, Ok, Some};
 ghost use Rattle.script_replay.specs.StopText.{stop_text};
 ghost use Rattle.script_replay.specs.declared.status.RunStop.TheVariants.{NoMemory, WriteFailed};
 
@@ -60,6 +60,16 @@ impl From<AllocError> for RunStop {
     fn from(_error: AllocError) -> RunStop {
         RunStop::NoMemory
     }
+}
+
+/// What a run ends as that wrote this last: a writer that failed stops it.
+#[inline(always)]
+pub(crate) fn written(put: Result<(), WriteFault>) -> Result<(), RunStop>
+    ensures ok { IfOk put (λ done. result ≡ Ok done) }
+    ensures err { IfErr put (λ fault. result ≡ Err WriteFailed) }
+    ensures stop { IfErr result (λ stop. stop ≡ WriteFailed) }
+{
+    Ok(put?)
 }
 
 impl fmt::Display for RunStop {
