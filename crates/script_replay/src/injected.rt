@@ -86,13 +86,20 @@ fn put_fault_refusal<W: Write>(out: &mut W, refusal: FaultRefusal) -> Result<(),
     ensures ok { OnOk result (Appends (W.contents out.old) (W.contents out.new) (fault_refusal_text refusal)) }
     ensures err { OnErr result (AppendsPrefix (W.contents out.old) (W.contents out.new) (fault_refusal_text refusal)) }
 {
+    put_bytes(out, fault_refusal_line(refusal))
+}
+
+// The line that a refused fault is answered with.
+fn fault_refusal_line(refusal: FaultRefusal) -> &'static [u8]
+    ensures { result.now ≡ fault_refusal_text refusal }
+{
     match refusal {
-        FaultRefusal::StrangeNode => put_bytes(out, b"refused StrangeNode\n"),
-        FaultRefusal::BadValue => put_bytes(out, b"refused BadValue\n"),
-        FaultRefusal::BadLocal => put_bytes(out, b"refused BadLocal\n"),
-        FaultRefusal::NoSuchLink => put_bytes(out, b"refused NoSuchLink\n"),
-        FaultRefusal::LinkIsThere => put_bytes(out, b"refused LinkIsThere\n"),
-        FaultRefusal::NodeIsUp => put_bytes(out, b"refused NodeIsUp\n"),
-        FaultRefusal::NoMemory => put_bytes(out, b"refused NoMemory\n"),
+        FaultRefusal::StrangeNode => b"refused StrangeNode\n",
+        FaultRefusal::BadValue => b"refused BadValue\n",
+        FaultRefusal::BadLocal => b"refused BadLocal\n",
+        FaultRefusal::NoSuchLink => b"refused NoSuchLink\n",
+        FaultRefusal::LinkIsThere => b"refused LinkIsThere\n",
+        FaultRefusal::NodeIsUp => b"refused NodeIsUp\n",
+        FaultRefusal::NoMemory => b"refused NoMemory\n",
     }
 }

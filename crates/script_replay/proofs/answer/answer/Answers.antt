@@ -29,47 +29,47 @@ returns-in-Watch-clause-err g c = rw c.in-Watch.is c.answer_watch.ensures.err
 pub returns-in-Show-clause-ok : goal.returns-in-Show-clause-ok
 returns-in-Show-clause-ok g c =
     rw c.in-Show.is
-    (written_ok c.show_all.result c.written.result c.written.ensures.ok c.written.ensures.err (λ text. (refl, text))
-    c.show_all.ensures.ok)
+    (written_ok c.show_all.result c.written.result c.written.ensures.ok
+    c.written.ensures.err (λ text. (refl, text)) c.show_all.ensures.ok)
 
 pub returns-in-Show-clause-err : goal.returns-in-Show-clause-err
 returns-in-Show-clause-err g c =
     rw c.in-Show.is
-    (written_err c.show_all.result c.written.result c.written.ensures.ok c.written.ensures.err _
-    c.show_all.ensures.err)
+    (written_err c.show_all.result c.written.result c.written.ensures.ok
+    c.written.ensures.err _ c.show_all.ensures.err)
 
 pub returns-in-ShowNode-clause-ok : goal.returns-in-ShowNode-clause-ok
 returns-in-ShowNode-clause-ok g c =
     rw c.in-ShowNode.is
-    (written_ok c.show_node.result c.written-in-ShowNode.result c.written-in-ShowNode.ensures.ok c.written-in-ShowNode.ensures.err (λ text. (refl, text))
-    c.show_node.ensures.ok)
+    (written_ok c.show_node.result c.written-in-ShowNode.result c.written-in-ShowNode.ensures.ok
+    c.written-in-ShowNode.ensures.err (λ text. (refl, text)) c.show_node.ensures.ok)
 
 pub returns-in-ShowNode-clause-err : goal.returns-in-ShowNode-clause-err
 returns-in-ShowNode-clause-err g c =
     rw c.in-ShowNode.is
-    (written_err c.show_node.result c.written-in-ShowNode.result c.written-in-ShowNode.ensures.ok c.written-in-ShowNode.ensures.err _
-    c.show_node.ensures.err)
+    (written_err c.show_node.result c.written-in-ShowNode.result c.written-in-ShowNode.ensures.ok
+    c.written-in-ShowNode.ensures.err _ c.show_node.ensures.err)
 
 pub returns-in-Newest-clause-ok : goal.returns-in-Newest-clause-ok
 returns-in-Newest-clause-ok g c =
     rw c.in-Newest.is
-    (written_ok c.show_newest.result c.written-in-Newest.result c.written-in-Newest.ensures.ok c.written-in-Newest.ensures.err (λ text. (refl, text))
-    c.show_newest.ensures.ok)
+    (written_ok c.show_newest.result c.written-in-Newest.result c.written-in-Newest.ensures.ok
+    c.written-in-Newest.ensures.err (λ text. (refl, text)) c.show_newest.ensures.ok)
 
 pub returns-in-Newest-clause-err : goal.returns-in-Newest-clause-err
 returns-in-Newest-clause-err g c =
     rw c.in-Newest.is
-    (written_err c.show_newest.result c.written-in-Newest.result c.written-in-Newest.ensures.ok c.written-in-Newest.ensures.err _
-    c.show_newest.ensures.err)
+    (written_err c.show_newest.result c.written-in-Newest.result c.written-in-Newest.ensures.ok
+    c.written-in-Newest.ensures.err _ c.show_newest.ensures.err)
 
 pub returns-in-Alarm-clause-ok : goal.returns-in-Alarm-clause-ok
 returns-in-Alarm-clause-ok g c =
     rw c.in-Alarm.is
-    (written_ok c.answer_alarm.result c.written-in-Alarm.result c.written-in-Alarm.ensures.ok c.written-in-Alarm.ensures.err (λ text. (refl, text))
-    c.answer_alarm.ensures.ok)
+    (written_ok c.answer_alarm.result c.written-in-Alarm.result c.written-in-Alarm.ensures.ok
+    c.written-in-Alarm.ensures.err (λ text. (refl, text)) c.answer_alarm.ensures.ok)
 
 pub returns-in-Alarm-clause-err : goal.returns-in-Alarm-clause-err
 returns-in-Alarm-clause-err g c =
     rw c.in-Alarm.is
-    (written_err c.answer_alarm.result c.written-in-Alarm.result c.written-in-Alarm.ensures.ok c.written-in-Alarm.ensures.err _
-    c.answer_alarm.ensures.err)
+    (written_err c.answer_alarm.result c.written-in-Alarm.result c.written-in-Alarm.ensures.ok
+    c.written-in-Alarm.ensures.err _ c.answer_alarm.ensures.err)

@@ -41,9 +41,8 @@ returns-in-Err-clause-ok g c =
     c.in-Err.ensures.err memory in
     let P : List ℕ → Type 0 =
     λ t. Appends (g.W.Write.contents c.args.out.now) (g.W.Write.contents c.put_refusal.new.out) t in
-    let told = c.written-in-Err in
-    written_ok c.put_refusal.result told.result told.ensures.ok told.ensures.err (subst P (sym text))
-    c.put_refusal.ensures.ok
+    written_ok c.put_refusal.result c.written-in-Err.result c.written-in-Err.ensures.ok c.written-in-Err.ensures.err
+    (subst P (sym text)) c.put_refusal.ensures.ok
 
 pub returns-in-Err-clause-err : goal.returns-in-Err-clause-err
 returns-in-Err-clause-err g c =
@@ -54,6 +53,6 @@ returns-in-Err-clause-err g c =
     c.in-Err.ensures.err memory in
     let P : List ℕ → Type 0 =
     λ t. AppendsPrefix (g.W.Write.contents c.args.out.now) (g.W.Write.contents c.put_refusal.new.out) t in
-    let told = c.written-in-Err in
-    subst (λ t. OnErr told.result (P t)) (sym text)
-    (written_err c.put_refusal.result told.result told.ensures.ok told.ensures.err _ c.put_refusal.ensures.err)
+    subst (λ t. OnErr c.written-in-Err.result (P t)) (sym text)
+    (written_err c.put_refusal.result c.written-in-Err.result c.written-in-Err.ensures.ok c.written-in-Err.ensures.err _
+    c.put_refusal.ensures.err)
