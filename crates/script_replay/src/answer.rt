@@ -162,9 +162,9 @@ pub fn answer_step<P: Application, W: Write>(
         → config.new ≡ (stepped config.old (outcome_of P.app config.old event)).0 }
 {
     match config.step(alloc, event) {
-        Ok(reply) => Ok(put_reply(out, reply)?),
+        Ok(reply) => written(put_reply(out, reply)),
         Err(StepRefusal::NoMemory) => Err(RunStop::NoMemory),
-        Err(refusal) => Ok(put_refusal(out, refusal)?),
+        Err(refusal) => written(put_refusal(out, refusal)),
     }
 }
 

@@ -9,7 +9,7 @@ ghost use Rattle.script_replay.specs.Output.{at_node, enabled_line, enabled_text
 ghost use Rattle.script_replay.specs.Stops.{IsOutputStop};
 
 use crate::answer::put_refusal;
-use crate::status::RunStop;
+use crate::status::{RunStop, written};
 use action_tables::{Part, WriteFault, put_bytes, put_parts};
 use app_interface::Application;
 use reset_machine::{Config, Enabled, StepRefusal};
@@ -32,9 +32,9 @@ pub fn answer_enabled<P: Application, W: Write>(
     ensures stop { IfErr result IsOutputStop }
 {
     match config.enabled(alloc, at) {
-        Ok(rows) => Ok(put_enabled(out, at, rows)?),
+        Ok(rows) => written(put_enabled(out, at, rows)),
         Err(StepRefusal::NoMemory) => Err(RunStop::NoMemory),
-        Err(refusal) => Ok(put_refusal(out, refusal)?),
+        Err(refusal) => written(put_refusal(out, refusal)),
     }
 }
 
@@ -74,7 +74,7 @@ pub fn answer_ready<P: Application, W: Write>(
     ensures kept { config.new ≡ config.old }
 {
     match config.ready(alloc) {
-        Ok(ids) => Ok(put_ready(out, &ids)?),
+        Ok(ids) => written(put_ready(out, &ids)),
         Err(AllocError) => Err(RunStop::NoMemory),
     }
 }

@@ -1,46 +1,35 @@
-use Rattle.std.proofs.Common.{◌≢◌, ℕ, List, subst, sym, rules}
+use Rattle.std.proofs.Common.{◌≢◌, List, rules, subst, sym, ℕ}
+use Rattle.std.specs.Prelude.{OnErr}
 use Rattle.std.specs.Io.KnownBytes.{Appends}
 use Rattle.action_tables.specs.Written.{AppendsPrefix}
-use Rattle.action_tables.proofs.Prefixes.{OnErr-always}
 use Rattle.reset_model.specs.declared.step.StepRefusal.TheVariants.{NoMemory}
 use Rattle.script_replay.specs.Meaning.{meaning_of}
 use Rattle.script_replay.specs.Output.{enabled_line}
 use Rattle.script_replay.proofs.Nodes.{enabled_node, told_refused}
+use Rattle.script_replay.proofs.Written.{written_err, written_ok}
 use Rattle.script_replay.proofs.rows.answer_enabled.Goals as goal
 
-pub returns-in_err-put_enabled-in-Ok-clause-err : goal.returns-in_err-put_enabled-in-Ok-clause-err
-returns-in_err-put_enabled-in-Ok-clause-err g c =
-    let m = meaning_of g.P.Application.app g.P.Application.text g.P.Application.from_text g.P.Application.names in
-    let text = enabled_node m c.args.config.now c.args.at c.in-Ok.rows c.in-Ok.ensures.ok.0 c.in-Ok.ensures.ok.1 in
-    let P : List ℕ → Type 0 =
-    λ t. AppendsPrefix (g.W.Write.contents c.args.out.now) (g.W.Write.contents c.put_enabled.new.out) t in
-    OnErr-always _ _ (subst P (sym text) c.in_err-put_enabled-in-Ok.ensures.err)
-
-pub returns-in_ok-put_enabled-in-Ok-clause-ok : goal.returns-in_ok-put_enabled-in-Ok-clause-ok
-returns-in_ok-put_enabled-in-Ok-clause-ok g c =
+pub returns-in-Ok-clause-ok : goal.returns-in-Ok-clause-ok
+returns-in-Ok-clause-ok g c =
     let m = meaning_of g.P.Application.app g.P.Application.text g.P.Application.from_text g.P.Application.names in
     let text = enabled_node m c.args.config.now c.args.at c.in-Ok.rows c.in-Ok.ensures.ok.0 c.in-Ok.ensures.ok.1 in
     let P : List ℕ → Type 0 =
     λ t. Appends (g.W.Write.contents c.args.out.now) (g.W.Write.contents c.put_enabled.new.out) t in
-    subst P (sym text) c.in_ok-put_enabled-in-Ok.ensures.ok
+    written_ok c.put_enabled.result c.written.result c.written.ensures.ok c.written.ensures.err (subst P (sym text))
+    c.put_enabled.ensures.ok
 
-pub returns-in_err-put_refusal-in-Err : goal.returns-in_err-put_refusal-in-Err
-returns-in_err-put_refusal-in-Err g c =
+pub returns-in-Ok-clause-err : goal.returns-in-Ok-clause-err
+returns-in-Ok-clause-err g c =
     let m = meaning_of g.P.Application.app g.P.Application.text g.P.Application.from_text g.P.Application.names in
-    let memory : c.in-Err.refusal ≢ NoMemory = search rules in
-    let text =
-    told_refused c.args.config.now c.args.at (enabled_line m c.args.config.now c.args.at) c.in-Err.refusal
-    c.in-Err.ensures.err memory in
+    let text = enabled_node m c.args.config.now c.args.at c.in-Ok.rows c.in-Ok.ensures.ok.0 c.in-Ok.ensures.ok.1 in
     let P : List ℕ → Type 0 =
-    λ t. AppendsPrefix (g.W.Write.contents c.args.out.now) (g.W.Write.contents c.put_refusal.new.out) t in
-    record {
-      ok = search rules;
-      err = OnErr-always _ _ (subst P (sym text) c.in_err-put_refusal-in-Err.ensures.err);
-      stop = search rules;
-    }
+    λ t. AppendsPrefix (g.W.Write.contents c.args.out.now) (g.W.Write.contents c.put_enabled.new.out) t in
+    subst (λ t. OnErr c.written.result (P t)) (sym text)
+    (written_err c.put_enabled.result c.written.result c.written.ensures.ok c.written.ensures.err _
+    c.put_enabled.ensures.err)
 
-pub returns-in_ok-put_refusal-in-Err : goal.returns-in_ok-put_refusal-in-Err
-returns-in_ok-put_refusal-in-Err g c =
+pub returns-in-Err-clause-ok : goal.returns-in-Err-clause-ok
+returns-in-Err-clause-ok g c =
     let m = meaning_of g.P.Application.app g.P.Application.text g.P.Application.from_text g.P.Application.names in
     let memory : c.in-Err.refusal ≢ NoMemory = search rules in
     let text =
@@ -48,8 +37,18 @@ returns-in_ok-put_refusal-in-Err g c =
     c.in-Err.ensures.err memory in
     let P : List ℕ → Type 0 =
     λ t. Appends (g.W.Write.contents c.args.out.now) (g.W.Write.contents c.put_refusal.new.out) t in
-    record {
-      ok = subst P (sym text) c.in_ok-put_refusal-in-Err.ensures.ok;
-      err = search rules;
-      stop = search rules;
-    }
+    written_ok c.put_refusal.result c.written-in-Err.result c.written-in-Err.ensures.ok c.written-in-Err.ensures.err
+    (subst P (sym text)) c.put_refusal.ensures.ok
+
+pub returns-in-Err-clause-err : goal.returns-in-Err-clause-err
+returns-in-Err-clause-err g c =
+    let m = meaning_of g.P.Application.app g.P.Application.text g.P.Application.from_text g.P.Application.names in
+    let memory : c.in-Err.refusal ≢ NoMemory = search rules in
+    let text =
+    told_refused c.args.config.now c.args.at (enabled_line m c.args.config.now c.args.at) c.in-Err.refusal
+    c.in-Err.ensures.err memory in
+    let P : List ℕ → Type 0 =
+    λ t. AppendsPrefix (g.W.Write.contents c.args.out.now) (g.W.Write.contents c.put_refusal.new.out) t in
+    subst (λ t. OnErr c.written-in-Err.result (P t)) (sym text)
+    (written_err c.put_refusal.result c.written-in-Err.result c.written-in-Err.ensures.ok c.written-in-Err.ensures.err _
+    c.put_refusal.ensures.err)

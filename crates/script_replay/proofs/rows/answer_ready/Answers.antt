@@ -1,27 +1,31 @@
 use Rattle.std.proofs.Common.{ℕ, List, subst, sym, ◌∙◌}
+use Rattle.std.specs.Prelude.{OnErr}
 use Rattle.std.specs.Io.KnownBytes.{Appends}
 use Rattle.action_tables.specs.Written.{AppendsPrefix}
-use Rattle.action_tables.proofs.Prefixes.{OnErr-always}
 use Rattle.script_replay.specs.Meaning.{meaning_of}
 use Rattle.script_replay.proofs.Nodes.{ready_line-is}
+use Rattle.script_replay.proofs.Written.{written_err, written_ok}
 use Rattle.script_replay.proofs.rows.answer_ready.Goals as goal
 
-pub returns-in_err-put_ready-in-Ok-clause-err : goal.returns-in_err-put_ready-in-Ok-clause-err
-returns-in_err-put_ready-in-Ok-clause-err g c =
+pub returns-in-Ok-clause-err : goal.returns-in-Ok-clause-err
+returns-in-Ok-clause-err g c =
     let text =
     ready_line-is
     (meaning_of g.P.Application.app g.P.Application.text g.P.Application.from_text g.P.Application.names)
     c.args.config.now c.deref.result.now (c.deref.ensures.value ∙ c.in-Ok.ensures.ok) in
     let P : List ℕ → Type 0 =
     λ t. AppendsPrefix (g.W.Write.contents c.args.out.now) (g.W.Write.contents c.put_ready.new.out) t in
-    OnErr-always _ _ (subst P (sym text) c.in_err-put_ready-in-Ok.ensures.err)
+    subst (λ t. OnErr c.written.result (P t)) (sym text)
+    (written_err c.put_ready.result c.written.result c.written.ensures.ok c.written.ensures.err _
+    c.put_ready.ensures.err)
 
-pub returns-in_ok-put_ready-in-Ok-clause-ok : goal.returns-in_ok-put_ready-in-Ok-clause-ok
-returns-in_ok-put_ready-in-Ok-clause-ok g c =
+pub returns-in-Ok-clause-ok : goal.returns-in-Ok-clause-ok
+returns-in-Ok-clause-ok g c =
     let text =
     ready_line-is
     (meaning_of g.P.Application.app g.P.Application.text g.P.Application.from_text g.P.Application.names)
     c.args.config.now c.deref.result.now (c.deref.ensures.value ∙ c.in-Ok.ensures.ok) in
     let P : List ℕ → Type 0 =
     λ t. Appends (g.W.Write.contents c.args.out.now) (g.W.Write.contents c.put_ready.new.out) t in
-    subst P (sym text) c.in_ok-put_ready-in-Ok.ensures.ok
+    written_ok c.put_ready.result c.written.result c.written.ensures.ok c.written.ensures.err (subst P (sym text))
+    c.put_ready.ensures.ok
