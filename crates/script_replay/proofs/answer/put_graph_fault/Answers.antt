@@ -42,3 +42,36 @@ returns-in-LinkIsThere-clause-ok g c = rw c.in-LinkIsThere.is c.put_bytes-in-Lin
 
 pub returns-in-NodeIsUp-clause-ok : goal.returns-in-NodeIsUp-clause-ok
 returns-in-NodeIsUp-clause-ok g c = rw c.in-NodeIsUp.is c.put_bytes-in-NodeIsUp.ensures.ok
+
+pub returns-in-NoNodes-clause-err : goal.returns-in-NoNodes-clause-err
+returns-in-NoNodes-clause-err g c = rw c.in-NoNodes.is c.put_bytes.ensures.err
+
+pub returns-in-TooManyNodes-clause-err : goal.returns-in-TooManyNodes-clause-err
+returns-in-TooManyNodes-clause-err g c = rw c.in-TooManyNodes.is c.put_bytes-in-TooManyNodes.ensures.err
+
+pub returns-in-BadId-clause-err : goal.returns-in-BadId-clause-err
+returns-in-BadId-clause-err g c = rw c.in-BadId.is c.put_node_fault.ensures.err
+
+pub returns-in-TwiceNode-clause-err : goal.returns-in-TwiceNode-clause-err
+returns-in-TwiceNode-clause-err g c = rw c.in-TwiceNode.is c.put_node_fault-in-TwiceNode.ensures.err
+
+pub returns-in-TooManyLinks-clause-err : goal.returns-in-TooManyLinks-clause-err
+returns-in-TooManyLinks-clause-err g c = rw c.in-TooManyLinks.is c.put_bytes-in-TooManyLinks.ensures.err
+
+pub returns-in-StrangeNode-clause-err : goal.returns-in-StrangeNode-clause-err
+returns-in-StrangeNode-clause-err g c = rw c.in-StrangeNode.is c.put_node_fault-in-StrangeNode.ensures.err
+
+pub returns-in-SelfLink-clause-err : goal.returns-in-SelfLink-clause-err
+returns-in-SelfLink-clause-err g c = rw c.in-SelfLink.is c.put_node_fault-in-SelfLink.ensures.err
+
+pub returns-in-NoMemory-clause-err : goal.returns-in-NoMemory-clause-err
+returns-in-NoMemory-clause-err g c = rw c.in-NoMemory.is c.put_bytes-in-NoMemory.ensures.err
+
+pub returns-in-NoSuchLink-clause-err : goal.returns-in-NoSuchLink-clause-err
+returns-in-NoSuchLink-clause-err g c = rw c.in-NoSuchLink.is c.put_bytes-in-NoSuchLink.ensures.err
+
+pub returns-in-LinkIsThere-clause-err : goal.returns-in-LinkIsThere-clause-err
+returns-in-LinkIsThere-clause-err g c = rw c.in-LinkIsThere.is c.put_bytes-in-LinkIsThere.ensures.err
+
+pub returns-in-NodeIsUp-clause-err : goal.returns-in-NodeIsUp-clause-err
+returns-in-NodeIsUp-clause-err g c = rw c.in-NodeIsUp.is c.put_bytes-in-NodeIsUp.ensures.err
