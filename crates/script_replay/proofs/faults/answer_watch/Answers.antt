@@ -18,3 +18,9 @@ returns-else-is_node-clause-err g c =
     rw (sym c.is_node.ensures ∙ c.if-is_node.false)
     (written_err c.put_refusal.result c.written.result c.written.ensures.ok c.written.ensures.err _
     c.put_refusal.ensures.err)
+
+pub returns-then-is_node-clause-ok : goal.returns-then-is_node-clause-ok
+returns-then-is_node-clause-ok g c = rw (sym c.is_node.ensures ∙ c.if-is_node.true) c.watch_node.ensures.ok
+
+pub returns-then-is_node-clause-err : goal.returns-then-is_node-clause-err
+returns-then-is_node-clause-err g c = rw (sym c.is_node.ensures ∙ c.if-is_node.true) c.watch_node.ensures.err
