@@ -93,6 +93,7 @@ fn a_request_is_relayed_by_the_father_alone(rt: HostRuntime) {
     let relay = Some(Event::Relay { at: 2, child: 1 });
     chooses(&rt, rt.alloc(), &config, 2, relay);
     chooses(&rt, rt.alloc(), &config, 3, None);
+    drop(config);
 }
 
 #[test]
@@ -107,6 +108,7 @@ fn after_the_request_a_reset_goes_by_itself(rt: HostRuntime) {
     for at in [1, 2, 3] {
         chooses(&rt, rt.alloc(), &config, at, None);
     }
+    drop(config);
 }
 
 #[test]
@@ -118,6 +120,7 @@ fn the_least_child_that_asks_is_relayed_first(rt: HostRuntime) {
         let relay = Some(Event::Relay { at: 1, child });
         chooses(&rt, rt.alloc(), &config, 1, relay);
     }
+    drop(config);
 }
 
 #[test]
@@ -126,6 +129,7 @@ fn a_request_is_relayed_before_the_application_acts(rt: HostRuntime) {
     takes(&rt, rt.alloc(), &mut config, Event::Request { at: 2 });
     let relay = Some(Event::Relay { at: 3, child: 2 });
     chooses(&rt, rt.alloc(), &config, 3, relay);
+    drop(config);
 }
 
 #[test]
@@ -135,6 +139,7 @@ fn a_node_joins_before_it_relays(rt: HostRuntime) {
     put_wave(&rt, &mut config, 3, Phase::Reset, 1);
     let join = Some(Event::Join { at: 2 });
     chooses(&rt, rt.alloc(), &config, 2, join);
+    drop(config);
 }
 
 // The leader of the line opens a session after this one.
@@ -144,6 +149,7 @@ fn opens_after<P: Application>(rt: &impl Abort, alloc: Global, session: u32) {
         put_wave(rt, &mut config, at, phase, session);
     }
     chooses(rt, alloc, &config, 3, Some(Event::Open { at: 3 }));
+    drop(config);
 }
 
 #[test]

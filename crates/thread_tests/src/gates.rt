@@ -132,6 +132,7 @@ fn each_node_has_a_thread_and_a_plan_stands_while_another_commits(rt: HostRuntim
         (Some(first), Some(second)) => assert!(rt; second < first),
         _ => panic!(rt; "an entry of each node"),
     }
+    drop(outcome);
 }
 
 // How often the gate was told of a plan of a node, and of its commitment.
@@ -202,6 +203,7 @@ fn is_told_of_each<P: Application, R: Threads + Wait + Sync + Abort>(rt: &R, all
     // What is planned first of all isn't stale.
     assert!(rt; all > 0);
     assert_eq!(rt; all, outcome.book.len() as u64);
+    drop(outcome);
 }
 
 #[test]

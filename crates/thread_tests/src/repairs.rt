@@ -81,6 +81,8 @@ fn a_node_adopts_before_it_mends_and_mends_before_it_finishes(rt: HostRuntime) {
     takes(&rt, rt.alloc(), &mut finished, Event::Finish { at: 2 });
     let mend = Some(Event::Mend { at: 2 });
     chooses(&rt, rt.alloc(), &config, 2, mend);
+    drop(finished);
+    drop(config);
 }
 
 #[test]
@@ -90,4 +92,5 @@ fn a_node_claims_before_the_application_acts(rt: HostRuntime) {
     put_tree(&rt, &mut config, 3, regs(3, 3, 1));
     let claim = Some(Event::Claim { at: 3 });
     chooses(&rt, rt.alloc(), &config, 3, claim);
+    drop(config);
 }

@@ -75,6 +75,7 @@ impl Scene for Committing {
         let outcome = closed(rt, alloc, shared, (first, second, third));
         has_entries(rt, &outcome, 1);
         has_step(rt, &outcome.book, 1, request);
+        drop(outcome);
     }
 }
 
@@ -107,6 +108,7 @@ impl Scene for Mistaking {
         has_receipts(rt, &second, &[]);
         let outcome = closed(rt, alloc, shared, (first, second, third));
         has_entries(rt, &outcome, 0);
+        drop(outcome);
     }
 }
 
@@ -154,6 +156,7 @@ impl Scene for Overtaking {
         has_receipts(rt, &second, &[]);
         let outcome = closed(rt, alloc, shared, (first, second, third));
         has_entries(rt, &outcome, 1);
+        drop(outcome);
     }
 }
 
@@ -251,6 +254,7 @@ fn sixty_five_nodes_are_too_many_and_the_book_comes_back(rt: HostRuntime) {
     assert_eq!(rt; book.config().topology().len(), 65);
     assert_eq!(rt; book.len(), 1);
     has_step(&rt, &book, 1, Event::Request { at: 2 });
+    drop(book);
 }
 
 // A book of the star with this many nodes, of which those from 2 on go down in turn until so many are up.
@@ -299,6 +303,7 @@ impl Scene for Empty {
         let outcome = outcome_of(rt, alloc, shared, seats);
         has_entries(rt, &outcome, 3);
         assert!(rt; outcome.seats.is_empty());
+        drop(outcome);
     }
 }
 
@@ -341,4 +346,5 @@ fn sixty_five_nodes_of_70_are_too_many(rt: HostRuntime) {
     let book = thinned_book(&rt, rt.alloc(), 70, 65);
     let book = too_many::<ManyUp, HostRuntime>(&rt, rt.alloc(), book);
     assert_eq!(rt; book.config().topology().node_count(), 65);
+    drop(book);
 }

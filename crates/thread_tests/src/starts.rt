@@ -44,6 +44,7 @@ fn the_first_entry_is_the_request_of_the_selected_node(rt: HostRuntime) {
         let book = opened::<Idle>(&rt, rt.alloc(), line(&rt, rt.alloc()));
         let outcome = run(&rt, rt.alloc(), book, Some(1));
         has_step(&rt, &outcome.book, 1, Event::Request { at: 1 });
+        drop(outcome);
     }
 }
 
@@ -56,6 +57,7 @@ fn without_a_selected_node_nothing_happens(rt: HostRuntime) {
     for list in &outcome.seats {
         assert!(rt; list.receipts.is_empty());
     }
+    drop(outcome);
 }
 
 // The book of the line, of which these nodes are down.
@@ -73,6 +75,7 @@ fn no_node_is_up_and_nothing_happens(rt: HostRuntime) {
     let outcome = run(&rt, rt.alloc(), book, None);
     assert_eq!(rt; outcome.book.len(), 3);
     assert!(rt; outcome.seats.is_empty());
+    drop(outcome);
 }
 
 #[test]
@@ -92,6 +95,7 @@ fn a_node_that_is_down_is_strange_and_has_no_seat(rt: HostRuntime) {
     }
     let first = outcome.seats[0].receipts.first();
     assert!(rt; first.is_some_and(|receipt| receipt.event == Event::Request { at: 1 }));
+    drop(outcome);
 }
 
 // The request and its relays.
@@ -142,6 +146,7 @@ fn what_the_book_had_stays_at_its_beginning(rt: HostRuntime) {
     has_step(&rt, &outcome.book, 4, Event::Open { at: 3 });
     let told = receipts_after(&rt, &outcome.seats, 3);
     assert_eq!(rt; told.saturating_add(3), outcome.book.len());
+    drop(outcome);
 }
 
 #[test]
@@ -151,6 +156,7 @@ fn a_strange_node_is_refused_and_the_book_comes_back(rt: HostRuntime) {
     assert_eq!(rt; cause, RunCause::StrangeNode);
     assert_eq!(rt; book.len(), 3);
     begins_asked(&rt, &book);
+    drop(book);
 }
 
 #[test]
@@ -165,6 +171,7 @@ fn too_many_nodes_are_refused_and_the_book_comes_back(rt: HostRuntime) {
     assert_eq!(rt; cause, RunCause::StrangeNode);
     assert_eq!(rt; book.len(), 1);
     has_step(&rt, &book, 1, request);
+    drop(book);
 }
 
 #[test]
@@ -175,4 +182,5 @@ fn a_full_book_is_no_fault(rt: HostRuntime) {
     assert_eq!(rt; outcome.book.len(), 2);
     has_step(&rt, &outcome.book, 1, Event::Request { at: 3 });
     has_step(&rt, &outcome.book, 2, Event::Open { at: 3 });
+    drop(outcome);
 }

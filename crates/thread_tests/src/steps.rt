@@ -47,6 +47,7 @@ impl Scene for Relaying {
         has_entries(rt, &outcome, 2);
         has_step(rt, &outcome.book, 2, relay);
         has_lists(rt, &outcome.seats, asked, relayed);
+        drop(outcome);
     }
 }
 
@@ -73,6 +74,7 @@ impl Scene for Straying {
         assert!(rt; !sees_initiate(&seen(rt, alloc, &shared, &first), 2));
         let outcome = closed(rt, alloc, shared, (first, second, third));
         has_entries(rt, &outcome, 0);
+        drop(outcome);
     }
 }
 
@@ -160,6 +162,7 @@ impl Scene for WholeReset {
             steps_at(rt, alloc, &shared, &mut seats, receipt);
             assert!(rt; sees_the_same(rt, alloc, &shared, &seats, &config));
         }
+        drop(config);
     }
 }
 
