@@ -57,7 +57,7 @@ class Proof:
 
     def __init__(self, base, below, name, jobs, tests):
         self.name, self.jobs, self.count, self.said, self.failed = name, jobs, "", [], False
-        self.times, self.base, self.tests = [], base, tests
+        self.base, self.tests = base, tests
         self.folder = f"{base}/{name}/crates/{name}"
         needed = {name} | all_below(below, name)
         for it in needed:
@@ -90,16 +90,20 @@ class Proof:
     def run(self, words):
         how = {"stdin": subprocess.DEVNULL, "stdout": subprocess.PIPE, "stderr": subprocess.STDOUT}
         with subprocess.Popen(words, cwd=self.folder, text=True, errors="replace", **how) as run:
-            before = time.monotonic()
             for line in run.stdout:
-                now = time.monotonic()
                 self.said.append(line)
-                at = re.match(r"checked (\S+), (\d+ of \d+)", line)
+                at = re.match(r"checked \S+, (\d+ of \d+)", line)
                 if at:
-                    self.count = at[2]
-                    self.times.append((now - before, f"{self.name}: {at[1]}"))
-                before = now
+                    self.count = at[1]
         return run.returncode
+
+    def modules(self):
+        """What its check has kept: each checked module's name, and the seconds since the one before was written."""
+        found = []
+        for at, _, files in os.walk(f"{self.folder}/out/incremental"):
+            found += [(os.stat(f"{at}/{it}").st_mtime, it) for it in files if it.endswith(".oantt")]
+        found.sort()
+        return [(file, now - before) for (before, _), (now, file) in zip(found, found[1:])]
 
     def has_ended(self):
         return not self.worker.is_alive()
