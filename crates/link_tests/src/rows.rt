@@ -29,7 +29,7 @@ fn a_stranger_is_refused(rt: HostRuntime) {
     drop(config);
 }
 
-// A booted network of node 3 alone, or of a triangle.
+// The booted network of these nodes and links.
 fn network(rt: &impl Abort, alloc: Global, nodes: &[u32], links: &[(u32, u32)]) -> Config<Idle> {
     booted(alloc, nodes, links).expect(rt, "a graph")
 }
