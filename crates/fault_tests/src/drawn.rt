@@ -1,5 +1,6 @@
 // Drawn faults.
 
+use crate::assert_equal;
 use app_interface::Idle;
 use fault_inject::{Fault, draw_fault};
 use rand_core::{Rng, SeedableRng};
@@ -22,11 +23,12 @@ fn triangle(rt: &impl Abort, alloc: Global) -> Config<Idle> {
 fn draws_from_published_words(rt: HostRuntime) {
     let config = triangle(&rt, rt.alloc());
     let mut random = Lcg64Xsh32::new(42, 54);
-    assert_eq!(rt;
+    assert_equal(
+        &rt,
         draw_fault(&mut random, &config),
-        Fault::LinkUp { a: 1, b: 3 }
+        Fault::LinkUp { a: 1, b: 3 },
     );
-    assert_eq!(rt; random.next_u32(), 0xcbed_606e);
+    assert_equal(&rt, random.next_u32(), 0xcbed_606e);
 
     let mut random = Lcg64Xsh32::new(42, 54);
     random.advance(1);
@@ -34,10 +36,12 @@ fn draws_from_published_words(rt: HostRuntime) {
         phase: Phase::Initiate,
         session: 3,
     };
-    assert_eq!(rt;
+    assert_equal(
+        &rt,
         draw_fault(&mut random, &config),
-        Fault::SetWave { at: 3, regs }
+        Fault::SetWave { at: 3, regs },
     );
+    drop(config);
 }
 
 #[test]
@@ -53,10 +57,12 @@ fn draws_sessions_beyond_the_modulus(rt: HostRuntime) {
         phase: Phase::Initiate,
         session: 3,
     };
-    assert_eq!(rt;
+    assert_equal(
+        &rt,
         draw_fault(&mut random, &config),
-        Fault::SetWave { at: 3, regs }
+        Fault::SetWave { at: 3, regs },
     );
+    drop(config);
 }
 
 // The fault of five words on the nodes 1, 2, 3.
@@ -85,26 +91,32 @@ fn fault_of(words: [u32; 5]) -> Fault {
     }
 }
 
+// The fault that is drawn from this seed is that of the seed's first five words, and no further word is drawn.
+// Gives its kind.
+fn draws_from_five_words(rt: &impl Abort, config: &Config<Idle>, seed: u64) -> usize {
+    let mut random = Lcg64Xsh32::seed_from_u64(seed);
+    let mut other = Lcg64Xsh32::seed_from_u64(seed);
+    let mut words = [0; 5];
+    for word in &mut words {
+        *word = other.next_u32();
+    }
+    assert!(rt;
+        draw_fault(&mut random, config) == fault_of(words),
+        "seed {seed}"
+    );
+    assert!(rt; random == other, "seed {seed}");
+    words[0] as usize
+}
+
 #[test]
 fn draws_from_five_words_of_each_seed(rt: HostRuntime) {
     let config = triangle(&rt, rt.alloc());
     let mut kinds = [0u32; 4];
     for seed in 0..1000u64 {
-        let mut random = Lcg64Xsh32::seed_from_u64(seed);
-        let mut other = Lcg64Xsh32::seed_from_u64(seed);
-        let mut words = [0; 5];
-        for word in &mut words {
-            *word = other.next_u32();
-        }
-        assert_eq!(rt;
-            draw_fault(&mut random, &config),
-            fault_of(words),
-            "seed {seed}"
-        );
-        assert!(rt; random == other, "seed {seed}");
-        let kind = words[0] as usize % 4;
+        let kind = draws_from_five_words(&rt, &config, seed) % 4;
         kinds[kind] = kinds[kind].saturating_add(1);
     }
+    drop(config);
     for count in kinds {
         assert!(rt; count > 200);
     }

@@ -1,5 +1,6 @@
 // What faults do to a configuration.
 
+use crate::assert_equal;
 use app_interface::Idle;
 use fault_inject::{FaultRefusal, inject, read_fault};
 use reset_machine::Config;
@@ -17,24 +18,18 @@ fn do_line(
     alloc: Global,
     config: &mut Config<Idle>,
     line: &[u8],
-) -> Result<Result<(), FaultRefusal>, Fail> {
-    match read_fault(alloc, line)? {
-        Some(fault) => Ok(inject(alloc, config, &fault)),
-        None => panic!(rt; "no fault"),
+) -> Result<(), FaultRefusal> {
+    match read_fault(alloc, line) {
+        Ok(Some(fault)) => inject(alloc, config, &fault),
+        _ => panic!(rt; "no fault"),
     }
 }
 
 // Does the faults of the lines, of which none is refused.
-fn do_lines(
-    rt: &impl Abort,
-    alloc: Global,
-    config: &mut Config<Idle>,
-    lines: &[&[u8]],
-) -> Result<(), Fail> {
+fn do_lines(rt: &impl Abort, alloc: Global, config: &mut Config<Idle>, lines: &[&[u8]]) {
     for line in lines {
-        assert_eq!(rt; do_line(rt, alloc, config, line)?, Ok(()));
+        assert_equal(rt, do_line(rt, alloc, config, line), Ok(()));
     }
-    Ok(())
 }
 
 // Each of the lines is refused for this reason.
@@ -44,11 +39,10 @@ fn refuse_lines(
     config: &mut Config<Idle>,
     lines: &[&[u8]],
     refusal: FaultRefusal,
-) -> Result<(), Fail> {
+) {
     for line in lines {
-        assert_eq!(rt; do_line(rt, alloc, config, line)?, Err(refusal));
+        assert_equal(rt, do_line(rt, alloc, config, line), Err(refusal));
     }
-    Ok(())
 }
 
 #[test]
@@ -74,8 +68,9 @@ fn refuses_what_cant_be_done(rt: HostRuntime) -> Result<(), Fail> {
         (b"fault on 2".as_slice(), FaultRefusal::NodeIsUp),
     ] {
         let mut config = line::<Idle>(rt.alloc())?;
-        assert_eq!(rt; do_line(&rt, rt.alloc(), &mut config, text)?, Err(refusal));
-        assert_eq!(rt; config.topology().link_count(), 2);
+        refuse_lines(&rt, rt.alloc(), &mut config, &[text], refusal);
+        assert_equal(&rt, config.topology().link_count(), 2);
+        drop(config);
     }
     Ok(())
 }
@@ -85,14 +80,15 @@ fn writes_tree_registers(rt: HostRuntime) -> Result<(), Fail> {
     let mut config = line::<Idle>(rt.alloc())?;
     let others = [config.tree_at(1), config.tree_at(3)];
     let lines = [b"fault tree 2 65535 9 4294967295".as_slice()];
-    do_lines(&rt, rt.alloc(), &mut config, &lines)?;
+    do_lines(&rt, rt.alloc(), &mut config, &lines);
     let tree = TreeRegs {
         root: 65_535,
         father: 9,
         dist: 4_294_967_295,
     };
-    assert_eq!(rt; config.tree_at(2), Some(tree));
-    assert_eq!(rt; [config.tree_at(1), config.tree_at(3)], others);
+    assert_equal(&rt, config.tree_at(2), Some(tree));
+    assert_equal(&rt, [config.tree_at(1), config.tree_at(3)], others);
+    drop(config);
     Ok(())
 }
 
@@ -104,14 +100,15 @@ fn writes_wave_registers_and_local_states(rt: HostRuntime) -> Result<(), Fail> {
         b"fault wave 3 reset 7".as_slice(),
         b"fault local 1 -".as_slice(),
     ];
-    do_lines(&rt, rt.alloc(), &mut config, &lines)?;
+    do_lines(&rt, rt.alloc(), &mut config, &lines);
     let wave = WaveRegs {
         phase: Phase::Reset,
         session: 7,
     };
-    assert_eq!(rt; config.wave_at(3), Some(wave));
-    assert_eq!(rt; [config.wave_at(1), config.wave_at(2)], others);
-    assert_eq!(rt; config.topology().link_count(), 2);
+    assert_equal(&rt, config.wave_at(3), Some(wave));
+    assert_equal(&rt, [config.wave_at(1), config.wave_at(2)], others);
+    assert_equal(&rt, config.topology().link_count(), 2);
+    drop(config);
     Ok(())
 }
 
@@ -122,15 +119,16 @@ fn writes_sessions_beyond_the_modulus(rt: HostRuntime) -> Result<(), Fail> {
         (b"fault wave 2 normal 8".as_slice(), 8),
         (b"fault wave 2 normal 4294967295".as_slice(), 4_294_967_295),
     ] {
-        let done = do_line(&rt, rt.alloc(), &mut config, text)?;
-        assert_eq!(rt; done, Ok(()));
+        let done = do_line(&rt, rt.alloc(), &mut config, text);
+        assert_equal(&rt, done, Ok(()));
         let wave = WaveRegs {
             phase: Phase::Normal,
             session,
         };
-        assert_eq!(rt; config.wave_at(2), Some(wave));
+        assert_equal(&rt, config.wave_at(2), Some(wave));
     }
-    assert_eq!(rt; config.modulus().get(), 8);
+    assert_equal(&rt, config.modulus().get(), 8);
+    drop(config);
     Ok(())
 }
 
@@ -142,14 +140,15 @@ fn takes_links_out_and_puts_them_in(rt: HostRuntime) -> Result<(), Fail> {
         rt.alloc(),
         &mut config,
         &[b"fault down 3 1".as_slice()],
-    )?;
+    );
     assert!(rt; !config.topology().linked(1, 3));
     assert!(rt; config.topology().linked(1, 2));
     assert!(rt; config.topology().linked(2, 3));
 
-    do_lines(&rt, rt.alloc(), &mut config, &[b"fault up 1 3".as_slice()])?;
+    do_lines(&rt, rt.alloc(), &mut config, &[b"fault up 1 3".as_slice()]);
     assert!(rt; config.topology().linked(3, 1));
-    assert_eq!(rt; config.topology().link_count(), 3);
+    assert_equal(&rt, config.topology().link_count(), 3);
+    drop(config);
     Ok(())
 }
 
@@ -163,10 +162,11 @@ fn takes_a_link_out_that_parts_the_line(rt: HostRuntime) -> Result<(), Fail> {
         rt.alloc(),
         &mut config,
         &[b"fault down 1 2".as_slice()],
-    )?;
-    assert_eq!(rt; config.topology().link_count(), 1);
-    assert_eq!(rt; leaders(&config), [Some(1), Some(3), Some(3)]);
-    assert_eq!(rt; [1, 2, 3].map(|id| config.tree_at(id)), trees);
+    );
+    assert_equal(&rt, config.topology().link_count(), 1);
+    assert_equal(&rt, leaders(&config), [Some(1), Some(3), Some(3)]);
+    assert_equal(&rt, [1, 2, 3].map(|id| config.tree_at(id)), trees);
+    drop(config);
     Ok(())
 }
 
@@ -175,8 +175,8 @@ fn takes_a_link_out_that_parts_the_line(rt: HostRuntime) -> Result<(), Fail> {
 fn takes_all_links_out_and_puts_one_in(rt: HostRuntime) -> Result<(), Fail> {
     let mut config = line::<Idle>(rt.alloc())?;
     let lines = [b"fault down 1 2".as_slice(), b"fault down 3 2".as_slice()];
-    do_lines(&rt, rt.alloc(), &mut config, &lines)?;
-    assert_eq!(rt; leaders(&config), [Some(1), Some(2), Some(3)]);
+    do_lines(&rt, rt.alloc(), &mut config, &lines);
+    assert_equal(&rt, leaders(&config), [Some(1), Some(2), Some(3)]);
     let gone = [b"fault down 3 2".as_slice()];
     refuse_lines(
         &rt,
@@ -184,9 +184,10 @@ fn takes_all_links_out_and_puts_one_in(rt: HostRuntime) -> Result<(), Fail> {
         &mut config,
         &gone,
         FaultRefusal::NoSuchLink,
-    )?;
-    do_lines(&rt, rt.alloc(), &mut config, &[b"fault up 1 3".as_slice()])?;
-    assert_eq!(rt; leaders(&config), [Some(3), Some(2), Some(3)]);
+    );
+    do_lines(&rt, rt.alloc(), &mut config, &[b"fault up 1 3".as_slice()]);
+    assert_equal(&rt, leaders(&config), [Some(3), Some(2), Some(3)]);
+    drop(config);
     Ok(())
 }
 
@@ -208,18 +209,19 @@ fn leader_of(topology: &Topology, id: u32) -> Option<u32> {
 fn takes_a_node_down(rt: HostRuntime) -> Result<(), Fail> {
     let mut config = line::<Idle>(rt.alloc())?;
     let trees = [config.tree_at(1), config.tree_at(2)];
-    do_lines(&rt, rt.alloc(), &mut config, &[b"fault off 3".as_slice()])?;
-    assert_eq!(rt; config.topology().link_count(), 1);
-    assert_eq!(rt; leaders(&config), [Some(2), Some(2), None]);
-    assert_eq!(rt; [config.tree_at(1), config.tree_at(2)], trees);
-    assert_eq!(rt; config.wave_at(3), None);
+    do_lines(&rt, rt.alloc(), &mut config, &[b"fault off 3".as_slice()]);
+    assert_equal(&rt, config.topology().link_count(), 1);
+    assert_equal(&rt, leaders(&config), [Some(2), Some(2), None]);
+    assert_equal(&rt, [config.tree_at(1), config.tree_at(2)], trees);
+    assert_equal(&rt, config.wave_at(3), None);
+    drop(config);
     Ok(())
 }
 
 #[test]
 fn refuses_a_node_that_is_down(rt: HostRuntime) -> Result<(), Fail> {
     let mut config = line::<Idle>(rt.alloc())?;
-    do_lines(&rt, rt.alloc(), &mut config, &[b"fault off 3".as_slice()])?;
+    do_lines(&rt, rt.alloc(), &mut config, &[b"fault off 3".as_slice()]);
     let lines = [
         b"fault off 3".as_slice(),
         b"fault tree 3 3 3 0".as_slice(),
@@ -234,7 +236,9 @@ fn refuses_a_node_that_is_down(rt: HostRuntime) -> Result<(), Fail> {
         &mut config,
         &lines,
         FaultRefusal::StrangeNode,
-    )
+    );
+    drop(config);
+    Ok(())
 }
 
 // A node that comes up begins anew, and the others' registers stay.
@@ -247,19 +251,20 @@ fn brings_a_node_up(rt: HostRuntime) -> Result<(), Fail> {
         b"fault off 3".as_slice(),
         b"fault on 3".as_slice(),
     ];
-    do_lines(&rt, rt.alloc(), &mut config, &lines)?;
+    do_lines(&rt, rt.alloc(), &mut config, &lines);
     let tree = TreeRegs {
         root: 3,
         father: 3,
         dist: 0,
     };
-    assert_eq!(rt; config.tree_at(3), Some(tree));
+    assert_equal(&rt, config.tree_at(3), Some(tree));
     let wave = WaveRegs {
         phase: Phase::Normal,
         session: 0,
     };
-    assert_eq!(rt; config.wave_at(3), Some(wave));
-    assert_eq!(rt; [config.tree_at(1), config.tree_at(2)], trees);
+    assert_equal(&rt, config.wave_at(3), Some(wave));
+    assert_equal(&rt, [config.tree_at(1), config.tree_at(2)], trees);
+    drop(config);
     Ok(())
 }
 
@@ -267,12 +272,13 @@ fn brings_a_node_up(rt: HostRuntime) -> Result<(), Fail> {
 fn links_a_node_that_has_come_up(rt: HostRuntime) -> Result<(), Fail> {
     let mut config = line::<Idle>(rt.alloc())?;
     let lines = [b"fault off 3".as_slice(), b"fault on 3".as_slice()];
-    do_lines(&rt, rt.alloc(), &mut config, &lines)?;
-    assert_eq!(rt; leaders(&config), [Some(2), Some(2), Some(3)]);
+    do_lines(&rt, rt.alloc(), &mut config, &lines);
+    assert_equal(&rt, leaders(&config), [Some(2), Some(2), Some(3)]);
     let on = [b"fault on 3".as_slice()];
-    refuse_lines(&rt, rt.alloc(), &mut config, &on, FaultRefusal::NodeIsUp)?;
-    do_lines(&rt, rt.alloc(), &mut config, &[b"fault up 2 3".as_slice()])?;
-    assert_eq!(rt; leaders(&config), [Some(3), Some(3), Some(3)]);
+    refuse_lines(&rt, rt.alloc(), &mut config, &on, FaultRefusal::NodeIsUp);
+    do_lines(&rt, rt.alloc(), &mut config, &[b"fault up 2 3".as_slice()]);
+    assert_equal(&rt, leaders(&config), [Some(3), Some(3), Some(3)]);
+    drop(config);
     Ok(())
 }
 
@@ -284,10 +290,11 @@ fn takes_all_nodes_down(rt: HostRuntime) -> Result<(), Fail> {
         b"fault off 1".as_slice(),
         b"fault off 3".as_slice(),
     ];
-    do_lines(&rt, rt.alloc(), &mut config, &lines)?;
-    assert_eq!(rt; config.topology().node_count(), 0);
-    assert_eq!(rt; leaders(&config), [None, None, None]);
-    do_lines(&rt, rt.alloc(), &mut config, &[b"fault on 1".as_slice()])?;
-    assert_eq!(rt; leaders(&config), [Some(1), None, None]);
+    do_lines(&rt, rt.alloc(), &mut config, &lines);
+    assert_equal(&rt, config.topology().node_count(), 0);
+    assert_equal(&rt, leaders(&config), [None, None, None]);
+    do_lines(&rt, rt.alloc(), &mut config, &[b"fault on 1".as_slice()]);
+    assert_equal(&rt, leaders(&config), [Some(1), None, None]);
+    drop(config);
     Ok(())
 }

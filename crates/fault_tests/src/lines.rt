@@ -1,5 +1,6 @@
 // The lines of faults.
 
+use crate::assert_equal;
 use fault_inject::{Fault, LocalText, read_fault, write_fault};
 use std::alloc::Global;
 use std::process::Abort;
@@ -10,9 +11,9 @@ use wave_layer::{Phase, WaveRegs};
 // Reads the line as the fault, and writes the fault as the line.
 fn is_the_line_of(rt: &impl Abort, alloc: Global, line: &[u8], fault: Fault) -> Result<(), Fail> {
     let mut out = Vec::new(alloc);
-    assert_eq!(rt; write_fault(&fault, &mut out), Ok(()));
-    assert_eq!(rt; out.as_slice(), line);
-    assert_eq!(rt; read_fault(alloc, line)?, Some(fault));
+    assert_equal(rt, write_fault(&fault, &mut out), Ok(()));
+    assert_equal(rt, out.as_slice(), line);
+    assert_equal(rt, read_fault(alloc, line)?, Some(fault));
     Ok(())
 }
 
@@ -102,7 +103,7 @@ fn refuses_other_lines(rt: HostRuntime) -> Result<(), Fail> {
         b"fault on 1 ".as_slice(),
         b"fault of 1".as_slice(),
     ] {
-        assert_eq!(rt; read_fault(rt.alloc(), line)?, None);
+        assert_equal(&rt, read_fault(rt.alloc(), line)?, None);
     }
     Ok(())
 }

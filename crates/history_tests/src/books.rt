@@ -1,5 +1,6 @@
 // What books keep.
 
+use crate::assert_equal;
 use crate::line::{applied, book_of_line, disturbs, has_entry, has_newest, single, takes_all};
 use app_interface::Idle;
 use fault_inject::{Fault, FaultRefusal};
@@ -15,8 +16,8 @@ use wave_layer::{Phase, WaveRegs};
 
 // The book has the entries of one whole reset.
 fn has_a_whole_reset(rt: &impl Abort, book: &Book<Idle>) {
-    assert_eq!(rt; book.len(), 9);
-    assert_eq!(rt; book.limit(), MAX_ENTRIES);
+    assert_equal(rt, book.len(), 9);
+    assert_equal(rt, book.limit(), MAX_ENTRIES);
     has_newest(rt, book.config(), 3, Some(1));
     assert!(rt; book.entry(0).is_none());
     has_entry(rt, book, 4, &Entry::Step(Event::Open { at: 3 }));
@@ -26,7 +27,7 @@ fn has_a_whole_reset(rt: &impl Abort, book: &Book<Idle>) {
 #[test]
 fn reports_a_whole_reset(rt: HostRuntime) {
     let mut book = book_of_line(&rt, rt.alloc(), MAX_ENTRIES);
-    assert_eq!(rt; book.reports().len(), 0);
+    assert_equal(&rt, book.reports().len(), 0);
     takes_all(&rt, rt.alloc(), &mut book, &WHOLE_RESET);
     let reset = Report {
         number: 1,
@@ -46,7 +47,7 @@ fn answers(
     event: Event,
     answer: Result<Receipt, BookRefusal>,
 ) {
-    assert_eq!(rt; book.step(alloc, event), answer);
+    assert_equal(rt, book.step(alloc, event), answer);
 }
 
 #[test]
@@ -63,7 +64,7 @@ fn refuses_before_it_is_full(rt: HostRuntime) {
     let join = Event::Join { at: 1 };
     let refused = Err(BookRefusal::Refused(StepRefusal::NotEnabled));
     answers(&rt, rt.alloc(), &mut book, join, refused);
-    assert_eq!(rt; book.len(), 8);
+    assert_equal(&rt, book.len(), 8);
     drop(book);
 }
 
@@ -112,7 +113,7 @@ fn applies(
     receipt: Receipt,
 ) {
     match book.apply(alloc, plan) {
-        Ok(answer) => assert_eq!(rt; answer, receipt),
+        Ok(answer) => assert_equal(rt, answer, receipt),
         Err(_) => panic!(rt; "a plan of now"),
     }
 }
@@ -128,7 +129,7 @@ fn refusal_of(
     match book.apply(alloc, plan) {
         Ok(_) => panic!(rt; "no plan of now"),
         Err((refusal, back)) => {
-            assert_eq!(rt; back.event(), event);
+            assert_equal(rt, back.event(), event);
             refusal
         }
     }
@@ -150,8 +151,8 @@ fn applies_a_plan_once(rt: HostRuntime) {
     let second = plan_of(&rt, rt.alloc(), &book, request);
     applies(&rt, rt.alloc(), &mut book, first, applied(1, request));
     let refusal = refusal_of(&rt, rt.alloc(), &mut book, second, request);
-    assert_eq!(rt; seen_instead(&rt, refusal).id(), 3);
-    assert_eq!(rt; book.len(), 1);
+    assert_equal(&rt, seen_instead(&rt, refusal).id(), 3);
+    assert_equal(&rt, book.len(), 1);
     drop(book);
 }
 
@@ -168,7 +169,7 @@ fn a_full_book_applies_no_plan(rt: HostRuntime) {
     let last = plan_of(&rt, rt.alloc(), &book, open);
     let refusal = refusal_of(&rt, rt.alloc(), &mut book, last, open);
     assert!(rt; matches!(refusal, ApplyRefusal::BookFull));
-    assert_eq!(rt; book.len(), 2);
+    assert_equal(&rt, book.len(), 2);
     drop(book);
 }
 
@@ -182,7 +183,7 @@ fn a_neighbours_step_makes_a_plan_stale(rt: HostRuntime) {
     applies(&rt, rt.alloc(), &mut book, first, applied(1, own));
     let refusal = refusal_of(&rt, rt.alloc(), &mut book, second, other);
     assert!(rt; sees_initiate(&seen_instead(&rt, refusal), 1));
-    assert_eq!(rt; book.len(), 1);
+    assert_equal(&rt, book.len(), 1);
     drop(book);
 }
 
@@ -203,7 +204,7 @@ fn a_plan_of_another_topology_is_strange(rt: HostRuntime) {
     let mut book = book_of_line(&rt, rt.alloc(), MAX_ENTRIES);
     let refusal = refusal_of(&rt, rt.alloc(), &mut book, plan, request);
     assert!(rt; matches!(refusal, ApplyRefusal::StrangeNode));
-    assert_eq!(rt; book.len(), 0);
+    assert_equal(&rt, book.len(), 0);
     drop(book);
     drop(other);
 }

@@ -1,5 +1,6 @@
 // What verifying a history tells.
 
+use crate::assert_equal;
 use crate::line::{line, line_counting};
 use app_interface::Idle;
 use fault_inject::Fault;
@@ -20,7 +21,7 @@ pub(crate) fn is_history(
 ) {
     match verify(alloc, opening, entries) {
         Ok(summary) => {
-            assert_eq!(rt; summary.entries, entries.len());
+            assert_equal(rt, summary.entries, entries.len());
             assert!(rt; summary.reports.as_slice() == reports);
         }
         Err(_) => panic!(rt; "a history"),
@@ -37,7 +38,7 @@ pub(crate) fn is_refused_at(
 ) {
     match verify(alloc, opening, entries) {
         Ok(_) => panic!(rt; "no history"),
-        Err(fault) => assert_eq!(rt; fault, VerifyFault::NotEnabledAt(position)),
+        Err(fault) => assert_equal(rt, fault, VerifyFault::NotEnabledAt(position)),
     }
 }
 

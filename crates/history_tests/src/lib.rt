@@ -2,6 +2,11 @@
 #![tactic(auto)]
 
 #[cfg(test)]
+use std::fmt::Debug;
+#[cfg(test)]
+use std::process::Abort;
+
+#[cfg(test)]
 mod books;
 #[cfg(test)]
 mod histories;
@@ -13,3 +18,10 @@ mod nodes;
 mod positions;
 #[cfg(test)]
 mod texts;
+
+// `assert_eq!` in a function of its own, which is proved once: where the macro stands, it is proved each time anew,
+// with all that the test holds there.
+#[cfg(test)]
+fn assert_equal<T: PartialEq + Debug + Drop>(rt: &impl Abort, left: T, right: T) {
+    assert_eq!(rt; left, right);
+}

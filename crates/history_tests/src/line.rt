@@ -1,5 +1,6 @@
 // The line of the nodes 1, 2, 3 and a node alone, booted, and their books.
 
+use crate::assert_equal;
 use app_interface::Idle;
 use fault_inject::Fault;
 use history::{Book, DisturbRefusal, Entry, MAX_ENTRIES, Receipt};
@@ -84,6 +85,19 @@ pub(crate) fn has_wave(rt: &impl Abort, config: &Config<Idle>, id: u32, wanted: 
 // This is the newest session of the node's component, if it is up.
 pub(crate) fn has_newest(rt: &impl Abort, config: &Config<Idle>, id: u32, wanted: Option<u32>) {
     assert_eq!(rt; config.newest_session(id), wanted, "node {id}");
+}
+
+// What the leader of node 3 had as its session at this position of the book.
+pub(crate) fn had_newest_at(
+    rt: &impl Abort,
+    alloc: Global,
+    book: &Book<Idle>,
+    position: usize,
+    wanted: Option<u32>,
+) {
+    let config = config_of(rt, alloc, book, position);
+    has_newest(rt, &config, 3, wanted);
+    drop(config);
 }
 
 // The book has this entry at this position.

@@ -1,7 +1,10 @@
 // Histories in which nodes go down and come up.
 
+use crate::assert_equal;
 use crate::histories::{is_history, is_refused_at, report, unopened};
-use crate::line::{book_of_line, config_of, disturbs, has_newest, has_tree, has_wave, line};
+use crate::line::{
+    book_of_line, config_of, disturbs, had_newest_at, has_newest, has_tree, has_wave, line,
+};
 use app_interface::Idle;
 use fault_inject::{Fault, FaultRefusal};
 use history::{Book, DisturbRefusal, Entry, MAX_ENTRIES, verify_reader, write_book};
@@ -25,7 +28,7 @@ fn is_off(rt: &impl Abort, config: &Config<Idle>) {
     has_wave(rt, config, 3, None);
     has_newest(rt, config, 3, None);
     has_newest(rt, config, 2, Some(0));
-    assert_eq!(rt; config.topology().len(), 3);
+    assert_equal(rt, config.topology().len(), 3);
 }
 
 // Node 3 has come up as its own root, without links.
@@ -43,15 +46,25 @@ fn is_on(rt: &impl Abort, config: &Config<Idle>) {
     has_wave(rt, config, 3, Some(start));
 }
 
+fn was_off_at(rt: &impl Abort, alloc: Global, book: &Book<Idle>, position: usize) {
+    let config = config_of(rt, alloc, book, position);
+    is_off(rt, &config);
+    drop(config);
+}
+
+fn was_on_at(rt: &impl Abort, alloc: Global, book: &Book<Idle>, position: usize) {
+    let config = config_of(rt, alloc, book, position);
+    is_on(rt, &config);
+    assert!(rt; config.trees() == book.config().trees());
+    drop(config);
+}
+
 #[test]
 fn configurations_of_a_node_off_and_on(rt: HostRuntime) {
     let book = off_and_on(&rt, rt.alloc());
-    has_newest(&rt, &config_of(&rt, rt.alloc(), &book, 0), 3, Some(0));
-    is_off(&rt, &config_of(&rt, rt.alloc(), &book, 1));
-    let on = config_of(&rt, rt.alloc(), &book, 2);
-    is_on(&rt, &on);
-    assert!(rt; on.trees() == book.config().trees());
-    drop(on);
+    had_newest_at(&rt, rt.alloc(), &book, 0, Some(0));
+    was_off_at(&rt, rt.alloc(), &book, 1);
+    was_on_at(&rt, rt.alloc(), &book, 2);
     drop(book);
 }
 
@@ -60,15 +73,16 @@ fn a_node_off_and_on_is_written_and_verified(rt: HostRuntime) {
     let book = off_and_on(&rt, rt.alloc());
     let mut text = Vec::new(rt.alloc());
     assert!(rt; write_book(&book, &mut text).is_ok());
-    assert_eq!(rt;
+    assert_equal(
+        &rt,
         text.as_slice(),
-        b"reset-history 3 4294967296\nfault off 3\nfault on 3\n".as_slice()
+        b"reset-history 3 4294967296\nfault off 3\nfault on 3\n".as_slice(),
     );
     let mut rest = text.as_slice();
     match verify_reader(rt.alloc(), line(&rt, rt.alloc()), &mut rest) {
         Ok(summary) => {
-            assert_eq!(rt; summary.entries, 2);
-            assert_eq!(rt; summary.reports.len(), 0);
+            assert_equal(&rt, summary.entries, 2);
+            assert_equal(&rt, summary.reports.len(), 0);
         }
         Err(_) => panic!(rt; "a history of the line"),
     }
@@ -88,7 +102,7 @@ fn refuses_faults_of_nodes(rt: HostRuntime) {
     disturbs(&rt, rt.alloc(), &mut book, off(), Err(strange));
     let full = (DisturbRefusal::BookFull, on());
     disturbs(&rt, rt.alloc(), &mut book, on(), Err(full));
-    assert_eq!(rt; book.len(), 1);
+    assert_equal(&rt, book.len(), 1);
     drop(book);
 }
 

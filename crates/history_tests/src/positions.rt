@@ -1,6 +1,9 @@
 // The configurations that books had.
 
-use crate::line::{book_of_line, config_of, has_entry, has_newest, has_wave, single, takes_all};
+use crate::assert_equal;
+use crate::line::{
+    book_of_line, config_of, had_newest_at, has_entry, has_newest, has_wave, single, takes_all,
+};
 use app_interface::Idle;
 use history::{AtFault, Book, Entry, MAX_ENTRIES, read_book, write_book};
 use reset_machine::{Config, Event};
@@ -19,20 +22,36 @@ fn has_opened(rt: &impl Abort, config: &Config<Idle>) {
     has_wave(rt, config, 3, Some(regs));
 }
 
+// The configuration at the book's last position is the book's own.
+fn ends_with_its_own(rt: &impl Abort, alloc: Global, book: &Book<Idle>) {
+    let last = config_of(rt, alloc, book, book.len());
+    assert!(rt; last.trees() == book.config().trees());
+    assert!(rt; last.waves() == book.config().waves());
+    drop(last);
+}
+
+fn has_no_position(rt: &impl Abort, alloc: Global, book: &Book<Idle>, position: usize) {
+    match book.config_at(alloc, position) {
+        Ok(_) => panic!(rt; "a position past the last"),
+        Err(fault) => assert_equal(rt, fault, AtFault::NoPosition),
+    }
+}
+
+fn had_opened_at(rt: &impl Abort, alloc: Global, book: &Book<Idle>, position: usize) {
+    let config = config_of(rt, alloc, book, position);
+    has_opened(rt, &config);
+    drop(config);
+}
+
 #[test]
 fn config_at(rt: HostRuntime) {
     let mut book = book_of_line(&rt, rt.alloc(), MAX_ENTRIES);
     takes_all(&rt, rt.alloc(), &mut book, &WHOLE_RESET);
-    has_newest(&rt, &config_of(&rt, rt.alloc(), &book, 0), 3, Some(0));
-    has_opened(&rt, &config_of(&rt, rt.alloc(), &book, 4));
-    let last = config_of(&rt, rt.alloc(), &book, 9);
-    assert!(rt; last.trees() == book.config().trees());
-    assert!(rt; last.waves() == book.config().waves());
-    match book.config_at(rt.alloc(), 10) {
-        Ok(_) => panic!(rt; "a position past the last"),
-        Err(fault) => assert_eq!(rt; fault, AtFault::NoPosition),
-    }
-    drop(last);
+    assert_equal(&rt, book.len(), 9);
+    had_newest_at(&rt, rt.alloc(), &book, 0, Some(0));
+    had_opened_at(&rt, rt.alloc(), &book, 4);
+    ends_with_its_own(&rt, rt.alloc(), &book);
+    has_no_position(&rt, rt.alloc(), &book, 10);
     drop(book);
 }
 
@@ -61,7 +80,7 @@ fn segment_border(rt: HostRuntime) {
     };
     let config = config_of(&rt, rt.alloc(), &book, 1024);
     has_wave(&rt, &config, 7, Some(regs));
-    assert_eq!(rt; book.reports().len(), 342);
+    assert_equal(&rt, book.reports().len(), 342);
     drop(config);
     drop(book);
 }
@@ -84,7 +103,7 @@ fn segments_are_written_in_turn(rt: HostRuntime) {
     let mut rest = text.as_slice();
     match read_book(rt.alloc(), &mut rest) {
         Ok(text) => {
-            assert_eq!(rt; text.entries.len(), 1026);
+            assert_equal(&rt, text.entries.len(), 1026);
             assert!(rt; are_those_of(&book, &text.entries));
         }
         Err(_) => panic!(rt; "a history"),

@@ -1,5 +1,6 @@
 // The texts of histories.
 
+use crate::assert_equal;
 use crate::histories::{is_history, report};
 use crate::line::{book_of_line, line, line_counting, takes_all};
 use app_interface::Idle;
@@ -58,7 +59,7 @@ impl Read for Joins {
 fn is_no_history<R: Read>(rt: &impl Abort, alloc: Global, reader: &mut R, why: BookFault) {
     match read_book(alloc, reader) {
         Ok(_) => panic!(rt; "no history"),
-        Err(fault) => assert_eq!(rt; fault, why),
+        Err(fault) => assert_equal(rt, fault, why),
     }
 }
 
@@ -91,7 +92,7 @@ fn a_book_is_written_and_read(rt: HostRuntime) {
     let text = written(&rt, rt.alloc(), &book);
     assert!(rt; text.as_slice() == RESET_HISTORY);
     let read = read(&rt, rt.alloc(), &text);
-    assert_eq!(rt; read.modulus, 4_294_967_296);
+    assert_equal(&rt, read.modulus, 4_294_967_296);
     let opening = line(&rt, rt.alloc());
     is_history(&rt, rt.alloc(), opening, &read.entries, &[report(1, 4, 9)]);
     drop(book);
@@ -103,9 +104,10 @@ fn a_book_is_written_with_its_modulus(rt: HostRuntime) {
     let mut book = Book::open_book(rt.alloc(), config, MAX_ENTRIES);
     takes_all(&rt, rt.alloc(), &mut book, &[Event::Request { at: 1 }]);
     let text = written(&rt, rt.alloc(), &book);
-    assert_eq!(rt;
+    assert_equal(
+        &rt,
         text.as_slice(),
-        b"reset-history 3 8\nrequest 1\n".as_slice()
+        b"reset-history 3 8\nrequest 1\n".as_slice(),
     );
     drop(book);
 }
@@ -113,7 +115,7 @@ fn a_book_is_written_with_its_modulus(rt: HostRuntime) {
 // The text is a history of this modulus with these entries.
 fn is_read_as(rt: &impl Abort, alloc: Global, text: &[u8], modulus: u64, entries: &[Entry]) {
     let read = read(rt, alloc, text);
-    assert_eq!(rt; read.modulus, modulus);
+    assert_equal(rt, read.modulus, modulus);
     assert!(rt; read.entries.as_slice() == entries);
 }
 
@@ -268,7 +270,7 @@ fn each_failed_read_is_told(rt: HostRuntime) {
     for stop in 1..=16 {
         let mut failing = FailingReader::new(RESET_HISTORY, stop);
         is_no_history(&rt, rt.alloc(), &mut failing, BookFault::ReadFailed);
-        assert_eq!(rt; failing.reads(), stop);
+        assert_equal(&rt, failing.reads(), stop);
     }
 }
 
@@ -308,7 +310,7 @@ fn verifies_what_a_reader_gives(rt: HostRuntime) {
         (b"reset-history 1\nrequest 1\nrelay 2 1\n", (2, 0)),
     ] {
         let mut rest = text;
-        assert_eq!(rt; verdict(&rt, rt.alloc(), &mut rest), Ok(told));
+        assert_equal(&rt, verdict(&rt, rt.alloc(), &mut rest), Ok(told));
     }
 }
 
@@ -325,18 +327,26 @@ fn tells_why_a_reader_gives_no_history(rt: HostRuntime) {
         (b"reset-history 1\njoin 1\nrequest 01\n", bad_line),
     ] {
         let mut rest = text;
-        assert_eq!(rt; verdict(&rt, rt.alloc(), &mut rest), Err(told));
+        assert_equal(&rt, verdict(&rt, rt.alloc(), &mut rest), Err(told));
     }
 }
 
 #[test]
 fn verifies_a_history_of_its_modulus(rt: HostRuntime) {
     let mut eight = b"reset-history 2 8\nrequest 1\nrelay 2 1\n".as_slice();
-    assert_eq!(rt; verdict_modulo_8(&rt, rt.alloc(), &mut eight), Ok((2, 0)));
+    assert_equal(
+        &rt,
+        verdict_modulo_8(&rt, rt.alloc(), &mut eight),
+        Ok((2, 0)),
+    );
     let mut third = b"reset-history 3 8\nrequest 1\nrelay 2 1\n".as_slice();
-    assert_eq!(rt; verdict_modulo_8(&rt, rt.alloc(), &mut third), Ok((2, 0)));
+    assert_equal(
+        &rt,
+        verdict_modulo_8(&rt, rt.alloc(), &mut third),
+        Ok((2, 0)),
+    );
     let mut first = b"reset-history 1\nrequest 1\nrelay 2 1\n".as_slice();
-    assert_eq!(rt; verdict(&rt, rt.alloc(), &mut first), Ok((2, 0)));
+    assert_equal(&rt, verdict(&rt, rt.alloc(), &mut first), Ok((2, 0)));
 }
 
 #[test]
@@ -351,7 +361,7 @@ fn another_modulus_is_told(rt: HostRuntime) {
     ] {
         let mut rest = text;
         let other = Err(ReaderFault::OtherModulus(modulus));
-        assert_eq!(rt; verdict_modulo_8(&rt, rt.alloc(), &mut rest), other);
+        assert_equal(&rt, verdict_modulo_8(&rt, rt.alloc(), &mut rest), other);
     }
 }
 
@@ -360,14 +370,18 @@ fn faults_of_the_text_come_before_another_modulus(rt: HostRuntime) {
     let bad = b"reset-history 1\nrequest 1\nrelay 2 1\nrequest 01\n".as_slice();
     let mut pieces = FailingReader::new(bad, 0);
     let bad_line = Err(ReaderFault::Text(BookFault::BadLine(4)));
-    assert_eq!(rt; verdict_modulo_8(&rt, rt.alloc(), &mut pieces), bad_line);
+    assert_equal(
+        &rt,
+        verdict_modulo_8(&rt, rt.alloc(), &mut pieces),
+        bad_line,
+    );
     // The modulus is read by the third read.
     let mut failing = FailingReader::new(bad, 4);
     let failed = Err(ReaderFault::Text(BookFault::ReadFailed));
-    assert_eq!(rt; verdict_modulo_8(&rt, rt.alloc(), &mut failing), failed);
+    assert_equal(&rt, verdict_modulo_8(&rt, rt.alloc(), &mut failing), failed);
     let too_long = Err(ReaderFault::Text(BookFault::TooLong));
     let mut joins = Joins { begun: false };
-    assert_eq!(rt; verdict_modulo_8(&rt, rt.alloc(), &mut joins), too_long);
+    assert_equal(&rt, verdict_modulo_8(&rt, rt.alloc(), &mut joins), too_long);
 }
 
 #[test]
@@ -375,8 +389,8 @@ fn each_failed_read_of_a_verification_is_told(rt: HostRuntime) {
     for stop in 1..=16 {
         let mut failing = FailingReader::new(RESET_HISTORY, stop);
         let failed = Err(ReaderFault::Text(BookFault::ReadFailed));
-        assert_eq!(rt; verdict(&rt, rt.alloc(), &mut failing), failed);
-        assert_eq!(rt; failing.reads(), stop);
+        assert_equal(&rt, verdict(&rt, rt.alloc(), &mut failing), failed);
+        assert_equal(&rt, failing.reads(), stop);
     }
 }
 
@@ -394,29 +408,30 @@ fn verdict_of_pieces(
 #[test]
 fn verifies_piece_by_piece(rt: HostRuntime) {
     let whole = verdict_of_pieces(&rt, rt.alloc(), RESET_HISTORY, 0);
-    assert_eq!(rt; whole, Ok((9, 1)));
+    assert_equal(&rt, whole, Ok((9, 1)));
     let early = b"reset-history 1\nrequest 3\nopen 3\njoin 1\njoin 1\n".as_slice();
     let refused = Err(ReaderFault::Entries(VerifyFault::NotEnabledAt(3)));
-    assert_eq!(rt; verdict_of_pieces(&rt, rt.alloc(), early, 0), refused);
+    assert_equal(&rt, verdict_of_pieces(&rt, rt.alloc(), early, 0), refused);
 }
 
 #[test]
 fn faults_of_the_text_come_before_a_refused_entry(rt: HostRuntime) {
     let bad = b"reset-history 1\njoin 1\nrequest 1\nrequest 01\n".as_slice();
     let bad_line = Err(ReaderFault::Text(BookFault::BadLine(4)));
-    assert_eq!(rt; verdict_of_pieces(&rt, rt.alloc(), bad, 0), bad_line);
+    assert_equal(&rt, verdict_of_pieces(&rt, rt.alloc(), bad, 0), bad_line);
     let cut = b"reset-history 1\njoin 1\nrequest 1\nrequest 1".as_slice();
-    assert_eq!(rt; verdict_of_pieces(&rt, rt.alloc(), cut, 0), bad_line);
+    assert_equal(&rt, verdict_of_pieces(&rt, rt.alloc(), cut, 0), bad_line);
     // The entry is read by the fourth read, and refused.
     let failed = Err(ReaderFault::Text(BookFault::ReadFailed));
-    assert_eq!(rt; verdict_of_pieces(&rt, rt.alloc(), bad, 5), failed);
+    assert_equal(&rt, verdict_of_pieces(&rt, rt.alloc(), bad, 5), failed);
 }
 
 #[test]
 fn too_many_entries_are_told_before_a_refused_one(rt: HostRuntime) {
     let too_long = Err(ReaderFault::Text(BookFault::TooLong));
-    assert_eq!(rt;
+    assert_equal(
+        &rt,
         verdict(&rt, rt.alloc(), &mut Joins { begun: false }),
-        too_long
+        too_long,
     );
 }

@@ -5,6 +5,11 @@
 #![tactic(auto)]
 
 #[cfg(test)]
+use std::fmt::Debug;
+#[cfg(test)]
+use std::process::Abort;
+
+#[cfg(test)]
 mod reading;
 #[cfg(test)]
 mod topologies;
@@ -14,3 +19,10 @@ mod tree;
 mod wave;
 #[cfg(test)]
 mod writing;
+
+// `assert_eq!` in a function of its own, which is proved once: where the macro stands, it is proved each time anew,
+// with all that the test holds there.
+#[cfg(test)]
+fn assert_equal<T: PartialEq + Debug + Drop>(rt: &impl Abort, left: T, right: T) {
+    assert_eq!(rt; left, right);
+}

@@ -3,12 +3,13 @@
 ghost use Rattle.std.specs.Char.{digit_value};
 ghost use Rattle.std.specs.Prelude.{◌≤◌};
 
+use crate::assert_equal;
 use action_tables::{CaseSet, cut, read_number, split_number};
 use std::process::Abort;
 
 fn holds_3_5_and_16_alone(rt: &impl Abort, set: CaseSet) {
     for case in 0..=255 {
-        assert_eq!(rt; set.has(case), case == 3 || case == 5 || case == 16);
+        assert_equal(rt, set.has(case), case == 3 || case == 5 || case == 16);
     }
 }
 
@@ -19,16 +20,16 @@ fn holds_its_cases(rt: HostRuntime) {
         .with(3)
         .with_if(5, true)
         .with_if(4, false);
-    assert_eq!(rt; set.first(), Some(3));
-    assert_eq!(rt; set.count(), 3);
+    assert_equal(&rt, set.first(), Some(3));
+    assert_equal(&rt, set.count(), 3);
     holds_3_5_and_16_alone(&rt, set);
-    assert_eq!(rt; CaseSet::empty().first(), None);
-    assert_eq!(rt; set, CaseSet::empty().with(3).with(5).with(16));
+    assert_equal(&rt, CaseSet::empty().first(), None);
+    assert_equal(&rt, set, CaseSet::empty().with(3).with(5).with(16));
     set.lemma_is_listed();
 }
 
 fn reads(rt: &impl Abort, text: &[u8], number: u32) {
-    assert_eq!(rt; read_number(text), Some(number));
+    assert_equal(rt, read_number(text), Some(number));
 }
 
 #[test]
@@ -41,13 +42,13 @@ fn reads_numbers(rt: HostRuntime) {
 fn splits(rt: &impl Abort, text: &[u8], end: u8, number: u32, rest: &[u8])
     requires { 10 ≤ digit_value end }
 {
-    assert_eq!(rt; split_number(text, end), Some((number, rest)));
+    assert_equal(rt, split_number(text, end), Some((number, rest)));
 }
 
 fn splits_nothing_off(rt: &impl Abort, text: &[u8], end: u8)
     requires { 10 ≤ digit_value end }
 {
-    assert_eq!(rt; split_number(text, end), None);
+    assert_equal(rt, split_number(text, end), None);
 }
 
 #[test]
@@ -65,7 +66,7 @@ fn splits_numbers_off(rt: HostRuntime) {
 }
 
 fn cuts(rt: &impl Abort, text: &[u8], mark: u8, parts: Option<(&[u8], &[u8])>) {
-    assert_eq!(rt; cut(text, mark), parts);
+    assert_equal(rt, cut(text, mark), parts);
 }
 
 #[test]

@@ -1,5 +1,6 @@
 // Graphs and what their readers tell. What a bad topology is answered with is shown on the program itself.
 
+use crate::assert_equal;
 use Change::{Down, Link, Unlink, Up};
 use action_tables::MAX_MODULUS;
 use std::alloc::{AllocGlobal, Global};
@@ -38,7 +39,11 @@ fn after(rt: &(impl Abort + AllocGlobal), topology: &Topology, change: Change) -
 // Each of these changes is refused for its reason.
 fn refuses(rt: &(impl Abort + AllocGlobal), topology: &Topology, faults: &[(Change, TopoFault)]) {
     for (change, fault) in faults {
-        assert_eq!(rt; changed(rt.alloc(), topology, *change).err(), Some(*fault));
+        assert_equal(
+            rt,
+            changed(rt.alloc(), topology, *change).err(),
+            Some(*fault),
+        );
     }
 }
 
@@ -105,12 +110,12 @@ fn measures(
     index: usize,
     distances: &[usize],
 ) {
-    assert_eq!(rt; topology.len(), distances.len());
+    assert_equal(rt, topology.len(), distances.len());
     assert!(rt; index < topology.len());
     let measured = topology
         .distances_from(rt.alloc(), index)
         .expect(rt, "memory");
-    assert_eq!(rt; measured.as_slice(), distances);
+    assert_equal(rt, measured.as_slice(), distances);
 }
 
 #[test]
@@ -124,10 +129,10 @@ fn reads_the_text_of_a_line(rt: HostRuntime) -> Result<(), Fail> {
     let text = b"nodes = [1, 2, 3]\nlinks = [[1, 2], [2, 3]]\napp = \"routes\"\n";
     let read = read_topology(rt.alloc(), text)?;
     let line = &read.topology;
-    assert_eq!(rt; line.len(), 3);
+    assert_equal(&rt, line.len(), 3);
     assert!(rt; linked(line, 1, 2) && linked(line, 3, 2) && !linked(line, 1, 3));
-    assert_eq!(rt; read.app, AppName::Routes);
-    assert_eq!(rt; read.modulus, MAX_MODULUS);
+    assert_equal(&rt, read.app, AppName::Routes);
+    assert_equal(&rt, read.modulus, MAX_MODULUS);
     Ok(())
 }
 
@@ -167,7 +172,7 @@ fn reads_a_modulus(rt: HostRuntime) {
             4_294_967_296,
         ),
     ] {
-        assert_eq!(rt; modulus_of(rt.alloc(), text), Some(modulus));
+        assert_equal(&rt, modulus_of(rt.alloc(), text), Some(modulus));
     }
 }
 
@@ -182,13 +187,13 @@ fn text_fault(rt: HostRuntime, text: &[u8]) -> Option<ReadFault> {
 #[test]
 fn refuses_what_is_no_modulus(rt: HostRuntime) {
     let one = b"nodes = [1]\nlinks = []\napp = \"idle\"\nmodulus = 1\n";
-    assert_eq!(rt; text_fault(rt, one), Some(ReadFault::WrongKind));
+    assert_equal(&rt, text_fault(rt, one), Some(ReadFault::WrongKind));
     let greater = b"nodes = [1]\nlinks = []\napp = \"idle\"\nmodulus = 4294967297\n";
-    assert_eq!(rt; text_fault(rt, greater), Some(ReadFault::WrongKind));
+    assert_equal(&rt, text_fault(rt, greater), Some(ReadFault::WrongKind));
     let text = b"nodes = [1]\nlinks = []\napp = \"idle\"\nmodulus = \"8\"\n";
-    assert_eq!(rt; text_fault(rt, text), Some(ReadFault::WrongKind));
+    assert_equal(&rt, text_fault(rt, text), Some(ReadFault::WrongKind));
     let unknown_app = b"nodes = [1]\nlinks = []\napp = \"idel\"\nmodulus = 0\n";
-    assert_eq!(rt; text_fault(rt, unknown_app), Some(ReadFault::WrongKind));
+    assert_equal(&rt, text_fault(rt, unknown_app), Some(ReadFault::WrongKind));
 }
 
 #[test]
@@ -237,7 +242,7 @@ fn copied(rt: &(impl Abort + AllocGlobal), topology: &Topology) -> Topology {
 #[test]
 fn each_component_has_its_leader(rt: HostRuntime) {
     let parted = path_and_link(&rt);
-    assert_eq!(rt; parted.link_count(), 3);
+    assert_equal(&rt, parted.link_count(), 3);
     assert!(rt; has_leaders(&parted, &[7, 9, 7, 7, 9]));
     assert!(rt; has_leaders(&copied(&rt, &parted), &[7, 9, 7, 7, 9]));
 }
@@ -258,11 +263,15 @@ fn measures_one_component(rt: HostRuntime) {
 
 #[test]
 fn a_link_joins_two_components(rt: HostRuntime) {
-    let joined = after(&rt, &path_and_link(&rt), Link(2, 1));
+    let parts = path_and_link(&rt);
+    let joined = after(&rt, &parts, Link(2, 1));
+    drop(parts);
     assert!(rt; has_leaders(&joined, &[9, 9, 9, 9, 9]));
     measures(&rt, &joined, 4, &[2, 1, 3, 4, 0]);
     let again = after(&rt, &joined, Unlink(1, 2));
+    drop(joined);
     assert!(rt; has_leaders(&again, &[7, 9, 7, 7, 9]));
+    drop(again);
 }
 
 #[test]
@@ -272,12 +281,16 @@ fn a_bridge_parts_two_components(rt: HostRuntime) {
     let bridged = built(&rt, &[1, 2, 3, 4, 5, 6], &links);
     assert!(rt; has_leaders(&bridged, &[6, 6, 6, 6, 6, 6]));
     let parted = after(&rt, &bridged, Unlink(3, 5));
-    assert_eq!(rt; parted.link_count(), 6);
+    drop(bridged);
+    assert_equal(&rt, parted.link_count(), 6);
     assert!(rt; has_leaders(&parted, &[5, 6, 6, 5, 5, 6]));
     let path = after(&rt, &parted, Unlink(3, 6));
+    drop(parted);
     assert!(rt; has_leaders(&path, &[5, 6, 6, 5, 5, 6]));
     let three = after(&rt, &path, Unlink(2, 6));
+    drop(path);
     assert!(rt; has_leaders(&three, &[5, 3, 3, 5, 5, 6]));
+    drop(three);
 }
 
 // Whether two graphs of four nodes have the same rows.
@@ -298,10 +311,13 @@ fn a_link_is_taken_out_and_put_back(rt: HostRuntime) {
     let opened = after(&rt, &cycle, Unlink(9, 2));
     assert!(rt; !has_the_rows_of(&cycle, &opened));
     assert!(rt; !linked(&opened, 2, 9) && !linked(&opened, 9, 2) && linked(&opened, 7, 9));
-    assert_eq!(rt; opened.link_count(), 3);
+    assert_equal(&rt, opened.link_count(), 3);
     measures(&rt, &opened, 0, &[0, 1, 2, 3]);
     let closed = after(&rt, &opened, Link(2, 9));
+    drop(opened);
     assert!(rt; has_the_rows_of(&cycle, &closed));
+    drop(cycle);
+    drop(closed);
 }
 
 // The first links, up to `most`, of each node to each later one.
@@ -345,9 +361,13 @@ fn there_is_room_for_8192_links(rt: HostRuntime) {
 
 #[test]
 fn a_link_that_is_taken_out_leaves_room(rt: HostRuntime) {
-    let one_less = after(&rt, &full_topology(&rt), Unlink(1, 2));
+    let full = full_topology(&rt);
+    let one_less = after(&rt, &full, Unlink(1, 2));
+    drop(full);
     let other = after(&rt, &one_less, Link(139, 138));
+    drop(one_less);
     assert!(rt; is_full(&other));
+    drop(other);
 }
 
 // Whether these are the nodes 1 and 3 of the line, and no link.
@@ -373,19 +393,28 @@ fn a_node_goes_down_with_its_links(rt: HostRuntime) {
     let line = built(&rt, &[1, 2, 3], &[(1, 2), (2, 3)]);
     let down = after(&rt, &line, Down(2));
     assert!(rt; is_line_without_2(&down));
-    assert!(rt; is_line_without_2(&copied(&rt, &down)));
+    let copy = copied(&rt, &down);
+    drop(down);
+    assert!(rt; is_line_without_2(&copy));
+    drop(copy);
     assert!(rt; has_three_nodes(&line) && has_two_links(&line));
+    drop(line);
 }
 
 #[test]
 fn a_node_comes_up_without_links(rt: HostRuntime) {
     let line = built(&rt, &[1, 2, 3], &[(1, 2), (2, 3)]);
-    let up = after(&rt, &after(&rt, &line, Down(2)), Up(2));
+    let down = after(&rt, &line, Down(2));
+    drop(line);
+    let up = after(&rt, &down, Up(2));
+    drop(down);
     assert!(rt; up.nodes() == [1, 2, 3].as_slice());
     assert!(rt; has_leaders(&up, &[1, 2, 3]));
-    assert_eq!(rt; up.link_count(), 0);
+    assert_equal(&rt, up.link_count(), 0);
     let linked = after(&rt, &up, Link(2, 3));
+    drop(up);
     assert!(rt; has_leaders(&linked, &[1, 3, 3]));
+    drop(linked);
 }
 
 #[test]
@@ -412,8 +441,13 @@ fn are_both_down(two: &Topology) -> bool {
 #[test]
 fn all_nodes_may_be_down(rt: HostRuntime) {
     let two = built(&rt, &[5, 4], &[(4, 5)]);
-    let none = after(&rt, &after(&rt, &two, Down(4)), Down(5));
+    let one = after(&rt, &two, Down(4));
+    drop(two);
+    let none = after(&rt, &one, Down(5));
+    drop(one);
     assert!(rt; are_both_down(&none));
-    let one = after(&rt, &none, Up(4));
-    assert!(rt; one.nodes() == [4].as_slice());
+    let up = after(&rt, &none, Up(4));
+    drop(none);
+    assert!(rt; up.nodes() == [4].as_slice());
+    drop(up);
 }

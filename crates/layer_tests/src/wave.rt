@@ -1,5 +1,6 @@
 // The table of the wave agrees with a plain one, written apart, at the edges of the registers.
 
+use crate::assert_equal;
 use action_tables::{CaseSet, MAX_MODULUS};
 use std::process::Abort;
 use wave_layer::FatherSeen::{self, Is, Itself, Lost};
@@ -250,7 +251,7 @@ fn agrees_with_a_plain_table(rt: HostRuntime) {
 #[test]
 fn a_modulus_is_from_2_to_4294967296(rt: HostRuntime) {
     for value in [2, 4_294_967_296] {
-        assert_eq!(rt; modulus(&rt, value).get(), value);
+        assert_equal(&rt, modulus(&rt, value).get(), value);
     }
     for value in [0, 1, 4_294_967_297, u64::MAX] {
         assert_eq!(rt; Modulus::new(value), None, "{value}");
@@ -260,15 +261,20 @@ fn a_modulus_is_from_2_to_4294967296(rt: HostRuntime) {
 #[test]
 fn the_commands_of_a_wave(rt: HostRuntime) {
     let most = modulus(&rt, MAX_MODULUS);
-    assert_eq!(rt; request(normal(4)), Ok(moved(initiate(4))));
-    assert_eq!(rt; relay(normal(4), Some(initiate(4))), Ok(moved(initiate(4))));
-    assert_eq!(rt; open(initiate(4), true, most), Ok(restarted(reset(5))));
-    assert_eq!(rt;
-        join(initiate(4), Is(reset(5)), most),
-        Ok(restarted(reset(5)))
+    assert_equal(&rt, request(normal(4)), Ok(moved(initiate(4))));
+    assert_equal(
+        &rt,
+        relay(normal(4), Some(initiate(4))),
+        Ok(moved(initiate(4))),
     );
-    assert_eq!(rt; finish(reset(5), false, true), Ok(moved(normal(5))));
-    assert_eq!(rt; finish(reset(5), true, true), Ok(completed(normal(5))));
+    assert_equal(&rt, open(initiate(4), true, most), Ok(restarted(reset(5))));
+    assert_equal(
+        &rt,
+        join(initiate(4), Is(reset(5)), most),
+        Ok(restarted(reset(5))),
+    );
+    assert_equal(&rt, finish(reset(5), false, true), Ok(moved(normal(5))));
+    assert_equal(&rt, finish(reset(5), true, true), Ok(completed(normal(5))));
 }
 
 // Of a session, its modulus and the session after it: the last ones, and some that a fault left.
@@ -314,9 +320,10 @@ fn a_session_beyond_the_modulus_is_joined_by_nobody(rt: HostRuntime) {
     let eight = modulus(&rt, 8);
     // Session 10 is 2 modulo 8, and yet not the session after 1 or after 9.
     for own in [normal(1), normal(9)] {
-        assert_eq!(rt;
+        assert_equal(
+            &rt,
             join(own, Is(reset(10)), eight),
-            Err(WaveRefusal::NotEnabled)
+            Err(WaveRefusal::NotEnabled),
         );
     }
 }

@@ -1,5 +1,6 @@
 // What is written, on writers that take it in pieces and on writers that fail.
 
+use crate::assert_equal;
 use action_tables::{
     CaseRow, CaseSet, Part, WriteFault, print_rows, put_bytes, put_list, put_number, put_parts,
 };
@@ -16,9 +17,9 @@ fn writes_hello(
     taken: &[u8],
     calls: usize,
 ) {
-    assert_eq!(rt; put_bytes(&mut out, b"hello"), done);
-    assert_eq!(rt; out.taken(), taken);
-    assert_eq!(rt; out.writes(), calls);
+    assert_equal(rt, put_bytes(&mut out, b"hello"), done);
+    assert_equal(rt, out.taken(), taken);
+    assert_equal(rt, out.writes(), calls);
 }
 
 #[test]
@@ -32,8 +33,8 @@ fn writes_all_bytes_in_pieces(rt: HostRuntime) {
 #[test]
 fn writes_no_bytes_without_a_call(rt: HostRuntime) {
     let mut out = FailingWriter::new(rt.alloc(), 1, 1, Fault::Error);
-    assert_eq!(rt; put_bytes(&mut out, b""), Ok(()));
-    assert_eq!(rt; out.writes(), 0);
+    assert_equal(&rt, put_bytes(&mut out, b""), Ok(()));
+    assert_equal(&rt, out.writes(), 0);
 }
 
 #[test]
@@ -50,11 +51,11 @@ fn tries_nothing_again(rt: HostRuntime) {
 fn writes_numbers(rt: HostRuntime) -> Result<(), Fail> {
     let mut out = Vec::new(rt.alloc());
     for number in [0, 7, 10, 100, u64::MAX] {
-        assert_eq!(rt; put_number(&mut out, number), Ok(()));
-        assert_eq!(rt; put_bytes(&mut out, b";"), Ok(()));
+        assert_equal(&rt, put_number(&mut out, number), Ok(()));
+        assert_equal(&rt, put_bytes(&mut out, b";"), Ok(()));
     }
     let expected = b"0;7;10;100;18446744073709551615;";
-    assert_eq!(rt; out.as_slice(), expected.as_slice());
+    assert_equal(&rt, out.as_slice(), expected.as_slice());
     Ok(())
 }
 
@@ -68,16 +69,16 @@ const ROW: CaseRow<'static> = CaseRow {
 // A writer that fails at the call `stop` has taken these bytes of the table of the row.
 fn row_stops_at(rt: &(impl Abort + AllocGlobal), fault: Fault, stop: usize, taken: &[u8]) {
     let mut out = FailingWriter::new(rt.alloc(), 1, stop, fault);
-    assert_eq!(rt; print_rows("day", &[ROW], &mut out), Err(WriteFault));
-    assert_eq!(rt; out.taken(), taken);
+    assert_equal(rt, print_rows("day", &[ROW], &mut out), Err(WriteFault));
+    assert_equal(rt, out.taken(), taken);
 }
 
 #[test]
 fn stops_at_the_first_fault(rt: HostRuntime) {
     let text = b"table day\n12 rest | tired | sleep\n";
     let mut out = FailingWriter::new(rt.alloc(), 3, 0, Fault::Error);
-    assert_eq!(rt; print_rows("day", &[ROW], &mut out), Ok(()));
-    assert_eq!(rt; out.taken(), text.as_slice());
+    assert_equal(&rt, print_rows("day", &[ROW], &mut out), Ok(()));
+    assert_equal(&rt, out.taken(), text.as_slice());
     for fault in [Fault::Error, Fault::Zero] {
         for stop in 1..=text.len() {
             row_stops_at(&rt, fault, stop, &text[..stop - 1]);
@@ -89,10 +90,10 @@ fn stops_at_the_first_fault(rt: HostRuntime) {
 fn writes_lists(rt: HostRuntime) {
     let mut out = Vec::new(rt.alloc());
     let none: [u32; 0] = [];
-    assert_eq!(rt; put_list(&mut out, &none), Ok(()));
-    assert_eq!(rt; put_list(&mut out, &[7_u32]), Ok(()));
-    assert_eq!(rt; put_list(&mut out, &[1_u32, 20, 4294967295]), Ok(()));
-    assert_eq!(rt; out.as_slice(), b"-71,20,4294967295".as_slice());
+    assert_equal(&rt, put_list(&mut out, &none), Ok(()));
+    assert_equal(&rt, put_list(&mut out, &[7_u32]), Ok(()));
+    assert_equal(&rt, put_list(&mut out, &[1_u32, 20, 4294967295]), Ok(()));
+    assert_equal(&rt, out.as_slice(), b"-71,20,4294967295".as_slice());
 }
 
 #[test]
@@ -108,6 +109,6 @@ fn writes_sets(rt: HostRuntime) {
         Part::Text(b" "),
         Part::Cases(some),
     ];
-    assert_eq!(rt; put_parts(&mut out, &parts), Ok(()));
-    assert_eq!(rt; out.as_slice(), b"- 3 1,3,16".as_slice());
+    assert_equal(&rt, put_parts(&mut out, &parts), Ok(()));
+    assert_equal(&rt, out.as_slice(), b"- 3 1,3,16".as_slice());
 }

@@ -1,5 +1,6 @@
 // Networks of several components: each boots, and is reset, by itself.
 
+use crate::assert_equal;
 use crate::steps::{applies, completes, ran};
 use crate::told::{NORMAL, has_newest, have_trees, have_waves};
 use app_interface::Idle;
@@ -103,7 +104,7 @@ fn complete_twice(rt: &impl Abort, answers: &[Done]) {
         };
         assert_eq!(rt; *answer, Done::Did(reply), "step {place}");
     }
-    assert_eq!(rt; answers.len(), 15);
+    assert_equal(rt, answers.len(), 15);
 }
 
 #[test]

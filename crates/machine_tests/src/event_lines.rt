@@ -1,5 +1,6 @@
 // The lines of events.
 
+use crate::assert_equal;
 use action_tables::WriteFault;
 use reset_machine::{Event, read_event, split_wave_event, split_word, write_event};
 use std::alloc::Global;
@@ -36,13 +37,13 @@ fn reads_and_writes_each_line(rt: HostRuntime) {
 }
 
 fn is_read(rt: &impl Abort, line: &[u8], event: Event) {
-    assert_eq!(rt; read_event(line), Some(event));
+    assert_equal(rt, read_event(line), Some(event));
 }
 
 fn is_written(rt: &impl Abort, alloc: Global, event: Event, line: &[u8]) {
     let mut out = Vec::new(alloc);
-    assert_eq!(rt; write_event(&event, &mut out), Ok(()));
-    assert_eq!(rt; out.as_slice(), line);
+    assert_equal(rt, write_event(&event, &mut out), Ok(()));
+    assert_equal(rt, out.as_slice(), line);
 }
 
 fn action(at: u32, case: u8, with: Option<u32>) -> Event {
@@ -50,7 +51,7 @@ fn action(at: u32, case: u8, with: Option<u32>) -> Event {
 }
 
 fn cuts(rt: &impl Abort, text: &[u8], cut: Option<(&[u8], &[u8])>) {
-    assert_eq!(rt; split_word(text), cut);
+    assert_equal(rt, split_word(text), cut);
 }
 
 #[test]
@@ -62,7 +63,7 @@ fn cuts_at_the_first_space(rt: HostRuntime) {
 }
 
 fn splits(rt: &impl Abort, text: &[u8], split: Option<(Event, &[u8])>) {
-    assert_eq!(rt; split_wave_event(text), split);
+    assert_equal(rt, split_wave_event(text), split);
 }
 
 #[test]
@@ -78,9 +79,9 @@ fn splits_off_the_command_of_a_wave(rt: HostRuntime) {
 fn stops_after(rt: &impl Abort, alloc: Global, event: Event, before: &[u8], fault: Fault) {
     let stop = before.len().saturating_add(1);
     let mut out = FailingWriter::new(alloc, 1, stop, fault);
-    assert_eq!(rt; write_event(&event, &mut out), Err(WriteFault));
-    assert_eq!(rt; out.taken(), before);
-    assert_eq!(rt; out.writes(), stop);
+    assert_equal(rt, write_event(&event, &mut out), Err(WriteFault));
+    assert_equal(rt, out.taken(), before);
+    assert_equal(rt, out.writes(), stop);
 }
 
 fn stops_anywhere(rt: &impl Abort, alloc: Global, line: &[u8], event: Event) {

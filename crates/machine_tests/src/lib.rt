@@ -3,6 +3,11 @@
 #![tactic(auto)]
 
 #[cfg(test)]
+use std::fmt::Debug;
+#[cfg(test)]
+use std::process::Abort;
+
+#[cfg(test)]
 mod components;
 #[cfg(test)]
 mod event_lines;
@@ -26,3 +31,10 @@ mod steps;
 mod told;
 #[cfg(test)]
 mod topologies;
+
+// `assert_eq!` in a function of its own, which is proved once: where the macro stands, it is proved each time anew,
+// with all that the test holds there.
+#[cfg(test)]
+fn assert_equal<T: PartialEq + Debug + Drop>(rt: &impl Abort, left: T, right: T) {
+    assert_eq!(rt; left, right);
+}

@@ -1,3 +1,4 @@
+use crate::assert_equal;
 use crate::puts::{puts_tree, puts_wave};
 use crate::steps::{applies, copied, ran};
 use crate::told::{
@@ -32,8 +33,8 @@ fn is_booted(rt: &impl Abort, config: &Config<Idle>) {
 }
 
 fn has_limits(rt: &impl Abort, config: &Config<Idle>) {
-    assert_eq!(rt; config.topology().len(), 3);
-    assert_eq!(rt; config.modulus().get(), 4_294_967_296);
+    assert_equal(rt, config.topology().len(), 3);
+    assert_equal(rt, config.modulus().get(), 4_294_967_296);
 }
 
 #[test]
@@ -49,11 +50,11 @@ fn boots_the_line(rt: HostRuntime) {
 
 // Eight steps are applied, and the last completes session 1.
 fn completes_at_last(rt: &impl Abort, answers: &[Done]) {
-    assert_eq!(rt; answers.len(), 9);
+    assert_equal(rt, answers.len(), 9);
     for answer in &answers[..8] {
-        assert_eq!(rt; *answer, Done::Did(Reply::Applied));
+        assert_equal(rt, *answer, Done::Did(Reply::Applied));
     }
-    assert_eq!(rt; answers[8], Done::Did(Reply::Complete(1)));
+    assert_equal(rt, answers[8], Done::Did(Reply::Complete(1)));
 }
 
 #[test]
@@ -114,10 +115,11 @@ fn local_states_are_the_newest_where_joined(rt: HostRuntime) {
 
 // A local state is put at a node, and not at a stranger.
 fn puts_local(rt: &impl Abort, config: &mut Config<Idle>) {
-    assert_eq!(rt; config.put_local(1, ()), Ok(()));
-    assert_eq!(rt;
+    assert_equal(rt, config.put_local(1, ()), Ok(()));
+    assert_equal(
+        rt,
         config.put_local(4, ()),
-        Err((StepRefusal::StrangeNode, ()))
+        Err((StepRefusal::StrangeNode, ())),
     );
 }
 

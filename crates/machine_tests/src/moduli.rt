@@ -1,5 +1,6 @@
 // Sessions modulo a number: whole waves, the session after the last, and sessions that only a fault leaves.
 
+use crate::assert_equal;
 use crate::machine::line;
 use crate::plans::{planned, puts, returns};
 use crate::puts::puts_wave;
@@ -33,7 +34,7 @@ fn put_asked(rt: &impl Abort, config: &mut Config<Idle>, session: u32) {
 }
 
 fn has_modulus(rt: &impl Abort, config: &Config<Idle>, value: u64) {
-    assert_eq!(rt; config.modulus().get(), value);
+    assert_equal(rt, config.modulus().get(), value);
 }
 
 // Does a whole reset, which completes this session.
@@ -88,11 +89,11 @@ fn a_copy_keeps_its_modulus(rt: HostRuntime) {
 
 // Whether the view is one of so many nodes whose sessions are counted modulo this number.
 fn has_limits(rt: &impl Abort, view: &View<Idle>, bound: u32, value: u64, expected: bool) {
-    assert_eq!(rt; view.has_limits(bound, modulus(rt, value)), expected);
+    assert_equal(rt, view.has_limits(bound, modulus(rt, value)), expected);
 }
 
 fn counts_modulo(rt: &impl Abort, view: &View<Idle>, value: u64) {
-    assert_eq!(rt; view.modulus().get(), value);
+    assert_equal(rt, view.modulus().get(), value);
 }
 
 #[test]

@@ -1,5 +1,6 @@
 // Topologies that are put with nodes that go down or come up.
 
+use crate::assert_equal;
 use crate::leader_link::LeaderLink;
 use crate::puts::{puts_tree, puts_wave};
 use crate::steps::{applies, completes, copied, refuses};
@@ -56,7 +57,7 @@ fn are_ready(rt: &impl Abort, alloc: Global, config: &mut Config<LeaderLink>, id
 
 // The node has joined the newest session of its component with this local state, if it has joined it.
 fn has_newest_local(rt: &impl Abort, config: &Config<LeaderLink>, id: u32, local: Option<&bool>) {
-    assert_eq!(rt; config.newest_local(id), local);
+    assert_equal(rt, config.newest_local(id), local);
 }
 
 // Nothing is read of the node.
@@ -73,7 +74,7 @@ fn puts_nothing(rt: &impl Abort, config: &mut Config<LeaderLink>, id: u32) {
     let strange = StepRefusal::StrangeNode;
     puts_tree(rt, config, id, alone(id), Err(strange));
     puts_wave(rt, config, id, NORMAL, Err(strange));
-    assert_eq!(rt; config.put_local(id, true), Err((strange, true)));
+    assert_equal(rt, config.put_local(id, true), Err((strange, true)));
 }
 
 // Nothing is read of the node, nothing put there, and nothing done.
@@ -127,8 +128,8 @@ fn the_others_keep_what_they_have(rt: HostRuntime) {
     let mut config = line(&rt, rt.alloc());
     let before = copied(&rt, rt.alloc(), &config);
     takes_down(&rt, rt.alloc(), &mut config, 2);
-    assert_eq!(rt; config.topology().len(), 3);
-    assert_eq!(rt; config.topology().node_count(), 2);
+    assert_equal(&rt, config.topology().len(), 3);
+    assert_equal(&rt, config.topology().node_count(), 2);
     all_keep(&rt, &config, &before, &[1, 3]);
     for (id, newest) in [(1, 0), (3, 1)] {
         has_newest(&rt, &config, id, Some(newest));
@@ -146,7 +147,7 @@ fn a_node_that_comes_up_starts_anew(rt: HostRuntime) {
     takes_down(&rt, rt.alloc(), &mut config, 2);
     brings_up(&rt, rt.alloc(), &mut config, 2);
     starts_anew(&rt, &config, 2);
-    assert_eq!(rt; config.topology().link_count(), 0);
+    assert_equal(&rt, config.topology().link_count(), 0);
     drop(config);
 }
 
@@ -188,7 +189,7 @@ fn a_link_to_a_node_that_came_up_renews_nothing(rt: HostRuntime) {
     let before = copied(&rt, rt.alloc(), &config);
     puts_link(&rt, rt.alloc(), &mut config, 2, 3);
     all_keep(&rt, &config, &before, &[1, 2, 3]);
-    assert_eq!(rt; start_at(&rt, rt.alloc(), &config, 2), true);
+    assert_equal(&rt, start_at(&rt, rt.alloc(), &config, 2), true);
     has_newest(&rt, &config, 2, Some(1));
     has_newest_local(&rt, &config, 2, None);
     are_ready(&rt, rt.alloc(), &mut config, &[1, 2, 3]);
@@ -202,7 +203,7 @@ fn all_nodes_go_down_and_one_comes_up(rt: HostRuntime) {
     for id in [1, 2, 3] {
         takes_down(&rt, rt.alloc(), &mut config, id);
     }
-    assert_eq!(rt; config.topology().node_count(), 0);
+    assert_equal(&rt, config.topology().node_count(), 0);
     are_ready(&rt, rt.alloc(), &mut config, &[]);
     for id in [1, 2, 3] {
         is_strange(&rt, rt.alloc(), &mut config, id);

@@ -1,5 +1,6 @@
 // The local predicates and the pictures of the whole network, over every assignment of registers.
 
+use crate::assert_equal;
 use crate::puts::puts_tree;
 use crate::steps::applies;
 use crate::told::have_trees;
@@ -97,7 +98,7 @@ fn tree_pictures(rt: &impl Abort, alloc: Global, case: &Case) -> u32 {
                 .expect(rt, "a node");
         }
         let is_tree = case.is_tree(&trees);
-        assert_eq!(rt; no_tree_row(rt, alloc, &config), is_tree);
+        assert_equal(rt, no_tree_row(rt, alloc, &config), is_tree);
         pictures = pictures.saturating_add(u32::from(is_tree));
     }
     pictures
@@ -105,8 +106,8 @@ fn tree_pictures(rt: &impl Abort, alloc: Global, case: &Case) -> u32 {
 
 #[test]
 fn no_tree_row_is_enabled_on_a_tree_alone(rt: HostRuntime) {
-    assert_eq!(rt; tree_pictures(&rt, rt.alloc(), &LINE), 1);
-    assert_eq!(rt; tree_pictures(&rt, rt.alloc(), &TRIANGLE), 1);
+    assert_equal(&rt, tree_pictures(&rt, rt.alloc(), &LINE), 1);
+    assert_equal(&rt, tree_pictures(&rt, rt.alloc(), &TRIANGLE), 1);
 }
 
 // Every assignment of a phase and of a session up to 2, which modulo 2 is one that only a fault leaves.
@@ -185,7 +186,7 @@ fn wave_pictures(rt: &impl Abort, alloc: Global, case: &Case, modulus: u64) -> u
                 .expect(rt, "a node");
         }
         let is_wave = is_wave(&config, &waves);
-        assert_eq!(rt; no_mending_row(rt, alloc, &config), is_wave);
+        assert_equal(rt, no_mending_row(rt, alloc, &config), is_wave);
         pictures = pictures.saturating_add(u32::from(is_wave));
     }
     pictures
@@ -216,7 +217,7 @@ fn has_tree_rows(
 // So many rows of the tree table are enabled at the node.
 fn counts_tree_rows(rt: &impl Abort, alloc: Global, config: &Config<Idle>, id: u32, count: u32) {
     let enabled = config.enabled(alloc, id).expect(rt, "a node").tree;
-    assert_eq!(rt; enabled.count(), count);
+    assert_equal(rt, enabled.count(), count);
 }
 
 #[test]

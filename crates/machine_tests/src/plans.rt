@@ -1,3 +1,4 @@
+use crate::assert_equal;
 use crate::machine::line;
 use crate::steps::applies;
 use crate::told::seen;
@@ -38,15 +39,15 @@ fn asks(rt: &impl Abort, config: &Config<Idle>, id: u32, expected: bool) {
 
 // The plan is that of an event that is applied, and was made on this view.
 fn is_planned(rt: &impl Abort, plan: &Plan<Idle>, event: Event, view: &View<Idle>) {
-    assert_eq!(rt; plan.event(), event);
-    assert_eq!(rt; plan.reply(), Reply::Applied);
+    assert_equal(rt, plan.event(), event);
+    assert_equal(rt, plan.reply(), Reply::Applied);
     assert!(rt; plan.seen_view().same(view));
 }
 
 // Puts the plan of an event that is applied.
 pub(crate) fn puts(rt: &impl Abort, config: &mut Config<Idle>, plan: Plan<Idle>) {
     match config.put_plan(plan) {
-        Ok(reply) => assert_eq!(rt; reply, Reply::Applied),
+        Ok(reply) => assert_equal(rt, reply, Reply::Applied),
         Err(_) => panic!(rt; "its node sees the same"),
     }
 }
@@ -113,7 +114,7 @@ fn a_view_refuses_what_its_node_cannot_do(rt: HostRuntime) {
         (act(Some(4)), StepRefusal::StrangeNeighbour),
     ];
     for (event, why) in refused {
-        assert_eq!(rt; refusal(rt.alloc(), &view, event), Some(why));
+        assert_equal(&rt, refusal(rt.alloc(), &view, event), Some(why));
     }
     drop(view);
     drop(config);

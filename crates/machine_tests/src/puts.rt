@@ -1,5 +1,6 @@
 // Puts at a node, which are refused where there is no such node.
 
+use crate::assert_equal;
 use app_interface::Application;
 use reset_machine::{Config, StepRefusal};
 use std::process::Abort;
@@ -13,7 +14,7 @@ pub(crate) fn puts_tree<P: Application>(
     regs: TreeRegs,
     outcome: Result<(), StepRefusal>,
 ) {
-    assert_eq!(rt; config.put_tree(id, regs), outcome);
+    assert_equal(rt, config.put_tree(id, regs), outcome);
 }
 
 pub(crate) fn puts_wave<P: Application>(
@@ -23,5 +24,5 @@ pub(crate) fn puts_wave<P: Application>(
     regs: WaveRegs,
     outcome: Result<(), StepRefusal>,
 ) {
-    assert_eq!(rt; config.put_wave(id, regs), outcome);
+    assert_equal(rt, config.put_wave(id, regs), outcome);
 }

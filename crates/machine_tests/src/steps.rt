@@ -1,5 +1,6 @@
 // What the tests do with a configuration. There is memory for it.
 
+use crate::assert_equal;
 use app_interface::Application;
 use reset_machine::{Config, Done, Event, Reply, StepRefusal};
 use std::alloc::Global;

@@ -1,5 +1,6 @@
 // What a configuration tells of its nodes, and what they see.
 
+use crate::assert_equal;
 use app_interface::Application;
 use reset_machine::{Config, StepRefusal, View};
 use std::alloc::Global;
@@ -85,7 +86,7 @@ pub(crate) fn is_seen<P: Application>(
     view: &View<P>,
     expected: bool,
 ) {
-    assert_eq!(rt; config.view_is(view), expected);
+    assert_equal(rt, config.view_is(view), expected);
 }
 
 // Whether the two views are of the same.
@@ -95,7 +96,7 @@ pub(crate) fn are_same<P: Application>(
     other: &View<P>,
     expected: bool,
 ) {
-    assert_eq!(rt; view.same(other), expected);
+    assert_equal(rt, view.same(other), expected);
 }
 
 // Nothing can be enabled at a node that there is not.
@@ -105,7 +106,7 @@ pub(crate) fn enables_nothing<P: Application>(
     config: &Config<P>,
     id: u32,
 ) {
-    assert_eq!(rt; config.enabled(alloc, id), Err(StepRefusal::StrangeNode));
+    assert_equal(rt, config.enabled(alloc, id), Err(StepRefusal::StrangeNode));
 }
 
 // Nothing is seen by a node that there is not.
@@ -117,6 +118,6 @@ pub(crate) fn sees_nothing<P: Application>(
 ) {
     match config.view(alloc, id) {
         Ok(_) => panic!(rt; "there is no node {id}"),
-        Err(refusal) => assert_eq!(rt; refusal, StepRefusal::StrangeNode),
+        Err(refusal) => assert_equal(rt, refusal, StepRefusal::StrangeNode),
     }
 }

@@ -1,5 +1,6 @@
 // Topologies that are put under the registers and the local states.
 
+use crate::assert_equal;
 use crate::leader_link::LeaderLink;
 use crate::steps::{applies, copied};
 use crate::told::seen;
@@ -35,7 +36,7 @@ pub(crate) fn resetting(
     applies(rt, alloc, &mut config, &steps);
     let mut local = false;
     for id in nodes {
-        assert_eq!(rt; config.put_local(*id, local), Ok(()));
+        assert_equal(rt, config.put_local(*id, local), Ok(()));
         local = !local;
     }
     config
@@ -97,7 +98,7 @@ pub(crate) fn has_local(
     id: u32,
     local: Option<&bool>,
 ) {
-    assert_eq!(rt; config.local_at(id), local);
+    assert_equal(rt, config.local_at(id), local);
 }
 
 // The state that a node restarts with.
@@ -133,10 +134,10 @@ fn a_topology_is_put_under_the_states(rt: HostRuntime) {
 fn a_node_restarts_with_the_state_of_the_topology_that_was_put(rt: HostRuntime) {
     let nodes = [1, 2, 3];
     let mut config = resetting(&rt, rt.alloc(), &nodes, &[(1, 2), (2, 3)]);
-    assert_eq!(rt; start_at(&rt, rt.alloc(), &config, 1), false);
+    assert_equal(&rt, start_at(&rt, rt.alloc(), &config, 1), false);
     let triangle = [(1, 2), (2, 3), (1, 3)];
     puts_links(&rt, rt.alloc(), &mut config, &nodes, &triangle);
-    assert_eq!(rt; start_at(&rt, rt.alloc(), &config, 1), true);
+    assert_equal(&rt, start_at(&rt, rt.alloc(), &config, 1), true);
     has_local(&rt, &config, 1, Some(&false));
     applies(&rt, rt.alloc(), &mut config, &[Event::Join { at: 1 }]);
     has_local(&rt, &config, 1, Some(&true));
@@ -171,7 +172,7 @@ fn without_memory_the_topology_comes_back(rt: HostRuntime) {
         is_linked(&rt, &config, &line);
         assert!(rt; have_same_states(&config, &before));
         for (id, start) in [(1, false), (2, false), (3, true), (4, false)] {
-            assert_eq!(rt; start_at(&rt, rt.alloc(), &config, id), start);
+            assert_equal(&rt, start_at(&rt, rt.alloc(), &config, id), start);
         }
     }
     drop(before);
@@ -187,7 +188,7 @@ fn a_topology_that_parts_the_nodes_is_put(rt: HostRuntime) {
     puts_links(&rt, rt.alloc(), &mut config, &nodes, &[(1, 2)]);
     assert!(rt; have_same_states(&config, &before));
     for (id, start) in [(1, true), (2, false), (3, false)] {
-        assert_eq!(rt; start_at(&rt, rt.alloc(), &config, id), start);
+        assert_equal(&rt, start_at(&rt, rt.alloc(), &config, id), start);
     }
     drop(before);
     drop(config);

@@ -1,5 +1,6 @@
 // Books, history texts, and what verifying them tells.
 
+use crate::assert_equal;
 use crate::networks::{booted, line, opened};
 use crate::page::Picture;
 use app_interface::Idle;
@@ -9,7 +10,7 @@ use history::{
     ApplyRefusal, AtFault, Book, BookFault, BookRefusal, DisturbRefusal, Entry, ReaderFault,
     VerifyFault, read_book, verify, verify_reader,
 };
-use reset_machine::{Config, Event, Reply, StepRefusal};
+use reset_machine::{Config, Event, Plan, Reply, StepRefusal, View};
 use std::alloc::Global;
 use std::process::Abort;
 use test_networks::WHOLE_RESET;
@@ -31,19 +32,42 @@ fn enter(rt: &impl Abort, alloc: Global, book: &mut Book<Token>, event: Event) {
     }
 }
 
+fn has_entries_and_reports(rt: &impl Abort, book: &Book<Token>, entries: usize, reports: usize) {
+    assert_equal(rt, book.len(), entries);
+    assert_equal(rt, book.reports().len(), reports);
+}
+
+// Behind the fourth entry the reset is open.
+fn has_opened_at_4(rt: &impl Abort, alloc: Global, book: &Book<Token>) {
+    match again!(rt; book.config_at(alloc, 4), AtFault::NoMemory, book.len() == 9) {
+        Ok(config) => assert_equal(rt, config.newest_session(1), Some(1)),
+        Err(_) => panic!(rt; "a position of the book"),
+    }
+}
+
 #[test]
 fn a_book_keeps_a_whole_reset(rt: HostRuntime) {
     let mut book = opened::<Token>(&rt, rt.alloc());
     for event in WHOLE_RESET {
         enter(&rt, rt.alloc(), &mut book, event);
     }
-    assert_eq!(rt; book.len(), 9);
-    assert_eq!(rt; book.reports().len(), 1);
-    let at = again!(&rt; book.config_at(rt.alloc(), 4), AtFault::NoMemory, book.len() == 9);
-    match at {
-        Ok(config) => assert_eq!(rt; config.newest_session(1), Some(1)),
-        Err(_) => panic!(rt; "a position of the book"),
-    }
+    has_entries_and_reports(&rt, &book, 9, 1);
+    has_opened_at_4(&rt, rt.alloc(), &book);
+    drop(book);
+}
+
+// Sets the registers, though memory is refused once; then the book is as before, and the fault comes back.
+fn set_wave(rt: &impl Abort, alloc: Global, book: &mut Book<Token>, regs: WaveRegs) {
+    let back = match book.disturb(alloc, Fault::SetWave { at: 1, regs }) {
+        Ok(position) => return assert_equal(rt, position, 1),
+        Err((refusal, back)) => {
+            assert_equal(rt, refusal, DisturbRefusal::NoMemory);
+            back
+        }
+    };
+    assert_equal(rt, book.len(), 0);
+    assert!(rt; back == Fault::SetWave { at: 1, regs });
+    assert!(rt; book.disturb(alloc, back) == Ok(1));
 }
 
 #[test]
@@ -53,43 +77,47 @@ fn a_fault_is_entered(rt: HostRuntime) {
         phase: Phase::Reset,
         session: 0,
     };
-    let back = match book.disturb(rt.alloc(), Fault::SetWave { at: 1, regs }) {
-        Ok(position) => {
-            assert_eq!(rt; position, 1);
-            return;
-        }
-        Err((refusal, fault)) => {
-            assert_eq!(rt; refusal, DisturbRefusal::NoMemory);
-            fault
+    set_wave(&rt, rt.alloc(), &mut book, regs);
+    drop(book);
+}
+
+fn view_of_3(rt: &impl Abort, alloc: Global, book: &Book<Idle>) -> View<Idle> {
+    match again!(rt; book.config().view(alloc, 3), StepRefusal::NoMemory, true) {
+        Ok(view) => view,
+        Err(_) => panic!(rt; "a node"),
+    }
+}
+
+fn request_of_3(rt: &impl Abort, alloc: Global, view: &View<Idle>) -> Plan<Idle> {
+    match again!(rt; view.plan(alloc, Event::Request { at: 3 }), StepRefusal::NoMemory, true) {
+        Ok(plan) => plan,
+        Err(_) => panic!(rt; "a plan"),
+    }
+}
+
+// Applies the plan, though memory is refused once; then the book is as before, and the plan comes back.
+fn apply(rt: &impl Abort, alloc: Global, book: &mut Book<Idle>, plan: Plan<Idle>) {
+    let back = match book.apply(alloc, plan) {
+        Ok(receipt) => return assert_equal(rt, receipt.reply, Reply::Applied),
+        Err((refusal, back)) => {
+            assert!(rt; matches!(refusal, ApplyRefusal::NoMemory));
+            back
         }
     };
-    assert_eq!(rt; book.len(), 0);
-    assert!(rt; back == Fault::SetWave { at: 1, regs });
-    assert!(rt; book.disturb(rt.alloc(), back) == Ok(1));
+    assert_equal(rt, book.len(), 0);
+    assert_equal(rt, back.event(), Event::Request { at: 3 });
+    assert!(rt; book.apply(alloc, back).is_ok());
+    assert_equal(rt, book.len(), 1);
 }
 
 #[test]
 fn a_plan_is_applied(rt: HostRuntime) {
     let mut book = opened::<Idle>(&rt, rt.alloc());
-    let request = Event::Request { at: 3 };
-    let view = again!(&rt; book.config().view(rt.alloc(), 3), StepRefusal::NoMemory, true);
-    let view = view.ok().expect(&rt, "a node");
-    let plan = again!(&rt; view.plan(rt.alloc(), request), StepRefusal::NoMemory, true);
-    let plan = plan.ok().expect(&rt, "a plan");
-    let back = match book.apply(rt.alloc(), plan) {
-        Ok(receipt) => {
-            assert_eq!(rt; receipt.reply, Reply::Applied);
-            return;
-        }
-        Err((refusal, plan)) => {
-            assert!(rt; matches!(refusal, ApplyRefusal::NoMemory));
-            plan
-        }
-    };
-    assert_eq!(rt; book.len(), 0);
-    assert_eq!(rt; back.event(), request);
-    assert!(rt; book.apply(rt.alloc(), back).is_ok());
-    assert_eq!(rt; book.len(), 1);
+    let view = view_of_3(&rt, rt.alloc(), &book);
+    let plan = request_of_3(&rt, rt.alloc(), &view);
+    drop(view);
+    apply(&rt, rt.alloc(), &mut book, plan);
+    drop(book);
 }
 
 fn entries(rt: &impl Abort, alloc: Global, text: &[u8]) -> Vec<Entry> {
@@ -139,9 +167,13 @@ fn a_text_is_verified(rt: HostRuntime) {
             answer => answer,
         };
         match (told, refused) {
-            (Ok(summary), None) => assert_eq!(rt; summary.entries, 3),
+            (Ok(summary), None) => assert_equal(&rt, summary.entries, 3),
             (Err(fault), Some(at)) => {
-                assert_eq!(rt; fault, ReaderFault::Entries(VerifyFault::NotEnabledAt(at)));
+                assert_equal(
+                    &rt,
+                    fault,
+                    ReaderFault::Entries(VerifyFault::NotEnabledAt(at)),
+                );
             }
             _ => panic!(rt; "the text's own answer"),
         }

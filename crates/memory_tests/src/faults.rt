@@ -1,5 +1,6 @@
 // Faults of a network, and what the checker tells of them.
 
+use crate::assert_equal;
 use crate::networks::{booted, triangle};
 use crate::page::Picture;
 use app_interface::{Application, Idle};
@@ -29,23 +30,35 @@ fn disturb<P: Application>(
     again!(rt; inject(alloc, config, &fault), FaultRefusal::NoMemory, Picture::of(rt, config).is(&before))
 }
 
-// How many faults the checker tells.
-fn told<P: Application>(rt: &impl Abort, alloc: Global, config: &Config<P>) -> usize {
+// Does the fault of the line, which is answered so.
+fn answers<P: Application>(
+    rt: &impl Abort,
+    alloc: Global,
+    config: &mut Config<P>,
+    line: &[u8],
+    answer: Result<(), FaultRefusal>,
+) {
+    let told = disturb(rt, alloc, config, line);
+    assert_equal(rt, told, answer);
+}
+
+fn has_links<P: Application>(rt: &impl Abort, config: &Config<P>, links: usize) {
+    assert_equal(rt, config.topology().link_count(), links);
+}
+
+// The checker tells so many faults.
+fn is_told_of<P: Application>(rt: &impl Abort, alloc: Global, config: &Config<P>, count: usize) {
     let before = Picture::of(rt, config);
     let all = again!(rt; check_all(alloc, config), AllocError, Picture::of(rt, config).is(&before));
     match all {
-        Ok(faults) => faults.len(),
+        Ok(faults) => assert_equal(rt, faults.len(), count),
         Err(AllocError) => panic!(rt; "memory is refused once"),
     }
 }
 
-#[test]
-fn a_shorter_way_is_told(rt: HostRuntime) {
-    let mut config: Config<Idle> = booted(&rt, rt.alloc(), triangle(&rt, rt.alloc()));
-    let answer = disturb(&rt, rt.alloc(), &mut config, b"fault tree 1 3 2 2");
-    assert_eq!(rt; answer, Ok(()));
-    assert_eq!(rt; told(&rt, rt.alloc(), &config), 1);
-    let node = again!(&rt; check_node(rt.alloc(), &config, 1), StepRefusal::NoMemory, true);
+// The checker tells of node 1 that node 3 is a shorter way.
+fn is_told_of_the_shorter_way<P: Application>(rt: &impl Abort, alloc: Global, config: &Config<P>) {
+    let node = again!(rt; check_node(alloc, config, 1), StepRefusal::NoMemory, true);
     match node {
         Ok(faults) => assert!(rt;
             faults
@@ -57,34 +70,39 @@ fn a_shorter_way_is_told(rt: HostRuntime) {
 }
 
 #[test]
+fn a_shorter_way_is_told(rt: HostRuntime) {
+    let mut config: Config<Idle> = booted(&rt, rt.alloc(), triangle(&rt, rt.alloc()));
+    answers(&rt, rt.alloc(), &mut config, b"fault tree 1 3 2 2", Ok(()));
+    is_told_of(&rt, rt.alloc(), &config, 1);
+    is_told_of_the_shorter_way(&rt, rt.alloc(), &config);
+    drop(config);
+}
+
+#[test]
 fn links_go_and_come(rt: HostRuntime) {
     let mut config: Config<EdgeReversal> = booted(&rt, rt.alloc(), triangle(&rt, rt.alloc()));
-    let answer = disturb(&rt, rt.alloc(), &mut config, b"fault down 1 3");
-    assert_eq!(rt; answer, Ok(()));
-    assert_eq!(rt; config.topology().link_count(), 2);
-    let answer = disturb(&rt, rt.alloc(), &mut config, b"fault down 1 2");
-    assert_eq!(rt; answer, Ok(()));
-    let answer = disturb(&rt, rt.alloc(), &mut config, b"fault down 1 2");
-    assert_eq!(rt; answer, Err(FaultRefusal::NoSuchLink));
-    let answer = disturb(&rt, rt.alloc(), &mut config, b"fault up 1 3");
-    assert_eq!(rt; answer, Ok(()));
-    let answer = disturb(&rt, rt.alloc(), &mut config, b"fault local 1 in/0");
-    assert_eq!(rt; answer, Ok(()));
-    let answer = disturb(&rt, rt.alloc(), &mut config, b"fault local 1 no/0");
-    assert_eq!(rt; answer, Err(FaultRefusal::BadLocal));
+    let none = Err(FaultRefusal::NoSuchLink);
+    let bad = Err(FaultRefusal::BadLocal);
+    answers(&rt, rt.alloc(), &mut config, b"fault down 1 3", Ok(()));
+    has_links(&rt, &config, 2);
+    answers(&rt, rt.alloc(), &mut config, b"fault down 1 2", Ok(()));
+    answers(&rt, rt.alloc(), &mut config, b"fault down 1 2", none);
+    answers(&rt, rt.alloc(), &mut config, b"fault up 1 3", Ok(()));
+    answers(&rt, rt.alloc(), &mut config, b"fault local 1 in/0", Ok(()));
+    answers(&rt, rt.alloc(), &mut config, b"fault local 1 no/0", bad);
+    drop(config);
 }
 
 #[test]
 fn nodes_go_and_come(rt: HostRuntime) {
     let mut config: Config<EdgeReversal> = booted(&rt, rt.alloc(), triangle(&rt, rt.alloc()));
-    let answer = disturb(&rt, rt.alloc(), &mut config, b"fault off 1");
-    assert_eq!(rt; answer, Ok(()));
-    assert_eq!(rt; config.topology().link_count(), 1);
-    let answer = disturb(&rt, rt.alloc(), &mut config, b"fault off 1");
-    assert_eq!(rt; answer, Err(FaultRefusal::StrangeNode));
-    let answer = disturb(&rt, rt.alloc(), &mut config, b"fault on 1");
-    assert_eq!(rt; answer, Ok(()));
-    assert_eq!(rt; config.topology().link_count(), 1);
-    let answer = disturb(&rt, rt.alloc(), &mut config, b"fault on 1");
-    assert_eq!(rt; answer, Err(FaultRefusal::NodeIsUp));
+    let strange = Err(FaultRefusal::StrangeNode);
+    let is_up = Err(FaultRefusal::NodeIsUp);
+    answers(&rt, rt.alloc(), &mut config, b"fault off 1", Ok(()));
+    has_links(&rt, &config, 1);
+    answers(&rt, rt.alloc(), &mut config, b"fault off 1", strange);
+    answers(&rt, rt.alloc(), &mut config, b"fault on 1", Ok(()));
+    has_links(&rt, &config, 1);
+    answers(&rt, rt.alloc(), &mut config, b"fault on 1", is_up);
+    drop(config);
 }

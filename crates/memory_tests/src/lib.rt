@@ -18,6 +18,11 @@ macro_rules! again {
 }
 
 #[cfg(test)]
+use std::fmt::Debug;
+#[cfg(test)]
+use std::process::Abort;
+
+#[cfg(test)]
 mod books;
 #[cfg(test)]
 mod faults;
@@ -33,3 +38,10 @@ mod seats;
 mod texts;
 #[cfg(test)]
 mod topologies;
+
+// `assert_eq!` in a function of its own, which is proved once: where the macro stands, it is proved each time anew,
+// with all that the test holds there.
+#[cfg(test)]
+fn assert_equal<T: PartialEq + Debug + Drop>(rt: &impl Abort, left: T, right: T) {
+    assert_eq!(rt; left, right);
+}

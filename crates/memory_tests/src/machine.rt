@@ -1,5 +1,6 @@
 // Steps, questions, plans and runs of a configuration.
 
+use crate::assert_equal;
 use crate::networks::{booted, line};
 use crate::page::Picture;
 use app_interface::{Application, Idle, LocalFault};
@@ -41,9 +42,10 @@ fn step<P: Application>(
 fn steps_are_taken(rt: HostRuntime) {
     let mut config: Config<Token> = booted(&rt, rt.alloc(), line(&rt, rt.alloc()));
     for event in handing_on() {
-        assert_eq!(rt;
+        assert_equal(
+            &rt,
             step(&rt, rt.alloc(), &mut config, event),
-            Ok(Reply::Applied)
+            Ok(Reply::Applied),
         );
     }
     let [.., last] = WHOLE_RESET;
@@ -53,8 +55,9 @@ fn steps_are_taken(rt: HostRuntime) {
         } else {
             Reply::Applied
         };
-        assert_eq!(rt; step(&rt, rt.alloc(), &mut config, event), Ok(reply));
+        assert_equal(&rt, step(&rt, rt.alloc(), &mut config, event), Ok(reply));
     }
+    drop(config);
 }
 
 #[test]
@@ -62,24 +65,36 @@ fn a_refusal_is_told(rt: HostRuntime) {
     let mut config: Config<Token> = booted(&rt, rt.alloc(), line(&rt, rt.alloc()));
     let [_, take] = handing_on();
     let refused = step(&rt, rt.alloc(), &mut config, take);
-    assert_eq!(rt; refused, Err(StepRefusal::NotEnabled));
+    assert_equal(&rt, refused, Err(StepRefusal::NotEnabled));
+    drop(config);
+}
+
+fn has_rows_of_3<P: Application>(rt: &impl Abort, alloc: Global, config: &Config<P>) {
+    let before = Picture::of(rt, config);
+    let enabled = again!(rt; config.enabled(alloc, 3), StepRefusal::NoMemory,
+        Picture::of(rt, config).is(&before));
+    match enabled {
+        Ok(rows) => assert!(rt; rows.act.has(1) && rows.wave.has(1) && rows.tree.count() == 0),
+        Err(_) => panic!(rt; "a node"),
+    }
+}
+
+fn has_3_ready<P: Application>(rt: &impl Abort, alloc: Global, config: &mut Config<P>) {
+    let before = Picture::of(rt, config);
+    let ready = again!(rt; config.ready(alloc), AllocError, Picture::of(rt, config).is(&before));
+    match ready {
+        Ok(ready) => assert!(rt; ready.as_slice() == [3].as_slice()),
+        Err(AllocError) => panic!(rt; "memory is refused once"),
+    }
+    assert!(rt; Picture::of(rt, config).is(&before));
 }
 
 #[test]
 fn questions_are_answered(rt: HostRuntime) {
     let mut config: Config<Token> = booted(&rt, rt.alloc(), line(&rt, rt.alloc()));
-    let before = Picture::of(&rt, &config);
-    let enabled = again!(&rt; config.enabled(rt.alloc(), 3), StepRefusal::NoMemory,
-        Picture::of(&rt, &config).is(&before));
-    match enabled {
-        Ok(rows) => assert!(rt; rows.act.has(1) && rows.wave.has(1) && rows.tree.count() == 0),
-        Err(_) => panic!(rt; "a node"),
-    }
-    let ready =
-        again!(&rt; config.ready(rt.alloc()), AllocError, Picture::of(&rt, &config).is(&before));
-    let ready = ready.expect(&rt, "memory is refused once");
-    assert_eq!(rt; ready.as_slice(), [3].as_slice());
-    assert!(rt; Picture::of(&rt, &config).is(&before));
+    has_rows_of_3(&rt, rt.alloc(), &config);
+    has_3_ready(&rt, rt.alloc(), &mut config);
+    drop(config);
 }
 
 #[test]
@@ -117,36 +132,56 @@ fn planned<P: Application>(
     }
 }
 
+// Puts the plan, which saw what its node sees.
+fn put<P: Application>(rt: &impl Abort, config: &mut Config<P>, view: &View<P>, plan: Plan<P>) {
+    assert!(rt; plan.seen_view().same(view));
+    match config.put_plan(plan) {
+        Ok(reply) => assert_equal(rt, reply, Reply::Applied),
+        Err(_) => panic!(rt; "node 3 sees the same"),
+    }
+}
+
 #[test]
 fn a_plan_is_made_and_put(rt: HostRuntime) {
     let mut config: Config<Token> = booted(&rt, rt.alloc(), line(&rt, rt.alloc()));
     let view = seen(&rt, rt.alloc(), &config, 3);
     let [pass, _] = handing_on();
     let plan = planned(&rt, rt.alloc(), &view, pass);
-    assert!(rt; plan.seen_view().same(&view));
-    match config.put_plan(plan) {
-        Ok(reply) => assert_eq!(rt; reply, Reply::Applied),
-        Err(_) => panic!(rt; "node 3 sees the same"),
-    }
+    put(&rt, &mut config, &view, plan);
+    drop(view);
+    drop(config);
 }
 
 // How the events of a whole reset are answered where each is tried once more.
 fn attempted(rt: &impl Abort, done: &[Done]) {
-    assert_eq!(rt; done.len(), 9);
+    assert_equal(rt, done.len(), 9);
     assert!(rt; done.last() == Some(&Done::Did(Reply::Complete(1))));
+}
+
+fn copied<P: Application>(rt: &impl Abort, alloc: Global, config: &Config<P>) -> Config<P> {
+    let before = Picture::of(rt, config);
+    match again!(rt; config.copy(alloc), AllocError, Picture::of(rt, config).is(&before)) {
+        Ok(copy) => copy,
+        Err(AllocError) => panic!(rt; "memory is refused once"),
+    }
+}
+
+// No step of `idle` asks for memory, so want of it is the answers' alone, and nothing was done.
+fn run(rt: &impl Abort, alloc: Global, config: &mut Config<Idle>) {
+    let before = Picture::of(rt, config);
+    let done =
+        again!(rt; config.run(alloc, &WHOLE_RESET), AllocError, Picture::of(rt, config).is(&before));
+    attempted(rt, &done.expect(rt, "memory is refused once"));
+    assert_equal(rt, config.newest_session(1), Some(1));
 }
 
 #[test]
 fn a_run_is_made_beside_a_copy(rt: HostRuntime) {
     let mut config: Config<Idle> = booted(&rt, rt.alloc(), line(&rt, rt.alloc()));
     let before = Picture::of(&rt, &config);
-    let copy =
-        again!(&rt; config.copy(rt.alloc()), AllocError, Picture::of(&rt, &config).is(&before));
-    let copy = copy.ok().expect(&rt, "memory is refused once");
-    // No step of `idle` asks for memory, so want of it is the answers' alone, and nothing was done.
-    let done =
-        again!(&rt; config.run(rt.alloc(), &WHOLE_RESET), AllocError, Picture::of(&rt, &config).is(&before));
-    attempted(&rt, &done.expect(&rt, "memory is refused once"));
-    assert_eq!(rt; config.newest_session(1), Some(1));
+    let copy = copied(&rt, rt.alloc(), &config);
+    run(&rt, rt.alloc(), &mut config);
     assert!(rt; Picture::of(&rt, &copy).is(&before));
+    drop(config);
+    drop(copy);
 }

@@ -1,5 +1,6 @@
 // Networks for the tests, made although memory is refused once.
 
+use crate::assert_equal;
 use app_interface::Application;
 use history::{Book, MAX_ENTRIES};
 use reset_machine::Config;
@@ -40,7 +41,7 @@ pub(crate) fn booted<P: Application>(
         Ok(config) => return config,
         Err(refused) => refused.value,
     };
-    assert_eq!(rt; back.link_count(), links);
+    assert_equal(rt, back.link_count(), links);
     match Config::<P>::boot(alloc, back, greatest_modulus()) {
         Ok(config) => config,
         Err(_) => panic!(rt; "memory is refused once"),

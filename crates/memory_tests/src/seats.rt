@@ -2,6 +2,7 @@
 
 ghost use Rattle.std.specs.Prelude.{◌≡◌, ◌+◌, length};
 
+use crate::assert_equal;
 use crate::networks::{booted, line, opened};
 use app_interface::Idle;
 use app_token::Token;
@@ -46,8 +47,8 @@ fn play_round<L: Round, R: Wait + Abort>(rt: &R, alloc: Global, blank: Blank, bo
     match share::<L, Idle>(alloc, blank, book) {
         Ok((shared, seats)) => reset_begins(rt, alloc, shared, seats),
         Err((fault, blank, book)) => {
-            assert_eq!(rt; fault, ShareFault::NoMemory);
-            assert_eq!(rt; book.len(), 0);
+            assert_equal(rt, fault, ShareFault::NoMemory);
+            assert_equal(rt, book.len(), 0);
             match share::<L, Idle>(alloc, blank, book) {
                 Ok((shared, seats)) => reset_begins(rt, alloc, shared, seats),
                 Err(_) => panic!(rt; "memory is refused once"),
@@ -102,7 +103,7 @@ fn commit<L: Round, R: Wait + Abort>(
             back
         }
     };
-    assert_eq!(rt; seat.receipts().len(), receipts);
+    assert_equal(rt, seat.receipts().len(), receipts);
     match shared.commit(rt, alloc, seat, back) {
         Ok(receipt) => receipt,
         Err(_) => panic!(rt; "memory is refused once"),
@@ -110,6 +111,30 @@ fn commit<L: Round, R: Wait + Abort>(
 }
 
 // Node 1 asks, node 2 passes the request on, node 3 asks by itself.
+fn first_step<L: Round, R: Wait + Abort>(
+    rt: &R,
+    alloc: Global,
+    shared: &Shared<L, Idle>,
+    seat: &mut Seat<L>,
+) -> Result<Receipt, SeatRefusal> {
+    let node = seat.node();
+    let refused = SeatRefusal::Refused(BookRefusal::NoMemory);
+    let request = Event::Request { at: node };
+    let answer = match node {
+        1 => select(rt, alloc, shared, seat),
+        2 => return Ok(commit(rt, alloc, shared, seat)),
+        _ => shared.step(rt, alloc, seat, request),
+    };
+    if answer != Err(refused) {
+        return answer;
+    }
+    assert!(rt; seat.receipts().is_empty());
+    match node {
+        1 => select(rt, alloc, shared, seat),
+        _ => shared.step(rt, alloc, seat, request),
+    }
+}
+
 fn reset_begins<L: Round, R: Wait + Abort>(
     rt: &R,
     alloc: Global,
@@ -117,56 +142,38 @@ fn reset_begins<L: Round, R: Wait + Abort>(
     mut seats: Vec<Seat<L>>,
 ) {
     for seat in seats.iter_mut() {
-        let node = seat.node();
-        let receipt = match node {
-            1 => {
-                let refused = SeatRefusal::Refused(BookRefusal::NoMemory);
-                match select(rt, alloc, &shared, seat) {
-                    Err(refusal) => {
-                        assert_eq!(rt; refusal, refused);
-                        assert!(rt; seat.receipts().is_empty());
-                        select(rt, alloc, &shared, seat)
-                    }
-                    answer => answer,
-                }
-            }
-            2 => Ok(commit(rt, alloc, &shared, seat)),
-            _ => {
-                let request = Event::Request { at: node };
-                match shared.step(rt, alloc, seat, request) {
-                    Err(SeatRefusal::Refused(BookRefusal::NoMemory)) => {
-                        assert!(rt; seat.receipts().is_empty());
-                        shared.step(rt, alloc, seat, request)
-                    }
-                    answer => answer,
-                }
-            }
-        };
-        match receipt {
-            Ok(receipt) => assert!(rt; receipt.event.node() == node),
+        match first_step(rt, alloc, &shared, seat) {
+            Ok(receipt) => assert!(rt; receipt.event.node() == seat.node()),
             Err(_) => panic!(rt; "a step that is allowed"),
         }
     }
-    closes(rt, alloc, shared, seats);
+    let outcome = closed(rt, alloc, shared, seats);
+    told(rt, &outcome);
+    drop(outcome);
 }
 
-fn closes<L: Round>(rt: &impl Abort, alloc: Global, shared: Shared<L, Idle>, seats: Vec<Seat<L>>) {
+fn closed<L: Round>(
+    rt: &impl Abort,
+    alloc: Global,
+    shared: Shared<L, Idle>,
+    seats: Vec<Seat<L>>,
+) -> Outcome<Idle> {
     let (shared, seats) = match close(alloc, shared, seats) {
-        Ok(outcome) => return told(rt, &outcome),
+        Ok(outcome) => return outcome,
         Err((fault, shared, seats)) => {
-            assert_eq!(rt; fault, CloseFault::NoMemory);
+            assert_equal(rt, fault, CloseFault::NoMemory);
             (shared, seats)
         }
     };
     match close(alloc, shared, seats) {
-        Ok(outcome) => told(rt, &outcome),
+        Ok(outcome) => outcome,
         Err(_) => panic!(rt; "memory is refused once"),
     }
 }
 
 fn told(rt: &impl Abort, outcome: &Outcome<Idle>) {
-    assert_eq!(rt; outcome.book.len(), 3);
-    assert_eq!(rt; outcome.seats.len(), 3);
+    assert_equal(rt, outcome.book.len(), 3);
+    assert_equal(rt, outcome.seats.len(), 3);
     assert!(rt; outcome.seats.iter().all(|list| list.receipts.len() == 1));
 }
 

@@ -1,5 +1,6 @@
 // Replays, checks, verifications, runs of node threads, and the words of the command line.
 
+use crate::assert_equal;
 use crate::page::Page;
 use reset_service::{
     Job, LineFault, RunStop, Status, check_text, read_words, replay, replay_joined, replay_text,
@@ -62,19 +63,19 @@ fn answered(rt: &impl Abort, alloc: Global, call: Call) -> Answer {
 fn replays_are_answered(rt: HostRuntime) {
     for call in [Call::ReplayText, Call::Replay] {
         let (result, out) = answered(&rt, rt.alloc(), call);
-        assert_eq!(rt; result, Ok(Status::Good));
+        assert_equal(&rt, result, Ok(Status::Good));
         assert!(rt; out.text().starts_with(ANSWERS));
     }
     let (result, out) = answered(&rt, rt.alloc(), Call::Check);
-    assert_eq!(rt; result, Ok(Status::FaultsFound));
+    assert_equal(&rt, result, Ok(Status::FaultsFound));
     assert!(rt; out.text().starts_with(ANSWERS));
 }
 
 #[test]
 fn verifications_are_answered(rt: HostRuntime) {
     let (result, out) = answered(&rt, rt.alloc(), Call::Verify);
-    assert_eq!(rt; result, Ok(Status::NotEnabled));
-    assert_eq!(rt; out.text(), b"not enabled at 4\n".as_slice());
+    assert_equal(&rt, result, Ok(Status::NotEnabled));
+    assert_equal(&rt, out.text(), b"not enabled at 4\n".as_slice());
 }
 
 #[test]
@@ -90,8 +91,12 @@ fn a_joined_text_is_answered(rt: HostRuntime) {
         (result, begun)
     };
     assert!(rt; out.text().starts_with(begun.text()));
-    assert_eq!(rt; result, Ok(Status::Good));
-    assert_eq!(rt; out.text(), b"applied\napplied\ncomplete 1\n".as_slice());
+    assert_equal(&rt, result, Ok(Status::Good));
+    assert_equal(
+        &rt,
+        out.text(),
+        b"applied\napplied\ncomplete 1\n".as_slice(),
+    );
 }
 
 // What node 7 alone keeps and tells.
@@ -108,19 +113,21 @@ fn a_thread_of_a_node_alone_is_told(rt: HostRuntime) {
     if result == Err(RunStop::NoMemory) || result == Err(RunStop::ThreadFailed) {
         assert!(rt; out.text().is_empty());
     } else {
-        assert_eq!(rt; result, Ok(Status::Good));
+        assert_equal(&rt, result, Ok(Status::Good));
         assert!(rt; history.text().starts_with(b"reset-history 3 4294967296\n"));
         return;
     }
     let (result, history, out) = alone(&rt, rt.alloc());
-    assert_eq!(rt; result, Ok(Status::Good));
-    assert_eq!(rt;
+    assert_equal(&rt, result, Ok(Status::Good));
+    assert_equal(
+        &rt,
         history.text(),
-        b"reset-history 3 4294967296\nrequest 7\nopen 7\nfinish 7\n".as_slice()
+        b"reset-history 3 4294967296\nrequest 7\nopen 7\nfinish 7\n".as_slice(),
     );
-    assert_eq!(rt;
+    assert_equal(
+        &rt,
         out.text(),
-        b"threads 1 nodes 3 entries 1 reports\n".as_slice()
+        b"threads 1 nodes 3 entries 1 reports\n".as_slice(),
     );
 }
 

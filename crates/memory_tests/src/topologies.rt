@@ -1,12 +1,14 @@
 // Topologies, their texts, and what is booted of them.
 
+use crate::assert_equal;
 use crate::networks::{booted, line, parted, triangle};
 use action_tables::MAX_MODULUS;
 use app_interface::Application;
 use app_token::Token;
 use reset_machine::Config;
-use std::alloc::AllocError;
-use topology::{AppName, ReadFault, TopoFault, TopologyText};
+use std::alloc::{AllocError, Global};
+use std::process::Abort;
+use topology::{AppName, ReadFault, TopoFault, Topology, TopologyText};
 use tree_layer::boot_tree;
 use wave_layer::boot_wave;
 
@@ -27,9 +29,9 @@ fn read_again(rt: HostRuntime, text: &[u8]) -> Result<TopologyText, ReadFault> {
 fn a_text_is_read(rt: HostRuntime) {
     match read_again(rt, TEXT) {
         Ok(read) => {
-            assert_eq!(rt; read.app, AppName::Token);
-            assert_eq!(rt; read.topology.link_count(), 2);
-            assert_eq!(rt; read.modulus, MAX_MODULUS);
+            assert_equal(&rt, read.app, AppName::Token);
+            assert_equal(&rt, read.topology.link_count(), 2);
+            assert_equal(&rt, read.modulus, MAX_MODULUS);
         }
         Err(_) => panic!(rt; "a good text"),
     }
@@ -39,35 +41,50 @@ fn a_text_is_read(rt: HostRuntime) {
 fn a_text_with_a_modulus_is_read(rt: HostRuntime) {
     match read_again(rt, TEXT_WITH_MODULUS) {
         Ok(read) => {
-            assert_eq!(rt; read.app, AppName::Token);
-            assert_eq!(rt; read.topology.link_count(), 2);
-            assert_eq!(rt; read.modulus, 8);
+            assert_equal(&rt, read.app, AppName::Token);
+            assert_equal(&rt, read.topology.link_count(), 2);
+            assert_equal(&rt, read.modulus, 8);
         }
         Err(_) => panic!(rt; "a good text"),
+    }
+}
+
+// The roots that booted registers of the topology's trees name, one a node.
+fn have_roots(rt: &impl Abort, alloc: Global, topology: &Topology, roots: &[u32]) {
+    match again!(rt; boot_tree(alloc, topology), AllocError, topology.len() == 3) {
+        Ok(trees) => {
+            assert_equal(rt, trees.len(), roots.len());
+            assert!(rt;
+                trees
+                    .iter()
+                    .zip(roots)
+                    .all(|(regs, root)| regs.root == *root)
+            );
+        }
+        Err(AllocError) => panic!(rt; "memory is refused once"),
+    }
+}
+
+fn have_session_0(rt: &impl Abort, alloc: Global) {
+    match again!(rt; boot_wave(alloc, 3), AllocError, true) {
+        Ok(waves) => assert!(rt; waves.iter().all(|regs| regs.session == 0)),
+        Err(AllocError) => panic!(rt; "memory is refused once"),
     }
 }
 
 #[test]
 fn registers_are_booted(rt: HostRuntime) {
     let topology = line(&rt, rt.alloc());
-    let trees = again!(&rt; boot_tree(rt.alloc(), &topology), AllocError, topology.len() == 3);
-    let trees = trees.expect(&rt, "memory is refused once");
-    assert_eq!(rt; trees.len(), 3);
-    assert!(rt; trees.iter().all(|regs| regs.root == 3));
-    let waves = again!(&rt; boot_wave(rt.alloc(), 3), AllocError, true);
-    let waves = waves.expect(&rt, "memory is refused once");
-    assert!(rt; waves.iter().all(|regs| regs.session == 0));
+    have_roots(&rt, rt.alloc(), &topology, &[3, 3, 3]);
+    drop(topology);
+    have_session_0(&rt, rt.alloc());
 }
 
 #[test]
 fn registers_of_two_components_are_booted(rt: HostRuntime) {
     let topology = parted(&rt, rt.alloc());
-    let trees = again!(&rt; boot_tree(rt.alloc(), &topology), AllocError, topology.len() == 3);
-    let trees = trees.expect(&rt, "memory is refused once");
-    assert_eq!(rt; trees.len(), 3);
-    for (regs, root) in trees.iter().zip([2, 2, 3]) {
-        assert_eq!(rt; regs.root, root);
-    }
+    have_roots(&rt, rt.alloc(), &topology, &[2, 2, 3]);
+    drop(topology);
 }
 
 #[test]
@@ -76,50 +93,86 @@ fn a_node_starts(rt: HostRuntime) {
     let start =
         again!(&rt; Token::on_start(rt.alloc(), &topology, 2), AllocError, topology.len() == 3);
     assert!(rt; start.is_ok());
+    drop(topology);
+}
+
+fn with_link(rt: &impl Abort, alloc: Global, old: &Topology) -> Topology {
+    let links = old.link_count();
+    again!(rt; old.with_link(alloc, 1, 3), TopoFault::NoMemory, old.link_count() == links).expect(
+        rt,
+        "a link that wasn't there",
+    )
+}
+
+fn without_link(rt: &impl Abort, alloc: Global, old: &Topology) -> Topology {
+    let links = old.link_count();
+    again!(rt; old.without_link(alloc, 1, 2), TopoFault::NoMemory, old.link_count() == links).expect(
+        rt,
+        "a link of a triangle",
+    )
 }
 
 #[test]
 fn a_link_comes_and_goes(rt: HostRuntime) {
     let line = line(&rt, rt.alloc());
-    let more =
-        again!(&rt; line.with_link(rt.alloc(), 1, 3), TopoFault::NoMemory, line.link_count() == 2);
-    let more = more.expect(&rt, "a link that wasn't there");
-    assert_eq!(rt; more.link_count(), 3);
-    let less =
-        again!(&rt; more.without_link(rt.alloc(), 1, 2), TopoFault::NoMemory, more.link_count() == 3);
-    let less = less.expect(&rt, "a link of a triangle");
+    let more = with_link(&rt, rt.alloc(), &line);
+    drop(line);
+    assert_equal(&rt, more.link_count(), 3);
+    let less = without_link(&rt, rt.alloc(), &more);
+    drop(more);
     assert!(rt; less.linked(1, 3) && !less.linked(1, 2));
+    drop(less);
+}
+
+fn without_node(rt: &impl Abort, alloc: Global, old: &Topology) -> Topology {
+    let links = old.link_count();
+    again!(rt; old.without_node(alloc, 2), TopoFault::NoMemory, old.link_count() == links).expect(
+        rt,
+        "a node that was up",
+    )
+}
+
+fn with_node(rt: &impl Abort, alloc: Global, old: &Topology) -> Topology {
+    let nodes = old.node_count();
+    again!(rt; old.with_node(alloc, 2), TopoFault::NoMemory, old.node_count() == nodes).expect(
+        rt,
+        "a node that was down",
+    )
 }
 
 #[test]
 fn a_node_goes_and_comes(rt: HostRuntime) {
     let line = line(&rt, rt.alloc());
-    let less =
-        again!(&rt; line.without_node(rt.alloc(), 2), TopoFault::NoMemory, line.link_count() == 2);
-    let less = less.expect(&rt, "a node that was up");
+    let less = without_node(&rt, rt.alloc(), &line);
+    drop(line);
     assert!(rt; less.nodes() == [1, 3].as_slice() && less.link_count() == 0);
-    let more =
-        again!(&rt; less.with_node(rt.alloc(), 2), TopoFault::NoMemory, less.node_count() == 2);
-    let more = more.expect(&rt, "a node that was down");
+    let more = with_node(&rt, rt.alloc(), &less);
+    drop(less);
     assert!(rt; more.nodes() == [1, 2, 3].as_slice() && more.link_count() == 0);
+    drop(more);
+}
+
+// Puts the triangle in the line's place, though memory is refused once; then it comes back, and the line stands.
+fn put_triangle(rt: &impl Abort, alloc: Global, config: &mut Config<Token>, other: Topology) {
+    if other.ids() != config.topology().ids() {
+        panic!(rt; "the same nodes");
+    }
+    let back = match config.put_topology(alloc, other) {
+        Ok(()) => return,
+        Err(refused) => refused.value,
+    };
+    assert_equal(rt, config.topology().link_count(), 2);
+    assert!(rt; back.linked(1, 3));
+    if back.ids() != config.topology().ids() {
+        panic!(rt; "the same nodes");
+    }
+    assert!(rt; config.put_topology(alloc, back).is_ok());
 }
 
 #[test]
 fn a_topology_is_put(rt: HostRuntime) {
     let mut config: Config<Token> = booted(&rt, rt.alloc(), line(&rt, rt.alloc()));
-    let other = triangle(&rt, rt.alloc());
-    if other.ids() != config.topology().ids() {
-        panic!(rt; "the same nodes");
-    }
-    let back = match config.put_topology(rt.alloc(), other) {
-        Ok(()) => return,
-        Err(refused) => refused.value,
-    };
-    assert_eq!(rt; config.topology().link_count(), 2);
-    assert!(rt; back.linked(1, 3));
-    if back.ids() != config.topology().ids() {
-        panic!(rt; "the same nodes");
-    }
-    assert!(rt; config.put_topology(rt.alloc(), back).is_ok());
-    assert_eq!(rt; config.topology().link_count(), 3);
+    put_triangle(&rt, rt.alloc(), &mut config, triangle(&rt, rt.alloc()));
+    assert_equal(&rt, config.topology().link_count(), 3);
+    drop(config);
 }

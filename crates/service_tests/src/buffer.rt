@@ -1,5 +1,6 @@
 // The buffer between a run and its output: what it has flushed, and how it ends.
 
+use crate::assert_equal;
 use action_tables::put_bytes;
 use reset_service::{BufferedOutput, RunStop, Status};
 use std::alloc::Global;
@@ -36,7 +37,7 @@ fn ends_as_the_run_did(rt: HostRuntime) -> Result<(), Fail> {
         Err(RunStop::NoMemory),
         Err(RunStop::WriteFailed),
     ] {
-        assert_eq!(rt; ended(rt.alloc(), 0, Fault::Error, run)?, run);
+        assert_equal(&rt, ended(rt.alloc(), 0, Fault::Error, run)?, run);
     }
     Ok(())
 }
@@ -49,7 +50,7 @@ fn a_failed_write_is_told(rt: HostRuntime) -> Result<(), Fail> {
             assert_eq!(rt; result, Err(RunStop::WriteFailed), "at write {stop}");
         }
         let result = ended(rt.alloc(), 4, fault, Err(RunStop::NoMemory))?;
-        assert_eq!(rt; result, Err(RunStop::NoMemory));
+        assert_equal(&rt, result, Err(RunStop::NoMemory));
     }
     Ok(())
 }

@@ -1,6 +1,7 @@
 // The verification of a history: what it writes, and what it does where a reader or a writer fails. What it
 // answers to other histories is shown on the program itself.
 
+use crate::assert_equal;
 use crate::calls::LINE;
 use reset_service::{RunStop, Status, verify_text};
 use std::alloc::Global;
@@ -27,8 +28,8 @@ fn one_wave_is_verified(rt: HostRuntime) {
     let mut out = Vec::new(rt.alloc());
     let mut history = WAVE;
     let result = verify_text(rt.alloc(), LINE, &mut history, &mut out);
-    assert_eq!(rt; result, Ok(Status::Good));
-    assert_eq!(rt; out.as_slice(), VERIFIED);
+    assert_equal(&rt, result, Ok(Status::Good));
+    assert_equal(&rt, out.as_slice(), VERIFIED);
 }
 
 #[test]
@@ -36,8 +37,12 @@ fn a_history_of_another_modulus_is_told(rt: HostRuntime) {
     let mut out = Vec::new(rt.alloc());
     let mut history = b"reset-history 2 8\nrequest 1\n".as_slice();
     let result = verify_text(rt.alloc(), LINE, &mut history, &mut out);
-    assert_eq!(rt; result, Ok(Status::BadInput));
-    assert_eq!(rt; out.as_slice(), b"bad history OtherModulus 8\n".as_slice());
+    assert_equal(&rt, result, Ok(Status::BadInput));
+    assert_equal(
+        &rt,
+        out.as_slice(),
+        b"bad history OtherModulus 8\n".as_slice(),
+    );
 }
 
 // Only version 3 has nodes that go down.
@@ -46,8 +51,8 @@ fn an_older_history_has_no_node_that_goes_down(rt: HostRuntime) {
     let mut out = Vec::new(rt.alloc());
     let mut history = b"reset-history 2 8\nfault off 3\n".as_slice();
     let result = verify_text(rt.alloc(), LINE, &mut history, &mut out);
-    assert_eq!(rt; result, Ok(Status::BadInput));
-    assert_eq!(rt; out.as_slice(), b"bad history BadLine 2\n".as_slice());
+    assert_equal(&rt, result, Ok(Status::BadInput));
+    assert_equal(&rt, out.as_slice(), b"bad history BadLine 2\n".as_slice());
 }
 
 #[test]
@@ -55,8 +60,8 @@ fn a_node_that_is_down_asks_for_nothing(rt: HostRuntime) {
     let mut out = Vec::new(rt.alloc());
     let mut history = b"reset-history 3 4294967296\nfault off 3\nrequest 3\n".as_slice();
     let result = verify_text(rt.alloc(), LINE, &mut history, &mut out);
-    assert_eq!(rt; result, Ok(Status::NotEnabled));
-    assert_eq!(rt; out.as_slice(), b"not enabled at 2\n".as_slice());
+    assert_equal(&rt, result, Ok(Status::NotEnabled));
+    assert_equal(&rt, out.as_slice(), b"not enabled at 2\n".as_slice());
 }
 
 #[test]
@@ -64,8 +69,8 @@ fn an_early_join_is_not_enabled(rt: HostRuntime) {
     let mut out = Vec::new(rt.alloc());
     let mut history = b"reset-history 1\nrequest 3\nopen 3\njoin 1\n".as_slice();
     let result = verify_text(rt.alloc(), LINE, &mut history, &mut out);
-    assert_eq!(rt; result, Ok(Status::NotEnabled));
-    assert_eq!(rt; out.as_slice(), b"not enabled at 3\n".as_slice());
+    assert_equal(&rt, result, Ok(Status::NotEnabled));
+    assert_equal(&rt, out.as_slice(), b"not enabled at 3\n".as_slice());
 }
 
 #[test]
@@ -75,8 +80,8 @@ fn a_failed_read_writes_nothing(rt: HostRuntime) {
         let mut history = failing(stop);
         let result = verify_text(rt.alloc(), LINE, &mut history, &mut out);
         assert_eq!(rt; result, Err(RunStop::ReadFailed), "at read {stop}");
-        assert_eq!(rt; history.reads(), stop);
-        assert_eq!(rt; out.len(), 0);
+        assert_equal(&rt, history.reads(), stop);
+        assert_equal(&rt, out.len(), 0);
     }
 }
 
@@ -85,9 +90,9 @@ fn a_bad_topology_reads_no_history(rt: HostRuntime) {
     let mut out = Vec::new(rt.alloc());
     let mut history = failing(1);
     let result = verify_text(rt.alloc(), b"nodes = [1", &mut history, &mut out);
-    assert_eq!(rt; result, Ok(Status::BadInput));
-    assert_eq!(rt; out.as_slice(), b"bad topology NotToml\n".as_slice());
-    assert_eq!(rt; history.reads(), 0);
+    assert_equal(&rt, result, Ok(Status::BadInput));
+    assert_equal(&rt, out.as_slice(), b"bad topology NotToml\n".as_slice());
+    assert_equal(&rt, history.reads(), 0);
 }
 
 #[test]
@@ -102,7 +107,7 @@ fn a_failed_write_is_the_last(rt: HostRuntime) {
                 break;
             }
             assert_eq!(rt; result, Err(RunStop::WriteFailed), "at write {stop}");
-            assert_eq!(rt; out.writes(), stop);
+            assert_equal(&rt, out.writes(), stop);
             reached = stop;
         }
         assert!(rt; reached > 10);

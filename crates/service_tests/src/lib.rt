@@ -3,6 +3,11 @@
 #![tactic(auto)]
 
 #[cfg(test)]
+use std::fmt::Debug;
+#[cfg(test)]
+use std::process::Abort;
+
+#[cfg(test)]
 mod buffer;
 #[cfg(test)]
 mod calls;
@@ -16,3 +21,10 @@ mod replays;
 mod threads;
 #[cfg(test)]
 mod words;
+
+// `assert_eq!` in a function of its own, which is proved once: where the macro stands, it is proved each time anew,
+// with all that the test holds there.
+#[cfg(test)]
+fn assert_equal<T: PartialEq + Debug + Drop>(rt: &impl Abort, left: T, right: T) {
+    assert_eq!(rt; left, right);
+}

@@ -1,6 +1,7 @@
 // Whole runs of each call: what they write, and what they do where a reader or a writer fails. What the
 // answers to single lines are, and where a joined text is cut, is shown on the program itself.
 
+use crate::assert_equal;
 use crate::calls::{ALL, LINE, ONE_WAVE, READING};
 use reset_service::{RunStop, Status, print_tables, read_text, record_text, replay_text};
 use std::test::Fail;
@@ -12,8 +13,8 @@ fn one_wave(rt: HostRuntime) {
         let mut out = Vec::new(rt.alloc());
         let mut script = ONE_WAVE;
         let result = call.run(rt.alloc(), LINE, &mut script, &mut out);
-        assert_eq!(rt; result, Ok(Status::Good));
-        assert_eq!(rt; out.as_slice(), call.answers());
+        assert_equal(&rt, result, Ok(Status::Good));
+        assert_equal(&rt, out.as_slice(), call.answers());
     }
 }
 
@@ -33,8 +34,8 @@ const TWO_WAVES_ANSWERS: &[u8] =
 fn two_waves_modulo_2(rt: HostRuntime) {
     let mut out = Vec::new(rt.alloc());
     let result = replay_text(rt.alloc(), LINE_MODULO_2, TWO_WAVES, &mut out);
-    assert_eq!(rt; result, Ok(Status::Good));
-    assert_eq!(rt; out.as_slice(), TWO_WAVES_ANSWERS);
+    assert_equal(&rt, result, Ok(Status::Good));
+    assert_equal(&rt, out.as_slice(), TWO_WAVES_ANSWERS);
 }
 
 // A link of the line goes down and comes back, and meanwhile node 1 is reset by itself.
@@ -49,8 +50,8 @@ const CUT_OFF_ANSWERS: &[u8] =
 fn a_link_goes_down_that_parts_the_line(rt: HostRuntime) {
     let mut out = Vec::new(rt.alloc());
     let result = replay_text(rt.alloc(), LINE, CUT_OFF, &mut out);
-    assert_eq!(rt; result, Ok(Status::Good));
-    assert_eq!(rt; out.as_slice(), CUT_OFF_ANSWERS);
+    assert_equal(&rt, result, Ok(Status::Good));
+    assert_equal(&rt, out.as_slice(), CUT_OFF_ANSWERS);
 }
 
 // Two components, of which one is in the midst of a reset.
@@ -65,8 +66,8 @@ fn each_component_has_its_newest_states(rt: HostRuntime) {
     let mut out = Vec::new(rt.alloc());
     let script = b"request 3\nopen 3\nnewest\ncheck\n".as_slice();
     let result = replay_text(rt.alloc(), APART, script, &mut out);
-    assert_eq!(rt; result, Ok(Status::Good));
-    assert_eq!(rt; out.as_slice(), APART_ANSWERS);
+    assert_equal(&rt, result, Ok(Status::Good));
+    assert_equal(&rt, out.as_slice(), APART_ANSWERS);
 }
 
 // The leader of a line goes down, and the two nodes that are left are reset by themselves before it comes up.
@@ -88,8 +89,8 @@ const LEADER_OFF_HISTORY: &[u8] =
 fn the_leader_goes_down_and_comes_up(rt: HostRuntime) {
     let mut out = Vec::new(rt.alloc());
     let result = replay_text(rt.alloc(), TOKEN_LINE, LEADER_OFF, &mut out);
-    assert_eq!(rt; result, Ok(Status::Good));
-    assert_eq!(rt; out.as_slice(), LEADER_OFF_ANSWERS);
+    assert_equal(&rt, result, Ok(Status::Good));
+    assert_equal(&rt, out.as_slice(), LEADER_OFF_ANSWERS);
 }
 
 #[test]
@@ -98,9 +99,9 @@ fn nodes_that_go_down_and_come_up_are_recorded(rt: HostRuntime) {
     let mut history = Vec::new(rt.alloc());
     let mut script = LEADER_OFF;
     let result = record_text(rt.alloc(), TOKEN_LINE, &mut script, &mut history, &mut out);
-    assert_eq!(rt; result, Ok(Status::Good));
-    assert_eq!(rt; out.as_slice(), LEADER_OFF_ANSWERS);
-    assert_eq!(rt; history.as_slice(), LEADER_OFF_HISTORY);
+    assert_equal(&rt, result, Ok(Status::Good));
+    assert_equal(&rt, out.as_slice(), LEADER_OFF_ANSWERS);
+    assert_equal(&rt, history.as_slice(), LEADER_OFF_HISTORY);
 }
 
 // A node of the line is down, and then all are.
@@ -117,8 +118,8 @@ const ALL_OFF_ANSWERS: &[u8] = b"disturbed\nnode 1 tree 3 2 2 wave normal 0 loca
 fn nodes_that_are_down_are_strange(rt: HostRuntime) {
     let mut out = Vec::new(rt.alloc());
     let result = replay_text(rt.alloc(), LINE, ALL_OFF, &mut out);
-    assert_eq!(rt; result, Ok(Status::Good));
-    assert_eq!(rt; out.as_slice(), ALL_OFF_ANSWERS);
+    assert_equal(&rt, result, Ok(Status::Good));
+    assert_equal(&rt, out.as_slice(), ALL_OFF_ANSWERS);
 }
 
 #[test]
@@ -129,8 +130,8 @@ fn a_failing_reader_writes_nothing(rt: HostRuntime) {
             let mut script = FailingReader::new(ONE_WAVE, stop);
             let result = call.run(rt.alloc(), LINE, &mut script, &mut out);
             assert_eq!(rt; result, Err(RunStop::ReadFailed), "at read {stop}");
-            assert_eq!(rt; script.reads(), stop);
-            assert_eq!(rt; out.len(), 0);
+            assert_equal(&rt, script.reads(), stop);
+            assert_equal(&rt, out.len(), 0);
         }
     }
 }
@@ -141,9 +142,9 @@ fn a_bad_topology_reads_nothing(rt: HostRuntime) {
         let mut out = Vec::new(rt.alloc());
         let mut script = FailingReader::new(ONE_WAVE, 1);
         let result = call.run(rt.alloc(), b"nodes = [1", &mut script, &mut out);
-        assert_eq!(rt; result, Ok(Status::BadInput));
-        assert_eq!(rt; out.as_slice(), b"bad topology NotToml\n".as_slice());
-        assert_eq!(rt; script.reads(), 0);
+        assert_equal(&rt, result, Ok(Status::BadInput));
+        assert_equal(&rt, out.as_slice(), b"bad topology NotToml\n".as_slice());
+        assert_equal(&rt, script.reads(), 0);
     }
 }
 
@@ -161,7 +162,7 @@ fn a_failing_writer_is_left_alone(rt: HostRuntime) {
                     break;
                 }
                 assert_eq!(rt; result, Err(RunStop::WriteFailed), "at write {stop}");
-                assert_eq!(rt; out.writes(), stop);
+                assert_equal(&rt, out.writes(), stop);
                 reached = stop;
             }
             assert!(rt; reached > 20);
@@ -175,8 +176,8 @@ fn a_writer_of_single_bytes_gets_the_whole_text(rt: HostRuntime) {
         let mut out = FailingWriter::new(rt.alloc(), 1, 0, Fault::Error);
         let mut script = ONE_WAVE;
         let result = call.run(rt.alloc(), LINE, &mut script, &mut out);
-        assert_eq!(rt; result, Ok(Status::Good));
-        assert_eq!(rt; out.taken(), call.answers());
+        assert_equal(&rt, result, Ok(Status::Good));
+        assert_equal(&rt, out.taken(), call.answers());
     }
 }
 
@@ -184,8 +185,8 @@ fn a_writer_of_single_bytes_gets_the_whole_text(rt: HostRuntime) {
 fn the_tables_stop_at_a_failed_write(rt: HostRuntime) {
     for fault in [Fault::Error, Fault::Zero] {
         let mut out = FailingWriter::new(rt.alloc(), 64, 3, fault);
-        assert_eq!(rt; print_tables(&mut out), Err(RunStop::WriteFailed));
-        assert_eq!(rt; out.writes(), 3);
+        assert_equal(&rt, print_tables(&mut out), Err(RunStop::WriteFailed));
+        assert_equal(&rt, out.writes(), 3);
         assert!(rt; b"table tree\n".as_slice().starts_with(out.taken()));
     }
 }
@@ -193,7 +194,7 @@ fn the_tables_stop_at_a_failed_write(rt: HostRuntime) {
 #[test]
 fn a_text_is_read_to_its_limit(rt: HostRuntime) -> Result<(), Fail> {
     let mut text = ONE_WAVE;
-    assert_eq!(rt; read_text(rt.alloc(), &mut text)?.as_slice(), ONE_WAVE);
-    assert_eq!(rt; read_text(rt.alloc(), &mut Endless)?.len(), 1_048_577);
+    assert_equal(&rt, read_text(rt.alloc(), &mut text)?.as_slice(), ONE_WAVE);
+    assert_equal(&rt, read_text(rt.alloc(), &mut Endless)?.len(), 1_048_577);
     Ok(())
 }

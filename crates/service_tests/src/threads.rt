@@ -1,6 +1,7 @@
 // Runs of node threads: what is written to the two writers, and what a run does where one of them fails. What
 // several threads keep is shown on the program itself.
 
+use crate::assert_equal;
 use reset_service::{RunStop, Status, threads_text};
 use std::alloc::{AllocError, Global};
 use std::sync::Wait;
@@ -57,9 +58,9 @@ fn a_node_alone_completes_its_reset(rt: HostRuntime) {
         let mut history = Vec::new(rt.alloc());
         let mut out = Vec::new(rt.alloc());
         let result = threads_text(&rt, rt.alloc(), ALONE, turns, &mut history, &mut out);
-        assert_eq!(rt; result, Ok(Status::Good));
-        assert_eq!(rt; history.as_slice(), HISTORY);
-        assert_eq!(rt; out.as_slice(), LINE);
+        assert_equal(&rt, result, Ok(Status::Good));
+        assert_equal(&rt, history.as_slice(), HISTORY);
+        assert_equal(&rt, out.as_slice(), LINE);
     }
 }
 
@@ -70,11 +71,12 @@ fn two_nodes_without_a_link_have_threads(rt: HostRuntime) {
     let mut history = Vec::new(rt.alloc());
     let mut out = Vec::new(rt.alloc());
     let result = threads_text(&rt, rt.alloc(), topology, 10, &mut history, &mut out);
-    assert_eq!(rt; result, Ok(Status::Good));
-    assert_eq!(rt; history.as_slice(), HISTORY);
-    assert_eq!(rt;
+    assert_equal(&rt, result, Ok(Status::Good));
+    assert_equal(&rt, history.as_slice(), HISTORY);
+    assert_equal(
+        &rt,
         out.as_slice(),
-        b"threads 2 nodes 3 entries 1 reports\n".as_slice()
+        b"threads 2 nodes 3 entries 1 reports\n".as_slice(),
     );
 }
 
@@ -83,12 +85,13 @@ fn over_64_nodes_have_no_threads(rt: HostRuntime) -> Result<(), AllocError> {
     let mut history = Vec::new(rt.alloc());
     let mut out = Vec::new(rt.alloc());
     let result = run_path(&rt, rt.alloc(), 65, &mut history, &mut out)?;
-    assert_eq!(rt; result, Ok(Status::BadInput));
-    assert_eq!(rt;
+    assert_equal(&rt, result, Ok(Status::BadInput));
+    assert_equal(
+        &rt,
         out.as_slice(),
-        b"bad topology TooManyForThreads\n".as_slice()
+        b"bad topology TooManyForThreads\n".as_slice(),
     );
-    assert_eq!(rt; history.len(), 0);
+    assert_equal(&rt, history.len(), 0);
     Ok(())
 }
 
@@ -97,7 +100,7 @@ fn as_many_as_64_nodes_have_threads(rt: HostRuntime) -> Result<(), AllocError> {
     let mut history = Vec::new(rt.alloc());
     let mut out = Vec::new(rt.alloc());
     let result = run_path(&rt, rt.alloc(), 64, &mut history, &mut out)?;
-    assert_eq!(rt; result, Ok(Status::Good));
+    assert_equal(&rt, result, Ok(Status::Good));
     assert!(rt; out.starts_with(b"threads 64 nodes "));
     assert!(rt; history.starts_with(b"reset-history 3 4294967296\n"));
     Ok(())
@@ -108,9 +111,9 @@ fn a_bad_topology_leaves_no_history(rt: HostRuntime) {
     let mut history = Vec::new(rt.alloc());
     let mut out = Vec::new(rt.alloc());
     let result = threads_text(&rt, rt.alloc(), b"nodes = [1", 1, &mut history, &mut out);
-    assert_eq!(rt; result, Ok(Status::BadInput));
-    assert_eq!(rt; out.as_slice(), b"bad topology NotToml\n".as_slice());
-    assert_eq!(rt; history.len(), 0);
+    assert_equal(&rt, result, Ok(Status::BadInput));
+    assert_equal(&rt, out.as_slice(), b"bad topology NotToml\n".as_slice());
+    assert_equal(&rt, history.len(), 0);
 }
 
 #[test]
@@ -121,9 +124,9 @@ fn no_line_follows_a_history_that_is_not_whole(rt: HostRuntime) {
             let mut out = FailingWriter::new(rt.alloc(), 5, 0, fault);
             let result = stopped(&rt, rt.alloc(), &mut history, &mut out);
             assert_eq!(rt; result, Err(RunStop::WriteFailed), "at write {stop}");
-            assert_eq!(rt; history.writes(), stop);
+            assert_equal(&rt, history.writes(), stop);
             assert!(rt; HISTORY.starts_with(history.taken()));
-            assert_eq!(rt; out.writes(), 0);
+            assert_equal(&rt, out.writes(), 0);
         }
     }
 }
@@ -136,8 +139,8 @@ fn a_failed_write_of_the_line_is_the_last(rt: HostRuntime) {
             let mut out = FailingWriter::new(rt.alloc(), 5, stop, fault);
             let result = stopped(&rt, rt.alloc(), &mut history, &mut out);
             assert_eq!(rt; result, Err(RunStop::WriteFailed), "at write {stop}");
-            assert_eq!(rt; history.taken(), HISTORY);
-            assert_eq!(rt; out.writes(), stop);
+            assert_equal(&rt, history.taken(), HISTORY);
+            assert_equal(&rt, out.writes(), stop);
             assert!(rt; LINE.starts_with(out.taken()));
         }
     }

@@ -13,6 +13,14 @@ fn kind_at(alloc: Global, words: &[&str]) -> Option<ErrorKind> {
     }
 }
 
+// Whether these words ask for this job.
+fn ask_for(alloc: Global, words: &[&str], job: Job) -> bool {
+    match read_words(alloc, words) {
+        Ok(read) => read == job,
+        Err(_) => false,
+    }
+}
+
 #[test]
 fn jobs(rt: HostRuntime) {
     let alloc = rt.alloc();
@@ -20,19 +28,14 @@ fn jobs(rt: HostRuntime) {
         topology: "a",
         input: "b c",
     };
-    assert!(rt; matches!(read_words(alloc, &["reset-service"]), Ok(Job::Joined)));
-    assert!(rt;
-        matches!(
-            read_words(alloc, &["reset-service", "tables"]),
-            Ok(Job::Tables)
-        )
-    );
+    assert!(rt; ask_for(alloc, &["reset-service"], Job::Joined));
+    assert!(rt; ask_for(alloc, &["reset-service", "tables"], Job::Tables));
     let words = ["reset-service", "replay", "a", "b c"];
-    assert!(rt; matches!(read_words(alloc, &words), Ok(job) if job == Job::Replay(paths)));
+    assert!(rt; ask_for(alloc, &words, Job::Replay(paths)));
     let words = ["reset-service", "check", "a", "b c"];
-    assert!(rt; matches!(read_words(alloc, &words), Ok(job) if job == Job::Check(paths)));
+    assert!(rt; ask_for(alloc, &words, Job::Check(paths)));
     let words = ["reset-service", "verify", "a", "b c"];
-    assert!(rt; matches!(read_words(alloc, &words), Ok(job) if job == Job::Verify(paths)));
+    assert!(rt; ask_for(alloc, &words, Job::Verify(paths)));
 }
 
 #[test]
@@ -54,21 +57,31 @@ fn mistakes_and_help(rt: HostRuntime) {
     }
 }
 
+// Whether this text of a number asks for as many turns.
+fn ask_for_turns(alloc: Global, text: &str, turns: u32) -> bool {
+    let words = [
+        "reset-service",
+        "threads",
+        "a",
+        "--history",
+        "b c",
+        "--turns",
+        text,
+    ];
+    match read_words(alloc, &words) {
+        Ok(Job::Threads(found)) => {
+            found.topology == "a" && found.turns == turns && found.history == "b c"
+        }
+        _ => false,
+    }
+}
+
 #[test]
 fn words_of_threads(rt: HostRuntime) {
     let alloc = rt.alloc();
     let program = "reset-service";
-    for (text, turns) in [("1", 1), ("100000", 100_000)] {
-        let words = [program, "threads", "a", "--history", "b c", "--turns", text];
-        match read_words(alloc, &words) {
-            Ok(Job::Threads(found)) => {
-                assert_eq!(rt; found.topology, "a");
-                assert_eq!(rt; found.turns, turns);
-                assert_eq!(rt; found.history, "b c");
-            }
-            _ => panic!(rt; "{text} turns"),
-        }
-    }
+    assert!(rt; ask_for_turns(alloc, "1", 1));
+    assert!(rt; ask_for_turns(alloc, "100000", 100_000));
     for text in ["0", "100001", "4294967297", "x", ""] {
         let words = [program, "threads", "a", "--history", "b", "--turns", text];
         let kind = kind_at(alloc, &words);

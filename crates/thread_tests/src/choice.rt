@@ -1,5 +1,6 @@
 // What a node does by itself, in a network that isn't damaged.
 
+use crate::assert_equal;
 use crate::topologies::{booted, booted_line, star};
 use app_interface::{Application, Idle};
 use app_mutex::EdgeReversal;
@@ -72,17 +73,17 @@ pub(crate) fn act(at: u32, case: u8, with: Option<u32>) -> Option<Event> {
 #[test]
 fn after_the_boot_only_the_application_acts(rt: HostRuntime) {
     let idle = first_choices::<Idle>(&rt, rt.alloc());
-    assert_eq!(rt; idle, [None, None, None]);
+    assert_equal(&rt, idle, [None, None, None]);
     // The greatest node holds the token, and passes it to its neighbour.
     let token = first_choices::<Token>(&rt, rt.alloc());
-    assert_eq!(rt; token, [None, None, act(3, 1, Some(2))]);
+    assert_equal(&rt, token, [None, None, act(3, 1, Some(2))]);
     // The turn of each link is its lesser node's.
     let mutex = first_choices::<EdgeReversal>(&rt, rt.alloc());
-    assert_eq!(rt; mutex, [act(1, 1, None), None, None]);
+    assert_equal(&rt, mutex, [act(1, 1, None), None, None]);
     // Each pulls from its least neighbour.
     let routes = first_choices::<Routes>(&rt, rt.alloc());
     let pulls = [act(1, 1, Some(2)), act(2, 1, Some(1)), act(3, 1, Some(2))];
-    assert_eq!(rt; routes, pulls);
+    assert_equal(&rt, routes, pulls);
 }
 
 #[test]
@@ -183,6 +184,6 @@ fn an_action_goes_toward_the_least_neighbour_first(rt: HostRuntime) {
         ([free, free, given], act(2, 2, Some(3))),
         ([given, free, given], act(2, 2, Some(1))),
     ] {
-        assert_eq!(rt; token_choice(&rt, rt.alloc(), texts), chosen);
+        assert_equal(&rt, token_choice(&rt, rt.alloc(), texts), chosen);
     }
 }

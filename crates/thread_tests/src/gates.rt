@@ -1,5 +1,6 @@
 // What a gate is told, and what it shows of the threads.
 
+use crate::assert_equal;
 use crate::topologies::{line, opened};
 use app_interface::Application;
 use app_mutex::EdgeReversal;
@@ -187,22 +188,26 @@ impl Gate for Counting {
     }
 }
 
-// The gate is told of as many commitments of each node as its seat has receipts, of no fewer plans,
-// and of as many commitments as the book has entries.
-fn is_told_of_each<P: Application, R: Threads + Wait + Sync + Abort>(rt: &R, alloc: Global) {
-    let gate = Counting::new();
-    let outcome = run::<P, Counting, R>(rt, alloc, &gate);
+// The gate was told of as many commitments of each node as its seat has receipts, of no fewer plans, and of as many
+// commitments as the book has entries.
+fn was_told<P: Application>(rt: &impl Abort, gate: &Counting, outcome: &Outcome<P>) {
     let mut all = 0u64;
     for list in &outcome.seats {
         let told = gate.told(list.node);
         let committed = told.committed.load(Ordering::SeqCst);
-        assert_eq!(rt; committed, list.receipts.len() as u64);
+        assert_equal(rt, committed, list.receipts.len() as u64);
         assert!(rt; committed <= told.planned.load(Ordering::SeqCst));
         all = all.saturating_add(committed);
     }
     // What is planned first of all isn't stale.
     assert!(rt; all > 0);
-    assert_eq!(rt; all, outcome.book.len() as u64);
+    assert_equal(rt, all, outcome.book.len() as u64);
+}
+
+fn is_told_of_each<P: Application, R: Threads + Wait + Sync + Abort>(rt: &R, alloc: Global) {
+    let gate = Counting::new();
+    let outcome = run::<P, Counting, R>(rt, alloc, &gate);
+    was_told(rt, &gate, &outcome);
     drop(outcome);
 }
 

@@ -1,5 +1,6 @@
 // What a node does by itself where registers are damaged.
 
+use crate::assert_equal;
 use crate::choice::{act, chooses, next_at, put_wave, takes};
 use crate::topologies::booted_line;
 use app_interface::{Application, Idle};
@@ -52,7 +53,7 @@ fn a_tree_is_repaired_by_claims_then_follows_then_adoptions(rt: HostRuntime) {
         (alone, regs(2, 2, 0), adopt(3)),
         (regs(3, 2, 1), regs(3, 1, 2), adopt(3)),
     ] {
-        assert_eq!(rt; repair(&rt, rt.alloc(), first, second), chosen);
+        assert_equal(&rt, repair(&rt, rt.alloc(), first, second), chosen);
     }
 }
 

@@ -2,6 +2,7 @@
 
 ghost use Rattle.std.specs.Prelude.{◌≡◌, ◌+◌, length};
 
+use crate::assert_equal;
 use app_interface::Idle;
 use history::{Book, Entry, Receipt};
 use node_threads::{
@@ -63,7 +64,7 @@ pub(crate) fn three<L: Round>(
     rt: &impl Abort,
     mut seats: Vec<Seat<L>>,
 ) -> (Seat<L>, Seat<L>, Seat<L>) {
-    assert_eq!(rt; seats.len(), 3);
+    assert_equal(rt, seats.len(), 3);
     let third = seat_of(rt, seats.pop(), 3);
     let second = seat_of(rt, seats.pop(), 2);
     let first = seat_of(rt, seats.pop(), 1);
@@ -74,7 +75,7 @@ pub(crate) fn three<L: Round>(
 fn seat_of<L: Round>(rt: &impl Abort, seat: Option<Seat<L>>, node: u32) -> Seat<L> {
     match seat {
         Some(seat) => {
-            assert_eq!(rt; seat.node(), node);
+            assert_equal(rt, seat.node(), node);
             seat
         }
         None => panic!(rt; "a seat"),
@@ -132,7 +133,7 @@ pub(crate) fn selects<L: Round, R: Wait + Abort>(
     seat: &mut Seat<L>,
     told: Result<Receipt, SeatRefusal>,
 ) {
-    assert_eq!(rt; select(rt, alloc, shared, seat), told);
+    assert_equal(rt, select(rt, alloc, shared, seat), told);
 }
 
 // What the seat is told of a step.
@@ -144,7 +145,7 @@ pub(crate) fn steps<L: Round, R: Wait + Abort>(
     event: Event,
     told: Result<Receipt, SeatRefusal>,
 ) {
-    assert_eq!(rt; shared.step(rt, alloc, seat, event), told);
+    assert_equal(rt, shared.step(rt, alloc, seat, event), told);
 }
 
 // Commits the plan at the seat, which is told this.
@@ -157,7 +158,7 @@ pub(crate) fn commits<L: Round, R: Wait + Abort>(
     told: Receipt,
 ) {
     match shared.commit(rt, alloc, seat, plan) {
-        Ok(receipt) => assert_eq!(rt; receipt, told),
+        Ok(receipt) => assert_equal(rt, receipt, told),
         Err(_) => panic!(rt; "a plan of now"),
     }
 }
@@ -183,7 +184,7 @@ pub(crate) fn has_receipts<L: Round>(rt: &impl Abort, seat: &Seat<L>, receipts: 
 
 // The book has so many entries.
 pub(crate) fn has_entries(rt: &impl Abort, outcome: &Outcome<Idle>, count: usize) {
-    assert_eq!(rt; outcome.book.len(), count);
+    assert_equal(rt, outcome.book.len(), count);
 }
 
 // The entry at this position is this step.

@@ -1,5 +1,6 @@
 // Runs with a thread for each node, on several topologies.
 
+use crate::assert_equal;
 use crate::choice::takes;
 use crate::topologies::{booted, grid, line, line_and_pair, opened, ring, star};
 use crate::turns::Still;
@@ -87,7 +88,7 @@ fn is_history<P: Application>(
     }
     match verify(alloc, booted_shape::<P>(rt, alloc, shape), &entries) {
         Ok(summary) => {
-            assert_eq!(rt; summary.entries, book.len());
+            assert_equal(rt, summary.entries, book.len());
             assert!(rt; summary.reports.as_slice() == book.reports());
         }
         Err(_) => panic!(rt; "a history"),
@@ -116,6 +117,7 @@ fn receipts_of<P: Application>(
             Err(_) => panic!(rt; "a step"),
         }
     }
+    drop(config);
     receipts
 }
 
@@ -133,14 +135,14 @@ fn is_list_of(list: &SeatList, receipts: &[Receipt]) -> bool {
 // There is one list for each node, ascending, with its receipts, and there are no other receipts.
 fn has_lists<P: Application>(rt: &impl Abort, outcome: &Outcome<P>, receipts: &[Receipt]) {
     let ids = outcome.book.config().topology().ids();
-    assert_eq!(rt; outcome.seats.len(), ids.len());
+    assert_equal(rt, outcome.seats.len(), ids.len());
     let mut told = 0usize;
     for (list, id) in outcome.seats.iter().zip(ids) {
-        assert_eq!(rt; list.node, *id);
+        assert_equal(rt, list.node, *id);
         assert!(rt; is_list_of(list, receipts), "node {id}");
         told = told.saturating_add(list.receipts.len());
     }
-    assert_eq!(rt; told, outcome.book.len());
+    assert_equal(rt, told, outcome.book.len());
 }
 
 // The steps of a run on the shape, in which node 1 is selected.
@@ -157,6 +159,7 @@ fn run<P: Application, R: Threads + Wait + Sync + Abort>(
             is_history::<P>(rt, alloc, shape, &outcome.book, &steps);
             let receipts = receipts_of::<P>(rt, alloc, shape, &steps);
             has_lists(rt, &outcome, &receipts);
+            drop(outcome);
             steps
         }
         Err(_) => panic!(rt; "a run"),
@@ -356,7 +359,7 @@ fn token_runs<R: Threads + Wait + Sync + Abort>(rt: &R, alloc: Global, shape: Sh
         for event in &steps {
             takes(rt, alloc, &mut config, *event);
             for leader in leaders_of(shape) {
-                assert_eq!(rt; tokens(rt, alloc, &config, *leader), 1);
+                assert_equal(rt, tokens(rt, alloc, &config, *leader), 1);
             }
         }
     }

@@ -1,5 +1,6 @@
 // Seats: what a commit at them answers, and how they close a sharing.
 
+use crate::assert_equal;
 use crate::rounds::{
     Scene, applied, closed, commits, has_entries, has_receipts, has_step, outcome_of, planned,
     play, refused, seen, sees_initiate, selects, three,
@@ -29,8 +30,8 @@ fn is_of<L: Round, R: Wait + Abort>(
     seat: &Seat<L>,
     node: u32,
 ) {
-    assert_eq!(rt; seat.node(), node);
-    assert_eq!(rt; seen(rt, alloc, shared, seat).id(), node);
+    assert_equal(rt, seat.node(), node);
+    assert_equal(rt, seen(rt, alloc, shared, seat).id(), node);
 }
 
 struct Beginning;
@@ -42,11 +43,13 @@ impl Scene for Beginning {
         shared: Shared<L, Idle>,
         seats: Vec<Seat<L>>,
     ) {
-        assert_eq!(rt; seats.len(), 3);
+        assert_equal(rt, seats.len(), 3);
         for (seat, node) in seats.iter().zip([1, 2, 3]) {
             has_receipts(rt, seat, &[]);
             is_of(rt, alloc, &shared, seat, node);
         }
+        drop(seats);
+        drop(shared);
     }
 }
 
@@ -86,8 +89,8 @@ fn a_committed_plan_is_the_first_entry(rt: HostRuntime) {
 
 // The plan is of this event, as this node saw it.
 fn is_plan(rt: &impl Abort, plan: &Plan<Idle>, node: u32, event: Event) {
-    assert_eq!(rt; plan.event(), event);
-    assert_eq!(rt; plan.seen_view().id(), node);
+    assert_equal(rt, plan.event(), event);
+    assert_equal(rt, plan.seen_view().id(), node);
 }
 
 struct Mistaking;
@@ -105,6 +108,7 @@ impl Scene for Mistaking {
         let (refusal, back) = refused(rt, alloc, &shared, &mut second, plan);
         assert!(rt; matches!(refusal, CommitRefusal::NotYours));
         is_plan(rt, &back, 1, request);
+        drop(back);
         has_receipts(rt, &second, &[]);
         let outcome = closed(rt, alloc, shared, (first, second, third));
         has_entries(rt, &outcome, 0);
@@ -130,7 +134,7 @@ fn seen_instead(rt: &impl Abort, refusal: CommitRefusal<Idle>) -> View<Idle> {
 
 // Node 2 sees now that node 1 is initiate, and didn't when the plan was made.
 fn is_overtaken(rt: &impl Abort, now: &View<Idle>, plan: &Plan<Idle>) {
-    assert_eq!(rt; now.id(), 2);
+    assert_equal(rt, now.id(), 2);
     assert!(rt; sees_initiate(now, 1));
     assert!(rt; !sees_initiate(plan.seen_view(), 1));
 }
@@ -150,9 +154,12 @@ impl Scene for Overtaking {
         let late = planned(rt, alloc, &shared, &second, two);
         commits(rt, alloc, &shared, &mut first, early, applied(1, one));
         let (refusal, back) = refused(rt, alloc, &shared, &mut second, late);
-        is_overtaken(rt, &seen_instead(rt, refusal), &back);
+        let now = seen_instead(rt, refusal);
+        is_overtaken(rt, &now, &back);
+        drop(now);
         is_plan(rt, &back, 2, two);
-        assert_eq!(rt; second.node(), 2);
+        drop(back);
+        assert_equal(rt, second.node(), 2);
         has_receipts(rt, &second, &[]);
         let outcome = closed(rt, alloc, shared, (first, second, third));
         has_entries(rt, &outcome, 1);
@@ -179,7 +186,7 @@ fn lacks_node_2<L: Round>(
     match close(alloc, shared, some) {
         Ok(_) => panic!(rt; "node 2 has no seat"),
         Err((fault, shared, back)) => {
-            assert_eq!(rt; fault, CloseFault::SeatMissing(2));
+            assert_equal(rt, fault, CloseFault::SeatMissing(2));
             (shared, back)
         }
     }
@@ -198,9 +205,11 @@ impl Scene for Missing {
         let request = Event::Request { at: 1 };
         selects(rt, alloc, &shared, &mut first, Ok(applied(1, request)));
         let (shared, mut back) = lacks_node_2(rt, alloc, shared, first, third);
-        assert_eq!(rt; back.len(), 2);
+        assert_equal(rt, back.len(), 2);
         back.push(second).expect(rt, "memory for a seat");
-        has_entries(rt, &outcome_of(rt, alloc, shared, back), 1);
+        let outcome = outcome_of(rt, alloc, shared, back);
+        has_entries(rt, &outcome, 1);
+        drop(outcome);
     }
 }
 
@@ -218,8 +227,10 @@ impl Scene for Many {
         shared: Shared<L, Idle>,
         seats: Vec<Seat<L>>,
     ) {
-        assert_eq!(rt; seats.len(), 64);
-        has_entries(rt, &outcome_of(rt, alloc, shared, seats), 1);
+        assert_equal(rt, seats.len(), 64);
+        let outcome = outcome_of(rt, alloc, shared, seats);
+        has_entries(rt, &outcome, 1);
+        drop(outcome);
     }
 }
 
@@ -241,7 +252,7 @@ fn too_many<S: Scene, R: Wait + Abort>(rt: &R, alloc: Global, book: Book<Idle>) 
     match play::<S, R>(rt, alloc, book) {
         Ok(()) => panic!(rt; "too many nodes"),
         Err((fault, book)) => {
-            assert_eq!(rt; fault, ShareFault::TooManyForThreads);
+            assert_equal(rt, fault, ShareFault::TooManyForThreads);
             book
         }
     }
@@ -251,8 +262,8 @@ fn too_many<S: Scene, R: Wait + Abort>(rt: &R, alloc: Global, book: Book<Idle>) 
 fn sixty_five_nodes_are_too_many_and_the_book_comes_back(rt: HostRuntime) {
     let book = star_book(&rt, rt.alloc(), 65);
     let book = too_many::<Many, HostRuntime>(&rt, rt.alloc(), book);
-    assert_eq!(rt; book.config().topology().len(), 65);
-    assert_eq!(rt; book.len(), 1);
+    assert_equal(&rt, book.config().topology().len(), 65);
+    assert_equal(&rt, book.len(), 1);
     has_step(&rt, &book, 1, Event::Request { at: 2 });
     drop(book);
 }
@@ -275,11 +286,13 @@ impl Scene for OfThoseUp {
         shared: Shared<L, Idle>,
         seats: Vec<Seat<L>>,
     ) {
-        assert_eq!(rt; seats.len(), 2);
+        assert_equal(rt, seats.len(), 2);
         for (seat, node) in seats.iter().zip([1, 2]) {
-            assert_eq!(rt; seat.node(), node);
+            assert_equal(rt, seat.node(), node);
         }
-        has_entries(rt, &outcome_of(rt, alloc, shared, seats), 1);
+        let outcome = outcome_of(rt, alloc, shared, seats);
+        has_entries(rt, &outcome, 1);
+        drop(outcome);
     }
 }
 
@@ -325,13 +338,13 @@ impl Scene for ManyUp {
         shared: Shared<L, Idle>,
         seats: Vec<Seat<L>>,
     ) {
-        assert_eq!(rt; seats.len(), 64);
+        assert_equal(rt, seats.len(), 64);
         assert!(rt;
             seats
                 .iter()
                 .all(|seat| seat.node() == 1 || seat.node() > 961)
         );
-        let _ = outcome_of(rt, alloc, shared, seats);
+        drop(outcome_of(rt, alloc, shared, seats));
     }
 }
 
@@ -345,6 +358,6 @@ fn sixty_four_nodes_of_1024_are_shared(rt: HostRuntime) {
 fn sixty_five_nodes_of_70_are_too_many(rt: HostRuntime) {
     let book = thinned_book(&rt, rt.alloc(), 70, 65);
     let book = too_many::<ManyUp, HostRuntime>(&rt, rt.alloc(), book);
-    assert_eq!(rt; book.config().topology().node_count(), 65);
+    assert_equal(&rt, book.config().topology().node_count(), 65);
     drop(book);
 }

@@ -1,5 +1,6 @@
 // How a run begins, and what it refuses.
 
+use crate::assert_equal;
 use crate::rounds::has_step;
 use crate::topologies::{line, opened, small, star, takes, takes_down};
 use crate::turns::Still;
@@ -52,8 +53,8 @@ fn the_first_entry_is_the_request_of_the_selected_node(rt: HostRuntime) {
 fn without_a_selected_node_nothing_happens(rt: HostRuntime) {
     let book = opened::<Idle>(&rt, rt.alloc(), line(&rt, rt.alloc()));
     let outcome = run(&rt, rt.alloc(), book, None);
-    assert_eq!(rt; outcome.book.len(), 0);
-    assert_eq!(rt; outcome.seats.len(), 3);
+    assert_equal(&rt, outcome.book.len(), 0);
+    assert_equal(&rt, outcome.seats.len(), 3);
     for list in &outcome.seats {
         assert!(rt; list.receipts.is_empty());
     }
@@ -73,7 +74,7 @@ fn line_without(rt: &impl Abort, alloc: Global, down: &[u32]) -> Book<Idle> {
 fn no_node_is_up_and_nothing_happens(rt: HostRuntime) {
     let book = line_without(&rt, rt.alloc(), &[1, 2, 3]);
     let outcome = run(&rt, rt.alloc(), book, None);
-    assert_eq!(rt; outcome.book.len(), 3);
+    assert_equal(&rt, outcome.book.len(), 3);
     assert!(rt; outcome.seats.is_empty());
     drop(outcome);
 }
@@ -86,12 +87,12 @@ fn a_node_that_is_down_is_strange_and_has_no_seat(rt: HostRuntime) {
         line_without(&rt, rt.alloc(), &[3]),
         Some(3),
     );
-    assert_eq!(rt; cause, RunCause::StrangeNode);
-    assert_eq!(rt; book.len(), 1);
+    assert_equal(&rt, cause, RunCause::StrangeNode);
+    assert_equal(&rt, book.len(), 1);
     let outcome = run(&rt, rt.alloc(), book, Some(1));
-    assert_eq!(rt; outcome.seats.len(), 2);
+    assert!(rt; outcome.seats.len() == 2);
     for (list, node) in outcome.seats.iter().zip([1, 2]) {
-        assert_eq!(rt; list.node, node);
+        assert_equal(&rt, list.node, node);
     }
     let first = outcome.seats[0].receipts.first();
     assert!(rt; first.is_some_and(|receipt| receipt.event == Event::Request { at: 1 }));
@@ -145,7 +146,7 @@ fn what_the_book_had_stays_at_its_beginning(rt: HostRuntime) {
     // The leader alone may go on.
     has_step(&rt, &outcome.book, 4, Event::Open { at: 3 });
     let told = receipts_after(&rt, &outcome.seats, 3);
-    assert_eq!(rt; told.saturating_add(3), outcome.book.len());
+    assert_equal(&rt, told.saturating_add(3), outcome.book.len());
     drop(outcome);
 }
 
@@ -153,8 +154,8 @@ fn what_the_book_had_stays_at_its_beginning(rt: HostRuntime) {
 fn a_strange_node_is_refused_and_the_book_comes_back(rt: HostRuntime) {
     let book = asked_book(&rt, rt.alloc());
     let (cause, book) = refusal(&rt, rt.alloc(), book, Some(9));
-    assert_eq!(rt; cause, RunCause::StrangeNode);
-    assert_eq!(rt; book.len(), 3);
+    assert_equal(&rt, cause, RunCause::StrangeNode);
+    assert_equal(&rt, book.len(), 3);
     begins_asked(&rt, &book);
     drop(book);
 }
@@ -165,11 +166,11 @@ fn too_many_nodes_are_refused_and_the_book_comes_back(rt: HostRuntime) {
     let request = Event::Request { at: 7 };
     takes(&rt, rt.alloc(), &mut book, request);
     let (cause, book) = refusal(&rt, rt.alloc(), book, Some(1));
-    assert_eq!(rt; cause, RunCause::TooManyForThreads);
+    assert_equal(&rt, cause, RunCause::TooManyForThreads);
     // A strange node is told first.
     let (cause, book) = refusal(&rt, rt.alloc(), book, Some(66));
-    assert_eq!(rt; cause, RunCause::StrangeNode);
-    assert_eq!(rt; book.len(), 1);
+    assert_equal(&rt, cause, RunCause::StrangeNode);
+    assert_equal(&rt, book.len(), 1);
     has_step(&rt, &book, 1, request);
     drop(book);
 }
@@ -179,7 +180,7 @@ fn a_full_book_is_no_fault(rt: HostRuntime) {
     let book = small::<Idle>(&rt, rt.alloc(), 2);
     let outcome = run(&rt, rt.alloc(), book, Some(3));
     // The leader asks and opens. Then there is no room for node 2 to join.
-    assert_eq!(rt; outcome.book.len(), 2);
+    assert_equal(&rt, outcome.book.len(), 2);
     has_step(&rt, &outcome.book, 1, Event::Request { at: 3 });
     has_step(&rt, &outcome.book, 2, Event::Open { at: 3 });
     drop(outcome);

@@ -1,5 +1,6 @@
 // Steps at the seats of the line.
 
+use crate::assert_equal;
 use crate::rounds::{
     Scene, applied, closed, has_entries, has_receipts, has_step, play, seen, sees_initiate,
     selects, steps, three,
@@ -16,7 +17,7 @@ use test_networks::WHOLE_RESET;
 
 // Node 1 is told the one receipt, node 2 the other, and node 3 none.
 fn has_lists(rt: &impl Abort, lists: &[SeatList], first: Receipt, second: Receipt) {
-    assert_eq!(rt; lists.len(), 3);
+    assert_equal(rt, lists.len(), 3);
     for list in lists {
         match list.node {
             1 => assert!(rt; list.receipts.as_slice() == [first].as_slice()),
@@ -103,7 +104,7 @@ fn steps_at<L: Round, R: Wait + Abort>(
 
 // Does the event in the configuration, which answers this.
 fn answers(rt: &impl Abort, alloc: Global, config: &mut Config<Idle>, event: Event, reply: Reply) {
-    assert_eq!(rt; config.step(alloc, event), Ok(reply));
+    assert_equal(rt, config.step(alloc, event), Ok(reply));
 }
 
 // Whether the views of the seat's node are the same.

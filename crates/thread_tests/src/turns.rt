@@ -1,5 +1,6 @@
 // The turns of one node, in one thread.
 
+use crate::assert_equal;
 use crate::rounds::{Scene, applied, has_receipts, play, selects, three};
 use crate::topologies::small;
 use app_interface::Idle;
@@ -29,7 +30,7 @@ fn turns_end<L: Round, R: Wait + Abort>(
 ) {
     assert!(rt; turns <= 10);
     let ended = node_turns(rt, alloc, &Still, shared, seat, turns);
-    assert_eq!(rt; ended, end);
+    assert_equal(rt, ended, end);
 }
 
 struct Turning;
