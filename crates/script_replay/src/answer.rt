@@ -104,7 +104,8 @@ pub fn put_bad_line<W: Write>(out: &mut W, number: u64) -> Result<(), WriteFault
     put_numbered(out, b"bad line ", number)
 }
 
-/// Does what the command asks for, and writes the answer. Want of memory changes nothing.
+/// Does what the command asks for, and writes the answer. Want of memory changes and writes nothing;
+/// where the writer fails the configuration is that of the answer.
 pub fn answer<P: Application, W: Write>(
     alloc: Global,
     config: &mut Config<P>,
@@ -119,7 +120,10 @@ pub fn answer<P: Application, W: Write>(
         (AppendsPrefix (W.contents out.old) (W.contents out.new)
         (answered (meaning_of P.app P.text P.from_text P.names) config.old command).1) }
     ensures stop { IfErr result IsOutputStop }
-    ensures memory { result ≡ Err RunStop.NoMemory → config.new ≡ config.old }
+    ensures memory { result ≡ Err RunStop.NoMemory
+        → (config.new ≡ config.old) × Keeps (W.contents out.old) (W.contents out.new) }
+    ensures fault { result ≡ Err RunStop.WriteFailed
+        → config.new ≡ (answered (meaning_of P.app P.text P.from_text P.names) config.old command).0 }
 {
     match command {
         Command::Step(event) => answer_step(alloc, config, event, out),
@@ -168,8 +172,9 @@ pub fn answer_step<P: Application, W: Write>(
     }
 }
 
+// Writes what an allowed step is answered with.
 #[inline(always)]
-fn put_reply<W: Write>(out: &mut W, reply: Reply) -> Result<(), WriteFault>
+pub(crate) fn put_reply<W: Write>(out: &mut W, reply: Reply) -> Result<(), WriteFault>
     ensures ok { OnOk result (Appends (W.contents out.old) (W.contents out.new) (reply_text reply)) }
     ensures err { OnErr result (AppendsPrefix (W.contents out.old) (W.contents out.new) (reply_text reply)) }
 {

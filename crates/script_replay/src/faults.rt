@@ -2,16 +2,19 @@
 
 ghost use Rattle.std.specs.Prelude.{◌≡◌, ◌++◌, codes, length, Err, IfErr, IfOk, OnErr, OnOk};
 ghost use Rattle.std.specs.List.{flat_map};
-ghost use Rattle.std.specs.Io.KnownBytes.{Appends};
+ghost use Rattle.std.specs.Io.KnownBytes.{Appends, Keeps};
 ghost use Rattle.topology.specs.Graph.{IsNode};
+ghost use Rattle.reset_model.specs.Planned.{outcome_of};
+ghost use Rattle.reset_model.specs.declared.event.Event.TheVariants.{Request};
 ghost use Rattle.action_tables.specs.Written.{AppendsPrefix};
 ghost use Rattle.script_replay.specs.Meaning.{meaning_of};
 ghost use Rattle.script_replay.specs.Output.{alarm_line, alarm_text, answered, at_node, fault_line, faults_lines};
-ghost use Rattle.script_replay.specs.Output.{faults_status, faults_text, found_status, node_faults_lines, watched};
+ghost use Rattle.script_replay.specs.Output.{faults_status, faults_text, found_status, node_faults_lines, stepped};
+ghost use Rattle.script_replay.specs.Output.{watched};
 ghost use Rattle.script_replay.specs.declared.script.Command.TheVariants.{Watch};
 ghost use Rattle.script_replay.specs.Stops.{IsOutputStop};
 
-use crate::answer::{answer_step, put_numbered, put_refusal};
+use crate::answer::{put_numbered, put_refusal, put_reply};
 use crate::status::{RunStop, Status, written};
 use action_tables::{Part, WriteFault, put_bytes, put_parts};
 use app_interface::Application;
@@ -35,6 +38,7 @@ pub fn answer_check<P: Application, W: Write>(
     ensures err { OnErr result (AppendsPrefix (W.contents out.old) (W.contents out.new)
         (faults_lines (meaning_of P.app P.text P.from_text P.names) config.now)) }
     ensures stop { IfErr result IsOutputStop }
+    ensures memory { result ≡ Err RunStop.NoMemory → Keeps (W.contents out.old) (W.contents out.new) }
 {
     match check_all(alloc, config) {
         Ok(found) => {
@@ -67,6 +71,7 @@ pub fn answer_check_node<P: Application, W: Write>(
     ensures err { OnErr result (AppendsPrefix (W.contents out.old) (W.contents out.new)
         (at_node config.now at (node_faults_lines (meaning_of P.app P.text P.from_text P.names) config.now at))) }
     ensures stop { IfErr result IsOutputStop }
+    ensures memory { result ≡ Err RunStop.NoMemory → Keeps (W.contents out.old) (W.contents out.new) }
 {
     match check_node(alloc, config, at) {
         Ok(found) => written(put_faults(out, &found)),
@@ -93,8 +98,9 @@ pub fn answer_alarm<P: Application, W: Write>(
     }
 }
 
-/// As `answer_alarm`; where the node has an alarm it then asks for a reset, and the reply or the
-/// refusal is written. Want of memory changes nothing.
+/// As `answer_alarm`; where the node has an alarm it asks for a reset, and the reply or the refusal is
+/// written too. Want of memory changes and writes nothing; where the writer fails the node has asked,
+/// where it has an alarm.
 pub fn answer_watch<P: Application, W: Write>(
     alloc: Global,
     config: &mut Config<P>,
@@ -108,7 +114,10 @@ pub fn answer_watch<P: Application, W: Write>(
     ensures err { OnErr result (AppendsPrefix (W.contents out.old) (W.contents out.new)
         (answered (meaning_of P.app P.text P.from_text P.names) config.old (Watch at)).1) }
     ensures stop { IfErr result IsOutputStop }
-    ensures memory { result ≡ Err RunStop.NoMemory → config.new ≡ config.old }
+    ensures memory { result ≡ Err RunStop.NoMemory
+        → (config.new ≡ config.old) × Keeps (W.contents out.old) (W.contents out.new) }
+    ensures fault { result ≡ Err RunStop.WriteFailed
+        → config.new ≡ (answered (meaning_of P.app P.text P.from_text P.names) config.old (Watch at)).0 }
 {
     if is_node(&*config, at) {
         watch_node(alloc, config, at, out)
@@ -117,7 +126,7 @@ pub fn answer_watch<P: Application, W: Write>(
     }
 }
 
-// Writes the alarm of a node, which asks for a reset where it has one.
+// Has a node ask for a reset where it has an alarm, and writes the alarm and how the request is answered.
 fn watch_node<P: Application, W: Write>(
     alloc: Global,
     config: &mut Config<P>,
@@ -131,13 +140,47 @@ fn watch_node<P: Application, W: Write>(
     ensures err { OnErr result (AppendsPrefix (W.contents out.old) (W.contents out.new)
         (watched (meaning_of P.app P.text P.from_text P.names) config.old at).1) }
     ensures stop { IfErr result IsOutputStop }
-    ensures memory { result ≡ Err RunStop.NoMemory → config.new ≡ config.old }
+    ensures memory { result ≡ Err RunStop.NoMemory
+        → (config.new ≡ config.old) × Keeps (W.contents out.old) (W.contents out.new) }
+    ensures fault { result ≡ Err RunStop.WriteFailed
+        → config.new ≡ (watched (meaning_of P.app P.text P.from_text P.names) config.old at).0 }
 {
     let told = alarm(config, at);
-    put_alarm(out, told)?;
     match told {
-        None => Ok(()),
-        Some(_) => answer_step(alloc, config, Event::Request { at }, out),
+        None => written(put_alarm(out, told)),
+        Some(_) => ask(alloc, config, at, told, out),
+    }
+}
+
+// Has a node ask for a reset, and writes its alarm, and then the reply or the refusal.
+fn ask<P: Application, W: Write>(
+    alloc: Global,
+    config: &mut Config<P>,
+    at: u32,
+    told: Option<LinkFault>,
+    out: &mut W,
+) -> Result<(), RunStop>
+    ensures ok { OnOk result ((config.new ≡ (stepped config.old (outcome_of P.app config.old (Request at))).0)
+        × Appends (W.contents out.old) (W.contents out.new)
+        (alarm_text told ++ (stepped config.old (outcome_of P.app config.old (Request at))).1)) }
+    ensures err { OnErr result (AppendsPrefix (W.contents out.old) (W.contents out.new)
+        (alarm_text told ++ (stepped config.old (outcome_of P.app config.old (Request at))).1)) }
+    ensures stop { IfErr result IsOutputStop }
+    ensures memory { result ≡ Err RunStop.NoMemory
+        → (config.new ≡ config.old) × Keeps (W.contents out.old) (W.contents out.new) }
+    ensures fault { result ≡ Err RunStop.WriteFailed
+        → config.new ≡ (stepped config.old (outcome_of P.app config.old (Request at))).0 }
+{
+    match config.step(alloc, Event::Request { at }) {
+        Ok(reply) => {
+            put_alarm(out, told)?;
+            written(put_reply(out, reply))
+        }
+        Err(StepRefusal::NoMemory) => Err(RunStop::NoMemory),
+        Err(refusal) => {
+            put_alarm(out, told)?;
+            written(put_refusal(out, refusal))
+        }
     }
 }
 

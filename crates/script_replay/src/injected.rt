@@ -1,7 +1,7 @@
 // The answers to faults.
 
-ghost use Rattle.std.specs.Prelude.{◌≡◌, ◌++◌, codes, Err, IfErr, OnErr, OnOk};
-ghost use Rattle.std.specs.Io.KnownBytes.{Appends};
+ghost use Rattle.std.specs.Prelude.{◌≡◌, ◌++◌, codes, Err, IfErr, IfOk, OnErr, OnOk};
+ghost use Rattle.std.specs.Io.KnownBytes.{Appends, Keeps};
 ghost use Rattle.action_tables.specs.Written.{AppendsPrefix};
 ghost use Rattle.fault_inject.specs.Effects.{injected};
 ghost use Rattle.script_replay.specs.Meaning.{meaning_of};
@@ -33,16 +33,17 @@ pub fn answer_fault<P: Application, W: Write>(
     ensures err { OnErr result (AppendsPrefix (W.contents out.old) (W.contents out.new)
         (disturbed config.old (injected P.app P.from_text config.old fault.now)).1) }
     ensures stop { IfErr result IsOutputStop }
-    ensures memory { result ≡ Err RunStop.NoMemory → config.new ≡ config.old }
+    ensures memory { result ≡ Err RunStop.NoMemory
+        → (config.new ≡ config.old) × Keeps (W.contents out.old) (W.contents out.new) }
+    ensures fault { result ≡ Err RunStop.WriteFailed
+        → config.new ≡ (disturbed config.old (injected P.app P.from_text config.old fault.now)).0 }
 {
-    match inject(alloc, config, fault) {
-        Ok(()) => written(put_bytes(out, b"disturbed\n")),
-        Err(FaultRefusal::NoMemory) => Err(RunStop::NoMemory),
-        Err(refusal) => written(put_fault_refusal(out, refusal)),
-    }
+    let line = disturb(alloc, config, fault)?;
+    written(put_bytes(out, line))
 }
 
-/// Draws a fault, writes its line, and does it as `answer_fault`. Want of memory changes nothing.
+/// Draws a fault, does it, and writes its line and then what `answer_fault` writes. Want of memory
+/// changes and writes nothing; where the writer fails the fault was done, or refused.
 pub fn answer_draw<P: Application, W: Write>(
     alloc: Global,
     config: &mut Config<P>,
@@ -56,11 +57,33 @@ pub fn answer_draw<P: Application, W: Write>(
     ensures err { OnErr result (AppendsPrefix (W.contents out.old) (W.contents out.new)
         (answered (meaning_of P.app P.text P.from_text P.names) config.old (Draw seed)).1) }
     ensures stop { IfErr result IsOutputStop }
-    ensures memory { result ≡ Err RunStop.NoMemory → config.new ≡ config.old }
+    ensures memory { result ≡ Err RunStop.NoMemory
+        → (config.new ≡ config.old) × Keeps (W.contents out.old) (W.contents out.new) }
+    ensures fault { result ≡ Err RunStop.WriteFailed
+        → config.new ≡ (answered (meaning_of P.app P.text P.from_text P.names) config.old (Draw seed)).0 }
 {
     let fault = drawn(config, seed);
+    let line = disturb(alloc, config, &fault)?;
     put_drawn(out, &fault)?;
-    answer_fault(alloc, config, &fault, out)
+    written(put_bytes(out, line))
+}
+
+// Does the fault, and answers the line that tells that it was done or the refusal.
+fn disturb<P: Application>(
+    alloc: Global,
+    config: &mut Config<P>,
+    fault: &Fault,
+) -> Result<&'static [u8], RunStop>
+    ensures ok { IfOk result
+        (λ line. (config.new ≡ (disturbed config.old (injected P.app P.from_text config.old fault.now)).0)
+        × (line.now ≡ (disturbed config.old (injected P.app P.from_text config.old fault.now)).1)) }
+    ensures err { IfErr result (λ stop. (stop ≡ RunStop.NoMemory) × (config.new ≡ config.old)) }
+{
+    match inject(alloc, config, fault) {
+        Ok(()) => Ok(b"disturbed\n"),
+        Err(FaultRefusal::NoMemory) => Err(RunStop::NoMemory),
+        Err(refusal) => Ok(fault_refusal_line(refusal)),
+    }
 }
 
 /// The fault that a new generator with this seed draws.
@@ -79,14 +102,6 @@ fn put_drawn<W: Write>(out: &mut W, fault: &Fault) -> Result<(), WriteFault>
     put_bytes(out, b"drawn ")?;
     write_fault(fault, out)?;
     put_bytes(out, b"\n")
-}
-
-// Writes what a refused fault is answered with.
-fn put_fault_refusal<W: Write>(out: &mut W, refusal: FaultRefusal) -> Result<(), WriteFault>
-    ensures ok { OnOk result (Appends (W.contents out.old) (W.contents out.new) (fault_refusal_text refusal)) }
-    ensures err { OnErr result (AppendsPrefix (W.contents out.old) (W.contents out.new) (fault_refusal_text refusal)) }
-{
-    put_bytes(out, fault_refusal_line(refusal))
 }
 
 // The line that a refused fault is answered with.

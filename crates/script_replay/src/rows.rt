@@ -1,8 +1,8 @@
 // The answers that name enabled rows, and the nodes that have some.
 
-ghost use Rattle.std.specs.Prelude.{◌≡◌, ◌++◌, codes, IfErr, OnOk, OnErr};
+ghost use Rattle.std.specs.Prelude.{◌≡◌, ◌++◌, codes, Err, IfErr, OnOk, OnErr};
 ghost use Rattle.std.specs.List.{flat_map};
-ghost use Rattle.std.specs.Io.KnownBytes.{Appends};
+ghost use Rattle.std.specs.Io.KnownBytes.{Appends, Keeps};
 ghost use Rattle.action_tables.specs.Written.{AppendsPrefix};
 ghost use Rattle.script_replay.specs.Meaning.{meaning_of};
 ghost use Rattle.script_replay.specs.Output.{at_node, enabled_line, enabled_text, ready_line, ready_text, spaced};
@@ -30,6 +30,7 @@ pub fn answer_enabled<P: Application, W: Write>(
         (AppendsPrefix (W.contents out.old) (W.contents out.new)
         (at_node config.now at (enabled_line (meaning_of P.app P.text P.from_text P.names) config.now at))) }
     ensures stop { IfErr result IsOutputStop }
+    ensures memory { result ≡ Err RunStop.NoMemory → Keeps (W.contents out.old) (W.contents out.new) }
 {
     match config.enabled(alloc, at) {
         Ok(rows) => written(put_enabled(out, at, rows)),
@@ -71,6 +72,7 @@ pub fn answer_ready<P: Application, W: Write>(
         (AppendsPrefix (W.contents out.old) (W.contents out.new)
         (ready_line (meaning_of P.app P.text P.from_text P.names) config.old)) }
     ensures stop { IfErr result IsOutputStop }
+    ensures memory { result ≡ Err RunStop.NoMemory → Keeps (W.contents out.old) (W.contents out.new) }
     ensures kept { config.new ≡ config.old }
 {
     match config.ready(alloc) {

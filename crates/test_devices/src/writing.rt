@@ -1,6 +1,6 @@
 // A writer that goes wrong at one of its writes.
 
-ghost use Rattle.std.specs.Prelude.{◌≡◌, ◌≢◌, ◌+◌, ◌-◌, ◌^◌, [], IfOk, IsErr, Ok, Some, length, min};
+ghost use Rattle.std.specs.Prelude.{◌≡◌, ◌≢◌, ◌+◌, ◌-◌, ◌^◌, [], IfOk, IsErr, IsOk, Ok, Some, length, min};
 ghost use Rattle.std.specs.Io.{WritesAtMost};
 ghost use Rattle.std.specs.Io.KnownBytes.{WriteAppends};
 
@@ -86,7 +86,10 @@ impl Write for FailingWriter {
         Ok(count)
     }
 
-    fn flush(&mut self) -> io::Result<()> {
+    fn flush(&mut self) -> io::Result<()>
+        ensures kept { self.new ≡ self.old }
+        ensures good { IsOk result }
+    {
         Ok(())
     }
 }

@@ -73,3 +73,27 @@ returns-in-Alarm-clause-err g c =
     rw c.in-Alarm.is
     (written_err c.answer_alarm.result c.written-in-Alarm.result c.written-in-Alarm.ensures.ok
     c.written-in-Alarm.ensures.err _ c.answer_alarm.ensures.err)
+
+pub returns-in-Step-clause-fault : goal.returns-in-Step-clause-fault
+returns-in-Step-clause-fault g c = rw c.in-Step.is c.answer_step.ensures.fault
+
+pub returns-in-Inject-clause-fault : goal.returns-in-Inject-clause-fault
+returns-in-Inject-clause-fault g c = rw c.in-Inject.is c.answer_fault.ensures.fault
+
+pub returns-in-Draw-clause-fault : goal.returns-in-Draw-clause-fault
+returns-in-Draw-clause-fault g c = rw c.in-Draw.is c.answer_draw.ensures.fault
+
+pub returns-in-Watch-clause-fault : goal.returns-in-Watch-clause-fault
+returns-in-Watch-clause-fault g c = rw c.in-Watch.is c.answer_watch.ensures.fault
+
+pub returns-in-Show-clause-fault : goal.returns-in-Show-clause-fault
+returns-in-Show-clause-fault g c = rw c.in-Show.is (λ failed. refl)
+
+pub returns-in-ShowNode-clause-fault : goal.returns-in-ShowNode-clause-fault
+returns-in-ShowNode-clause-fault g c = rw c.in-ShowNode.is (λ failed. refl)
+
+pub returns-in-Newest-clause-fault : goal.returns-in-Newest-clause-fault
+returns-in-Newest-clause-fault g c = rw c.in-Newest.is (λ failed. refl)
+
+pub returns-in-Alarm-clause-fault : goal.returns-in-Alarm-clause-fault
+returns-in-Alarm-clause-fault g c = rw c.in-Alarm.is (λ failed. refl)

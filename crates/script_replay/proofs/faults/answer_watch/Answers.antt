@@ -24,3 +24,9 @@ returns-then-is_node-clause-ok g c = rw (sym c.is_node.ensures ∙ c.if-is_node.
 
 pub returns-then-is_node-clause-err : goal.returns-then-is_node-clause-err
 returns-then-is_node-clause-err g c = rw (sym c.is_node.ensures ∙ c.if-is_node.true) c.watch_node.ensures.err
+
+pub returns-else-is_node-clause-fault : goal.returns-else-is_node-clause-fault
+returns-else-is_node-clause-fault g c = rw (sym c.is_node.ensures ∙ c.if-is_node.false) (λ failed. refl)
+
+pub returns-then-is_node-clause-fault : goal.returns-then-is_node-clause-fault
+returns-then-is_node-clause-fault g c = rw (sym c.is_node.ensures ∙ c.if-is_node.true) c.watch_node.ensures.fault

@@ -1,17 +1,10 @@
-use Rattle.action_tables.proofs.Prefixes.{OnErr-always}
+use Rattle.std.proofs.Common.{◌∙◌}
+use Rattle.std.proofs.lemmas.Result.{on_err_weaker}
 use Rattle.script_replay.specs.Meaning.{meaning_of}
 use Rattle.script_replay.proofs.Nodes.{told_alarm}
-use Rattle.script_replay.proofs.Watching.{asked_err, asked_ok, quiet_watched, watched_prefix}
+use Rattle.script_replay.proofs.Watching.{asked_config, asked_err, asked_ok, quiet_config, quiet_text, watched_prefix}
+use Rattle.script_replay.proofs.Written.{written_err, written_ok}
 use Rattle.script_replay.proofs.faults.watch_node.Goals as goal
-
-pub returns-in_err-put_alarm-clause-err : goal.returns-in_err-put_alarm-clause-err
-returns-in_err-put_alarm-clause-err g c =
-    let m = meaning_of g.P.Application.app g.P.Application.text g.P.Application.from_text g.P.Application.names in
-    let is =
-    told_alarm m.app c.args.config.now c.args.at c.alarm-told.result c.requires c.alarm-told.ensures.found
-    c.alarm-told.ensures.none in
-    OnErr-always _ _
-    (watched_prefix m c.args.config.now c.args.at c.alarm-told.result is _ _ c.in_err-put_alarm.ensures.err)
 
 pub returns-in-None-clause-ok : goal.returns-in-None-clause-ok
 returns-in-None-clause-ok g c =
@@ -19,7 +12,29 @@ returns-in-None-clause-ok g c =
     let is =
     told_alarm m.app c.args.config.now c.args.at c.alarm-told.result c.requires c.alarm-told.ensures.found
     c.alarm-told.ensures.none in
-    quiet_watched m c.args.config.now c.args.at c.alarm-told.result is _ _ c.in-None.is c.in_ok-put_alarm.ensures.ok
+    written_ok c.put_alarm.result c.written.result c.written.ensures.ok c.written.ensures.err
+    (λ text. (
+      quiet_config m c.args.config.now c.args.at c.alarm-told.result is c.in-None.is,
+      quiet_text m c.args.config.now c.args.at c.alarm-told.result is _ _ c.in-None.is text,
+    )) c.put_alarm.ensures.ok
+
+pub returns-in-None-clause-err : goal.returns-in-None-clause-err
+returns-in-None-clause-err g c =
+    let m = meaning_of g.P.Application.app g.P.Application.text g.P.Application.from_text g.P.Application.names in
+    let is =
+    told_alarm m.app c.args.config.now c.args.at c.alarm-told.result c.requires c.alarm-told.ensures.found
+    c.alarm-told.ensures.none in
+    written_err c.put_alarm.result c.written.result c.written.ensures.ok c.written.ensures.err _
+    (on_err_weaker c.put_alarm.result
+    (λ prefix. watched_prefix m c.args.config.now c.args.at c.alarm-told.result is _ _ prefix) c.put_alarm.ensures.err)
+
+pub returns-in-None-clause-fault : goal.returns-in-None-clause-fault
+returns-in-None-clause-fault g c =
+    let m = meaning_of g.P.Application.app g.P.Application.text g.P.Application.from_text g.P.Application.names in
+    let is =
+    told_alarm m.app c.args.config.now c.args.at c.alarm-told.result c.requires c.alarm-told.ensures.found
+    c.alarm-told.ensures.none in
+    λ failed. quiet_config m c.args.config.now c.args.at c.alarm-told.result is c.in-None.is
 
 pub returns-in-Some-clause-ok : goal.returns-in-Some-clause-ok
 returns-in-Some-clause-ok g c =
@@ -27,9 +42,8 @@ returns-in-Some-clause-ok g c =
     let is =
     told_alarm m.app c.args.config.now c.args.at c.alarm-told.result c.requires c.alarm-told.ensures.found
     c.alarm-told.ensures.none in
-    asked_ok m c.args.config.now c.args.at c.alarm-told.result is c.in-Some.field-0 c.in-Some.is _ _ _
-    c.in_ok-put_alarm.ensures.ok
-    c.answer_step.new.config c.answer_step.result c.answer_step.ensures.ok
+    asked_ok m c.args.config.now c.args.at c.alarm-told.result is c.in-Some.field-0 c.in-Some.is _ _
+    c.ask.new.config c.ask.result c.ask.ensures.ok
 
 pub returns-in-Some-clause-err : goal.returns-in-Some-clause-err
 returns-in-Some-clause-err g c =
@@ -37,6 +51,14 @@ returns-in-Some-clause-err g c =
     let is =
     told_alarm m.app c.args.config.now c.args.at c.alarm-told.result c.requires c.alarm-told.ensures.found
     c.alarm-told.ensures.none in
-    asked_err m c.args.config.now c.args.at c.alarm-told.result is c.in-Some.field-0 c.in-Some.is _ _ _
-    c.in_ok-put_alarm.ensures.ok
-    c.answer_step.result c.answer_step.ensures.err
+    asked_err m c.args.config.now c.args.at c.alarm-told.result is c.in-Some.field-0 c.in-Some.is _ _
+    c.ask.result c.ask.ensures.err
+
+pub returns-in-Some-clause-fault : goal.returns-in-Some-clause-fault
+returns-in-Some-clause-fault g c =
+    let m = meaning_of g.P.Application.app g.P.Application.text g.P.Application.from_text g.P.Application.names in
+    let is =
+    told_alarm m.app c.args.config.now c.args.at c.alarm-told.result c.requires c.alarm-told.ensures.found
+    c.alarm-told.ensures.none in
+    λ failed. c.ask.ensures.fault failed
+    ∙ asked_config m c.args.config.now c.args.at c.alarm-told.result is c.in-Some.field-0 c.in-Some.is
