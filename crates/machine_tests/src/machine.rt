@@ -50,7 +50,7 @@ fn boots_the_line(rt: HostRuntime) {
 
 // Eight steps are applied, and the last completes session 1.
 fn completes_at_last(rt: &impl Abort, answers: &[Done]) {
-    assert_equal(rt, answers.len(), 9);
+    assert!(rt; answers.len() == 9);
     for answer in &answers[..8] {
         assert_equal(rt, *answer, Done::Did(Reply::Applied));
     }
