@@ -92,7 +92,7 @@ fn fault_of(words: [u32; 5]) -> Fault {
 }
 
 // The fault that is drawn from this seed is that of the seed's first five words, and no further word is drawn.
-// Gives its kind.
+// Gives the first of them, whose remainder by 4 is the fault's kind.
 fn draws_from_five_words(rt: &impl Abort, config: &Config<Idle>, seed: u64) -> usize {
     let mut random = Lcg64Xsh32::seed_from_u64(seed);
     let mut other = Lcg64Xsh32::seed_from_u64(seed);
