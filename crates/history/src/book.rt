@@ -106,7 +106,9 @@ impl<P: Application> Book<P> {
         let Ok(mut copy) = self.player.config.copy(alloc) else {
             return BookRefusal::NoMemory;
         };
-        match copy.step(alloc, event) {
+        let stepped = copy.step(alloc, event);
+        drop(copy);
+        match stepped {
             Ok(_) => BookRefusal::BookFull,
             Err(refusal) => step_refused(refusal),
         }
@@ -147,7 +149,9 @@ impl<P: Application> Book<P> {
         let Ok(mut copy) = self.player.config.copy(alloc) else {
             return DisturbRefusal::NoMemory;
         };
-        match inject(alloc, &mut copy, fault) {
+        let injected = inject(alloc, &mut copy, fault);
+        drop(copy);
+        match injected {
             Ok(()) => DisturbRefusal::BookFull,
             Err(refusal) => fault_refused(refusal),
         }

@@ -45,6 +45,20 @@ impl<P: Application> Player<P> {
         }
     }
 
+    // What the entries reported.
+    pub fn into_reports(self) -> Vec<Report>
+        ensures { result ≡ self.reports }
+    {
+        let Player {
+            config,
+            openings,
+            reports,
+        } = self;
+        drop(openings);
+        drop(config);
+        reports
+    }
+
     // Does the event, which is entered at this position.
     #[inline(always)]
     pub fn enter_step(

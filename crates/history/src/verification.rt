@@ -85,16 +85,19 @@ fn verdict<P: Application>(
         → HasVerified P.app P.from_text c es verifier → HasRead reading.now es text
         → IsVerdict P.app P.from_text c text result }
 {
-    let (other, count) = match reading.end() {
-        Ok(ends) => ends,
-        Err(fault) => return Err(ReaderFault::Text(fault)),
-    };
-    if other != modulus {
-        return Err(ReaderFault::OtherModulus(other));
-    }
-    match verifier.summary(count) {
-        Ok(summary) => Ok(summary),
-        Err(fault) => Err(ReaderFault::Entries(fault)),
+    match reading.end() {
+        Ok((other, count)) if other == modulus => match verifier.summary(count) {
+            Ok(summary) => Ok(summary),
+            Err(fault) => Err(ReaderFault::Entries(fault)),
+        },
+        Ok((other, _)) => {
+            drop(verifier);
+            Err(ReaderFault::OtherModulus(other))
+        }
+        Err(fault) => {
+            drop(verifier);
+            Err(ReaderFault::Text(fault))
+        }
     }
 }
 
@@ -112,10 +115,12 @@ pub fn verify<P: Application>(
         → IsFirstRefused P.app P.from_text opening entries.now position) }
 {
     let mut player = Player::new(alloc, opening);
-    match player.play(alloc, 0, entries) {
+    let played = player.play(alloc, 0, entries);
+    let reports = player.into_reports();
+    match played {
         Ok(()) => Ok(Summary {
             entries: entries.len(),
-            reports: player.reports,
+            reports,
         }),
         Err(fault) => Err(fault),
     }

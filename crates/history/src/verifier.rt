@@ -53,10 +53,11 @@ impl<P: Application> Verifier<P> {
             → IsFirstRefused P.app P.from_text c es position) }
     {
         let Verifier { player, fault } = self;
+        let reports = player.into_reports();
         match fault {
             None => Ok(Summary {
                 entries: count,
-                reports: player.reports,
+                reports,
             }),
             Some(fault) => Err(fault),
         }

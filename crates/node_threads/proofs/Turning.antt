@@ -1,7 +1,8 @@
 -- Turns, one after the other.
 use Rattle.std.proofs.Common.{◌≡◌, ℕ, zero, suc, All, List, [], ◌∷◌, ◌++◌, length, Option, Some, append_assoc}
-use Rattle.std.proofs.Common.{append-nil, ap, sym, subst, arith, take, ◌∙◌}
+use Rattle.std.proofs.Common.{append-nil, ap, sym, subst, arith, take, ◌∙◌, ◌≤◌, ◌+◌}
 use Rattle.std.proofs.Math.Seq.{take-append_seam}
+use Rattle.std.proofs.lemmas.List.{length-append}
 use Rattle.std.proofs.lemmas.List.Elements.{All-append}
 use Rattle.app_interface.specs.Application.{App}
 use Rattle.reset_model.specs.declared.event.Event.{Event}
@@ -11,6 +12,7 @@ use Rattle.node_choices.specs.Choice.{next_of}
 use Rattle.history.specs.declared.entry.Receipt.{Receipt}
 use Rattle.history.specs.declared.refusal.ApplyRefusal.TheVariants.{BookFull}
 use Rattle.node_threads.specs.Locked.{IsBooked, IsUncommitted, WasLocked}
+use Rattle.node_threads.specs.Seats.{SeatView, with_receipt}
 use Rattle.node_threads.specs.Turns.{AddsTurns, IsTurn, WasFull}
 use Rattle.node_threads.specs.declared.refusal.CommitRefusal.{CommitRefusal}
 use Rattle.node_threads.specs.declared.refusal.CommitRefusal.TheVariants.{Refused}
@@ -81,3 +83,16 @@ full_book {P} {L} app from_text mark seats i p r was is =
     let Lay : CommitRefusal P L → Type 0 = λ f. WasLocked app from_text mark seats (λ b. IsUncommitted app b i p f) in
     let full : Lay (Refused BookFull) = subst Lay is was in
     record { book = full.book; total = full.total; locked = full.locked; such = full.such.1.1 }
+
+-- a seat with a receipt more has what it had, and one more
+pub kept_with : (old new : SeatView) (receipt : Receipt) → new ≡ with_receipt old receipt
+    → take (length old.receipts) new.receipts ≡ old.receipts
+kept_with old new receipt same =
+    ap (λ s. take (length old.receipts) s.receipts) same ∙ take-append_seam old.receipts (receipt ∷ [])
+
+pub most_with : (old new : SeatView) (receipt : Receipt) → new ≡ with_receipt old receipt
+    → length new.receipts ≤ length old.receipts + 1
+most_with old new receipt same =
+    let longer : length new.receipts ≡ length old.receipts + 1 =
+    ap (λ s. length s.receipts) same ∙ length-append old.receipts (receipt ∷ []) in
+    omega (arith, longer)

@@ -145,24 +145,22 @@ fn run_round<L: Round + Send + Sync, P: Application, G: Gate + Sync, R: Threads 
         hungry,
     } = joined;
     if refused {
+        drop(seats);
         let cause = RunCause::NoThread;
         let book = shared.into_book();
         return Err(RunFault { cause, book });
     }
     if hungry {
+        drop(seats);
         let cause = RunCause::NoMemory;
         let book = shared.into_book();
         return Err(RunFault { cause, book });
     }
     match close(alloc, shared, seats) {
         Ok(outcome) => Ok(outcome),
-        Err((CloseFault::NoMemory, shared, _seats)) => {
-            let cause = RunCause::NoMemory;
-            let book = shared.into_book();
-            Err(RunFault { cause, book })
-        }
-        Err((fault, shared, _seats)) => {
-            let cause = RunCause::Close(fault);
+        Err((fault, shared, seats)) => {
+            drop(seats);
+            let cause = cause_of_closing(fault);
             let book = shared.into_book();
             Err(RunFault { cause, book })
         }
@@ -185,6 +183,17 @@ fn cause_of(fault: ShareFault) -> RunCause
     match fault {
         ShareFault::TooManyForThreads => RunCause::TooManyForThreads,
         ShareFault::NoMemory => RunCause::NoMemory,
+    }
+}
+
+// A fault of closing as a run tells it.
+fn cause_of_closing(fault: CloseFault) -> RunCause
+    ensures many { result ≢ RunCause.TooManyForThreads }
+    ensures strange { result ≢ RunCause.StrangeNode }
+{
+    match fault {
+        CloseFault::NoMemory => RunCause::NoMemory,
+        fault => RunCause::Close(fault),
     }
 }
 
@@ -230,6 +239,8 @@ fn in_threads<L: Round + Send + Sync, P: Application, G: Gate + Sync, R: Threads
         let mut handles = Vec::new(alloc);
         let mut back = Vec::new(alloc);
         if handles.reserve(seats.len()).is_err() || back.reserve(seats.len()).is_err() {
+            drop(seats);
+            drop(handles);
             return Joined {
                 seats: back,
                 refused: false,

@@ -112,13 +112,20 @@ fn drive_from<P: Application>(
     let mut book = Book::open_book(alloc, opening, MAX_ENTRIES);
     match drive(alloc, &mut book, run.steps, run.seed, run.faults) {
         Ok(()) => {}
-        Err(AllocError) => return Err(RunStop::NoMemory),
+        Err(AllocError) => {
+            drop(book);
+            return Err(RunStop::NoMemory);
+        }
     }
     book.lemma_is_book();
-    let history = text_of(alloc, &book)?;
+    let text = text_of(alloc, &book);
+    let entries = book.len();
+    let reports = book.reports().len();
+    drop(book);
+    let history = text?;
     Ok(Told::Driven(Driven {
         history,
-        entries: book.len(),
-        reports: book.reports().len(),
+        entries,
+        reports,
     }))
 }

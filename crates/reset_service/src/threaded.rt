@@ -132,8 +132,17 @@ fn run_from<P: Application, R: Threads + Wait + Sync>(
     let least = opening.topology().nodes().first().copied();
     let book = Book::open_book(alloc, opening.copy(alloc)?, MAX_ENTRIES);
     match run_nodes(rt, alloc, &NoGate, book, turns, least) {
-        Ok(outcome) => judge(alloc, opening, &outcome.book),
-        Err(fault) => stopped_by(fault.cause),
+        Ok(outcome) => {
+            let told = judge(alloc, opening, &outcome.book);
+            drop(outcome);
+            told
+        }
+        Err(fault) => {
+            let cause = fault.cause;
+            drop(fault);
+            drop(opening);
+            stopped_by(cause)
+        }
     }
 }
 

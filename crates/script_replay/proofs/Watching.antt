@@ -43,21 +43,21 @@ module _ {L : Type 0} (m : Meaning L) (c : Configuration L) (i : ℕ) (told : Op
     pub asked_config : (stepped c (outcome_of m.app c (Request i))).0 ≡ (watched m c i).0
     asked_config = sym (config_is ∙ ap (λ o. (after_alarm m c i o).0) some)
 
-    asked_text : alarm_text told ++ (stepped c (outcome_of m.app c (Request i))).1 ≡ (watched m c i).1
-    asked_text = sym (text_is ∙ ap (λ o. alarm_text told ++ (after_alarm m c i o).1) some)
+    asked_text : alarm_text (Some fault) ++ (stepped c (outcome_of m.app c (Request i))).1 ≡ (watched m c i).1
+    asked_text = sym (text_is ∙ ap (λ o. alarm_text o ++ (after_alarm m c i o).1) some)
 
     module _ (a d : Option (List ℕ)) {E : Type 0} where
       pub asked_ok : (after : Configuration L) (r : Result (Unit {0}) E)
           → OnOk r
           ((after ≡ (stepped c (outcome_of m.app c (Request i))).0)
-          × Appends a d (alarm_text told ++ (stepped c (outcome_of m.app c (Request i))).1))
+          × Appends a d (alarm_text (Some fault) ++ (stepped c (outcome_of m.app c (Request i))).1))
           → OnOk r ((after ≡ (watched m c i).0) × Appends a d (watched m c i).1)
       asked_ok after (Ok x) ok =
           let P : List ℕ → Type 0 = λ t. Appends a d t in (ok.0 ∙ asked_config, subst P asked_text ok.1)
       asked_ok after (Err e) ok = tt
 
       pub asked_err : (r : Result (Unit {0}) E)
-          → OnErr r (AppendsPrefix a d (alarm_text told ++ (stepped c (outcome_of m.app c (Request i))).1))
+          → OnErr r (AppendsPrefix a d (alarm_text (Some fault) ++ (stepped c (outcome_of m.app c (Request i))).1))
           → OnErr r (AppendsPrefix a d (watched m c i).1)
       asked_err (Ok x) err = tt
       asked_err (Err e) err = let P : List ℕ → Type 0 = λ t. AppendsPrefix a d t in subst P asked_text err

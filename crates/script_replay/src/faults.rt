@@ -1,6 +1,6 @@
 // The answers that tell faults and alarms.
 
-ghost use Rattle.std.specs.Prelude.{◌≡◌, ◌++◌, codes, length, Err, IfErr, IfOk, OnErr, OnOk};
+ghost use Rattle.std.specs.Prelude.{◌≡◌, ◌++◌, codes, length, Err, Some, IfErr, IfOk, OnErr, OnOk};
 ghost use Rattle.std.specs.List.{flat_map};
 ghost use Rattle.std.specs.Io.KnownBytes.{Appends, Keeps};
 ghost use Rattle.topology.specs.Graph.{IsNode};
@@ -148,23 +148,23 @@ fn watch_node<P: Application, W: Write>(
     let told = alarm(config, at);
     match told {
         None => written(put_alarm(out, told)),
-        Some(_) => ask(alloc, config, at, told, out),
+        Some(fault) => ask(alloc, config, at, fault, out),
     }
 }
 
-// Has a node ask for a reset, and writes its alarm, and then the reply or the refusal.
+// Has a node ask for a reset for this fault, and writes its alarm, and then the reply or the refusal.
 fn ask<P: Application, W: Write>(
     alloc: Global,
     config: &mut Config<P>,
     at: u32,
-    told: Option<LinkFault>,
+    fault: LinkFault,
     out: &mut W,
 ) -> Result<(), RunStop>
     ensures ok { OnOk result ((config.new ≡ (stepped config.old (outcome_of P.app config.old (Request at))).0)
         × Appends (W.contents out.old) (W.contents out.new)
-        (alarm_text told ++ (stepped config.old (outcome_of P.app config.old (Request at))).1)) }
+        (alarm_text (Some fault) ++ (stepped config.old (outcome_of P.app config.old (Request at))).1)) }
     ensures err { OnErr result (AppendsPrefix (W.contents out.old) (W.contents out.new)
-        (alarm_text told ++ (stepped config.old (outcome_of P.app config.old (Request at))).1)) }
+        (alarm_text (Some fault) ++ (stepped config.old (outcome_of P.app config.old (Request at))).1)) }
     ensures stop { IfErr result IsOutputStop }
     ensures memory { result ≡ Err RunStop.NoMemory
         → (config.new ≡ config.old) × Keeps (W.contents out.old) (W.contents out.new) }
@@ -173,12 +173,12 @@ fn ask<P: Application, W: Write>(
 {
     match config.step(alloc, Event::Request { at }) {
         Ok(reply) => {
-            put_alarm(out, told)?;
+            put_alarm(out, Some(fault))?;
             written(put_reply(out, reply))
         }
         Err(StepRefusal::NoMemory) => Err(RunStop::NoMemory),
         Err(refusal) => {
-            put_alarm(out, told)?;
+            put_alarm(out, Some(fault))?;
             written(put_refusal(out, refusal))
         }
     }

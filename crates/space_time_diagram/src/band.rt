@@ -1,12 +1,12 @@
 // The bands: what the wave registers of a node are, from the entry that left them on.
 
-ghost use Rattle.std.specs.Prelude.{◌≡◌, ◌≤◌, IfOk, IsSome, OnErr, OnOk, length, map};
+ghost use Rattle.std.specs.Prelude.{◌≡◌, ◌++◌, ◌≤◌, IfOk, IsSome, OnErr, OnOk, length, map};
 ghost use Rattle.std.specs.Io.KnownBytes.{Appends};
 ghost use Rattle.action_tables.specs.Written.{AppendsPrefix};
 ghost use Rattle.reset_model.specs.Configuration.{wave_of};
 ghost use Rattle.history.specs.Entries.{replayed};
-ghost use Rattle.space_time_diagram.specs.Bands.{band, band_text, bands_of, bands_text, entry_node, fault_node};
-ghost use Rattle.space_time_diagram.specs.Bands.{opening_band, phase_band_text};
+ghost use Rattle.space_time_diagram.specs.Bands.{band, band_text, bands_from, bands_of, bands_text};
+ghost use Rattle.space_time_diagram.specs.Bands.{entry_node, fault_node, opening_band, phase_band_text};
 ghost use Rattle.space_time_diagram.specs.Lanes.{lane_of};
 
 use crate::lane::{lane_of, wave_at};
@@ -65,13 +65,33 @@ pub fn bands_of<P: Application>(
 {
     let mut bands = opening_bands(alloc, opening, opening.topology().ids(), entries.len())?;
     let mut config = opening.copy(alloc)?;
+    let added = add_bands(alloc, opening, entries, &mut config, &mut bands);
+    drop(config);
+    added?;
+    Ok(bands)
+}
+
+// Plays the entries from this configuration on, and adds the band of each.
+fn add_bands<P: Application>(
+    alloc: Global,
+    opening: &Config<P>,
+    entries: &[Entry],
+    config: &mut Config<P>,
+    bands: &mut Vec<Band>,
+) -> Result<(), AllocError>
+    requires lanes { length opening.now.graph.ids ≤ MAX_LANES }
+    requires marks { length entries.now ≤ MAX_MARKS }
+    requires run { IsSome (replayed P.app P.from_text config.old entries.now) }
+    ensures { OnOk result (bands.new.items ≡ bands.old.items
+        ++ bands_from P.app P.from_text (lane_of opening.now) (length entries.now) config.old 1 entries.now) }
+{
     let mut place = 0;
     for entry in entries {
         place += 1;
-        play(alloc, &mut config, entry)?;
-        bands.push(band_at(opening, &config, entries.len(), place, entry_node(entry)))?;
+        play(alloc, config, entry)?;
+        bands.push(band_at(opening, config, entries.len(), place, entry_node(entry)))?;
     }
-    Ok(bands)
+    Ok(())
 }
 
 // The bands of these nodes in the opening.

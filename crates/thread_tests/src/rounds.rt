@@ -38,6 +38,17 @@ pub(crate) fn play<S: Scene, R: Wait + Abort>(
     play_round::<Brand, S, R>(rt, alloc, blank, book)
 }
 
+// Shares the book and plays the scene.
+pub(crate) fn plays<S: Scene, R: Wait + Abort>(rt: &R, alloc: Global, book: Book<Idle>) {
+    match play::<S, R>(rt, alloc, book) {
+        Ok(()) => {}
+        Err((fault, book)) => {
+            drop(book);
+            panic!(rt; "{fault:?}")
+        }
+    }
+}
+
 fn play_round<L: Round, S: Scene, R: Wait + Abort>(
     rt: &R,
     alloc: Global,

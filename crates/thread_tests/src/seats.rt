@@ -3,7 +3,7 @@
 use crate::assert_equal;
 use crate::rounds::{
     Scene, applied, closed, commits, has_entries, has_receipts, has_step, outcome_of, planned,
-    play, refused, seen, sees_initiate, selects, three,
+    play, plays, refused, seen, sees_initiate, selects, three,
 };
 use crate::topologies::{line, opened, star, takes, takes_down};
 use app_interface::Idle;
@@ -19,7 +19,7 @@ use std::sync::Wait;
 // Plays the scene at the seats of the line.
 fn play_line<S: Scene, R: Wait + Abort>(rt: &R, alloc: Global) {
     let book = opened::<Idle>(rt, alloc, line(rt, alloc));
-    assert!(rt; play::<S, R>(rt, alloc, book).is_ok());
+    plays::<S, R>(rt, alloc, book);
 }
 
 // The seat is of this node, which sees its own registers there.
@@ -244,7 +244,7 @@ fn star_book(rt: &impl Abort, alloc: Global, count: u32) -> Book<Idle> {
 #[test]
 fn sixty_four_nodes_are_shared(rt: HostRuntime) {
     let book = star_book(&rt, rt.alloc(), 64);
-    assert!(rt; play::<Many, HostRuntime>(&rt, rt.alloc(), book).is_ok());
+    plays::<Many, HostRuntime>(&rt, rt.alloc(), book);
 }
 
 // The book, which has too many nodes to be shared, as it comes back.
@@ -300,7 +300,7 @@ impl Scene for OfThoseUp {
 fn nodes_that_are_up_have_seats(rt: HostRuntime) {
     let mut book = opened::<Idle>(&rt, rt.alloc(), line(&rt, rt.alloc()));
     takes_down(&rt, rt.alloc(), &mut book, 3);
-    assert!(rt; play::<OfThoseUp, HostRuntime>(&rt, rt.alloc(), book).is_ok());
+    plays::<OfThoseUp, HostRuntime>(&rt, rt.alloc(), book);
 }
 
 struct Empty;
@@ -326,7 +326,7 @@ fn no_node_is_up_and_none_has_a_seat(rt: HostRuntime) {
     for at in [1, 2, 3] {
         takes_down(&rt, rt.alloc(), &mut book, at);
     }
-    assert!(rt; play::<Empty, HostRuntime>(&rt, rt.alloc(), book).is_ok());
+    plays::<Empty, HostRuntime>(&rt, rt.alloc(), book);
 }
 
 struct ManyUp;
@@ -351,7 +351,7 @@ impl Scene for ManyUp {
 #[test]
 fn sixty_four_nodes_of_1024_are_shared(rt: HostRuntime) {
     let book = thinned_book(&rt, rt.alloc(), 1024, 64);
-    assert!(rt; play::<ManyUp, HostRuntime>(&rt, rt.alloc(), book).is_ok());
+    plays::<ManyUp, HostRuntime>(&rt, rt.alloc(), book);
 }
 
 #[test]

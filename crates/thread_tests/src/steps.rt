@@ -2,7 +2,7 @@
 
 use crate::assert_equal;
 use crate::rounds::{
-    Scene, applied, closed, has_entries, has_receipts, has_step, play, seen, sees_initiate,
+    Scene, applied, closed, has_entries, has_receipts, has_step, plays, seen, sees_initiate,
     selects, steps, three,
 };
 use crate::topologies::{booted_line, line, opened};
@@ -55,7 +55,7 @@ impl Scene for Relaying {
 #[test]
 fn a_selected_node_is_seen_and_each_seat_is_told_its_own_step(rt: HostRuntime) {
     let book = opened::<Idle>(&rt, rt.alloc(), line(&rt, rt.alloc()));
-    assert!(rt; play::<Relaying, HostRuntime>(&rt, rt.alloc(), book).is_ok());
+    plays::<Relaying, HostRuntime>(&rt, rt.alloc(), book);
 }
 
 struct Straying;
@@ -82,7 +82,7 @@ impl Scene for Straying {
 #[test]
 fn a_step_of_another_node_is_refused(rt: HostRuntime) {
     let book = opened::<Idle>(&rt, rt.alloc(), line(&rt, rt.alloc()));
-    assert!(rt; play::<Straying, HostRuntime>(&rt, rt.alloc(), book).is_ok());
+    plays::<Straying, HostRuntime>(&rt, rt.alloc(), book);
 }
 
 // Does the event of the receipt at the seat of its node, which is told it.
@@ -170,5 +170,5 @@ impl Scene for WholeReset {
 #[test]
 fn after_each_step_of_a_reset_each_seat_shows_what_its_node_sees(rt: HostRuntime) {
     let book = opened::<Idle>(&rt, rt.alloc(), line(&rt, rt.alloc()));
-    assert!(rt; play::<WholeReset, HostRuntime>(&rt, rt.alloc(), book).is_ok());
+    plays::<WholeReset, HostRuntime>(&rt, rt.alloc(), book);
 }

@@ -1,7 +1,7 @@
 // The turns of one node, in one thread.
 
 use crate::assert_equal;
-use crate::rounds::{Scene, applied, has_receipts, play, selects, three};
+use crate::rounds::{Scene, applied, has_receipts, plays, selects, three};
 use crate::topologies::small;
 use app_interface::Idle;
 use node_threads::{Gate, Round, Seat, Shared, TurnsEnd, node_turns};
@@ -64,7 +64,7 @@ impl Scene for Turning {
 #[test]
 fn turns_do_what_the_node_may_do_and_no_more_than_are_given(rt: HostRuntime) {
     let book = small::<Idle>(&rt, rt.alloc(), 20);
-    assert!(rt; play::<Turning, HostRuntime>(&rt, rt.alloc(), book).is_ok());
+    plays::<Turning, HostRuntime>(&rt, rt.alloc(), book);
 }
 
 struct Filling;
@@ -92,5 +92,5 @@ impl Scene for Filling {
 #[test]
 fn a_full_book_ends_the_turns(rt: HostRuntime) {
     let book = small::<Idle>(&rt, rt.alloc(), 1);
-    assert!(rt; play::<Filling, HostRuntime>(&rt, rt.alloc(), book).is_ok());
+    plays::<Filling, HostRuntime>(&rt, rt.alloc(), book);
 }

@@ -11,5 +11,5 @@ returns-clause-ok g c =
     drove run.steps run.seed run.faults m c.args.opening c.drive.new.book c.in_ok-history.history.items
     (c.in-Ok.ensures.ok ∙ ap (λ b. driven m.app m.from_text run.steps run.seed run.faults b) c.open_book-book.ensures)
     (c.drive.ensures.opening ∙ ap (λ b. b.opening) c.open_book-book.ensures) c.lemma_is_book.ensures
-    c.in_ok-history.ensures.text c.in_ok-history.ensures.read c.len.result (length c.reports.result.now) c.len.ensures
-    (ap length c.reports.ensures)
+    c.in_ok-history.ensures.text c.in_ok-history.ensures.read c.len-entries.result
+    (length c.reports-reports.result.now) c.len-entries.ensures (ap length c.reports-reports.ensures)

@@ -1,4 +1,4 @@
-use Rattle.std.proofs.Common.{◌≢◌, refl, rules}
+use Rattle.std.proofs.Common.{◌≢◌, Some, refl, rules}
 use Rattle.std.proofs.KnownBytes.{Appends-trans}
 use Rattle.action_tables.proofs.Prefixes.{AppendsPrefix-first, OnErr-always, OnErr-then}
 use Rattle.reset_model.specs.declared.step.StepRefusal.TheVariants.{NoMemory}
@@ -8,18 +8,18 @@ use Rattle.script_replay.proofs.faults.ask.Goals as goal
 
 pub returns-in_err-put_alarm-in-Ok-clause-err : goal.returns-in_err-put_alarm-in-Ok-clause-err
 returns-in_err-put_alarm-in-Ok-clause-err g c =
-    OnErr-always _ _ (AppendsPrefix-first _ _ (alarm_text c.args.told) _ c.in_err-put_alarm-in-Ok.ensures.err)
+    OnErr-always _ _ (AppendsPrefix-first _ _ (alarm_text (Some c.args.fault)) _ c.in_err-put_alarm-in-Ok.ensures.err)
 
 pub returns-in_ok-put_alarm-in-Ok-clause-err : goal.returns-in_ok-put_alarm-in-Ok-clause-err
 returns-in_ok-put_alarm-in-Ok-clause-err g c =
     rw c.in-Ok.ensures.outcome
-    (OnErr-then _ _ _ _ (alarm_text c.args.told) _ _ refl c.in_ok-put_alarm-in-Ok.ensures.ok
+    (OnErr-then _ _ _ _ (alarm_text (Some c.args.fault)) _ _ refl c.in_ok-put_alarm-in-Ok.ensures.ok
     (written_err c.put_reply.result c.written.result c.written.ensures.ok c.written.ensures.err _
     c.put_reply.ensures.err))
 
 pub returns-in_err-put_alarm-in-Err-clause-err : goal.returns-in_err-put_alarm-in-Err-clause-err
 returns-in_err-put_alarm-in-Err-clause-err g c =
-    OnErr-always _ _ (AppendsPrefix-first _ _ (alarm_text c.args.told) _ c.in_err-put_alarm-in-Err.ensures.err)
+    OnErr-always _ _ (AppendsPrefix-first _ _ (alarm_text (Some c.args.fault)) _ c.in_err-put_alarm-in-Err.ensures.err)
 
 pub returns-in_err-put_alarm-in-Err-clause-fault : goal.returns-in_err-put_alarm-in-Err-clause-fault
 returns-in_err-put_alarm-in-Err-clause-fault g c =
@@ -34,7 +34,7 @@ returns-in_ok-put_alarm-in-Err-clause-ok g c =
     c.written-in-Err.ensures.ok c.written-in-Err.ensures.err
     (λ text. (
       c.in-Err.ensures.kept,
-      Appends-trans _ _ _ (alarm_text c.args.told) _ c.in_ok-put_alarm-in-Err.ensures.ok text,
+      Appends-trans _ _ _ (alarm_text (Some c.args.fault)) _ c.in_ok-put_alarm-in-Err.ensures.ok text,
     ))
     c.put_refusal.ensures.ok)
 
@@ -42,7 +42,7 @@ pub returns-in_ok-put_alarm-in-Err-clause-err : goal.returns-in_ok-put_alarm-in-
 returns-in_ok-put_alarm-in-Err-clause-err g c =
     let memory : c.in-Err.refusal ≢ NoMemory = search rules in
     rw (c.in-Err.ensures.outcome memory)
-    (OnErr-then _ _ _ _ (alarm_text c.args.told) _ _ refl c.in_ok-put_alarm-in-Err.ensures.ok
+    (OnErr-then _ _ _ _ (alarm_text (Some c.args.fault)) _ _ refl c.in_ok-put_alarm-in-Err.ensures.ok
     (written_err c.put_refusal.result c.written-in-Err.result
     c.written-in-Err.ensures.ok c.written-in-Err.ensures.err _
     c.put_refusal.ensures.err))

@@ -42,7 +42,7 @@ returns-in-Some-clause-ok g c =
     let is =
     told_alarm m.app c.args.config.now c.args.at c.alarm-told.result c.requires c.alarm-told.ensures.found
     c.alarm-told.ensures.none in
-    asked_ok m c.args.config.now c.args.at c.alarm-told.result is c.in-Some.field-0 c.in-Some.is _ _
+    asked_ok m c.args.config.now c.args.at c.alarm-told.result is c.in-Some.fault c.in-Some.is _ _
     c.ask.new.config c.ask.result c.ask.ensures.ok
 
 pub returns-in-Some-clause-err : goal.returns-in-Some-clause-err
@@ -51,7 +51,7 @@ returns-in-Some-clause-err g c =
     let is =
     told_alarm m.app c.args.config.now c.args.at c.alarm-told.result c.requires c.alarm-told.ensures.found
     c.alarm-told.ensures.none in
-    asked_err m c.args.config.now c.args.at c.alarm-told.result is c.in-Some.field-0 c.in-Some.is _ _
+    asked_err m c.args.config.now c.args.at c.alarm-told.result is c.in-Some.fault c.in-Some.is _ _
     c.ask.result c.ask.ensures.err
 
 pub returns-in-Some-clause-fault : goal.returns-in-Some-clause-fault
@@ -61,4 +61,4 @@ returns-in-Some-clause-fault g c =
     told_alarm m.app c.args.config.now c.args.at c.alarm-told.result c.requires c.alarm-told.ensures.found
     c.alarm-told.ensures.none in
     λ failed. c.ask.ensures.fault failed
-    ∙ asked_config m c.args.config.now c.args.at c.alarm-told.result is c.in-Some.field-0 c.in-Some.is
+    ∙ asked_config m c.args.config.now c.args.at c.alarm-told.result is c.in-Some.fault c.in-Some.is

@@ -1,15 +1,17 @@
 -- The bands of the entries before the index were made, and those from it on are a run from here.
 use Rattle.std.proofs.Common.{◌≡◌, ◌+◌, ◌++◌, IsSome, drop, length}
 use Rattle.history.specs.Entries.{replayed}
-use Rattle.space_time_diagram.specs.Bands.{bands_from, bands_of}
+use Rattle.space_time_diagram.specs.Bands.{bands_from}
 use Rattle.space_time_diagram.specs.Lanes.{lane_of}
-use Rattle.space_time_diagram.proofs.band.bands_of.Given as goal
+use Rattle.space_time_diagram.proofs.band.add_bands.Given as goal
 
 abbrev pub invariant-loop-entry : goal.invariant-loop-entry
 invariant-loop-entry g l =
     let app = g.P.Application.app in
     let from_text = g.P.Application.from_text in
     let rest = drop l.entry-index l.entries in
-    (l.bands.items ++ bands_from app from_text (lane_of l.opening) (length l.entries) l.config (l.place + 1) rest
-    ≡ bands_of app from_text l.opening l.entries) × IsSome (replayed app from_text l.config rest)
-    × (l.place ≡ l.entry-index)
+    let lane = lane_of l.opening in
+    let count = length l.entries in
+    (l.bands.items ++ bands_from app from_text lane count l.config (l.place + 1) rest
+    ≡ l.fn.bands.items ++ bands_from app from_text lane count l.fn.config 1 l.entries)
+    × IsSome (replayed app from_text l.config rest) × (l.place ≡ l.entry-index)
