@@ -84,12 +84,7 @@ full_book {P} {L} app from_text mark seats i p r was is =
     let full : Lay (Refused BookFull) = subst Lay is was in
     record { book = full.book; total = full.total; locked = full.locked; such = full.such.1.1 }
 
--- a seat with a receipt more has what it had, and one more
-pub kept_with : (old new : SeatView) (receipt : Receipt) → new ≡ with_receipt old receipt
-    → take (length old.receipts) new.receipts ≡ old.receipts
-kept_with old new receipt same =
-    ap (λ s. take (length old.receipts) s.receipts) same ∙ take-append_seam old.receipts (receipt ∷ [])
-
+-- a seat with a receipt more has one more
 pub most_with : (old new : SeatView) (receipt : Receipt) → new ≡ with_receipt old receipt
     → length new.receipts ≤ length old.receipts + 1
 most_with old new receipt same =

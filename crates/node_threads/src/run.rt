@@ -188,8 +188,8 @@ fn cause_of(fault: ShareFault) -> RunCause
 
 // A fault of closing as a run tells it.
 fn cause_of_closing(fault: CloseFault) -> RunCause
-    ensures many { result ≢ RunCause.TooManyForThreads }
-    ensures strange { result ≢ RunCause.StrangeNode }
+    ensures memory { fault ≡ CloseFault.NoMemory → result ≡ RunCause.NoMemory }
+    ensures close { fault ≢ CloseFault.NoMemory → result ≡ RunCause.Close fault }
 {
     match fault {
         CloseFault::NoMemory => RunCause::NoMemory,

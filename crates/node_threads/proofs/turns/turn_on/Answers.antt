@@ -1,6 +1,6 @@
 use Rattle.std.proofs.Common.{Some, refl, ap, sym, ◌∙◌}
 use Rattle.node_choices.specs.Choice.{next_of}
-use Rattle.node_threads.proofs.Turning.{a_turn, full_book, kept_with, most_with, no_turn}
+use Rattle.node_threads.proofs.Turning.{a_turn, full_book, kept_before, most_with, no_turn}
 use Rattle.node_threads.proofs.turns.turn_on.Goals as goal
 
 pub returns-in-Ok-None-clause-turns : goal.returns-in-Ok-None-clause-turns
@@ -34,7 +34,8 @@ returns-clause-full g c = λ full.
     c.in-Err-commit.ensures.err (c.turn_of.ensures full)
 
 pub returns-in-Ok-commit-clause-kept : goal.returns-in-Ok-commit-clause-kept
-returns-in-Ok-commit-clause-kept g c = kept_with _ _ c.in-Ok-commit._receipt c.in-Ok-commit.ensures.seat
+returns-in-Ok-commit-clause-kept g c =
+    kept_before g.P.Application.app g.P.Application.from_text _ _ _ _ _ (returns-in-Ok-commit-clause-turns g c)
 
 pub returns-in-Ok-commit-clause-most : goal.returns-in-Ok-commit-clause-most
 returns-in-Ok-commit-clause-most g c = most_with _ _ c.in-Ok-commit._receipt c.in-Ok-commit.ensures.seat
