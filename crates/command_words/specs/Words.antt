@@ -11,7 +11,7 @@ use Rattle.clap.specs.declared.builder.command.Command.{Command}
 use Rattle.clap.specs.declared.builder.command.Command.TheViews.{out-Command as fields_of}
 use Rattle.clap.specs.declared.builder.value_parser.ValueParser.TheVariants.{Unsigned}
 use Rattle.clap.specs.declared.error.Error.{Error}
-use Rattle.clap.specs.declared.error.ErrorKind.TheVariants.{InvalidValue, OutOfMemory}
+use Rattle.clap.specs.declared.error.ErrorKind.TheVariants.{OutOfMemory}
 use Rattle.command_words.specs.declared.words.Job.{Job}
 use Rattle.command_words.specs.declared.words.Job.TheVariants.{Joined, Replay, Check, Verify, Picture, Record, Threads}
 use Rattle.command_words.specs.declared.words.Job.TheVariants.{Drive, Shape, Explain, Tables}
@@ -210,11 +210,6 @@ faults_of = fault_of program
 abbrev pub IsFaultOf : List Text → LineFault → Type 0
 IsFaultOf words (BadWords error) = IsAmong (kind_of error) (faults_of words)
 IsFaultOf words NoMemory = ⊤
-
--- the fault of a word that is no text, or memory was wanting
-abbrev pub IsInvalidValue : LineFault → Type 0
-IsInvalidValue (BadWords error) = kind_of error ≡ InvalidValue
-IsInvalidValue NoMemory = ⊤
 
 -- ---- what private clauses cite
 

@@ -12,4 +12,4 @@ pub use drive_words::DriveWords;
 pub use record_words::RecordWords;
 pub use shape_words::ShapeWords;
 pub use thread_words::ThreadWords;
-pub use words::{Job, LineFault, Paths, no_text, read_words};
+pub use words::{Job, LineFault, Paths, read_words};

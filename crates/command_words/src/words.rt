@@ -1,10 +1,10 @@
 // What the words of the command line ask for.
 
 ghost use Rattle.std.specs.Prelude.{◌≡◌, [], codes, map, option_map, IfErr, IfOk, IsSome, Some};
-ghost use Rattle.clap.specs.Words.{first_of, found_of, kind_of, rows_of, subcommand_rows_of};
+ghost use Rattle.clap.specs.Words.{first_of, found_of, rows_of, subcommand_rows_of};
 ghost use Rattle.command_words.specs.declared.words.LineFault.TheVariants.{NoMemory};
 ghost use Rattle.command_words.specs.Words.{faults_of, AskFor, AskedBy, HasDrive, HasJob, HasRecord, HasShape};
-ghost use Rattle.command_words.specs.Words.{HasTexts, HasThreads, IsFaultOf, IsInvalidValue, IsNumberOr};
+ghost use Rattle.command_words.specs.Words.{HasTexts, HasThreads, IsFaultOf, IsNumberOr};
 ghost use Rattle.command_words.specs.Words.{IsNumberWithin, StandsFor, line_fault_text};
 
 use crate::commands::command_line;
@@ -222,23 +222,4 @@ fn word_of<'a>(values: &ArgMatches<'a>) -> &'a str
     ensures { first_of (codes "WORD") (rows_of (found_of values.now)) ≡ Some result.now }
 {
     values.get_str("WORD").unwrap()
-}
-
-/// The fault of words that aren't text.
-pub fn no_text(alloc: Global) -> LineFault
-    ensures { IsInvalidValue result }
-{
-    match no_text_error(alloc) {
-        Ok(error) => LineFault::from(error),
-        Err(_) => LineFault::NoMemory,
-    }
-}
-
-fn no_text_error(alloc: Global) -> Result<Error, AllocError>
-    ensures { IfOk result (λ error. kind_of error ≡ ErrorKind.InvalidValue) }
-{
-    command_line(alloc)?.error(
-        ErrorKind::InvalidValue,
-        "a word of the command line is not UTF-8",
-    )
 }

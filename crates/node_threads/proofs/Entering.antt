@@ -1,6 +1,6 @@
 -- What a step of a book leaves: the same graph, one entry more, and a receipt of it.
 use Rattle.std.proofs.Common.{◌≡◌, ℕ, ◌+◌, ◌≤◌, Bool, true, false, not, cond, List, [], ◌∷◌, ◌++◌, length, drop}
-use Rattle.std.proofs.Common.{Option, Some, None, Result, Ok, Err, IfOk, IfErr, OnOk, MatchResult, refl, subst}
+use Rattle.std.proofs.Common.{Option, Some, None, Result, Ok, Err, IfOk, IfErr, OnErr, OnOk, MatchResult, refl, subst}
 use Rattle.std.proofs.lemmas.List.{drop-append-le}
 use Rattle.std.proofs.lemmas.List.Folds.{list_all-append}
 use Rattle.std.specs.List.{list_all}
@@ -110,6 +110,19 @@ pub if_ok_on : {X E : Type 0} (r : Result X E) (N : Type 0) (P Q : X → Type 0)
     → OnOk r N → IfOk r P → IfOk r Q
 if_ok_on (Ok x) N P Q tells on is = tells x on is
 if_ok_on (Err f) N P Q tells on is = tt
+
+pub on_ok : {X E : Type 0} (r : Result X E) (N M : Type 0) → (N → M) → OnOk r N → OnOk r M
+on_ok (Ok x) N M tells on = tells on
+on_ok (Err f) N M tells on = tt
+
+pub on_err : {X E : Type 0} (r : Result X E) (N M : Type 0) → (N → M) → OnErr r N → OnErr r M
+on_err (Ok x) N M tells on = tt
+on_err (Err f) N M tells on = tells on
+
+pub if_err_on : {X E : Type 0} (r : Result X E) (N : Type 0) (P Q : E → Type 0) → ((f : E) → N → P f → Q f)
+    → OnErr r N → IfErr r P → IfErr r Q
+if_err_on (Ok x) N P Q tells on is = tt
+if_err_on (Err f) N P Q tells on is = tells f on is
 
 -- ---- what held under the lock
 

@@ -33,3 +33,4 @@ pub mod Deciding
 pub mod StepsOrRefusals
 pub mod OneBoot
 pub mod OtherGraphs
+pub mod Collected

@@ -21,7 +21,7 @@ mod told;
 mod verified;
 
 pub use command_words::{
-    DriveWords, Job, LineFault, Paths, RecordWords, ShapeWords, ThreadWords, no_text, read_words,
+    DriveWords, Job, LineFault, Paths, RecordWords, ShapeWords, ThreadWords, read_words,
 };
 pub use driven::{Drive, drive_text};
 pub use explained::{Explanation, explain};

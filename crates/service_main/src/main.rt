@@ -14,8 +14,8 @@ use crate::status::exit_code;
 use action_tables::put_bytes;
 use reset_service::{
     BufferedOutput, Drive, DriveWords, Job, LineFault, Paths, RecordWords, RunStop, ShapeWords,
-    Status, ThreadWords, check_text, drive_text, explain, no_text, picture_text, print_tables,
-    read_words, record_text, replay, replay_joined, threads_text, verify_text, write_shape,
+    Status, ThreadWords, check_text, drive_text, explain, picture_text, print_tables, read_words,
+    record_text, replay, replay_joined, threads_text, verify_text, write_shape,
 };
 use std::env::Env;
 use std::io::{Stderr, Write};
@@ -25,6 +25,14 @@ use std::sync::Wait;
 use std::thread::Threads;
 use std::time::Clock;
 use std::{env, io};
+
+// What is told of words of which one isn't text, in the form in which clap tells what is wrong with the others.
+const NOT_TEXT: &str = "\
+error: a word of the command line is not UTF-8\n\
+\n\
+Usage: reset-service [COMMAND]\n\
+\n\
+For more information, try '--help'.\n";
 
 fn main(rt: HostRuntime) -> ExitCode {
     let ended = run(&rt, rt.stderr());
@@ -39,9 +47,9 @@ fn run<R: Clock + Env + Files + Input + Print + Eprint + AllocGlobal + Threads +
     rt: &R,
     terminal: Stderr,
 ) -> Result<Status, RunStop> {
-    let words = match given_words(rt) {
-        Ok(words) => words,
-        Err(fault) => return answer_fault(rt, fault),
+    let Some(words) = given_words(rt)? else {
+        let _ = eprint!(rt; "{NOT_TEXT}");
+        return Ok(Status::BadInput);
     };
     match read_words(rt.alloc(), words.as_slice()) {
         Ok(job) => do_job(rt, terminal, job),
@@ -49,12 +57,12 @@ fn run<R: Clock + Env + Files + Input + Print + Eprint + AllocGlobal + Threads +
     }
 }
 
-// The words that the program was started with, its own name first.
-fn given_words<R: Env + AllocGlobal>(rt: &R) -> Result<Vec<String>, LineFault> {
+// The words that the program was started with, its own name first, or None where one of them isn't text.
+fn given_words<R: Env + AllocGlobal>(rt: &R) -> Result<Option<Vec<String>>, RunStop> {
     match env::args(rt) {
-        Ok(words) => Ok(words.collect(rt.alloc())?),
-        Err(error) if error.kind() == io::ErrorKind::OutOfMemory => Err(LineFault::NoMemory),
-        Err(_) => Err(no_text(rt.alloc())),
+        Ok(words) => Ok(Some(words.collect(rt.alloc())?)),
+        Err(error) if error.kind() == io::ErrorKind::OutOfMemory => Err(RunStop::NoMemory),
+        Err(_) => Ok(None),
     }
 }
 

@@ -2,7 +2,7 @@
 
 use clap::Error;
 use clap::error::ErrorKind;
-use reset_service::{Job, LineFault, Paths, Status, explain, no_text, read_words};
+use reset_service::{Job, LineFault, Paths, Status, explain, read_words};
 use std::alloc::{AllocError, Global};
 
 // The kind of clap's error at these words.
@@ -96,7 +96,6 @@ fn words_of_threads(rt: HostRuntime) {
 
 #[test]
 fn faults(rt: HostRuntime) {
-    assert!(rt; matches!(no_text(rt.alloc()), LineFault::BadWords(_)));
     assert!(rt; matches!(LineFault::from(AllocError), LineFault::NoMemory));
     assert!(rt;
         matches!(

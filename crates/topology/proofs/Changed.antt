@@ -405,6 +405,10 @@ module _ (members : Membership) (near : List (Vec ℕ Global)) (old_leaders : Li
   count_is : length lent ≡ length ids
   count_is = sym (length-map lent (λ row. row.items)) ∙ ap length same_rows ∙ old.tied.as_rows.count
 
+  -- what was lent are rows
+  pub lent_rows : AreRows (length lent) (rows_of lent)
+  lent_rows = subst₂ AreRows (sym count_is) (sym same_rows) old.tied.as_rows
+
   written : length (rows_of now) ≡ length lent → rows_of changed ≡ rows_of now
   written same =
       ap rows_of

@@ -1,4 +1,4 @@
-use Rattle.std.proofs.Common.{Some, refl, ap, sym, ◌∙◌}
+use Rattle.std.proofs.Common.{Some, refl, ap, sym, ◌∙◌, arith, length, take, take_all}
 use Rattle.node_choices.specs.Choice.{next_of}
 use Rattle.node_threads.proofs.Turning.{a_turn, full_book, kept_before, most_with, no_turn}
 use Rattle.node_threads.proofs.turns.turn_on.Goals as goal
@@ -39,3 +39,35 @@ returns-in-Ok-commit-clause-kept g c =
 
 pub returns-in-Ok-commit-clause-most : goal.returns-in-Ok-commit-clause-most
 returns-in-Ok-commit-clause-most g c = most_with _ _ c.in-Ok-commit._receipt c.in-Ok-commit.ensures.seat
+
+pub returns-in-Ok-None-clause-most : goal.returns-in-Ok-None-clause-most
+returns-in-Ok-None-clause-most g c = omega arith
+
+pub returns-in-Ok-None-clause-kept : goal.returns-in-Ok-None-clause-kept
+returns-in-Ok-None-clause-kept g c = take_all _ c.args.seat.now.receipts (omega arith)
+
+pub returns-in-Err-clause-most : goal.returns-in-Err-clause-most
+returns-in-Err-clause-most g c = omega arith
+
+pub returns-in-Err-clause-kept : goal.returns-in-Err-clause-kept
+returns-in-Err-clause-kept g c = take_all _ c.args.seat.now.receipts (omega arith)
+
+pub returns-in-Err-NoMemory-clause-most : goal.returns-in-Err-NoMemory-clause-most
+returns-in-Err-NoMemory-clause-most g c = omega arith
+
+pub returns-in-Err-NoMemory-clause-kept : goal.returns-in-Err-NoMemory-clause-kept
+returns-in-Err-NoMemory-clause-kept g c = take_all _ c.args.seat.now.receipts (omega arith)
+
+pub returns-in-Err-plan-clause-most : goal.returns-in-Err-plan-clause-most
+returns-in-Err-plan-clause-most g c = omega arith
+
+pub returns-in-Err-plan-clause-kept : goal.returns-in-Err-plan-clause-kept
+returns-in-Err-plan-clause-kept g c = take_all _ c.args.seat.now.receipts (omega arith)
+
+pub returns-clause-most : goal.returns-clause-most
+returns-clause-most g c = omega (arith, ap (λ s. length s.receipts) c.in-Err-commit.ensures.kept.0)
+
+pub returns-clause-kept : goal.returns-clause-kept
+returns-clause-kept g c =
+    ap (λ s. take (length c.args.seat.now.receipts) s.receipts) c.in-Err-commit.ensures.kept.0
+    ∙ take_all _ c.args.seat.now.receipts (omega arith)

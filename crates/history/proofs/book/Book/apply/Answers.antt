@@ -47,3 +47,9 @@ invariant_of-self-in-Err-make_room g c =
     c.make_room-2.new.self c.make_room.new.self
     c.make_room.ensures.opening c.make_room.ensures.same c.make_room.ensures.log
     (c.make_room-2.ensures.played book.log.opening.value (entries_of book.log.segments) c.self.invariant.0)
+
+pub make_room-requires-clause-log : goal.make_room-requires-clause-log
+make_room-requires-clause-log g c κs within = c.self.invariant.4
+
+pub make_room-requires-clause-now : goal.make_room-requires-clause-now
+make_room-requires-clause-now g c κs within = c.self.invariant.0.replay

@@ -12,3 +12,6 @@ returns-clause-log g c =
           (entries_of log.segments) c.args.entry log.checkpoints.items c.requires.log.checkpoints
           c.requires.room.covered);
     }
+
+pub returns-clause-entries : goal.returns-clause-entries
+returns-clause-entries g c = c.push.ensures.entries

@@ -1,7 +1,24 @@
 use Rattle.std.proofs.Common.{sym, subst, ◌∙◌}
 use Rattle.node_threads.specs.Locked.{IsLocked}
-use Rattle.node_threads.proofs.Entering.{if_err, if_ok_on, was_locked}
+use Rattle.node_threads.proofs.Entering.{booked_entered, if_err, if_err_on, if_ok, if_ok_on, on_ok, was_locked}
 use Rattle.node_threads.proofs.sharing.Shared.commit.Goals as goal
+
+pub returns-clause-yours : goal.returns-clause-yours
+returns-clause-yours g c = on_ok c.commit_in.result _ _ (λ is. is.0) c.commit_in.ensures.yours
+
+pub returns-clause-told : goal.returns-clause-told
+returns-clause-told g c =
+    if_ok c.commit_in.result _ _ (λ receipt is. (
+      (booked_entered g.P.Application.app _ c.args.plan.event _ receipt is.0).event,
+      is.1,
+    )) c.commit_in.ensures.ok
+
+pub returns-clause-seat : goal.returns-clause-seat
+returns-clause-seat g c = if_ok c.commit_in.result _ _ (λ receipt is. is.2) c.commit_in.ensures.ok
+
+pub returns-clause-kept : goal.returns-clause-kept
+returns-clause-kept g c =
+    if_err_on c.commit_in.result _ _ _ (λ e kept is. (kept.2, is.1)) c.commit_in.ensures.kept c.commit_in.ensures.err
 
 pub returns-clause-ok : goal.returns-clause-ok
 returns-clause-ok g c =

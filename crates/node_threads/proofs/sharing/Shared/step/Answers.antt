@@ -1,12 +1,18 @@
 use Rattle.std.proofs.Common.{sym, subst, ◌∙◌}
 use Rattle.node_threads.specs.Locked.{IsLocked}
-use Rattle.node_threads.proofs.Entering.{booked_entered, if_err, if_ok, was_locked}
+use Rattle.node_threads.proofs.Entering.{booked_entered, if_err, if_ok, on_err, was_locked}
 use Rattle.node_threads.proofs.sharing.Shared.step.Goals as goal
 
 pub returns-clause-told : goal.returns-clause-told
 returns-clause-told g c =
     if_ok c.step_in.result _ _ (λ receipt done. (booked_entered g.P.Application.app _ c.args.event _ receipt
     done.0).event) c.step_in.ensures.ok
+
+pub returns-clause-seat : goal.returns-clause-seat
+returns-clause-seat g c = if_ok c.step_in.result _ _ (λ receipt is. is.1) c.step_in.ensures.ok
+
+pub returns-clause-kept : goal.returns-clause-kept
+returns-clause-kept g c = on_err c.step_in.result _ _ (λ is. is.2) c.step_in.ensures.kept
 
 pub returns-clause-ok : goal.returns-clause-ok
 returns-clause-ok g c =

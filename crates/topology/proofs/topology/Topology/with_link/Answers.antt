@@ -3,7 +3,7 @@ use Rattle.topology.specs.Changing.{with_link}
 use Rattle.topology.specs.Graph.{are_linked}
 use Rattle.topology.specs.Rows.{graph_of}
 use Rattle.std.specs.Vec.{with_items}
-use Rattle.topology.proofs.Changed.{Made, with_link_made}
+use Rattle.topology.proofs.Changed.{Made, lent_rows, with_link_made}
 use Rattle.topology.proofs.Inserting.{rows_of}
 use Rattle.topology.proofs.topology.Topology.with_link.Goals as goal
 use Rattle.topology.proofs.topology.Topology.with_link.Goals.{In_ok-copy}
@@ -29,3 +29,9 @@ invariant_of-result c = (made_of c).parts
 
 pub returns-clause-ok : goal.returns-clause-ok
 returns-clause-ok c = (made_of c).graph ∙ ap (λ g. with_link g c.args.a c.args.b) c.self.view_is
+
+pub link-requires-clause-rows : goal.link-requires-clause-rows
+link-requires-clause-rows c =
+    lent_rows c.self.inside.ids c.self.inside.near.items c.self.inside.leaders.items c.self.inside.link_count
+    c.self.invariant c.deref.result.now c.deref.ensures.value c.in_ok-rows.rows c.in_ok-rows.ensures
+    c.deref_mut.result.now c.deref_mut.ensures.value c.deref_mut.result.now

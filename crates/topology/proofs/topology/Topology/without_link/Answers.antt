@@ -3,7 +3,7 @@ use Rattle.std.specs.Vec.{with_items}
 use Rattle.topology.specs.Changing.{without_link}
 use Rattle.topology.specs.Graph.{are_linked}
 use Rattle.topology.specs.Rows.{graph_of}
-use Rattle.topology.proofs.Changed.{Made, some_link, without_link_made}
+use Rattle.topology.proofs.Changed.{Made, lent_rows, some_link, without_link_made}
 use Rattle.topology.proofs.Inserting.{rows_of}
 use Rattle.topology.proofs.topology.Topology.without_link.Goals as goal
 use Rattle.topology.proofs.topology.Topology.without_link.Goals.{In_ok-copy}
@@ -37,3 +37,9 @@ invariant_of-result c = (made_of c).parts
 
 pub returns-clause-ok : goal.returns-clause-ok
 returns-clause-ok c = (made_of c).graph ∙ ap (λ g. without_link g c.args.a c.args.b) c.self.view_is
+
+pub unlink-requires-clause-rows : goal.unlink-requires-clause-rows
+unlink-requires-clause-rows c =
+    lent_rows c.self.inside.ids c.self.inside.near.items c.self.inside.leaders.items c.self.inside.link_count
+    c.self.invariant c.deref.result.now c.deref.ensures.value c.in_ok-rows.rows c.in_ok-rows.ensures
+    c.deref_mut.result.now c.deref_mut.ensures.value c.deref_mut.result.now

@@ -3,7 +3,7 @@ use Rattle.std.specs.Vec.{with_items}
 use Rattle.topology.specs.Changing.{without_node}
 use Rattle.topology.specs.Graph.{is_node, node_at}
 use Rattle.topology.specs.Rows.{graph_of}
-use Rattle.topology.proofs.Changed.{Made, row_links, searched_rows, without_node_made}
+use Rattle.topology.proofs.Changed.{Made, lent_rows, row_links, searched_rows, without_node_made}
 use Rattle.topology.proofs.Inserting.{rows_of}
 use Rattle.topology.proofs.RowLemmas.{index_found, no_node_index}
 use Rattle.topology.proofs.topology.Topology.without_node.Goals as goal
@@ -59,3 +59,9 @@ invariant_of-result c = (made_of c).parts
 
 pub returns-clause-ok : goal.returns-clause-ok
 returns-clause-ok c = (made_of c).graph ∙ ap (λ g. without_node g c.args.id) c.self.view_is
+
+pub isolate-requires-clause-rows : goal.isolate-requires-clause-rows
+isolate-requires-clause-rows c =
+    lent_rows c.self.inside.ids c.self.inside.near.items c.self.inside.leaders.items c.self.inside.link_count
+    c.self.invariant c.deref.result.now c.deref.ensures.value c.in_ok-rows.rows c.in_ok-rows.ensures
+    c.deref_mut.result.now c.deref_mut.ensures.value c.deref_mut.result.now

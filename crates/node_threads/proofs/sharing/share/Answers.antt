@@ -1,0 +1,18 @@
+use Rattle.std.proofs.Common.{◌≤◌, ◌∙◌, ap, arith, drop, length, rules}
+use Rattle.std.proofs.lemmas.List.{drop_all}
+use Rattle.std.specs.List.{list_all}
+use Rattle.node_threads.specs.Locked.{is_step}
+use Rattle.node_threads.proofs.sharing.share.Goals as goal
+
+pub invariant_of-new : goal.invariant_of-new
+invariant_of-new g c =
+    let es = c.args.book.entries in
+    let all : length es ≤ length es = omega arith in
+    record {
+      mark_is = c.len-mark.ensures ∙ c.requires.mark;
+      nodes = c.requires.nodes;
+      counted = search rules;
+      steps =
+          ap (λ mark. list_all is_step (drop mark es)) c.len-mark.ensures
+          ∙ ap (list_all is_step) (drop_all (length es) es all);
+    }
