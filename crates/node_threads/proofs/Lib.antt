@@ -4,3 +4,4 @@ mod Comparing
 mod Collecting
 mod Crossing
 mod Turning
+pub mod Refusing

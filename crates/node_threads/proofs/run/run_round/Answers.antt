@@ -7,3 +7,15 @@ returns-in-Err-clause-stands g c =
     subst
     (λ book. WasLocked g.P.Application.app g.P.Application.from_text g.L.Round.mark g.L.Round.seats (λ b. book ≡ b))
     (sym c.in-Err.ensures.returned.1) c.requires.stands
+
+pub returns-then-refused-clause-stands : goal.returns-then-refused-clause-stands
+returns-then-refused-clause-stands g c = c.into_book-book.ensures
+
+pub returns-then-hungry-clause-stands : goal.returns-then-hungry-clause-stands
+returns-then-hungry-clause-stands g c = c.into_book-book-then-hungry.ensures
+
+pub returns-in-Err-close-clause-stands : goal.returns-in-Err-close-clause-stands
+returns-in-Err-close-clause-stands g c = c.into_book-book-in-Err-close.ensures
+
+pub returns-in-Ok-close-clause-closed : goal.returns-in-Ok-close-clause-closed
+returns-in-Ok-close-clause-closed g c = c.in-Ok-close.ensures.closed

@@ -1,6 +1,7 @@
 use Rattle.std.proofs.Common.{sym, subst, ◌∙◌}
 use Rattle.node_threads.specs.Locked.{IsLocked}
 use Rattle.node_threads.proofs.Entering.{booked_entered, if_err, if_err_on, if_ok, if_ok_on, on_ok, was_locked}
+use Rattle.node_threads.proofs.Refusing.{plan_not_yours, plan_stale}
 use Rattle.node_threads.proofs.sharing.Shared.commit.Goals as goal
 
 pub returns-clause-yours : goal.returns-clause-yours
@@ -36,3 +37,13 @@ returns-clause-err g c =
     subst (λ l. IsLocked g.P.Application.app g.P.Application.from_text l.book g.L.Round.mark l.tally.total
     g.L.Round.seats) (c.deref.ensures ∙ sym c.deref_mut.ensures.value) c.lemma_is_locked.ensures.locked in
     if_err c.commit_in.result _ _ (λ e is. was_locked _ _ _ _ _ _ locked _ is.0) c.commit_in.ensures.err
+
+pub returns-clause-not_yours : goal.returns-clause-not_yours
+returns-clause-not_yours g c =
+    if_err c.commit_in.result _ _ (λ e is. plan_not_yours g.P.Application.app c.deref_mut.result.now.book _ c.args.plan e.0 is.0)
+    c.commit_in.ensures.err
+
+pub returns-clause-stale : goal.returns-clause-stale
+returns-clause-stale g c =
+    if_err c.commit_in.result _ _ (λ e is. plan_stale g.P.Application.app c.deref_mut.result.now.book _ c.args.plan e.0 is.0)
+    c.commit_in.ensures.err

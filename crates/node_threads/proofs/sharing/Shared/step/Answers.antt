@@ -1,6 +1,7 @@
 use Rattle.std.proofs.Common.{sym, subst, ◌∙◌}
 use Rattle.node_threads.specs.Locked.{IsLocked}
 use Rattle.node_threads.proofs.Entering.{booked_entered, if_err, if_ok, on_err, was_locked}
+use Rattle.node_threads.proofs.Refusing.{event_not_yours}
 use Rattle.node_threads.proofs.sharing.Shared.step.Goals as goal
 
 pub returns-clause-told : goal.returns-clause-told
@@ -31,3 +32,10 @@ returns-clause-err g c =
     subst (λ l. IsLocked g.P.Application.app g.P.Application.from_text l.book g.L.Round.mark l.tally.total
     g.L.Round.seats) (c.deref.ensures ∙ sym c.deref_mut.ensures.value) c.lemma_is_locked.ensures.locked in
     if_err c.step_in.result _ _ (λ f is. was_locked _ _ _ _ _ _ locked _ is) c.step_in.ensures.err
+
+pub returns-clause-yours : goal.returns-clause-yours
+returns-clause-yours g c = c.step_in.ensures.yours
+
+pub returns-clause-not_yours : goal.returns-clause-not_yours
+returns-clause-not_yours g c =
+    event_not_yours g.P.Application.app _ _ c.args.event c.step_in.result c.step_in.ensures.yours c.step_in.ensures.err

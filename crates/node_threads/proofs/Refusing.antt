@@ -1,0 +1,37 @@
+-- Why a seat's plan or event is refused.
+use Rattle.std.proofs.Common.{◌≡◌, ◌∙◌, ℕ, Result, Ok, Err, OnOk, IfErr, ap, refl, subst}
+use Rattle.std.specs.Prelude.{◌≢◌, ◌↔◌}
+use Rattle.app_interface.specs.Application.{App}
+use Rattle.reset_model.specs.declared.event.Event.{Event}
+use Rattle.reset_model.specs.Planned.{NodePlan}
+use Rattle.reset_model.specs.Steps.{event_node}
+use Rattle.reset_model.specs.View.{NodeView}
+use Rattle.history.specs.Book.{BookView}
+use Rattle.history.specs.declared.entry.Receipt.{Receipt}
+use Rattle.history.specs.declared.refusal.ApplyRefusal.TheVariants.{StrangeNode, Stale, BookFull, NoMemory}
+use Rattle.node_threads.specs.Locked.{IsPlanOf, IsUncommitted, IsUndone}
+use Rattle.node_threads.specs.declared.refusal.CommitRefusal.{CommitRefusal}
+use Rattle.node_threads.specs.declared.refusal.CommitRefusal.TheVariants as commit
+use Rattle.node_threads.specs.declared.refusal.SeatRefusal.{SeatRefusal}
+use Rattle.node_threads.specs.declared.refusal.SeatRefusal.TheVariants as seat
+
+module _ {P L : Type 0} (app : App L) (b : BookView L) (i : ℕ) (p : NodePlan L) where
+  pub plan_not_yours : (f : CommitRefusal P L) → IsUncommitted app b i p f → f ≡ commit.NotYours ↔ (IsPlanOf i p → ⊥)
+  plan_not_yours commit.NotYours is = (λ e. is, λ no. refl)
+  plan_not_yours (commit.Refused why) is = (λ e. absurd (cc), λ no. absurd (no is.0))
+
+  pub plan_stale : (f : CommitRefusal P L) → IsUncommitted app b i p f → (now : NodeView L)
+      → f ≡ commit.Refused (Stale now) → (now.id ≡ i) × (p.view ≢ now)
+  plan_stale commit.NotYours is now e = absurd (cc)
+  plan_stale (commit.Refused StrangeNode) is now e = absurd (cc)
+  plan_stale (commit.Refused (Stale seen)) is now e =
+      let same : seen ≡ now = cc in
+      subst (λ v. (v.id ≡ i) × (p.view ≢ v)) same (ap (λ v. v.id) is.1.1 ∙ is.0.seen, is.1.2)
+  plan_stale (commit.Refused BookFull) is now e = absurd (cc)
+  plan_stale (commit.Refused NoMemory) is now e = absurd (cc)
+
+pub event_not_yours : {L : Type 0} (app : App L) (b : BookView L) (i : ℕ) (e : Event) (r : Result Receipt SeatRefusal)
+    → OnOk r (event_node e ≡ i) → IfErr r (IsUndone app b i e) → r ≡ Err seat.NotYours ↔ event_node e ≢ i
+event_not_yours app b i e (Ok receipt) on is = (λ told. absurd (cc), λ no. absurd (no on))
+event_not_yours app b i e (Err seat.NotYours) on is = (λ told. is, λ no. refl)
+event_not_yours app b i e (Err (seat.Refused why)) on is = (λ told. absurd (cc), λ no. absurd (no is.0))
