@@ -15,7 +15,6 @@ mod KeptNetworks
 mod LatestOpenings
 mod ReportedCompletions
 mod StretchRuns
-mod SoundStretches
 mod TrueReports
 mod ReportOrder
 pub mod FirstRefused

@@ -1,25 +1,22 @@
--- A stretch is a run in which each event was applied, and each place in it is reached by such a run.
+-- The events of a stretch are steps that were taken, and each place in it is reached by such steps.
 use Rattle.std.proofs.Common.{◌≡◌, ℕ, ◌+◌, ◌≤◌, List, [], ◌∷◌, ◌++◌, length, Option, Some, None, Ok, Err}
 use Rattle.std.proofs.Common.{refl, sym, ap, ap₂, subst, ◌∙◌, arith}
 use Rattle.std.specs.Option.{IsSome, option_and_then}
 use Rattle.std.proofs.lemmas.List.{length-append}
 use Rattle.app_interface.specs.Application.{App}
-use Rattle.reset_model.specs.Completion.{applied}
 use Rattle.reset_model.specs.Configuration.{Configuration}
+use Rattle.reset_model.specs.Headline.{Steps, Transition, events_of}
 use Rattle.reset_model.specs.Planned.{Outcome, outcome_of}
-use Rattle.reset_model.specs.Refinement.{left_of, shadow, shadow_of}
-use Rattle.reset_model.specs.Runs.{IsRun}
 use Rattle.reset_model.specs.Sound.{IsSound}
 use Rattle.reset_model.specs.declared.event.Event.{Event}
-use Rattle.reset_model.specs.declared.step.Done.{Done}
-use Rattle.reset_model.specs.declared.step.Done.TheVariants.{Did}
 use Rattle.reset_model.specs.declared.step.Reply.{Reply}
-use Rattle.reset_model.proofs.RunInvariants.{run_keeps}
+use Rattle.reset_model.proofs.ConfigurationSteps.{outcome_is_step}
+use Rattle.reset_model.proofs.Headlines.{steps_kept}
 use Rattle.history.specs.declared.entry.Entry.{Entry}
 use Rattle.history.specs.declared.entry.Entry.TheVariants.{Step}
 use Rattle.history.specs.Entries.{entered, left_by_step, replayed}
-use Rattle.history.specs.Stretches.{IsStretch, Stretch, shadow_of_events, steps}
-use Rattle.history.proofs.KeptNetworks.{IsNetwork, replayed_network}
+use Rattle.history.specs.Stretches.{IsStretch, Stretch, steps}
+use Rattle.history.proofs.KeptNetworks.{IsNetwork, applied_network, replayed_network}
 
 -- ---- lists
 
@@ -106,30 +103,27 @@ module _ {L : Type 0} (app : App L) (from_text : List ℕ → Option L) where
       one : (a b : Configuration L) → ◌≡◌ {A = Option (Configuration L)} (Some a) (Some b) → a ≡ b
       one a b is = cc
 
-  -- ---- the run of events that were all applied
+  -- ---- the steps of events that were all applied
 
-  pub record IsAllDone (c : Configuration L) (events : List Event) (left : Configuration L) : Type 0 where
-    pub answers : List Done
-    pub run : IsRun app c events answers left
-    pub all : applied events answers ≡ events
-    pub shadows : shadow app c events answers ≡ shadow_of_events app c events
+  pub record AreTaken (c : Configuration L) (events : List Event) (left : Configuration L) : Type 0 where
+    pub taken : List (Transition L)
+    pub events : events_of taken ≡ events
+    pub steps : Steps app c taken left
 
-  pub all_done : (events : List Event) (c left : Configuration L) → replayed app from_text c (steps events) ≡ Some left
-      → IsAllDone c events left
+  pub all_taken : (events : List Event) (c left : Configuration L) → IsNetwork c
+      → replayed app from_text c (steps events) ≡ Some left → AreTaken c events left
   unfolding replayed
-  all_done [] c left is =
-      let same : left ≡ c = cc in record { answers = []; run = same; all = refl; shadows = refl }
-  all_done (e ∷ events) c left is =
+  all_taken [] c left network is =
+      let same : left ≡ c = cc in record { taken = []; events = refl; steps = same }
+  all_taken (e ∷ events) c left network is =
       let first = first_done c left e (steps events) is in
-      let more = all_done events first.after left first.rest in
-      let after : left_of c (outcome_of app c e) ≡ first.after = ap (left_of c) first.outcome in
+      let step = (outcome_is_step app c network.graph network.shaped e first.after first.reply first.outcome).0 in
+      let there = applied_network app c first.after e first.reply network first.outcome in
+      let more = all_taken events first.after left there first.rest in
       record {
-        answers = Did first.reply ∷ more.answers;
-        run = (first.after, first.outcome, more.run);
-        all = ap (λ xs. e ∷ xs) more.all;
-        shadows = subst (λ d. shadow_of c e ++ shadow app d events more.answers
-            ≡ shadow_of c e ++ shadow_of_events app d events) (sym after)
-            (ap (λ ss. shadow_of c e ++ ss) more.shadows);
+        taken = record { before = c; event = e; after = first.after } ∷ more.taken;
+        events = ap (λ xs. e ∷ xs) more.events;
+        steps = (refl, step, more.steps);
       }
 
   -- ---- places in a stretch
@@ -159,9 +153,9 @@ module _ {L : Type 0} (app : App L) (from_text : List ℕ → Option L) where
         between.prefix ∙ ap (λ xs. s.before ++ xs) inside.1 in
         let on = replayed_on s.before (steps inside.0) opening s.here here is.begins
         (ap (λ xs. replayed app from_text opening xs) (sym entries) ∙ reached) in
-        let done = all_done inside.0 s.here here on in
-        let kept = run_keeps app inside.0 done.answers s.here here here_network.graph here_network.shaped sound
-        done.run in
+        let done = all_taken inside.0 s.here here here_network on in
+        let kept = steps_kept app done.taken s.here here here_network.graph here_network.shaped.modulus sound
+        done.steps in
         record {
           earlier = inside.0;
           entries = entries;

@@ -5,7 +5,6 @@ use Rattle.std.proofs.lemmas.List.{length-append, length-map}
 use Rattle.std.proofs.lemmas.List.Elements.{All-contains_itself, All-weaker}
 use Rattle.app_interface.specs.Application.{App}
 use Rattle.topology.specs.Graph.{Graph}
-use Rattle.topology.proofs.Components.{reached_itself}
 use Rattle.reset_model.specs.Completion.{JoinsOnce, is_open_at, times}
 use Rattle.reset_model.specs.Configuration.{Configuration, local_of, tree_of, wave_of}
 use Rattle.reset_model.specs.Planned.{outcome_of}
@@ -17,7 +16,8 @@ use Rattle.reset_model.specs.declared.event.Event.TheVariants.{Finish, Mend, Act
 use Rattle.reset_model.specs.declared.step.Reply.{Reply}
 use Rattle.reset_model.specs.declared.step.Reply.TheVariants.{Complete}
 use Rattle.reset_model.proofs.ConfigurationSteps.{outcome_is_step}
-use Rattle.reset_model.proofs.JoinCounts.{joined_restarted, joins_once}
+use Rattle.reset_model.proofs.Headlines.{joins_between}
+use Rattle.reset_model.proofs.JoinCounts.{joined_restarted, own_finish}
 use Rattle.reset_model.proofs.RunShadows.{step_graph}
 use Rattle.reset_model.proofs.SoundConfigurations.{step_complete}
 use Rattle.history.specs.declared.entry.Entry.{Entry}
@@ -28,11 +28,11 @@ use Rattle.history.specs.Played.{recent}
 use Rattle.history.specs.Reports.{latest_opening, reports_of}
 use Rattle.history.specs.Stretches.{IsApplied, IsIn, IsJoined, IsLatestOpening, IsReport, IsStretch, IsTrueReport}
 use Rattle.history.specs.Stretches.{Stretch, latest, none, none_since, steps}
-use Rattle.history.proofs.KeptNetworks.{IsNetwork, replayed_network}
+use Rattle.history.proofs.KeptNetworks.{IsNetwork, applied_network, replayed_network}
 use Rattle.history.proofs.LatestOpenings.{latest_is, recent-append, unopened_since}
 use Rattle.history.proofs.Plays.{recent_length}
 use Rattle.history.proofs.ReportedCompletions.{reports_are}
-use Rattle.history.proofs.StretchRuns.{IsSoundPlace, all_done, first_done, replayed_parts, sound_place}
+use Rattle.history.proofs.StretchRuns.{IsSoundPlace, all_taken, first_done, replayed_parts, sound_place}
 
 -- only a finish completes a session
 completes : (e : Event) (reply : Reply) (session : ℕ) → reply ≡ Complete session → (t : ℕ → _) (w : ℕ → _)
@@ -75,12 +75,16 @@ once_between : {L : Type 0} (app : App L) (from_text : List ℕ → Option L) (c
     → times (is_open_at top) since ≡ 0 → outcome_of app here (Finish top) ≡ Ok (left, Complete session)
     → JoinsOnce c.graph top since
 once_between app from_text c after here left top session reply since network sound opens on unopened finishes =
-    let done = all_done app from_text since after here on in
-    subst (JoinsOnce c.graph top) done.all
-    (joins_once app c after here left top top session reply since done.answers network.graph network.shaped sound
-    opens done.run
-    (subst (λ events. times (is_open_at top) events ≡ 0) (sym done.all) unopened) finishes
-    (reached_itself c.graph top)).1
+    let opening = outcome_is_step app c network.graph network.shaped (Open top) after reply opens in
+    let after_network = applied_network app c after (Open top) reply network opens in
+    let done = all_taken app from_text since after here after_network on in
+    let here_network = replayed_network app from_text (steps since) after here after_network on in
+    let finish =
+    outcome_is_step app here here_network.graph here_network.shaped (Finish top) left (Complete session) finishes in
+    let own = own_finish app (tree_of here) (wave_of here) top session _ refl (sym finish.1) in
+    subst (JoinsOnce c.graph top) done.events
+    (joins_between app top done.taken c after here left network.graph network.shaped.modulus sound opening.0 done.steps
+    (subst (λ events. times (is_open_at top) events ≡ 0) (sym done.events) unopened) finish.0 own)
 
 module _ {L : Type 0} (app : App L) (from_text : List ℕ → Option L) (opening : Configuration L)
     (network : IsNetwork opening) (es : List Entry) (s : Stretch L) (is : IsStretch app from_text opening es s)

@@ -1,7 +1,7 @@
 -- Stretches of a history in which no fault was done: what they do to the application, and what their reports mean.
-use Rattle.std.specs.Prelude.{◌≡◌, ℕ, ◌+◌, ◌<◌, ◌≤◌, List, [], ◌∷◌, ◌++◌, map, length, All, Option, Some, None, Ok}
+use Rattle.std.specs.Prelude.{◌≡◌, ℕ, ◌+◌, ◌<◌, ◌≤◌, List, ◌∷◌, ◌++◌, map, length, Option, Some, None, Ok}
 use Rattle.app_interface.specs.Application.{App}
-use Rattle.topology.specs.Graph.{Graph, IsNode, IsReached, node_bound}
+use Rattle.topology.specs.Graph.{Graph}
 use Rattle.reset_model.specs.declared.event.Event.{Event}
 use Rattle.reset_model.specs.declared.event.Event.TheVariants.{Finish, Join, Open}
 use Rattle.reset_model.specs.declared.step.Reply.{Reply}
@@ -9,9 +9,7 @@ use Rattle.reset_model.specs.declared.step.Reply.TheVariants.{Complete}
 use Rattle.reset_model.specs.Completion.{JoinsOnce, is_open_at, times}
 use Rattle.reset_model.specs.Configuration.{Configuration, local_of}
 use Rattle.reset_model.specs.Planned.{outcome_of}
-use Rattle.reset_model.specs.Refinement.{AbstractStep, IsAbstractRun, abstract_of, left_of, shadow_of}
-use Rattle.reset_model.specs.Sound.{IsComplete, IsSound, Repairs}
-use Rattle.reset_model.specs.SoundSteps.{HoldsAt}
+use Rattle.reset_model.specs.Sound.{IsComplete}
 use Rattle.reset_model.specs.Steps.{event_node}
 use Rattle.fault_inject.specs.declared.fault.Fault.{Fault}
 use Rattle.history.specs.declared.entry.Entry.{Entry}
@@ -45,26 +43,6 @@ pub record IsStretch {L : Type 0} (app : App L) (from_text : List ℕ → Option
 -- the position is that of one of its events. Positions count from 1
 abbrev pub IsIn : {L : Type 0} → Stretch L → ℕ → Type 0
 IsIn s position = (length s.before < position) × (position ≤ length s.before + length s.events)
-
--- the shadow of events that are applied in turn, from c on
-abbrev pub shadow_of_events : {L : Type 0} → App L → Configuration L → List Event → List AbstractStep
-shadow_of_events app c [] = []
-shadow_of_events app c (e ∷ es) = shadow_of c e ++ shadow_of_events app (left_of c (outcome_of app c e)) es
-
--- what a stretch from sound registers on keeps and does, where Inv is a fact of the states of a connected graph that
--- holds at the start and that each action keeps
-pub record IsSoundStretch {L : Type 0} (app : App L) (Inv : Graph → (ℕ → L) → Type 0) (s : Stretch L) : Type 0 where
-  -- sound registers stay sound, and nothing in them is repaired
-  pub sound : IsSound s.left
-  pub quiet : All (λ e. Repairs e → ⊥) s.events
-  -- on the abstract machine all nodes of a component restart at once where a session opens, and the nodes that have
-  -- joined act
-  pub refines : IsAbstractRun app s.here.graph (node_bound s.here.graph) (shadow_of_events app s.here s.events)
-      (abstract_of app s.here) (abstract_of app s.left)
-  -- the fact holds on, and after an opening in a component it holds there in any case
-  pub invariant : (i : ℕ) → IsNode s.here.graph i → HoldsAt app Inv s.here i → HoldsAt app Inv s.left i
-  pub restored : (i : ℕ) → IsNode s.here.graph i → (o : ℕ) → IsReached s.here.graph i o
-      → 0 < times (is_open_at o) s.events → HoldsAt app Inv s.left i
 
 -- ---- reports
 

@@ -1,7 +1,7 @@
 // Books: configurations with the entries that led to them.
 
 ghost use Rattle.std.specs.Prelude.{◌≡◌, ◌≢◌, ℕ, ◌+◌, ◌≤◌, [], length, option_map, Ok, Err, OnErr, OnOk, IfOk, IfErr};
-ghost use Rattle.std.specs.Prelude.{◌<◌, ◌↔◌, take, Some, MatchResult};
+ghost use Rattle.std.specs.Prelude.{◌<◌, ◌∷◌, ◌↔◌, take, Some, MatchResult};
 
 use crate::entry::{Entry, Receipt, Report};
 use crate::line::lemma_fault_has_line;
@@ -52,7 +52,7 @@ impl<P: Application> Model for Book<P> {
 impl<P: Application> Book<P> {
     ghost use Rattle.reset_model.specs.View.{IsSeen};
     ghost use Rattle.reset_model.specs.Sound.{IsSound};
-    ghost use Rattle.reset_model.specs.SoundSteps.{IsSoundStep};
+    ghost use Rattle.reset_model.specs.BySteps.{IsBySteps};
     ghost use Rattle.fault_inject.specs.Effects.{injected};
     ghost use Rattle.reset_model.specs.Planned.{outcome_of};
     ghost use Rattle.reset_machine.specs.Enabled.{ready_of};
@@ -82,7 +82,7 @@ impl<P: Application> Book<P> {
 
         // As of a step of the configuration.
         ensures lawful { IfOk result (λ receipt. IsSound self.old.config
-            → IsSoundStep P.app P.Inv self.old.config event receipt.reply self.new.config) }
+            → IsBySteps P.app P.Inv self.old.config (event ∷ []) self.new.config) }
     {
         let count = self.log.segments.len();
         if count >= self.limit {
@@ -173,7 +173,7 @@ impl<P: Application> Book<P> {
 
         // As of a step of the configuration.
         ensures lawful { IfOk result (λ receipt. IsSound self.old.config
-            → IsSoundStep P.app P.Inv self.old.config plan.event receipt.reply self.new.config) }
+            → IsBySteps P.app P.Inv self.old.config (plan.event ∷ []) self.new.config) }
     {
         let count = self.log.segments.len();
         if count >= self.limit {

@@ -25,7 +25,7 @@ pub use read::{BookText, is_graphic, is_printable, read_book};
 pub use refusal::{ApplyRefusal, AtFault, BookRefusal, DisturbRefusal};
 pub use replay::play;
 pub use stretches::{
-    replays_stay_shaped, reports_are_completions, reports_are_true, stretches_refine,
+    replays_stay_shaped, reports_are_completions, reports_are_true, stretches_are_steps,
     undisturbed_parts_are_stretches,
 };
 pub use text::{BookFault, books_read_back, one_reading_a_text, write_book};

@@ -9,7 +9,7 @@ ghost use Rattle.reset_model.specs.Planned.{outcome_of};
 ghost use Rattle.fault_inject.specs.Effects.{injected};
 ghost use Rattle.reset_model.specs.View.{IsSeen};
 ghost use Rattle.reset_model.specs.Sound.{IsSound};
-ghost use Rattle.reset_model.specs.SoundSteps.{IsSoundStep};
+ghost use Rattle.reset_model.specs.BySteps.{IsBySteps};
 ghost use Rattle.history.specs.declared.entry.Entry.{Entry};
 ghost use Rattle.history.specs.declared.entry.Entry.TheVariants.{Step, Disturbed};
 ghost use Rattle.history.specs.Entries.{IsFirstRefused, entered};
@@ -76,7 +76,7 @@ impl<P: Application> Player<P> {
             → HasPlayed P.app P.from_text c (es ++ Step event ∷ []) self.new)
             (λ f. HasPlayed P.app P.from_text c es self.new) }
         ensures lawful { IfOk result (λ reply. IsSound self.old.config
-            → IsSoundStep P.app P.Inv self.old.config event reply self.new.config) }
+            → IsBySteps P.app P.Inv self.old.config (event ∷ []) self.new.config) }
     {
         match self.make_room() {
             Ok(()) => {}
@@ -179,7 +179,7 @@ impl<P: Application> Player<P> {
             → HasPlayed P.app P.from_text c es self.old
             → position ≡ length es + 1 → HasPlayed P.app P.from_text c (es ++ Step plan.event ∷ []) self.new) }
         ensures lawful { IfOk result (λ reply. IsSound self.old.config
-            → IsSoundStep P.app P.Inv self.old.config plan.event reply self.new.config) }
+            → IsBySteps P.app P.Inv self.old.config (plan.event ∷ []) self.new.config) }
     {
         let event = plan.event();
         match self.config.put_plan(plan) {

@@ -6,15 +6,17 @@ ghost use Rattle.topology.specs.Graph.{IsGraph};
 ghost use Rattle.reset_model.specs.declared.event.Event.{Event};
 ghost use Rattle.reset_model.specs.declared.step.Reply.TheVariants.{Complete};
 ghost use Rattle.reset_model.specs.Configuration.{Configuration, IsShaped};
+ghost use Rattle.reset_model.specs.BySteps.{IsBySteps};
 ghost use Rattle.reset_model.specs.Sound.{IsSound};
 ghost use Rattle.history.specs.declared.entry.Entry.{Entry};
 ghost use Rattle.history.specs.declared.entry.Report.{Report};
 ghost use Rattle.history.specs.Entries.{replayed};
 ghost use Rattle.history.specs.Reports.{reports_of};
-ghost use Rattle.history.specs.Stretches.{IsApplied, IsIn, IsReport, IsSoundStretch, IsStretch, IsTrueReport};
+ghost use Rattle.history.specs.Stretches.{IsApplied, IsIn, IsReport, IsStretch, IsTrueReport};
 ghost use Rattle.history.specs.Stretches.{Stretch, steps};
 
 use app_interface::Application;
+use reset_model::{ProgramOf, headline, waves_end};
 
 /// The reports of entries are exactly the completions that they tell, in the order in which they came,
 /// each with its position and that of the latest opening at the same node that no fault came after.
@@ -45,13 +47,16 @@ pub fn undisturbed_parts_are_stretches<P: Application>()
         × (s.before ≡ before) × (s.events ≡ events) }
 {}
 
-/// From sound registers on, an undisturbed stretch is a run of the abstract machine, which keeps the
-/// application's invariant in each component, and has it there once a session opens. Nothing is repaired in it.
-pub fn stretches_refine<P: Application>()
+/// An undisturbed stretch from sound registers on is steps: its events were taken in turn, the headline holds of them,
+/// and their waves end.
+pub fn stretches_are_steps<P: Application>()
     ensures { (opening : Configuration P.Local) (es : List Entry) (s : Stretch P.Local)
         → IsGraph opening.graph → IsShaped opening
-        → IsStretch P.app P.from_text opening es s → IsSound s.here → IsSoundStretch P.app P.Inv s }
-{}
+        → IsStretch P.app P.from_text opening es s → IsSound s.here → IsBySteps P.app P.Inv s.here s.events s.left }
+{
+    headline::<ProgramOf<P>>();
+    waves_end::<ProgramOf<P>>();
+}
 
 /// Each report of an undisturbed stretch that begins in sound registers is true: right after it every node
 /// of its component is in its session and none is reset. Where the stretch has the opening, nobody there

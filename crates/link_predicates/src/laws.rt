@@ -1,20 +1,22 @@
 // Laws of the checker and of the alarm.
 
-ghost use Rattle.std.specs.Prelude.{◌≡◌, ◌<◌, ◌↔◌, ℕ, List, None};
+ghost use Rattle.std.specs.Prelude.{◌≡◌, ◌↔◌, ℕ, List, None, Contains};
+ghost use Rattle.action_tables.specs.Modulus.{IsModulus};
 ghost use Rattle.topology.specs.Graph.{IsGraph, IsReached};
 ghost use Rattle.tree_layer.specs.TreePicture.{TreePicture};
-ghost use Rattle.reset_model.specs.Completion.{applied, is_open_at, times};
-ghost use Rattle.reset_model.specs.Configuration.{Configuration, IsShaped, tree_of, wave_of};
+ghost use Rattle.reset_model.specs.Completion.{applied};
+ghost use Rattle.reset_model.specs.Configuration.{Configuration, tree_of, wave_of};
 ghost use Rattle.reset_model.specs.Runs.{IsRun};
 ghost use Rattle.reset_model.specs.Sound.{IsSound};
 ghost use Rattle.reset_model.specs.SoundSteps.{HoldsAt};
 ghost use Rattle.reset_model.specs.WavePicture.{HasJoined, WavePicture};
 ghost use Rattle.reset_model.specs.declared.event.Event.{Event};
+ghost use Rattle.reset_model.specs.declared.event.Event.TheVariants.{Open};
 ghost use Rattle.reset_model.specs.declared.step.Done.{Done};
 ghost use Rattle.link_predicates.specs.Faults.{AreOfApp, alarm_of, faults};
 
 use app_interface::Application;
-use reset_machine::{invariants, runs_stay_sound, wave_pictures};
+use reset_machine::{runs_are_steps, runs_stay_sound, wave_pictures};
 use tree_layer::tree_pictures;
 
 /// No fault of the tree or of the wave is told exactly where every link passes the predicates of both
@@ -40,10 +42,10 @@ pub fn joined_are_silent<P: Application>()
     ensures invariant { (c : Configuration P.Local) (i : ℕ) → IsGraph c.graph → HoldsAt P.app P.Inv c i
         → HasJoined c.graph (wave_of c) i → alarm_of P.app c i ≡ None }
     ensures opened { (c c' : Configuration P.Local) (es : List Event) (ds : List Done) (i o : ℕ) → IsGraph c.graph
-        → IsShaped c → IsSound c → IsRun P.app c es ds c'
-        → IsReached c.graph i o → 0 < times (is_open_at o) (applied es ds)
+        → IsModulus c.modulus → IsSound c → IsRun P.app c es ds c'
+        → IsReached c.graph i o → Contains (applied es ds) (Open o)
         → HasJoined c'.graph (wave_of c') i → alarm_of P.app c' i ≡ None }
 {
-    invariants::<P>();
+    runs_are_steps::<P>();
     runs_stay_sound::<P>();
 }

@@ -1,11 +1,16 @@
 -- What is shared may be seen by every thread. A number is the place of a type among the parameters of the function
 -- that starts the threads.
 use denote.RattleType.{RattleType}
+use denote.Struct.Declared.{shape}
+use denote.Struct.Struct.{Struct}
 use denote.Param.{param}
 use denote.Param.Send.{sendable, IsSend, IsSync, part_keyless, Quiet-if}
 use denote.Exit.{yes, unseen}
 use mir.Syntax.{of_param}
 use Rattle.std.proofs.Crossing.{crosses}
+use Rattle.std.specs.contracts.sync.Condvar as Condvar
+use Rattle.topology.specs.contracts.topology.Topology as Topology
+use Rattle.node_threads.specs.contracts.attendance.Attendance as Attendance
 use Rattle.std.proofs.sync.ledger.Share.TheSendSync as share
 use Rattle.std.proofs.sync.ledger.Book.TheSendSync as tally
 use Rattle.std.proofs.sync.Mutex.TheSendSync as mutex
@@ -16,6 +21,7 @@ use Rattle.std.specs.declared.sync.ledger.Ledger as Ledger
 use Rattle.app_interface.specs.declared.application.Application as Application
 use Rattle.history.specs.contracts.book.Book as Book
 use Rattle.node_threads.specs.declared.round.Round as Round
+use Rattle.node_threads.specs.contracts.desk.Desk as Desk
 use Rattle.node_threads.specs.contracts.locked.Locked as Locked
 use Rattle.node_threads.specs.contracts.sharing.Shared as Shared
 
@@ -34,16 +40,29 @@ module _ (L P X : RattleType) (r : Round.Ghosts L.Denot) (a : Application.Ghosts
   tally_send : IsSend (Tally.the_row (param 0 L) l)
   tally_send = tally.the_send (param 0 L) l
 
-  locked_send : IsSend (Locked.the_row (param 0 L) (param 1 P) (param 4 X) r a l)
+  -- a record that is a field of another is there as its bare struct
+  attendance_send : IsSend (Struct (shape Attendance.the_type))
+  attendance_send = search (crosses, sendable) depth 60 fits 20000
+
+  locked_send : IsSend (Struct (shape (Locked.the_type (param 0 L) (param 1 P) (param 4 X) r a l)))
   locked_send = search (sendable, book_send, tally_send) depth 60 fits 20000
 
-  mutex_sync : IsSync (Mutex.the_row (Locked.the_row (param 0 L) (param 1 P) (param 4 X) r a l))
-  mutex_sync = mutex.the_sync (Locked.the_row (param 0 L) (param 1 P) (param 4 X) r a l) locked_send
+  desk_send : IsSend (Desk.the_row (param 0 L) (param 1 P) (param 4 X) r a l)
+  desk_send = search (sendable, locked_send, attendance_send) depth 60 fits 20000
+
+  mutex_sync : IsSync (Mutex.the_row (Desk.the_row (param 0 L) (param 1 P) (param 4 X) r a l))
+  mutex_sync = mutex.the_sync (Desk.the_row (param 0 L) (param 1 P) (param 4 X) r a l) desk_send
 
   share_sync : IsSync (Share.the_row (param 0 L) l)
   share_sync = record {
     shared = λ d b o κ q. part_keyless (Share.the_row (param 0 L) l) (share.the_send (param 0 L) l) q d b o;
   }
 
+  bell_sync : IsSync Condvar.the_row
+  bell_sync = search (crosses, sendable) depth 60 fits 20000
+
+  topology_sync : IsSync Topology.the_row
+  topology_sync = search (crosses, sendable) depth 60 fits 20000
+
   pub shared_sync : IsSync (Shared.the_row (param 0 L) (param 1 P) (param 4 X) r l a)
-  shared_sync = search (sendable, mutex_sync, share_sync) depth 60 fits 20000
+  shared_sync = search (crosses, sendable, mutex_sync, share_sync, topology_sync, bell_sync) depth 60 fits 20000

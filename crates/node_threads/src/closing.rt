@@ -10,6 +10,7 @@ ghost use Rattle.node_threads.specs.Closed.{is_seated, list_of};
 ghost use Rattle.node_threads.specs.Seats.{of_node, receipts_after};
 ghost use Rattle.node_threads.specs.Told.{left_after, reply_told, step_at};
 
+use crate::desk::Desk;
 use crate::locked::Locked;
 use crate::round::{Cut, Round};
 use crate::seat::Seat;
@@ -67,21 +68,47 @@ pub fn close<L: Round, P: Application>(
     ensures err { IfErr result (λ e. IsCloseFault P.app P.from_text L.mark L.seats seats.items e.0) }
     ensures returned { IfErr result (λ e. e.2 ≡ seats) }
 {
-    let Shared { locked, last, cut } = shared;
-    let locked = locked.into_inner();
+    let Shared {
+        desk,
+        topology,
+        bells,
+        last,
+        cut,
+    } = shared;
+    let Desk { locked, attendance } = desk.into_inner();
     locked.lemma_is_locked();
     match locked.close_in(alloc, &seats) {
         Ok(()) => {}
         Err(fault) => {
-            let locked = Mutex::new(locked);
-            return Err((fault, Shared { locked, last, cut }, seats));
+            let desk = Mutex::new(Desk { locked, attendance });
+            return Err((
+                fault,
+                Shared {
+                    desk,
+                    topology,
+                    bells,
+                    last,
+                    cut,
+                },
+                seats,
+            ));
         }
     }
     match Vec::with_capacity(alloc, seats.len()) {
         Ok(lists) => Ok(outcome_of_seats(locked, last, cut, seats, lists)),
         Err(AllocError) => {
-            let locked = Mutex::new(locked);
-            Err((CloseFault::NoMemory, Shared { locked, last, cut }, seats))
+            let desk = Mutex::new(Desk { locked, attendance });
+            Err((
+                CloseFault::NoMemory,
+                Shared {
+                    desk,
+                    topology,
+                    bells,
+                    last,
+                    cut,
+                },
+                seats,
+            ))
         }
     }
 }

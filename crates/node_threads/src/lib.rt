@@ -2,7 +2,9 @@
 //! that what the threads were told is what the book has.
 #![tactic(auto)]
 
+mod attendance;
 mod closing;
+mod desk;
 mod locked;
 mod refusal;
 mod round;

@@ -14,7 +14,7 @@ use crate::refusal::{SeatRefusal, ShareFault};
 use crate::round::Round;
 use crate::seat::Seat;
 use crate::sharing::{MAX_SEATS, Shared, select, share};
-use crate::turns::{Gate, TurnsEnd, node_turns};
+use crate::turns::{Gate, TurnsEnd, take_turns};
 use app_interface::Application;
 use history::{Book, BookRefusal};
 use std::alloc::Global;
@@ -197,7 +197,7 @@ fn cause_of_closing(fault: CloseFault) -> RunCause
     }
 }
 
-// What a thread does at a seat.
+// What a thread does at a seat, which is counted among those that take turns.
 fn sit<L: Round, P: Application, G: Gate, R: Wait>(
     rt: &R,
     alloc: Global,
@@ -206,14 +206,27 @@ fn sit<L: Round, P: Application, G: Gate, R: Wait>(
     mut seat: Seat<L>,
     task: Task,
 ) -> (Seat<L>, TurnsEnd) {
+    let end = play(rt, alloc, gate, shared, &mut seat, task);
+    shared.go(rt, seat.node());
+    (seat, end)
+}
+
+// The task at a seat.
+fn play<L: Round, P: Application, G: Gate, R: Wait>(
+    rt: &R,
+    alloc: Global,
+    gate: &G,
+    shared: &Shared<L, P>,
+    seat: &mut Seat<L>,
+    task: Task,
+) -> TurnsEnd {
     if task.selected == Some(seat.node()) {
-        match select(rt, alloc, shared, &mut seat) {
-            Err(SeatRefusal::Refused(BookRefusal::NoMemory)) => return (seat, TurnsEnd::NoMemory),
+        match select(rt, alloc, shared, seat) {
+            Err(SeatRefusal::Refused(BookRefusal::NoMemory)) => return TurnsEnd::NoMemory,
             _ => {}
         }
     }
-    let end = node_turns(rt, alloc, gate, shared, &mut seat, task.turns);
-    (seat, end)
+    take_turns(rt, alloc, gate, shared, seat, task.turns)
 }
 
 // What is shared may be seen by every thread.
@@ -224,7 +237,8 @@ fn lemma_is_sync<L: Round + Send + Sync, P: Application>(shared: &Shared<L, P>)
     let _ = shared;
 }
 
-// One thread for each seat, all joined. Room for the handles and the seats is made before the first is started, so that
+// One thread for each seat, all joined. All seats are counted before the first is started, so that none takes it to be over
+// before the last has begun. Room for the handles and the seats is made before the first is started, so that
 // no thread is left to end by itself for want of a place for its handle.
 fn in_threads<L: Round + Send + Sync, P: Application, G: Gate + Sync, R: Threads + Wait + Sync>(
     rt: &R,
@@ -235,6 +249,7 @@ fn in_threads<L: Round + Send + Sync, P: Application, G: Gate + Sync, R: Threads
     task: Task,
 ) -> Joined<L> {
     thread::scope(thread::scope_env(), rt, |scope| -> Joined<L> {
+        shared.come(rt, seats.len());
         lemma_is_sync(shared);
         let mut handles = Vec::new(alloc);
         let mut back = Vec::new(alloc);
@@ -250,13 +265,17 @@ fn in_threads<L: Round + Send + Sync, P: Application, G: Gate + Sync, R: Threads
         let mut refused = false;
         let mut hungry = false;
         for seat in seats {
+            let node = seat.node();
             match scope.spawn(move || sit(rt, alloc, gate, shared, seat, task)) {
                 Ok(handle) => {
                     if handles.push(handle).is_err() {
                         hungry = true;
                     }
                 }
-                Err(_) => refused = true,
+                Err(_) => {
+                    shared.go(rt, node);
+                    refused = true;
+                }
             }
         }
         for handle in handles {

@@ -9,6 +9,8 @@ ghost use Rattle.reset_model.specs.declared.event.Event.TheVariants.{Request};
 ghost use Rattle.node_threads.specs.Locked.{IsBooked, IsPlanOf, IsUncommitted, IsUndone, WasLocked};
 ghost use Rattle.node_threads.specs.Seats.{empty_seat, with_receipt};
 
+use crate::attendance::Attendance;
+use crate::desk::Desk;
 use crate::locked::Locked;
 use crate::refusal::{CommitRefusal, LookRefusal, SeatRefusal, ShareFault};
 use crate::round::{Cut, Round};
@@ -18,15 +20,19 @@ use history::{ApplyRefusal, Book, Receipt};
 use reset_machine::{Event, Plan, View};
 use std::alloc::{AllocError, Global};
 use std::sync::ledger::{Blank, Share};
-use std::sync::{Mutex, Wait};
+use std::sync::{Condvar, Mutex, Wait};
+use topology::Topology;
 
 /// The most nodes of a book that is shared: each has a thread of its own.
 pub const MAX_SEATS: usize = 64;
 
-/// What the threads share: a book under one lock. It keeps the last part of the ledger, at amount 0.
+/// What the threads share: a book under one lock, and beside it, since it stays, its topology, with a bell for each node by
+/// which it is called when it waits. It keeps the last part of the ledger, at amount 0.
 #[derive(Drop)]
 pub struct Shared<L: Round, P: Application> {
-    pub(crate) locked: Mutex<Locked<L, P>>,
+    pub(crate) desk: Mutex<Desk<L, P>>,
+    pub(crate) topology: Topology,
+    pub(crate) bells: Vec<Condvar>,
     pub(crate) last: Share<L>,
     pub(crate) cut: Cut<L>,
     ghost last_part: { last.parts ≡ 1 },
@@ -58,15 +64,39 @@ pub fn share<L: Round, P: Application>(
         Ok(seats) => seats,
         Err(AllocError) => return Err((ShareFault::NoMemory, blank, book)),
     };
+    let (topology, bells, attendance) = match places_for(alloc, book.config().topology()) {
+        Ok(places) => places,
+        Err(AllocError) => return Err((ShareFault::NoMemory, blank, book)),
+    };
     let mark = book.len();
     let (tally, all) = blank.open::<L>();
     let (seats, last) = seat_all(alloc, book.config().topology().nodes(), seats, all);
     let shared = Shared {
-        locked: Mutex::new(Locked { book, mark, tally }),
+        desk: Mutex::new(Desk {
+            locked: Locked { book, mark, tally },
+            attendance,
+        }),
+        topology,
+        bells,
         last,
         cut: Cut::new(),
     };
     Ok((shared, seats))
+}
+
+// A copy of the topology, a bell for each of its nodes, up or down, and the attendance of all.
+fn places_for(
+    alloc: Global,
+    topology: &Topology,
+) -> Result<(Topology, Vec<Condvar>, Attendance), AllocError> {
+    let topology = topology.copy(alloc)?;
+    let places = topology.len();
+    let mut bells = Vec::with_capacity(alloc, places)?;
+    for _ in 0..places {
+        bells.push(Condvar::new())?;
+    }
+    let attendance = Attendance::new(alloc, places)?;
+    Ok((topology, bells, attendance))
 }
 
 // A seat for each node, with one part of the ledger, and the last part.
@@ -96,11 +126,16 @@ impl<L: Round, P: Application> Shared<L, P> {
         ensures { WasLocked P.app P.from_text L.mark L.seats (λ b. result ≡ b) }
     {
         let Shared {
-            locked,
+            desk,
+            topology: _,
+            bells: _,
             last: _,
             cut: _,
         } = self;
-        let locked = locked.into_inner();
+        let Desk {
+            locked,
+            attendance: _,
+        } = desk.into_inner();
         locked.lemma_is_locked();
         let Locked {
             book,
@@ -123,9 +158,12 @@ impl<L: Round, P: Application> Shared<L, P> {
         ensures err { IfErr result (λ f. f ≢ LookRefusal.NoMemory
             → WasLocked P.app P.from_text L.mark L.seats (λ b. IsNode b.config.graph seat.now.node → ⊥)) }
     {
-        let locked = self.locked.lock(rt);
-        locked.lemma_is_locked();
-        locked.look_in(alloc, seat)
+        let at = self.place(seat.node());
+        let mut desk = self.desk.lock(rt);
+        desk.locked.lemma_is_locked();
+        let seen = desk.locked.look_in(alloc, seat);
+        desk.attendance.look(at);
+        seen
     }
 
     /// Commits the plan, which the seat gets a receipt for, or the plan comes back with the first refusal. A
@@ -149,9 +187,14 @@ impl<L: Round, P: Application> Shared<L, P> {
         ensures err { IfErr result (λ e. WasLocked P.app P.from_text L.mark L.seats (λ b.
             IsUncommitted P.app b seat.old.node plan e.0)) }
     {
-        let mut locked = self.locked.lock(rt);
-        locked.lemma_is_locked();
-        locked.commit_in(alloc, seat, plan)
+        let near = self.near(seat.node());
+        let mut desk = self.desk.lock(rt);
+        desk.locked.lemma_is_locked();
+        let done = desk.locked.commit_in(alloc, seat, plan);
+        desk.attendance.stir(near, done.is_ok());
+        drop(desk);
+        self.ring(near, done.is_ok());
+        done
     }
 
     /// Does the event, which the seat gets a receipt for, or names the first refusal. A refused event changes
@@ -173,9 +216,89 @@ impl<L: Round, P: Application> Shared<L, P> {
         ensures err { IfErr result (λ f. WasLocked P.app P.from_text L.mark L.seats (λ b.
             IsUndone P.app b seat.old.node event f)) }
     {
-        let mut locked = self.locked.lock(rt);
-        locked.lemma_is_locked();
-        locked.step_in(alloc, seat, event)
+        let near = self.near(seat.node());
+        let mut desk = self.desk.lock(rt);
+        desk.locked.lemma_is_locked();
+        let done = desk.locked.step_in(alloc, seat, event);
+        desk.attendance.stir(near, done.is_ok());
+        drop(desk);
+        self.ring(near, done.is_ok());
+        done
+    }
+
+    // So many seats more are going to take turns: a node that has nothing to do waits for them. It takes the lock.
+    pub(crate) fn come<R: Wait>(&self, rt: &R, count: usize) {
+        let mut desk = self.desk.lock(rt);
+        desk.attendance.come(count);
+    }
+
+    // The seat takes no more turns. Where all others wait, they are told that it is over. It takes the lock.
+    pub(crate) fn go<R: Wait>(&self, rt: &R, node: u32) {
+        let at = self.place(node);
+        let mut desk = self.desk.lock(rt);
+        desk.attendance.go(at);
+        let over = desk.attendance.is_over();
+        drop(desk);
+        if over {
+            self.ring_all();
+        }
+    }
+
+    // Waits at a node that had nothing to do when it looked, until a neighbour has changed: true; or until all
+    // that take turns wait: false. It takes the lock.
+    pub(crate) fn wait<R: Wait>(&self, rt: &R, seat: &Seat<L>) -> bool {
+        let at = self.place(seat.node());
+        let Some(bell) = self.bells.get(at) else {
+            return false;
+        };
+        let mut desk = self.desk.lock(rt);
+        if !desk.attendance.wait(at) {
+            return true;
+        }
+        if desk.attendance.is_over() {
+            drop(desk);
+            self.ring_all();
+            return false;
+        }
+        let desk = bell.wait_while(rt, desk, |desk| {
+            desk.attendance.waits(at) && !desk.attendance.is_over()
+        });
+        !desk.attendance.waits(at)
+    }
+
+    // The index of the node in the topology, or else none that is one.
+    fn place(&self, node: u32) -> usize {
+        match self.topology.index_of(node) {
+            Some(at) => at,
+            None => usize::MAX,
+        }
+    }
+
+    // The indexes of the node's neighbours in the topology.
+    fn near(&self, node: u32) -> &[usize] {
+        match self.topology.index_of(node) {
+            Some(at) if at < self.topology.len() => self.topology.neighbours(at),
+            _ => &[],
+        }
+    }
+
+    // Calls these nodes, if it was done. Whoever of them waits looks again, and has been told to under the lock.
+    fn ring(&self, nodes: &[usize], done: bool) {
+        if done {
+            for at in nodes {
+                match self.bells.get(*at) {
+                    Some(bell) => bell.notify_one(),
+                    None => {}
+                }
+            }
+        }
+    }
+
+    // Calls all.
+    fn ring_all(&self) {
+        for bell in &self.bells {
+            bell.notify_all();
+        }
     }
 }
 

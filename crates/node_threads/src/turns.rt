@@ -1,6 +1,7 @@
 // The turns of a node.
 
-ghost use Rattle.std.specs.Prelude.{◌≡◌, ◌+◌, ◌≤◌, length, take};
+ghost use Rattle.std.specs.Prelude.{◌≡◌, ◌+◌, ◌≤◌, IfOk, IfSome, Some, length, take};
+ghost use Rattle.node_choices.specs.Choice.{next_of};
 ghost use Rattle.node_threads.specs.Turns.{AddsTurns, WasFull};
 
 use crate::refusal::{CommitRefusal, LookRefusal};
@@ -10,7 +11,7 @@ use crate::sharing::Shared;
 use app_interface::Application;
 use history::ApplyRefusal;
 use node_choices::next_event;
-use reset_machine::{StepRefusal, View};
+use reset_machine::{Event, StepRefusal, View};
 use std::alloc::{AllocError, Global};
 use std::sync::Wait;
 
@@ -50,9 +51,33 @@ enum Turn<P: Application> {
 }
 
 /// Takes turns at the seat. A turn looks, chooses by [`next_event`], plans without the lock, and commits; the
-/// gate is told of a plan and of its commitment. After a stale plan the next turn goes by the view that came
-/// with the refusal, without a look. The turns end early where the book is full or memory is wanting.
+/// gate is told of a plan and of its commitment. Where there is nothing to do, the turn waits until a neighbour has
+/// changed and looks again. After a stale plan the next turn goes by the view that came with the refusal, without a
+/// look. The turns end early where the book is full or memory is wanting, and where no node that takes turns has
+/// anything to do: so a node that takes turns alone never waits.
 pub fn node_turns<L: Round, P: Application, G: Gate, R: Wait>(
+    rt: &R,
+    alloc: Global,
+    gate: &G,
+    shared: &Shared<L, P>,
+    seat: &mut Seat<L>,
+    turns: u32,
+) -> TurnsEnd
+    requires { turns ≤ 100000 }
+    ensures node { seat.new.node ≡ seat.old.node }
+    ensures most { length seat.new.receipts ≤ length seat.old.receipts + turns }
+    ensures kept { take (length seat.old.receipts) seat.new.receipts ≡ seat.old.receipts }
+    ensures turns { AddsTurns P.app P.from_text L.mark L.seats seat.old.node seat.old.receipts seat.new.receipts }
+    ensures full { result ≡ TurnsEnd.BookFull → WasFull P.app P.from_text L.mark L.seats }
+{
+    shared.come(rt, 1);
+    let end = take_turns(rt, alloc, gate, shared, seat, turns);
+    shared.go(rt, seat.node());
+    end
+}
+
+// The turns of a seat that is counted among those that take turns.
+pub(crate) fn take_turns<L: Round, P: Application, G: Gate, R: Wait>(
     rt: &R,
     alloc: Global,
     gate: &G,
@@ -69,15 +94,13 @@ pub fn node_turns<L: Round, P: Application, G: Gate, R: Wait>(
 {
     let mut seen: Option<View<P>> = None;
     for _turn in 0..turns {
-        let view = match seen.take() {
-            Some(view) => view,
-            None => match shared.look(rt, alloc, seat) {
-                Ok(view) => view,
-                Err(LookRefusal::StrangeNode) => continue,
-                Err(LookRefusal::NoMemory) => return TurnsEnd::NoMemory,
-            },
+        let (view, event) = match chance(rt, alloc, shared, seat, seen.take()) {
+            Ok(Some(found)) => found,
+            Ok(None) => return TurnsEnd::Done,
+            Err(LookRefusal::StrangeNode) => continue,
+            Err(LookRefusal::NoMemory) => return TurnsEnd::NoMemory,
         };
-        match turn_on(rt, alloc, gate, shared, seat, view) {
+        match turn_on(rt, alloc, gate, shared, seat, view, event) {
             Turn::Over => {}
             Turn::Stale(now) => seen = Some(now),
             Turn::BookFull => return TurnsEnd::BookFull,
@@ -87,7 +110,39 @@ pub fn node_turns<L: Round, P: Application, G: Gate, R: Wait>(
     TurnsEnd::Done
 }
 
-// One turn, by what the node saw.
+// What the seat's node sees, from what it saw last on, where that allows an event, and the first such event. Where it
+// allows none, it waits for a neighbour that changes. None where no node that takes turns has anything to do.
+fn chance<L: Round, P: Application, R: Wait>(
+    rt: &R,
+    alloc: Global,
+    shared: &Shared<L, P>,
+    seat: &Seat<L>,
+    last: Option<View<P>>,
+) -> Result<Option<(View<P>, Event)>, LookRefusal>
+    ensures { IfOk result (λ found. IfSome found (λ f. next_of P.app f.0 ≡ Some f.1)) }
+{
+    let mut seen = last;
+    for _ in rt.forever() {
+        let view = match seen.take() {
+            Some(view) => view,
+            None => match shared.look(rt, alloc, seat) {
+                Ok(view) => view,
+                Err(refusal) => return Err(refusal),
+            },
+        };
+        match next_event(alloc, &view) {
+            Ok(Some(event)) => return Ok(Some((view, event))),
+            Ok(None) => drop(view),
+            Err(AllocError) => return Err(LookRefusal::NoMemory),
+        }
+        if !shared.wait(rt, seat) {
+            return Ok(None);
+        }
+    }
+    unreachable!()
+}
+
+// One turn, by what the node saw, for the first event that this allows.
 fn turn_on<L: Round, P: Application, G: Gate, R: Wait>(
     rt: &R,
     alloc: Global,
@@ -95,18 +150,15 @@ fn turn_on<L: Round, P: Application, G: Gate, R: Wait>(
     shared: &Shared<L, P>,
     seat: &mut Seat<L>,
     view: View<P>,
+    event: Event,
 ) -> Turn<P>
+    requires { next_of P.app view ≡ Some event }
     ensures node { seat.new.node ≡ seat.old.node }
     ensures most { length seat.new.receipts ≤ length seat.old.receipts + 1 }
     ensures kept { take (length seat.old.receipts) seat.new.receipts ≡ seat.old.receipts }
     ensures turns { AddsTurns P.app P.from_text L.mark L.seats seat.old.node seat.old.receipts seat.new.receipts }
     ensures full { result ≡ Turn.BookFull → WasFull P.app P.from_text L.mark L.seats }
 {
-    let event = match next_event(alloc, &view) {
-        Ok(Some(event)) => event,
-        Ok(None) => return Turn::Over,
-        Err(AllocError) => return Turn::NoMemory,
-    };
     let plan = match view.plan(alloc, event) {
         Ok(plan) => plan,
         Err(StepRefusal::NoMemory) => return Turn::NoMemory,

@@ -12,7 +12,6 @@ use Rattle.reset_model.specs.declared.event.Event.TheVariants.{Claim, Follow, Ad
 use Rattle.reset_model.specs.declared.event.Event.TheVariants.{Mend, Act}
 use Rattle.reset_model.specs.declared.plan.Fired.TheVariants.{Wave}
 use Rattle.reset_model.specs.declared.step.Reply.{Reply}
-use Rattle.reset_model.specs.declared.step.Reply.TheVariants.{Complete}
 use Rattle.reset_model.specs.declared.step.StepRefusal.{StepRefusal}
 use Rattle.reset_model.specs.declared.step.StepRefusal.TheVariants.{NoMemory}
 use Rattle.reset_model.specs.Configuration.{Configuration, IsShaped, tree_of, wave_of}
@@ -20,12 +19,10 @@ use Rattle.reset_model.specs.LocalSteps.{event_fired}
 use Rattle.reset_model.specs.MachineSteps.{IsStep, IsRefused}
 use Rattle.reset_model.specs.Outcome.{act_outcome, after_fired, fired_reply, row_outcome}
 use Rattle.reset_model.specs.Planned.{outcome_of}
-use Rattle.reset_model.specs.Sound.{IsComplete, IsSound, Repairs}
 use Rattle.reset_model.specs.Steps.{event_node, is_act, reply_of}
 use Rattle.reset_model.proofs.ConfigurationSteps.{outcome_is_step, outcome_is_refused, outcome-rows, put_wave_outcome}
 use Rattle.reset_model.proofs.ViewedOutcomes.{outcome-is}
 use Rattle.reset_machine.proofs.RunLists.{take_more}
-use Rattle.reset_model.proofs.SoundConfigurations.{step_complete, step_quiet, step_sound, same_value}
 
 -- an event that isn't an action has rows
 pub no_act : (e : Event) → ((i case : ℕ) (with : Option ℕ) → e ≢ Act i case with) → is_act e ≡ false
@@ -75,21 +72,6 @@ module _ {L : Type 0} (app : App L) (c c' : Configuration L) (e : Event) where
         → IfErr r (λ f. f ≢ NoMemory → IsRefused app c e f)
     done_refused (Ok reply) is = tt
     done_refused (Err f) is = λ other. outcome_is_refused app c graph shaped e f (is other)
-
-    pub done_sound : (r : Result Reply StepRefusal) → IsOutcome r → IfOk r (λ reply. IsSound c → IsSound c')
-    done_sound (Ok reply) is = step_sound app c c' e graph (outcome_is_step app c graph shaped e c' reply is).0
-    done_sound (Err f) is = tt
-
-    pub done_quiet : (r : Result Reply StepRefusal) → IsOutcome r → IfOk r (λ reply. IsSound c → Repairs e → ⊥)
-    done_quiet (Ok reply) is = step_quiet app c c' e (outcome_is_step app c graph shaped e c' reply is).0
-    done_quiet (Err f) is = tt
-
-    pub done_complete : (r : Result Reply StepRefusal) → IsOutcome r → (session : ℕ) → IsSound c
-        → r ≡ Ok (Complete session) → IsComplete c' (event_node e) session
-    done_complete (Ok reply) is session sound told =
-        let step = outcome_is_step app c graph shaped e c' reply is in
-        step_complete app c c' e session graph step.0 sound (sym step.1 ∙ same_value told)
-    done_complete (Err f) is session sound told = absurd (cc)
 
   -- what a row of the wave table leaves is the outcome
   pub wave_is_outcome : (move : WaveMove) (at : ℕ)

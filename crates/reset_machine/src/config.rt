@@ -3,7 +3,7 @@
 mod puts;
 
 ghost use Rattle.std.specs.Prelude.{◌≡◌, ◌≢◌, ◌↔◌, IsTrue, ℕ, ◌<◌, true, ◌==◌, position, Some, IfOk, IfErr, IfSome, false};
-ghost use Rattle.std.specs.Prelude.{length, slice_index};
+ghost use Rattle.std.specs.Prelude.{length, slice_index, ◌∷◌, []};
 ghost use Rattle.std.specs.Prelude.{IfNone, OnOk, OnErr, MatchResult, Ok, Err};
 ghost use Rattle.topology.specs.Components.{leader};
 ghost use Rattle.topology.specs.Graph.{IsGraph, IsNode, node_bound};
@@ -23,8 +23,7 @@ use crate::ready_set::{ReadySet, doubt_around};
 use app_interface::Application;
 use reset_model::plan::{Effect, Fired};
 use reset_model::{
-    Arguments, Done, Event, Plan, Reply, StepRefusal, View, completions, invariants, refinement,
-    reply_to,
+    Arguments, Done, Event, Plan, Reply, StepRefusal, View, reply_to, runs_are_steps,
 };
 use std::alloc::{AllocError, AllocFailed, Global};
 use std::marker::Model;
@@ -74,7 +73,8 @@ impl<P: Application> Config<P> {
     ghost use Rattle.reset_model.specs.Planned.{after_effect, outcome_of};
     ghost use Rattle.reset_model.specs.View.{IsSeen, view_of};
     ghost use Rattle.reset_model.specs.Sound.{IsSound};
-    ghost use Rattle.reset_model.specs.SoundSteps.{IsSoundRun, IsSoundStep};
+    ghost use Rattle.reset_model.specs.Completion.{applied};
+    ghost use Rattle.reset_model.specs.BySteps.{IsBySteps};
     ghost use Rattle.reset_model.specs.WavePicture.{HasJoined, WavePicture};
     ghost use Rattle.tree_layer.specs.TreePicture.{TreePicture};
 
@@ -112,16 +112,16 @@ impl<P: Application> Config<P> {
         ensures err { IfErr result (λ f. f ≢ StepRefusal.NoMemory → IsRefused P.app self.old event f) }
         ensures kept { OnErr result (self.new ≡ self.old) }
 
-        // From a sound configuration it keeps what is to be kept, and a completion that it tells is true.
+        // From a sound configuration the headline holds of it.
         ensures lawful { IfOk result
-            (λ reply. IsSound self.old → IsSoundStep P.app P.Inv self.old event reply self.new) }
+            (λ reply. IsSound self.old → IsBySteps P.app P.Inv self.old (event ∷ []) self.new) }
 
         // The same as a function.
         ensures outcome { MatchResult result (λ reply. outcome_of P.app self.old event ≡ Ok (self.new, reply))
             (λ f. f ≢ StepRefusal.NoMemory → outcome_of P.app self.old event ≡ Err f) }
     {
         self.lemma_is_graph();
-        invariants::<P>();
+        runs_are_steps::<P>();
         self.perform(alloc, event)
     }
 
@@ -314,14 +314,13 @@ impl<P: Application> Config<P> {
         ensures ok { IfOk result (λ done. IsRun P.app self.old events.now done.items self.new) }
         ensures kept { OnErr result (self.new ≡ self.old) }
 
-        // From a sound configuration it keeps what is to be kept, and each completion in it is true.
+        // From a sound configuration what was applied are steps, of which the headline holds.
         ensures lawful { IfOk result
-            (λ done. IsSound self.old → IsSoundRun P.app P.Inv self.old events.now done.items self.new) }
+            (λ done. IsSound self.old
+            → IsBySteps P.app P.Inv self.old (applied events.now done.items) self.new) }
     {
         self.lemma_is_graph();
-        completions::<P>();
-        refinement::<P>();
-        invariants::<P>();
+        runs_are_steps::<P>();
         self.run_all(alloc, events)
     }
 
@@ -400,11 +399,11 @@ impl<P: Application> Config<P> {
 
         // As of a step.
         ensures lawful { IfOk result
-            (λ reply. IsSound self.old → IsSoundStep P.app P.Inv self.old plan.event reply self.new) }
+            (λ reply. IsSound self.old → IsBySteps P.app P.Inv self.old (plan.event ∷ []) self.new) }
         ensures outcome { IfOk result (λ reply. outcome_of P.app self.old plan.event ≡ Ok (self.new, reply)) }
     {
         self.lemma_is_graph();
-        invariants::<P>();
+        runs_are_steps::<P>();
         let Some(ix) = self.index_seeing(plan.seen_view()) else {
             return Err(plan);
         };

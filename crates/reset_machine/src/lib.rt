@@ -18,9 +18,8 @@ mod view;
 pub use config::Config;
 pub use enabled::Enabled;
 pub use reset_model::{
-    Done, Event, Near, Plan, Reply, StepRefusal, View, completions, completions_are_true,
-    invariants, joins_once, mends_rest, no_step_is_refused, one_boot, one_event_a_line,
-    outcomes_are_steps, read_event, refinement, runs_stay_sound, sound_is_quiet, split_wave_event,
-    split_word, states_stay, steps_stay_sound, two_numbers, views_decide, wave_pictures,
-    word_and_neighbour, write_event,
+    Done, Event, Near, Plan, Reply, StepRefusal, View, completions_are_true, headline, mends_rest,
+    no_step_is_refused, one_boot, one_event_a_line, outcomes_are_steps, read_event, runs_are_steps,
+    runs_stay_sound, sound_is_quiet, split_wave_event, split_word, states_stay, steps_stay_sound,
+    two_numbers, views_decide, wave_pictures, word_and_neighbour, write_event,
 };

@@ -1,6 +1,6 @@
 -- What an abstract step is to one component of the graph.
 use Rattle.std.proofs.Common.{◌≡◌, ℕ, Bool, true, false, cond, List, [], ◌∷◌, Option, Some, None}
-use Rattle.std.proofs.Common.{filter, refl, sym, ap, ap₂, ◌∙◌, ◌⊎◌, inl, inr, subst, ⊎_elim, true≢false}
+use Rattle.std.proofs.Common.{refl, sym, ap, ap₂, ◌∙◌, ◌⊎◌, inl, inr, subst, ⊎_elim, true≢false}
 use Rattle.std.proofs.lemmas.Bool.{cases_Bool}
 use Rattle.std.specs.Cmp.{both_ways as same_tests}
 use Rattle.app_interface.specs.Application.{App, Action, Fits, is_read, seen}

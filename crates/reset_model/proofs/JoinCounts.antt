@@ -14,44 +14,38 @@ use Rattle.wave_layer.specs.declared.regs.WaveRegs.{WaveRegs}
 use Rattle.reset_model.specs.declared.event.Event.{Event}
 use Rattle.reset_model.specs.declared.event.Event.TheVariants.{Claim, Follow, Adopt, Request, Relay, Open, Join, Finish}
 use Rattle.reset_model.specs.declared.event.Event.TheVariants.{Mend, Act}
-use Rattle.reset_model.specs.declared.step.Done.{Done}
-use Rattle.reset_model.specs.declared.step.Done.TheVariants.{Did, Refused}
-use Rattle.reset_model.specs.declared.step.Reply.{Reply}
 use Rattle.reset_model.specs.declared.step.Reply.TheVariants.{Applied, Complete}
-use Rattle.reset_model.specs.Completion.{applied, is_join_at, is_open_at, JoinsOnce, times}
-use Rattle.reset_model.specs.Configuration.{Configuration, IsShaped, local_of, tree_of, wave_of}
+use Rattle.reset_model.specs.Completion.{is_join_at, is_open_at, times}
+use Rattle.reset_model.specs.Configuration.{Configuration, local_of, tree_of, wave_of}
 use Rattle.reset_model.specs.MachineSteps.{IsStep, row_step, act_step}
 use Rattle.reset_model.specs.Refinement.{has_joined}
-use Rattle.reset_model.specs.Runs.{IsDone, IsRun}
 use Rattle.reset_model.specs.Sound.{IsSound, Sound, claims, follows, adopts, mends}
 use Rattle.reset_model.specs.Steps.{RegsStep, reply_of}
 use Rattle.reset_model.proofs.Abstractions.{joined_stays, joins_after, joins_apart, joins_others, opened_apart}
 use Rattle.reset_model.proofs.Abstractions.{opened_elsewhere, opens_at_leader, sessions_stay}
-use Rattle.reset_model.proofs.ConfigurationSteps.{outcome_is_step}
 use Rattle.reset_model.proofs.Fathers.{own_father}
-use Rattle.reset_model.proofs.RunInvariants.{did_keeps, run_keeps}
 use Rattle.reset_model.proofs.SoundConfigurations.{step_complete}
 use Rattle.reset_model.proofs.SoundSteps.{sound_rests}
 
 -- 1 where the node has joined, else 0
-abbrev joined_number : Graph → (ℕ → WaveRegs) → ℕ → ℕ
+abbrev pub joined_number : Graph → (ℕ → WaveRegs) → ℕ → ℕ
 joined_number g w i = cond (has_joined g w i) 1 0
 
 -- 1 where the event is a join of the node, else 0
-abbrev joins_now : Event → ℕ → ℕ
+abbrev pub joins_now : Event → ℕ → ℕ
 joins_now e i = cond (is_join_at i e) 1 0
 
 -- 1 where the event opens a session at the node, else 0
-abbrev opens_now : ℕ → Event → ℕ
+abbrev pub opens_now : ℕ → Event → ℕ
 opens_now i e = cond (is_open_at i e) 1 0
 
 -- ---- one step, which opens no session at the leader of a component
 
 -- nobody in p's component opens a session, and the nodes there that have joined are those from before and the event's
 -- own where it joins
-record Counts (g : Graph) (p : ℕ) (w w' : ℕ → WaveRegs) (e : Event) : Type 0 where
-  closed : (i : ℕ) → IsReached g p i → is_open_at i e ≡ false
-  number : (i : ℕ) → IsReached g p i → joined_number g w' i ≡ joins_now e i + joined_number g w i
+pub record Counts (g : Graph) (p : ℕ) (w w' : ℕ → WaveRegs) (e : Event) : Type 0 where
+  pub closed : (i : ℕ) → IsReached g p i → is_open_at i e ≡ false
+  pub number : (i : ℕ) → IsReached g p i → joined_number g w' i ≡ joins_now e i + joined_number g w i
 
 module _ (g : Graph) (graph : IsGraph g) (K m : ℕ) (counted : IsModulus m) (t t' : ℕ → TreeRegs)
     (w w' : ℕ → WaveRegs) (sound : Sound g K m t w) (p : ℕ) (top : IsNode g p) (leads : p ≡ leader g p) where
@@ -123,13 +117,13 @@ module _ (g : Graph) (graph : IsGraph g) (K m : ℕ) (counted : IsModulus m) (t 
   row_counts (Act i case with) step unopened = absurd step.enabled
 
 module _ {L : Type 0} (app : App L) where
-  step_counts : (c c' : Configuration L) (e : Event) (p : ℕ) → IsGraph c.graph → IsShaped c → IsSound c
+  pub step_counts : (c c' : Configuration L) (e : Event) (p : ℕ) → IsGraph c.graph → IsModulus c.modulus → IsSound c
       → IsNode c.graph p → p ≡ leader c.graph p
       → IsStep app c e c' → is_open_at p e ≡ false → Counts c.graph p (wave_of c) (wave_of c') e
-  step_counts c c' e p graph shaped sound top leads (row_step step) unopened =
-      row_counts c.graph graph (node_bound c.graph) c.modulus shaped.modulus (tree_of c) (tree_of c') (wave_of c)
+  step_counts c c' e p graph counted sound top leads (row_step step) unopened =
+      row_counts c.graph graph (node_bound c.graph) c.modulus counted (tree_of c) (tree_of c') (wave_of c)
       (wave_of c') sound p top leads e step.regs unopened
-  step_counts c c' e p graph shaped sound top leads (act_step i case with is step) unopened =
+  step_counts c c' e p graph counted sound top leads (act_step i case with is step) unopened =
       let waves : wave_of c' ≡ wave_of c = rw (step.graph, step.waves) refl in
       record {
         closed = λ k reached. ap (is_open_at k) is;
@@ -147,7 +141,7 @@ module _ {L : Type 0} (app : App L) where
     pub number : (i : ℕ) → IsReached c.graph p i
         → joined_number c.graph (wave_of c') i ≡ times (is_join_at i) es + joined_number c.graph (wave_of c) i
 
-  none_first : (p : Event → Bool) (e : Event) (es : List Event) → times p (e ∷ es) ≡ 0
+  pub none_first : (p : Event → Bool) (e : Event) (es : List Event) → times p (e ∷ es) ≡ 0
       → (p e ≡ false) × (times p es ≡ 0)
   none_first p e es none = at (p e) refl
     where
@@ -155,73 +149,34 @@ module _ {L : Type 0} (app : App L) where
       at true is = let h : 1 + times p es ≡ 0 = rw is at none in absurd (omega (arith, h))
       at false is = let h : 0 + times p es ≡ 0 = rw is at none in (is, omega (arith, h))
 
-  module _ (p : ℕ) where
-    run_counts : (es : List Event) (ds : List Done) (c c' : Configuration L) → IsGraph c.graph → IsShaped c → IsSound c
-        → IsNode c.graph p → p ≡ leader c.graph p → IsRun app c es ds c'
-        → times (is_open_at p) (applied es ds) ≡ 0 → RunCounts c c' p (applied es ds)
-    run_counts [] [] c c' graph shaped sound top leads run none =
-        record {
-          closed = λ i reached. refl;
-          number =
-              λ i reached. let same : joined_number c.graph (wave_of c') i ≡ joined_number c.graph (wave_of c) i =
-              ap (λ k. joined_number c.graph (wave_of k) i) run in omega (arith, same);
-        }
-    run_counts [] (d ∷ ds) c c' graph shaped sound top leads run none = absurd run
-    run_counts (e ∷ es) [] c c' graph shaped sound top leads run none = absurd run
-    run_counts (e ∷ es) (Did reply ∷ ds) c c' graph shaped sound top leads run none =
-        let m = run.0 in
-        let split = none_first (is_open_at p) e (applied es ds) none in
-        let kept = did_keeps app c m e (Did reply) graph shaped sound run.1 in
-        let step : IsStep app c e m = (outcome_is_step app c graph shaped e m reply run.1).0 in
-        let first = step_counts c m e p graph shaped sound top leads step split.0 in
-        let On : Graph → Type 0 = λ g. IsNode g p × (p ≡ leader g p) in
-        let there : On m.graph = subst On (sym kept.graph) (top, leads) in
-        let rest =
-        run_counts es ds m c' (subst IsGraph (sym kept.graph) graph) kept.shaped kept.sound there.0 there.1 run.2
-        split.1 in
-        let Closed : Graph → Type 0 = λ g. (i : ℕ) → IsReached g p i → times (is_open_at i) (applied es ds) ≡ 0 in
-        let closed = subst Closed kept.graph rest.closed in
-        let Numbers : Graph → Type 0 =
-        λ g. (i : ℕ) → IsReached g p i
-        → joined_number g (wave_of c') i ≡ times (is_join_at i) (applied es ds) + joined_number g (wave_of m) i in
-        let number = subst Numbers kept.graph rest.number in
-        record {
-          closed = λ i reached. let now : opens_now i e ≡ 0 = ap (λ b. cond b 1 0) (first.closed i reached)
-              in omega (arith, now, closed i reached);
-          number = λ i reached. omega (arith, number i reached, first.number i reached);
-        }
-    run_counts (e ∷ es) (Refused f ∷ ds) c c' graph shaped sound top leads run none =
-        let From : Configuration L → Type 0 = λ k. IsRun app k es ds c' in
-        run_counts es ds c c' graph shaped sound top leads (subst From run.1.1 run.2) none
-
   -- ---- from an opening to its completion
 
   -- the node of an opening is its leader, and right after it no other node of its component has joined
-  opening_counts : (c c' : Configuration L) (o : ℕ) → IsGraph c.graph → IsShaped c → IsSound c
+  pub opening_counts : (c c' : Configuration L) (o : ℕ) → IsGraph c.graph → IsModulus c.modulus → IsSound c
       → IsStep app c (Open o) c'
       → IsNode c.graph o × (o ≡ leader c.graph o)
       × ((i : ℕ) → IsReached c.graph o i → i ≢ o → joined_number c.graph (wave_of c') i ≡ 0)
-  opening_counts c c' o graph shaped sound (act_step i case with is step) = absurd (cc)
-  opening_counts c c' o graph shaped sound (row_step step) = (
+  opening_counts c c' o graph counted sound (act_step i case with is step) = absurd (cc)
+  opening_counts c c' o graph counted sound (row_step step) = (
     step.regs.node,
-    opens_at_leader c.graph graph (node_bound c.graph) c.modulus shaped.modulus (tree_of c) (tree_of c') (wave_of c)
+    opens_at_leader c.graph graph (node_bound c.graph) c.modulus counted (tree_of c) (tree_of c') (wave_of c)
         (wave_of c') sound o step.regs,
     λ i reached other. ap (λ b. cond b 1 0)
-        (opened_apart c.graph graph (node_bound c.graph) c.modulus shaped.modulus (tree_of c) (tree_of c') (wave_of c)
+        (opened_apart c.graph graph (node_bound c.graph) c.modulus counted (tree_of c) (tree_of c') (wave_of c)
         (wave_of c') sound o step.regs i (reached_node c.graph o i graph step.regs.node reached) reached other),
   )
 
   -- a leader has joined always
-  top_counts : (g : Graph) (w : ℕ → WaveRegs) (p : ℕ) → p ≡ leader g p → joined_number g w p ≡ 1
+  pub top_counts : (g : Graph) (w : ℕ → WaveRegs) (p : ℕ) → p ≡ leader g p → joined_number g w p ≡ 1
   top_counts g w p leads = ap (λ b. cond b 1 0) (eq-eqb (w p).session _ (ap (λ k. (w k).session) leads))
 
-  own_finish : (t : ℕ → TreeRegs) (w : ℕ → WaveRegs) (p x : ℕ) (b : Bool) → nat_eq (t p).father p ≡ b
+  pub own_finish : (t : ℕ → TreeRegs) (w : ℕ → WaveRegs) (p x : ℕ) (b : Bool) → nat_eq (t p).father p ≡ b
       → cond b (Complete (w p).session) Applied ≡ Complete x → (t p).father ≡ p
   own_finish t w p x true own told = eqb-true _ _ own
   own_finish t w p x false other told = absurd (cc)
 
   -- the node of a completion is its leader, and right before it each node of its component has joined
-  finishing_counts : (c c' : Configuration L) (p x : ℕ) → IsGraph c.graph → IsSound c
+  pub finishing_counts : (c c' : Configuration L) (p x : ℕ) → IsGraph c.graph → IsSound c
       → IsStep app c (Finish p) c' → reply_of (tree_of c) (wave_of c) (Finish p) ≡ Complete x
       → IsNode c.graph p × (p ≡ leader c.graph p)
       × ((i : ℕ) → IsReached c.graph p i → joined_number c.graph (wave_of c) i ≡ 1)
@@ -242,49 +197,6 @@ module _ {L : Type 0} (app : App L) where
       λ i reached. ap (λ k. (wave_of c k).session) (same_leader c.graph p i graph step.regs.node reached ∙ sym leads)
       ∙ before p ([], refl) in
       (step.regs.node, leads, λ i reached. ap (λ b. cond b 1 0) (eq-eqb _ _ (before i reached ∙ sym (up i reached))))
-
-  module _ (c c1 c2 c3 : Configuration L) (o p x : ℕ) (reply : Reply) (es : List Event) (ds : List Done)
-      (graph : IsGraph c.graph) (shaped : IsShaped c) (sound : IsSound c) where
-    pub joins_once : IsDone app c (Open o) (Did reply) c1 → IsRun app c1 es ds c2
-        → times (is_open_at p) (applied es ds) ≡ 0 → IsDone app c2 (Finish p) (Did (Complete x)) c3
-        → IsReached c.graph p o → (o ≡ p) × JoinsOnce c.graph p (applied es ds)
-    joins_once opens run none finishes within =
-        let Numbers : Graph → Type 0 =
-        λ g. (i : ℕ) → IsReached g p i
-        → joined_number g (wave_of c2) i ≡ times (is_join_at i) (applied es ds) + joined_number g (wave_of c1) i in
-        let Closed : Graph → Type 0 = λ g. (i : ℕ) → IsReached g p i → times (is_open_at i) (applied es ds) ≡ 0 in
-        let Joined : Graph → Type 0 =
-        λ g. IsNode g p × (p ≡ leader g p) × ((i : ℕ) → IsReached g p i → joined_number g (wave_of c2) i ≡ 1) in
-        let Apart : Graph → Type 0 =
-        λ g. IsNode g o × (o ≡ leader g o)
-        × ((i : ℕ) → IsReached g o i → i ≢ o → joined_number g (wave_of c1) i ≡ 0) in
-        let opened = did_keeps app c c1 (Open o) (Did reply) graph shaped sound opens in
-        let graph1 = subst IsGraph (sym opened.graph) graph in
-        let ran = run_keeps app es ds c1 c2 graph1 opened.shaped opened.sound run in
-        let same : c2.graph ≡ c.graph = ran.graph ∙ opened.graph in
-        let graph2 = subst IsGraph (sym same) graph in
-        let first : Apart c.graph =
-        opening_counts c c1 o graph shaped sound (outcome_is_step app c graph shaped (Open o) c1 reply opens).0 in
-        let finish = outcome_is_step app c2 graph2 ran.shaped (Finish p) c3 (Complete x) finishes in
-        let last : Joined c.graph =
-        subst Joined same (finishing_counts c2 c3 p x graph2 ran.sound finish.0 (sym finish.1)) in
-        let one : o ≡ p = first.1 ∙ same_leader c.graph p o graph last.0 within ∙ sym last.1 in
-        let On : Graph → Type 0 = λ g. IsNode g p × (p ≡ leader g p) in
-        let there : On c1.graph = subst On (sym opened.graph) (last.0, last.1) in
-        let between = run_counts p es ds c1 c2 graph1 opened.shaped opened.sound there.0 there.1 run none in
-        let number : Numbers c.graph = subst Numbers opened.graph between.number in
-        let closed : Closed c.graph = subst Closed opened.graph between.closed in
-        let From : ℕ → Type 0 =
-        λ k. (i : ℕ) → IsReached c.graph k i → i ≢ k → joined_number c.graph (wave_of c1) i ≡ 0 in
-        let late : From p = subst From one first.2 in (
-          one,
-          record {
-            opens = closed;
-            leader = omega
-                (arith, number p ([], refl), last.2 p ([], refl), top_counts c.graph (wave_of c1) p last.1);
-            joins = λ i reached other. omega (arith, number i reached, last.2 i reached, late i reached other);
-          },
-        )
 
   -- a node that has just joined has its start state
   pub joined_restarted : (c c' : Configuration L) (i : ℕ) → IsStep app c (Join i) c'

@@ -19,15 +19,20 @@ pub mod Fathers
 mod WavePictures
 pub mod SoundSteps
 pub mod CompleteResets
-pub mod RunMoments
 pub mod SoundConfigurations
 pub mod Judging
 pub mod Shapes
 pub mod Abstractions
 pub mod RunShadows
 mod ComponentSteps
-pub mod RunInvariants
+pub mod AbstractInvariants
 pub mod JoinCounts
+pub mod Headlines
+pub mod GoingOn
+pub mod Measures
+pub mod Answering
+pub mod WavesEnding
+pub mod RunSteps
 pub mod ViewedOutcomes
 pub mod Deciding
 pub mod StepsOrRefusals

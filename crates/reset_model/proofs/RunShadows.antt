@@ -1,5 +1,6 @@
 -- What a run from a sound configuration is on the abstract machine.
-use Rattle.std.proofs.Common.{◌≡◌, ℕ, Bool, true, false, cond, List, [], ◌∷◌, ◌++◌, Option, refl, sym, ap, subst}
+use Rattle.std.proofs.Common.{◌≡◌, ℕ, Bool, true, false, cond, List, [], ◌∷◌, ◌++◌, Option, refl, sym, subst}
+use Rattle.action_tables.specs.Modulus.{IsModulus}
 use Rattle.app_interface.specs.Application.{App}
 use Rattle.topology.specs.Graph.{Graph, IsGraph, Changes, node_bound}
 use Rattle.tree_layer.specs.declared.regs.TreeRegs.{TreeRegs}
@@ -7,20 +8,13 @@ use Rattle.wave_layer.specs.declared.regs.WaveRegs.{WaveRegs}
 use Rattle.reset_model.specs.declared.event.Event.{Event}
 use Rattle.reset_model.specs.declared.event.Event.TheVariants.{Claim, Follow, Adopt, Request, Relay, Open, Join, Finish}
 use Rattle.reset_model.specs.declared.event.Event.TheVariants.{Mend, Act}
-use Rattle.reset_model.specs.declared.step.Done.{Done}
-use Rattle.reset_model.specs.declared.step.Done.TheVariants.{Did, Refused}
-use Rattle.reset_model.specs.Configuration.{Configuration, IsShaped, tree_of, wave_of, local_of}
+use Rattle.reset_model.specs.Configuration.{Configuration, tree_of, wave_of, local_of}
 use Rattle.reset_model.specs.MachineSteps.{IsStep, IsActStep, row_step, act_step, local_effect}
-use Rattle.reset_model.specs.Planned.{outcome_of}
-use Rattle.reset_model.specs.Refinement.{AbstractStep, Do, IsAbstractRun, abstract_of, has_joined, left_of, shadow}
+use Rattle.reset_model.specs.Refinement.{AbstractStep, Do, IsAbstractRun, abstract_of, has_joined}
 use Rattle.reset_model.specs.Refinement.{shadow_of}
-use Rattle.reset_model.specs.Runs.{IsRun}
 use Rattle.reset_model.specs.Sound.{IsSound, claims, follows, adopts, mends}
 use Rattle.reset_model.specs.Steps.{event_node, RegsStep}
 use Rattle.reset_model.proofs.Abstractions.{abstract_at, acting, acting_apart, joining, nothing, opening, run_from}
-use Rattle.reset_model.proofs.ConfigurationSteps.{outcome_is_step}
-use Rattle.reset_model.proofs.Shapes.{outcome_shaped}
-use Rattle.reset_model.proofs.SoundConfigurations.{step_sound}
 use Rattle.reset_model.proofs.SoundSteps.{sound_rests}
 
 -- a step keeps the graph
@@ -32,13 +26,13 @@ step_graph app c c' e (act_step i case with is step) = step.graph
 -- ---- one step
 
 module _ {L : Type 0} (app : App L) (c : Configuration L) (graph : IsGraph c.graph)
-    (shaped : IsShaped c) (sound : IsSound c) (ss : List AbstractStep) (v' : ℕ → L) where
+    (counted : IsModulus c.modulus) (sound : IsSound c) (ss : List AbstractStep) (v' : ℕ → L) where
   -- from these registers and local states on, the abstract machine goes to v'
   abbrev GoesOn : (ℕ → WaveRegs) → (ℕ → L) → Type 0
   GoesOn w l = IsAbstractRun app c.graph (node_bound c.graph) ss (abstract_at app c.graph graph w l) v'
 
   -- and from c it goes there by the shadow of the event first
-  abbrev GoesFirst : Event → Type 0
+  abbrev pub GoesFirst : Event → Type 0
   GoesFirst e = IsAbstractRun app c.graph (node_bound c.graph) (shadow_of c e ++ ss) (abstract_of app c) v'
 
   row_shadow : (e : Event) (t' : ℕ → TreeRegs) (w' : ℕ → WaveRegs) (l' : ℕ → L)
@@ -62,13 +56,13 @@ module _ {L : Type 0} (app : App L) (c : Configuration L) (graph : IsGraph c.gra
       (nothing app c.graph graph (wave_of c) w' i _ (local_of app c) l' step.waves refl locals) on
   row_shadow (Open i) t' w' l' step locals on = (
     abstract_at app c.graph graph w' l',
-    opening app c.graph graph (node_bound c.graph) c.modulus shaped.modulus (tree_of c) t'
+    opening app c.graph graph (node_bound c.graph) c.modulus counted (tree_of c) t'
         (wave_of c) w' sound i (local_of app c) l' locals step,
     on,
   )
   row_shadow (Join i) t' w' l' step locals on =
       run_from app c.graph graph (node_bound c.graph) ss _ _ v'
-      (joining app c.graph graph (node_bound c.graph) c.modulus shaped.modulus (tree_of c) t' (wave_of c) w' sound i (local_of app c) l'
+      (joining app c.graph graph (node_bound c.graph) c.modulus counted (tree_of c) t' (wave_of c) w' sound i (local_of app c) l'
       locals step) on
   row_shadow (Finish i) t' w' l' step locals on =
       run_from app c.graph graph (node_bound c.graph) ss _ _ v'
@@ -121,29 +115,3 @@ module _ {L : Type 0} (app : App L) (c : Configuration L) (graph : IsGraph c.gra
       subst (λ w. GoesOn w (local_of app c')) waves (subst Goes step.graph on) in
       let First : Event → Type 0 = λ d. GoesFirst d in
       subst First (sym is) (act_shadow i case with c' step same)
-
--- ---- runs
-
-module _ {L : Type 0} (app : App L) where
-  pub run_shadow : (es : List Event) (ds : List Done) (c c' : Configuration L) → IsGraph c.graph
-      → IsShaped c → IsSound c → IsRun app c es ds c'
-      → IsAbstractRun app c.graph (node_bound c.graph) (shadow app c es ds) (abstract_of app c) (abstract_of app c')
-  run_shadow [] [] c c' graph shaped sound run = λ i node. ap (λ k. abstract_of app k i) run
-  run_shadow [] (d ∷ ds) c c' graph shaped sound run = absurd run
-  run_shadow (e ∷ es) [] c c' graph shaped sound run = absurd run
-  run_shadow (e ∷ es) (Did reply ∷ ds) c c' graph shaped sound run =
-      let m = run.0 in
-      let step : IsStep app c e m = (outcome_is_step app c graph shaped e m reply run.1).0 in
-      let same = step_graph app c m e step in
-      let rest =
-      run_shadow es ds m c' (subst IsGraph (sym same) graph)
-      (outcome_shaped app c shaped e m reply run.1) (step_sound app c m e graph step sound) run.2 in
-      let left : left_of c (outcome_of app c e) ≡ m = ap (left_of c) run.1 in
-      let Goes : Configuration L → Type 0 =
-      λ k. IsAbstractRun app c.graph (node_bound c.graph) (shadow_of c e ++ shadow app k es ds) (abstract_of app c)
-      (abstract_of app c') in
-      subst Goes (sym left)
-      (step_shadow app c graph shaped sound (shadow app m es ds) (abstract_of app c') e m step rest)
-  run_shadow (e ∷ es) (Refused f ∷ ds) c c' graph shaped sound run =
-      let From : Configuration L → Type 0 = λ k. IsRun app k es ds c' in
-      run_shadow es ds c c' graph shaped sound (subst From run.1.1 run.2)

@@ -10,6 +10,9 @@ pub mod EventText
 pub mod Runs
 pub mod WavePicture
 pub mod Sound
+pub mod Headline
+pub mod BySteps
+pub mod Progress
 pub mod Refinement
 pub mod Completion
 pub mod View

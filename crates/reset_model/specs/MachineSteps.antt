@@ -13,16 +13,9 @@ use Rattle.reset_model.specs.Steps.{event_node, is_act, RegsStep, RowRefused}
 -- what an event of the two tables leaves in the local state of its node: to open a session and to
 -- join one is to start anew
 abbrev pub local_effect : {L : Type 0} → App L → Graph → (ℕ → L) → Event → L
-local_effect app g l (Claim i) = l i
-local_effect app g l (Follow i) = l i
-local_effect app g l (Adopt i j) = l i
-local_effect app g l (Request i) = l i
-local_effect app g l (Relay i c) = l i
 local_effect app g l (Open i) = app.start g i
 local_effect app g l (Join i) = app.start g i
-local_effect app g l (Finish i) = l i
-local_effect app g l (Mend i) = l i
-local_effect app g l (Act i case with) = l i
+local_effect app g l e = l (event_node e)
 
 -- an event of the two tables takes the configuration c to c'
 pub record RowStep {L : Type 0} (app : App L) (c : Configuration L) (e : Event) (c' : Configuration L) : Type 0 where

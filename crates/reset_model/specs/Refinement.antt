@@ -1,6 +1,6 @@
 -- The abstract machine, which has neither tree nor waves nor sessions, and what a run of the reset
 -- machine is on it.
-use Rattle.std.specs.Prelude.{ℕ, Bool, ◌==◌, if◌then◌else◌, List, [], ◌∷◌, ◌++◌, Option, Result, Ok, Err}
+use Rattle.std.specs.Prelude.{ℕ, Bool, ◌==◌, if◌then◌else◌, List, [], ◌∷◌, Option}
 use Rattle.app_interface.specs.Application.{App, Action}
 use Rattle.app_interface.specs.Invariant.{SameAtNodes}
 use Rattle.topology.specs.Components.{leader, reaches}
@@ -8,12 +8,7 @@ use Rattle.topology.specs.Graph.{Graph}
 use Rattle.wave_layer.specs.declared.regs.WaveRegs.{WaveRegs}
 use Rattle.reset_model.specs.declared.event.Event.{Event}
 use Rattle.reset_model.specs.declared.event.Event.TheVariants.{Open, Act}
-use Rattle.reset_model.specs.declared.step.Done.{Done}
-use Rattle.reset_model.specs.declared.step.Done.TheVariants.{Did, Refused}
-use Rattle.reset_model.specs.declared.step.Reply.{Reply}
-use Rattle.reset_model.specs.declared.step.StepRefusal.{StepRefusal}
 use Rattle.reset_model.specs.Configuration.{Configuration, wave_of, local_of}
-use Rattle.reset_model.specs.Planned.{outcome_of}
 
 -- ---- the abstract machine, whose state is the local states of the nodes
 
@@ -55,24 +50,3 @@ abbrev pub shadow_of : {L : Type 0} → Configuration L → Event → List Abstr
 shadow_of c (Open i) = Reset i ∷ []
 shadow_of c (Act i case with) = if has_joined c.graph (wave_of c) i then Do i case with ∷ [] else []
 shadow_of c _ = []
-
--- the configuration that an outcome leaves of c
-abbrev pub left_of : {L : Type 0} → Configuration L → Result (Configuration L × Reply) StepRefusal → Configuration L
-left_of c (Ok after) = after.0
-left_of c (Err f) = c
-
--- the configuration after an event of which this came: what is refused changes nothing
-abbrev pub after : {L : Type 0} → App L → Configuration L → Event → Done → Configuration L
-after app c e (Did reply) = left_of c (outcome_of app c e)
-after app c e (Refused f) = c
-
--- the shadow of an event of which this came
-abbrev pub done_shadow : {L : Type 0} → Configuration L → Event → Done → List AbstractStep
-done_shadow c e (Did reply) = shadow_of c e
-done_shadow c e (Refused f) = []
-
--- the shadow of a list of events of which this came, in turn from c on
-abbrev pub shadow : {L : Type 0} → App L → Configuration L → List Event → List Done → List AbstractStep
-shadow app c [] ds = []
-shadow app c (e ∷ es) [] = []
-shadow app c (e ∷ es) (d ∷ ds) = done_shadow c e d ++ shadow app (after app c e d) es ds

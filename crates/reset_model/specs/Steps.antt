@@ -125,26 +125,17 @@ abbrev pub tree_effect : ℕ → (ℕ → TreeRegs) → Event → TreeRegs
 tree_effect K t (Claim i) = claimed i
 tree_effect K t (Follow i) = followed K (t i).father (t (t i).father)
 tree_effect K t (Adopt i j) = adopted j (t j)
-tree_effect K t (Request i) = t i
-tree_effect K t (Relay i c) = t i
-tree_effect K t (Open i) = t i
-tree_effect K t (Join i) = t i
-tree_effect K t (Finish i) = t i
-tree_effect K t (Mend i) = t i
-tree_effect K t (Act i case with) = t i
+tree_effect K t e = t (event_node e)
 
 -- what it leaves in the wave registers of its node
 abbrev pub wave_effect : ℕ → (ℕ → TreeRegs) → (ℕ → WaveRegs) → Event → WaveRegs
-wave_effect m t w (Claim i) = w i
-wave_effect m t w (Follow i) = w i
-wave_effect m t w (Adopt i j) = w i
 wave_effect m t w (Request i) = record { phase = Initiate; session = (w i).session }
 wave_effect m t w (Relay i c) = record { phase = Initiate; session = (w i).session }
 wave_effect m t w (Open i) = record { phase = Reset; session = next_session m (w i).session }
 wave_effect m t w (Join i) = record { phase = Reset; session = (w (t i).father).session }
 wave_effect m t w (Finish i) = record { phase = Normal; session = (w i).session }
 wave_effect m t w (Mend i) = w (t i).father
-wave_effect m t w (Act i case with) = w i
+wave_effect m t w e = w (event_node e)
 
 -- a reset is complete where a node that is its own father finishes
 abbrev pub reply_of : (ℕ → TreeRegs) → (ℕ → WaveRegs) → Event → Reply

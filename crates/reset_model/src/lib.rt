@@ -9,6 +9,7 @@ mod event_kind;
 mod laws;
 mod node_view;
 pub mod plan;
+mod program;
 mod run_laws;
 mod step;
 mod text;
@@ -21,7 +22,8 @@ pub use laws::{
     sound_is_quiet, states_stay, steps_stay_sound, views_decide, wave_pictures,
 };
 pub use node_view::{Near, View};
-pub use run_laws::{completions, invariants, joins_once, refinement, runs_stay_sound};
+pub use program::{Program, ProgramOf};
+pub use run_laws::{headline, runs_are_steps, runs_stay_sound, waves_end};
 pub use step::{Done, Reply, StepRefusal, reply_to};
 pub use text::{
     one_event_a_line, read_event, split_wave_event, split_word, two_numbers, word_and_neighbour,

@@ -1,7 +1,7 @@
 -- What node threads keep is a run of the abstract machine, whose reports are true.
 use Rattle.std.proofs.Common.{◌≡◌, ◌<◌, ◌≤◌, ◌+◌, ℕ, Bool, true, false, if◌then◌else◌, nat_eq, List, [], ◌∷◌}
 use Rattle.std.proofs.Common.{All, Contains, IsSome, Ok, Option, Some, None, ◌↔◌, arith, length, map, refl, sym}
-use Rattle.std.proofs.Common.{ap, ◌∙◌, subst, append-nil}
+use Rattle.std.proofs.Common.{ap, ◌∙◌, inl, subst, append-nil}
 use Rattle.std.proofs.lemmas.Bool.{eqb-true}
 use Rattle.std.proofs.lemmas.List.{length-append, length-map}
 use Rattle.std.proofs.lemmas.List.Elements.{All-contains, All-contains_itself, All-weaker}
@@ -17,6 +17,7 @@ use Rattle.topology.specs.declared.text.AppName.{AppName}
 use Rattle.topology.specs.declared.text.AppName.TheVariants.{Idle, Token, Mutex, Routes}
 use Rattle.reset_model.specs.declared.event.Event.{Event}
 use Rattle.reset_model.specs.Configuration.{Configuration, IsShaped, local_of, value_at}
+use Rattle.reset_model.specs.BySteps.{IsBySteps}
 use Rattle.reset_model.specs.Outcome.{IsBoot}
 use Rattle.reset_model.specs.Refinement.{abstract_of}
 use Rattle.reset_model.specs.Sound.{IsSound}
@@ -24,7 +25,7 @@ use Rattle.reset_model.specs.SoundSteps.{HoldsAt}
 use Rattle.history.specs.Entries.{replayed}
 use Rattle.history.specs.HistoryText.{IsReadAs}
 use Rattle.history.specs.Reports.{reports_of}
-use Rattle.history.specs.Stretches.{IsIn, IsReport, IsSoundStretch, IsStretch, IsTrueReport, Stretch, steps}
+use Rattle.history.specs.Stretches.{IsIn, IsReport, IsStretch, IsTrueReport, Stretch, steps}
 use Rattle.history.specs.declared.entry.Entry.{Entry}
 use Rattle.history.specs.declared.entry.Entry.TheVariants.{Step}
 use Rattle.history.specs.declared.entry.Report.{Report}
@@ -95,18 +96,19 @@ module _ {L : Type 0} (m : Meaning L) (Inv : Graph → (ℕ → L) → Type 0) w
       → All (λ r. IsIn s r.finished → IsTrueReport m.app m.from_text opening es s r)
       (reports_of m.app m.from_text opening es)
 
-  abbrev pub Refine : Type 0
-  Refine =
+  -- that stretches are steps, as it is known of any entries
+  abbrev pub AreSteps : Type 0
+  AreSteps =
       (opening : Configuration L) (es : List Entry) (s : Stretch L) → IsGraph opening.graph
       → IsShaped opening → IsStretch m.app m.from_text opening es s → IsSound s.here
-      → IsSoundStretch m.app Inv s
+      → IsBySteps m.app Inv s.here s.events s.left
 
   abbrev pub HoldBooted : Type 0
   HoldBooted =
       (g : Graph) (modulus : ℕ) (c : Configuration L) → IsGraph g → IsBoot m.app g modulus c
       → (i : ℕ) → IsNode c.graph i → HoldsAt m.app Inv c i
 
-  whole_stretch : (c left : Configuration L) (events : List Event)
+  pub whole_stretch : (c left : Configuration L) (events : List Event)
       → replayed m.app m.from_text c (steps events) ≡ Some left
       → IsStretch m.app m.from_text c (steps events) (whole c events left)
   unfolding replayed
@@ -125,11 +127,11 @@ module _ {L : Type 0} (m : Meaning L) (Inv : Graph → (ℕ → L) → Type 0) w
         omega (arith, is.told.place, count, all),
       )
 
-  value_of : {X : Type 0} (o : Option X) → IsSome o → (x : X) × (o ≡ Some x)
+  pub value_of : {X : Type 0} (o : Option X) → IsSome o → (x : X) × (o ≡ Some x)
   value_of (Some x) is = (x, refl)
   value_of None is = absurd (cc)
 
-  module _ (are : AreReports) (are_true : AreTrue) (refine : Refine) (hold : HoldBooted) (g : Graph)
+  module _ (are : AreReports) (are_true : AreTrue) (are_steps : AreSteps) (hold : HoldBooted) (g : Graph)
       (graph : IsGraph g) (modulus : ℕ) where
     tells : (history line : List ℕ) (c : Configuration L) → IsBoot m.app g modulus c
         → IsKept m c history (line, Good) → TellsRun m Inv g modulus history line
@@ -144,7 +146,7 @@ module _ {L : Type 0} (m : Meaning L) (Inv : Graph → (ℕ → L) → Type 0) w
         let here = has_graph m g graph modulus c boot in
         let shaped = is_shaped m g graph modulus c boot (read_modulus history c.modulus es read) in
         let sound = is_sound m g graph modulus c boot in
-        let lawful = refine c es s here shaped stretch sound in
+        let lawful : IsBySteps m.app Inv c events left = are_steps c es s here shaped stretch sound in
         let reports = reports_of m.app m.from_text c es in
         let known = are_true c es s here shaped stretch sound in
         record {
@@ -158,7 +160,7 @@ module _ {L : Type 0} (m : Meaning L) (Inv : Graph → (ℕ → L) → Type 0) w
           lawful = lawful;
           invariant = λ i node.
               let before : IsNode c.graph i = subst (λ h. IsNode h i) (sym boot.graph) node in
-              lawful.invariant i before (hold g modulus c graph boot i before);
+              lawful.3.keeps i before (inl (hold g modulus c graph boot i before));
           told = ap (λ (o : Output). o.0) is
               ∙ ap (λ (h : Graph). threads_line (length h.nodes) (length events) (length reports)) boot.graph;
           true_reports = All-weaker (Contains reports) (IsTrueReport m.app m.from_text c es s)

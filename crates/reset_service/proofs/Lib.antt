@@ -7,3 +7,4 @@ pub mod VerifiedReports
 pub mod Threading
 pub mod KeptRuns
 pub mod RecordedRuns
+pub mod SteppedHistories

@@ -6,3 +6,4 @@ pub mod Pictured
 pub mod Shaped
 pub mod Explained
 pub mod Tables
+pub mod Stepped

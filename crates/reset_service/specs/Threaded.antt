@@ -13,13 +13,14 @@ use Rattle.topology.specs.declared.text.AppName.{AppName}
 use Rattle.topology.specs.declared.text.AppName.TheVariants.{Idle, Token, Mutex, Routes}
 use Rattle.reset_model.specs.declared.event.Event.{Event}
 use Rattle.reset_model.specs.Configuration.{Configuration}
+use Rattle.reset_model.specs.BySteps.{IsBySteps}
 use Rattle.reset_model.specs.Outcome.{IsBoot}
 use Rattle.reset_model.specs.SoundSteps.{HoldsAt}
 use Rattle.reset_model.specs.Sound.{IsSound}
 use Rattle.history.specs.Entries.{replayed}
 use Rattle.history.specs.HistoryText.{IsReadAs, ended}
 use Rattle.history.specs.Reports.{reports_of}
-use Rattle.history.specs.Stretches.{IsSoundStretch, IsStretch, IsTrueReport, Stretch, steps}
+use Rattle.history.specs.Stretches.{IsStretch, IsTrueReport, Stretch, steps}
 use Rattle.reset_service.specs.Counts.{counts_line}
 use Rattle.reset_service.specs.Drove.{drove_line}
 use Rattle.script_replay.specs.Meaning.{Meaning, idle_meaning, token_meaning, mutex_meaning, routes_meaning}
@@ -106,7 +107,7 @@ abbrev pub whole : {L : Type 0} → Configuration L → List Event → Configura
 whole c events left = record { before = []; events = events; rest = []; here = c; left = left }
 
 -- a history and a line tell a run from the booted configuration of a graph, with sessions modulo this number, whose
--- registers are sound: its steps are one undisturbed stretch, which is a run of the abstract machine, in which the
+-- registers are sound: its steps are one undisturbed stretch, of which the headline holds, the
 -- application's fact Inv holds in each component at the end, and each of its reports is true. The line counts nodes, steps and reports
 pub record TellsRun {L : Type 0} (m : Meaning L) (Inv : Graph → (ℕ → L) → Type 0) (g : Graph) (modulus : ℕ)
     (history line : List ℕ) : Type 0 where
@@ -117,7 +118,7 @@ pub record TellsRun {L : Type 0} (m : Meaning L) (Inv : Graph → (ℕ → L) �
   pub sound : IsSound opening
   pub read : IsReadAs history (Ok (modulus, steps events))
   pub stretch : IsStretch m.app m.from_text opening (steps events) (whole opening events left)
-  pub lawful : IsSoundStretch m.app Inv (whole opening events left)
+  pub lawful : IsBySteps m.app Inv opening events left
   pub invariant : (i : ℕ) → IsNode g i → HoldsAt m.app Inv left i
   pub told : line ≡ threads_line (length g.nodes) (length events)
       (length (reports_of m.app m.from_text opening (steps events)))

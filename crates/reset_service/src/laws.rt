@@ -10,6 +10,7 @@ ghost use Rattle.reset_service.specs.Drove.{IsDroveText};
 ghost use Rattle.script_replay.specs.Meaning.{meaning_of};
 ghost use Rattle.script_replay.specs.Output.{Describes};
 ghost use Rattle.script_replay.specs.Recorded.{IsRecorded};
+ghost use Rattle.reset_service.specs.Stepped.{TellsStepsOf};
 ghost use Rattle.reset_service.specs.Threaded.{IsKeptFrom, IsThreaded, TellsRun, TellsRunOf};
 ghost use Rattle.reset_service.specs.Verified.{IsVerification, TellsTrueReportsOf};
 ghost use Rattle.script_replay.specs.declared.status.Status.{Status};
@@ -18,7 +19,7 @@ use app_interface::{Application, Idle};
 use app_mutex::EdgeReversal;
 use app_routes::Routes;
 use app_token::Token;
-use history::{one_reading_a_text, reports_are_completions, reports_are_true, stretches_refine};
+use history::{one_reading_a_text, reports_are_completions, reports_are_true, stretches_are_steps};
 
 /// A topology and a history are answered with one thing at most, status included.
 pub fn one_verification()
@@ -44,6 +45,20 @@ pub fn verified_reports_are_true()
     reports_are_true::<Routes>();
 }
 
+/// The history of a verification that ends well tells steps: it is that of entries each of which is allowed where it
+/// stands, from the booted configuration on, and each undisturbed stretch of it that begins in sound registers is steps
+/// that were taken in turn, of which the headline holds, and their waves end. The booted registers are sound.
+pub fn verified_histories_tell_steps()
+    ensures { (topology history written : List ℕ) → IsVerification topology history (written, Status.Good)
+        → (g : Graph) × (app : AppName) × (modulus : ℕ) × Describes topology g app modulus
+        × TellsStepsOf app g modulus history }
+{
+    stretches_are_steps::<Idle>();
+    stretches_are_steps::<Token>();
+    stretches_are_steps::<EdgeReversal>();
+    stretches_are_steps::<Routes>();
+}
+
 /// In a booted configuration the application's invariant holds in each component, of all nodes as they are.
 pub fn booted_invariants_hold<P: Application>()
     ensures { (g : Graph) (modulus : ℕ) (c : Configuration P.Local) → IsGraph g → IsBoot P.app g modulus c
@@ -59,14 +74,14 @@ pub fn kept_histories_are_runs<P: Application>()
     booted_invariants_hold::<P>();
     reports_are_completions::<P>();
     reports_are_true::<P>();
-    stretches_refine::<P>();
+    stretches_are_steps::<P>();
 }
 
 /// What a run of node threads that ends well means. Its topology describes a graph, and names an application and the
 /// number modulo which sessions are counted; its history names the same number, and is that of steps alone, one
-/// undisturbed stretch from the booted configuration on, whose registers are sound. So it is a run of the abstract
-/// machine, at its end the application's invariant holds in each component, and each of its reports is true; and the line counts its
-/// nodes, its entries and its reports.
+/// undisturbed stretch from the booted configuration on, whose registers are sound. So they are steps that were taken in
+/// turn, of which the headline holds, and their waves end; at their end the application's invariant holds in each
+/// component, and each report is true. The line counts the nodes, the entries and the reports.
 pub fn threads_keep_a_run()
     ensures { (topology history line : List ℕ) → IsThreaded topology history (line, Status.Good)
         → (g : Graph) × (app : AppName) × (modulus : ℕ) × Describes topology g app modulus

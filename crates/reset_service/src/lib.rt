@@ -28,13 +28,13 @@ pub use explained::{Explanation, explain};
 pub use laws::{
     booted_invariants_hold, driven_runs_are_verified, kept_histories_are_runs, one_driven_run,
     one_verification, recordings_are_verified, threads_are_verified, threads_keep_a_run,
-    verified_reports_are_true,
+    verified_histories_tell_steps, verified_reports_are_true,
 };
 pub use pictured::picture_text;
 pub use script_replay::{
     BufferedOutput, READ_LIMIT, RunStop, Status, check_text, one_joined_output, one_output,
     one_record, read_text, record_text, recordings_are_replays, replay, replay_joined, replay_text,
-    stretches_are_runs,
+    scripts_are_steps, stretches_are_runs,
 };
 pub use shaped::write_shape;
 pub use tables::print_tables;

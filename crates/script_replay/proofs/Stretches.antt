@@ -2,16 +2,19 @@
 use Rattle.std.proofs.Common.{◌≡◌, ℕ, ◌+◌, Bool, true, false, if◌then◌else◌, List, [], ◌∷◌, ◌++◌, Option, Some, None}
 use Rattle.std.proofs.Common.{Result, Ok, Err, refl, sym, subst, ◌∙◌}
 use Rattle.std.proofs.lemmas.List.Elements.{All-head, All-tail}
-use Rattle.topology.specs.Graph.{is_node}
+use Rattle.topology.specs.Graph.{IsGraph, is_node}
 use Rattle.link_predicates.specs.Faults.{alarm_of}
 use Rattle.link_predicates.specs.declared.fault.LinkFault.{LinkFault}
-use Rattle.reset_model.specs.Configuration.{Configuration}
+use Rattle.reset_model.specs.Configuration.{Configuration, IsShaped}
 use Rattle.reset_model.specs.Planned.{outcome_of}
 use Rattle.reset_model.specs.Runs.{IsDone, IsRun}
 use Rattle.reset_model.specs.declared.event.Event.{Event}
 use Rattle.reset_model.specs.declared.step.Reply.{Reply}
 use Rattle.reset_model.specs.declared.step.StepRefusal.{StepRefusal}
 use Rattle.reset_model.specs.declared.step.StepRefusal.TheVariants.{StrangeNode}
+use Rattle.reset_model.proofs.RunShadows.{step_graph}
+use Rattle.reset_model.proofs.RunSteps.{applied_done, refused_done}
+use Rattle.reset_model.proofs.Shapes.{outcome_shaped}
 use Rattle.script_replay.specs.Meaning.{Meaning}
 use Rattle.script_replay.specs.Output.{after_alarm, answer_to, answered, answers, if_good, refusal_text, stepped}
 use Rattle.script_replay.specs.Output.{told_after, watched, Answer}
@@ -36,14 +39,27 @@ module _ {L : Type 0} (m : Meaning L) where
   left c (e ∷ es) = left (next c e) es
 
   is_answer : (c : Configuration L) (e : Event) (o : Result (Configuration L × Reply) StepRefusal)
-      → outcome_of m.app c e ≡ o
+      → IsGraph c.graph → IsShaped c → outcome_of m.app c e ≡ o
       → IsDone m.app c e (event_answer o) (stepped c o).0
-  is_answer c e (Ok r) is = is
-  is_answer c e (Err refusal) is = ((λ memory. is), refl)
+  is_answer c e (Ok r) graph shaped is = applied_done m.app c r.0 e r.1 graph shaped is
+  is_answer c e (Err refusal) graph shaped is = refused_done m.app c e refusal graph shaped is
 
-  is_run : (c : Configuration L) (es : List Event) → IsRun m.app c es (event_answers m.app c es) (left c es)
-  is_run c [] = refl
-  is_run c (e ∷ es) = (next c e, is_answer c e (outcome_of m.app c e) refl, is_run (next c e) es)
+  -- an event leaves a graph and its shape
+  stays : (c : Configuration L) (e : Event) (o : Result (Configuration L × Reply) StepRefusal)
+      → IsGraph c.graph → IsShaped c → outcome_of m.app c e ≡ o
+      → IsGraph (stepped c o).0.graph × IsShaped (stepped c o).0
+  stays c e (Ok r) graph shaped is =
+      let step = (applied_done m.app c r.0 e r.1 graph shaped is).0 in
+      (subst IsGraph (sym (step_graph m.app c r.0 e step)) graph, outcome_shaped m.app c shaped e r.0 r.1 is)
+  stays c e (Err refusal) graph shaped is = (graph, shaped)
+
+  is_run : (c : Configuration L) (es : List Event) → IsGraph c.graph → IsShaped c
+      → IsRun m.app c es (event_answers m.app c es) (left c es)
+  is_run c [] graph shaped = refl
+  is_run c (e ∷ es) graph shaped =
+      let o = outcome_of m.app c e in
+      let there = stays c e o graph shaped refl in
+      (next c e, is_answer c e o graph shaped refl, is_run (next c e) es there.0 there.1)
 
   -- ---- a node that watches
 
@@ -119,7 +135,7 @@ module _ {L : Type 0} (m : Meaning L) where
       λ c. some_left c n line lines (All-head P line lines calm) (lines_left lines (n + 1) (All-tail P line lines calm))
 
   pub lines_make_run : (c : Configuration L) (n : ℕ) (lines : List (List ℕ)) → AreUndisturbed m.names lines
-      → MakeRun m c n lines
-  lines_make_run c n lines calm =
+      → IsGraph c.graph → IsShaped c → MakeRun m c n lines
+  lines_make_run c n lines calm graph shaped =
       let es = events_of_lines m c n lines in
-      subst (λ d. IsRun m.app c es (event_answers m.app c es) d) (sym (lines_left lines n calm c)) (is_run c es)
+      subst (λ d. IsRun m.app c es (event_answers m.app c es) d) (sym (lines_left lines n calm c)) (is_run c es graph shaped)

@@ -4,10 +4,11 @@ use Rattle.topology.specs.Graph.{Graph, is_node}
 use Rattle.app_interface.specs.Application.{App}
 use Rattle.link_predicates.specs.Faults.{alarm_of}
 use Rattle.link_predicates.specs.declared.fault.LinkFault.{LinkFault}
+use Rattle.reset_model.specs.Completion.{applied}
 use Rattle.reset_model.specs.Configuration.{Configuration}
+use Rattle.reset_model.specs.BySteps.{IsBySteps}
 use Rattle.reset_model.specs.Planned.{outcome_of}
 use Rattle.reset_model.specs.Runs.{IsRun}
-use Rattle.reset_model.specs.SoundSteps.{IsSoundRun}
 use Rattle.reset_model.specs.declared.event.Event.{Event}
 use Rattle.reset_model.specs.declared.event.Event.TheVariants.{Request}
 use Rattle.reset_model.specs.declared.step.Done.{Done}
@@ -73,9 +74,9 @@ abbrev pub MakeRun : {L : Type 0} → Meaning L → Configuration L → ℕ → 
 MakeRun m c n lines =
     let es = events_of_lines m c n lines in IsRun m.app c es (event_answers m.app c es) (answers m c n lines).config
 
--- the same of a run that keeps and tells what runs from a sound configuration do
-abbrev pub MakeSoundRun : {L : Type 0} → Meaning L → (Graph → (ℕ → L) → Type 0) → Configuration L → ℕ → List (List ℕ)
+-- from c to what the lines leave, those of their events that are applied are steps, of which the headline holds
+abbrev pub MakeSteps : {L : Type 0} → Meaning L → (Graph → (ℕ → L) → Type 0) → Configuration L → ℕ → List (List ℕ)
     → Type 0
-MakeSoundRun m Inv c n lines =
-    let es =
-    events_of_lines m c n lines in IsSoundRun m.app Inv c es (event_answers m.app c es) (answers m c n lines).config
+MakeSteps m Inv c n lines =
+    let es = events_of_lines m c n lines in
+    IsBySteps m.app Inv c (applied es (event_answers m.app c es)) (answers m c n lines).config

@@ -22,7 +22,8 @@ pub use answer::{put_numbered, put_topology_fault};
 pub use buffered_output::BufferedOutput;
 pub use input::{READ_LIMIT, read_text};
 pub use laws::{
-    one_joined_output, one_output, one_record, recordings_are_replays, stretches_are_runs,
+    one_joined_output, one_output, one_record, recordings_are_replays, scripts_are_steps,
+    stretches_are_runs,
 };
 pub use network::{Network, read_network};
 pub use recorded::record_text;

@@ -1,5 +1,7 @@
 // Runs with a thread for each node, on several topologies.
 
+ghost use Rattle.std.specs.Prelude.{◌≤◌};
+
 use crate::assert_equal;
 use crate::choice::takes;
 use crate::topologies::{booted, grid, line, line_and_pair, opened, ring, star};
@@ -17,8 +19,15 @@ use std::sync::Wait;
 use std::thread::Threads;
 use topology::Topology;
 
-// How many turns each node takes in a run.
-const TURNS: u32 = 100;
+// How many turns each node takes in a run on this shape. Most of them are entries, and the star's are the longest to judge.
+fn turns_of(shape: Shape) -> u32
+    ensures { result ≤ 100 }
+{
+    match shape {
+        Shape::Star => 10,
+        _ => 100,
+    }
+}
 
 // How many runs of an application there are on each topology.
 const RUNS: u32 = 10;
@@ -152,7 +161,7 @@ fn run<P: Application, R: Threads + Wait + Sync + Abort>(
     shape: Shape,
 ) -> Vec<Event> {
     let book = opened::<P>(rt, alloc, topology_of(rt, alloc, shape));
-    match run_nodes(rt, alloc, &Still, book, TURNS, Some(1)) {
+    match run_nodes(rt, alloc, &Still, book, turns_of(shape), Some(1)) {
         Ok(outcome) => {
             let steps = steps_of(rt, alloc, &outcome.book);
             assert!(rt; steps.contains(&Event::Request { at: 1 }));

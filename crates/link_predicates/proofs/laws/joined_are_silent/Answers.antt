@@ -1,8 +1,9 @@
-use Rattle.std.proofs.Common.{◌≤◌, ap, length, sym, subst, arith}
+use Rattle.std.proofs.Common.{◌≤◌, Contains, ap, inr, length, sym, subst, arith}
 use Rattle.topology.specs.Components.{component}
 use Rattle.topology.specs.Graph.{IsGraph, IsNode, node_bound}
 use Rattle.topology.proofs.Components.{component_is, reached_itself}
 use Rattle.reset_model.specs.Refinement.{abstract_of}
+use Rattle.reset_model.specs.declared.event.Event.TheVariants.{Open}
 use Rattle.link_predicates.proofs.Silence.{silent}
 use Rattle.link_predicates.proofs.laws.joined_are_silent.Goals as goal
 
@@ -19,17 +20,18 @@ returns-clause-invariant g c = λ config i graph inv joined.
     ((part.same_links i j).1 (reached_itself config.graph i, linked)))
 
 pub returns-clause-opened : goal.returns-clause-opened
-returns-clause-opened g c = λ before after es ds i o graph shaped sound run reached opened joined.
+returns-clause-opened g c = λ before after es ds i o graph counted sound run reached opened joined.
     let app = g.P.Application.app in
     let laws = g.met.P.Application g.world.𝓛 g.world.𝓜 g.world.𝓡 ((λ s x. x), (λ x. x), (λ x. x), λ x. x) in
-    let kept = c.runs_stay_sound.ensures before after es ds graph shaped sound run in
+    let kept = c.runs_stay_sound.ensures before after es ds graph counted sound run in
+    let by_steps = c.runs_are_steps.ensures before after es ds graph counted sound run in
     let there : IsGraph after.graph = subst IsGraph (sym kept.0) graph in
     silent app after there i joined
     (λ j linked.
     let node : IsNode after.graph i = there.ends i j linked in
     let inv =
-    c.invariants.ensures.opened before after es ds graph shaped sound run i (subst (λ h. IsNode h i) kept.0 node) o
-    reached opened in
+    by_steps.3.keeps i (subst (λ h. IsNode h i) kept.0 node)
+    (inr (o, reached, subst (λ xs. Contains xs (Open o)) (sym by_steps.1) opened)) in
     let part = component_is after.graph i there node in
     let few : length (component after.graph i).ids ≤ node_bound after.graph =
     omega (arith, ap (λ xs. length xs) part.ids) in

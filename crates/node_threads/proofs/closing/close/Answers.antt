@@ -6,7 +6,7 @@ pub returns-in-Err-clause-err : goal.returns-in-Err-clause-err
 returns-in-Err-clause-err g c =
     let app = g.P.Application.app in
     let from_text = g.P.Application.from_text in
-    let l = c.into_inner-locked.result in
+    let l = c.into_inner-locked.result.locked in
     record {
       book = l.book;
       total = l.tally.total;
@@ -20,7 +20,7 @@ returns-in-Err-clause-err g c =
 
 pub returns-in-Err-with_capacity-clause-err : goal.returns-in-Err-with_capacity-clause-err
 returns-in-Err-with_capacity-clause-err g c =
-    let l = c.into_inner-locked.result in
+    let l = c.into_inner-locked.result.locked in
     record {
       book = l.book;
       total = l.tally.total;

@@ -3,17 +3,11 @@ use Rattle.node_choices.specs.Choice.{next_of}
 use Rattle.node_threads.proofs.Turning.{a_turn, full_book, kept_before, most_with, no_turn}
 use Rattle.node_threads.proofs.turns.turn_on.Goals as goal
 
-pub returns-in-Ok-None-clause-turns : goal.returns-in-Ok-None-clause-turns
-returns-in-Ok-None-clause-turns g c = no_turn _ _ _ _ _ _ _ refl
-
 pub returns-in-Err-clause-turns : goal.returns-in-Err-clause-turns
 returns-in-Err-clause-turns g c = no_turn _ _ _ _ _ _ _ refl
 
 pub returns-in-Err-NoMemory-clause-turns : goal.returns-in-Err-NoMemory-clause-turns
 returns-in-Err-NoMemory-clause-turns g c = no_turn _ _ _ _ _ _ _ refl
-
-pub returns-in-Err-plan-clause-turns : goal.returns-in-Err-plan-clause-turns
-returns-in-Err-plan-clause-turns g c = no_turn _ _ _ _ _ _ _ refl
 
 pub returns-in-Ok-commit-clause-turns : goal.returns-in-Ok-commit-clause-turns
 returns-in-Ok-commit-clause-turns g c =
@@ -22,7 +16,7 @@ returns-in-Ok-commit-clause-turns g c =
     let app = g.P.Application.app in
     a_turn app g.P.Application.from_text _ _ _ _ _ c.in-Ok.plan.view c.in-Ok.plan.event c.in-Ok-commit._receipt
     (ap (λ s. s.receipts) told.seat) told.yours.seen
-    (ap (next_of app) made.0 ∙ sym c.in-Ok-Some.ensures ∙ c.in-Ok-Some.field-0-is ∙ ap Some (sym made.1))
+    (ap (next_of app) made.0 ∙ c.requires ∙ ap Some (sym made.1))
     told.told.0 told.ok
 
 pub returns-clause-turns : goal.returns-clause-turns
@@ -40,12 +34,6 @@ returns-in-Ok-commit-clause-kept g c =
 pub returns-in-Ok-commit-clause-most : goal.returns-in-Ok-commit-clause-most
 returns-in-Ok-commit-clause-most g c = most_with _ _ c.in-Ok-commit._receipt c.in-Ok-commit.ensures.seat
 
-pub returns-in-Ok-None-clause-most : goal.returns-in-Ok-None-clause-most
-returns-in-Ok-None-clause-most g c = omega arith
-
-pub returns-in-Ok-None-clause-kept : goal.returns-in-Ok-None-clause-kept
-returns-in-Ok-None-clause-kept g c = take_all _ c.args.seat.now.receipts (omega arith)
-
 pub returns-in-Err-clause-most : goal.returns-in-Err-clause-most
 returns-in-Err-clause-most g c = omega arith
 
@@ -57,12 +45,6 @@ returns-in-Err-NoMemory-clause-most g c = omega arith
 
 pub returns-in-Err-NoMemory-clause-kept : goal.returns-in-Err-NoMemory-clause-kept
 returns-in-Err-NoMemory-clause-kept g c = take_all _ c.args.seat.now.receipts (omega arith)
-
-pub returns-in-Err-plan-clause-most : goal.returns-in-Err-plan-clause-most
-returns-in-Err-plan-clause-most g c = omega arith
-
-pub returns-in-Err-plan-clause-kept : goal.returns-in-Err-plan-clause-kept
-returns-in-Err-plan-clause-kept g c = take_all _ c.args.seat.now.receipts (omega arith)
 
 pub returns-clause-most : goal.returns-clause-most
 returns-clause-most g c = omega (arith, ap (λ s. length s.receipts) c.in-Err-commit.ensures.kept.0)

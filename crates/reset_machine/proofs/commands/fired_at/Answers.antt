@@ -1,4 +1,4 @@
-use Rattle.std.proofs.Common.{refl, sym, ap, position, ◌==◌, ◌∙◌}
+use Rattle.std.proofs.Common.{ap, position, ◌==◌, ◌∙◌}
 use Rattle.reset_model.proofs.NodePositions.{a_node}
 use Rattle.reset_machine.proofs.CommandRows.{fired_here}
 use Rattle.reset_machine.proofs.commands.fired_at.Goals as goal

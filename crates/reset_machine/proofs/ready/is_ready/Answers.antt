@@ -1,5 +1,4 @@
-use Rattle.std.proofs.Common.{Bool, Result, sym, ap, ap₂, subst, ◌&&◌, ◌∙◌, slice_index}
-use Rattle.topology.specs.Graph.{Graph, is_node}
+use Rattle.std.proofs.Common.{sym, ap, ap₂, ◌&&◌, ◌∙◌, slice_index}
 use Rattle.topology.proofs.Membership.{Contains-has}
 use Rattle.reset_machine.specs.Enabled.{has_work_at}
 use Rattle.reset_machine.proofs.StepShadows.{if_ok}

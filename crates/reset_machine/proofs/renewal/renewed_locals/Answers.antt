@@ -1,6 +1,6 @@
 use Rattle.std.proofs.Common.{◌≡◌, ◌<◌, length, ap, sym, ◌∙◌, arith}
 use Rattle.reset_model.specs.Topologies.{comes_up}
-use Rattle.reset_machine.proofs.Renewing.{AreRenewed, all_renewed, none_renewed, one_kept, one_renewed}
+use Rattle.reset_machine.proofs.Renewing.{all_renewed, none_renewed, one_kept, one_renewed}
 use Rattle.reset_machine.proofs.StepClauses.{start_is}
 use Rattle.reset_machine.proofs.renewal.renewed_locals.Goals.{then-comes_up+in_ok-after-2, else-comes_up}
 use Rattle.reset_machine.proofs.renewal.renewed_locals.Goals as goal

@@ -6,5 +6,5 @@ pub returns : goal.returns
 returns g c =
     let m = meaning_of g.P.Application.app g.P.Application.text g.P.Application.from_text g.P.Application.names in
     λ h modulus history line graph. tells_run m g.P.Application.Inv
-    c.reports_are_completions.ensures.exactly c.reports_are_true.ensures c.stretches_refine.ensures
+    c.reports_are_completions.ensures.exactly c.reports_are_true.ensures c.stretches_are_steps.ensures
     c.booted_invariants_hold.ensures h graph modulus history line

@@ -14,11 +14,5 @@ returns-clause-lawful g c = λ d n lines calm graph shaped sound.
     let es = events_of_lines m d n lines in
     let ds = event_answers m.app d es in
     let last = (answers m d n lines).config in
-    let run = lines_make_run m d n lines calm in
-    record {
-      sound = (c.runs_stay_sound.ensures d last es ds graph shaped sound run).2;
-      refines = c.refinement.ensures d last es ds graph shaped sound run;
-      invariant = c.invariants.ensures.kept d last es ds graph shaped sound run;
-      restored = c.invariants.ensures.opened d last es ds graph shaped sound run;
-      completion = c.completions.ensures d last es ds graph shaped sound run;
-    }
+    let run = lines_make_run m d n lines calm graph shaped in
+    c.runs_are_steps.ensures d last es ds graph shaped.modulus sound run

@@ -6,36 +6,36 @@ use Rattle.node_threads.proofs.sharing.Shared.step.Goals as goal
 
 pub returns-clause-told : goal.returns-clause-told
 returns-clause-told g c =
-    if_ok c.step_in.result _ _ (λ receipt done. (booked_entered g.P.Application.app _ c.args.event _ receipt
-    done.0).event) c.step_in.ensures.ok
+    if_ok c.step_in-done.result _ _ (λ receipt done. (booked_entered g.P.Application.app _ c.args.event _ receipt
+    done.0).event) c.step_in-done.ensures.ok
 
 pub returns-clause-seat : goal.returns-clause-seat
-returns-clause-seat g c = if_ok c.step_in.result _ _ (λ receipt is. is.1) c.step_in.ensures.ok
+returns-clause-seat g c = if_ok c.step_in-done.result _ _ (λ receipt is. is.1) c.step_in-done.ensures.ok
 
 pub returns-clause-kept : goal.returns-clause-kept
-returns-clause-kept g c = on_err c.step_in.result _ _ (λ is. is.2) c.step_in.ensures.kept
+returns-clause-kept g c = on_err c.step_in-done.result _ _ (λ is. is.2) c.step_in-done.ensures.kept
 
 pub returns-clause-ok : goal.returns-clause-ok
 returns-clause-ok g c =
     let locked =
-    subst (λ l. IsLocked g.P.Application.app g.P.Application.from_text l.book g.L.Round.mark l.tally.total
+    subst (λ d. IsLocked g.P.Application.app g.P.Application.from_text d.locked.book g.L.Round.mark d.locked.tally.total
     g.L.Round.seats) (c.deref.ensures ∙ sym c.deref_mut.ensures.value) c.lemma_is_locked.ensures.locked in
-    if_ok c.step_in.result _ _ (λ receipt is. was_locked _ _ _ _ _ _ locked _ (record {
-      after = c.step_in.new.self.book;
+    if_ok c.step_in-done.result _ _ (λ receipt is. was_locked _ _ _ _ _ _ locked _ (record {
+      after = c.step_in-done.new.self.book;
       done = is.0;
     }))
-    c.step_in.ensures.ok
+    c.step_in-done.ensures.ok
 
 pub returns-clause-err : goal.returns-clause-err
 returns-clause-err g c =
     let locked =
-    subst (λ l. IsLocked g.P.Application.app g.P.Application.from_text l.book g.L.Round.mark l.tally.total
+    subst (λ d. IsLocked g.P.Application.app g.P.Application.from_text d.locked.book g.L.Round.mark d.locked.tally.total
     g.L.Round.seats) (c.deref.ensures ∙ sym c.deref_mut.ensures.value) c.lemma_is_locked.ensures.locked in
-    if_err c.step_in.result _ _ (λ f is. was_locked _ _ _ _ _ _ locked _ is) c.step_in.ensures.err
+    if_err c.step_in-done.result _ _ (λ f is. was_locked _ _ _ _ _ _ locked _ is) c.step_in-done.ensures.err
 
 pub returns-clause-yours : goal.returns-clause-yours
-returns-clause-yours g c = c.step_in.ensures.yours
+returns-clause-yours g c = c.step_in-done.ensures.yours
 
 pub returns-clause-not_yours : goal.returns-clause-not_yours
 returns-clause-not_yours g c =
-    event_not_yours g.P.Application.app _ _ c.args.event c.step_in.result c.step_in.ensures.yours c.step_in.ensures.err
+    event_not_yours g.P.Application.app _ _ c.args.event c.step_in-done.result c.step_in-done.ensures.yours c.step_in-done.ensures.err

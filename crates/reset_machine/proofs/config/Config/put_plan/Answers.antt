@@ -48,7 +48,6 @@ returns-clause-lawful g c =
     let is =
     put-planned app now c.args.plan.view e c.into_effect.result c.args.plan.reply seen c.into_effect.ensures
     ∙ ap₂ (λ d r. Ok (d, r)) (sym written) (sym c.reply-reply.ensures) in
-    sound_step app g.P.Application.Inv now new e graph shaped
-    (λ reply run sound. c.invariants.ensures.kept now new (e ∷ []) (Did reply ∷ []) graph shaped sound run)
-    (λ reply run sound. c.invariants.ensures.opened now new (e ∷ []) (Did reply ∷ []) graph shaped sound run)
-    (Ok c.reply-reply.result) is
+    sound_step app g.P.Application.Inv now new e
+    (λ reply sound run. c.runs_are_steps.ensures now new (e ∷ []) (Did reply ∷ []) graph shaped.modulus sound run)
+    graph shaped (Ok c.reply-reply.result) is

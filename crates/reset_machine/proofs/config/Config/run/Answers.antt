@@ -1,6 +1,7 @@
+use Rattle.reset_model.specs.Completion.{applied}
+use Rattle.reset_model.specs.BySteps.{IsBySteps}
 use Rattle.reset_model.specs.Runs.{IsRun}
 use Rattle.reset_model.specs.Sound.{IsSound}
-use Rattle.reset_model.specs.SoundSteps.{IsSoundRun}
 use Rattle.reset_machine.proofs.StepShadows.{if_ok}
 use Rattle.reset_machine.proofs.config.Config.run.Goals as goal
 
@@ -13,12 +14,6 @@ returns-clause-lawful g c =
     let graph = c.lemma_is_graph.ensures.graph in
     let shaped = c.lemma_is_graph.ensures.shaped in
     if_ok (λ done. IsRun app now es done.items new)
-    (λ done. IsSound now → IsSoundRun app g.P.Application.Inv now es done.items new)
-    (λ done run sound. record {
-      sound = c.run_all.ensures.sound sound;
-      refines = c.refinement.ensures now new es done.items graph shaped sound run;
-      invariant = c.invariants.ensures.kept now new es done.items graph shaped sound run;
-      restored = c.invariants.ensures.opened now new es done.items graph shaped sound run;
-      completion = c.completions.ensures now new es done.items graph shaped sound run;
-    })
+    (λ done. IsSound now → IsBySteps app g.P.Application.Inv now (applied es done.items) new)
+    (λ done run sound. c.runs_are_steps.ensures now new es done.items graph shaped.modulus sound run)
     c.run_all.result c.run_all.ensures.ok

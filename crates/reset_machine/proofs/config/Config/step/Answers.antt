@@ -20,9 +20,8 @@ returns g c =
       reply = done_reply app now new e graph shaped r is;
       err = done_refused app now new e graph shaped r is;
       kept = c.perform.ensures.kept;
-      lawful = sound_step app Inv now new e graph shaped
-          (λ reply run sound. c.invariants.ensures.kept now new (e ∷ []) (Did reply ∷ []) graph shaped sound run)
-          (λ reply run sound. c.invariants.ensures.opened now new (e ∷ []) (Did reply ∷ []) graph shaped sound run) r
-          is;
+      lawful = sound_step app Inv now new e
+          (λ reply sound run.
+          c.runs_are_steps.ensures now new (e ∷ []) (Did reply ∷ []) graph shaped.modulus sound run) graph shaped r is;
       outcome = is;
     }

@@ -1,6 +1,6 @@
 use Rattle.std.proofs.Common.{arith, refl, ◌∙◌}
 use Rattle.node_threads.proofs.Turning.{kept_before, no_turn, turns_on}
-use Rattle.node_threads.proofs.turns.node_turns.Goals as goal
+use Rattle.node_threads.proofs.turns.take_turns.Goals as goal
 
 pub loop-turn-init : goal.loop-turn-init
 loop-turn-init g c =

@@ -1,7 +1,7 @@
 -- No more receipts than turns were added, each of a turn, and none was taken away.
 use Rattle.std.proofs.Common.{◌≡◌, ◌+◌, ◌≤◌, length, take}
 use Rattle.node_threads.specs.Turns.{AddsTurns}
-use Rattle.node_threads.proofs.turns.node_turns.Given as goal
+use Rattle.node_threads.proofs.turns.take_turns.Given as goal
 
 abbrev pub invariant-loop-turn : goal.invariant-loop-turn
 invariant-loop-turn g l = record {
