@@ -18,6 +18,8 @@ mod nodes;
 mod positions;
 #[cfg(test)]
 mod texts;
+#[cfg(test)]
+mod writes;
 
 // `assert_eq!` in a function of its own, which is proved once: where the macro stands, it is proved each time anew,
 // with all that the test holds there.

@@ -85,6 +85,39 @@ fn segment_border(rt: HostRuntime) {
     drop(book);
 }
 
+// Does what the entry at this position says, if there is one.
+fn plays(
+    rt: &impl Abort,
+    alloc: Global,
+    book: &Book<Idle>,
+    position: usize,
+    config: &mut Config<Idle>,
+) {
+    if let Some(Entry::Step(event)) = book.entry(position) {
+        assert!(rt; config.step(alloc, *event).is_ok());
+    }
+}
+
+// The configuration of the book at this position has the registers of this one.
+fn was(rt: &impl Abort, alloc: Global, book: &Book<Idle>, position: usize, config: &Config<Idle>) {
+    let then = config_of(rt, alloc, book, position);
+    assert!(rt; then.trees() == config.trees() && then.waves() == config.waves());
+    drop(then);
+}
+
+#[test]
+fn each_position_of_two_segments(rt: HostRuntime) {
+    let book = resets_of_one(&rt, rt.alloc());
+    let mut config = single(&rt, rt.alloc());
+    for position in 0..=1026 {
+        was(&rt, rt.alloc(), &book, position, &config);
+        plays(&rt, rt.alloc(), &book, position + 1, &mut config);
+    }
+    has_no_position(&rt, rt.alloc(), &book, 1027);
+    drop(book);
+    drop(config);
+}
+
 // The entries are those of the book, from its first on.
 fn are_those_of(book: &Book<Idle>, entries: &[Entry]) -> bool {
     for (index, entry) in entries.iter().enumerate() {

@@ -265,6 +265,13 @@ fn reads_piece_by_piece(rt: HostRuntime) {
     is_no_history(&rt, rt.alloc(), &mut Endless, BookFault::BadLine(1));
 }
 
+// Its entries have no end.
+#[test]
+fn too_many_entries_are_not_read(rt: HostRuntime) {
+    let mut joins = Joins { begun: false };
+    is_no_history(&rt, rt.alloc(), &mut joins, BookFault::TooLong);
+}
+
 #[test]
 fn each_failed_read_is_told(rt: HostRuntime) {
     for stop in 1..=16 {
