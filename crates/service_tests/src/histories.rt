@@ -24,56 +24,6 @@ fn written(alloc: Global, out: &mut FailingWriter) -> Result<Status, RunStop> {
 }
 
 #[test]
-fn one_wave_is_verified(rt: HostRuntime) {
-    let mut out = Vec::new(rt.alloc());
-    let mut history = WAVE;
-    let result = verify_text(rt.alloc(), LINE, &mut history, &mut out);
-    assert_equal(&rt, result, Ok(Status::Good));
-    assert_equal(&rt, out.as_slice(), VERIFIED);
-}
-
-#[test]
-fn a_history_of_another_modulus_is_told(rt: HostRuntime) {
-    let mut out = Vec::new(rt.alloc());
-    let mut history = b"reset-history 2 8\nrequest 1\n".as_slice();
-    let result = verify_text(rt.alloc(), LINE, &mut history, &mut out);
-    assert_equal(&rt, result, Ok(Status::BadInput));
-    assert_equal(
-        &rt,
-        out.as_slice(),
-        b"bad history OtherModulus 8\n".as_slice(),
-    );
-}
-
-// Only version 3 has nodes that go down.
-#[test]
-fn an_older_history_has_no_node_that_goes_down(rt: HostRuntime) {
-    let mut out = Vec::new(rt.alloc());
-    let mut history = b"reset-history 2 8\nfault off 3\n".as_slice();
-    let result = verify_text(rt.alloc(), LINE, &mut history, &mut out);
-    assert_equal(&rt, result, Ok(Status::BadInput));
-    assert_equal(&rt, out.as_slice(), b"bad history BadLine 2\n".as_slice());
-}
-
-#[test]
-fn a_node_that_is_down_asks_for_nothing(rt: HostRuntime) {
-    let mut out = Vec::new(rt.alloc());
-    let mut history = b"reset-history 3 4294967296\nfault off 3\nrequest 3\n".as_slice();
-    let result = verify_text(rt.alloc(), LINE, &mut history, &mut out);
-    assert_equal(&rt, result, Ok(Status::NotEnabled));
-    assert_equal(&rt, out.as_slice(), b"not enabled at 2\n".as_slice());
-}
-
-#[test]
-fn an_early_join_is_not_enabled(rt: HostRuntime) {
-    let mut out = Vec::new(rt.alloc());
-    let mut history = b"reset-history 1\nrequest 3\nopen 3\njoin 1\n".as_slice();
-    let result = verify_text(rt.alloc(), LINE, &mut history, &mut out);
-    assert_equal(&rt, result, Ok(Status::NotEnabled));
-    assert_equal(&rt, out.as_slice(), b"not enabled at 3\n".as_slice());
-}
-
-#[test]
 fn a_failed_read_writes_nothing(rt: HostRuntime) {
     for stop in 1..=WAVE.len() / 7 + 2 {
         let mut out = Vec::new(rt.alloc());

@@ -1,5 +1,5 @@
-//! Tests of the service's library by its public calls. What it answers to single lines is shown on the
-//! program itself.
+//! Tests of the service's library by its public calls, over readers and writers that fail. What it answers to texts is
+//! shown on the program itself.
 #![tactic(auto)]
 
 #[cfg(test)]
@@ -11,8 +11,6 @@ use std::process::Abort;
 mod buffer;
 #[cfg(test)]
 mod calls;
-#[cfg(test)]
-mod checks;
 #[cfg(test)]
 mod histories;
 #[cfg(test)]
