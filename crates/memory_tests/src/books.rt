@@ -2,13 +2,13 @@
 
 use crate::assert_equal;
 use crate::networks::{booted, line, opened};
-use crate::page::Picture;
+use crate::page::Record;
 use app_interface::Idle;
 use app_token::Token;
 use fault_inject::Fault;
 use history::{
     ApplyRefusal, AtFault, Book, BookFault, BookRefusal, DisturbRefusal, Entry, ReaderFault,
-    VerifyFault, read_book, verify, verify_reader,
+    Summary, VerifyFault, read_book, verify, verify_reader,
 };
 use reset_machine::{Config, Event, Plan, Reply, StepRefusal, View};
 use std::alloc::Global;
@@ -22,10 +22,9 @@ const REFUSED: &[u8] = b"reset-history 1\nrequest 3\nopen 3\njoin 1\n";
 
 // Takes the step, though memory is refused once; then the book is as before.
 fn enter(rt: &impl Abort, alloc: Global, book: &mut Book<Token>, event: Event) {
-    let before = Picture::of(rt, book.config());
-    let (len, reports) = (book.len(), book.reports().len());
+    let before = Record::of(rt, book);
     let receipt = again!(rt; book.step(alloc, event), BookRefusal::NoMemory,
-        Picture::of(rt, book.config()).is(&before) && book.len() == len && book.reports().len() == reports);
+        Record::of(rt, book).is(&before));
     match receipt {
         Ok(receipt) => assert!(rt; receipt.event == event && receipt.position == book.len()),
         Err(_) => panic!(rt; "a step of a whole reset"),
@@ -58,6 +57,7 @@ fn a_book_keeps_a_whole_reset(rt: HostRuntime) {
 
 // Sets the registers, though memory is refused once; then the book is as before, and the fault comes back.
 fn set_wave(rt: &impl Abort, alloc: Global, book: &mut Book<Token>, regs: WaveRegs) {
+    let before = Record::of(rt, book);
     let back = match book.disturb(alloc, Fault::SetWave { at: 1, regs }) {
         Ok(position) => return assert_equal(rt, position, 1),
         Err((refusal, back)) => {
@@ -65,7 +65,7 @@ fn set_wave(rt: &impl Abort, alloc: Global, book: &mut Book<Token>, regs: WaveRe
             back
         }
     };
-    assert_equal(rt, book.len(), 0);
+    assert!(rt; Record::of(rt, book).is(&before));
     assert!(rt; back == Fault::SetWave { at: 1, regs });
     assert!(rt; book.disturb(alloc, back) == Ok(1));
 }
@@ -82,7 +82,9 @@ fn a_fault_is_entered(rt: HostRuntime) {
 }
 
 fn view_of_3(rt: &impl Abort, alloc: Global, book: &Book<Idle>) -> View<Idle> {
-    match again!(rt; book.config().view(alloc, 3), StepRefusal::NoMemory, true) {
+    let before = Record::of(rt, book);
+    match again!(rt; book.config().view(alloc, 3), StepRefusal::NoMemory, Record::of(rt, book).is(&before))
+    {
         Ok(view) => view,
         Err(_) => panic!(rt; "a node"),
     }
@@ -95,8 +97,16 @@ fn request_of_3(rt: &impl Abort, alloc: Global, view: &View<Idle>) -> Plan<Idle>
     }
 }
 
-// Applies the plan, though memory is refused once; then the book is as before, and the plan comes back.
-fn apply(rt: &impl Abort, alloc: Global, book: &mut Book<Idle>, plan: Plan<Idle>) {
+// Applies the plan, which was made on this view, though memory is refused once; then the book is as before, and the plan
+// comes back.
+fn apply(
+    rt: &impl Abort,
+    alloc: Global,
+    book: &mut Book<Idle>,
+    plan: Plan<Idle>,
+    view: &View<Idle>,
+) {
+    let before = Record::of(rt, book);
     let back = match book.apply(alloc, plan) {
         Ok(receipt) => return assert_equal(rt, receipt.reply, Reply::Applied),
         Err((refusal, back)) => {
@@ -104,8 +114,9 @@ fn apply(rt: &impl Abort, alloc: Global, book: &mut Book<Idle>, plan: Plan<Idle>
             back
         }
     };
-    assert_equal(rt, book.len(), 0);
+    assert!(rt; Record::of(rt, book).is(&before));
     assert_equal(rt, back.event(), Event::Request { at: 3 });
+    assert!(rt; back.seen_view().same(view));
     assert!(rt; book.apply(alloc, back).is_ok());
     assert_equal(rt, book.len(), 1);
 }
@@ -115,8 +126,41 @@ fn a_plan_is_applied(rt: HostRuntime) {
     let mut book = opened::<Idle>(&rt, rt.alloc());
     let view = view_of_3(&rt, rt.alloc(), &book);
     let plan = request_of_3(&rt, rt.alloc(), &view);
+    apply(&rt, rt.alloc(), &mut book, plan, &view);
     drop(view);
-    apply(&rt, rt.alloc(), &mut book, plan);
+    drop(book);
+}
+
+// The plan isn't taken, though memory is refused once; the book is as before, and what node 3 sees now is told.
+fn is_stale(rt: &impl Abort, alloc: Global, book: &mut Book<Idle>, plan: Plan<Idle>) {
+    let before = Record::of(rt, book);
+    let told = match book.apply(alloc, plan) {
+        Err((ApplyRefusal::NoMemory, back)) => {
+            assert!(rt; Record::of(rt, book).is(&before));
+            book.apply(alloc, back)
+        }
+        told => told,
+    };
+    let now = view_of_3(rt, alloc, book);
+    match told {
+        Err((ApplyRefusal::Stale(seen), back)) => {
+            assert!(rt; seen.same(&now) && !back.seen_view().same(&now));
+        }
+        _ => panic!(rt; "node 3 sees that node 2 has asked"),
+    }
+    assert!(rt; Record::of(rt, book).is(&before));
+}
+
+#[test]
+fn a_stale_plan_is_told(rt: HostRuntime) {
+    let mut book = opened::<Idle>(&rt, rt.alloc());
+    let view = view_of_3(&rt, rt.alloc(), &book);
+    let plan = request_of_3(&rt, rt.alloc(), &view);
+    drop(view);
+    let asked =
+        again!(&rt; book.step(rt.alloc(), Event::Request { at: 2 }), BookRefusal::NoMemory, true);
+    assert!(rt; asked.is_ok());
+    is_stale(&rt, rt.alloc(), &mut book, plan);
     drop(book);
 }
 
@@ -136,18 +180,30 @@ fn opening(rt: &impl Abort, alloc: Global) -> Config<Idle> {
     booted(rt, alloc, line(rt, alloc))
 }
 
+// What the entries of the text are verified as, though memory is refused once.
+fn verdict(rt: &impl Abort, alloc: Global, text: &[u8]) -> Result<Summary, VerifyFault> {
+    let entries = entries(rt, alloc, text);
+    let first = opening(rt, alloc);
+    let second = opening(rt, alloc);
+    match verify(alloc, first, &entries) {
+        Err(VerifyFault::NoMemory) => verify(alloc, second, &entries),
+        answer => answer,
+    }
+}
+
 #[test]
 fn entries_are_verified(rt: HostRuntime) {
-    let good = entries(&rt, rt.alloc(), HISTORY);
-    let first = opening(&rt, rt.alloc());
-    let second = opening(&rt, rt.alloc());
-    let summary = match verify(rt.alloc(), first, &good) {
-        Err(VerifyFault::NoMemory) => verify(rt.alloc(), second, &good),
-        answer => answer,
-    };
-    match summary {
+    match verdict(&rt, rt.alloc(), HISTORY) {
         Ok(summary) => assert!(rt; summary.entries == 3 && summary.reports.is_empty()),
         Err(_) => panic!(rt; "entries that are allowed"),
+    }
+}
+
+#[test]
+fn an_entry_that_is_not_allowed_is_told(rt: HostRuntime) {
+    match verdict(&rt, rt.alloc(), REFUSED) {
+        Ok(_) => panic!(rt; "node 2 hasn't joined before node 1"),
+        Err(fault) => assert_equal(&rt, fault, VerifyFault::NotEnabledAt(3)),
     }
 }
 

@@ -1,6 +1,6 @@
 //! Tests of calls to which memory is refused once: what a call was given is then as before, and the call again
-//! answers as it should. `tests/refused-memory` refuses each allocation of each test in turn; with ample memory
-//! none is refused.
+//! answers as it should. `tests/refused-calls` refuses each request of each test in turn; with ample memory
+//! none is refused. Those of the module `none` call what asks for no memory.
 #![tactic(auto)]
 
 // The answer of the call. Where memory was refused, what is said to be kept has to hold, and it is called again.
@@ -30,6 +30,8 @@ mod faults;
 mod machine;
 #[cfg(test)]
 mod networks;
+#[cfg(test)]
+mod none;
 #[cfg(test)]
 mod page;
 #[cfg(test)]

@@ -2,10 +2,11 @@
 
 use crate::assert_equal;
 use crate::networks::{booted, line};
-use crate::page::Picture;
+use crate::page::{Page, Picture};
 use app_interface::{Application, Idle, LocalFault};
 use app_routes::Routes;
 use app_token::Token;
+use fault_inject::{FaultRefusal, inject, read_fault};
 use reset_machine::{Config, Done, Event, Plan, Reply, StepRefusal, View};
 use std::alloc::{AllocError, Global};
 use std::process::Abort;
@@ -57,6 +58,65 @@ fn steps_are_taken(rt: HostRuntime) {
         };
         assert_equal(&rt, step(&rt, rt.alloc(), &mut config, event), Ok(reply));
     }
+    drop(config);
+}
+
+// Does the fault of the line, though memory is refused once.
+fn set<P: Application>(rt: &impl Abort, alloc: Global, config: &mut Config<P>, line: &[u8]) {
+    match again!(rt; read_fault(alloc, line), AllocError, true) {
+        Ok(Some(fault)) => {
+            let set = again!(rt; inject(alloc, config, &fault), FaultRefusal::NoMemory, true);
+            assert_equal(rt, set, Ok(()));
+        }
+        _ => panic!(rt; "the line of a fault"),
+    }
+}
+
+// The node has the local state with this text.
+fn has_local<P: Application>(rt: &impl Abort, config: &Config<P>, id: u32, text: &[u8]) {
+    let mut page = Page::new();
+    match config.local_at(id) {
+        Some(local) => assert!(rt; P::show(local, &mut page).is_ok()),
+        None => panic!(rt; "a node that is up"),
+    }
+    assert_equal(rt, page.text(), text);
+}
+
+// A local state with more bits than it has room for without a place in memory.
+#[test]
+fn a_step_of_many_bits_is_taken(rt: HostRuntime) {
+    let mut config: Config<Token> = booted(&rt, rt.alloc(), line(&rt, rt.alloc()));
+    set(
+        &rt,
+        rt.alloc(),
+        &mut config,
+        b"fault local 3 hold/4,5,6,7,8/9",
+    );
+    let [pass, _] = handing_on();
+    let reply = step(&rt, rt.alloc(), &mut config, pass);
+    assert_equal(&rt, reply, Ok(Reply::Applied));
+    has_local(&rt, &config, 3, b"free/2,4,5,6,7,8/9");
+    drop(config);
+}
+
+// A local state with more entries than it has room for without a place in memory.
+#[test]
+fn a_step_of_many_entries_is_taken(rt: HostRuntime) {
+    let mut config: Config<Routes> = booted(&rt, rt.alloc(), line(&rt, rt.alloc()));
+    set(
+        &rt,
+        rt.alloc(),
+        &mut config,
+        b"fault local 2 2:0:2,3:1:3,4:1:4,5:1:5,6:1:6",
+    );
+    let pull = Event::Act {
+        at: 1,
+        case: 1,
+        with: Some(2),
+    };
+    let reply = step(&rt, rt.alloc(), &mut config, pull);
+    assert_equal(&rt, reply, Ok(Reply::Applied));
+    has_local(&rt, &config, 1, b"1:0:1,2:1:2,3:2:2,4:2:2,5:2:2,6:2:2");
     drop(config);
 }
 

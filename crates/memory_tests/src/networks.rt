@@ -1,6 +1,7 @@
 // Networks for the tests, made although memory is refused once.
 
 use crate::assert_equal;
+use crate::page::Shape;
 use app_interface::Application;
 use history::{Book, MAX_ENTRIES};
 use reset_machine::Config;
@@ -36,12 +37,12 @@ pub(crate) fn booted<P: Application>(
     alloc: Global,
     topology: Topology,
 ) -> Config<P> {
-    let links = topology.link_count();
+    let shape = Shape::of(&topology);
     let back = match Config::<P>::boot(alloc, topology, greatest_modulus()) {
         Ok(config) => return config,
         Err(refused) => refused.value,
     };
-    assert_equal(rt, back.link_count(), links);
+    assert_equal(rt, Shape::of(&back), shape);
     match Config::<P>::boot(alloc, back, greatest_modulus()) {
         Ok(config) => config,
         Err(_) => panic!(rt; "memory is refused once"),

@@ -3,21 +3,37 @@
 ghost use Rattle.std.specs.Prelude.{◌≡◌, ◌+◌, length};
 
 use crate::assert_equal;
-use crate::networks::{booted, line, opened};
+use crate::networks::opened;
+use crate::page::Record;
 use app_interface::Idle;
-use app_token::Token;
-use history::{ApplyRefusal, Book, BookRefusal, Entry, Receipt};
+use history::{ApplyRefusal, Book, BookRefusal, Receipt, Report};
 use node_threads::{
     CloseFault, CommitRefusal, Gate, LookRefusal, Outcome, Round, RunCause, Seat, SeatRefusal,
-    ShareFault, Shared, close, next_event, run_nodes, select, share,
+    ShareFault, Shared, TurnsEnd, close, next_event, node_turns, run_nodes, select, share,
 };
-use reset_machine::{Config, Event, Plan, StepRefusal, View};
+use reset_machine::{Event, Plan, StepRefusal, View};
 use std::alloc::{AllocError, Global};
 use std::marker::Brand;
 use std::process::Abort;
 use std::sync::Wait;
 use std::sync::ledger::Blank;
 use std::thread::Threads;
+
+// The reset of the line that node 1 asks for, and node 3 too.
+const ASKED_TWICE: &[u8] =
+    b"reset-history 3 4294967296\nrequest 1\nrelay 2 1\nrequest 3\nopen 3\njoin 2\njoin 1\nfinish 1\nfinish 2\nfinish 3\n";
+
+// The reset of the line that node 1 asks for. Its steps have one order.
+const ASKED_ONCE: &[u8] =
+    b"reset-history 3 4294967296\nrequest 1\nrelay 2 1\nrelay 3 2\nopen 3\njoin 2\njoin 1\nfinish 1\nfinish 2\nfinish 3\n";
+
+const NOTHING: &[u8] = b"reset-history 3 4294967296\n";
+
+const THE_REPORT: Report = Report {
+    number: 1,
+    opened: Some(4),
+    finished: 9,
+};
 
 // A gate that does nothing.
 #[derive(Clone, Copy)]
@@ -44,13 +60,14 @@ fn play_round<L: Round, R: Wait + Abort>(rt: &R, alloc: Global, blank: Blank, bo
     requires mark { length book.entries ≡ L.mark }
     requires nodes { length book.config.graph.nodes ≡ L.seats }
 {
+    let before = Record::of(rt, &book);
     match share::<L, Idle>(alloc, blank, book) {
-        Ok((shared, seats)) => reset_begins(rt, alloc, shared, seats),
+        Ok((shared, seats)) => whole_reset(rt, alloc, shared, seats),
         Err((fault, blank, book)) => {
             assert_equal(rt, fault, ShareFault::NoMemory);
-            assert_equal(rt, book.len(), 0);
+            assert!(rt; Record::of(rt, &book).is(&before));
             match share::<L, Idle>(alloc, blank, book) {
-                Ok((shared, seats)) => reset_begins(rt, alloc, shared, seats),
+                Ok((shared, seats)) => whole_reset(rt, alloc, shared, seats),
                 Err(_) => panic!(rt; "memory is refused once"),
             }
         }
@@ -95,7 +112,7 @@ fn commit<L: Round, R: Wait + Abort>(
     seat: &mut Seat<L>,
 ) -> Receipt {
     let plan = first_plan(rt, alloc, shared, seat);
-    let receipts = seat.receipts().len();
+    let event = plan.event();
     let back = match shared.commit(rt, alloc, seat, plan) {
         Ok(receipt) => return receipt,
         Err((refusal, back)) => {
@@ -103,7 +120,8 @@ fn commit<L: Round, R: Wait + Abort>(
             back
         }
     };
-    assert_equal(rt, seat.receipts().len(), receipts);
+    assert!(rt; seat.receipts().is_empty() && back.event() == event);
+    assert!(rt; back.seen_view().same(&seen(rt, alloc, shared, seat)));
     match shared.commit(rt, alloc, seat, back) {
         Ok(receipt) => receipt,
         Err(_) => panic!(rt; "memory is refused once"),
@@ -135,7 +153,23 @@ fn first_step<L: Round, R: Wait + Abort>(
     }
 }
 
-fn reset_begins<L: Round, R: Wait + Abort>(
+// Takes all turns in which the seat's node has something to do, though memory is refused once. It takes turns alone, so
+// it waits for nobody.
+fn turns<L: Round, R: Wait + Abort>(
+    rt: &R,
+    alloc: Global,
+    shared: &Shared<L, Idle>,
+    seat: &mut Seat<L>,
+) {
+    let end = match node_turns(rt, alloc, &Still, shared, seat, 5) {
+        TurnsEnd::NoMemory => node_turns(rt, alloc, &Still, shared, seat, 5),
+        end => end,
+    };
+    assert_equal(rt, end, TurnsEnd::Done);
+}
+
+// Each seat's node takes its first step, and then the nodes take turns until none has anything to do.
+fn whole_reset<L: Round, R: Wait + Abort>(
     rt: &R,
     alloc: Global,
     shared: Shared<L, Idle>,
@@ -145,6 +179,11 @@ fn reset_begins<L: Round, R: Wait + Abort>(
         match first_step(rt, alloc, &shared, seat) {
             Ok(receipt) => assert!(rt; receipt.event.node() == seat.node()),
             Err(_) => panic!(rt; "a step that is allowed"),
+        }
+    }
+    for _round in 0..3 {
+        for seat in seats.iter_mut() {
+            turns(rt, alloc, &shared, seat);
         }
     }
     let outcome = closed(rt, alloc, shared, seats);
@@ -171,10 +210,12 @@ fn closed<L: Round>(
     }
 }
 
+// The book has the whole reset, in which node 3 has asked by itself, and each node was told three steps.
 fn told(rt: &impl Abort, outcome: &Outcome<Idle>) {
-    assert_equal(rt, outcome.book.len(), 3);
+    assert_equal(rt, Record::of(rt, &outcome.book).text(), ASKED_TWICE);
+    assert_equal(rt, outcome.book.reports(), [THE_REPORT].as_slice());
     assert_equal(rt, outcome.seats.len(), 3);
-    assert!(rt; outcome.seats.iter().all(|list| list.receipts.len() == 1));
+    assert!(rt; outcome.seats.iter().all(|list| list.receipts.len() == 3));
 }
 
 #[test]
@@ -182,27 +223,32 @@ fn a_sharing_is_played_and_closed(rt: HostRuntime) {
     play(&rt, rt.alloc());
 }
 
-// Takes the book's entries once more, from the booted line on.
-fn replayed(rt: &impl Abort, alloc: Global, book: &Book<Token>) {
-    let mut config: Config<Token> = booted(rt, alloc, line(rt, alloc));
-    for position in 1..=book.len() {
-        match book.entry(position) {
-            Some(Entry::Step(event)) => {
-                let reply = again!(rt; config.step(alloc, *event), StepRefusal::NoMemory, true);
-                assert!(rt; reply.is_ok());
-            }
-            _ => panic!(rt; "threads take steps alone"),
+// Runs the nodes once more on a book that has kept a beginning of the reset: where that is nothing, the whole reset
+// comes to it, and else more.
+fn run_again<R: Threads + Wait + Sync + Abort>(rt: &R, alloc: Global, book: Book<Idle>) {
+    let before = Record::of(rt, &book);
+    assert!(rt; ASKED_ONCE.starts_with(before.text()));
+    match run_nodes(rt, alloc, &Still, book, 20, Some(1)) {
+        Ok(outcome) => {
+            let after = Record::of(rt, &outcome.book);
+            assert!(rt; after.text().starts_with(before.text()));
+            assert!(rt; after.text() == ASKED_ONCE || before.text() != NOTHING);
+            assert!(rt; !outcome.book.reports().is_empty());
         }
+        Err(_) => panic!(rt; "memory is refused once"),
     }
 }
 
 fn run<R: Threads + Wait + Sync + Abort>(rt: &R, alloc: Global) {
-    let book = opened::<Token>(rt, alloc);
+    let book = opened::<Idle>(rt, alloc);
     match run_nodes(rt, alloc, &Still, book, 20, Some(1)) {
-        Ok(outcome) => replayed(rt, alloc, &outcome.book),
+        Ok(outcome) => {
+            assert_equal(rt, Record::of(rt, &outcome.book).text(), ASKED_ONCE);
+            drop(outcome);
+        }
         Err(fault) => {
             assert!(rt; fault.cause == RunCause::NoMemory || fault.cause == RunCause::NoThread);
-            replayed(rt, alloc, &fault.book);
+            run_again(rt, alloc, fault.book);
         }
     }
 }

@@ -2,6 +2,7 @@
 
 use crate::assert_equal;
 use crate::networks::{booted, line, parted, triangle};
+use crate::page::{Page, Picture, Shape};
 use action_tables::MAX_MODULUS;
 use app_interface::Application;
 use app_token::Token;
@@ -87,26 +88,38 @@ fn registers_of_two_components_are_booted(rt: HostRuntime) {
     drop(topology);
 }
 
+// The node at this index starts with the local state of this text.
+fn starts_with(rt: &impl Abort, alloc: Global, topology: &Topology, index: usize, text: &[u8]) {
+    let shape = Shape::of(topology);
+    let start =
+        again!(rt; Token::on_start(alloc, topology, index), AllocError, Shape::of(topology) == shape);
+    let mut page = Page::new();
+    match start {
+        Ok(local) => assert!(rt; Token::show(&local, &mut page).is_ok()),
+        Err(AllocError) => panic!(rt; "memory is refused once"),
+    }
+    assert_equal(rt, page.text(), text);
+}
+
 #[test]
 fn a_node_starts(rt: HostRuntime) {
     let topology = line(&rt, rt.alloc());
-    let start =
-        again!(&rt; Token::on_start(rt.alloc(), &topology, 2), AllocError, topology.len() == 3);
-    assert!(rt; start.is_ok());
+    starts_with(&rt, rt.alloc(), &topology, 0, b"free/-/-");
+    starts_with(&rt, rt.alloc(), &topology, 2, b"hold/-/-");
     drop(topology);
 }
 
 fn with_link(rt: &impl Abort, alloc: Global, old: &Topology) -> Topology {
-    let links = old.link_count();
-    again!(rt; old.with_link(alloc, 1, 3), TopoFault::NoMemory, old.link_count() == links).expect(
+    let shape = Shape::of(old);
+    again!(rt; old.with_link(alloc, 1, 3), TopoFault::NoMemory, Shape::of(old) == shape).expect(
         rt,
         "a link that wasn't there",
     )
 }
 
 fn without_link(rt: &impl Abort, alloc: Global, old: &Topology) -> Topology {
-    let links = old.link_count();
-    again!(rt; old.without_link(alloc, 1, 2), TopoFault::NoMemory, old.link_count() == links).expect(
+    let shape = Shape::of(old);
+    again!(rt; old.without_link(alloc, 1, 2), TopoFault::NoMemory, Shape::of(old) == shape).expect(
         rt,
         "a link of a triangle",
     )
@@ -125,16 +138,16 @@ fn a_link_comes_and_goes(rt: HostRuntime) {
 }
 
 fn without_node(rt: &impl Abort, alloc: Global, old: &Topology) -> Topology {
-    let links = old.link_count();
-    again!(rt; old.without_node(alloc, 2), TopoFault::NoMemory, old.link_count() == links).expect(
+    let shape = Shape::of(old);
+    again!(rt; old.without_node(alloc, 2), TopoFault::NoMemory, Shape::of(old) == shape).expect(
         rt,
         "a node that was up",
     )
 }
 
 fn with_node(rt: &impl Abort, alloc: Global, old: &Topology) -> Topology {
-    let nodes = old.node_count();
-    again!(rt; old.with_node(alloc, 2), TopoFault::NoMemory, old.node_count() == nodes).expect(
+    let shape = Shape::of(old);
+    again!(rt; old.with_node(alloc, 2), TopoFault::NoMemory, Shape::of(old) == shape).expect(
         rt,
         "a node that was down",
     )
@@ -157,12 +170,13 @@ fn put_triangle(rt: &impl Abort, alloc: Global, config: &mut Config<Token>, othe
     if other.ids() != config.topology().ids() {
         panic!(rt; "the same nodes");
     }
+    let (before, shape) = (Picture::of(rt, config), Shape::of(&other));
     let back = match config.put_topology(alloc, other) {
         Ok(()) => return,
         Err(refused) => refused.value,
     };
-    assert_equal(rt, config.topology().link_count(), 2);
-    assert!(rt; back.linked(1, 3));
+    assert!(rt; Picture::of(rt, config).is(&before));
+    assert_equal(rt, Shape::of(&back), shape);
     if back.ids() != config.topology().ids() {
         panic!(rt; "the same nodes");
     }
