@@ -131,24 +131,33 @@ fn a_plan_is_applied(rt: HostRuntime) {
     drop(book);
 }
 
+// Why the book doesn't take the plan, and the plan.
+fn not_taken(
+    rt: &impl Abort,
+    alloc: Global,
+    book: &mut Book<Idle>,
+    plan: Plan<Idle>,
+) -> (ApplyRefusal<Idle>, Plan<Idle>) {
+    match book.apply(alloc, plan) {
+        Ok(_) => panic!(rt; "node 3 sees that node 2 has asked"),
+        Err(refused) => refused,
+    }
+}
+
 // The plan isn't taken, though memory is refused once; the book is as before, and what node 3 sees now is told.
 fn is_stale(rt: &impl Abort, alloc: Global, book: &mut Book<Idle>, plan: Plan<Idle>) {
     let before = Record::of(rt, book);
-    let told = match book.apply(alloc, plan) {
-        Err((ApplyRefusal::NoMemory, back)) => {
-            assert!(rt; Record::of(rt, book).is(&before));
-            book.apply(alloc, back)
-        }
-        told => told,
-    };
-    let now = view_of_3(rt, alloc, book);
-    match told {
-        Err((ApplyRefusal::Stale(seen), back)) => {
-            assert!(rt; seen.same(&now) && !back.seen_view().same(&now));
-        }
-        _ => panic!(rt; "node 3 sees that node 2 has asked"),
+    let (mut refusal, mut back) = not_taken(rt, alloc, book, plan);
+    if matches!(refusal, ApplyRefusal::NoMemory) {
+        assert!(rt; Record::of(rt, book).is(&before));
+        (refusal, back) = not_taken(rt, alloc, book, back);
     }
-    assert!(rt; Record::of(rt, book).is(&before));
+    let now = view_of_3(rt, alloc, book);
+    assert!(rt; Record::of(rt, book).is(&before) && !back.seen_view().same(&now));
+    match refusal {
+        ApplyRefusal::Stale(seen) => assert!(rt; seen.same(&now)),
+        _ => panic!(rt; "a plan that is stale"),
+    }
 }
 
 #[test]
