@@ -4,4 +4,5 @@ mod Comparing
 mod Collecting
 mod Crossing
 mod Turning
+mod Waiting
 pub mod Refusing

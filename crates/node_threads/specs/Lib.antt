@@ -3,3 +3,4 @@ pub mod Locked
 pub mod Turns
 pub mod Told
 pub mod Closed
+pub mod Waiting

@@ -10,7 +10,7 @@ ghost use Rattle.node_threads.specs.Closed.{is_seated, list_of};
 ghost use Rattle.node_threads.specs.Seats.{of_node, receipts_after};
 ghost use Rattle.node_threads.specs.Told.{left_after, reply_told, step_at};
 
-use crate::desk::Desk;
+use crate::guarded::Guarded;
 use crate::locked::Locked;
 use crate::round::{Cut, Round};
 use crate::seat::Seat;
@@ -69,24 +69,24 @@ pub fn close<L: Round, P: Application>(
     ensures returned { IfErr result (λ e. e.2 ≡ seats) }
 {
     let Shared {
-        desk,
+        guarded,
         topology,
-        bells,
+        wakeups,
         last,
         cut,
     } = shared;
-    let Desk { locked, attendance } = desk.into_inner();
+    let Guarded { locked, attendance } = guarded.into_inner();
     locked.lemma_is_locked();
     match locked.close_in(alloc, &seats) {
         Ok(()) => {}
         Err(fault) => {
-            let desk = Mutex::new(Desk { locked, attendance });
+            let guarded = Mutex::new(Guarded { locked, attendance });
             return Err((
                 fault,
                 Shared {
-                    desk,
+                    guarded,
                     topology,
-                    bells,
+                    wakeups,
                     last,
                     cut,
                 },
@@ -97,13 +97,13 @@ pub fn close<L: Round, P: Application>(
     match Vec::with_capacity(alloc, seats.len()) {
         Ok(lists) => Ok(outcome_of_seats(locked, last, cut, seats, lists)),
         Err(AllocError) => {
-            let desk = Mutex::new(Desk { locked, attendance });
+            let guarded = Mutex::new(Guarded { locked, attendance });
             Err((
                 CloseFault::NoMemory,
                 Shared {
-                    desk,
+                    guarded,
                     topology,
-                    bells,
+                    wakeups,
                     last,
                     cut,
                 },

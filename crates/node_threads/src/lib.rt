@@ -4,7 +4,7 @@
 
 mod attendance;
 mod closing;
-mod desk;
+mod guarded;
 mod locked;
 mod refusal;
 mod round;

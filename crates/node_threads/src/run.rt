@@ -59,7 +59,7 @@ struct Task {
 struct Joined<L: Round> {
     seats: Vec<Seat<L>>,
     refused: bool,
-    hungry: bool,
+    out_of_memory: bool,
 }
 
 /// Runs each node in a thread of its own: the selected node asks for a reset, and then each takes so many
@@ -142,7 +142,7 @@ fn run_round<L: Round + Send + Sync, P: Application, G: Gate + Sync, R: Threads 
     let Joined {
         seats,
         refused,
-        hungry,
+        out_of_memory,
     } = joined;
     if refused {
         drop(seats);
@@ -150,7 +150,7 @@ fn run_round<L: Round + Send + Sync, P: Application, G: Gate + Sync, R: Threads 
         let book = shared.into_book();
         return Err(RunFault { cause, book });
     }
-    if hungry {
+    if out_of_memory {
         drop(seats);
         let cause = RunCause::NoMemory;
         let book = shared.into_book();
@@ -198,7 +198,7 @@ fn cause_of_closing(fault: CloseFault) -> RunCause
 }
 
 // What a thread does at a seat, which is counted among those that take turns.
-fn sit<L: Round, P: Application, G: Gate, R: Wait>(
+fn run_seat<L: Round, P: Application, G: Gate, R: Wait>(
     rt: &R,
     alloc: Global,
     gate: &G,
@@ -206,13 +206,13 @@ fn sit<L: Round, P: Application, G: Gate, R: Wait>(
     mut seat: Seat<L>,
     task: Task,
 ) -> (Seat<L>, TurnsEnd) {
-    let end = play(rt, alloc, gate, shared, &mut seat, task);
-    shared.go(rt, seat.node());
+    let end = do_task(rt, alloc, gate, shared, &mut seat, task);
+    shared.depart(rt, seat.node());
     (seat, end)
 }
 
 // The task at a seat.
-fn play<L: Round, P: Application, G: Gate, R: Wait>(
+fn do_task<L: Round, P: Application, G: Gate, R: Wait>(
     rt: &R,
     alloc: Global,
     gate: &G,
@@ -237,7 +237,7 @@ fn lemma_is_sync<L: Round + Send + Sync, P: Application>(shared: &Shared<L, P>)
     let _ = shared;
 }
 
-// One thread for each seat, all joined. All seats are counted before the first is started, so that none takes it to be over
+// One thread for each seat, all joined. All seats are counted before the first is started, so that none finds that all wait
 // before the last has begun. Room for the handles and the seats is made before the first is started, so that
 // no thread is left to end by itself for want of a place for its handle.
 fn in_threads<L: Round + Send + Sync, P: Application, G: Gate + Sync, R: Threads + Wait + Sync>(
@@ -249,7 +249,7 @@ fn in_threads<L: Round + Send + Sync, P: Application, G: Gate + Sync, R: Threads
     task: Task,
 ) -> Joined<L> {
     thread::scope(thread::scope_env(), rt, |scope| -> Joined<L> {
-        shared.come(rt, seats.len());
+        shared.arrive(rt, seats.len());
         lemma_is_sync(shared);
         let mut handles = Vec::new(alloc);
         let mut back = Vec::new(alloc);
@@ -259,21 +259,21 @@ fn in_threads<L: Round + Send + Sync, P: Application, G: Gate + Sync, R: Threads
             return Joined {
                 seats: back,
                 refused: false,
-                hungry: true,
+                out_of_memory: true,
             };
         }
         let mut refused = false;
-        let mut hungry = false;
+        let mut out_of_memory = false;
         for seat in seats {
             let node = seat.node();
-            match scope.spawn(move || sit(rt, alloc, gate, shared, seat, task)) {
+            match scope.spawn(move || run_seat(rt, alloc, gate, shared, seat, task)) {
                 Ok(handle) => {
                     if handles.push(handle).is_err() {
-                        hungry = true;
+                        out_of_memory = true;
                     }
                 }
                 Err(_) => {
-                    shared.go(rt, node);
+                    shared.depart(rt, node);
                     refused = true;
                 }
             }
@@ -281,13 +281,13 @@ fn in_threads<L: Round + Send + Sync, P: Application, G: Gate + Sync, R: Threads
         for handle in handles {
             let (seat, end) = handle.join(rt);
             if end == TurnsEnd::NoMemory || back.push(seat).is_err() {
-                hungry = true;
+                out_of_memory = true;
             }
         }
         Joined {
             seats: back,
             refused,
-            hungry,
+            out_of_memory,
         }
     })
 }

@@ -10,7 +10,7 @@ ghost use Rattle.node_threads.specs.Locked.{IsBooked, IsPlanOf, IsUncommitted, I
 ghost use Rattle.node_threads.specs.Seats.{empty_seat, with_receipt};
 
 use crate::attendance::Attendance;
-use crate::desk::Desk;
+use crate::guarded::Guarded;
 use crate::locked::Locked;
 use crate::refusal::{CommitRefusal, LookRefusal, SeatRefusal, ShareFault};
 use crate::round::{Cut, Round};
@@ -26,13 +26,13 @@ use topology::Topology;
 /// The most nodes of a book that is shared: each has a thread of its own.
 pub const MAX_SEATS: usize = 64;
 
-/// What the threads share: a book under one lock, and beside it, since it stays, its topology, with a bell for each node by
-/// which it is called when it waits. It keeps the last part of the ledger, at amount 0.
+/// What the threads share: a book under one lock, and beside it, since it stays, its topology, with a condition variable for
+/// each node that wakes it where it waits. It keeps the last part of the ledger, at amount 0.
 #[derive(Drop)]
 pub struct Shared<L: Round, P: Application> {
-    pub(crate) desk: Mutex<Desk<L, P>>,
+    pub(crate) guarded: Mutex<Guarded<L, P>>,
     pub(crate) topology: Topology,
-    pub(crate) bells: Vec<Condvar>,
+    pub(crate) wakeups: Vec<Condvar>,
     pub(crate) last: Share<L>,
     pub(crate) cut: Cut<L>,
     ghost last_part: { last.parts ≡ 1 },
@@ -64,39 +64,39 @@ pub fn share<L: Round, P: Application>(
         Ok(seats) => seats,
         Err(AllocError) => return Err((ShareFault::NoMemory, blank, book)),
     };
-    let (topology, bells, attendance) = match places_for(alloc, book.config().topology()) {
-        Ok(places) => places,
+    let (topology, wakeups, attendance) = match waiting_room(alloc, book.config().topology()) {
+        Ok(room) => room,
         Err(AllocError) => return Err((ShareFault::NoMemory, blank, book)),
     };
     let mark = book.len();
     let (tally, all) = blank.open::<L>();
     let (seats, last) = seat_all(alloc, book.config().topology().nodes(), seats, all);
     let shared = Shared {
-        desk: Mutex::new(Desk {
+        guarded: Mutex::new(Guarded {
             locked: Locked { book, mark, tally },
             attendance,
         }),
         topology,
-        bells,
+        wakeups,
         last,
         cut: Cut::new(),
     };
     Ok((shared, seats))
 }
 
-// A copy of the topology, a bell for each of its nodes, up or down, and the attendance of all.
-fn places_for(
+// What waiting needs: a copy of the topology, a condition variable for each of its nodes, up or down, and their attendance.
+fn waiting_room(
     alloc: Global,
     topology: &Topology,
 ) -> Result<(Topology, Vec<Condvar>, Attendance), AllocError> {
     let topology = topology.copy(alloc)?;
-    let places = topology.len();
-    let mut bells = Vec::with_capacity(alloc, places)?;
-    for _ in 0..places {
-        bells.push(Condvar::new())?;
+    let nodes = topology.len();
+    let mut wakeups = Vec::with_capacity(alloc, nodes)?;
+    for _ in 0..nodes {
+        wakeups.push(Condvar::new())?;
     }
-    let attendance = Attendance::new(alloc, places)?;
-    Ok((topology, bells, attendance))
+    let attendance = Attendance::new(alloc, nodes)?;
+    Ok((topology, wakeups, attendance))
 }
 
 // A seat for each node, with one part of the ledger, and the last part.
@@ -126,16 +126,16 @@ impl<L: Round, P: Application> Shared<L, P> {
         ensures { WasLocked P.app P.from_text L.mark L.seats (λ b. result ≡ b) }
     {
         let Shared {
-            desk,
+            guarded,
             topology: _,
-            bells: _,
+            wakeups: _,
             last: _,
             cut: _,
         } = self;
-        let Desk {
+        let Guarded {
             locked,
             attendance: _,
-        } = desk.into_inner();
+        } = guarded.into_inner();
         locked.lemma_is_locked();
         let Locked {
             book,
@@ -158,11 +158,11 @@ impl<L: Round, P: Application> Shared<L, P> {
         ensures err { IfErr result (λ f. f ≢ LookRefusal.NoMemory
             → WasLocked P.app P.from_text L.mark L.seats (λ b. IsNode b.config.graph seat.now.node → ⊥)) }
     {
-        let at = self.place(seat.node());
-        let mut desk = self.desk.lock(rt);
-        desk.locked.lemma_is_locked();
-        let seen = desk.locked.look_in(alloc, seat);
-        desk.attendance.look(at);
+        let at = self.index_of(seat.node());
+        let mut guarded = self.guarded.lock(rt);
+        guarded.locked.lemma_is_locked();
+        let seen = guarded.locked.look_in(alloc, seat);
+        guarded.attendance.look(at);
         seen
     }
 
@@ -187,13 +187,14 @@ impl<L: Round, P: Application> Shared<L, P> {
         ensures err { IfErr result (λ e. WasLocked P.app P.from_text L.mark L.seats (λ b.
             IsUncommitted P.app b seat.old.node plan e.0)) }
     {
-        let near = self.near(seat.node());
-        let mut desk = self.desk.lock(rt);
-        desk.locked.lemma_is_locked();
-        let done = desk.locked.commit_in(alloc, seat, plan);
-        desk.attendance.stir(near, done.is_ok());
-        drop(desk);
-        self.ring(near, done.is_ok());
+        let neighbours = self.neighbours(seat.node());
+        let mut guarded = self.guarded.lock(rt);
+        guarded.locked.lemma_is_locked();
+        let done = guarded.locked.commit_in(alloc, seat, plan);
+        let stale = if_changed(neighbours, done.is_ok());
+        guarded.attendance.make_stale(stale);
+        drop(guarded);
+        self.notify(stale);
         done
     }
 
@@ -216,58 +217,60 @@ impl<L: Round, P: Application> Shared<L, P> {
         ensures err { IfErr result (λ f. WasLocked P.app P.from_text L.mark L.seats (λ b.
             IsUndone P.app b seat.old.node event f)) }
     {
-        let near = self.near(seat.node());
-        let mut desk = self.desk.lock(rt);
-        desk.locked.lemma_is_locked();
-        let done = desk.locked.step_in(alloc, seat, event);
-        desk.attendance.stir(near, done.is_ok());
-        drop(desk);
-        self.ring(near, done.is_ok());
+        let neighbours = self.neighbours(seat.node());
+        let mut guarded = self.guarded.lock(rt);
+        guarded.locked.lemma_is_locked();
+        let done = guarded.locked.step_in(alloc, seat, event);
+        let stale = if_changed(neighbours, done.is_ok());
+        guarded.attendance.make_stale(stale);
+        drop(guarded);
+        self.notify(stale);
         done
     }
 
     // So many seats more are going to take turns: a node that has nothing to do waits for them. It takes the lock.
-    pub(crate) fn come<R: Wait>(&self, rt: &R, count: usize) {
-        let mut desk = self.desk.lock(rt);
-        desk.attendance.come(count);
+    pub(crate) fn arrive<R: Wait>(&self, rt: &R, count: usize) {
+        let mut guarded = self.guarded.lock(rt);
+        guarded.attendance.arrive(count);
     }
 
-    // The seat takes no more turns. Where all others wait, they are told that it is over. It takes the lock.
-    pub(crate) fn go<R: Wait>(&self, rt: &R, node: u32) {
-        let at = self.place(node);
-        let mut desk = self.desk.lock(rt);
-        desk.attendance.go(at);
-        let over = desk.attendance.is_over();
-        drop(desk);
-        if over {
-            self.ring_all();
+    // The node takes no more turns. Where all others that do wait, they are woken, for none of them ever changes
+    // anything. It takes the lock.
+    pub(crate) fn depart<R: Wait>(&self, rt: &R, node: u32) {
+        let at = self.index_of(node);
+        let mut guarded = self.guarded.lock(rt);
+        guarded.attendance.depart(at);
+        let all_wait = guarded.attendance.all_wait();
+        drop(guarded);
+        if all_wait {
+            self.notify_all();
         }
     }
 
-    // Waits at a node that had nothing to do when it looked, until a neighbour has changed: true; or until all
+    // Waits at a node that had nothing to do when it looked, until a neighbour has changed: true; or until all nodes
     // that take turns wait: false. It takes the lock.
     pub(crate) fn wait<R: Wait>(&self, rt: &R, seat: &Seat<L>) -> bool {
-        let at = self.place(seat.node());
-        let Some(bell) = self.bells.get(at) else {
+        let at = self.index_of(seat.node());
+        let Some(wakeup) = self.wakeups.get(at) else {
             return false;
         };
-        let mut desk = self.desk.lock(rt);
-        if !desk.attendance.wait(at) {
+        let mut guarded = self.guarded.lock(rt);
+        if !guarded.attendance.wait(at) {
             return true;
         }
-        if desk.attendance.is_over() {
-            drop(desk);
-            self.ring_all();
+        if guarded.attendance.all_wait() {
+            drop(guarded);
+            self.notify_all();
             return false;
         }
-        let desk = bell.wait_while(rt, desk, |desk| {
-            desk.attendance.waits(at) && !desk.attendance.is_over()
+        let guarded = wakeup.wait_while(rt, guarded, |guarded| {
+            guarded.attendance.is_waiting(at) && !guarded.attendance.all_wait()
         });
-        !desk.attendance.waits(at)
+        !guarded.attendance.is_waiting(at)
     }
 
     // The index of the node in the topology, or else none that is one.
-    fn place(&self, node: u32) -> usize {
+    fn index_of(&self, node: u32) -> usize {
         match self.topology.index_of(node) {
             Some(at) => at,
             None => usize::MAX,
@@ -275,31 +278,34 @@ impl<L: Round, P: Application> Shared<L, P> {
     }
 
     // The indexes of the node's neighbours in the topology.
-    fn near(&self, node: u32) -> &[usize] {
+    fn neighbours(&self, node: u32) -> &[usize] {
         match self.topology.index_of(node) {
             Some(at) if at < self.topology.len() => self.topology.neighbours(at),
             _ => &[],
         }
     }
 
-    // Calls these nodes, if it was done. Whoever of them waits looks again, and has been told to under the lock.
-    fn ring(&self, nodes: &[usize], done: bool) {
-        if done {
-            for at in nodes {
-                match self.bells.get(*at) {
-                    Some(bell) => bell.notify_one(),
-                    None => {}
-                }
+    // Wakes those of these nodes that wait. Under the lock they were made stale, so they look again.
+    fn notify(&self, nodes: &[usize]) {
+        for at in nodes {
+            match self.wakeups.get(*at) {
+                Some(wakeup) => wakeup.notify_one(),
+                None => {}
             }
         }
     }
 
-    // Calls all.
-    fn ring_all(&self) {
-        for bell in &self.bells {
-            bell.notify_all();
+    // Wakes all nodes that wait.
+    fn notify_all(&self) {
+        for wakeup in &self.wakeups {
+            wakeup.notify_all();
         }
     }
+}
+
+// These nodes, where their neighbour has changed, and else none.
+fn if_changed(neighbours: &[usize], changed: bool) -> &[usize] {
+    if changed { neighbours } else { &[] }
 }
 
 /// Asks for a reset at the seat's node: a step with its request. It takes the lock.

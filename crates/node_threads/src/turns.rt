@@ -70,9 +70,9 @@ pub fn node_turns<L: Round, P: Application, G: Gate, R: Wait>(
     ensures turns { AddsTurns P.app P.from_text L.mark L.seats seat.old.node seat.old.receipts seat.new.receipts }
     ensures full { result ≡ TurnsEnd.BookFull → WasFull P.app P.from_text L.mark L.seats }
 {
-    shared.come(rt, 1);
+    shared.arrive(rt, 1);
     let end = take_turns(rt, alloc, gate, shared, seat, turns);
-    shared.go(rt, seat.node());
+    shared.depart(rt, seat.node());
     end
 }
 
@@ -94,7 +94,7 @@ pub(crate) fn take_turns<L: Round, P: Application, G: Gate, R: Wait>(
 {
     let mut seen: Option<View<P>> = None;
     for _turn in 0..turns {
-        let (view, event) = match chance(rt, alloc, shared, seat, seen.take()) {
+        let (view, event) = match next_allowed(rt, alloc, shared, seat, seen.take()) {
             Ok(Some(found)) => found,
             Ok(None) => return TurnsEnd::Done,
             Err(LookRefusal::StrangeNode) => continue,
@@ -112,7 +112,7 @@ pub(crate) fn take_turns<L: Round, P: Application, G: Gate, R: Wait>(
 
 // What the seat's node sees, from what it saw last on, where that allows an event, and the first such event. Where it
 // allows none, it waits for a neighbour that changes. None where no node that takes turns has anything to do.
-fn chance<L: Round, P: Application, R: Wait>(
+fn next_allowed<L: Round, P: Application, R: Wait>(
     rt: &R,
     alloc: Global,
     shared: &Shared<L, P>,

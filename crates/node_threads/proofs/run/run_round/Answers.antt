@@ -11,8 +11,8 @@ returns-in-Err-clause-stands g c =
 pub returns-then-refused-clause-stands : goal.returns-then-refused-clause-stands
 returns-then-refused-clause-stands g c = c.into_book-book.ensures
 
-pub returns-then-hungry-clause-stands : goal.returns-then-hungry-clause-stands
-returns-then-hungry-clause-stands g c = c.into_book-book-then-hungry.ensures
+pub returns-then-out_of_memory-clause-stands : goal.returns-then-out_of_memory-clause-stands
+returns-then-out_of_memory-clause-stands g c = c.into_book-book-then-out_of_memory.ensures
 
 pub returns-in-Err-close-clause-stands : goal.returns-in-Err-close-clause-stands
 returns-in-Err-close-clause-stands g c = c.into_book-book-in-Err-close.ensures
