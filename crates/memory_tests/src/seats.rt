@@ -8,8 +8,8 @@ use app_interface::Idle;
 use app_token::Token;
 use history::{ApplyRefusal, Book, BookRefusal, Entry, Receipt};
 use node_threads::{
-    CloseFault, CommitRefusal, Gate, LookRefusal, Outcome, Round, RunCause, Seat, SeatRefusal,
-    ShareFault, Shared, close, next_event, run_nodes, select, share,
+    CloseFault, CommitRefusal, Gate, LookRefusal, Outcome, RunCause, Seat, SeatRefusal, ShareFault,
+    Shared, Sharing, close, next_event, run_nodes, select, share,
 };
 use reset_machine::{Config, Event, Plan, StepRefusal, View};
 use std::alloc::{AllocError, Global};
@@ -37,12 +37,17 @@ fn play<R: Wait + Abort>(rt: &R, alloc: Global) {
     play_round::<Brand, R>(rt, alloc, blank, book)
 }
 
-fn play_round<L: Round, R: Wait + Abort>(rt: &R, alloc: Global, blank: Blank, book: Book<Idle>)
+fn play_round<L: Sharing<()>, R: Wait + Abort>(
+    rt: &R,
+    alloc: Global,
+    blank: Blank,
+    book: Book<Idle>,
+)
     requires name { blank.name ≡ L.name }
     requires parts { blank.parts ≡ L.parts }
-    requires one_more { L.parts ≡ L.seats + 1 }
-    requires mark { length book.entries ≡ L.mark }
-    requires nodes { length book.config.graph.nodes ≡ L.seats }
+    requires one_more { L.parts ≡ length L.nodes + 1 }
+    requires nodes { book.config.graph.nodes ≡ L.nodes }
+    requires book { book ≡ L.book }
 {
     match share::<L, Idle>(alloc, blank, book) {
         Ok((shared, seats)) => reset_begins(rt, alloc, shared, seats),
@@ -57,7 +62,7 @@ fn play_round<L: Round, R: Wait + Abort>(rt: &R, alloc: Global, blank: Blank, bo
     }
 }
 
-fn seen<L: Round, R: Wait + Abort>(
+fn seen<L: Sharing<()>, R: Wait + Abort>(
     rt: &R,
     alloc: Global,
     shared: &Shared<L, Idle>,
@@ -70,7 +75,7 @@ fn seen<L: Round, R: Wait + Abort>(
 }
 
 // What the seat's node would do first, as it sees its neighbourhood now.
-fn first_plan<L: Round, R: Wait + Abort>(
+fn first_plan<L: Sharing<()>, R: Wait + Abort>(
     rt: &R,
     alloc: Global,
     shared: &Shared<L, Idle>,
@@ -88,7 +93,7 @@ fn first_plan<L: Round, R: Wait + Abort>(
 }
 
 // Commits what the seat's node would do first, though memory is refused once; then the plan comes back.
-fn commit<L: Round, R: Wait + Abort>(
+fn commit<L: Sharing<()>, R: Wait + Abort>(
     rt: &R,
     alloc: Global,
     shared: &Shared<L, Idle>,
@@ -111,7 +116,7 @@ fn commit<L: Round, R: Wait + Abort>(
 }
 
 // Node 1 asks, node 2 passes the request on, node 3 asks by itself.
-fn first_step<L: Round, R: Wait + Abort>(
+fn first_step<L: Sharing<()>, R: Wait + Abort>(
     rt: &R,
     alloc: Global,
     shared: &Shared<L, Idle>,
@@ -135,7 +140,7 @@ fn first_step<L: Round, R: Wait + Abort>(
     }
 }
 
-fn reset_begins<L: Round, R: Wait + Abort>(
+fn reset_begins<L: Sharing<()>, R: Wait + Abort>(
     rt: &R,
     alloc: Global,
     shared: Shared<L, Idle>,
@@ -152,7 +157,7 @@ fn reset_begins<L: Round, R: Wait + Abort>(
     drop(outcome);
 }
 
-fn closed<L: Round>(
+fn closed<L: Sharing<()>>(
     rt: &impl Abort,
     alloc: Global,
     shared: Shared<L, Idle>,

@@ -2,7 +2,7 @@
 use Rattle.std.proofs.Common.{◌≡◌, ℕ, suc, ◌+◌, ◌<◌, ◌≤◌, ◌==◌, ◌&&◌, ◌||◌, Bool, true, false, not}
 use Rattle.std.proofs.Common.{All, Contains, List, [], ◌∷◌, ◌++◌, append_assoc, append-nil}
 use Rattle.std.proofs.Common.{◌≢◌, IfErr, OnOk, Result, Ok, Err}
-use Rattle.std.proofs.Common.{Option, None, length, map, filter, get_or, subst, sym, ap, ◌∙◌, refl, arith, sum_by}
+use Rattle.std.proofs.Common.{Option, Some, None, length, map, filter, get_or, subst, sym, ap, ◌∙◌, refl, arith, sum_by}
 use Rattle.std.proofs.lemmas.List.{length-append}
 use Rattle.std.proofs.lemmas.List.Sums.{sum_by-append}
 use Rattle.std.specs.List.{list_any}
@@ -18,11 +18,11 @@ use Rattle.reset_model.proofs.FirstFound.{find-none}
 use Rattle.app_interface.specs.Application.{App}
 use Rattle.history.specs.declared.entry.Receipt.{Receipt}
 use Rattle.history.specs.Book.{BookView}
-use Rattle.node_threads.specs.Closed.{AreSeatLists, IsClosed, IsFirstDiffering, IsUnclosed, NodeList}
+use Rattle.node_threads.specs.Closed.{AreSeatLists, IsCloseFault, IsClosed, IsFirstDiffering, IsUnclosed, NodeList}
 use Rattle.node_threads.specs.Closed.{first_missing, is_seated, list_of}
 use Rattle.node_threads.specs.declared.closing.CloseFault.{CloseFault}
 use Rattle.node_threads.specs.declared.closing.CloseFault.TheVariants.{SeatMissing, ListsDiffer, NoMemory}
-use Rattle.node_threads.specs.Locked.{IsLocked}
+use Rattle.node_threads.specs.Locked.{IsContinued}
 use Rattle.node_threads.specs.Seats.{SeatView, of_node, receipts_after, seat_list}
 use Rattle.node_threads.proofs.Telling.{other_number}
 
@@ -130,26 +130,25 @@ length-map [] = refl
 length-map (s ∷ ss) = omega (arith, length-map ss)
 
 -- all parts of the ledger are there, so its total is the number of the receipts
-pub closes : {L : Type 0} (app : App L) (from_text : List ℕ → Option L) (b : BookView L)
-    (mark n total parts amount all_parts : ℕ) (seats : List SeatView) (lists : List NodeList)
-    → IsLocked app from_text b mark total n → IsStrictlyIncreasing b.config.graph.nodes
-    → AreSeatLists app from_text b mark (map list_of seats) → lists ≡ map list_of seats
-    → parts ≡ 1 + length lists → amount ≡ sum_by (λ l. length l.1) lists → parts ≤ all_parts → all_parts ≡ n + 1
-    → (parts ≡ all_parts → amount ≡ total) → IsClosed app from_text b mark lists
-closes app from_text b mark n total parts amount all_parts seats lists locked up told is has_parts counts within cut
-    whole =
+pub closes : {L : Type 0} (app : App L) (from_text : List ℕ → Option L) (first b : BookView L) (nodes : List ℕ)
+    (total parts amount all_parts : ℕ) (seats : List SeatView) (lists : List NodeList)
+    → IsContinued app from_text first b → b.config.graph.nodes ≡ nodes
+    → length first.entries + total ≡ length b.entries → IsStrictlyIncreasing b.config.graph.nodes
+    → AreSeatLists app from_text b (length first.entries) (map list_of seats) → lists ≡ map list_of seats
+    → parts ≡ 1 + length lists → amount ≡ sum_by (λ l. length l.1) lists → parts ≤ all_parts → all_parts ≡ length nodes + 1
+    → (parts ≡ all_parts → amount ≡ total) → IsClosed app from_text first b lists
+closes app from_text first b nodes total parts amount all_parts seats lists continued there after up told is
+    has_parts counts within cut whole =
+    let n = length nodes in
     let same : length lists ≡ length seats = ap length is ∙ length-map seats in
-    let many : n ≤ length seats = omega (arith, locked.nodes, as_many b.config.graph.nodes seats up told.all) in
+    let many : n ≤ length seats = omega (arith, ap length there, as_many b.config.graph.nodes seats up told.all) in
     let all : length lists ≡ n = omega (arith, same, many, within, cut, has_parts) in
     let sum : sum_by (λ l. length l.1) lists ≡ total = sym counts ∙ whole (omega (arith, has_parts, cut, all)) in
     record {
-      seats = subst (AreSeatLists app from_text b mark) (sym is) told;
-      locked = record {
-        book = locked.book;
-        nodes = locked.nodes ∙ sym all;
-        counted = ap (λ k. mark + k) sum ∙ locked.counted;
-        steps = locked.steps;
-      };
+      seats = subst (AreSeatLists app from_text b (length first.entries)) (sym is) told;
+      continued = continued;
+      nodes = ap length there ∙ sym all;
+      counted = ap (λ k. length first.entries + k) sum ∙ after;
     }
 
 -- ---- what the comparison decides
@@ -167,6 +166,24 @@ decides app from_text b mark told seats (Err (SeatMissing i)) is none all differ
 decides app from_text b mark told seats (Err (ListsDiffer i)) is none all differs other =
     (tt, (none, subst (λ t. IsFirstDiffering t seats i) is (differs i refl)))
 decides app from_text b mark told seats (Err NoMemory) is none all differs other = (tt, none)
+
+-- a fault of the seats by a continuation of the book that was shared
+pub close_fault : {L : Type 0} (app : App L) (from_text : List ℕ → Option L) (first b : BookView L) (mark : ℕ)
+    (nodes : List ℕ) (seats : List SeatView) (f : CloseFault) → IsContinued app from_text first b
+    → mark ≡ length first.entries → b.config.graph.nodes ≡ nodes → IsUnclosed app from_text b mark seats f
+    → IsCloseFault app from_text first nodes seats f
+close_fault app from_text first b mark nodes seats (SeatMissing i) continued at there is =
+    subst (λ ns. first_missing ns seats ≡ Some i) there is
+close_fault app from_text first b mark nodes seats (ListsDiffer i) continued at there is = (
+  subst (λ ns. first_missing ns seats ≡ None) there is.0,
+  record {
+    book = b;
+    continued = continued;
+    such = subst (λ m. IsFirstDiffering (receipts_after app from_text b m) seats i) at is.1;
+  },
+)
+close_fault app from_text first b mark nodes seats NoMemory continued at there is =
+    subst (λ ns. first_missing ns seats ≡ None) there is
 
 -- what holds anyway holds of an answer that is Ok
 pub seated : {T : Type 0} {E : Type 0} {A : Type 0} (r : Result T E) → A → OnOk r A

@@ -1,21 +1,22 @@
 -- Why a seat's plan or event is refused.
-use Rattle.std.proofs.Common.{◌≡◌, ◌∙◌, ℕ, Result, Ok, Err, OnOk, IfErr, ap, refl, subst}
+use Rattle.std.proofs.Common.{◌≡◌, ◌∙◌, ℕ, List, Option, Result, Ok, Err, OnOk, IfErr, ap, arith, refl, subst, sym}
 use Rattle.std.specs.Prelude.{◌≢◌, ◌↔◌}
 use Rattle.app_interface.specs.Application.{App}
+use Rattle.topology.specs.Graph.{IsNode}
 use Rattle.reset_model.specs.declared.event.Event.{Event}
 use Rattle.reset_model.specs.Planned.{NodePlan}
 use Rattle.reset_model.specs.Steps.{event_node}
 use Rattle.reset_model.specs.View.{NodeView}
-use Rattle.history.specs.Book.{BookView}
+use Rattle.history.specs.Book.{BookView, IsBook}
 use Rattle.history.specs.declared.entry.Receipt.{Receipt}
 use Rattle.history.specs.declared.refusal.ApplyRefusal.TheVariants.{StrangeNode, Stale, BookFull, NoMemory}
-use Rattle.node_threads.specs.Locked.{IsPlanOf, IsUncommitted, IsUndone}
+use Rattle.node_threads.specs.Locked.{IsFull, IsPlanOf, IsUncommitted, IsUndone}
 use Rattle.node_threads.specs.declared.refusal.CommitRefusal.{CommitRefusal}
 use Rattle.node_threads.specs.declared.refusal.CommitRefusal.TheVariants as commit
 use Rattle.node_threads.specs.declared.refusal.SeatRefusal.{SeatRefusal}
 use Rattle.node_threads.specs.declared.refusal.SeatRefusal.TheVariants as seat
 
-module _ {P L : Type 0} (app : App L) (b : BookView L) (i : ℕ) (p : NodePlan L) where
+module _ {P L : Type 0} (app : App L) (from_text : List ℕ → Option L) (b : BookView L) (i : ℕ) (p : NodePlan L) where
   pub plan_not_yours : (f : CommitRefusal P L) → IsUncommitted app b i p f → f ≡ commit.NotYours ↔ (IsPlanOf i p → ⊥)
   plan_not_yours commit.NotYours is = (λ e. is, λ no. refl)
   plan_not_yours (commit.Refused why) is = (λ e. absurd (cc), λ no. absurd (no is.0))
@@ -29,6 +30,25 @@ module _ {P L : Type 0} (app : App L) (b : BookView L) (i : ℕ) (p : NodePlan L
       subst (λ v. (v.id ≡ i) × (p.view ≢ v)) same (ap (λ v. v.id) is.1.1 ∙ is.0.seen, is.1.2)
   plan_stale (commit.Refused BookFull) is now e = absurd (cc)
   plan_stale (commit.Refused NoMemory) is now e = absurd (cc)
+
+  -- the node of a seat is one of the book, and so is that of its plan
+  pub plan_there : IsNode b.config.graph i → (f : CommitRefusal P L) → IsUncommitted app b i p f
+      → f ≢ commit.Refused StrangeNode
+  plan_there node commit.NotYours is e = absurd (cc)
+  plan_there node (commit.Refused StrangeNode) is e =
+      absurd (is.1 (subst (λ k. IsNode b.config.graph k) (sym is.0.seen) node))
+  plan_there node (commit.Refused (Stale seen)) is e = absurd (cc)
+  plan_there node (commit.Refused BookFull) is e = absurd (cc)
+  plan_there node (commit.Refused NoMemory) is e = absurd (cc)
+
+  -- a plan is refused for want of room only where the book is full
+  pub plan_full : IsBook app from_text b → (f : CommitRefusal P L) → IsUncommitted app b i p f
+      → f ≡ commit.Refused BookFull → IsFull b
+  plan_full book commit.NotYours is e = absurd (cc)
+  plan_full book (commit.Refused StrangeNode) is e = absurd (cc)
+  plan_full book (commit.Refused (Stale seen)) is e = absurd (cc)
+  plan_full book (commit.Refused BookFull) is e = omega (arith, is.1.1, book.room)
+  plan_full book (commit.Refused NoMemory) is e = absurd (cc)
 
 pub event_not_yours : {L : Type 0} (app : App L) (b : BookView L) (i : ℕ) (e : Event) (r : Result Receipt SeatRefusal)
     → OnOk r (event_node e ≡ i) → IfErr r (IsUndone app b i e) → r ≡ Err seat.NotYours ↔ event_node e ≢ i

@@ -1,3 +1,4 @@
+pub mod NoBook
 pub mod Seats
 pub mod Locked
 pub mod Turns

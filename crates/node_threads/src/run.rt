@@ -6,12 +6,12 @@ ghost use denote.Param.{param};
 ghost use denote.Param.Send.{IsSync};
 ghost use Rattle.topology.specs.Graph.{IsNode};
 ghost use Rattle.node_threads.specs.Closed.{IsClosed};
-ghost use Rattle.node_threads.specs.Locked.{WasLocked};
+ghost use Rattle.node_threads.specs.Locked.{IsContinued};
 ghost use Rattle.node_threads.specs.contracts.sharing.Shared.{the_row};
 
 use crate::closing::{CloseFault, Outcome, close};
 use crate::refusal::{SeatRefusal, ShareFault};
-use crate::round::Round;
+use crate::round::{Round, Sharing};
 use crate::seat::Seat;
 use crate::sharing::{MAX_SEATS, Shared, select, share};
 use crate::turns::{Gate, TurnsEnd, take_turns};
@@ -74,7 +74,7 @@ pub fn run_nodes<P: Application, G: Gate + Sync, R: Threads + Wait + Sync>(
     selected: Option<u32>,
 ) -> Result<Outcome<P>, RunFault<P>>
     requires { turns ≤ 100000 }
-    ensures closed { IfOk result (λ o. IsClosed P.app P.from_text o.book (length book.entries) o.seats.items) }
+    ensures closed { IfOk result (λ o. IsClosed P.app P.from_text book o.book o.seats.items) }
     ensures few { OnOk result (length book.config.graph.nodes ≤ 64) }
     ensures there { OnOk result (IfSome selected (λ i. IsNode book.config.graph i)) }
     ensures strange { IfErr result (λ e. e.cause ≡ RunCause.StrangeNode
@@ -82,8 +82,7 @@ pub fn run_nodes<P: Application, G: Gate + Sync, R: Threads + Wait + Sync>(
     ensures many { IfErr result (λ e. e.cause ≡ RunCause.TooManyForThreads → 64 < length book.config.graph.nodes) }
     ensures back { IfErr result (λ e. (e.cause ≡ RunCause.StrangeNode → e.book ≡ book)
         × (e.cause ≡ RunCause.TooManyForThreads → e.book ≡ book)) }
-    ensures stands { IfErr result (λ e. WasLocked P.app P.from_text (length book.entries)
-        (length book.config.graph.nodes) (λ b. e.book ≡ b)) }
+    ensures stands { IfErr result (λ e. IsContinued P.app P.from_text book e.book) }
 {
     lemma_stands(&book);
     if !is_there(&book, selected) {
@@ -111,7 +110,12 @@ fn is_there<P: Application>(book: &Book<P>, selected: Option<u32>) -> bool
 }
 
 // A run of one sharing.
-fn run_round<L: Round + Send + Sync, P: Application, G: Gate + Sync, R: Threads + Wait + Sync>(
+fn run_round<
+    L: Sharing<P::Local> + Send + Sync,
+    P: Application,
+    G: Gate + Sync,
+    R: Threads + Wait + Sync,
+>(
     rt: &R,
     alloc: Global,
     blank: Blank,
@@ -121,15 +125,15 @@ fn run_round<L: Round + Send + Sync, P: Application, G: Gate + Sync, R: Threads 
 ) -> Result<Outcome<P>, RunFault<P>>
     requires name { blank.name ≡ L.name }
     requires parts { blank.parts ≡ L.parts }
-    requires one_more { L.parts ≡ L.seats + 1 }
-    requires mark { length book.entries ≡ L.mark }
-    requires nodes { length book.config.graph.nodes ≡ L.seats }
-    requires stands { WasLocked P.app P.from_text L.mark L.seats (λ b. book ≡ b) }
-    ensures closed { IfOk result (λ o. IsClosed P.app P.from_text o.book L.mark o.seats.items) }
+    requires one_more { L.parts ≡ length L.nodes + 1 }
+    requires nodes { book.config.graph.nodes ≡ L.nodes }
+    requires book { book ≡ L.book }
+    requires stands { IsContinued P.app P.from_text L.book book }
+    ensures closed { IfOk result (λ o. IsClosed P.app P.from_text L.book o.book o.seats.items) }
     ensures strange { IfErr result (λ e. e.cause ≢ RunCause.StrangeNode) }
-    ensures many { IfErr result (λ e. e.cause ≡ RunCause.TooManyForThreads → 64 < L.seats) }
+    ensures many { IfErr result (λ e. e.cause ≡ RunCause.TooManyForThreads → 64 < length L.nodes) }
     ensures back { IfErr result (λ e. e.cause ≡ RunCause.TooManyForThreads → e.book ≡ book) }
-    ensures stands { IfErr result (λ e. WasLocked P.app P.from_text L.mark L.seats (λ b. e.book ≡ b)) }
+    ensures stands { IfErr result (λ e. IsContinued P.app P.from_text L.book e.book) }
 {
     let (shared, seats) = match share::<L, P>(alloc, blank, book) {
         Ok(both) => both,
@@ -167,10 +171,9 @@ fn run_round<L: Round + Send + Sync, P: Application, G: Gate + Sync, R: Threads 
     }
 }
 
-// A book that was never under a lock stands as one that lay there, with no entry since.
+// A book is its own continuation, with no step since.
 fn lemma_stands<P: Application>(book: &Book<P>)
-    ensures { WasLocked P.app P.from_text (length book.now.entries) (length book.now.config.graph.nodes)
-        (λ b. book.now ≡ b) }
+    ensures { IsContinued P.app P.from_text book.now book.now }
 {
     book.lemma_is_book();
 }
@@ -198,7 +201,7 @@ fn cause_of_closing(fault: CloseFault) -> RunCause
 }
 
 // What a thread does at a seat, which is counted among those that take turns.
-fn run_seat<L: Round, P: Application, G: Gate, R: Wait>(
+fn run_seat<L: Sharing<P::Local>, P: Application, G: Gate, R: Wait>(
     rt: &R,
     alloc: Global,
     gate: &G,
@@ -212,7 +215,7 @@ fn run_seat<L: Round, P: Application, G: Gate, R: Wait>(
 }
 
 // The task at a seat.
-fn do_task<L: Round, P: Application, G: Gate, R: Wait>(
+fn do_task<L: Sharing<P::Local>, P: Application, G: Gate, R: Wait>(
     rt: &R,
     alloc: Global,
     gate: &G,
@@ -230,8 +233,8 @@ fn do_task<L: Round, P: Application, G: Gate, R: Wait>(
 }
 
 // What is shared may be seen by every thread.
-fn lemma_is_sync<L: Round + Send + Sync, P: Application>(shared: &Shared<L, P>)
-    ensures { IsSync (the_row (param 0 L.row) (param 1 P.row) (param 4 P.Local.row) L.Round.own L.Ledger.own
+fn lemma_is_sync<L: Sharing<P::Local> + Send + Sync, P: Application>(shared: &Shared<L, P>)
+    ensures { IsSync (the_row (param 0 L.row) (param 1 P.row) (param 4 P.Local.row) L.Sharing.own L.Round.own L.Ledger.own
         P.Application.own) }
 {
     let _ = shared;
@@ -240,7 +243,12 @@ fn lemma_is_sync<L: Round + Send + Sync, P: Application>(shared: &Shared<L, P>)
 // One thread for each seat, all joined. All seats are counted before the first is started, so that none finds that all wait
 // before the last has begun. Room for the handles and the seats is made before the first is started, so that
 // no thread is left to end by itself for want of a place for its handle.
-fn in_threads<L: Round + Send + Sync, P: Application, G: Gate + Sync, R: Threads + Wait + Sync>(
+fn in_threads<
+    L: Sharing<P::Local> + Send + Sync,
+    P: Application,
+    G: Gate + Sync,
+    R: Threads + Wait + Sync,
+>(
     rt: &R,
     alloc: Global,
     gate: &G,

@@ -2,18 +2,18 @@
 
 ghost use Rattle.std.specs.Prelude.{◌≡◌, ◌≢◌, ◌↔◌, ◌+◌, ◌<◌, ◌≤◌, Err, IfOk, IfErr, OnOk, OnErr, [], length, map};
 ghost use Rattle.std.specs.Vec.{vec_capacity};
-ghost use Rattle.topology.specs.Graph.{IsNode};
 ghost use Rattle.reset_model.specs.Steps.{event_node};
 ghost use Rattle.reset_model.specs.View.{IsSeen, view_of};
 ghost use Rattle.reset_model.specs.declared.event.Event.TheVariants.{Request};
-ghost use Rattle.node_threads.specs.Locked.{IsBooked, IsPlanOf, IsUncommitted, IsUndone, WasLocked};
+ghost use Rattle.node_threads.specs.Locked.{HasContinuation, IsBooked, IsContinued, IsFull};
+ghost use Rattle.node_threads.specs.Locked.{IsPlanOf, IsUncommitted, IsUndone};
 ghost use Rattle.node_threads.specs.Seats.{empty_seat, with_receipt};
 
 use crate::attendance::Attendance;
 use crate::guarded::Guarded;
 use crate::locked::Locked;
 use crate::refusal::{CommitRefusal, LookRefusal, SeatRefusal, ShareFault};
-use crate::round::{Cut, Round};
+use crate::round::{Cut, Round, Sharing};
 use crate::seat::Seat;
 use app_interface::Application;
 use history::{ApplyRefusal, Book, Receipt};
@@ -29,7 +29,7 @@ pub const MAX_SEATS: usize = 64;
 /// What the threads share: a book under one lock, and beside it, since it stays, its topology, with a condition variable for
 /// each node that wakes it where it waits. It keeps the last part of the ledger, at amount 0.
 #[derive(Drop)]
-pub struct Shared<L: Round, P: Application> {
+pub struct Shared<L: Sharing<P::Local>, P: Application> {
     pub(crate) guarded: Mutex<Guarded<L, P>>,
     pub(crate) topology: Topology,
     pub(crate) wakeups: Vec<Condvar>,
@@ -41,19 +41,19 @@ pub struct Shared<L: Round, P: Application> {
 
 /// Shares a book: puts it under a lock, and gives each node, ascending, a seat. Or the blank and the book
 /// come back with the first fault.
-pub fn share<L: Round, P: Application>(
+pub fn share<L: Sharing<P::Local>, P: Application>(
     alloc: Global,
     blank: Blank,
     book: Book<P>,
 ) -> Result<(Shared<L, P>, Vec<Seat<L>>), (ShareFault, Blank, Book<P>)>
     requires name { blank.name ≡ L.name }
     requires parts { blank.parts ≡ L.parts }
-    requires one_more { L.parts ≡ L.seats + 1 }
-    requires mark { length book.entries ≡ L.mark }
-    requires nodes { length book.config.graph.nodes ≡ L.seats }
-    ensures seats { IfOk result (λ r. r.1.items ≡ map empty_seat book.config.graph.nodes) }
-    ensures few { OnOk result (L.seats ≤ 64) }
-    ensures many { IfErr result (λ e. e.0 ≡ ShareFault.TooManyForThreads → 64 < L.seats) }
+    requires one_more { L.parts ≡ length L.nodes + 1 }
+    requires nodes { book.config.graph.nodes ≡ L.nodes }
+    requires book { book ≡ L.book }
+    ensures seats { IfOk result (λ r. r.1.items ≡ map empty_seat L.nodes) }
+    ensures few { OnOk result (length L.nodes ≤ 64) }
+    ensures many { IfErr result (λ e. e.0 ≡ ShareFault.TooManyForThreads → 64 < length L.nodes) }
     ensures returned { IfErr result (λ e. (e.1 ≡ blank) × (e.2 ≡ book)) }
 {
     let nodes = book.config().topology().node_count();
@@ -106,6 +106,7 @@ fn seat_all<L: Round>(
     mut seats: Vec<Seat<L>>,
     mut all: Share<L>,
 ) -> (Vec<Seat<L>>, Share<L>)
+    requires ids { ids.now ≡ L.nodes }
     requires none { seats.items ≡ [] }
     requires room { length ids.now ≤ vec_capacity seats }
     requires parts { all.parts ≡ length ids.now + 1 }
@@ -120,10 +121,10 @@ fn seat_all<L: Round>(
     (seats, all)
 }
 
-impl<L: Round, P: Application> Shared<L, P> {
+impl<L: Sharing<P::Local>, P: Application> Shared<L, P> {
     // The book as it stands.
     pub(crate) fn into_book(self) -> Book<P>
-        ensures { WasLocked P.app P.from_text L.mark L.seats (λ b. result ≡ b) }
+        ensures { IsContinued P.app P.from_text L.book result }
     {
         let Shared {
             guarded,
@@ -153,10 +154,9 @@ impl<L: Round, P: Application> Shared<L, P> {
         seat: &Seat<L>,
     ) -> Result<View<P>, LookRefusal>
         ensures node { IfOk result (λ view. view.id ≡ seat.now.node) }
-        ensures ok { IfOk result (λ view. WasLocked P.app P.from_text L.mark L.seats (λ b.
-            IsNode b.config.graph seat.now.node × (view ≡ view_of P.app b.config seat.now.node))) }
-        ensures err { IfErr result (λ f. f ≢ LookRefusal.NoMemory
-            → WasLocked P.app P.from_text L.mark L.seats (λ b. IsNode b.config.graph seat.now.node → ⊥)) }
+        ensures ok { IfOk result (λ view. HasContinuation P.app P.from_text L.book (λ b.
+            view ≡ view_of P.app b.config seat.now.node)) }
+        ensures err { IfErr result (λ f. f ≡ LookRefusal.NoMemory) }
     {
         let at = self.index_of(seat.node());
         let mut guarded = self.guarded.lock(rt);
@@ -182,11 +182,15 @@ impl<L: Round, P: Application> Shared<L, P> {
         ensures stale { IfErr result (λ e. (now : _) → e.0 ≡ CommitRefusal.Refused (ApplyRefusal.Stale now)
             → (now.id ≡ seat.old.node) × (plan.view ≢ now)) }
         ensures kept { IfErr result (λ e. (seat.new ≡ seat.old) × (e.1 ≡ plan)) }
-        ensures ok { IfOk result (λ receipt. WasLocked P.app P.from_text L.mark L.seats (λ b.
+        ensures ok { IfOk result (λ receipt. HasContinuation P.app P.from_text L.book (λ b.
             IsSeen P.app b.config plan.view × IsBooked P.app b plan.event receipt)) }
-        ensures err { IfErr result (λ e. WasLocked P.app P.from_text L.mark L.seats (λ b.
+        ensures err { IfErr result (λ e. HasContinuation P.app P.from_text L.book (λ b.
             IsUncommitted P.app b seat.old.node plan e.0)) }
+        ensures there { IfErr result (λ e. e.0 ≢ CommitRefusal.Refused ApplyRefusal.StrangeNode) }
+        ensures full { IfErr result (λ e. e.0 ≡ CommitRefusal.Refused ApplyRefusal.BookFull
+            → HasContinuation P.app P.from_text L.book IsFull) }
     {
+        seat.lemma_is_node();
         let neighbours = self.neighbours(seat.node());
         let mut guarded = self.guarded.lock(rt);
         guarded.locked.lemma_is_locked();
@@ -212,9 +216,9 @@ impl<L: Round, P: Application> Shared<L, P> {
         ensures seat { IfOk result (λ receipt. seat.new ≡ with_receipt seat.old receipt) }
         ensures not_yours { result ≡ Err SeatRefusal.NotYours ↔ event_node event ≢ seat.old.node }
         ensures kept { OnErr result (seat.new ≡ seat.old) }
-        ensures ok { IfOk result (λ receipt. WasLocked P.app P.from_text L.mark L.seats (λ b.
+        ensures ok { IfOk result (λ receipt. HasContinuation P.app P.from_text L.book (λ b.
             IsBooked P.app b event receipt)) }
-        ensures err { IfErr result (λ f. WasLocked P.app P.from_text L.mark L.seats (λ b.
+        ensures err { IfErr result (λ f. HasContinuation P.app P.from_text L.book (λ b.
             IsUndone P.app b seat.old.node event f)) }
     {
         let neighbours = self.neighbours(seat.node());
@@ -309,7 +313,7 @@ fn if_changed(neighbours: &[usize], changed: bool) -> &[usize] {
 }
 
 /// Asks for a reset at the seat's node: a step with its request. It takes the lock.
-pub fn select<L: Round, P: Application, R: Wait>(
+pub fn select<L: Sharing<P::Local>, P: Application, R: Wait>(
     rt: &R,
     alloc: Global,
     shared: &Shared<L, P>,
@@ -319,9 +323,9 @@ pub fn select<L: Round, P: Application, R: Wait>(
     ensures seat { IfOk result (λ receipt. seat.new ≡ with_receipt seat.old receipt) }
     ensures yours { result ≢ Err SeatRefusal.NotYours }
     ensures kept { OnErr result (seat.new ≡ seat.old) }
-    ensures ok { IfOk result (λ receipt. WasLocked P.app P.from_text L.mark L.seats (λ b.
+    ensures ok { IfOk result (λ receipt. HasContinuation P.app P.from_text L.book (λ b.
         IsBooked P.app b (Request seat.old.node) receipt)) }
-    ensures err { IfErr result (λ f. WasLocked P.app P.from_text L.mark L.seats (λ b.
+    ensures err { IfErr result (λ f. HasContinuation P.app P.from_text L.book (λ b.
         IsUndone P.app b seat.old.node (Request seat.old.node) f)) }
 {
     let at = seat.node();
