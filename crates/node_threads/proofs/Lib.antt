@@ -1,6 +1,8 @@
 mod Entering
 mod Telling
 mod Comparing
+mod Few
+mod Once
 mod Collecting
 mod Crossing
 mod Turning

@@ -1,6 +1,7 @@
 -- Why a seat's plan or event is refused.
 use Rattle.std.proofs.Common.{◌≡◌, ◌∙◌, ℕ, List, Option, Result, Ok, Err, OnOk, IfErr, ap, arith, refl, subst, sym}
-use Rattle.std.specs.Prelude.{◌≢◌, ◌↔◌}
+use Rattle.std.proofs.Common.{Some, None, IfSome}
+use Rattle.std.specs.Prelude.{◌≢◌, ◌↔◌, MatchOption}
 use Rattle.app_interface.specs.Application.{App}
 use Rattle.topology.specs.Graph.{IsNode}
 use Rattle.reset_model.specs.declared.event.Event.{Event}
@@ -9,6 +10,12 @@ use Rattle.reset_model.specs.Steps.{event_node}
 use Rattle.reset_model.specs.View.{NodeView}
 use Rattle.history.specs.Book.{BookView, IsBook}
 use Rattle.history.specs.declared.entry.Receipt.{Receipt}
+use Rattle.node_threads.specs.Closed.{HasCloseFault, IsCloseFault}
+use Rattle.node_threads.specs.Seats.{SeatView}
+use Rattle.node_threads.specs.declared.closing.CloseFault.{CloseFault}
+use Rattle.node_threads.specs.declared.closing.CloseFault.TheVariants as close
+use Rattle.node_threads.specs.declared.run.RunCause.{RunCause}
+use Rattle.node_threads.specs.declared.run.RunCause.TheVariants as run
 use Rattle.history.specs.declared.refusal.ApplyRefusal.TheVariants.{StrangeNode, Stale, BookFull, NoMemory}
 use Rattle.node_threads.specs.Locked.{IsFull, IsPlanOf, IsUncommitted, IsUndone}
 use Rattle.node_threads.specs.declared.refusal.CommitRefusal.{CommitRefusal}
@@ -55,3 +62,38 @@ pub event_not_yours : {L : Type 0} (app : App L) (b : BookView L) (i : ℕ) (e :
 event_not_yours app b i e (Ok receipt) on is = (λ told. absurd (cc), λ no. absurd (no on))
 event_not_yours app b i e (Err seat.NotYours) on is = (λ told. is, λ no. refl)
 event_not_yours app b i e (Err (seat.Refused why)) on is = (λ told. absurd (cc), λ no. absurd (no is.0))
+
+-- a fault of closing that a run tells as one
+pub told_close : (fault : CloseFault) (cause : RunCause) → (fault ≡ close.NoMemory → cause ≡ run.NoMemory)
+    → (fault ≢ close.NoMemory → cause ≡ run.Close fault) → (f : CloseFault) → cause ≡ run.Close f
+    → (fault ≡ f) × (f ≢ close.NoMemory)
+told_close close.NoMemory cause memory other f is = (let same : cause ≡ run.NoMemory = memory refl in absurd (cc))
+told_close (close.SeatMissing i) cause memory other f is =
+    let by : cause ≡ run.Close (close.SeatMissing i) = other (λ e. absurd (cc)) in
+    let same : close.SeatMissing i ≡ f = cc in (same, λ e. absurd (cc))
+told_close (close.ListsDiffer i) cause memory other f is =
+    let by : cause ≡ run.Close (close.ListsDiffer i) = other (λ e. absurd (cc)) in
+    let same : close.ListsDiffer i ≡ f = cc in (same, λ e. absurd (cc))
+
+module _ {L : Type 0} (app : App L) (from_text : List ℕ → Option L) where
+  pub has_close_fault : (first book : BookView L) (nodes : List ℕ) (seats : List SeatView) (fault f : CloseFault)
+      → book ≡ first → book.config.graph.nodes ≡ nodes → IsCloseFault app from_text first nodes seats fault
+      → (fault ≡ f) × (f ≢ close.NoMemory) → HasCloseFault app from_text book f
+  has_close_fault first book nodes seats fault f is there why (same, other) =
+      let here = subst (λ b. IsCloseFault app from_text b nodes seats fault) (sym is) why in
+      let own = subst (λ ns. IsCloseFault app from_text book ns seats fault) (sym there) here in
+      record {
+        seats = seats;
+        fault = subst (λ g. IsCloseFault app from_text book book.config.graph.nodes seats g) same own;
+        other = other;
+      }
+
+-- a selected node isn't both there and strange
+pub not_both : (selected : Option ℕ) (P : ℕ → Type 0) → MatchOption selected ⊥ (λ i. P i → ⊥) → IfSome selected P → ⊥
+not_both None P strange there = strange
+not_both (Some i) P strange there = strange there
+
+-- what holds of any fault
+pub any_err : {X E : Type 0} (r : Result X E) (P : E → Type 0) → ((f : E) → P f) → IfErr r P
+any_err (Ok x) P all = tt
+any_err (Err f) P all = all f

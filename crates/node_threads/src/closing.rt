@@ -120,6 +120,8 @@ impl<L: Sharing<P::Local>, P: Application> Locked<L, P> {
         ensures ok { OnOk result (AreSeatLists P.app P.from_text self.now.book self.now.mark (map list_of seats.now)) }
         ensures seated { OnOk result (first_missing self.now.book.config.graph.nodes seats.now ≡ None) }
         ensures err { IfErr result (IsUnclosed P.app P.from_text self.now.book self.now.mark seats.now) }
+        ensures exact { IfErr result (λ f. f ≢ CloseFault.NoMemory
+            → AreSeatLists P.app P.from_text self.now.book self.now.mark (map list_of seats.now) → ⊥) }
     {
         match first_missing(self.book.config().topology().nodes(), seats) {
             None => {}

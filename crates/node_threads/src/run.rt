@@ -5,7 +5,7 @@ ghost use Rattle.std.specs.Prelude.{length};
 ghost use denote.Param.{param};
 ghost use denote.Param.Send.{IsSync};
 ghost use Rattle.topology.specs.Graph.{IsNode};
-ghost use Rattle.node_threads.specs.Closed.{IsClosed};
+ghost use Rattle.node_threads.specs.Closed.{HasCloseFault, IsClosed};
 ghost use Rattle.node_threads.specs.Locked.{IsContinued};
 ghost use Rattle.node_threads.specs.contracts.sharing.Shared.{the_row};
 
@@ -80,6 +80,12 @@ pub fn run_nodes<P: Application, G: Gate + Sync, R: Threads + Wait + Sync>(
     ensures strange { IfErr result (λ e. e.cause ≡ RunCause.StrangeNode
         → MatchOption selected ⊥ (λ i. IsNode book.config.graph i → ⊥)) }
     ensures many { IfErr result (λ e. e.cause ≡ RunCause.TooManyForThreads → 64 < length book.config.graph.nodes) }
+    ensures first { IfErr result (λ e.
+        (MatchOption selected ⊥ (λ i. IsNode book.config.graph i → ⊥) → e.cause ≡ RunCause.StrangeNode)
+        × (IfSome selected (λ i. IsNode book.config.graph i) → 64 < length book.config.graph.nodes
+        → e.cause ≡ RunCause.TooManyForThreads)) }
+    ensures close { IfErr result (λ e. (f : CloseFault) → e.cause ≡ RunCause.Close f
+        → HasCloseFault P.app P.from_text book f) }
     ensures back { IfErr result (λ e. (e.cause ≡ RunCause.StrangeNode → e.book ≡ book)
         × (e.cause ≡ RunCause.TooManyForThreads → e.book ≡ book)) }
     ensures stands { IfErr result (λ e. IsContinued P.app P.from_text book e.book) }
@@ -133,6 +139,8 @@ fn run_round<
     ensures strange { IfErr result (λ e. e.cause ≢ RunCause.StrangeNode) }
     ensures many { IfErr result (λ e. e.cause ≡ RunCause.TooManyForThreads → 64 < length L.nodes) }
     ensures back { IfErr result (λ e. e.cause ≡ RunCause.TooManyForThreads → e.book ≡ book) }
+    ensures close { IfErr result (λ e. (f : CloseFault) → e.cause ≡ RunCause.Close f
+        → HasCloseFault P.app P.from_text book f) }
     ensures stands { IfErr result (λ e. IsContinued P.app P.from_text L.book e.book) }
 {
     let (shared, seats) = match share::<L, P>(alloc, blank, book) {
@@ -182,6 +190,7 @@ fn lemma_stands<P: Application>(book: &Book<P>)
 fn cause_of(fault: ShareFault) -> RunCause
     ensures many { result ≡ RunCause.TooManyForThreads → fault ≡ ShareFault.TooManyForThreads }
     ensures strange { result ≢ RunCause.StrangeNode }
+    ensures close { (f : CloseFault) → result ≢ RunCause.Close f }
 {
     match fault {
         ShareFault::TooManyForThreads => RunCause::TooManyForThreads,

@@ -1,4 +1,4 @@
-use Rattle.std.proofs.Common.{◌≡◌, ◌+◌, ap, sym, ◌∙◌, length, drop, take}
+use Rattle.std.proofs.Common.{◌+◌, ap, sym, ◌∙◌, drop, take}
 use Rattle.std.specs.List.{list_all}
 use Rattle.node_threads.specs.Locked.{is_step}
 use Rattle.node_threads.proofs.locked.Locked.lemma_is_locked.Goals as goal

@@ -1,5 +1,4 @@
 use Rattle.std.proofs.Common.{Contains, sym, subst, ◌∙◌}
-use Rattle.topology.specs.Graph.{IsNode}
 use Rattle.node_threads.specs.Locked.{IsContinued}
 use Rattle.node_threads.proofs.Entering.{booked_entered, if_err, if_err_on, if_ok, if_ok_on, on_ok}
 use Rattle.node_threads.proofs.Refusing.{plan_full, plan_not_yours, plan_stale, plan_there}
