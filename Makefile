@@ -1,11 +1,17 @@
 # Needs `rt`, the command of the Rattle kit, make and python3, which rt needs too: nothing else, but for
 # `make bench`.
 
-.PHONY: run build install examples test mutants gate-times reading-list bench fuzz soak
+.PHONY: run try build install examples test mutants gate-times reading-list bench fuzz soak
 
-# Builds the program and replays one whole reset wave on the line of nodes 1, 2, 3.
-run: build
-	build/reset-service replay examples/one-wave/topology.toml examples/one-wave/script
+# Replays one whole reset on the line of nodes 1, 2, 3: by the proved program where `make build` has left it, else
+# by the program before its proof, within two minutes.
+run:
+	@tools/run replay examples/one-wave/topology.toml examples/one-wave/script
+
+# Runs any subcommand before the proof: make try ARGS="check examples/one-wave/topology.toml". The files that it names
+# are copied; what it writes to files is lost.
+try:
+	@tools/run --unproved $(ARGS)
 
 # Leaves the proved program at build/reset-service.
 build:
@@ -50,6 +56,6 @@ bench: build
 fuzz: build
 	@tests/fuzz build/reset-service $(or $(N),100000) $(or $(SEED),reset) $(JOBS)
 
-# Runs 64 node threads for long, three times, and verifies what they keep: make soak TURNS=100000
+# Runs 64 node threads for long, three times, and verifies what they keep: make soak TURNS=5000
 soak: build
 	@tests/soak build/reset-service $(TURNS)

@@ -12,6 +12,9 @@ import threading
 import time
 
 PARTS = ("src", "specs", "proofs")
+PROGRAM = "service_main"
+BUILT = "build/reset-service"
+KIT = "rattle-kit-13f"  # what the repository is proved with, the first word of `rt version`
 
 
 def crates():
@@ -46,6 +49,23 @@ def built(below, name):
     """Whether the library stands in its out/ as it was built from what its sources are now."""
     stamp = f"crates/{name}/out/rlib/stamp"
     return os.path.isfile(stamp) and os.stat(stamp).st_mtime > sources({name} | all_below(below, name))
+
+
+def is_current():
+    """Whether the program is built and no source of it is newer."""
+    names = {PROGRAM} | all_below(crates(), PROGRAM)
+    return os.path.isfile(BUILT) and os.stat(BUILT).st_mtime > sources(names)
+
+
+def kit_fault():
+    """What is wrong with the kit, with what to do, or None where it is the one that the repository is proved with."""
+    try:
+        said = subprocess.run(["rt", "version"], stdout=subprocess.PIPE, stderr=subprocess.DEVNULL, text=True).stdout.split()
+    except FileNotFoundError:
+        return f"`rt`, the command of the Rattle kit, isn't in the PATH: install {KIT} and add its folder bin to the PATH"
+    if said[:1] != [KIT]:
+        return f"`rt version` prints {' '.join(said) or 'nothing'}, and the repository is proved with {KIT}: install that kit"
+    return None
 
 
 def processors():

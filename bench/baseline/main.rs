@@ -4,6 +4,7 @@
 //! and no `newest`. Or it takes `verify TOPOLOGY HISTORY`, as `reset-service` does, of such topologies and
 //! of histories without `act`, or `threads TOPOLOGY --turns N --history FILE`, of such topologies.
 
+mod choices;
 mod draw;
 mod event;
 mod faults;

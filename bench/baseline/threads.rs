@@ -1,28 +1,32 @@
-//! One thread a node around one mutex: what each does under the lock is its whole turn.
+//! One thread a node around one mutex. What a node does is its whole turn, under the lock; a node that has nothing to do
+//! waits on a condition variable of its own until a neighbour has changed, or until all who take turns wait.
 
+use crate::choices::Entry;
 use crate::event::Event;
-use crate::network::{Local, Network, Node};
-use crate::tables::{Refusal, Reply};
-use std::fmt;
+use crate::network::Network;
+use crate::tables::Reply;
 use std::io::{self, Write};
-use std::sync::Mutex;
+use std::sync::{Condvar, Mutex, MutexGuard};
 use std::thread;
 
 const MAX_ENTRIES: usize = 1_000_000;
-
-/// What a node did: a step, or an action of `mutex`.
-#[derive(Clone, Copy)]
-enum Entry {
-    Step(Event),
-    Enter(u32),
-    Leave(u32),
-}
 
 /// What lies under the lock.
 struct Book {
     network: Network,
     entries: Vec<Entry>,
     reports: usize,
+    /// How many nodes take turns, how many of them wait, and which.
+    present: usize,
+    waiting: usize,
+    waits: Vec<bool>,
+}
+
+/// What the threads share.
+struct Round {
+    book: Mutex<Book>,
+    wakeups: Vec<Condvar>,
+    neighbours: Vec<Vec<usize>>,
 }
 
 /// Runs a thread for each node: the one with the least identifier asks for a reset, and then each takes so
@@ -33,120 +37,123 @@ pub fn run_threads(
     history: &mut impl Write,
     out: &mut impl Write,
 ) -> io::Result<()> {
-    let ids: Vec<u32> = network.nodes.iter().map(|node| node.id).collect();
-    let book = Mutex::new(Book { network, entries: Vec::new(), reports: 0 });
+    let round = Round::new(network);
+    let count = round.wakeups.len();
     thread::scope(|scope| {
-        for (place, id) in ids.iter().enumerate() {
-            let book = &book;
-            scope.spawn(move || {
-                if place == 0 {
-                    book.lock().unwrap().enter(Entry::Step(Event::Request(*id)));
-                }
-                for _ in 0..turns {
-                    book.lock().unwrap().take_turn(place);
-                }
-            });
+        for place in 0..count {
+            let round = &round;
+            scope.spawn(move || round.run_node(place, turns));
         }
     });
-    let book = book.into_inner().unwrap();
+    let book = round.book.into_inner().unwrap();
     writeln!(history, "reset-history 3 {}", book.network.modulus)?;
     for entry in &book.entries {
         writeln!(history, "{entry}")?;
     }
     let (entries, reports) = (book.entries.len(), book.reports);
-    writeln!(out, "threads {} nodes {entries} entries {reports} reports", ids.len())
+    writeln!(out, "threads {count} nodes {entries} entries {reports} reports")
+}
+
+impl Round {
+    fn new(network: Network) -> Round {
+        let count = network.nodes.len();
+        let place_of = |id| network.nodes.binary_search_by_key(&id, |node| node.id).unwrap();
+        let neighbours =
+            network.nodes.iter().map(|node| network.neighbours(node).map(|near| place_of(near.id)).collect()).collect();
+        let waits = vec![false; count];
+        let book = Book { network, entries: Vec::new(), reports: 0, present: count, waiting: 0, waits };
+        Round { book: Mutex::new(book), wakeups: (0..count).map(|_| Condvar::new()).collect(), neighbours }
+    }
+
+    fn run_node(&self, place: usize, turns: u32) {
+        if place == 0 {
+            let mut book = self.book.lock().unwrap();
+            let asks = Entry::Step(Event::Request(book.network.nodes[0].id));
+            if book.enter(asks) {
+                self.wake_neighbours(book, place);
+            }
+        }
+        for _ in 0..turns {
+            if !self.take_turn(place) {
+                break;
+            }
+        }
+        self.leave(place);
+    }
+
+    /// Does the next entry of a node, which may have to be waited for; no, where none comes any more.
+    fn take_turn(&self, place: usize) -> bool {
+        let mut book = self.book.lock().unwrap();
+        loop {
+            if let Some(entry) = book.network.next_entry(&book.network.nodes[place]) {
+                let entered = book.enter(entry);
+                if entered {
+                    self.wake_neighbours(book, place);
+                }
+                return entered;
+            }
+            book.waits[place] = true;
+            book.waiting += 1;
+            if book.waiting == book.present {
+                self.wake_all(book);
+                return false;
+            }
+            let sleeps = |book: &mut Book| book.waits[place] && book.waiting < book.present;
+            book = self.wakeups[place].wait_while(book, sleeps).unwrap();
+            if book.waits[place] {
+                return false;
+            }
+        }
+    }
+
+    fn wake_neighbours(&self, mut book: MutexGuard<Book>, place: usize) {
+        for &at in &self.neighbours[place] {
+            book.stop_waiting(at);
+        }
+        drop(book);
+        for &at in &self.neighbours[place] {
+            self.wakeups[at].notify_one();
+        }
+    }
+
+    fn wake_all(&self, book: MutexGuard<Book>) {
+        drop(book);
+        for wakeup in &self.wakeups {
+            wakeup.notify_all();
+        }
+    }
+
+    fn leave(&self, place: usize) {
+        let mut book = self.book.lock().unwrap();
+        book.stop_waiting(place);
+        book.present -= 1;
+        if book.waiting == book.present {
+            self.wake_all(book);
+        }
+    }
 }
 
 impl Book {
-    fn take_turn(&mut self, place: usize) {
-        if let Some(entry) = self.network.next_entry(&self.network.nodes[place]) {
-            self.enter(entry);
+    fn stop_waiting(&mut self, place: usize) {
+        if self.waits[place] {
+            self.waits[place] = false;
+            self.waiting -= 1;
         }
     }
 
     /// Does an entry and keeps it, if it is allowed and there is room.
-    fn enter(&mut self, entry: Entry) {
+    fn enter(&mut self, entry: Entry) -> bool {
         if self.entries.len() == MAX_ENTRIES {
-            return;
+            return false;
         }
         let done = match entry {
             Entry::Step(event) => self.network.step(event),
             Entry::Enter(at) => self.network.put_inside(at, true),
             Entry::Leave(at) => self.network.put_inside(at, false),
         };
-        if let Ok(reply) = done {
-            self.reports += usize::from(matches!(reply, Reply::Complete(_)));
-            self.entries.push(entry);
-        }
-    }
-}
-
-impl Network {
-    /// The first entry that is allowed at the node, in a fixed order.
-    fn next_entry(&self, node: &Node) -> Option<Entry> {
-        let id = node.id;
-        self.next_of_tree(node).or_else(|| self.next_of_wave(node)).map(Entry::Step).or_else(|| {
-            match self.act_rows(node) {
-                0 => None,
-                rows if rows & 1 << 1 != 0 => Some(Entry::Enter(id)),
-                _ => Some(Entry::Leave(id)),
-            }
-        })
-    }
-
-    fn next_of_tree(&self, node: &Node) -> Option<Event> {
-        let up = self.father(node);
-        if self.claim_rows(node, up) != 0 {
-            return Some(Event::Claim(node.id));
-        }
-        if self.follow_rows(node, up) != 0 {
-            return Some(Event::Follow(node.id));
-        }
-        let from = self.neighbours(node).find(|near| self.adopt_rows(node, near) != 0)?;
-        Some(Event::Adopt(node.id, from.id))
-    }
-
-    fn next_of_wave(&self, node: &Node) -> Option<Event> {
-        let (id, up) = (node.id, self.father(node));
-        if self.mend_rows(node, up) != 0 {
-            return Some(Event::Mend(id));
-        }
-        if self.join_rows(node, up) != 0 {
-            return Some(Event::Join(id));
-        }
-        if self.finish_rows(node) != 0 {
-            return Some(Event::Finish(id));
-        }
-        if Self::open_rows(node) != 0 {
-            return Some(Event::Open(id));
-        }
-        let child = self.children(node).find(|near| Self::relay_rows(node, near) != 0)?;
-        Some(Event::Relay(id, child.id))
-    }
-
-    /// Puts a node of `mutex` in, or out with the turns handed on.
-    fn put_inside(&mut self, id: u32, inside: bool) -> Result<Reply, Refusal> {
-        let at = self.find(id)?;
-        let bit = self.nodes[at].local.bit;
-        self.nodes[at].local = Local { inside, bit: if inside { bit } else { !bit } };
-        Ok(Reply::Applied)
-    }
-}
-
-impl fmt::Display for Entry {
-    fn fmt(&self, f: &mut fmt::Formatter) -> fmt::Result {
-        match self {
-            Entry::Step(Event::Claim(at)) => write!(f, "claim {at}"),
-            Entry::Step(Event::Follow(at)) => write!(f, "follow {at}"),
-            Entry::Step(Event::Adopt(at, from)) => write!(f, "adopt {at} {from}"),
-            Entry::Step(Event::Request(at)) => write!(f, "request {at}"),
-            Entry::Step(Event::Relay(at, child)) => write!(f, "relay {at} {child}"),
-            Entry::Step(Event::Open(at)) => write!(f, "open {at}"),
-            Entry::Step(Event::Join(at)) => write!(f, "join {at}"),
-            Entry::Step(Event::Finish(at)) => write!(f, "finish {at}"),
-            Entry::Step(Event::Mend(at)) => write!(f, "mend {at}"),
-            Entry::Enter(at) => write!(f, "act {at} 1"),
-            Entry::Leave(at) => write!(f, "act {at} 2"),
-        }
+        let Ok(reply) = done else { return false };
+        self.reports += usize::from(matches!(reply, Reply::Complete(_)));
+        self.entries.push(entry);
+        true
     }
 }

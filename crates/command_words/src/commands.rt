@@ -105,9 +105,9 @@ Example:
 };
 
 const VERIFY_HELP: Help = Help {
-    about: "Tells whether a history could happen, and which resets it completed",
+    about: "Checks that a history is possible, and prints which resets it completed",
     long_about: "\
-Tells whether a history could happen, and which resets it completed.
+Checks that a history is possible, and prints which resets it completed.
 
 A history is what happened to a network, from the booted configuration of its topology on: each
 event that a node took, and each fault. For each reset that was completed there is a line `report
@@ -161,12 +161,12 @@ Runs a thread for each node, and writes what the nodes did as a history.
 
 The network starts from the booted configuration of its topology. The node with the least
 identifier asks for a reset first. Then each node takes N turns, all nodes at the same time. In a
-turn a node does the first event that it may do, requests left out; it does nothing where it may do
-none, or where a neighbour has changed what it saw. What the nodes did is written to FILE as a
-history, which `verify` accepts; the file is created, or emptied where it is there. At most
-1,000,000 entries are kept: a run that reaches this many ends there. Then one line is printed,
-`threads N nodes E entries R reports`: the nodes, the entries of the history, and the resets that
-were completed.
+turn a node does the first event that it may do, requests left out, or nothing where a neighbour has
+changed what it saw. A node that may do none waits until a neighbour has changed, and the turns end
+where every node that has turns left waits. What the nodes did is written to FILE as a history,
+which `verify` accepts; the file is created or truncated. At most 1,000,000 entries are kept: a run
+that reaches this many ends there. Then one line is printed, `threads N nodes E entries R reports`:
+the nodes, the entries of the history, and the resets that were completed.
 
 A topology of over 64 nodes is answered by `bad topology TooManyForThreads`, and the exit status
 is 2.",
@@ -182,7 +182,7 @@ const FEW_NODES_HELP: &str =
 const TURNS_HELP: &str = "How many turns each node takes, from 1 to 100000";
 
 const HISTORY_FILE_HELP: &str =
-    "The file that the history is written to, emptied before: none of the files that are read";
+    "The file that the history is written to; it is truncated, and must not be an input";
 
 const TABLES_ABOUT: &str = "Prints the tables that the nodes act by";
 
@@ -247,7 +247,7 @@ Writes the text of a topology of a standard shape, with the nodes 1 to N.
   ring    a path whose ends are linked
   star    node 1 is linked with each other one
   tree    a binary tree: node I is linked with the node at half of I
-  grid    rows as wide as they are many, each node linked with the next one and the one below
+  grid    a near-square grid, each node linked with the next one and the one below
   random  each node is linked with one or two lesser ones, which are drawn by the seed
 
 A name that isn't known is answered in place of the text, and the exit status is 2.",

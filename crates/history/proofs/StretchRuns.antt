@@ -107,14 +107,14 @@ module _ {L : Type 0} (app : App L) (from_text : List ℕ → Option L) where
 
   pub record AreTaken (c : Configuration L) (events : List Event) (left : Configuration L) : Type 0 where
     pub taken : List (Transition L)
-    pub events : events_of taken ≡ events
+    pub same : events_of taken ≡ events
     pub steps : Steps app c taken left
 
   pub all_taken : (events : List Event) (c left : Configuration L) → IsNetwork c
       → replayed app from_text c (steps events) ≡ Some left → AreTaken c events left
   unfolding replayed
   all_taken [] c left network is =
-      let same : left ≡ c = cc in record { taken = []; events = refl; steps = same }
+      let same : left ≡ c = cc in record { taken = []; same = refl; steps = same }
   all_taken (e ∷ events) c left network is =
       let first = first_done c left e (steps events) is in
       let step = (outcome_is_step app c network.graph network.shaped e first.after first.reply first.outcome).0 in
@@ -122,7 +122,7 @@ module _ {L : Type 0} (app : App L) (from_text : List ℕ → Option L) where
       let more = all_taken events first.after left there first.rest in
       record {
         taken = record { before = c; event = e; after = first.after } ∷ more.taken;
-        events = ap (λ xs. e ∷ xs) more.events;
+        same = ap (λ xs. e ∷ xs) more.same;
         steps = (refl, step, more.steps);
       }
 

@@ -82,9 +82,9 @@ once_between app from_text c after here left top session reply since network sou
     let finish =
     outcome_is_step app here here_network.graph here_network.shaped (Finish top) left (Complete session) finishes in
     let own = own_finish app (tree_of here) (wave_of here) top session _ refl (sym finish.1) in
-    subst (JoinsOnce c.graph top) done.events
+    subst (JoinsOnce c.graph top) done.same
     (joins_between app top done.taken c after here left network.graph network.shaped.modulus sound opening.0 done.steps
-    (subst (λ events. times (is_open_at top) events ≡ 0) (sym done.events) unopened) finish.0 own)
+    (subst (λ events. times (is_open_at top) events ≡ 0) (sym done.same) unopened) finish.0 own)
 
 module _ {L : Type 0} (app : App L) (from_text : List ℕ → Option L) (opening : Configuration L)
     (network : IsNetwork opening) (es : List Entry) (s : Stretch L) (is : IsStretch app from_text opening es s)

@@ -469,7 +469,7 @@ impl<P: Application> Config<P> {
         self.nodes.modulus()
     }
 
-    /// The tree registers of all nodes, in the order of their identifiers.
+    /// The tree registers of all identifiers, in their order; of one that is down those that it had.
     pub fn trees(&self) -> &[TreeRegs]
         ensures value { result.now ≡ self.now.trees }
         ensures shaped { IsShaped self.now }
@@ -477,7 +477,7 @@ impl<P: Application> Config<P> {
         self.nodes.trees()
     }
 
-    /// The wave registers of all nodes, in the order of their identifiers.
+    /// The wave registers of all identifiers, in their order; of one that is down those that it had.
     pub fn waves(&self) -> &[WaveRegs]
         ensures value { result.now ≡ self.now.waves }
         ensures shaped { IsShaped self.now }
@@ -485,7 +485,7 @@ impl<P: Application> Config<P> {
         self.nodes.waves()
     }
 
-    /// The local states of all nodes, in the order of their identifiers.
+    /// The local states of all identifiers, in their order; of one that is down the one that it had.
     pub fn locals(&self) -> &[P::Local]
         ensures value { result.now ≡ self.now.locals }
         ensures shaped { IsShaped self.now }

@@ -8,7 +8,10 @@ use Rattle.reset_model.specs.Headline.{Headline, Steps, Transition, events_of}
 use Rattle.reset_model.specs.Progress.{WavesEnd}
 
 -- c became c' by steps of exactly these events, of which the headline holds, and in each component the waves end
-abbrev pub IsBySteps : {L : Type 0} → App L → (Graph → (ℕ → L) → Type 0) → Configuration L → List Event → Configuration L → Type 0
-IsBySteps {L} app Inv c es c' =
-    (ss : List (Transition L)) × (events_of ss ≡ es) × Steps app c ss c' × Headline app Inv c ss c'
-    × ((i : ℕ) → IsNode c.graph i → WavesEnd app c ss c' i)
+pub record IsBySteps {L : Type 0} (app : App L) (Inv : Graph → (ℕ → L) → Type 0) (c : Configuration L) (es : List Event)
+    (c' : Configuration L) : Type 0 where
+  pub taken : List (Transition L)
+  pub events : events_of taken ≡ es
+  pub steps : Steps app c taken c'
+  pub headline : Headline app Inv c taken c'
+  pub ends : (i : ℕ) → IsNode c.graph i → WavesEnd app c taken c' i

@@ -8,7 +8,7 @@ ghost use Rattle.topology.specs.Graph.{Graph, IsConnected, IsGraph};
 use app_interface::Application;
 use std::marker::PhantomData;
 
-/// A program that runs at every node and is reset as a whole, as far as the headline goes.
+/// A program that runs at every node and is reset as a whole: what the headline asks of one.
 pub trait Program {
     /// What a node keeps.
     type Local;
@@ -19,7 +19,7 @@ pub trait Program {
     // What holds of the local states of all nodes from a reset on.
     ghost Inv: { Graph → (ℕ → Self.Local) → Type 0 };
 
-    /// Does nothing. What stands below the functions of a trait are laws.
+    /// Does nothing. The ghost members that come after a trait's first function are its laws.
     fn marker();
 
     // On every connected graph with a node, and for every bound that the number of its identifiers doesn't
@@ -27,11 +27,11 @@ pub trait Program {
     ghost keeps: { (g : Graph) (bound : ℕ) → IsGraph g → IsConnected g → 0 < length g.nodes
         → length g.ids ≤ bound → Keeps app g bound (Inv g) };
 
-    // A node's start state hangs on its component alone.
+    // A node's start state depends on its component alone.
     ghost starts: { StartsByComponent app };
 }
 
-/// What an application is of that.
+/// An application as such a program.
 pub struct ProgramOf<P> {
     of: PhantomData<P>,
 }

@@ -1,4 +1,4 @@
-// The headline, and that runs are what it speaks of.
+// The two theorems, and that runs are what they are about.
 
 ghost use Rattle.std.specs.Prelude.{◌≡◌, ℕ, List};
 ghost use Rattle.action_tables.specs.Modulus.{IsModulus};
@@ -17,8 +17,8 @@ use crate::program::{Program, ProgramOf};
 use app_interface::Application;
 
 /// The headline. Whatever steps are taken in turn from sound registers on, the registers stay sound; the local
-/// states of the newest sessions are those of the abstract machine, which resets a whole component at once; each
-/// reset that is told complete is; and the application's invariant is kept, and holds where a session was opened.
+/// states of the newest sessions are those of the abstract machine, which resets a whole component at once; each reset
+/// that is reported complete is complete; and the application's invariant is kept, and holds where a session was opened.
 pub fn headline<P: Program>()
     ensures { (c c' : Configuration P.Local) (ss : List (Transition P.Local)) → IsGraph c.graph → IsModulus c.modulus
         → IsSound c → Steps P.app c ss c' → Headline P.app P.Inv c ss c' }

@@ -160,7 +160,7 @@ module _ {L : Type 0} (m : Meaning L) (Inv : Graph → (ℕ → L) → Type 0) w
           lawful = lawful;
           invariant = λ i node.
               let before : IsNode c.graph i = subst (λ h. IsNode h i) (sym boot.graph) node in
-              lawful.3.keeps i before (inl (hold g modulus c graph boot i before));
+              lawful.headline.keeps i before (inl (hold g modulus c graph boot i before));
           told = ap (λ (o : Output). o.0) is
               ∙ ap (λ (h : Graph). threads_line (length h.nodes) (length events) (length reports)) boot.graph;
           true_reports = All-weaker (Contains reports) (IsTrueReport m.app m.from_text c es s)

@@ -30,8 +30,8 @@ returns-clause-opened g c = λ before after es ds i o graph counted sound run re
     (λ j linked.
     let node : IsNode after.graph i = there.ends i j linked in
     let inv =
-    by_steps.3.keeps i (subst (λ h. IsNode h i) kept.0 node)
-    (inr (o, reached, subst (λ xs. Contains xs (Open o)) (sym by_steps.1) opened)) in
+    by_steps.headline.keeps i (subst (λ h. IsNode h i) kept.0 node)
+    (inr (o, reached, subst (λ xs. Contains xs (Open o)) (sym by_steps.events) opened)) in
     let part = component_is after.graph i there node in
     let few : length (component after.graph i).ids ≤ node_bound after.graph =
     omega (arith, ap (λ xs. length xs) part.ids) in
