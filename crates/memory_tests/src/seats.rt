@@ -8,8 +8,8 @@ use crate::page::Record;
 use app_interface::Idle;
 use history::{ApplyRefusal, Book, BookRefusal, Receipt, Report};
 use node_threads::{
-    CloseFault, CommitRefusal, Gate, LookRefusal, Outcome, Round, RunCause, Seat, SeatRefusal,
-    ShareFault, Shared, TurnsEnd, close, next_event, node_turns, run_nodes, select, share,
+    CloseFault, CommitRefusal, Gate, LookRefusal, Outcome, RunCause, Seat, SeatRefusal, ShareFault,
+    Shared, Sharing, TurnsEnd, close, next_event, node_turns, run_nodes, select, share,
 };
 use reset_machine::{Event, Plan, StepRefusal, View};
 use std::alloc::{AllocError, Global};
@@ -53,12 +53,17 @@ fn play<R: Wait + Abort>(rt: &R, alloc: Global) {
     play_round::<Brand, R>(rt, alloc, blank, book)
 }
 
-fn play_round<L: Round, R: Wait + Abort>(rt: &R, alloc: Global, blank: Blank, book: Book<Idle>)
+fn play_round<L: Sharing<()>, R: Wait + Abort>(
+    rt: &R,
+    alloc: Global,
+    blank: Blank,
+    book: Book<Idle>,
+)
     requires name { blank.name ≡ L.name }
     requires parts { blank.parts ≡ L.parts }
-    requires one_more { L.parts ≡ L.seats + 1 }
-    requires mark { length book.entries ≡ L.mark }
-    requires nodes { length book.config.graph.nodes ≡ L.seats }
+    requires one_more { L.parts ≡ length L.nodes + 1 }
+    requires nodes { book.config.graph.nodes ≡ L.nodes }
+    requires book { book ≡ L.book }
 {
     let before = Record::of(rt, &book);
     match share::<L, Idle>(alloc, blank, book) {
@@ -74,7 +79,7 @@ fn play_round<L: Round, R: Wait + Abort>(rt: &R, alloc: Global, blank: Blank, bo
     }
 }
 
-fn seen<L: Round, R: Wait + Abort>(
+fn seen<L: Sharing<()>, R: Wait + Abort>(
     rt: &R,
     alloc: Global,
     shared: &Shared<L, Idle>,
@@ -87,7 +92,7 @@ fn seen<L: Round, R: Wait + Abort>(
 }
 
 // What the seat's node would do first, as it sees its neighbourhood now.
-fn first_plan<L: Round, R: Wait + Abort>(
+fn first_plan<L: Sharing<()>, R: Wait + Abort>(
     rt: &R,
     alloc: Global,
     shared: &Shared<L, Idle>,
@@ -105,7 +110,7 @@ fn first_plan<L: Round, R: Wait + Abort>(
 }
 
 // Commits what the seat's node would do first, though memory is refused once; then the plan comes back.
-fn commit<L: Round, R: Wait + Abort>(
+fn commit<L: Sharing<()>, R: Wait + Abort>(
     rt: &R,
     alloc: Global,
     shared: &Shared<L, Idle>,
@@ -129,7 +134,7 @@ fn commit<L: Round, R: Wait + Abort>(
 }
 
 // Node 1 asks, node 2 passes the request on, node 3 asks by itself.
-fn first_step<L: Round, R: Wait + Abort>(
+fn first_step<L: Sharing<()>, R: Wait + Abort>(
     rt: &R,
     alloc: Global,
     shared: &Shared<L, Idle>,
@@ -155,7 +160,7 @@ fn first_step<L: Round, R: Wait + Abort>(
 
 // Takes all turns in which the seat's node has something to do, though memory is refused once. It takes turns alone, so
 // it waits for nobody.
-fn turns<L: Round, R: Wait + Abort>(
+fn turns<L: Sharing<()>, R: Wait + Abort>(
     rt: &R,
     alloc: Global,
     shared: &Shared<L, Idle>,
@@ -169,7 +174,7 @@ fn turns<L: Round, R: Wait + Abort>(
 }
 
 // Each seat's node takes its first step, and then the nodes take turns until none has anything to do.
-fn whole_reset<L: Round, R: Wait + Abort>(
+fn whole_reset<L: Sharing<()>, R: Wait + Abort>(
     rt: &R,
     alloc: Global,
     shared: Shared<L, Idle>,
@@ -191,7 +196,7 @@ fn whole_reset<L: Round, R: Wait + Abort>(
     drop(outcome);
 }
 
-fn closed<L: Round>(
+fn closed<L: Sharing<()>>(
     rt: &impl Abort,
     alloc: Global,
     shared: Shared<L, Idle>,

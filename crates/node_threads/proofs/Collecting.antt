@@ -1,42 +1,28 @@
 -- What is collected of the seats, where each node has one of them.
-use Rattle.std.proofs.Common.{◌≡◌, ℕ, suc, ◌+◌, ◌<◌, ◌≤◌, ◌==◌, ◌&&◌, ◌||◌, Bool, true, false, not}
+use Rattle.std.proofs.Common.{◌≡◌, ℕ, suc, ◌+◌, ◌<◌, ◌≤◌, ◌==◌, ◌||◌, Bool, true, false, not}
 use Rattle.std.proofs.Common.{All, Contains, List, [], ◌∷◌, ◌++◌, append_assoc, append-nil}
 use Rattle.std.proofs.Common.{◌≢◌, IfErr, OnOk, Result, Ok, Err}
-use Rattle.std.proofs.Common.{Option, None, length, map, filter, get_or, subst, sym, ap, ◌∙◌, refl, arith, sum_by}
+use Rattle.std.proofs.Common.{Option, Some, None, length, map, subst, sym, ap, ◌∙◌, refl, arith, sum_by}
 use Rattle.std.proofs.lemmas.List.{length-append}
 use Rattle.std.proofs.lemmas.List.Sums.{sum_by-append}
-use Rattle.std.specs.List.{list_any}
+use Rattle.std.specs.List.{find}
 use Rattle.std.specs.List.Sorted.{IsStrictlyIncreasing}
-use Rattle.std.proofs.lemmas.Bool.{eq-eqb}
-use Rattle.std.proofs.lemmas.List.{get_or_default}
+use Rattle.std.proofs.lemmas.Bool.{false≢true}
 use Rattle.std.proofs.lemmas.List.Elements.{All-map}
-use Rattle.std.proofs.lemmas.List.Filters.{length-filter_both}
 use Rattle.topology.specs.Graph.{has}
-use Rattle.topology.proofs.Ascending.{rises}
-use Rattle.topology.proofs.Membership.{Contains-has, has-Contains, has-filter}
+use Rattle.topology.proofs.Membership.{Contains-has, has-Contains}
 use Rattle.reset_model.proofs.FirstFound.{find-none}
 use Rattle.app_interface.specs.Application.{App}
 use Rattle.history.specs.declared.entry.Receipt.{Receipt}
 use Rattle.history.specs.Book.{BookView}
-use Rattle.node_threads.specs.Closed.{AreSeatLists, IsClosed, IsFirstDiffering, IsUnclosed, NodeList}
+use Rattle.node_threads.specs.Closed.{AreSeatLists, IsCloseFault, IsClosed, IsFirstDiffering, IsUnclosed, NodeList}
 use Rattle.node_threads.specs.Closed.{first_missing, is_seated, list_of}
 use Rattle.node_threads.specs.declared.closing.CloseFault.{CloseFault}
 use Rattle.node_threads.specs.declared.closing.CloseFault.TheVariants.{SeatMissing, ListsDiffer, NoMemory}
-use Rattle.node_threads.specs.Locked.{IsLocked}
+use Rattle.node_threads.specs.Locked.{IsContinued}
 use Rattle.node_threads.specs.Seats.{SeatView, of_node, receipts_after, seat_list}
-use Rattle.node_threads.proofs.Telling.{other_number}
-
-below_all : (x : ℕ) (xs : List ℕ) → IsStrictlyIncreasing (x ∷ xs) → (z : ℕ) → Contains xs z → x < z
-below_all x xs up z (k, low, at) =
-    subst (λ n. x < n) (sym (get_or_default xs k z 0 low) ∙ at) (rises (x ∷ xs) up 0 (suc k) (omega arith) (omega (
-      arith,
-      low,
-    )))
-
-rest_up : (x : ℕ) (xs : List ℕ) → IsStrictlyIncreasing (x ∷ xs) → IsStrictlyIncreasing xs
-rest_up x xs up k low =
-    let e : suc k + 1 ≡ suc (k + 1) = omega arith in
-    subst (λ n. get_or xs k 0 < get_or (x ∷ xs) n 0) e (up (suc k) (omega (arith, low)))
+use Rattle.node_threads.proofs.Few.{few}
+use Rattle.node_threads.proofs.Once.{closed_once}
 
 not_not : (b : Bool) → not b ≡ false → b ≡ true
 not_not true is = refl
@@ -66,44 +52,6 @@ seat_lists app from_text b mark told seats is none all = record {
 
 -- ---- as many lists as nodes
 
-passes_here : (p : ℕ → Bool) (x : ℕ) (xs : List ℕ) (b : Bool) → p x ≡ b
-    → (list_any p xs ≡ true → 1 ≤ length (filter p xs)) → list_any p (x ∷ xs) ≡ true → 1 ≤ length (filter p (x ∷ xs))
-passes_here p x xs true is rest some = rw is (omega arith)
-passes_here p x xs false is rest some = rw is (rest (rw is at some))
-
-some_passes : (p : ℕ → Bool) (xs : List ℕ) → list_any p xs ≡ true → 1 ≤ length (filter p xs)
-some_passes p [] some = absurd (cc)
-some_passes p (x ∷ xs) some = passes_here p x xs (p x) refl (some_passes p xs) some
-
-or_right : (a b : Bool) → b ≡ true → (a || b) ≡ true
-or_right true b is = refl
-or_right false b is = is
-
-and_both : (a b : Bool) → a ≡ true → b ≡ true → (a && b) ≡ true
-and_both true b is also = also
-and_both false b is also = absurd (cc)
-
--- ids that ascend, each among some numbers, are at most as many
-few : (ids ns : List ℕ) → IsStrictlyIncreasing ids → ((i : ℕ) → has ids i ≡ true → has ns i ≡ true)
-    → length ids ≤ length ns
-few [] ns up within = omega arith
-few (i ∷ ids) ns up within =
-    let same = λ (k : ℕ). k == i in
-    let others = λ (k : ℕ). not (k == i) in
-    let here : list_any same ns ≡ true = within i (ap (λ b. b || has ids i) (own i)) in
-    let rest : length ids ≤ length (filter others ns) = few ids (filter others ns) (rest_up i ids up) (λ j there.
-    has-filter others ns j ∙ and_both (others j) (has ns j) (ap not (other_number j i (below_all i ids up j
-    (Contains-has ids j there)))) (within j (or_right (i == j) (has ids j) there))) in
-    omega (
-      arith,
-      rest,
-      some_passes same ns here,
-      length-filter_both same others (λ k. refl) ns,
-    )
-  where
-    own : (i : ℕ) → (i == i) ≡ true
-    own i = eq-eqb i i refl
-
 length-lists : (seats : List SeatView) → length (map (λ l. l.0) (map list_of seats)) ≡ length seats
 length-lists [] = refl
 length-lists (s ∷ ss) = omega (arith, length-lists ss)
@@ -130,26 +78,29 @@ length-map [] = refl
 length-map (s ∷ ss) = omega (arith, length-map ss)
 
 -- all parts of the ledger are there, so its total is the number of the receipts
-pub closes : {L : Type 0} (app : App L) (from_text : List ℕ → Option L) (b : BookView L)
-    (mark n total parts amount all_parts : ℕ) (seats : List SeatView) (lists : List NodeList)
-    → IsLocked app from_text b mark total n → IsStrictlyIncreasing b.config.graph.nodes
-    → AreSeatLists app from_text b mark (map list_of seats) → lists ≡ map list_of seats
-    → parts ≡ 1 + length lists → amount ≡ sum_by (λ l. length l.1) lists → parts ≤ all_parts → all_parts ≡ n + 1
-    → (parts ≡ all_parts → amount ≡ total) → IsClosed app from_text b mark lists
-closes app from_text b mark n total parts amount all_parts seats lists locked up told is has_parts counts within cut
-    whole =
+pub closes : {L : Type 0} (app : App L) (from_text : List ℕ → Option L) (first b : BookView L) (nodes : List ℕ)
+    (total parts amount all_parts : ℕ) (seats : List SeatView) (lists : List NodeList)
+    → IsContinued app from_text first b → b.config.graph.nodes ≡ nodes
+    → length first.entries + total ≡ length b.entries → IsStrictlyIncreasing b.config.graph.nodes
+    → AreSeatLists app from_text b (length first.entries) (map list_of seats) → lists ≡ map list_of seats
+    → parts ≡ 1 + length lists → amount ≡ sum_by (λ l. length l.1) lists → parts ≤ all_parts → all_parts ≡ length nodes + 1
+    → (parts ≡ all_parts → amount ≡ total) → IsClosed app from_text first b lists
+closes app from_text first b nodes total parts amount all_parts seats lists continued there after up told is
+    has_parts counts within cut whole =
+    let n = length nodes in
     let same : length lists ≡ length seats = ap length is ∙ length-map seats in
-    let many : n ≤ length seats = omega (arith, locked.nodes, as_many b.config.graph.nodes seats up told.all) in
+    let many : n ≤ length seats = omega (arith, ap length there, as_many b.config.graph.nodes seats up told.all) in
     let all : length lists ≡ n = omega (arith, same, many, within, cut, has_parts) in
     let sum : sum_by (λ l. length l.1) lists ≡ total = sym counts ∙ whole (omega (arith, has_parts, cut, all)) in
+    let these : AreSeatLists app from_text b (length first.entries) lists =
+    subst (AreSeatLists app from_text b (length first.entries)) (sym is) told in
+    let as_nodes : length b.config.graph.nodes ≡ length lists = ap length there ∙ sym all in
     record {
-      seats = subst (AreSeatLists app from_text b mark) (sym is) told;
-      locked = record {
-        book = locked.book;
-        nodes = locked.nodes ∙ sym all;
-        counted = ap (λ k. mark + k) sum ∙ locked.counted;
-        steps = locked.steps;
-      };
+      seats = these;
+      continued = continued;
+      nodes = as_nodes;
+      counted = ap (λ k. length first.entries + k) sum ∙ after;
+      once = closed_once app from_text first b lists continued these up as_nodes;
     }
 
 -- ---- what the comparison decides
@@ -167,6 +118,60 @@ decides app from_text b mark told seats (Err (SeatMissing i)) is none all differ
 decides app from_text b mark told seats (Err (ListsDiffer i)) is none all differs other =
     (tt, (none, subst (λ t. IsFirstDiffering t seats i) is (differs i refl)))
 decides app from_text b mark told seats (Err NoMemory) is none all differs other = (tt, none)
+
+-- a fault of the seats by a continuation of the book that was shared
+pub close_fault : {L : Type 0} (app : App L) (from_text : List ℕ → Option L) (first b : BookView L) (mark : ℕ)
+    (nodes : List ℕ) (seats : List SeatView) (f : CloseFault) → IsContinued app from_text first b
+    → mark ≡ length first.entries → b.config.graph.nodes ≡ nodes → IsUnclosed app from_text b mark seats f
+    → IsCloseFault app from_text first nodes seats f
+close_fault app from_text first b mark nodes seats (SeatMissing i) continued at there is =
+    subst (λ ns. first_missing ns seats ≡ Some i) there is
+close_fault app from_text first b mark nodes seats (ListsDiffer i) continued at there is = (
+  subst (λ ns. first_missing ns seats ≡ None) there is.0,
+  record {
+    book = b;
+    continued = continued;
+    such = subst (λ m. IsFirstDiffering (receipts_after app from_text b m) seats i) at is.1;
+  },
+)
+close_fault app from_text first b mark nodes seats NoMemory continued at there is =
+    subst (λ ns. first_missing ns seats ≡ None) there is
+
+-- what is found is there, and passes
+found_there : (q : ℕ → Bool) (xs : List ℕ) (j : ℕ) → find q xs ≡ Some j → Contains xs j × (q j ≡ true)
+found_there q [] j is = absurd (cc)
+found_there q (x ∷ xs) j is = at (q x) refl (found_there q xs j)
+  where
+    at : (b : Bool) → q x ≡ b → (find q xs ≡ Some j → Contains xs j × (q j ≡ true))
+        → Contains (x ∷ xs) j × (q j ≡ true)
+    at true passes rest =
+        let same : x ≡ j = (let found : Some x ≡ Some j = rw passes at is in cc) in
+        ((0, omega arith, same), ap q (sym same) ∙ passes)
+    at false fails rest =
+        let more = rest (rw fails at is) in ((suc more.0.0, omega (arith, more.0.1), more.0.2), more.1)
+
+-- seats that have a fault other than want of memory don't have the lists of the nodes
+pub unclosed : {L : Type 0} (app : App L) (from_text : List ℕ → Option L) (b : BookView L) (mark : ℕ)
+    (seats : List SeatView) (f : CloseFault) → IsUnclosed app from_text b mark seats f → f ≢ NoMemory
+    → AreSeatLists app from_text b mark (map list_of seats) → ⊥
+unclosed app from_text b mark seats (SeatMissing i) is other lists =
+    let found = found_there (λ k. not (is_seated seats k)) b.config.graph.nodes i is in
+    let seated : is_seated seats i ≡ true =
+    sym (seated_has seats i) ∙ has-Contains (map (λ l. l.0) (map list_of seats)) i (lists.all i found.0) in
+    false≢true (sym (ap not seated) ∙ found.1)
+unclosed app from_text b mark seats (ListsDiffer i) (none, is) other lists =
+    is.differs (told_there seats is.before is.seat is.rest is.split lists.told)
+  where
+    told_there : (seats before : List SeatView) (seat : SeatView) (rest : List SeatView) → seats ≡ before ++ seat ∷ rest
+        → All (λ (l : NodeList). l.1 ≡ seat_list app from_text b mark l.0) (map list_of seats)
+        → seat.receipts ≡ seat_list app from_text b mark seat.node
+    told_there seats [] seat rest split told =
+        subst (λ ss. All (λ (l : NodeList). l.1 ≡ seat_list app from_text b mark l.0) (map list_of ss)) split told 0
+        (list_of seat) (omega arith)
+    told_there [] (s ∷ before) seat rest split told = absurd (cc)
+    told_there (t ∷ seats) (s ∷ before) seat rest split told =
+        told_there seats before seat rest (cc) (λ k d short. told (suc k) d (omega (arith, short)))
+unclosed app from_text b mark seats NoMemory is other lists = other refl
 
 -- what holds anyway holds of an answer that is Ok
 pub seated : {T : Type 0} {E : Type 0} {A : Type 0} (r : Result T E) → A → OnOk r A

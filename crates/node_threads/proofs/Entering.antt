@@ -1,7 +1,7 @@
 -- What a step of a book leaves: the same graph, one entry more, and a receipt of it.
-use Rattle.std.proofs.Common.{◌≡◌, ℕ, ◌+◌, ◌≤◌, Bool, true, false, not, cond, List, [], ◌∷◌, ◌++◌, length, drop}
+use Rattle.std.proofs.Common.{◌≡◌, ℕ, ◌+◌, ◌≤◌, Bool, true, false, not, cond, List, [], ◌∷◌, ◌++◌, length, drop, take, ap, arith, ◌∙◌}
 use Rattle.std.proofs.Common.{Option, Some, None, Result, Ok, Err, IfOk, IfErr, OnErr, OnOk, MatchResult, refl, subst}
-use Rattle.std.proofs.lemmas.List.{drop-append-le}
+use Rattle.std.proofs.lemmas.List.{drop-append-le, drop_all, take-append-le, take_all}
 use Rattle.std.proofs.lemmas.List.Folds.{list_all-append}
 use Rattle.std.specs.List.{list_all}
 use Rattle.topology.specs.Graph.{is_node}
@@ -20,8 +20,8 @@ use Rattle.history.specs.declared.entry.Entry.TheVariants.{Step}
 use Rattle.history.specs.declared.entry.Receipt.{Receipt}
 use Rattle.history.specs.declared.refusal.BookRefusal.{BookRefusal}
 use Rattle.history.specs.declared.refusal.BookRefusal.TheVariants.{BookFull}
-use Rattle.history.specs.Book.{BookView, book_outcome, booked, is_full, with_entry}
-use Rattle.node_threads.specs.Locked.{IsLocked, WasLocked, is_step}
+use Rattle.history.specs.Book.{BookView, IsBook, book_outcome, booked, is_full, with_entry}
+use Rattle.node_threads.specs.Locked.{IsContinued, is_step}
 
 -- ---- the graph stays
 
@@ -57,6 +57,7 @@ pub record IsEntered {L : Type 0} (app : App L) (b : BookView L) (e : Event) (no
   pub outcome : outcome_of app b.config e ≡ Ok (now.config, receipt.reply)
   pub entries : now.entries ≡ b.entries ++ Step e ∷ []
   pub opening : now.opening ≡ b.opening
+  pub limit : now.limit ≡ b.limit
   pub event : receipt.event ≡ e
   pub position : receipt.position ≡ length b.entries + 1
 
@@ -74,6 +75,7 @@ module _ {L : Type 0} (app : App L) (b : BookView L) (e : Event) where
     outcome = is;
     entries = refl;
     opening = refl;
+    limit = refl;
     event = refl;
     position = refl;
   }
@@ -124,9 +126,23 @@ pub if_err_on : {X E : Type 0} (r : Result X E) (N : Type 0) (P Q : E → Type 0
 if_err_on (Ok x) N P Q tells on is = tt
 if_err_on (Err f) N P Q tells on is = tells f on is
 
--- ---- what held under the lock
+-- ---- what lies under the lock
 
-module _ {L : Type 0} (app : App L) (from_text : List ℕ → Option L) (b : BookView L) (mark total seats : ℕ)
-    (locked : IsLocked app from_text b mark total seats) where
-  pub was_locked : (Q : BookView L → Type 0) → Q b → WasLocked app from_text mark seats Q
-  was_locked Q such = record { book = b; total = total; locked = locked; such = such }
+-- the entries that were shared stay
+pub before_more : (mark : ℕ) (es first : List Entry) (e : Event) → mark ≤ length es → take mark es ≡ first
+    → take mark (es ++ Step e ∷ []) ≡ first
+before_more mark es first e within is = take-append-le mark es (Step e ∷ []) within ∙ is
+
+-- a book is its own continuation
+pub own_continuation : {L : Type 0} (app : App L) (from_text : List ℕ → Option L) (b : BookView L)
+    → IsBook app from_text b → IsContinued app from_text b b
+own_continuation app from_text b is =
+    let all : length b.entries ≤ length b.entries = omega arith in
+    record {
+      book = is;
+      opening = refl;
+      limit = refl;
+      nodes = refl;
+      before = take_all (length b.entries) b.entries all;
+      steps = ap (list_all is_step) (drop_all (length b.entries) b.entries all);
+    }

@@ -1,7 +1,10 @@
 mod Entering
 mod Telling
 mod Comparing
+mod Few
+mod Once
 mod Collecting
 mod Crossing
 mod Turning
+mod Waiting
 pub mod Refusing

@@ -1,6 +1,6 @@
 -- A closed sharing: a list for each node, and each the seat list of its node.
-use Rattle.std.specs.Prelude.{◌≡◌, ◌≢◌, ℕ, Bool, ◌==◌, not, All, Contains, List, ◌∷◌, ◌++◌, length}
-use Rattle.std.specs.Prelude.{map, find, sum_by}
+use Rattle.std.specs.Prelude.{◌≡◌, ◌≢◌, ℕ, ◌+◌, ◌<◌, ◌≤◌, Bool, ◌==◌, not, All, Contains, List, ◌∷◌, ◌++◌, length}
+use Rattle.std.specs.Prelude.{map, filter, find, sum_by}
 use Rattle.std.specs.Prelude.{Option, Some, None}
 use Rattle.std.specs.List.{list_any}
 use Rattle.app_interface.specs.Application.{App}
@@ -9,7 +9,7 @@ use Rattle.history.specs.declared.entry.Receipt.{Receipt}
 use Rattle.history.specs.Book.{BookView}
 use Rattle.node_threads.specs.declared.closing.CloseFault.{CloseFault}
 use Rattle.node_threads.specs.declared.closing.CloseFault.TheVariants.{SeatMissing, ListsDiffer, NoMemory}
-use Rattle.node_threads.specs.Locked.{IsLocked}
+use Rattle.node_threads.specs.Locked.{HasContinuation, IsContinued}
 use Rattle.node_threads.specs.Seats.{SeatView, of_node, receipts_after, seat_list}
 
 -- a node, with what its seat was told
@@ -25,12 +25,19 @@ pub record AreSeatLists {L : Type 0} (app : App L) (from_text : List ℕ → Opt
   pub all : (i : ℕ) → IsNode b.config.graph i → Contains (map (λ l. l.0) lists) i
   pub told : All (λ l. l.1 ≡ seat_list app from_text b mark l.0) lists
 
--- the book and the lists of a closed sharing: what held under the lock, with one list for each node and as many
--- entries after the mark as the lists have receipts
-pub record IsClosed {L : Type 0} (app : App L) (from_text : List ℕ → Option L) (b : BookView L) (mark : ℕ)
+-- how many receipts of this position the lists have
+abbrev pub tells_at : List NodeList → ℕ → ℕ
+tells_at lists p = sum_by (λ l. length (filter (λ r. r.position == p) l.1)) lists
+
+-- the book and the lists of a closed sharing of the first book: the book is a continuation of it, with one list for each
+-- node, as many entries since as the lists have receipts, and each of these in one list, once
+pub record IsClosed {L : Type 0} (app : App L) (from_text : List ℕ → Option L) (first b : BookView L)
     (lists : List NodeList) : Type 0 where
-  pub seats : AreSeatLists app from_text b mark lists
-  pub locked : IsLocked app from_text b mark (sum_by (λ l. length l.1) lists) (length lists)
+  pub seats : AreSeatLists app from_text b (length first.entries) lists
+  pub continued : IsContinued app from_text first b
+  pub nodes : length b.config.graph.nodes ≡ length lists
+  pub counted : length first.entries + sum_by (λ l. length l.1) lists ≡ length b.entries
+  pub once : (p : ℕ) → length first.entries < p → p ≤ length b.entries → tells_at lists p ≡ 1
 
 -- ---- why seats don't close a sharing
 
@@ -61,10 +68,21 @@ IsUnclosed app from_text b mark seats (ListsDiffer i) =
     × IsFirstDiffering (receipts_after app from_text b mark) seats i
 IsUnclosed app from_text b mark seats NoMemory = first_missing b.config.graph.nodes seats ≡ None
 
--- the fault of the seats by the book that lay under the lock
-pub record IsCloseFault {L : Type 0} (app : App L) (from_text : List ℕ → Option L) (mark nodes : ℕ)
-    (seats : List SeatView) (f : CloseFault) : Type 0 where
-  pub book : BookView L
-  pub total : ℕ
-  pub locked : IsLocked app from_text book mark total nodes
-  pub why : IsUnclosed app from_text book mark seats f
+-- the first fault of the seats in a sharing of the first book among these nodes: that a list differs is so in a
+-- continuation of it. Want of memory may stand in place of that
+abbrev pub IsCloseFault : {L : Type 0} → App L → (List ℕ → Option L) → BookView L → List ℕ → List SeatView → CloseFault
+    → Type 0
+IsCloseFault app from_text first nodes seats (SeatMissing i) = first_missing nodes seats ≡ Some i
+IsCloseFault app from_text first nodes seats (ListsDiffer i) =
+    (first_missing nodes seats ≡ None)
+    × HasContinuation app from_text first
+    (λ b. IsFirstDiffering (receipts_after app from_text b (length first.entries)) seats i)
+IsCloseFault app from_text first nodes seats NoMemory = first_missing nodes seats ≡ None
+
+-- what a run of the first book tells of seats that don't close its sharing: some seats have this fault, which isn't want
+-- of memory
+pub record HasCloseFault {L : Type 0} (app : App L) (from_text : List ℕ → Option L) (first : BookView L)
+    (f : CloseFault) : Type 0 where
+  pub seats : List SeatView
+  pub fault : IsCloseFault app from_text first first.config.graph.nodes seats f
+  pub other : f ≢ NoMemory

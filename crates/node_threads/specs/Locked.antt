@@ -1,5 +1,5 @@
--- What lies under the lock of a sharing, and why a change of it is refused.
-use Rattle.std.specs.Prelude.{◌≡◌, ◌≢◌, ℕ, ◌+◌, Bool, true, false, List, length, drop, Option, Ok, Err}
+-- Which books can lie under the lock of a sharing, and why a change of one is refused.
+use Rattle.std.specs.Prelude.{◌≡◌, ◌≢◌, ℕ, Bool, true, false, List, length, take, drop, Option, Ok, Err}
 use Rattle.std.specs.List.{list_all}
 use Rattle.app_interface.specs.Application.{App}
 use Rattle.reset_model.specs.declared.event.Event.{Event}
@@ -20,22 +20,27 @@ abbrev pub is_step : Entry → Bool
 is_step (Step e) = true
 is_step (Disturbed f) = false
 
--- what holds of a book under the lock, with its mark, the total of its ledger and the number of its seats
-pub record IsLocked {L : Type 0} (app : App L) (from_text : List ℕ → Option L) (b : BookView L)
-    (mark total seats : ℕ) : Type 0 where
+-- the book is what steps alone have made of the first one: it opened the same, it has the same limit and the same
+-- nodes, and its entries are those of the first one and then steps
+pub record IsContinued {L : Type 0} (app : App L) (from_text : List ℕ → Option L) (first b : BookView L) :
+    Type 0 where
   pub book : IsBook app from_text b
-  pub nodes : length b.config.graph.nodes ≡ seats
-  pub counted : mark + total ≡ length b.entries
-  pub steps : list_all is_step (drop mark b.entries) ≡ true
+  pub opening : b.opening ≡ first.opening
+  pub limit : b.limit ≡ first.limit
+  pub nodes : b.config.graph.nodes ≡ first.config.graph.nodes
+  pub before : take (length first.entries) b.entries ≡ first.entries
+  pub steps : list_all is_step (drop (length first.entries) b.entries) ≡ true
 
--- some book that lay under the lock at a moment of the call is such a book. Which one it was no caller knows, since
--- other threads change it
-pub record WasLocked {L : Type 0} (app : App L) (from_text : List ℕ → Option L) (mark seats : ℕ)
+-- steps alone can make such a book of the first one
+pub record HasContinuation {L : Type 0} (app : App L) (from_text : List ℕ → Option L) (first : BookView L)
     (Q : BookView L → Type 0) : Type 0 where
   pub book : BookView L
-  pub total : ℕ
-  pub locked : IsLocked app from_text book mark total seats
+  pub continued : IsContinued app from_text first book
   pub such : Q book
+
+-- the book has as many entries as it may have
+abbrev pub IsFull : {L : Type 0} → BookView L → Type 0
+IsFull b = length b.entries ≡ b.limit
 
 -- the book does the event, and this is the receipt
 pub record IsBooked {L : Type 0} (app : App L) (b : BookView L) (e : Event) (receipt : Receipt) : Type 0 where

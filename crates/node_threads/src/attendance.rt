@@ -1,104 +1,115 @@
-// Who takes turns, and who of them waits. It lies under the lock, beside the book, and no clause of what is shared speaks
-// of it.
+// Which nodes take turns, and which of these wait. It lies under the lock, beside the book.
+
+ghost use Rattle.std.specs.Prelude.{◌≡◌};
+ghost use Rattle.node_threads.specs.Waiting.{count_waiting, one_if_waiting};
 
 use std::alloc::{AllocError, Global};
 
-// How a node stands to what it saw last.
+/// How a node stands to what it saw last.
 #[derive(Clone, Copy, Debug, PartialEq, Eq)]
-enum Mood {
-    // No neighbour has changed since it looked.
-    Settled,
-    // A neighbour has changed since.
-    Stirred,
-    // No neighbour has changed since, and it waits for one that does, for it had nothing to do.
+pub enum Standing {
+    /// No neighbour has changed since it looked.
+    Current,
+    /// A neighbour has changed since.
+    Stale,
+    /// No neighbour has changed since, and it waits for one that does, for it had nothing to do.
     Waiting,
 }
 
-// How many nodes take turns, how many of these wait, and the mood of each, by its index in the topology. A node without an
-// index there never waits.
+// How many nodes take turns, how many nodes wait, and the standing of each node, by its index in the topology. A node
+// without an index there never waits.
 #[derive(Drop)]
 pub(crate) struct Attendance {
     present: usize,
     waiting: usize,
-    moods: Vec<Mood>,
+    standings: Vec<Standing>,
+    ghost counted: { waiting ≡ count_waiting standings.items },
 }
 
 impl Attendance {
-    // Nobody is there yet.
+    // No node takes turns yet.
     pub(crate) fn new(alloc: Global, nodes: usize) -> Result<Attendance, AllocError> {
-        let mut moods = Vec::with_capacity(alloc, nodes)?;
+        let mut standings = Vec::with_capacity(alloc, nodes)?;
         for _ in 0..nodes {
-            moods.push(Mood::Settled)?;
+            standings.push(Standing::Current)?;
         }
         Ok(Attendance {
             present: 0,
             waiting: 0,
-            moods,
+            standings,
         })
     }
 
     // So many nodes more are going to take turns.
-    pub(crate) fn come(&mut self, count: usize) {
+    pub(crate) fn arrive(&mut self, count: usize) {
         self.present = self.present.saturating_add(count);
     }
 
     // The node takes no more turns.
-    pub(crate) fn go(&mut self, at: usize) {
-        self.turn_to(at, Mood::Settled);
+    pub(crate) fn depart(&mut self, at: usize) {
+        self.set(at, Standing::Current);
         self.present = self.present.saturating_sub(1);
     }
 
     // The node looks.
     pub(crate) fn look(&mut self, at: usize) {
-        self.turn_to(at, Mood::Settled);
+        self.set(at, Standing::Current);
     }
 
     // The node has nothing to do. False where it has to look again, since a neighbour has changed.
     pub(crate) fn wait(&mut self, at: usize) -> bool {
-        if self.mood(at) == Mood::Stirred {
+        if self.standing(at) == Standing::Stale {
             return false;
         }
-        self.turn_to(at, Mood::Waiting);
+        self.set(at, Standing::Waiting);
         true
     }
 
-    // A neighbour of these nodes has changed, if it was done.
-    pub(crate) fn stir(&mut self, nodes: &[usize], done: bool) {
-        if done {
-            for at in nodes {
-                self.turn_to(*at, Mood::Stirred);
-            }
+    // A neighbour of these nodes has changed.
+    pub(crate) fn make_stale(&mut self, nodes: &[usize]) {
+        for at in nodes {
+            self.set(*at, Standing::Stale);
         }
     }
 
     // Whether the node waits.
-    pub(crate) fn waits(&self, at: usize) -> bool {
-        self.mood(at) == Mood::Waiting
+    pub(crate) fn is_waiting(&self, at: usize) -> bool {
+        self.standing(at) == Standing::Waiting
     }
 
-    // Whether all who take turns wait, so that none of them ever changes anything.
-    pub(crate) fn is_over(&self) -> bool {
+    // Whether all nodes that take turns wait, so that none of them ever changes anything.
+    pub(crate) fn all_wait(&self) -> bool {
         self.present <= self.waiting
     }
 
-    fn mood(&self, at: usize) -> Mood {
-        match self.moods.get(at) {
-            Some(mood) => *mood,
-            None => Mood::Stirred,
+    fn standing(&self, at: usize) -> Standing {
+        match self.standings.get(at) {
+            Some(standing) => *standing,
+            None => Standing::Stale,
         }
     }
 
-    fn turn_to(&mut self, at: usize, mood: Mood) {
-        let waited = self.waits(at);
-        let Some(own) = self.moods.get_mut(at) else {
+    fn set(&mut self, at: usize, standing: Standing) {
+        if at >= self.standings.len() {
             return;
-        };
-        *own = mood;
-        if waited {
-            self.waiting = self.waiting.saturating_sub(1);
         }
-        if mood == Mood::Waiting {
-            self.waiting = self.waiting.saturating_add(1);
-        }
+        let Attendance {
+            present: _,
+            waiting,
+            standings,
+        } = self;
+        *waiting = *waiting - one_if_waiting(standings[at]) + one_if_waiting(standing);
+        standings[at] = standing;
+    }
+}
+
+// 1 of a node that waits, and else 0.
+fn one_if_waiting(standing: Standing) -> usize
+    ensures { result ≡ one_if_waiting standing }
+{
+    match standing {
+        Standing::Current => 0,
+        Standing::Stale => 0,
+        Standing::Waiting => 1,
     }
 }

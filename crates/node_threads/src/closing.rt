@@ -10,9 +10,9 @@ ghost use Rattle.node_threads.specs.Closed.{is_seated, list_of};
 ghost use Rattle.node_threads.specs.Seats.{of_node, receipts_after};
 ghost use Rattle.node_threads.specs.Told.{left_after, reply_told, step_at};
 
-use crate::desk::Desk;
+use crate::guarded::Guarded;
 use crate::locked::Locked;
-use crate::round::{Cut, Round};
+use crate::round::{Cut, Round, Sharing};
 use crate::seat::Seat;
 use crate::sharing::Shared;
 use app_interface::Application;
@@ -58,35 +58,35 @@ pub enum CloseFault {
 
 /// Closes a sharing: Ok exactly where all seats are there and each was told exactly its node's entries since
 /// the mark. Or what is shared and the seats come back with the first fault.
-pub fn close<L: Round, P: Application>(
+pub fn close<L: Sharing<P::Local>, P: Application>(
     alloc: Global,
     shared: Shared<L, P>,
     seats: Vec<Seat<L>>,
 ) -> Result<Outcome<P>, (CloseFault, Shared<L, P>, Vec<Seat<L>>)>
-    ensures closed { IfOk result (λ o. IsClosed P.app P.from_text o.book L.mark o.seats.items) }
+    ensures closed { IfOk result (λ o. IsClosed P.app P.from_text L.book o.book o.seats.items) }
     ensures lists { IfOk result (λ o. o.seats.items ≡ map list_of seats.items) }
-    ensures err { IfErr result (λ e. IsCloseFault P.app P.from_text L.mark L.seats seats.items e.0) }
+    ensures err { IfErr result (λ e. IsCloseFault P.app P.from_text L.book L.nodes seats.items e.0) }
     ensures returned { IfErr result (λ e. e.2 ≡ seats) }
 {
     let Shared {
-        desk,
+        guarded,
         topology,
-        bells,
+        wakeups,
         last,
         cut,
     } = shared;
-    let Desk { locked, attendance } = desk.into_inner();
+    let Guarded { locked, attendance } = guarded.into_inner();
     locked.lemma_is_locked();
     match locked.close_in(alloc, &seats) {
         Ok(()) => {}
         Err(fault) => {
-            let desk = Mutex::new(Desk { locked, attendance });
+            let guarded = Mutex::new(Guarded { locked, attendance });
             return Err((
                 fault,
                 Shared {
-                    desk,
+                    guarded,
                     topology,
-                    bells,
+                    wakeups,
                     last,
                     cut,
                 },
@@ -97,13 +97,13 @@ pub fn close<L: Round, P: Application>(
     match Vec::with_capacity(alloc, seats.len()) {
         Ok(lists) => Ok(outcome_of_seats(locked, last, cut, seats, lists)),
         Err(AllocError) => {
-            let desk = Mutex::new(Desk { locked, attendance });
+            let guarded = Mutex::new(Guarded { locked, attendance });
             Err((
                 CloseFault::NoMemory,
                 Shared {
-                    desk,
+                    guarded,
                     topology,
-                    bells,
+                    wakeups,
                     last,
                     cut,
                 },
@@ -113,13 +113,15 @@ pub fn close<L: Round, P: Application>(
     }
 }
 
-impl<L: Round, P: Application> Locked<L, P> {
+impl<L: Sharing<P::Local>, P: Application> Locked<L, P> {
     /// What [`close`] decides of the book under the lock: Ok exactly where all seats are there and each was
     /// told exactly its node's entries since the mark.
     pub fn close_in(&self, alloc: Global, seats: &[Seat<L>]) -> Result<(), CloseFault>
         ensures ok { OnOk result (AreSeatLists P.app P.from_text self.now.book self.now.mark (map list_of seats.now)) }
         ensures seated { OnOk result (first_missing self.now.book.config.graph.nodes seats.now ≡ None) }
         ensures err { IfErr result (IsUnclosed P.app P.from_text self.now.book self.now.mark seats.now) }
+        ensures exact { IfErr result (λ f. f ≢ CloseFault.NoMemory
+            → AreSeatLists P.app P.from_text self.now.book self.now.mark (map list_of seats.now) → ⊥) }
     {
         match first_missing(self.book.config().topology().nodes(), seats) {
             None => {}
@@ -267,7 +269,7 @@ fn push_after(told: &mut Vec<Receipt>, mark: usize, receipt: Receipt) -> Result<
 
 // The outcome of these seats, which close the book. The shares are put together to all parts of the ledger, so
 // that its total is seen to be the number of their receipts.
-fn outcome_of_seats<L: Round, P: Application>(
+fn outcome_of_seats<L: Sharing<P::Local>, P: Application>(
     locked: Locked<L, P>,
     last: Share<L>,
     cut: Cut<L>,
@@ -277,7 +279,7 @@ fn outcome_of_seats<L: Round, P: Application>(
     requires last { (last.parts ≡ 1) × (last.amount ≡ 0) }
     requires seats { AreSeatLists P.app P.from_text locked.book locked.mark (map list_of seats.items) }
     requires room { (lists.items ≡ []) × (length seats.items ≤ vec_capacity lists) }
-    ensures closed { IsClosed P.app P.from_text result.book L.mark result.seats.items }
+    ensures closed { IsClosed P.app P.from_text L.book result.book result.seats.items }
     ensures lists { result.seats.items ≡ map list_of seats.items }
 {
     cut.lemma_one_more();

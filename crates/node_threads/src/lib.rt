@@ -4,7 +4,7 @@
 
 mod attendance;
 mod closing;
-mod desk;
+mod guarded;
 mod locked;
 mod refusal;
 mod round;
@@ -17,7 +17,7 @@ pub use closing::{CloseFault, Outcome, SeatList, close};
 pub use locked::Locked;
 pub use node_choices::next_event;
 pub use refusal::{CommitRefusal, LookRefusal, SeatRefusal, ShareFault};
-pub use round::Round;
+pub use round::{Round, Sharing};
 pub use run::{RunCause, RunFault, run_nodes};
 pub use seat::Seat;
 pub use sharing::{MAX_SEATS, Shared, select, share};

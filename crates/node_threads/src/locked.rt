@@ -1,16 +1,17 @@
 // What lies under the lock.
 
-ghost use Rattle.std.specs.Prelude.{◌≡◌, ◌≢◌, ◌+◌, Ok, IfOk, IfErr, OnOk, OnErr, true, drop, length};
+ghost use Rattle.std.specs.Prelude.{◌≡◌, ◌≢◌, ◌+◌, Ok, IfOk, IfErr, OnOk, OnErr, true, drop, length, take};
 ghost use Rattle.std.specs.List.{list_all};
-ghost use Rattle.topology.specs.Graph.{IsNode};
+ghost use Rattle.std.specs.Coded.{codes};
+ghost use Rattle.topology.specs.Graph.{graph_code};
 ghost use Rattle.reset_model.specs.Steps.{event_node};
 ghost use Rattle.reset_model.specs.View.{IsSeen, view_of};
 ghost use Rattle.history.specs.Book.{booked};
-ghost use Rattle.node_threads.specs.Locked.{IsLocked, IsPlanOf, IsUncommitted, IsUndone, is_step};
+ghost use Rattle.node_threads.specs.Locked.{IsContinued, IsPlanOf, IsUncommitted, IsUndone, is_step};
 ghost use Rattle.node_threads.specs.Seats.{with_receipt};
 
 use crate::refusal::{CommitRefusal, LookRefusal, SeatRefusal};
-use crate::round::Round;
+use crate::round::Sharing;
 use crate::seat::Seat;
 use app_interface::Application;
 use history::{ApplyRefusal, Book, BookRefusal, Receipt};
@@ -21,33 +22,38 @@ use std::sync::ledger::Book as Tally;
 /// What lies under the lock: a book, its mark, and the count of the entries since. Whenever the lock is
 /// got these facts hold of it.
 #[derive(Drop)]
-pub struct Locked<L: Round, P: Application> {
+pub struct Locked<L: Sharing<P::Local>, P: Application> {
     pub(crate) book: Book<P>,
     pub(crate) mark: usize,
     pub(crate) tally: Tally<L>,
-    ghost mark_is: { mark ≡ L.mark },
-    ghost nodes: { length book.config.graph.nodes ≡ L.seats },
+    ghost mark_is: { mark ≡ length L.book.entries },
+    ghost seats: { L.book.config.graph.nodes ≡ L.nodes },
+    ghost opening: { book.opening ≡ L.book.opening } by { Prim.hlevel (codes, graph_code) },
+    ghost limit: { book.limit ≡ L.book.limit },
+    ghost nodes: { book.config.graph.nodes ≡ L.nodes },
+    ghost before: { take mark book.entries ≡ L.book.entries },
     ghost counted: { mark + tally.total ≡ length book.entries },
     ghost steps: { list_all is_step (drop mark book.entries) ≡ true },
 }
 
-impl<L: Round, P: Application> Locked<L, P> {
-    /// What holds of it: its book is one, with the round's mark and as many nodes as the round has seats;
-    /// its ledger's total is the number of entries after the mark, and none of these is a fault.
+impl<L: Sharing<P::Local>, P: Application> Locked<L, P> {
+    /// What holds of it: its book is what steps alone have made of the one that was shared, with the round's nodes; its
+    /// mark is the number of entries that were shared, and its ledger's total that of the entries since.
     pub fn lemma_is_locked(&self)
-        ensures mark { self.now.mark ≡ L.mark }
-        ensures locked { IsLocked P.app P.from_text self.now.book L.mark self.now.tally.total L.seats }
+        ensures mark { self.now.mark ≡ length L.book.entries }
+        ensures continued { IsContinued P.app P.from_text L.book self.now.book }
+        ensures nodes { self.now.book.config.graph.nodes ≡ L.nodes }
+        ensures counted { length L.book.entries + self.now.tally.total ≡ length self.now.book.entries }
     {
         self.book.lemma_is_book();
     }
 
-    /// What the seat's node sees now.
+    /// What the seat's node sees now. Its node is one of the book.
     pub fn look_in(&self, alloc: Global, seat: &Seat<L>) -> Result<View<P>, LookRefusal>
-        ensures ok { IfOk result (λ view. IsNode self.now.book.config.graph seat.now.node
-            × (view ≡ view_of P.app self.now.book.config seat.now.node)) }
-        ensures err { IfErr result (λ f. f ≢ LookRefusal.NoMemory
-            → (f ≡ LookRefusal.StrangeNode) × (IsNode self.now.book.config.graph seat.now.node → ⊥)) }
+        ensures ok { IfOk result (λ view. view ≡ view_of P.app self.now.book.config seat.now.node) }
+        ensures err { IfErr result (λ f. f ≡ LookRefusal.NoMemory) }
     {
+        seat.lemma_is_node();
         match self.book.config().view(alloc, seat.node()) {
             Ok(view) => Ok(view),
             Err(StepRefusal::NoMemory) => Err(LookRefusal::NoMemory),

@@ -5,13 +5,13 @@ ghost use Rattle.std.specs.Prelude.{length};
 ghost use denote.Param.{param};
 ghost use denote.Param.Send.{IsSync};
 ghost use Rattle.topology.specs.Graph.{IsNode};
-ghost use Rattle.node_threads.specs.Closed.{IsClosed};
-ghost use Rattle.node_threads.specs.Locked.{WasLocked};
+ghost use Rattle.node_threads.specs.Closed.{HasCloseFault, IsClosed};
+ghost use Rattle.node_threads.specs.Locked.{IsContinued};
 ghost use Rattle.node_threads.specs.contracts.sharing.Shared.{the_row};
 
 use crate::closing::{CloseFault, Outcome, close};
 use crate::refusal::{SeatRefusal, ShareFault};
-use crate::round::Round;
+use crate::round::{Round, Sharing};
 use crate::seat::Seat;
 use crate::sharing::{MAX_SEATS, Shared, select, share};
 use crate::turns::{Gate, TurnsEnd, take_turns};
@@ -59,7 +59,7 @@ struct Task {
 struct Joined<L: Round> {
     seats: Vec<Seat<L>>,
     refused: bool,
-    hungry: bool,
+    out_of_memory: bool,
 }
 
 /// Runs each node in a thread of its own: the selected node asks for a reset, and then each takes so many
@@ -74,16 +74,21 @@ pub fn run_nodes<P: Application, G: Gate + Sync, R: Threads + Wait + Sync>(
     selected: Option<u32>,
 ) -> Result<Outcome<P>, RunFault<P>>
     requires { turns ≤ 100000 }
-    ensures closed { IfOk result (λ o. IsClosed P.app P.from_text o.book (length book.entries) o.seats.items) }
+    ensures closed { IfOk result (λ o. IsClosed P.app P.from_text book o.book o.seats.items) }
     ensures few { OnOk result (length book.config.graph.nodes ≤ 64) }
     ensures there { OnOk result (IfSome selected (λ i. IsNode book.config.graph i)) }
     ensures strange { IfErr result (λ e. e.cause ≡ RunCause.StrangeNode
         → MatchOption selected ⊥ (λ i. IsNode book.config.graph i → ⊥)) }
     ensures many { IfErr result (λ e. e.cause ≡ RunCause.TooManyForThreads → 64 < length book.config.graph.nodes) }
+    ensures first { IfErr result (λ e.
+        (MatchOption selected ⊥ (λ i. IsNode book.config.graph i → ⊥) → e.cause ≡ RunCause.StrangeNode)
+        × (IfSome selected (λ i. IsNode book.config.graph i) → 64 < length book.config.graph.nodes
+        → e.cause ≡ RunCause.TooManyForThreads)) }
+    ensures close { IfErr result (λ e. (f : CloseFault) → e.cause ≡ RunCause.Close f
+        → HasCloseFault P.app P.from_text book f) }
     ensures back { IfErr result (λ e. (e.cause ≡ RunCause.StrangeNode → e.book ≡ book)
         × (e.cause ≡ RunCause.TooManyForThreads → e.book ≡ book)) }
-    ensures stands { IfErr result (λ e. WasLocked P.app P.from_text (length book.entries)
-        (length book.config.graph.nodes) (λ b. e.book ≡ b)) }
+    ensures stands { IfErr result (λ e. IsContinued P.app P.from_text book e.book) }
 {
     lemma_stands(&book);
     if !is_there(&book, selected) {
@@ -111,7 +116,12 @@ fn is_there<P: Application>(book: &Book<P>, selected: Option<u32>) -> bool
 }
 
 // A run of one sharing.
-fn run_round<L: Round + Send + Sync, P: Application, G: Gate + Sync, R: Threads + Wait + Sync>(
+fn run_round<
+    L: Sharing<P::Local> + Send + Sync,
+    P: Application,
+    G: Gate + Sync,
+    R: Threads + Wait + Sync,
+>(
     rt: &R,
     alloc: Global,
     blank: Blank,
@@ -121,15 +131,17 @@ fn run_round<L: Round + Send + Sync, P: Application, G: Gate + Sync, R: Threads 
 ) -> Result<Outcome<P>, RunFault<P>>
     requires name { blank.name ≡ L.name }
     requires parts { blank.parts ≡ L.parts }
-    requires one_more { L.parts ≡ L.seats + 1 }
-    requires mark { length book.entries ≡ L.mark }
-    requires nodes { length book.config.graph.nodes ≡ L.seats }
-    requires stands { WasLocked P.app P.from_text L.mark L.seats (λ b. book ≡ b) }
-    ensures closed { IfOk result (λ o. IsClosed P.app P.from_text o.book L.mark o.seats.items) }
+    requires one_more { L.parts ≡ length L.nodes + 1 }
+    requires nodes { book.config.graph.nodes ≡ L.nodes }
+    requires book { book ≡ L.book }
+    requires stands { IsContinued P.app P.from_text L.book book }
+    ensures closed { IfOk result (λ o. IsClosed P.app P.from_text L.book o.book o.seats.items) }
     ensures strange { IfErr result (λ e. e.cause ≢ RunCause.StrangeNode) }
-    ensures many { IfErr result (λ e. e.cause ≡ RunCause.TooManyForThreads → 64 < L.seats) }
+    ensures many { IfErr result (λ e. e.cause ≡ RunCause.TooManyForThreads → 64 < length L.nodes) }
     ensures back { IfErr result (λ e. e.cause ≡ RunCause.TooManyForThreads → e.book ≡ book) }
-    ensures stands { IfErr result (λ e. WasLocked P.app P.from_text L.mark L.seats (λ b. e.book ≡ b)) }
+    ensures close { IfErr result (λ e. (f : CloseFault) → e.cause ≡ RunCause.Close f
+        → HasCloseFault P.app P.from_text book f) }
+    ensures stands { IfErr result (λ e. IsContinued P.app P.from_text L.book e.book) }
 {
     let (shared, seats) = match share::<L, P>(alloc, blank, book) {
         Ok(both) => both,
@@ -142,7 +154,7 @@ fn run_round<L: Round + Send + Sync, P: Application, G: Gate + Sync, R: Threads 
     let Joined {
         seats,
         refused,
-        hungry,
+        out_of_memory,
     } = joined;
     if refused {
         drop(seats);
@@ -150,7 +162,7 @@ fn run_round<L: Round + Send + Sync, P: Application, G: Gate + Sync, R: Threads 
         let book = shared.into_book();
         return Err(RunFault { cause, book });
     }
-    if hungry {
+    if out_of_memory {
         drop(seats);
         let cause = RunCause::NoMemory;
         let book = shared.into_book();
@@ -167,10 +179,9 @@ fn run_round<L: Round + Send + Sync, P: Application, G: Gate + Sync, R: Threads 
     }
 }
 
-// A book that was never under a lock stands as one that lay there, with no entry since.
+// A book is its own continuation, with no step since.
 fn lemma_stands<P: Application>(book: &Book<P>)
-    ensures { WasLocked P.app P.from_text (length book.now.entries) (length book.now.config.graph.nodes)
-        (λ b. book.now ≡ b) }
+    ensures { IsContinued P.app P.from_text book.now book.now }
 {
     book.lemma_is_book();
 }
@@ -179,6 +190,7 @@ fn lemma_stands<P: Application>(book: &Book<P>)
 fn cause_of(fault: ShareFault) -> RunCause
     ensures many { result ≡ RunCause.TooManyForThreads → fault ≡ ShareFault.TooManyForThreads }
     ensures strange { result ≢ RunCause.StrangeNode }
+    ensures close { (f : CloseFault) → result ≢ RunCause.Close f }
 {
     match fault {
         ShareFault::TooManyForThreads => RunCause::TooManyForThreads,
@@ -198,7 +210,7 @@ fn cause_of_closing(fault: CloseFault) -> RunCause
 }
 
 // What a thread does at a seat, which is counted among those that take turns.
-fn sit<L: Round, P: Application, G: Gate, R: Wait>(
+fn run_seat<L: Sharing<P::Local>, P: Application, G: Gate, R: Wait>(
     rt: &R,
     alloc: Global,
     gate: &G,
@@ -206,13 +218,13 @@ fn sit<L: Round, P: Application, G: Gate, R: Wait>(
     mut seat: Seat<L>,
     task: Task,
 ) -> (Seat<L>, TurnsEnd) {
-    let end = play(rt, alloc, gate, shared, &mut seat, task);
-    shared.go(rt, seat.node());
+    let end = do_task(rt, alloc, gate, shared, &mut seat, task);
+    shared.depart(rt, seat.node());
     (seat, end)
 }
 
 // The task at a seat.
-fn play<L: Round, P: Application, G: Gate, R: Wait>(
+fn do_task<L: Sharing<P::Local>, P: Application, G: Gate, R: Wait>(
     rt: &R,
     alloc: Global,
     gate: &G,
@@ -230,17 +242,22 @@ fn play<L: Round, P: Application, G: Gate, R: Wait>(
 }
 
 // What is shared may be seen by every thread.
-fn lemma_is_sync<L: Round + Send + Sync, P: Application>(shared: &Shared<L, P>)
-    ensures { IsSync (the_row (param 0 L.row) (param 1 P.row) (param 4 P.Local.row) L.Round.own L.Ledger.own
+fn lemma_is_sync<L: Sharing<P::Local> + Send + Sync, P: Application>(shared: &Shared<L, P>)
+    ensures { IsSync (the_row (param 0 L.row) (param 1 P.row) (param 4 P.Local.row) L.Sharing.own L.Round.own L.Ledger.own
         P.Application.own) }
 {
     let _ = shared;
 }
 
-// One thread for each seat, all joined. All seats are counted before the first is started, so that none takes it to be over
+// One thread for each seat, all joined. All seats are counted before the first is started, so that none finds that all wait
 // before the last has begun. Room for the handles and the seats is made before the first is started, so that
 // no thread is left to end by itself for want of a place for its handle.
-fn in_threads<L: Round + Send + Sync, P: Application, G: Gate + Sync, R: Threads + Wait + Sync>(
+fn in_threads<
+    L: Sharing<P::Local> + Send + Sync,
+    P: Application,
+    G: Gate + Sync,
+    R: Threads + Wait + Sync,
+>(
     rt: &R,
     alloc: Global,
     gate: &G,
@@ -249,7 +266,7 @@ fn in_threads<L: Round + Send + Sync, P: Application, G: Gate + Sync, R: Threads
     task: Task,
 ) -> Joined<L> {
     thread::scope(thread::scope_env(), rt, |scope| -> Joined<L> {
-        shared.come(rt, seats.len());
+        shared.arrive(rt, seats.len());
         lemma_is_sync(shared);
         let mut handles = Vec::new(alloc);
         let mut back = Vec::new(alloc);
@@ -259,21 +276,21 @@ fn in_threads<L: Round + Send + Sync, P: Application, G: Gate + Sync, R: Threads
             return Joined {
                 seats: back,
                 refused: false,
-                hungry: true,
+                out_of_memory: true,
             };
         }
         let mut refused = false;
-        let mut hungry = false;
+        let mut out_of_memory = false;
         for seat in seats {
             let node = seat.node();
-            match scope.spawn(move || sit(rt, alloc, gate, shared, seat, task)) {
+            match scope.spawn(move || run_seat(rt, alloc, gate, shared, seat, task)) {
                 Ok(handle) => {
                     if handles.push(handle).is_err() {
-                        hungry = true;
+                        out_of_memory = true;
                     }
                 }
                 Err(_) => {
-                    shared.go(rt, node);
+                    shared.depart(rt, node);
                     refused = true;
                 }
             }
@@ -281,13 +298,13 @@ fn in_threads<L: Round + Send + Sync, P: Application, G: Gate + Sync, R: Threads
         for handle in handles {
             let (seat, end) = handle.join(rt);
             if end == TurnsEnd::NoMemory || back.push(seat).is_err() {
-                hungry = true;
+                out_of_memory = true;
             }
         }
         Joined {
             seats: back,
             refused,
-            hungry,
+            out_of_memory,
         }
     })
 }

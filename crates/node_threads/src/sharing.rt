@@ -2,18 +2,18 @@
 
 ghost use Rattle.std.specs.Prelude.{◌≡◌, ◌≢◌, ◌↔◌, ◌+◌, ◌<◌, ◌≤◌, Err, IfOk, IfErr, OnOk, OnErr, [], length, map};
 ghost use Rattle.std.specs.Vec.{vec_capacity};
-ghost use Rattle.topology.specs.Graph.{IsNode};
 ghost use Rattle.reset_model.specs.Steps.{event_node};
 ghost use Rattle.reset_model.specs.View.{IsSeen, view_of};
 ghost use Rattle.reset_model.specs.declared.event.Event.TheVariants.{Request};
-ghost use Rattle.node_threads.specs.Locked.{IsBooked, IsPlanOf, IsUncommitted, IsUndone, WasLocked};
+ghost use Rattle.node_threads.specs.Locked.{HasContinuation, IsBooked, IsContinued, IsFull};
+ghost use Rattle.node_threads.specs.Locked.{IsPlanOf, IsUncommitted, IsUndone};
 ghost use Rattle.node_threads.specs.Seats.{empty_seat, with_receipt};
 
 use crate::attendance::Attendance;
-use crate::desk::Desk;
+use crate::guarded::Guarded;
 use crate::locked::Locked;
 use crate::refusal::{CommitRefusal, LookRefusal, SeatRefusal, ShareFault};
-use crate::round::{Cut, Round};
+use crate::round::{Cut, Round, Sharing};
 use crate::seat::Seat;
 use app_interface::Application;
 use history::{ApplyRefusal, Book, Receipt};
@@ -26,13 +26,13 @@ use topology::Topology;
 /// The most nodes of a book that is shared: each has a thread of its own.
 pub const MAX_SEATS: usize = 64;
 
-/// What the threads share: a book under one lock, and beside it, since it stays, its topology, with a bell for each node by
-/// which it is called when it waits. It keeps the last part of the ledger, at amount 0.
+/// What the threads share: a book under one lock, and beside it, since it stays, its topology, with a condition variable for
+/// each node that wakes it where it waits. It keeps the last part of the ledger, at amount 0.
 #[derive(Drop)]
-pub struct Shared<L: Round, P: Application> {
-    pub(crate) desk: Mutex<Desk<L, P>>,
+pub struct Shared<L: Sharing<P::Local>, P: Application> {
+    pub(crate) guarded: Mutex<Guarded<L, P>>,
     pub(crate) topology: Topology,
-    pub(crate) bells: Vec<Condvar>,
+    pub(crate) wakeups: Vec<Condvar>,
     pub(crate) last: Share<L>,
     pub(crate) cut: Cut<L>,
     ghost last_part: { last.parts ≡ 1 },
@@ -41,19 +41,19 @@ pub struct Shared<L: Round, P: Application> {
 
 /// Shares a book: puts it under a lock, and gives each node, ascending, a seat. Or the blank and the book
 /// come back with the first fault.
-pub fn share<L: Round, P: Application>(
+pub fn share<L: Sharing<P::Local>, P: Application>(
     alloc: Global,
     blank: Blank,
     book: Book<P>,
 ) -> Result<(Shared<L, P>, Vec<Seat<L>>), (ShareFault, Blank, Book<P>)>
     requires name { blank.name ≡ L.name }
     requires parts { blank.parts ≡ L.parts }
-    requires one_more { L.parts ≡ L.seats + 1 }
-    requires mark { length book.entries ≡ L.mark }
-    requires nodes { length book.config.graph.nodes ≡ L.seats }
-    ensures seats { IfOk result (λ r. r.1.items ≡ map empty_seat book.config.graph.nodes) }
-    ensures few { OnOk result (L.seats ≤ 64) }
-    ensures many { IfErr result (λ e. e.0 ≡ ShareFault.TooManyForThreads → 64 < L.seats) }
+    requires one_more { L.parts ≡ length L.nodes + 1 }
+    requires nodes { book.config.graph.nodes ≡ L.nodes }
+    requires book { book ≡ L.book }
+    ensures seats { IfOk result (λ r. r.1.items ≡ map empty_seat L.nodes) }
+    ensures few { OnOk result (length L.nodes ≤ 64) }
+    ensures many { IfErr result (λ e. e.0 ≡ ShareFault.TooManyForThreads → 64 < length L.nodes) }
     ensures returned { IfErr result (λ e. (e.1 ≡ blank) × (e.2 ≡ book)) }
 {
     let nodes = book.config().topology().node_count();
@@ -64,39 +64,39 @@ pub fn share<L: Round, P: Application>(
         Ok(seats) => seats,
         Err(AllocError) => return Err((ShareFault::NoMemory, blank, book)),
     };
-    let (topology, bells, attendance) = match places_for(alloc, book.config().topology()) {
-        Ok(places) => places,
+    let (topology, wakeups, attendance) = match waiting_room(alloc, book.config().topology()) {
+        Ok(room) => room,
         Err(AllocError) => return Err((ShareFault::NoMemory, blank, book)),
     };
     let mark = book.len();
     let (tally, all) = blank.open::<L>();
     let (seats, last) = seat_all(alloc, book.config().topology().nodes(), seats, all);
     let shared = Shared {
-        desk: Mutex::new(Desk {
+        guarded: Mutex::new(Guarded {
             locked: Locked { book, mark, tally },
             attendance,
         }),
         topology,
-        bells,
+        wakeups,
         last,
         cut: Cut::new(),
     };
     Ok((shared, seats))
 }
 
-// A copy of the topology, a bell for each of its nodes, up or down, and the attendance of all.
-fn places_for(
+// What waiting needs: a copy of the topology, a condition variable for each of its nodes, up or down, and their attendance.
+fn waiting_room(
     alloc: Global,
     topology: &Topology,
 ) -> Result<(Topology, Vec<Condvar>, Attendance), AllocError> {
     let topology = topology.copy(alloc)?;
-    let places = topology.len();
-    let mut bells = Vec::with_capacity(alloc, places)?;
-    for _ in 0..places {
-        bells.push(Condvar::new())?;
+    let nodes = topology.len();
+    let mut wakeups = Vec::with_capacity(alloc, nodes)?;
+    for _ in 0..nodes {
+        wakeups.push(Condvar::new())?;
     }
-    let attendance = Attendance::new(alloc, places)?;
-    Ok((topology, bells, attendance))
+    let attendance = Attendance::new(alloc, nodes)?;
+    Ok((topology, wakeups, attendance))
 }
 
 // A seat for each node, with one part of the ledger, and the last part.
@@ -106,6 +106,7 @@ fn seat_all<L: Round>(
     mut seats: Vec<Seat<L>>,
     mut all: Share<L>,
 ) -> (Vec<Seat<L>>, Share<L>)
+    requires ids { ids.now ≡ L.nodes }
     requires none { seats.items ≡ [] }
     requires room { length ids.now ≤ vec_capacity seats }
     requires parts { all.parts ≡ length ids.now + 1 }
@@ -120,22 +121,22 @@ fn seat_all<L: Round>(
     (seats, all)
 }
 
-impl<L: Round, P: Application> Shared<L, P> {
+impl<L: Sharing<P::Local>, P: Application> Shared<L, P> {
     // The book as it stands.
     pub(crate) fn into_book(self) -> Book<P>
-        ensures { WasLocked P.app P.from_text L.mark L.seats (λ b. result ≡ b) }
+        ensures { IsContinued P.app P.from_text L.book result }
     {
         let Shared {
-            desk,
+            guarded,
             topology: _,
-            bells: _,
+            wakeups: _,
             last: _,
             cut: _,
         } = self;
-        let Desk {
+        let Guarded {
             locked,
             attendance: _,
-        } = desk.into_inner();
+        } = guarded.into_inner();
         locked.lemma_is_locked();
         let Locked {
             book,
@@ -153,16 +154,15 @@ impl<L: Round, P: Application> Shared<L, P> {
         seat: &Seat<L>,
     ) -> Result<View<P>, LookRefusal>
         ensures node { IfOk result (λ view. view.id ≡ seat.now.node) }
-        ensures ok { IfOk result (λ view. WasLocked P.app P.from_text L.mark L.seats (λ b.
-            IsNode b.config.graph seat.now.node × (view ≡ view_of P.app b.config seat.now.node))) }
-        ensures err { IfErr result (λ f. f ≢ LookRefusal.NoMemory
-            → WasLocked P.app P.from_text L.mark L.seats (λ b. IsNode b.config.graph seat.now.node → ⊥)) }
+        ensures ok { IfOk result (λ view. HasContinuation P.app P.from_text L.book (λ b.
+            view ≡ view_of P.app b.config seat.now.node)) }
+        ensures err { IfErr result (λ f. f ≡ LookRefusal.NoMemory) }
     {
-        let at = self.place(seat.node());
-        let mut desk = self.desk.lock(rt);
-        desk.locked.lemma_is_locked();
-        let seen = desk.locked.look_in(alloc, seat);
-        desk.attendance.look(at);
+        let at = self.index_of(seat.node());
+        let mut guarded = self.guarded.lock(rt);
+        guarded.locked.lemma_is_locked();
+        let seen = guarded.locked.look_in(alloc, seat);
+        guarded.attendance.look(at);
         seen
     }
 
@@ -182,18 +182,23 @@ impl<L: Round, P: Application> Shared<L, P> {
         ensures stale { IfErr result (λ e. (now : _) → e.0 ≡ CommitRefusal.Refused (ApplyRefusal.Stale now)
             → (now.id ≡ seat.old.node) × (plan.view ≢ now)) }
         ensures kept { IfErr result (λ e. (seat.new ≡ seat.old) × (e.1 ≡ plan)) }
-        ensures ok { IfOk result (λ receipt. WasLocked P.app P.from_text L.mark L.seats (λ b.
+        ensures ok { IfOk result (λ receipt. HasContinuation P.app P.from_text L.book (λ b.
             IsSeen P.app b.config plan.view × IsBooked P.app b plan.event receipt)) }
-        ensures err { IfErr result (λ e. WasLocked P.app P.from_text L.mark L.seats (λ b.
+        ensures err { IfErr result (λ e. HasContinuation P.app P.from_text L.book (λ b.
             IsUncommitted P.app b seat.old.node plan e.0)) }
+        ensures there { IfErr result (λ e. e.0 ≢ CommitRefusal.Refused ApplyRefusal.StrangeNode) }
+        ensures full { IfErr result (λ e. e.0 ≡ CommitRefusal.Refused ApplyRefusal.BookFull
+            → HasContinuation P.app P.from_text L.book IsFull) }
     {
-        let near = self.near(seat.node());
-        let mut desk = self.desk.lock(rt);
-        desk.locked.lemma_is_locked();
-        let done = desk.locked.commit_in(alloc, seat, plan);
-        desk.attendance.stir(near, done.is_ok());
-        drop(desk);
-        self.ring(near, done.is_ok());
+        seat.lemma_is_node();
+        let neighbours = self.neighbours(seat.node());
+        let mut guarded = self.guarded.lock(rt);
+        guarded.locked.lemma_is_locked();
+        let done = guarded.locked.commit_in(alloc, seat, plan);
+        let stale = if_changed(neighbours, done.is_ok());
+        guarded.attendance.make_stale(stale);
+        drop(guarded);
+        self.notify(stale);
         done
     }
 
@@ -211,63 +216,65 @@ impl<L: Round, P: Application> Shared<L, P> {
         ensures seat { IfOk result (λ receipt. seat.new ≡ with_receipt seat.old receipt) }
         ensures not_yours { result ≡ Err SeatRefusal.NotYours ↔ event_node event ≢ seat.old.node }
         ensures kept { OnErr result (seat.new ≡ seat.old) }
-        ensures ok { IfOk result (λ receipt. WasLocked P.app P.from_text L.mark L.seats (λ b.
+        ensures ok { IfOk result (λ receipt. HasContinuation P.app P.from_text L.book (λ b.
             IsBooked P.app b event receipt)) }
-        ensures err { IfErr result (λ f. WasLocked P.app P.from_text L.mark L.seats (λ b.
+        ensures err { IfErr result (λ f. HasContinuation P.app P.from_text L.book (λ b.
             IsUndone P.app b seat.old.node event f)) }
     {
-        let near = self.near(seat.node());
-        let mut desk = self.desk.lock(rt);
-        desk.locked.lemma_is_locked();
-        let done = desk.locked.step_in(alloc, seat, event);
-        desk.attendance.stir(near, done.is_ok());
-        drop(desk);
-        self.ring(near, done.is_ok());
+        let neighbours = self.neighbours(seat.node());
+        let mut guarded = self.guarded.lock(rt);
+        guarded.locked.lemma_is_locked();
+        let done = guarded.locked.step_in(alloc, seat, event);
+        let stale = if_changed(neighbours, done.is_ok());
+        guarded.attendance.make_stale(stale);
+        drop(guarded);
+        self.notify(stale);
         done
     }
 
     // So many seats more are going to take turns: a node that has nothing to do waits for them. It takes the lock.
-    pub(crate) fn come<R: Wait>(&self, rt: &R, count: usize) {
-        let mut desk = self.desk.lock(rt);
-        desk.attendance.come(count);
+    pub(crate) fn arrive<R: Wait>(&self, rt: &R, count: usize) {
+        let mut guarded = self.guarded.lock(rt);
+        guarded.attendance.arrive(count);
     }
 
-    // The seat takes no more turns. Where all others wait, they are told that it is over. It takes the lock.
-    pub(crate) fn go<R: Wait>(&self, rt: &R, node: u32) {
-        let at = self.place(node);
-        let mut desk = self.desk.lock(rt);
-        desk.attendance.go(at);
-        let over = desk.attendance.is_over();
-        drop(desk);
-        if over {
-            self.ring_all();
+    // The node takes no more turns. Where all others that do wait, they are woken, for none of them ever changes
+    // anything. It takes the lock.
+    pub(crate) fn depart<R: Wait>(&self, rt: &R, node: u32) {
+        let at = self.index_of(node);
+        let mut guarded = self.guarded.lock(rt);
+        guarded.attendance.depart(at);
+        let all_wait = guarded.attendance.all_wait();
+        drop(guarded);
+        if all_wait {
+            self.notify_all();
         }
     }
 
-    // Waits at a node that had nothing to do when it looked, until a neighbour has changed: true; or until all
+    // Waits at a node that had nothing to do when it looked, until a neighbour has changed: true; or until all nodes
     // that take turns wait: false. It takes the lock.
     pub(crate) fn wait<R: Wait>(&self, rt: &R, seat: &Seat<L>) -> bool {
-        let at = self.place(seat.node());
-        let Some(bell) = self.bells.get(at) else {
+        let at = self.index_of(seat.node());
+        let Some(wakeup) = self.wakeups.get(at) else {
             return false;
         };
-        let mut desk = self.desk.lock(rt);
-        if !desk.attendance.wait(at) {
+        let mut guarded = self.guarded.lock(rt);
+        if !guarded.attendance.wait(at) {
             return true;
         }
-        if desk.attendance.is_over() {
-            drop(desk);
-            self.ring_all();
+        if guarded.attendance.all_wait() {
+            drop(guarded);
+            self.notify_all();
             return false;
         }
-        let desk = bell.wait_while(rt, desk, |desk| {
-            desk.attendance.waits(at) && !desk.attendance.is_over()
+        let guarded = wakeup.wait_while(rt, guarded, |guarded| {
+            guarded.attendance.is_waiting(at) && !guarded.attendance.all_wait()
         });
-        !desk.attendance.waits(at)
+        !guarded.attendance.is_waiting(at)
     }
 
     // The index of the node in the topology, or else none that is one.
-    fn place(&self, node: u32) -> usize {
+    fn index_of(&self, node: u32) -> usize {
         match self.topology.index_of(node) {
             Some(at) => at,
             None => usize::MAX,
@@ -275,35 +282,38 @@ impl<L: Round, P: Application> Shared<L, P> {
     }
 
     // The indexes of the node's neighbours in the topology.
-    fn near(&self, node: u32) -> &[usize] {
+    fn neighbours(&self, node: u32) -> &[usize] {
         match self.topology.index_of(node) {
             Some(at) if at < self.topology.len() => self.topology.neighbours(at),
             _ => &[],
         }
     }
 
-    // Calls these nodes, if it was done. Whoever of them waits looks again, and has been told to under the lock.
-    fn ring(&self, nodes: &[usize], done: bool) {
-        if done {
-            for at in nodes {
-                match self.bells.get(*at) {
-                    Some(bell) => bell.notify_one(),
-                    None => {}
-                }
+    // Wakes those of these nodes that wait. Under the lock they were made stale, so they look again.
+    fn notify(&self, nodes: &[usize]) {
+        for at in nodes {
+            match self.wakeups.get(*at) {
+                Some(wakeup) => wakeup.notify_one(),
+                None => {}
             }
         }
     }
 
-    // Calls all.
-    fn ring_all(&self) {
-        for bell in &self.bells {
-            bell.notify_all();
+    // Wakes all nodes that wait.
+    fn notify_all(&self) {
+        for wakeup in &self.wakeups {
+            wakeup.notify_all();
         }
     }
 }
 
+// These nodes, where their neighbour has changed, and else none.
+fn if_changed(neighbours: &[usize], changed: bool) -> &[usize] {
+    if changed { neighbours } else { &[] }
+}
+
 /// Asks for a reset at the seat's node: a step with its request. It takes the lock.
-pub fn select<L: Round, P: Application, R: Wait>(
+pub fn select<L: Sharing<P::Local>, P: Application, R: Wait>(
     rt: &R,
     alloc: Global,
     shared: &Shared<L, P>,
@@ -313,9 +323,9 @@ pub fn select<L: Round, P: Application, R: Wait>(
     ensures seat { IfOk result (λ receipt. seat.new ≡ with_receipt seat.old receipt) }
     ensures yours { result ≢ Err SeatRefusal.NotYours }
     ensures kept { OnErr result (seat.new ≡ seat.old) }
-    ensures ok { IfOk result (λ receipt. WasLocked P.app P.from_text L.mark L.seats (λ b.
+    ensures ok { IfOk result (λ receipt. HasContinuation P.app P.from_text L.book (λ b.
         IsBooked P.app b (Request seat.old.node) receipt)) }
-    ensures err { IfErr result (λ f. WasLocked P.app P.from_text L.mark L.seats (λ b.
+    ensures err { IfErr result (λ f. HasContinuation P.app P.from_text L.book (λ b.
         IsUndone P.app b seat.old.node (Request seat.old.node) f)) }
 {
     let at = seat.node();

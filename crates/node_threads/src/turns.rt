@@ -2,10 +2,11 @@
 
 ghost use Rattle.std.specs.Prelude.{◌≡◌, ◌+◌, ◌≤◌, IfOk, IfSome, Some, length, take};
 ghost use Rattle.node_choices.specs.Choice.{next_of};
-ghost use Rattle.node_threads.specs.Turns.{AddsTurns, WasFull};
+ghost use Rattle.node_threads.specs.Locked.{HasContinuation, IsFull};
+ghost use Rattle.node_threads.specs.Turns.{AddsTurns};
 
 use crate::refusal::{CommitRefusal, LookRefusal};
-use crate::round::Round;
+use crate::round::Sharing;
 use crate::seat::Seat;
 use crate::sharing::Shared;
 use app_interface::Application;
@@ -55,7 +56,7 @@ enum Turn<P: Application> {
 /// changed and looks again. After a stale plan the next turn goes by the view that came with the refusal, without a
 /// look. The turns end early where the book is full or memory is wanting, and where no node that takes turns has
 /// anything to do: so a node that takes turns alone never waits.
-pub fn node_turns<L: Round, P: Application, G: Gate, R: Wait>(
+pub fn node_turns<L: Sharing<P::Local>, P: Application, G: Gate, R: Wait>(
     rt: &R,
     alloc: Global,
     gate: &G,
@@ -67,17 +68,17 @@ pub fn node_turns<L: Round, P: Application, G: Gate, R: Wait>(
     ensures node { seat.new.node ≡ seat.old.node }
     ensures most { length seat.new.receipts ≤ length seat.old.receipts + turns }
     ensures kept { take (length seat.old.receipts) seat.new.receipts ≡ seat.old.receipts }
-    ensures turns { AddsTurns P.app P.from_text L.mark L.seats seat.old.node seat.old.receipts seat.new.receipts }
-    ensures full { result ≡ TurnsEnd.BookFull → WasFull P.app P.from_text L.mark L.seats }
+    ensures turns { AddsTurns P.app P.from_text L.book seat.old.node seat.old.receipts seat.new.receipts }
+    ensures full { result ≡ TurnsEnd.BookFull → HasContinuation P.app P.from_text L.book IsFull }
 {
-    shared.come(rt, 1);
+    shared.arrive(rt, 1);
     let end = take_turns(rt, alloc, gate, shared, seat, turns);
-    shared.go(rt, seat.node());
+    shared.depart(rt, seat.node());
     end
 }
 
 // The turns of a seat that is counted among those that take turns.
-pub(crate) fn take_turns<L: Round, P: Application, G: Gate, R: Wait>(
+pub(crate) fn take_turns<L: Sharing<P::Local>, P: Application, G: Gate, R: Wait>(
     rt: &R,
     alloc: Global,
     gate: &G,
@@ -89,12 +90,12 @@ pub(crate) fn take_turns<L: Round, P: Application, G: Gate, R: Wait>(
     ensures node { seat.new.node ≡ seat.old.node }
     ensures most { length seat.new.receipts ≤ length seat.old.receipts + turns }
     ensures kept { take (length seat.old.receipts) seat.new.receipts ≡ seat.old.receipts }
-    ensures turns { AddsTurns P.app P.from_text L.mark L.seats seat.old.node seat.old.receipts seat.new.receipts }
-    ensures full { result ≡ TurnsEnd.BookFull → WasFull P.app P.from_text L.mark L.seats }
+    ensures turns { AddsTurns P.app P.from_text L.book seat.old.node seat.old.receipts seat.new.receipts }
+    ensures full { result ≡ TurnsEnd.BookFull → HasContinuation P.app P.from_text L.book IsFull }
 {
     let mut seen: Option<View<P>> = None;
     for _turn in 0..turns {
-        let (view, event) = match chance(rt, alloc, shared, seat, seen.take()) {
+        let (view, event) = match next_allowed(rt, alloc, shared, seat, seen.take()) {
             Ok(Some(found)) => found,
             Ok(None) => return TurnsEnd::Done,
             Err(LookRefusal::StrangeNode) => continue,
@@ -112,7 +113,7 @@ pub(crate) fn take_turns<L: Round, P: Application, G: Gate, R: Wait>(
 
 // What the seat's node sees, from what it saw last on, where that allows an event, and the first such event. Where it
 // allows none, it waits for a neighbour that changes. None where no node that takes turns has anything to do.
-fn chance<L: Round, P: Application, R: Wait>(
+fn next_allowed<L: Sharing<P::Local>, P: Application, R: Wait>(
     rt: &R,
     alloc: Global,
     shared: &Shared<L, P>,
@@ -143,7 +144,7 @@ fn chance<L: Round, P: Application, R: Wait>(
 }
 
 // One turn, by what the node saw, for the first event that this allows.
-fn turn_on<L: Round, P: Application, G: Gate, R: Wait>(
+fn turn_on<L: Sharing<P::Local>, P: Application, G: Gate, R: Wait>(
     rt: &R,
     alloc: Global,
     gate: &G,
@@ -156,8 +157,8 @@ fn turn_on<L: Round, P: Application, G: Gate, R: Wait>(
     ensures node { seat.new.node ≡ seat.old.node }
     ensures most { length seat.new.receipts ≤ length seat.old.receipts + 1 }
     ensures kept { take (length seat.old.receipts) seat.new.receipts ≡ seat.old.receipts }
-    ensures turns { AddsTurns P.app P.from_text L.mark L.seats seat.old.node seat.old.receipts seat.new.receipts }
-    ensures full { result ≡ Turn.BookFull → WasFull P.app P.from_text L.mark L.seats }
+    ensures turns { AddsTurns P.app P.from_text L.book seat.old.node seat.old.receipts seat.new.receipts }
+    ensures full { result ≡ Turn.BookFull → HasContinuation P.app P.from_text L.book IsFull }
 {
     let plan = match view.plan(alloc, event) {
         Ok(plan) => plan,

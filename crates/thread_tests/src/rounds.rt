@@ -6,7 +6,7 @@ use crate::assert_equal;
 use app_interface::Idle;
 use history::{Book, Entry, Receipt};
 use node_threads::{
-    CommitRefusal, Outcome, Round, Seat, SeatRefusal, ShareFault, Shared, close, select, share,
+    CommitRefusal, Outcome, Seat, SeatRefusal, ShareFault, Shared, Sharing, close, select, share,
 };
 use reset_machine::{Event, Plan, Reply, View};
 use std::alloc::Global;
@@ -19,7 +19,7 @@ use wave_layer::Phase;
 // What a test does with what is shared and its seats. The name of the sharing is a parameter, so that it is
 // written for each.
 pub(crate) trait Scene {
-    fn play<L: Round, R: Wait + Abort>(
+    fn play<L: Sharing<()>, R: Wait + Abort>(
         rt: &R,
         alloc: Global,
         shared: Shared<L, Idle>,
@@ -49,7 +49,7 @@ pub(crate) fn plays<S: Scene, R: Wait + Abort>(rt: &R, alloc: Global, book: Book
     }
 }
 
-fn play_round<L: Round, S: Scene, R: Wait + Abort>(
+fn play_round<L: Sharing<()>, S: Scene, R: Wait + Abort>(
     rt: &R,
     alloc: Global,
     blank: Blank,
@@ -57,9 +57,9 @@ fn play_round<L: Round, S: Scene, R: Wait + Abort>(
 ) -> Result<(), (ShareFault, Book<Idle>)>
     requires name { blank.name ≡ L.name }
     requires parts { blank.parts ≡ L.parts }
-    requires one_more { L.parts ≡ L.seats + 1 }
-    requires mark { length book.entries ≡ L.mark }
-    requires nodes { length book.config.graph.nodes ≡ L.seats }
+    requires one_more { L.parts ≡ length L.nodes + 1 }
+    requires nodes { book.config.graph.nodes ≡ L.nodes }
+    requires book { book ≡ L.book }
 {
     match share::<L, Idle>(alloc, blank, book) {
         Ok((shared, seats)) => {
@@ -71,7 +71,7 @@ fn play_round<L: Round, S: Scene, R: Wait + Abort>(
 }
 
 // The seats of the nodes 1, 2, 3.
-pub(crate) fn three<L: Round>(
+pub(crate) fn three<L: Sharing<()>>(
     rt: &impl Abort,
     mut seats: Vec<Seat<L>>,
 ) -> (Seat<L>, Seat<L>, Seat<L>) {
@@ -83,7 +83,7 @@ pub(crate) fn three<L: Round>(
 }
 
 // The seat, which is of this node.
-fn seat_of<L: Round>(rt: &impl Abort, seat: Option<Seat<L>>, node: u32) -> Seat<L> {
+fn seat_of<L: Sharing<()>>(rt: &impl Abort, seat: Option<Seat<L>>, node: u32) -> Seat<L> {
     match seat {
         Some(seat) => {
             assert_equal(rt, seat.node(), node);
@@ -94,7 +94,7 @@ fn seat_of<L: Round>(rt: &impl Abort, seat: Option<Seat<L>>, node: u32) -> Seat<
 }
 
 // What the seat's node sees.
-pub(crate) fn seen<L: Round, R: Wait + Abort>(
+pub(crate) fn seen<L: Sharing<()>, R: Wait + Abort>(
     rt: &R,
     alloc: Global,
     shared: &Shared<L, Idle>,
@@ -107,7 +107,7 @@ pub(crate) fn seen<L: Round, R: Wait + Abort>(
 }
 
 // What the event would do now at the seat's node.
-pub(crate) fn planned<L: Round, R: Wait + Abort>(
+pub(crate) fn planned<L: Sharing<()>, R: Wait + Abort>(
     rt: &R,
     alloc: Global,
     shared: &Shared<L, Idle>,
@@ -137,7 +137,7 @@ pub(crate) fn applied(position: usize, event: Event) -> Receipt {
 }
 
 // What the seat's node is told when it is selected.
-pub(crate) fn selects<L: Round, R: Wait + Abort>(
+pub(crate) fn selects<L: Sharing<()>, R: Wait + Abort>(
     rt: &R,
     alloc: Global,
     shared: &Shared<L, Idle>,
@@ -148,7 +148,7 @@ pub(crate) fn selects<L: Round, R: Wait + Abort>(
 }
 
 // What the seat is told of a step.
-pub(crate) fn steps<L: Round, R: Wait + Abort>(
+pub(crate) fn steps<L: Sharing<()>, R: Wait + Abort>(
     rt: &R,
     alloc: Global,
     shared: &Shared<L, Idle>,
@@ -160,7 +160,7 @@ pub(crate) fn steps<L: Round, R: Wait + Abort>(
 }
 
 // Commits the plan at the seat, which is told this.
-pub(crate) fn commits<L: Round, R: Wait + Abort>(
+pub(crate) fn commits<L: Sharing<()>, R: Wait + Abort>(
     rt: &R,
     alloc: Global,
     shared: &Shared<L, Idle>,
@@ -175,7 +175,7 @@ pub(crate) fn commits<L: Round, R: Wait + Abort>(
 }
 
 // Why the plan isn't committed, which comes back.
-pub(crate) fn refused<L: Round, R: Wait + Abort>(
+pub(crate) fn refused<L: Sharing<()>, R: Wait + Abort>(
     rt: &R,
     alloc: Global,
     shared: &Shared<L, Idle>,
@@ -189,7 +189,7 @@ pub(crate) fn refused<L: Round, R: Wait + Abort>(
 }
 
 // The seat has these receipts.
-pub(crate) fn has_receipts<L: Round>(rt: &impl Abort, seat: &Seat<L>, receipts: &[Receipt]) {
+pub(crate) fn has_receipts<L: Sharing<()>>(rt: &impl Abort, seat: &Seat<L>, receipts: &[Receipt]) {
     assert!(rt; seat.receipts() == receipts);
 }
 
@@ -207,7 +207,7 @@ pub(crate) fn has_step(rt: &impl Abort, book: &Book<Idle>, position: usize, even
 }
 
 // The outcome of the sharing with the seats of all nodes, which close it.
-pub(crate) fn outcome_of<L: Round>(
+pub(crate) fn outcome_of<L: Sharing<()>>(
     rt: &impl Abort,
     alloc: Global,
     shared: Shared<L, Idle>,
@@ -220,7 +220,7 @@ pub(crate) fn outcome_of<L: Round>(
 }
 
 // The same of the seats of the nodes 1, 2, 3.
-pub(crate) fn closed<L: Round>(
+pub(crate) fn closed<L: Sharing<()>>(
     rt: &impl Abort,
     alloc: Global,
     shared: Shared<L, Idle>,

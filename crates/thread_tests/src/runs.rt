@@ -12,7 +12,7 @@ use app_routes::Routes;
 use app_token::{Token, TokenLocal};
 use history::{Book, Entry, Receipt, verify};
 use node_threads::{Outcome, SeatList, run_nodes};
-use reset_machine::{Config, Event};
+use reset_machine::{Config, Event, Reply};
 use std::alloc::Global;
 use std::process::Abort;
 use std::sync::Wait;
@@ -175,6 +175,23 @@ fn run<P: Application, R: Threads + Wait + Sync + Abort>(
     }
 }
 
+// How many of the receipts are of completions.
+fn completions(receipts: &[Receipt]) -> usize {
+    receipts
+        .iter()
+        .filter(|receipt| receipt.reply != Reply::Applied)
+        .count()
+}
+
+// All runs of the application that idles: the reset that node 1 asks for completes, and no other is begun.
+fn idle_runs<R: Threads + Wait + Sync + Abort>(rt: &R, alloc: Global, shape: Shape) {
+    for _ in 0..RUNS {
+        let steps = run::<Idle, R>(rt, alloc, shape);
+        let receipts = receipts_of::<Idle>(rt, alloc, shape, &steps);
+        assert_equal(rt, completions(&receipts), 1);
+    }
+}
+
 // All runs of an application of which nothing more is asked.
 fn runs<P: Application, R: Threads + Wait + Sync + Abort>(rt: &R, alloc: Global, shape: Shape) {
     for _ in 0..RUNS {
@@ -183,8 +200,8 @@ fn runs<P: Application, R: Threads + Wait + Sync + Abort>(rt: &R, alloc: Global,
 }
 
 #[test]
-fn idle_nodes_on_the_line_are_told_their_entries(rt: HostRuntime) {
-    runs::<Idle, HostRuntime>(&rt, rt.alloc(), Shape::Line);
+fn idle_nodes_on_the_line_complete_their_reset_once(rt: HostRuntime) {
+    idle_runs::<HostRuntime>(&rt, rt.alloc(), Shape::Line);
 }
 
 // Nobody in the pair asks for a reset, and so it does nothing.
@@ -195,22 +212,24 @@ fn idle_nodes_beside_the_line_do_nothing(rt: HostRuntime) {
         for step in &steps {
             assert!(rt; step.node() <= 3, "{step:?}");
         }
+        let receipts = receipts_of::<Idle>(&rt, rt.alloc(), Shape::LineAndPair, &steps);
+        assert_equal(&rt, completions(&receipts), 1);
     }
 }
 
 #[test]
-fn idle_nodes_on_the_ring_are_told_their_entries(rt: HostRuntime) {
-    runs::<Idle, HostRuntime>(&rt, rt.alloc(), Shape::Ring);
+fn idle_nodes_on_the_ring_complete_their_reset_once(rt: HostRuntime) {
+    idle_runs::<HostRuntime>(&rt, rt.alloc(), Shape::Ring);
 }
 
 #[test]
-fn idle_nodes_on_the_grid_are_told_their_entries(rt: HostRuntime) {
-    runs::<Idle, HostRuntime>(&rt, rt.alloc(), Shape::Grid);
+fn idle_nodes_on_the_grid_complete_their_reset_once(rt: HostRuntime) {
+    idle_runs::<HostRuntime>(&rt, rt.alloc(), Shape::Grid);
 }
 
 #[test]
-fn idle_nodes_on_the_star_are_told_their_entries(rt: HostRuntime) {
-    runs::<Idle, HostRuntime>(&rt, rt.alloc(), Shape::Star);
+fn idle_nodes_on_the_star_complete_their_reset_once(rt: HostRuntime) {
+    idle_runs::<HostRuntime>(&rt, rt.alloc(), Shape::Star);
 }
 
 #[test]

@@ -9,7 +9,7 @@ use crate::topologies::{line, opened, star, takes, takes_down};
 use app_interface::Idle;
 use history::{ApplyRefusal, Book, BookRefusal};
 use node_threads::{
-    CloseFault, CommitRefusal, Round, Seat, SeatRefusal, ShareFault, Shared, close,
+    CloseFault, CommitRefusal, Seat, SeatRefusal, ShareFault, Shared, Sharing, close,
 };
 use reset_machine::{Event, Plan, StepRefusal, View};
 use std::alloc::Global;
@@ -23,7 +23,7 @@ fn play_line<S: Scene, R: Wait + Abort>(rt: &R, alloc: Global) {
 }
 
 // The seat is of this node, which sees its own registers there.
-fn is_of<L: Round, R: Wait + Abort>(
+fn is_of<L: Sharing<()>, R: Wait + Abort>(
     rt: &R,
     alloc: Global,
     shared: &Shared<L, Idle>,
@@ -37,7 +37,7 @@ fn is_of<L: Round, R: Wait + Abort>(
 struct Beginning;
 
 impl Scene for Beginning {
-    fn play<L: Round, R: Wait + Abort>(
+    fn play<L: Sharing<()>, R: Wait + Abort>(
         rt: &R,
         alloc: Global,
         shared: Shared<L, Idle>,
@@ -61,7 +61,7 @@ fn each_node_has_an_empty_seat_ascending(rt: HostRuntime) {
 struct Committing;
 
 impl Scene for Committing {
-    fn play<L: Round, R: Wait + Abort>(
+    fn play<L: Sharing<()>, R: Wait + Abort>(
         rt: &R,
         alloc: Global,
         shared: Shared<L, Idle>,
@@ -96,7 +96,7 @@ fn is_plan(rt: &impl Abort, plan: &Plan<Idle>, node: u32, event: Event) {
 struct Mistaking;
 
 impl Scene for Mistaking {
-    fn play<L: Round, R: Wait + Abort>(
+    fn play<L: Sharing<()>, R: Wait + Abort>(
         rt: &R,
         alloc: Global,
         shared: Shared<L, Idle>,
@@ -142,7 +142,7 @@ fn is_overtaken(rt: &impl Abort, now: &View<Idle>, plan: &Plan<Idle>) {
 struct Overtaking;
 
 impl Scene for Overtaking {
-    fn play<L: Round, R: Wait + Abort>(
+    fn play<L: Sharing<()>, R: Wait + Abort>(
         rt: &R,
         alloc: Global,
         shared: Shared<L, Idle>,
@@ -173,7 +173,7 @@ fn a_plan_that_a_neighbour_overtook_comes_back_stale(rt: HostRuntime) {
 }
 
 // Node 2 is missing where these two seats close the sharing, and all comes back.
-fn lacks_node_2<L: Round>(
+fn lacks_node_2<L: Sharing<()>>(
     rt: &impl Abort,
     alloc: Global,
     shared: Shared<L, Idle>,
@@ -195,7 +195,7 @@ fn lacks_node_2<L: Round>(
 struct Missing;
 
 impl Scene for Missing {
-    fn play<L: Round, R: Wait + Abort>(
+    fn play<L: Sharing<()>, R: Wait + Abort>(
         rt: &R,
         alloc: Global,
         shared: Shared<L, Idle>,
@@ -221,7 +221,7 @@ fn a_missing_seat_is_named_and_all_comes_back(rt: HostRuntime) {
 struct Many;
 
 impl Scene for Many {
-    fn play<L: Round, R: Wait + Abort>(
+    fn play<L: Sharing<()>, R: Wait + Abort>(
         rt: &R,
         alloc: Global,
         shared: Shared<L, Idle>,
@@ -280,7 +280,7 @@ fn thinned_book(rt: &impl Abort, alloc: Global, count: u32, up: u32) -> Book<Idl
 struct OfThoseUp;
 
 impl Scene for OfThoseUp {
-    fn play<L: Round, R: Wait + Abort>(
+    fn play<L: Sharing<()>, R: Wait + Abort>(
         rt: &R,
         alloc: Global,
         shared: Shared<L, Idle>,
@@ -306,7 +306,7 @@ fn nodes_that_are_up_have_seats(rt: HostRuntime) {
 struct Empty;
 
 impl Scene for Empty {
-    fn play<L: Round, R: Wait + Abort>(
+    fn play<L: Sharing<()>, R: Wait + Abort>(
         rt: &R,
         alloc: Global,
         shared: Shared<L, Idle>,
@@ -332,7 +332,7 @@ fn no_node_is_up_and_none_has_a_seat(rt: HostRuntime) {
 struct ManyUp;
 
 impl Scene for ManyUp {
-    fn play<L: Round, R: Wait + Abort>(
+    fn play<L: Sharing<()>, R: Wait + Abort>(
         rt: &R,
         alloc: Global,
         shared: Shared<L, Idle>,

@@ -8,7 +8,7 @@ use crate::rounds::{
 use crate::topologies::{booted_line, line, opened};
 use app_interface::Idle;
 use history::Receipt;
-use node_threads::{Round, Seat, SeatList, SeatRefusal, Shared};
+use node_threads::{Seat, SeatList, SeatRefusal, Shared, Sharing};
 use reset_machine::{Config, Event, Reply};
 use std::alloc::Global;
 use std::process::Abort;
@@ -30,7 +30,7 @@ fn has_lists(rt: &impl Abort, lists: &[SeatList], first: Receipt, second: Receip
 struct Relaying;
 
 impl Scene for Relaying {
-    fn play<L: Round, R: Wait + Abort>(
+    fn play<L: Sharing<()>, R: Wait + Abort>(
         rt: &R,
         alloc: Global,
         shared: Shared<L, Idle>,
@@ -61,7 +61,7 @@ fn a_selected_node_is_seen_and_each_seat_is_told_its_own_step(rt: HostRuntime) {
 struct Straying;
 
 impl Scene for Straying {
-    fn play<L: Round, R: Wait + Abort>(
+    fn play<L: Sharing<()>, R: Wait + Abort>(
         rt: &R,
         alloc: Global,
         shared: Shared<L, Idle>,
@@ -86,7 +86,7 @@ fn a_step_of_another_node_is_refused(rt: HostRuntime) {
 }
 
 // Does the event of the receipt at the seat of its node, which is told it.
-fn steps_at<L: Round, R: Wait + Abort>(
+fn steps_at<L: Sharing<()>, R: Wait + Abort>(
     rt: &R,
     alloc: Global,
     shared: &Shared<L, Idle>,
@@ -108,7 +108,7 @@ fn answers(rt: &impl Abort, alloc: Global, config: &mut Config<Idle>, event: Eve
 }
 
 // Whether the views of the seat's node are the same.
-fn sees_as<L: Round, R: Wait + Abort>(
+fn sees_as<L: Sharing<()>, R: Wait + Abort>(
     rt: &R,
     alloc: Global,
     shared: &Shared<L, Idle>,
@@ -122,7 +122,7 @@ fn sees_as<L: Round, R: Wait + Abort>(
 }
 
 // Whether each seat's node sees what it sees in the configuration.
-fn sees_the_same<L: Round, R: Wait + Abort>(
+fn sees_the_same<L: Sharing<()>, R: Wait + Abort>(
     rt: &R,
     alloc: Global,
     shared: &Shared<L, Idle>,
@@ -140,7 +140,7 @@ fn sees_the_same<L: Round, R: Wait + Abort>(
 struct WholeReset;
 
 impl Scene for WholeReset {
-    fn play<L: Round, R: Wait + Abort>(
+    fn play<L: Sharing<()>, R: Wait + Abort>(
         rt: &R,
         alloc: Global,
         shared: Shared<L, Idle>,

@@ -4,7 +4,7 @@ use crate::assert_equal;
 use crate::rounds::{Scene, applied, has_receipts, plays, selects, three};
 use crate::topologies::small;
 use app_interface::Idle;
-use node_threads::{Gate, Round, Seat, Shared, TurnsEnd, node_turns};
+use node_threads::{Gate, Seat, Shared, Sharing, TurnsEnd, node_turns};
 use reset_machine::Event;
 use std::alloc::Global;
 use std::process::Abort;
@@ -20,7 +20,7 @@ impl Gate for Still {
 }
 
 // How ten turns, or fewer, end at the seat.
-fn turns_end<L: Round, R: Wait + Abort>(
+fn turns_end<L: Sharing<()>, R: Wait + Abort>(
     rt: &R,
     alloc: Global,
     shared: &Shared<L, Idle>,
@@ -36,7 +36,7 @@ fn turns_end<L: Round, R: Wait + Abort>(
 struct Turning;
 
 impl Scene for Turning {
-    fn play<L: Round, R: Wait + Abort>(
+    fn play<L: Sharing<()>, R: Wait + Abort>(
         rt: &R,
         alloc: Global,
         shared: Shared<L, Idle>,
@@ -70,7 +70,7 @@ fn turns_do_what_the_node_may_do_and_no_more_than_are_given(rt: HostRuntime) {
 struct Filling;
 
 impl Scene for Filling {
-    fn play<L: Round, R: Wait + Abort>(
+    fn play<L: Sharing<()>, R: Wait + Abort>(
         rt: &R,
         alloc: Global,
         shared: Shared<L, Idle>,

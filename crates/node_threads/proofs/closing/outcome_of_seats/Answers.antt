@@ -48,8 +48,9 @@ returns-clause-closed g c =
     let b = c.args.locked.book in
     let seats = c.args.seats.items in
     let same : length l.lists.items ≡ length seats = omega (arith, c.in-None.ensures.steps.0, l.invariant.2) in
-    closes app from_text b g.L.Round.mark g.L.Round.seats c.args.locked.tally.total l.all.parts l.all.amount
-    g.L.Ledger.parts seats l.lists.items c.lemma_is_locked.ensures.locked
+    closes app from_text g.L.Sharing.book b g.L.Round.nodes c.args.locked.tally.total l.all.parts l.all.amount
+    g.L.Ledger.parts seats l.lists.items c.lemma_is_locked.ensures.continued c.lemma_is_locked.ensures.nodes
+    c.lemma_is_locked.ensures.counted
     (subst (λ (k : Configuration g.row.P-Local.Denot). IsStrictlyIncreasing k.graph.nodes) c.config.ensures
     c.lemma_is_graph.ensures.graph.rising)
     (subst (λ m. AreSeatLists app from_text b m (map list_of seats)) c.lemma_is_locked.ensures.mark c.requires.seats)

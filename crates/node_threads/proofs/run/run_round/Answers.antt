@@ -1,21 +1,31 @@
-use Rattle.std.proofs.Common.{◌≡◌, subst, sym}
-use Rattle.node_threads.specs.Locked.{WasLocked}
+use Rattle.std.proofs.Common.{subst, sym}
+use Rattle.node_threads.specs.Locked.{IsContinued}
+use Rattle.node_threads.proofs.Refusing.{has_close_fault, told_close}
 use Rattle.node_threads.proofs.run.run_round.Goals as goal
 
 pub returns-in-Err-clause-stands : goal.returns-in-Err-clause-stands
 returns-in-Err-clause-stands g c =
     subst
-    (λ book. WasLocked g.P.Application.app g.P.Application.from_text g.L.Round.mark g.L.Round.seats (λ b. book ≡ b))
+    (λ book. IsContinued g.P.Application.app g.P.Application.from_text g.L.Sharing.book book)
     (sym c.in-Err.ensures.returned.1) c.requires.stands
 
 pub returns-then-refused-clause-stands : goal.returns-then-refused-clause-stands
 returns-then-refused-clause-stands g c = c.into_book-book.ensures
 
-pub returns-then-hungry-clause-stands : goal.returns-then-hungry-clause-stands
-returns-then-hungry-clause-stands g c = c.into_book-book-then-hungry.ensures
+pub returns-then-out_of_memory-clause-stands : goal.returns-then-out_of_memory-clause-stands
+returns-then-out_of_memory-clause-stands g c = c.into_book-book-then-out_of_memory.ensures
 
 pub returns-in-Err-close-clause-stands : goal.returns-in-Err-close-clause-stands
 returns-in-Err-close-clause-stands g c = c.into_book-book-in-Err-close.ensures
 
 pub returns-in-Ok-close-clause-closed : goal.returns-in-Ok-close-clause-closed
 returns-in-Ok-close-clause-closed g c = c.in-Ok-close.ensures.closed
+
+pub returns-in-Err-clause-close : goal.returns-in-Err-clause-close
+returns-in-Err-clause-close g c = λ f is. absurd (c.cause_of-cause.ensures.close f is)
+
+pub returns-in-Err-close-clause-close : goal.returns-in-Err-close-clause-close
+returns-in-Err-close-clause-close g c = λ f is.
+    has_close_fault g.P.Application.app g.P.Application.from_text g.L.Sharing.book c.args.book g.L.Round.nodes _ _ f
+    c.requires.book c.requires.nodes c.in-Err-close.ensures.err (told_close _ _ c.cause_of_closing-cause.ensures.memory
+    c.cause_of_closing-cause.ensures.close f is)

@@ -8,6 +8,6 @@ invariant-loop-turn g l = record {
   most : length l.seat.receipts ≤ length l.fn.seat.receipts + l._turn;
   kept : take (length l.fn.seat.receipts) l.seat.receipts ≡ l.fn.seat.receipts;
   node : l.seat.node ≡ l.fn.seat.node;
-  turns : AddsTurns g.P.Application.app g.P.Application.from_text g.L.Round.mark g.L.Round.seats l.fn.seat.node
+  turns : AddsTurns g.P.Application.app g.P.Application.from_text g.L.Sharing.book l.fn.seat.node
       l.fn.seat.receipts l.seat.receipts;
 }

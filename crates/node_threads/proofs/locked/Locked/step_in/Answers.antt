@@ -1,13 +1,13 @@
 use Rattle.std.proofs.Common.{◌≤◌, ◌∷◌, [], length, ap, ◌∙◌, arith}
 use Rattle.std.proofs.lemmas.List.{length-append}
 use Rattle.history.specs.declared.entry.Entry.TheVariants.{Step}
-use Rattle.node_threads.proofs.Entering.{booked_entered, booked_graph, steps_more}
+use Rattle.node_threads.proofs.Entering.{before_more, booked_entered, booked_graph, steps_more}
 use Rattle.node_threads.proofs.locked.Locked.step_in.Goals as goal
 
 pub invariant_of-self-clause-nodes : goal.invariant_of-self-clause-nodes
 invariant_of-self-clause-nodes g c =
     let l = c.args.self.now in
-    ap (λ k. length k.nodes) (booked_graph g.P.Application.app l.book c.args.event c.step.new.self c.in-Ok-step.receipt
+    ap (λ k. k.nodes) (booked_graph g.P.Application.app l.book c.args.event c.step.new.self c.in-Ok-step.receipt
     c.in-Ok-step.ensures.outcome) ∙ l.nodes
 
 pub invariant_of-self-clause-counted : goal.invariant_of-self-clause-counted
@@ -29,3 +29,25 @@ invariant_of-self-clause-steps g c =
     let entered = booked_entered g.P.Application.app l.book c.args.event c.step.new.self c.in-Ok-step.receipt
     c.in-Ok-step.ensures.outcome in
     rw entered.entries (steps_more l.mark l.book.entries c.args.event within l.steps)
+
+pub invariant_of-self-clause-before : goal.invariant_of-self-clause-before
+invariant_of-self-clause-before g c =
+    let l = c.args.self.now in
+    let within : l.mark ≤ length l.book.entries = omega (arith, l.counted) in
+    let entered = booked_entered g.P.Application.app l.book c.args.event c.step.new.self c.in-Ok-step.receipt
+    c.in-Ok-step.ensures.outcome in
+    rw entered.entries (before_more l.mark l.book.entries g.L.Sharing.book.entries c.args.event within l.before)
+
+pub invariant_of-self-clause-opening : goal.invariant_of-self-clause-opening
+invariant_of-self-clause-opening g c =
+    let l = c.args.self.now in
+    let entered = booked_entered g.P.Application.app l.book c.args.event c.step.new.self c.in-Ok-step.receipt
+    c.in-Ok-step.ensures.outcome in
+    entered.opening ∙ l.opening
+
+pub invariant_of-self-clause-limit : goal.invariant_of-self-clause-limit
+invariant_of-self-clause-limit g c =
+    let l = c.args.self.now in
+    let entered = booked_entered g.P.Application.app l.book c.args.event c.step.new.self c.in-Ok-step.receipt
+    c.in-Ok-step.ensures.outcome in
+    entered.limit ∙ l.limit

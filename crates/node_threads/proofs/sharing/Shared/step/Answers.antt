@@ -1,6 +1,6 @@
 use Rattle.std.proofs.Common.{sym, subst, ◌∙◌}
-use Rattle.node_threads.specs.Locked.{IsLocked}
-use Rattle.node_threads.proofs.Entering.{booked_entered, if_err, if_ok, on_err, was_locked}
+use Rattle.node_threads.specs.Locked.{IsContinued}
+use Rattle.node_threads.proofs.Entering.{booked_entered, if_err, if_ok, on_err}
 use Rattle.node_threads.proofs.Refusing.{event_not_yours}
 use Rattle.node_threads.proofs.sharing.Shared.step.Goals as goal
 
@@ -17,21 +17,22 @@ returns-clause-kept g c = on_err c.step_in-done.result _ _ (λ is. is.2) c.step_
 
 pub returns-clause-ok : goal.returns-clause-ok
 returns-clause-ok g c =
-    let locked =
-    subst (λ d. IsLocked g.P.Application.app g.P.Application.from_text d.locked.book g.L.Round.mark d.locked.tally.total
-    g.L.Round.seats) (c.deref.ensures ∙ sym c.deref_mut.ensures.value) c.lemma_is_locked.ensures.locked in
-    if_ok c.step_in-done.result _ _ (λ receipt is. was_locked _ _ _ _ _ _ locked _ (record {
-      after = c.step_in-done.new.self.book;
-      done = is.0;
-    }))
+    let held =
+    subst (λ d. IsContinued g.P.Application.app g.P.Application.from_text g.L.Sharing.book d.locked.book)
+    (c.deref.ensures ∙ sym c.deref_mut.ensures.value) c.lemma_is_locked.ensures.continued in
+    if_ok c.step_in-done.result _ _ (λ receipt is. record {
+      book = _;
+      continued = held;
+      such = record { after = c.step_in-done.new.self.book; done = is.0 };
+    })
     c.step_in-done.ensures.ok
 
 pub returns-clause-err : goal.returns-clause-err
 returns-clause-err g c =
-    let locked =
-    subst (λ d. IsLocked g.P.Application.app g.P.Application.from_text d.locked.book g.L.Round.mark d.locked.tally.total
-    g.L.Round.seats) (c.deref.ensures ∙ sym c.deref_mut.ensures.value) c.lemma_is_locked.ensures.locked in
-    if_err c.step_in-done.result _ _ (λ f is. was_locked _ _ _ _ _ _ locked _ is) c.step_in-done.ensures.err
+    let held =
+    subst (λ d. IsContinued g.P.Application.app g.P.Application.from_text g.L.Sharing.book d.locked.book)
+    (c.deref.ensures ∙ sym c.deref_mut.ensures.value) c.lemma_is_locked.ensures.continued in
+    if_err c.step_in-done.result _ _ (λ f is. record { book = _; continued = held; such = is }) c.step_in-done.ensures.err
 
 pub returns-clause-yours : goal.returns-clause-yours
 returns-clause-yours g c = c.step_in-done.ensures.yours

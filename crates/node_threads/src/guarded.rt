@@ -1,13 +1,13 @@
-// What lies under the lock, with the attendance beside it.
+// What the mutex guards: the book under the lock, with the attendance beside it.
 
 use crate::attendance::Attendance;
 use crate::locked::Locked;
-use crate::round::Round;
+use crate::round::Sharing;
 use app_interface::Application;
 
 // The book and the attendance, of which the facts of the book say nothing.
 #[derive(Drop)]
-pub(crate) struct Desk<L: Round, P: Application> {
+pub(crate) struct Guarded<L: Sharing<P::Local>, P: Application> {
     pub(crate) locked: Locked<L, P>,
     pub(crate) attendance: Attendance,
 }
