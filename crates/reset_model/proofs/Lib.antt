@@ -14,9 +14,9 @@ pub mod WordLines
 pub mod EventLines
 pub mod PlainLines
 pub mod EventCuts
-mod Mending
+pub mod Mending
 pub mod Fathers
-mod WavePictures
+pub mod WavePictures
 pub mod SoundSteps
 pub mod CompleteResets
 pub mod SoundConfigurations

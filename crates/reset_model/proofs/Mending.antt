@@ -11,14 +11,15 @@ use Rattle.reset_model.specs.Steps.{Mends, mend_reset, mend_number, mend_both, m
 use Rattle.reset_model.specs.WavePicture.{WaveSound}
 
 module _ (g : Graph) (m : ℕ) (t : ℕ → TreeRegs) (w : ℕ → WaveRegs) where
-  module _ (rests : (i : ℕ) → Mends g m t w i → ⊥) (i j : ℕ) (father : IsFather g t i j) where
+  -- at one node
+  module _ (i j : ℕ) (rests : Mends g m t w i → ⊥) (father : IsFather g t i j) where
     awake_below : reset_at w j ≡ false → reset_at w i ≡ false
     awake_below up =
-        ⊎_elim (λ own. absurd (rests i (mend_reset j father up own))) (λ own. own) (cases_Bool (reset_at w i))
+        ⊎_elim (λ own. absurd (rests (mend_reset j father up own))) (λ own. own) (cases_Bool (reset_at w i))
 
     same_below : reset_at w j ≡ false → (w i).session ≡ (w j).session
     same_below up =
-        ⊎_elim (λ same. same) (λ other. absurd (rests i (mend_number j father up (awake_below up) other)))
+        ⊎_elim (λ same. same) (λ other. absurd (rests (mend_number j father up (awake_below up) other)))
         (cases_eq (w i).session (w j).session)
 
     late_below : reset_at w j ≡ true → reset_at w i ≡ false → (w i).session ≢ (w j).session
@@ -26,18 +27,18 @@ module _ (g : Graph) (m : ℕ) (t : ℕ → TreeRegs) (w : ℕ → WaveRegs) whe
     late_below up own other =
         ⊎_elim
         (λ next. next)
-        (λ further. absurd (rests i (mend_late j father up own (λ same. other (sym same)) further)))
+        (λ further. absurd (rests (mend_late j father up own (λ same. other (sym same)) further)))
         (cases_eq (w j).session (next_session m (w i).session))
 
     differing_below : reset_at w j ≡ true → (w i).session ≢ (w j).session
         → (reset_at w i ≡ false) × ((w j).session ≡ next_session m (w i).session)
     differing_below up other =
         ⊎_elim
-        (λ own. absurd (rests i (mend_both j father up own other)))
+        (λ own. absurd (rests (mend_both j father up own other)))
         (λ own. (own, late_below up own other))
         (cases_Bool (reset_at w i))
 
-    holds_at_rest : WaveHolds m (w i) (w j)
+    pub holds_at_rest : WaveHolds m (w i) (w j)
     holds_at_rest = record {
       awake = λ up. (awake_below up, same_below up);
       resetting =
@@ -55,4 +56,5 @@ module _ (g : Graph) (m : ℕ) (t : ℕ → TreeRegs) (w : ℕ → WaveRegs) whe
 
 pub rests_where_sound : (g : Graph) (m : ℕ) (t : ℕ → TreeRegs) (w : ℕ → WaveRegs)
     → (((i : ℕ) → Mends g m t w i → ⊥) ↔ WaveSound g m t w)
-rests_where_sound g m t w = (holds_at_rest g m t w, no_mend_where_sound g m t w)
+rests_where_sound g m t w =
+    ((λ rests i j father. holds_at_rest g m t w i j (rests i) father), no_mend_where_sound g m t w)

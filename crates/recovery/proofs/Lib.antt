@@ -1,0 +1,14 @@
+pub mod Leading
+pub mod Forgotten
+pub mod Places
+pub mod Healing
+pub mod WaveMoves
+pub mod Joined
+pub mod Finished
+pub mod Restarted
+pub mod Renewed
+pub mod Potential
+pub mod ForgetSteps
+pub mod MendingOut
+pub mod PlaceSteps
+pub mod Outward

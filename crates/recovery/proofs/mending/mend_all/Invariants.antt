@@ -1,0 +1,9 @@
+use Rattle.std.proofs.Common.{◌≡◌, ◌≤◌, ◌+◌, length}
+use Rattle.recovery.specs.Mended.{AreMendedFirst}
+use Rattle.recovery.proofs.mending.mend_all.Given as goal
+
+abbrev pub invariant-loop-at : goal.invariant-loop-at
+invariant-loop-at g l =
+    (l.draft.opening ≡ l.initial.draft.opening)
+    × AreMendedFirst l.initial.draft.config l.draft.config l.order l.at-index
+    × (length l.draft.events ≤ length l.initial.draft.events + l.at-index)
