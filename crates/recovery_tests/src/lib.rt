@@ -1,0 +1,5 @@
+//! Tests of plans by their public call.
+#![tactic(auto)]
+
+#[cfg(test)]
+mod plans;
