@@ -1,8 +1,7 @@
 -- What the repairs of a draft come to.
-use Rattle.std.proofs.Common.{◌≡◌, ℕ, zero, suc, ◌+◌, ◌*◌, ◌≤◌, Bool, true, false, ◌&&◌, List, [], ◌∷◌, ◌++◌, All, Contains, length, inl, inr}
+use Rattle.std.proofs.Common.{◌≡◌, ℕ, zero, suc, ◌+◌, ◌*◌, ◌≤◌, Bool, true, false, ◌&&◌, List, [], ◌∷◌, ◌++◌, All, length}
 use Rattle.std.proofs.Common.{Result, Ok, Err, OnOk, refl, sym, ap, subst, ◌∙◌, true≢false, arith}
 use Rattle.std.specs.List.{list_all}
-use Rattle.std.proofs.lemmas.List.Elements.{Contains-append_left}
 use Rattle.std.proofs.lemmas.List.Folds.{list_all-append}
 use Rattle.std.proofs.Math.Nat.{mul-add}
 use Rattle.app_interface.specs.Application.{App}
@@ -13,7 +12,7 @@ use Rattle.reset_model.specs.declared.event.Event.TheVariants.{Mend, Act}
 use Rattle.reset_model.specs.Configuration.{Configuration, tree_of}
 use Rattle.reset_model.specs.Sound.{IsSound, Repairs, claims, follows, adopts, mends}
 use Rattle.reset_model.proofs.SoundConfigurations.{step_quiet}
-use Rattle.recovery.specs.Drafts.{DraftView, Leads, Tried, is_repair}
+use Rattle.recovery.specs.Drafts.{Leads, is_repair}
 use Rattle.recovery.specs.FalseNodes.{IsPlaced, IsTarget, far_of, potential_of, top_of}
 use Rattle.recovery.specs.Outward.{AllPlaced, IsOutward}
 use Rattle.recovery.specs.Recovered.{AreSteps, Heals}
@@ -31,16 +30,6 @@ pub all_more : (takes : Event → Bool) (es more : List Event) (e : Event) → l
 all_more takes es more e all one grew =
     ap (list_all takes) grew ∙ list_all-append takes es (e ∷ [])
     ∙ ap (λ b. b && list_all takes (e ∷ [])) all ∙ ap (λ b. b && true) one
-
--- what a draft has it keeps
-pub tried_grows : {L : Type 0} (app : App L) (v v' : DraftView L) (e : Event) → Tried app v e v'
-    → (x : Event) → Contains v.events x → Contains v'.events x
-tried_grows app v v' e (inl did) x there =
-    let P : List Event → Type 0 = λ l. Contains l x in
-    subst P (sym did.1) (Contains-append_left v.events (e ∷ []) x there)
-tried_grows app v v' e (inr none) x there =
-    let P : List Event → Type 0 = λ l. Contains l x in
-    subst P (sym (ap (λ d. d.events) none.1)) there
 
 -- the tested ones are repairs
 is_repairing : (e : Event) → is_repair e ≡ true → Repairs e

@@ -5,6 +5,7 @@ pub mod Healing
 pub mod WaveMoves
 pub mod Joined
 pub mod Finished
+pub mod Counting
 pub mod Restarted
 pub mod Renewed
 pub mod Potential

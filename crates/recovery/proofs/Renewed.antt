@@ -1,7 +1,7 @@
 -- After a restart of all nodes and its end each is renewed; and orders that are reversed.
-use Rattle.std.proofs.Common.{◌≡◌, ◌≢◌, ℕ, ◌+◌, ◌-◌, ◌*◌, ◌<◌, ◌≤◌, List, Contains, length, slice_index_or}
+use Rattle.std.proofs.Common.{◌≡◌, ◌≢◌, ℕ, ◌+◌, ◌-◌, ◌*◌, ◌<◌, ◌≤◌, List, length, slice_index_or}
 use Rattle.std.proofs.Common.{sym, ap, ap₂, subst, ◌∙◌, ⊎_elim, true≢false, arith}
-use Rattle.std.proofs.Common.{Result, Ok, Err, OnOk, reverse}
+use Rattle.std.proofs.Common.{Bool, cond, Result, Ok, Err, OnOk, reverse}
 use Rattle.std.proofs.lemmas.Bool.{cases_eq}
 use Rattle.std.proofs.lemmas.List.{get_or-reverse}
 use Rattle.std.proofs.lemmas.List.Sorted.{Contains-permutation, IsPermutation-reverse, IsPermutation-sym, length_permutation}
@@ -16,7 +16,7 @@ use Rattle.wave_layer.specs.declared.regs.WaveRegs.{WaveRegs}
 use Rattle.wave_layer.specs.Sessions.{next_session}
 use Rattle.wave_layer.specs.WaveTable.{is_reset}
 use Rattle.reset_model.specs.declared.event.Event.{Event}
-use Rattle.reset_model.specs.declared.event.Event.TheVariants.{Join, Open}
+use Rattle.reset_model.specs.declared.event.Event.TheVariants.{Join}
 use Rattle.reset_model.specs.Configuration.{Configuration, tree_of, wave_of}
 use Rattle.reset_model.specs.Sound.{IsSound}
 use Rattle.reset_model.specs.WavePicture.{HasJoined}
@@ -25,8 +25,9 @@ use Rattle.recovery.specs.Drafts.{DraftView, Tried, TriedToOpen}
 use Rattle.recovery.specs.FalseNodes.{far_of}
 use Rattle.recovery.specs.Mended.{KeepsTree}
 use Rattle.recovery.specs.Outward.{IsOutward}
-use Rattle.recovery.specs.Recovered.{IsRenewed}
-use Rattle.recovery.specs.Resetting.{AllJoined, HasFinished, IsAnew, IsInward, NoneReset, RestartsSoFar}
+use Rattle.recovery.specs.Recovered.{CompletesOnce, IsRenewed}
+use Rattle.recovery.specs.Resetting.{AllJoined, EndsBy, HasFinished, IsAnew, IsInward, NoneReset, RestartsSoFar}
+use Rattle.recovery.proofs.Counting.{completes_once}
 use Rattle.recovery.proofs.Restarted.{at_node, below_restarts, leader_restarts}
 use Rattle.recovery.proofs.WaveMoves.{leader_own, node_on, tree_picture}
 
@@ -78,7 +79,7 @@ same_regs a b s r p q =
 module _ {L : Type 0} (app : App L) (c c' c2 : Configuration L) (es es' : List Event) (graph : IsGraph c.graph)
     (sound : IsSound c) (keeps : KeepsTree c c') (anew : (i : ℕ) → IsNode c.graph i → IsAnew app c c' es i)
     (by : HasFinished app c' c2) (joined : AllJoined c2) (none : NoneReset c2)
-    (grown : (e : Event) → Contains es e → Contains es' e) where
+    (ends : EndsBy c' c2 es es') where
   all_graph : c2.graph ≡ c.graph
   all_graph = by.keeps.graph ∙ keeps.graph
 
@@ -92,18 +93,24 @@ module _ {L : Type 0} (app : App L) (c c' c2 : Configuration L) (es es' : List E
       (sym (ap is_reset (same ∙ ap (λ (r : WaveRegs). r.phase) (anew i node).wave)) ∙ none i last)))
       (by.phases i there)
 
-  opened_there : (i : ℕ) → IsNode c.graph i → Contains es' (Open (leader c.graph i))
+  opened_there : (i : ℕ) → IsNode c.graph i → CompletesOnce es' (leader c.graph i)
   opened_there i node =
       let l = leader c.graph i in
       let at = leader_node c.graph i graph node in
       let twice : leader c.graph l ≡ l = same_leader c.graph i l graph node (leader_leads c.graph i graph node).reached in
-      grown (Open l) ((anew l at).opened (leader_own c graph sound l at (sym twice)))
+      let there = node_on c c' keeps l at in
+      let last = node_on c' c2 by.keeps l there in
+      let Left : Bool → ℕ = λ b. cond b 0 1 in
+      let one = ends.once l there (ap (λ (r : WaveRegs). is_reset r.phase) (anew l at).wave) in
+      let done = ap Left (none l last) in
+      completes_once es es' ends.more l ((anew l at).opened (leader_own c graph sound l at (sym twice))) ends.added
+      (ends.closed l) (one ∙ done)
 
   pub renewed : (i : ℕ) → IsNode c2.graph i → IsRenewed app es' c2 i
   renewed i node =
       let P : Graph → Type 0 = λ g. IsNode g i in
       let here : IsNode c.graph i = subst P all_graph node in
-      let Q : Graph → Type 0 = λ g. Contains es' (Open (leader g i)) in
+      let Q : Graph → Type 0 = λ g. CompletesOnce es' (leader g i) in
       record {
         opened = subst Q (sym all_graph) (opened_there i here);
         wave = same_regs (wave_of c2 i).phase Normal (wave_of c2 i).session _ (normal i here) (joined i node);

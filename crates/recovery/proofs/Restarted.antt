@@ -2,8 +2,8 @@
 -- join it.
 use Rattle.std.proofs.Common.{◌≡◌, ◌≢◌, ℕ, ◌+◌, ◌<◌, ◌≤◌, inl, inr, true, false, List, [], ◌∷◌, Contains, length, slice_index_or}
 use Rattle.std.proofs.Common.{refl, sym, ap, ap₂, subst, ◌∙◌, ⊎_elim, true≢false, arith}
-use Rattle.std.proofs.lemmas.Bool.{cases_eq, cases_lt}
-use Rattle.std.proofs.lemmas.List.Elements.{Contains-append_right}
+use Rattle.std.proofs.lemmas.Bool.{cases_eq, cases_lt, ne_eqb}
+use Rattle.std.proofs.Common.{append_assoc, append-nil, ◌++◌}
 use Rattle.app_interface.specs.Application.{App}
 use Rattle.topology.specs.Graph.{IsGraph, IsNode, node_bound}
 use Rattle.tree_layer.specs.declared.regs.TreeRegs.{TreeRegs}
@@ -16,6 +16,7 @@ use Rattle.wave_layer.specs.Sessions.{next_session}
 use Rattle.wave_layer.specs.WaveTable.{is_reset}
 use Rattle.reset_model.specs.declared.event.Event.{Event}
 use Rattle.reset_model.specs.declared.event.Event.TheVariants.{Join, Open, Request}
+use Rattle.reset_model.specs.Completion.{times}
 use Rattle.reset_model.specs.Configuration.{Configuration, local_of, tree_of, wave_of}
 use Rattle.reset_model.specs.Sound.{IsSound}
 use Rattle.reset_model.specs.Steps.{Joins, event_node, is_act, join_asked, join_normal, reset_at, tree_effect}
@@ -25,8 +26,8 @@ use Rattle.recovery.specs.Drafts.{DraftView, Tried}
 use Rattle.recovery.specs.FalseNodes.{far_of}
 use Rattle.recovery.specs.Mended.{KeepsTree}
 use Rattle.recovery.specs.Outward.{IsOutward}
-use Rattle.recovery.specs.Resetting.{AllJoined, IsAnew, NoneReset, RestartsSoFar}
-use Rattle.recovery.proofs.Healing.{tried_grows}
+use Rattle.recovery.specs.Resetting.{AllJoined, IsAnew, NoneReset, RestartsSoFar, is_at}
+use Rattle.recovery.proofs.Counting.{opens_still, times_append, times_of_one}
 use Rattle.recovery.proofs.Leading.{same_item}
 use Rattle.recovery.proofs.MendingOut.{father_on, kept_itself, kept_on}
 use Rattle.recovery.proofs.Outward.{item_node}
@@ -40,7 +41,9 @@ pub record Advances {L : Type 0} (app : App L) (v v' : DraftView L) (i : ℕ) : 
   pub sound : IsSound v'.config
   pub waves : (k : ℕ) → IsNode v.config.graph k → k ≢ i → wave_of v'.config k ≡ wave_of v.config k
   pub locals : (k : ℕ) → IsNode v.config.graph k → k ≢ i → local_of app v'.config k ≡ local_of app v.config k
-  pub grown : (e : Event) → Contains v.events e → Contains v'.events e
+  pub more : List Event
+  pub added : v'.events ≡ v.events ++ more
+  pub elsewhere : (k : ℕ) → k ≢ i → times (is_at k) more ≡ 0
 
 pub stays : {L : Type 0} (app : App L) (v v' : DraftView L) (i : ℕ) → IsSound v.config → v' ≡ v → Advances app v v' i
 stays {L} app v v' i sound same =
@@ -50,7 +53,9 @@ stays {L} app v v' i sound same =
       sound = sound;
       waves = λ k node other. refl;
       locals = λ k node other. refl;
-      grown = λ e there. there;
+      more = [];
+      added = sym (append-nil v.events);
+      elsewhere = λ k other. refl;
     })
 
 pub advances : {L : Type 0} (app : App L) (v v' : DraftView L) (e : Event) → is_act e ≡ false
@@ -63,7 +68,9 @@ advances app v v' e row tree graph sound (inl did) =
       sound = step_sound app v.config v'.config e graph did.0 sound;
       waves = m.others;
       locals = m.local_others;
-      grown = tried_grows app v v' e (inl did);
+      more = e ∷ [];
+      added = did.1;
+      elsewhere = λ k other. times_of_one (is_at k) e false (ne_eqb (event_node e) k (λ same. other (sym same)));
     }
 advances app v v' e row tree graph sound (inr none) = stays app v v' (event_node e) sound none.1
 
@@ -76,7 +83,10 @@ advances_on app v m v' i before after = record {
       ∙ before.waves k node other;
   locals = λ k node other. after.locals k (node_on v.config m.config before.keeps k node) other
       ∙ before.locals k node other;
-  grown = λ e there. after.grown e (before.grown e there);
+  more = before.more ++ after.more;
+  added = after.added ∙ ap (λ l. l ++ after.more) before.added ∙ append_assoc v.events before.more after.more;
+  elsewhere = λ k other. times_append (is_at k) before.more after.more
+      ∙ omega (arith, before.elsewhere k other, after.elsewhere k other);
 }
 
 -- ---- one node more
@@ -97,7 +107,7 @@ module _ {L : Type 0} (app : App L) (c : Configuration L) (graph : IsGraph c.gra
       record {
         wave = on.waves i there other ∙ anew.wave;
         local = on.locals i there other ∙ anew.local;
-        opened = λ own. on.grown (Open i) (anew.opened own);
+        opened = λ own. opens_still v.events v'.events on.more i (anew.opened own) on.added (on.elsewhere i other);
       }
 
   one_more : (v' : DraftView L) → Advances app v v' at → IsAnew app c v'.config v'.events at
@@ -191,11 +201,10 @@ module _ {L : Type 0} (app : App L) (c : Configuration L) (graph : IsGraph c.gra
         let step = moved app m.config v'.config (Open at) refl refl did.0 in
         let was = asked old asks in
         let Made : ℕ → ℕ → WaveRegs = λ k s. record { phase = Reset; session = next_session k s } in
-        let P : List Event → Type 0 = λ l. Contains l (Open at) in
         record {
           wave = step.here ∙ ap₂ Made all_keeps.modulus was.1;
           local = step.local_here ∙ ap (λ g. app.start g at) all_keeps.graph;
-          opened = λ _. subst P (sym did.1) (Contains-append_right m.events (Open at ∷ []) (Open at) (0, omega arith, refl));
+          opened = λ _. (m.events, [], did.1, refl);
         }
     opened_anew old (inr none) = absurd (none.0 (m_own, (asked old asks).0))
 

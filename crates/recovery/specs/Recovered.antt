@@ -1,12 +1,13 @@
 -- Plans that recover a configuration, whatever its registers are.
-use Rattle.std.specs.Prelude.{◌≡◌, ℕ, ◌+◌, ◌*◌, ◌≤◌, true, List, [], All, Contains, length}
+use Rattle.std.specs.Prelude.{◌≡◌, ℕ, ◌+◌, ◌*◌, ◌≤◌, ◌==◌, Bool, true, false, List, [], ◌∷◌, ◌++◌, All, length}
 use Rattle.std.specs.List.{list_all}
 use Rattle.app_interface.specs.Application.{App}
 use Rattle.topology.specs.Components.{leader}
 use Rattle.topology.specs.Graph.{IsNode, node_bound}
 use Rattle.wave_layer.specs.declared.regs.Phase.TheVariants.{Normal}
 use Rattle.reset_model.specs.declared.event.Event.{Event}
-use Rattle.reset_model.specs.declared.event.Event.TheVariants.{Open}
+use Rattle.reset_model.specs.declared.event.Event.TheVariants.{Finish, Open}
+use Rattle.reset_model.specs.Completion.{is_open_at, times}
 use Rattle.reset_model.specs.Configuration.{Configuration, local_of, wave_of}
 use Rattle.reset_model.specs.Headline.{Steps, Transition, events_of}
 use Rattle.reset_model.specs.Sound.{IsSound, Repairs}
@@ -24,9 +25,20 @@ pub record Heals {L : Type 0} (app : App L) (c : Configuration L) (es : List Eve
   pub sound : IsSound c'
   pub none : IsSound c → es ≡ []
 
--- after the events the node i is normal in the session of its leader, which opened one, and has its start state
+abbrev pub is_finish_at : ℕ → Event → Bool
+is_finish_at i (Finish k) = k == i
+is_finish_at i _ = false
+
+-- the last session that the node i opens among the events completes there exactly once
+abbrev pub CompletesOnce : List Event → ℕ → Type 0
+CompletesOnce es i =
+    (before : List Event) × (after : List Event) × (es ≡ before ++ Open i ∷ after)
+    × (times (is_open_at i) after ≡ 0) × (times (is_finish_at i) after ≡ 1)
+
+-- after the events the node i is normal in the session of its leader, which opened it among them and completed it once, and
+-- has its start state
 pub record IsRenewed {L : Type 0} (app : App L) (es : List Event) (c : Configuration L) (i : ℕ) : Type 0 where
-  pub opened : Contains es (Open (leader c.graph i))
+  pub opened : CompletesOnce es (leader c.graph i)
   pub wave : wave_of c i ≡ record { phase = Normal; session = (wave_of c (leader c.graph i)).session }
   pub local : local_of app c i ≡ app.start c.graph i
 

@@ -1,5 +1,5 @@
 -- What holds while the nodes of sound registers join, finish and restart in turn.
-use Rattle.std.specs.Prelude.{◌≡◌, ℕ, ◌<◌, ◌≤◌, ◌⊎◌, false, Contains, List, length, slice_index_or}
+use Rattle.std.specs.Prelude.{◌≡◌, ℕ, ◌<◌, ◌≤◌, ◌==◌, ◌⊎◌, Bool, true, false, cond, Contains, List, ◌∷◌, ◌++◌, length, slice_index_or}
 use Rattle.app_interface.specs.Application.{App}
 use Rattle.topology.specs.Graph.{IsNode}
 use Rattle.wave_layer.specs.declared.regs.Phase.TheVariants.{Normal, Reset}
@@ -8,11 +8,13 @@ use Rattle.reset_model.specs.declared.event.Event.{Event}
 use Rattle.reset_model.specs.declared.event.Event.TheVariants.{Open}
 use Rattle.reset_model.specs.Configuration.{Configuration, local_of, tree_of, wave_of}
 use Rattle.reset_model.specs.Sound.{IsSound}
-use Rattle.reset_model.specs.Steps.{reset_at}
+use Rattle.reset_model.specs.Completion.{is_open_at, times}
+use Rattle.reset_model.specs.Steps.{event_node, reset_at}
 use Rattle.reset_model.specs.WavePicture.{HasJoined}
 use Rattle.recovery.specs.FalseNodes.{far_of}
 use Rattle.recovery.specs.Mended.{KeepsTree}
 use Rattle.recovery.specs.Outward.{IsOutward}
+use Rattle.recovery.specs.Recovered.{is_finish_at}
 
 -- the list has the nodes of b, each once, and farther ones before others
 pub record IsInward {L : Type 0} (b : Configuration L) (order : List ℕ) : Type 0 where
@@ -44,6 +46,17 @@ pub record HasFinished {L : Type 0} (app : App L) (c c' : Configuration L) : Typ
       → ((wave_of c' i).phase ≡ Normal) ⊎ ((wave_of c' i).phase ≡ (wave_of c i).phase)
   pub locals : (i : ℕ) → IsNode c.graph i → local_of app c' i ≡ local_of app c i
 
+abbrev pub is_at : ℕ → Event → Bool
+is_at i e = event_node e == i
+
+-- es' is es and events by which c became c', no opening among them, and one finish of each node that isn't reset any more
+pub record EndsBy {L : Type 0} (c c' : Configuration L) (es es' : List Event) : Type 0 where
+  pub more : List Event
+  pub added : es' ≡ es ++ more
+  pub closed : (i : ℕ) → times (is_open_at i) more ≡ 0
+  pub once : (i : ℕ) → IsNode c.graph i → reset_at (wave_of c) i ≡ true
+      → times (is_finish_at i) more ≡ cond (reset_at (wave_of c') i) 0 1
+
 -- the first n of the list aren't reset
 pub record FinishesSoFar {L : Type 0} (c : Configuration L) (order : List ℕ) (n : ℕ) : Type 0 where
   pub inward : IsInward c order
@@ -51,11 +64,16 @@ pub record FinishesSoFar {L : Type 0} (c : Configuration L) (order : List ℕ) (
   pub joined : AllJoined c
   pub first : (k d : ℕ) → k < n → reset_at (wave_of c) (slice_index_or order k d) ≡ false
 
+-- of the events at i the last one opens a session
+abbrev pub OpensLast : List Event → ℕ → Type 0
+OpensLast es i =
+    (before : List Event) × (after : List Event) × (es ≡ before ++ Open i ∷ after) × (times (is_at i) after ≡ 0)
+
 -- i is reset in the session after the one that it had in c, and at its start; and where it leads it opened one
 pub record IsAnew {L : Type 0} (app : App L) (c c' : Configuration L) (es : List Event) (i : ℕ) : Type 0 where
   pub wave : wave_of c' i ≡ record { phase = Reset; session = next_session c.modulus (wave_of c i).session }
   pub local : local_of app c' i ≡ app.start c.graph i
-  pub opened : (tree_of c i).father ≡ i → Contains es (Open i)
+  pub opened : (tree_of c i).father ≡ i → OpensLast es i
 
 -- each node is as it was in c or anew, and the first n of the list are anew
 pub record RestartsSoFar {L : Type 0} (app : App L) (c c' : Configuration L) (es : List Event) (order : List ℕ) (n : ℕ) :

@@ -1,16 +1,15 @@
 // A reset of each component of sound registers, after what resets are under way has ended.
 
-ghost use Rattle.std.specs.Prelude.{◌≡◌, ◌≢◌, ℕ, ◌≤◌, ◌+◌, ◌*◌, Contains, length, OnOk};
+ghost use Rattle.std.specs.Prelude.{◌≡◌, ◌≢◌, ℕ, ◌≤◌, ◌+◌, ◌*◌, length, OnOk};
 ghost use Rattle.topology.specs.Graph.{IsNode};
 ghost use Rattle.reset_model.specs.Configuration.{tree_of};
 ghost use Rattle.reset_model.specs.Sound.{IsSound};
-ghost use Rattle.reset_model.specs.declared.event.Event.{Event};
 ghost use Rattle.reset_model.specs.declared.event.Event.TheVariants.{Join};
 ghost use Rattle.recovery.specs.Drafts.{Tried, TriedToOpen};
 ghost use Rattle.recovery.specs.Mended.{KeepsTree};
 ghost use Rattle.recovery.specs.Outward.{IsOutward};
 ghost use Rattle.recovery.specs.Recovered.{IsRenewed};
-ghost use Rattle.recovery.specs.Resetting.{AllJoined, HasFinished, IsAnew, IsInward, NoneReset};
+ghost use Rattle.recovery.specs.Resetting.{AllJoined, EndsBy, HasFinished, IsAnew, IsInward, NoneReset};
 
 use crate::draft::{Draft, Resets};
 use crate::forgetting::regs_at;
@@ -78,7 +77,8 @@ pub(crate) fn finish_all<P: Application>(
     ensures sound { OnOk result (IsSound draft.new.config) }
     ensures joined { OnOk result (AllJoined draft.new.config) }
     ensures none { OnOk result (NoneReset draft.new.config) }
-    ensures grown { OnOk result ((e : Event) → Contains draft.old.events e → Contains draft.new.events e) }
+    ensures ended { OnOk result
+        (EndsBy draft.old.config draft.new.config draft.old.events draft.new.events) }
     ensures count { OnOk result (length draft.new.events ≤ length draft.old.events + length order.now) }
 {
     draft.config().lemma_is_graph();

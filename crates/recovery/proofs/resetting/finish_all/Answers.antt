@@ -1,7 +1,7 @@
 use Rattle.std.proofs.Common.{◌∙◌, arith, refl, subst, sym}
 use Rattle.topology.specs.Graph.{IsGraph}
 use Rattle.recovery.proofs.Finished.{all_finished, finished_on, tried_finish}
-use Rattle.recovery.proofs.Healing.{tried_grows}
+use Rattle.recovery.proofs.Counting.{tried_ends}
 use Rattle.recovery.proofs.resetting.finish_all.Goals as goal
 
 pub loop-at-preserved : goal.loop-at-preserved
@@ -16,7 +16,8 @@ loop-at-preserved g c =
       c.in_ok-take_if_enabled.ensures.opening ∙ c.loop-at.invariant.0,
       finished_on app c.args.draft.now.config now.config c.take_if_enabled.new.self.config by next.0,
       next.1,
-      λ e there. tried_grows app now c.take_if_enabled.new.self _ tried e (c.loop-at.invariant.3 e there),
+      tried_ends app c.args.draft.now.config now c.take_if_enabled.new.self c.args.draft.now.events _ by.keeps
+          c.loop-at.invariant.3 tried,
       omega (arith, c.in_ok-take_if_enabled.ensures.count, c.loop-at.invariant.4),
     )
 

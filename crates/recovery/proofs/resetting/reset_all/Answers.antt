@@ -40,11 +40,11 @@ returns-clause-renewed g c =
     let keeps = kept_on c.args.draft.now.config c.join_all.new.draft.config c.finish_all.new.draft.config
     c.in_ok-join_all.ensures.keeps c.in_ok-finish_all.ensures.finished.keeps in
     on_ok_all c.finish_all-2.result _ _ _ _ _
-    (λ finished joined none grown.
+    (λ finished joined none ended.
     renewed g.P.Application.app c.finish_all.new.draft.config c.restart_all.new.draft.config
     c.finish_all-2.new.draft.config c.restart_all.new.draft.events c.finish_all-2.new.draft.events
     (subst IsGraph (sym keeps.graph) (rw (← c.config.ensures) c.lemma_is_graph.ensures.graph))
     c.in_ok-finish_all.ensures.sound c.in_ok-restart_all.ensures.keeps c.in_ok-restart_all.ensures.anew finished joined
-    none grown)
+    none ended)
     c.finish_all-2.ensures.finished c.finish_all-2.ensures.joined c.finish_all-2.ensures.none
-    c.finish_all-2.ensures.grown
+    c.finish_all-2.ensures.ended
