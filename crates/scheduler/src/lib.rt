@@ -6,4 +6,5 @@ mod events;
 mod run;
 mod step;
 
+pub use events::enabled_events;
 pub use run::drive;

@@ -1,7 +1,7 @@
 -- A command's line has the command's words, and no other command has them.
 use Rattle.std.specs.Prelude.{codes}
-use Rattle.std.proofs.Common.{◌≡◌, inl, inr, ℕ, ◌<◌, ◌^◌, List, [], ◌∷◌, refl, sym, ap, ◌∙◌, Option, None, Some, IfNone}
-use Rattle.std.proofs.Common.{Bool, true, false, ◌==◌, ◌||◌, true≢false}
+use Rattle.std.proofs.Common.{◌≡◌, ◌≢◌, inl, inr, ℕ, ◌<◌, ◌≤◌, ◌^◌, List, [], ◌∷◌, refl, sym, ap, ◌∙◌, Option, None}
+use Rattle.std.proofs.Common.{Some, IfNone, Bool, true, false, ◌==◌, ◌||◌, true≢false, arith, length}
 use Rattle.std.specs.Fmt.{decimal}
 use Rattle.reset_model.specs.EventText.{event_words, Fits}
 use Rattle.reset_model.specs.Words.{words_of}
@@ -17,7 +17,8 @@ use Rattle.fault_inject.specs.declared.fault.Fault.TheVariants.{SetTree, SetWave
 use Rattle.fault_inject.specs.declared.fault.Fault.TheVariants.{NodeDown, NodeUp}
 use Rattle.script_replay.specs.declared.script.Command.{Command}
 use Rattle.script_replay.specs.declared.script.Command.TheVariants.{Step, Inject, Draw, Show, ShowNode, Newest, Enabled}
-use Rattle.script_replay.specs.declared.script.Command.TheVariants.{Ready, Check, CheckNode, Alarm, Watch}
+use Rattle.script_replay.specs.declared.script.Command.TheVariants.{Ready, Check, CheckNode, Alarm, Watch, Moves}
+use Rattle.script_replay.specs.declared.script.Command.TheVariants.{MovesOf, Snapshot}
 use Rattle.script_replay.specs.Script.{command_words, command_line, AsksAbout, CommandFits, IsPlain}
 
 pub words_of-command_line : (c : Command) → CommandFits c → words_of (command_line c) ≡ command_words c
@@ -33,6 +34,9 @@ words_of-command_line Check h = refl
 words_of-command_line (CheckNode at) h = ap (λ ws. codes "check" ∷ ws) (words_of-decimal at h)
 words_of-command_line (Alarm at) h = ap (λ ws. codes "alarm" ∷ ws) (words_of-decimal at h)
 words_of-command_line (Watch at) h = ap (λ ws. codes "watch" ∷ ws) (words_of-decimal at h)
+words_of-command_line Moves h = refl
+words_of-command_line (MovesOf at) h = ap (λ ws. codes "moves" ∷ ws) (words_of-decimal at h)
+words_of-command_line Snapshot h = refl
 
 -- a command that fits and is no fault fits
 pub plain_fits : (c : Command) → IsPlain c → CommandFits c
@@ -48,6 +52,9 @@ plain_fits Check h = h
 plain_fits (CheckNode at) h = h
 plain_fits (Alarm at) h = h
 plain_fits (Watch at) h = h
+plain_fits Moves h = h
+plain_fits (MovesOf at) h = h
+plain_fits Snapshot h = h
 
 pub words_of-plain_line : (c : Command) → IsPlain c → words_of (command_line c) ≡ command_words c
 words_of-plain_line c h = words_of-command_line c (plain_fits c h)
@@ -68,6 +75,9 @@ none_of_both line fault plain Check h = plain Check h
 none_of_both line fault plain (CheckNode at) h = plain (CheckNode at) h
 none_of_both line fault plain (Alarm at) h = plain (Alarm at) h
 none_of_both line fault plain (Watch at) h = plain (Watch at) h
+none_of_both line fault plain Moves h = plain Moves h
+none_of_both line fault plain (MovesOf at) h = plain (MovesOf at) h
+none_of_both line fault plain Snapshot h = plain Snapshot h
 
 -- the words of a command's line
 pub words_of_line : (line : List ℕ) (c : Command) → CommandFits c → line ≡ command_line c
@@ -81,7 +91,8 @@ begins_no_event ws =
     || first_bytes ws == two_bytes (codes "enabled") || first_bytes ws == two_bytes (codes "ready")
     || first_bytes ws == two_bytes (codes "check") || first_bytes ws == two_bytes (codes "alarm")
     || first_bytes ws == two_bytes (codes "watch") || first_bytes ws == two_bytes (codes "draw")
-    || first_bytes ws == two_bytes (codes "fault")
+    || first_bytes ws == two_bytes (codes "fault") || first_bytes ws == two_bytes (codes "moves")
+    || first_bytes ws == two_bytes (codes "snapshot")
 
 event_begins : (e : Event) → begins_no_event (event_words e) ≡ false
 event_begins (Claim at) = refl
@@ -124,6 +135,34 @@ event_is_no_fault e f is = no_event e is (begins_fault f)
     begins_fault (NodeDown at) = refl
     begins_fault (NodeUp at) = refl
 
+-- ---- one word
+
+two_words : (e : Event) → 2 ≤ length (event_words e)
+two_words (Adopt at from) = omega arith
+two_words (Relay at child) = omega arith
+two_words (Act at case None) = omega arith
+two_words (Act at case (Some j)) = omega arith
+two_words e = omega arith
+
+-- what is none of these words is no command of one word
+pub no_word : (word : List ℕ) (o : Option Command)
+    → (word ≢ codes "show") × (word ≢ codes "newest") × (word ≢ codes "snapshot")
+    → IfNone o ((word ≢ codes "ready") × (word ≢ codes "check") × (word ≢ codes "moves"))
+    → IfNone o ((c : Command) → IsPlain c → word ∷ [] ≡ command_words c → ⊥)
+no_word word (Some c) state rules = tt
+no_word word None state rules = none
+  where
+    none : (c : Command) → IsPlain c → word ∷ [] ≡ command_words c → ⊥
+    none (Step e) fits is = absurd (omega (arith, ap length is, two_words e))
+    none (Inject f) fits is = absurd fits
+    none Show fits is = state.0 (cc)
+    none Newest fits is = state.1 (cc)
+    none Snapshot fits is = state.2 (cc)
+    none Ready fits is = rules.0 (cc)
+    none Check fits is = rules.1 (cc)
+    none Moves fits is = rules.2 (cc)
+    none c fits is = absurd (omega (arith, ap length is))
+
 -- ---- a word and more
 
 -- a question of which no number follows the word is none
@@ -135,7 +174,9 @@ no_question word rest none at small (inr (inr (inl is))) = none at small (line-w
 no_question word rest none at small (inr (inr (inr (inl is)))) = none at small (line-words rest (decimal at ∷ []) (cc))
 no_question word rest none at small (inr (inr (inr (inr (inl is))))) =
     none at small (line-words rest (decimal at ∷ []) (cc))
-no_question word rest none at small (inr (inr (inr (inr (inr is))))) =
+no_question word rest none at small (inr (inr (inr (inr (inr (inl is)))))) =
+    none at small (line-words rest (decimal at ∷ []) (cc))
+no_question word rest none at small (inr (inr (inr (inr (inr (inr is)))))) =
     none at small (line-words rest (decimal at ∷ []) (cc))
 
 -- what is neither an event nor a question is no command of a word and more
@@ -149,7 +190,7 @@ no_command word rest None event question = none
     none : (c : Command) → IsPlain c → word ∷ words_of rest ≡ command_words c → ⊥
     none (Step e) fits is = event e fits is
     none (Inject f) fits is = absurd fits
-    none (Draw seed) fits is = question seed fits (inr (inr (inr (inr (inr is)))))
+    none (Draw seed) fits is = question seed fits (inr (inr (inr (inr (inr (inl is))))))
     none Show fits is = words_of-some rest (cc)
     none (ShowNode at) fits is = question at fits (inl is)
     none Newest fits is = words_of-some rest (cc)
@@ -159,3 +200,6 @@ no_command word rest None event question = none
     none (CheckNode at) fits is = question at fits (inr (inr (inl is)))
     none (Alarm at) fits is = question at fits (inr (inr (inr (inl is))))
     none (Watch at) fits is = question at fits (inr (inr (inr (inr (inl is)))))
+    none Moves fits is = words_of-some rest (cc)
+    none (MovesOf at) fits is = question at fits (inr (inr (inr (inr (inr (inr is))))))
+    none Snapshot fits is = words_of-some rest (cc)

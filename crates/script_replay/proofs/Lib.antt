@@ -13,5 +13,9 @@ pub mod OneOutput
 pub mod Stretches
 pub mod KeptModulus
 pub mod Noting
+pub mod Leaving
 pub mod LeftRecords
 pub mod Written
+pub mod FlatMaps
+pub mod MoveTexts
+pub mod LinkTexts

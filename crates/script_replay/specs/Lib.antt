@@ -8,3 +8,4 @@ pub mod StopText
 pub mod Stops
 pub mod Stretches
 pub mod Recorded
+pub mod Left

@@ -1,10 +1,10 @@
 -- What a run writes.
 use Rattle.std.specs.Prelude.{◌≡◌, ℕ, ◌+◌, ◌<◌, ◌≤◌, nat_lt, if◌then◌else◌, ◌⊎◌, List, [], ◌∷◌, ◌++◌, length, codes}
-use Rattle.std.specs.Prelude.{Option, Some, None, Result, Ok, Err}
+use Rattle.std.specs.Prelude.{Option, Some, None, Result, Ok, Err, map, filter}
 use Rattle.std.specs.Fmt.{decimal}
 use Rattle.std.specs.Io.KnownBytes.{Appends, Keeps}
 use Rattle.std.specs.List.{concat, flat_map}
-use Rattle.topology.specs.Graph.{Graph, is_node}
+use Rattle.topology.specs.Graph.{Graph, is_node, neighbours_of}
 use Rattle.topology.specs.Faults.{IsTopologyOf}
 use Rattle.topology.specs.FaultText.{fault_text}
 use Rattle.topology.specs.ReadFaultText.{read_fault_text}
@@ -16,6 +16,8 @@ use Rattle.topology.specs.declared.text.AppName.TheVariants.{Idle, Token, Mutex,
 use Rattle.tree_layer.specs.declared.regs.TreeRegs.{TreeRegs}
 use Rattle.wave_layer.specs.Names.{phase_name}
 use Rattle.wave_layer.specs.declared.regs.WaveRegs.{WaveRegs}
+use Rattle.reset_model.specs.EventText.{event_line}
+use Rattle.reset_model.specs.declared.event.Event.{Event}
 use Rattle.reset_model.specs.declared.event.Event.TheVariants.{Request}
 use Rattle.reset_model.specs.declared.step.Reply.{Reply}
 use Rattle.reset_model.specs.declared.step.Reply.TheVariants.{Applied, Complete}
@@ -41,12 +43,14 @@ use Rattle.reset_machine.specs.declared.enabled.Enabled.{Enabled}
 use Rattle.action_tables.specs.RowText.{set_text}
 use Rattle.action_tables.specs.Written.{AppendsPrefix}
 use Rattle.history.specs.HistoryText.{ended}
+use Rattle.scheduler.specs.Driven.{enabled_events}
 use Rattle.script_replay.specs.Lines.{lines_of, IsCut}
 use Rattle.script_replay.specs.Meaning.{Meaning, idle_meaning, token_meaning, mutex_meaning, routes_meaning}
 use Rattle.script_replay.specs.Script.{line_of}
 use Rattle.script_replay.specs.declared.script.Command.{Command}
 use Rattle.script_replay.specs.declared.script.Command.TheVariants.{Step, Inject, Draw, Show, ShowNode, Newest, Ready}
-use Rattle.script_replay.specs.declared.script.Command.TheVariants.{Check, CheckNode, Alarm, Watch}
+use Rattle.script_replay.specs.declared.script.Command.TheVariants.{Check, CheckNode, Alarm, Watch, Moves, MovesOf}
+use Rattle.script_replay.specs.declared.script.Command.TheVariants.{Snapshot}
 use Rattle.script_replay.specs.declared.script.Command.TheVariants as command
 use Rattle.script_replay.specs.declared.script.Line.{Line}
 use Rattle.script_replay.specs.declared.script.Line.TheVariants.{Silent, Asks, Bad}
@@ -90,6 +94,27 @@ fault_refusal_text refused.NoSuchLink = ended (codes "refused NoSuchLink")
 fault_refusal_text refused.LinkIsThere = ended (codes "refused LinkIsThere")
 fault_refusal_text refused.NodeIsUp = ended (codes "refused NodeIsUp")
 fault_refusal_text refused.NoMemory = ended (codes "refused NoMemory")
+
+-- the line of a move: an event, as the command that makes it happen
+abbrev pub move_line : Event → List ℕ
+move_line e = codes "move " ++ ended (event_line e)
+
+-- the lines of moves
+abbrev pub moves_text : List Event → List ℕ
+moves_text moves = flat_map move_line moves
+
+-- the line of a link
+abbrev pub link_line : ℕ × ℕ → List ℕ
+link_line link = concat (codes "link " ∷ decimal link.0 ∷ codes " " ∷ decimal link.1 ∷ ended [] ∷ [])
+
+-- the links of a graph, the lesser end first, in ascending order
+abbrev pub links_of : Graph → List (ℕ × ℕ)
+links_of g = flat_map (λ i. map (λ j. (i, j)) (filter (nat_lt i) (neighbours_of g i))) g.nodes
+
+-- the lines of links, or that there is none
+abbrev pub links_text : List (ℕ × ℕ) → List ℕ
+links_text [] = ended (codes "link -")
+links_text (link ∷ links) = flat_map link_line (link ∷ links)
 
 -- the line of a fault that was drawn
 abbrev pub drawn_text : Fault → List ℕ
@@ -189,6 +214,11 @@ enabled_line m c i = enabled_text i (enabled_rows m.app c i)
 unfoldable pub ready_line : {L : Type 0} → Meaning L → Configuration L → List ℕ
 ready_line m c = ready_text (ready_of m.app c)
 
+-- the lines of the moves of a node: the events that are allowed there. They stay folded: unfolded, they have all the
+-- tables
+unfoldable pub moves_lines : {L : Type 0} → Meaning L → Configuration L → ℕ → List ℕ
+moves_lines m c i = moves_text (enabled_events m.app c i)
+
 -- what is told of the faults of all nodes. It stays folded: unfolded, it has all the tables
 unfoldable pub faults_lines : {L : Type 0} → Meaning L → Configuration L → List ℕ
 faults_lines m c = faults_text (faults m.app c)
@@ -218,6 +248,11 @@ after_alarm m c i (Some fault) = stepped c (outcome_of m.app c (Request i))
 unfoldable pub watched : {L : Type 0} → Meaning L → Configuration L → ℕ → Configuration L × List ℕ
 watched m c i = let after = after_alarm m c i (alarm_of m.app c i) in (after.0, alarm_line m c i ++ after.1)
 
+-- the text of a configuration: a first line, the lines of its nodes, and those of its links
+unfoldable pub snapshot_text : {L : Type 0} → Meaning L → Configuration L → List ℕ
+snapshot_text m c =
+    ended (codes "reset-snapshot 1") ++ flat_map (shown m c) c.graph.nodes ++ links_text (links_of c.graph)
+
 -- the answer where the identifier is that of a node, and a refusal elsewhere
 abbrev pub at_node : {L : Type 0} → Configuration L → ℕ → List ℕ → List ℕ
 at_node c i text = if is_node c.graph i then text else refusal_text StrangeNode
@@ -236,6 +271,9 @@ answered m c Check = (c, faults_lines m c)
 answered m c (CheckNode i) = (c, at_node c i (node_faults_lines m c i))
 answered m c (Alarm i) = (c, at_node c i (alarm_line m c i))
 answered m c (Watch i) = if is_node c.graph i then watched m c i else (c, refusal_text StrangeNode)
+answered m c Moves = (c, flat_map (moves_lines m c) c.graph.nodes)
+answered m c (MovesOf i) = (c, at_node c i (moves_lines m c i))
+answered m c Snapshot = (c, snapshot_text m c)
 
 -- what lines leave: the configuration, what is written, and whether they are good
 pub record Answer (L : Type 0) : Type 0 where

@@ -1,12 +1,14 @@
 -- What the clauses of private functions cite.
-use Rattle.std.specs.Prelude.{◌≡◌, ℕ, List, ◌++◌, length, Option}
+use Rattle.std.specs.Prelude.{◌≡◌, ℕ, nat_lt, if◌then◌else◌, Bool, true, false, List, [], ◌++◌, filter, map, length, Option}
 use Rattle.std.specs.Io.KnownBytes.{Consumes}
+use Rattle.topology.specs.Graph.{Graph, neighbours_of}
 use Rattle.reset_model.specs.Configuration.{Configuration}
 use Rattle.reset_model.specs.EventText.{event_line, Fits}
 use Rattle.history.specs.Book.{BookView}
 use Rattle.history.specs.declared.entry.Entry.{Entry}
+use Rattle.script_replay.specs.Left.{unless_bad}
 use Rattle.script_replay.specs.Meaning.{Meaning}
-use Rattle.script_replay.specs.Output.{answer_to}
+use Rattle.script_replay.specs.Output.{answer_to, link_line}
 use Rattle.script_replay.specs.Recorded.{line_entries}
 use Rattle.script_replay.specs.declared.next_line.NextLine.{NextLine}
 use Rattle.script_replay.specs.declared.next_line.NextLine.TheVariants.{Event, Text}
@@ -39,3 +41,16 @@ with_entries b entries left =
 pub record IsNoted {L : Type 0} (m : Meaning L) (line : Line) (old new : BookView L) (status : Status) : Type 0 where
   pub book : (n : ℕ) → new ≡ with_entries old (line_entries m old.config line) (answer_to m old.config n line).config
   pub good : (n : ℕ) → status ≡ (answer_to m old.config n line).status
+
+-- what a line asks for was done, whatever it answers, and this is whether the line is good
+pub record IsPassed {L : Type 0} (m : Meaning L) (line : Line) (c c' : Configuration L) (is_good : Bool) : Type 0 where
+  pub config : (n : ℕ) → c' ≡ (answer_to m c n line).config
+  pub good : is_good ≡ unless_bad line true false
+
+-- the links of a node with greater ones, ascending
+abbrev pub links_from : Graph → ℕ → List (ℕ × ℕ)
+links_from g i = map (λ j. (i, j)) (filter (nat_lt i) (neighbours_of g i))
+
+-- the line of a link at its lesser end, and nothing at its greater one
+abbrev pub line_from : ℕ → ℕ → List ℕ
+line_from i j = if nat_lt i j then link_line (i, j) else []

@@ -11,9 +11,11 @@ ghost use Rattle.script_replay.specs.Stops.{IsOutputStop};
 
 use crate::faults::{answer_alarm, answer_check, answer_check_node, answer_watch};
 use crate::injected::{answer_draw, answer_fault};
+use crate::moves::{answer_moves, answer_moves_of};
 use crate::rows::{answer_enabled, answer_ready};
 use crate::script::Command;
 use crate::show::{show_all, show_newest, show_node};
+use crate::snapshot::put_snapshot;
 use crate::status::{RunStop, written};
 use action_tables::{Part, WriteFault, put_bytes, put_number, put_parts};
 use app_interface::Application;
@@ -141,6 +143,9 @@ pub fn answer<P: Application, W: Write>(
         Command::CheckNode(at) => answer_check_node(alloc, config, at, out),
         Command::Alarm(at) => written(answer_alarm(config, at, out)),
         Command::Watch(at) => answer_watch(alloc, config, at, out),
+        Command::Moves => answer_moves(alloc, config, out),
+        Command::MovesOf(at) => answer_moves_of(alloc, config, at, out),
+        Command::Snapshot => written(put_snapshot(config, out)),
     }
 }
 

@@ -8,6 +8,8 @@ mod faults;
 mod injected;
 mod input;
 mod laws;
+mod left;
+mod moves;
 mod network;
 mod next_line;
 mod recorded;
@@ -16,17 +18,21 @@ mod replays;
 mod rows;
 mod script;
 mod show;
+mod snapshot;
 mod status;
 
-pub use answer::{put_numbered, put_topology_fault};
+pub use answer::{put_bad_line, put_numbered, put_topology_fault};
 pub use buffered_output::BufferedOutput;
-pub use input::{READ_LIMIT, read_text};
+pub use input::{READ_LIMIT, read_text, split_line};
 pub use laws::{
     one_joined_output, one_output, one_record, recordings_are_replays, scripts_are_steps,
     stretches_are_runs,
 };
+pub use left::leave_script;
 pub use network::{Network, read_network};
 pub use recorded::record_text;
 pub use recording::text_of;
-pub use replays::{check_text, refuse_input, refuse_topology, replay, replay_joined, replay_text};
-pub use status::{RunStop, Status};
+pub use replays::{
+    check_text, refuse_input, refuse_topology, replay, replay_joined, replay_text, run_script,
+};
+pub use status::{Purpose, RunStop, Status};

@@ -157,7 +157,10 @@ fn record_command<P: Application>(
         | Command::Ready
         | Command::Check
         | Command::CheckNode(_)
-        | Command::Alarm(_) => Ok(()),
+        | Command::Alarm(_)
+        | Command::Moves
+        | Command::MovesOf(_)
+        | Command::Snapshot => Ok(()),
     }
 }
 

@@ -205,8 +205,8 @@ pub fn refuse_input<W: Write>(out: &mut W, text: &[u8]) -> Result<Status, RunSto
     Ok(Status::BadInput)
 }
 
-// Replays a script from this configuration on, and checks what it leaves if the run is for that.
-pub(crate) fn run_script<P: Application, W: Write>(
+/// Replays a script from this configuration on, and checks what it leaves if the run is for that.
+pub fn run_script<P: Application, W: Write>(
     alloc: Global,
     purpose: Purpose,
     config: &mut Config<P>,

@@ -1,7 +1,7 @@
 // The lines of a script.
 
-ghost use Rattle.std.specs.Prelude.{◌≡◌, ℕ, ◌<◌, ◌^◌, ◌⊎◌, [], ◌∷◌, List, Option, option_map, IsTrue, IfOk, IfSome};
-ghost use Rattle.std.specs.Prelude.{IfNone, OnErr};
+ghost use Rattle.std.specs.Prelude.{◌≡◌, ◌≢◌, ℕ, ◌<◌, ◌^◌, ◌⊎◌, [], ◌∷◌, List, Option, codes, option_map, IsTrue, IfOk};
+ghost use Rattle.std.specs.Prelude.{IfNone, IfSome, OnErr};
 ghost use Rattle.std.specs.Fmt.{decimal};
 ghost use Rattle.std.specs.List.{join_with_byte};
 ghost use Rattle.reset_model.specs.EventText.{Fits, neighbour_words};
@@ -52,6 +52,12 @@ pub enum Command {
     Alarm(u32),
     /// The same, and that the node ask for a reset where it has an alarm.
     Watch(u32),
+    /// That the moves of all nodes be told: the events that are allowed.
+    Moves,
+    /// That the moves of this node be told.
+    MovesOf(u32),
+    /// That the configuration be written as a text that can be read back.
+    Snapshot,
 }
 
 /// A line of a script, without its line feed.
@@ -198,11 +204,38 @@ fn by_one_word(word: &[u8]) -> Option<Command>
     ensures fits { IfSome result IsPlain }
     ensures only { IfNone result ((command : Command) → IsPlain command → word.now ∷ [] ≡ command_words command → ⊥) }
 {
+    match by_word_of_state(word) {
+        Some(command) => Some(command),
+        None => by_word_of_rules(word),
+    }
+}
+
+// The command of one word that tells what the nodes hold.
+fn by_word_of_state(word: &[u8]) -> Option<Command>
+    ensures found { IfSome result (λ command. word.now ∷ [] ≡ command_words command) }
+    ensures fits { IfSome result IsPlain }
+    ensures only { IfNone result
+        ((word.now ≢ codes "show") × (word.now ≢ codes "newest") × (word.now ≢ codes "snapshot")) }
+{
     match word {
         b"show" => Some(Command::Show),
         b"newest" => Some(Command::Newest),
+        b"snapshot" => Some(Command::Snapshot),
+        _ => None,
+    }
+}
+
+// The command of one word that tells what the tables say of that.
+fn by_word_of_rules(word: &[u8]) -> Option<Command>
+    ensures found { IfSome result (λ command. word.now ∷ [] ≡ command_words command) }
+    ensures fits { IfSome result IsPlain }
+    ensures only { IfNone result
+        ((word.now ≢ codes "ready") × (word.now ≢ codes "check") × (word.now ≢ codes "moves")) }
+{
+    match word {
         b"ready" => Some(Command::Ready),
         b"check" => Some(Command::Check),
+        b"moves" => Some(Command::Moves),
         _ => None,
     }
 }
@@ -221,6 +254,7 @@ fn question_of(word: &[u8], rest: &[u8]) -> Option<Command>
         b"alarm" => Some(Command::Alarm(number)),
         b"watch" => Some(Command::Watch(number)),
         b"draw" => Some(Command::Draw(number)),
+        b"moves" => Some(Command::MovesOf(number)),
         _ => None,
     }
 }

@@ -24,7 +24,7 @@ pub enum Status {
 
 /// What a run of a script is for.
 #[derive(Clone, Copy, Debug, PartialEq, Eq)]
-pub(crate) enum Purpose {
+pub enum Purpose {
     /// Its answers.
     Replay,
     /// Its answers, and the faults of the configuration that it leaves.

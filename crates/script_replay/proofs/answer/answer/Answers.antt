@@ -74,6 +74,18 @@ returns-in-Alarm-clause-err g c =
     (written_err c.answer_alarm.result c.written-in-Alarm.result c.written-in-Alarm.ensures.ok
     c.written-in-Alarm.ensures.err _ c.answer_alarm.ensures.err)
 
+pub returns-in-Snapshot-clause-ok : goal.returns-in-Snapshot-clause-ok
+returns-in-Snapshot-clause-ok g c =
+    rw c.in-Snapshot.is
+    (written_ok c.put_snapshot.result c.written-in-Snapshot.result c.written-in-Snapshot.ensures.ok
+    c.written-in-Snapshot.ensures.err (λ text. (refl, text)) c.put_snapshot.ensures.ok)
+
+pub returns-in-Snapshot-clause-err : goal.returns-in-Snapshot-clause-err
+returns-in-Snapshot-clause-err g c =
+    rw c.in-Snapshot.is
+    (written_err c.put_snapshot.result c.written-in-Snapshot.result c.written-in-Snapshot.ensures.ok
+    c.written-in-Snapshot.ensures.err _ c.put_snapshot.ensures.err)
+
 pub returns-in-Step-clause-fault : goal.returns-in-Step-clause-fault
 returns-in-Step-clause-fault g c = rw c.in-Step.is c.answer_step.ensures.fault
 
@@ -97,3 +109,6 @@ returns-in-Newest-clause-fault g c = rw c.in-Newest.is (λ failed. refl)
 
 pub returns-in-Alarm-clause-fault : goal.returns-in-Alarm-clause-fault
 returns-in-Alarm-clause-fault g c = rw c.in-Alarm.is (λ failed. refl)
+
+pub returns-in-Snapshot-clause-fault : goal.returns-in-Snapshot-clause-fault
+returns-in-Snapshot-clause-fault g c = rw c.in-Snapshot.is (λ failed. refl)

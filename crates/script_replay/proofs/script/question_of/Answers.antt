@@ -44,3 +44,9 @@ returns-in-draw-clause-found c =
     one_found c.args.word.now c.args.rest.now (codes "draw") c.in_ok-number.number
     (text_from_reads c.args.word.now (codes "draw") (omega arith)
     (omega arith, (omega arith, (omega arith, (omega arith, tt))))) c.in_ok-number.ensures.found (search rules)
+
+pub returns-in-moves-clause-found : goal.returns-in-moves-clause-found
+returns-in-moves-clause-found c =
+    one_found c.args.word.now c.args.rest.now (codes "moves") c.in_ok-number.number
+    (text_from_reads c.args.word.now (codes "moves") (omega arith)
+    (omega arith, (omega arith, (omega arith, (omega arith, (omega arith, tt)))))) c.in_ok-number.ensures.found (search rules)

@@ -1,0 +1,32 @@
+use Rattle.std.proofs.Common.{◌≡◌, ℕ, List, true, subst, sym, ◌∙◌}
+use Rattle.std.specs.Prelude.{OnErr}
+use Rattle.std.specs.Io.KnownBytes.{Appends}
+use Rattle.topology.specs.Graph.{is_node}
+use Rattle.action_tables.specs.Written.{AppendsPrefix}
+use Rattle.script_replay.specs.Meaning.{meaning_of}
+use Rattle.script_replay.proofs.MoveTexts.{moves_node}
+use Rattle.script_replay.proofs.Written.{written_err, written_ok}
+use Rattle.script_replay.proofs.moves.answer_moves_of.Goals as goal
+
+pub returns-in-Ok-clause-ok : goal.returns-in-Ok-clause-ok
+returns-in-Ok-clause-ok g c =
+    let m = meaning_of g.P.Application.app g.P.Application.text g.P.Application.from_text g.P.Application.names in
+    let config = c.args.config.now in
+    let there : is_node config.graph c.args.at ≡ true = sym c.is_node.ensures ∙ c.if-not-is_node.false in
+    let text = moves_node m config c.args.at c.deref.result.now there (c.deref.ensures.value ∙ c.in-Ok.ensures) in
+    let P : List ℕ → Type 0 =
+    λ t. Appends (g.W.Write.contents c.args.out.now) (g.W.Write.contents c.put_moves.new.out) t in
+    written_ok c.put_moves.result c.written-in-Ok.result c.written-in-Ok.ensures.ok c.written-in-Ok.ensures.err
+    (subst P (sym text)) c.put_moves.ensures.ok
+
+pub returns-in-Ok-clause-err : goal.returns-in-Ok-clause-err
+returns-in-Ok-clause-err g c =
+    let m = meaning_of g.P.Application.app g.P.Application.text g.P.Application.from_text g.P.Application.names in
+    let config = c.args.config.now in
+    let there : is_node config.graph c.args.at ≡ true = sym c.is_node.ensures ∙ c.if-not-is_node.false in
+    let text = moves_node m config c.args.at c.deref.result.now there (c.deref.ensures.value ∙ c.in-Ok.ensures) in
+    let P : List ℕ → Type 0 =
+    λ t. AppendsPrefix (g.W.Write.contents c.args.out.now) (g.W.Write.contents c.put_moves.new.out) t in
+    subst (λ t. OnErr c.written-in-Ok.result (P t)) (sym text)
+    (written_err c.put_moves.result c.written-in-Ok.result c.written-in-Ok.ensures.ok c.written-in-Ok.ensures.err _
+    c.put_moves.ensures.err)
