@@ -1,0 +1,12 @@
+pub mod ItemWords
+pub mod Collected
+pub mod Says
+pub mod Possible
+pub mod Built
+pub mod Linked
+pub mod Configured
+pub mod Alike
+pub mod LinkLists
+pub mod ReadBack
+pub mod OneReading
+pub mod Others
