@@ -2,4 +2,5 @@ pub mod Builders
 pub mod Jobs
 pub mod PathRows
 pub mod NoHelp
+pub mod Values
 pub mod Subcommands

@@ -1,39 +1,34 @@
 -- The subcommand of words in which clap finds no fault is one of the program's own, with its values.
-use Rattle.std.proofs.Common.{◌≡◌, ◌∙◌, ◌<◌, ◌||◌, not, ℕ, Bool, cond, true, false, refl, sym, ap, subst}
-use Rattle.std.proofs.Common.{arith, List, [], ◌∷◌, codes, length, Option, Some, None, inl, inr, true≢false}
+use Rattle.std.proofs.Common.{◌≡◌, ◌∙◌, ◌||◌, ℕ, Bool, cond, true, false, refl, sym, ap, subst}
+use Rattle.std.proofs.Common.{List, [], codes, Option, Some, None, inl, inr, true≢false}
 use Rattle.std.specs.List.{slice_index_or}
 use Rattle.std.specs.Option.{option_map_or}
 use Rattle.std.specs.Str.{bytes_eq}
-use Rattle.std.specs.Str.Parse.{digits_value, without_leading_plus}
-use Rattle.std.specs.Prelude.{◌⊎◌, IfSome, IsSome, find, option_and_then, option_map}
-use Rattle.std.specs.Prelude.{slice_get}
+use Rattle.std.specs.Prelude.{IsSome, option_map}
 use Rattle.std.proofs.lemmas.Slice.Eq.{bytes_eq-Decides}
 use Rattle.clap.specs.Words.{App, Kinds, Row, Rule, Shape, Text, built, fault_of, first_of, is_simple}
-use Rattle.clap.specs.Words.{is_simple_and_free, new_app, new_rule, read_as, subcommand_of, with_subcommand}
+use Rattle.clap.specs.Words.{is_simple_and_free, new_app, new_rule, subcommand_of, with_subcommand}
 use Rattle.clap.specs.Simple.{argument_words, entered, label_of, names_of, rows_at}
 use Rattle.clap.specs.Takes.{is_given}
 use Rattle.clap.specs.ValueTests.{accepts}
-use Rattle.clap.specs.Values.{IsUnsignedIn}
 use Rattle.clap.specs.Faults.{entered_fault, level_fault, values_fault}
 use Rattle.clap.specs.Faults.{walk_fault}
 use Rattle.clap.specs.declared.builder.value_parser.ValueParser.TheVariants.{Unsigned}
-use Rattle.clap.specs.declared.error.ErrorKind.{ErrorKind}
 use Rattle.clap.specs.declared.error.ErrorKind.TheVariants.{MissingRequiredArgument}
-use Rattle.clap.specs.Walk.{answers_to, arg_by_id}
+use Rattle.clap.specs.Walk.{answers_to}
 use Rattle.clap.specs.Walk.{nothing_held}
-use Rattle.clap.specs.Walk.{row_text, walk}
+use Rattle.clap.specs.Walk.{walk}
 use Rattle.clap.specs.Walk.{walk_from}
 use Rattle.clap.proofs.OnLiterals.{clap_on_literals}
-use Rattle.clap.proofs.ValueTestLemmas.{accepts-Accepts}
-use Rattle.clap.specs.declared.builder.value_parser.Reading.TheVariants.{AsWritten}
-use Rattle.clap.specs.Walk.{reading_by}
-use Rattle.command_words.specs.Words.{HasDrive, HasJob, HasNumber, HasRecord, HasShape, HasTexts, HasThreads}
-use Rattle.command_words.specs.Words.{IsNumberWithin, MayHaveNumber, drive_command, explain_command, faults_of}
-use Rattle.command_words.specs.Words.{program, record_command, tables_command, texts_command, threads_command}
+use Rattle.command_words.specs.Words.{HasDrive, HasJob, HasPlan, HasRecord, HasShape, HasTexts, HasThreads}
+use Rattle.command_words.specs.Words.{drive_command, explain_command, faults_of}
+use Rattle.command_words.specs.Words.{program, plan_command, record_command, tables_command, texts_command, threads_command}
 use Rattle.command_words.specs.Words.{topology_command}
 use Rattle.command_words.proofs.NoHelp.{IsNoHelp, walk-stop}
-use Rattle.command_words.proofs.PathRows.{AllFit, AreTaken, IsTaken, TakesWords, checked, given_row, or_else-nil}
-use Rattle.command_words.proofs.PathRows.{row_taken, rows_taken}
+use Rattle.command_words.proofs.PathRows.{AllFit, TakesWords, checked, or_else-nil}
+use Rattle.command_words.proofs.PathRows.{rows_taken}
+use Rattle.command_words.proofs.Values.{IsOfNumbers, both_given, four_given, is_accepted, number_found, number_or_none}
+use Rattle.command_words.proofs.Values.{one_given, text_found, three_given}
 
 -- ---- the program
 
@@ -49,6 +44,9 @@ the_replay = the_texts (codes "replay") (codes "SCRIPT")
 abbrev the_check : Shape
 the_check = the_texts (codes "check") (codes "SCRIPT")
 
+abbrev the_plan : Shape
+the_plan = slice_index_or (built program).subs 2 plan_command.top
+
 abbrev the_verify : Shape
 the_verify = the_texts (codes "verify") (codes "HISTORY")
 
@@ -56,77 +54,53 @@ abbrev the_picture : Shape
 the_picture = the_texts (codes "picture") (codes "HISTORY")
 
 abbrev the_record : Shape
-the_record = slice_index_or (built program).subs 4 record_command.top
+the_record = slice_index_or (built program).subs 5 record_command.top
 
 abbrev the_threads : Shape
-the_threads = slice_index_or (built program).subs 5 threads_command.top
+the_threads = slice_index_or (built program).subs 6 threads_command.top
 
 abbrev the_drive : Shape
-the_drive = slice_index_or (built program).subs 6 drive_command.top
+the_drive = slice_index_or (built program).subs 7 drive_command.top
 
 abbrev the_topology : Shape
-the_topology = slice_index_or (built program).subs 7 topology_command.top
+the_topology = slice_index_or (built program).subs 8 topology_command.top
 
 abbrev the_explain : Shape
-the_explain = slice_index_or (built program).subs 8 explain_command.top
+the_explain = slice_index_or (built program).subs 9 explain_command.top
 
 abbrev the_tables : Shape
-the_tables = slice_index_or (built program).subs 9 tables_command.top
+the_tables = slice_index_or (built program).subs 10 tables_command.top
 
 abbrev the_help : Shape
-the_help = slice_index_or (built program).subs 10 tables_command.top
+the_help = slice_index_or (built program).subs 11 tables_command.top
 
 -- the rows of the words after the subcommand
 abbrev rows_of_words : Shape → List Text → List Row
 rows_of_words s words = (rows_at s words).1
-
-first_value : (values : List Text) → 0 < length values → IsSome (slice_get values 0)
-first_value [] some = absurd (omega arith)
-first_value (v ∷ vs) some = refl
-
--- an argument that was given has a value
-text_found : (c : List Rule) (id : Text) (a : Rule) (rows : List Row) → arg_by_id c id ≡ Some a → AreTaken c rows
-    → is_given id rows ≡ true → IsSome (first_of id rows)
-text_found c id a rows is taken given =
-    let row = given_row c id rows taken given in
-    let of_a = subst (λ (o : Option Rule). IsTaken o row.0) is row.2 in
-    subst (λ (o : Option Row). IsSome (option_and_then (λ r. slice_get r.values 0) o)) (sym row.1)
-    (first_value row.0.values of_a.0)
-
--- ---- which arguments have to be given
-
-one_given : (a : Bool) (k : ErrorKind) → cond (not a || false) (k ∷ []) [] ≡ [] → a ≡ true
-one_given true k e = refl
-one_given false k e = absurd (cc)
-
-both_given : (a b : Bool) (k : ErrorKind) → cond (not a || (not b || false)) (k ∷ []) [] ≡ [] → (a ≡ true) × (b ≡ true)
-both_given true b k e = (refl, one_given b k e)
-both_given false b k e = absurd (cc)
-
-three_given : (a b c : Bool) (k : ErrorKind) → cond (not a || (not b || (not c || false))) (k ∷ []) [] ≡ []
-    → (a ≡ true) × (b ≡ true) × (c ≡ true)
-three_given true b c k e =
-    let rest = both_given b c k e in (refl, rest.0, rest.1)
-three_given false b c k e = absurd (cc)
-
-four_given : (a b c d : Bool) (k : ErrorKind)
-    → cond (not a || (not b || (not c || (not d || false)))) (k ∷ []) [] ≡ []
-    → (a ≡ true) × (b ≡ true) × (c ≡ true) × (d ≡ true)
-four_given true b c d k e =
-    let rest = three_given b c d k e in (refl, rest.0, rest.1, rest.2)
-four_given false b c d k e = absurd (cc)
 
 -- ---- the subcommands with two paths
 
 -- each argument takes a value, and the flag asks for help
 scripts_fit : (name : Text) → AllFit (the_texts name (codes "SCRIPT")).rules (the_texts name (codes "SCRIPT")).rules
 unfolding texts_command
-scripts_fit name = ((refl, inl (refl, refl, refl)), ((refl, inl (refl, refl, refl)), ((refl, inr refl), tt)))
+scripts_fit name = (
+  (refl, inl (refl, refl, refl)),
+  (
+    (refl, inl (refl, refl, refl)),
+    ((refl, inl (refl, refl, refl)), ((refl, inr refl), tt)),
+  ),
+)
 
 histories_fit : (name : Text)
     → AllFit (the_texts name (codes "HISTORY")).rules (the_texts name (codes "HISTORY")).rules
 unfolding texts_command
-histories_fit name = ((refl, inl (refl, refl, refl)), ((refl, inl (refl, refl, refl)), ((refl, inr refl), tt)))
+histories_fit name = (
+  (refl, inl (refl, refl, refl)),
+  (
+    (refl, inl (refl, refl, refl)),
+    ((refl, inl (refl, refl, refl)), ((refl, inr refl), tt)),
+  ),
+)
 
 paths_given : (name input : Text) (words : List Text) → TakesWords (the_texts name input) words
     → (is_given (codes "TOPOLOGY") (rows_of_words (the_texts name input) words) ≡ true)
@@ -160,76 +134,32 @@ has_histories name words e =
       text_found s.rules (codes "HISTORY") _ (rows_of_words s words) refl taken given.1,
     )
 
--- ---- numbers
+-- ---- the subcommand `plan`
 
-is_accepted : (b : Bool) (k : ErrorKind) → cond b [] (k ∷ []) ≡ [] → b ≡ true
-is_accepted true k e = refl
-is_accepted false k e = absurd (cc)
+plan_fit : AllFit the_plan.rules the_plan.rules
+unfolding program plan_command record_command threads_command drive_command topology_command explain_command texts_command
+    tables_command
+plan_fit = (
+  (refl, inl (refl, refl, refl)),
+  (
+    (refl, inl (refl, refl, refl)),
+    ((refl, inl (refl, refl, refl)), ((refl, inr refl), tt)),
+  ),
+)
 
--- an argument whose values are numbers from the least to the most
-record IsOfNumbers (least most : ℕ) (a : Rule) : Type 0 where
-  passes : (v : Text) (vs : List Text) → values_fault a (v ∷ vs) ≡ []
-      → accepts false (Unsigned least most) v ≡ true
-  reading : reading_by a ≡ AsWritten
-
--- a text that passed the range writes a number of the range
-abbrev WritesNumber : ℕ → ℕ → Option Text → Type 0
-WritesNumber least most o = (n : ℕ) × IsNumberWithin least most o n
-
-writes_number : (least most : ℕ) (t : Text) → IsUnsignedIn least most t → WritesNumber least most (Some t)
-writes_number least most t passed =
-    (digits_value 10 (without_leading_plus t), ((passed.0, refl), passed.2, passed.3))
-
-read_as_written : (o : Option Text) → option_map (read_as AsWritten) o ≡ o
-read_as_written None = refl
-read_as_written (Some t) = refl
-
-values_write_number : (least most : ℕ) (a : Rule) → IsOfNumbers least most a → (values : List Text)
-    → 0 < length values → values_fault a values ≡ [] → WritesNumber least most (slice_get values 0)
-values_write_number least most a numbers [] some e = absurd (omega arith)
-values_write_number least most a numbers (v ∷ vs) some e =
-    writes_number least most v (accepts-Accepts false (Unsigned least most) v (numbers.passes v vs e))
-
--- the row has a number, which is read as it was written
-abbrev RowHasNumber : ℕ → ℕ → Option Row → Type 0
-RowHasNumber least most o = (n : ℕ) × IsNumberWithin least most (option_and_then (λ r. slice_get r.values 0) o) n
-    × (option_and_then row_text o ≡ option_and_then (λ r. slice_get r.values 0) o)
-
-row_has_number : (least most : ℕ) (a : Rule) → IsOfNumbers least most a → (r : Row) → IsTaken (Some a) r
-    → RowHasNumber least most (Some r)
-row_has_number least most a numbers r taken =
-    let writes = values_write_number least most a numbers r.values taken.0 taken.1 in (
-      writes.0,
-      writes.1,
-      ap (λ how. option_map (read_as how) (slice_get r.values 0)) (taken.2 ∙ numbers.reading)
-          ∙ read_as_written (slice_get r.values 0),
-    )
-
--- an argument that was given has a number
-number_found : (least most : ℕ) (c : List Rule) (id : Text) (a : Rule) (rows : List Row) → IsOfNumbers least most a
-    → arg_by_id c id ≡ Some a → AreTaken c rows → is_given id rows ≡ true → HasNumber id least most rows
-number_found least most c id a rows numbers is taken given =
-    let row = given_row c id rows taken given in
-    let of_a = subst (λ (o : Option Rule). IsTaken o row.0) is row.2 in
-    subst (RowHasNumber least most) (sym row.1) (row_has_number least most a numbers row.0 of_a)
-
--- and one that wasn't has none
-number_or_none : (least most : ℕ) (c : List Rule) (id : Text) (a : Rule) (rows : List Row) → IsOfNumbers least most a
-    → arg_by_id c id ≡ Some a → AreTaken c rows → MayHaveNumber id least most rows
-number_or_none least most c id a rows numbers is taken =
-    go (find (λ x. bytes_eq x.id id) rows) (row_taken c id rows taken)
-  where
-    go : (o : Option Row) → IfSome o (IsTaken (arg_by_id c id))
-        → ((option_and_then (λ r. slice_get r.values 0) o ≡ None) × (option_and_then row_text o ≡ None))
-        ⊎ RowHasNumber least most o
-    go None none = inl (refl, refl)
-    go (Some r) some =
-        inr (row_has_number least most a numbers r (subst (λ (x : Option Rule). IsTaken x r) is some))
+-- where clap finds no fault in the words, they have a topology
+has_plan : (words : List Text) → TakesWords the_plan words → HasPlan (rows_of_words the_plan words)
+unfolding program plan_command record_command threads_command drive_command topology_command explain_command texts_command
+    tables_command
+has_plan words e =
+    let rows = rows_of_words the_plan words in
+    text_found the_plan.rules (codes "TOPOLOGY") _ rows refl (rows_taken the_plan plan_fit words e)
+    (one_given (is_given (codes "TOPOLOGY") rows) MissingRequiredArgument (checked the_plan words e))
 
 -- ---- the subcommand `record`
 
 record_fit : AllFit the_record.rules the_record.rules
-unfolding program record_command threads_command drive_command topology_command explain_command texts_command
+unfolding program plan_command record_command threads_command drive_command topology_command explain_command texts_command
     tables_command
 record_fit = (
   (refl, inl (refl, refl, refl)),
@@ -241,7 +171,7 @@ record_fit = (
 
 -- where clap finds no fault in the words, they have a value for each argument
 has_record : (words : List Text) → TakesWords the_record words → HasRecord (rows_of_words the_record words)
-unfolding program record_command threads_command drive_command topology_command explain_command texts_command
+unfolding program plan_command record_command threads_command drive_command topology_command explain_command texts_command
     tables_command
 has_record words e =
     let c = the_record.rules in
@@ -260,7 +190,7 @@ has_record words e =
 -- ---- the subcommand `threads`
 
 threads_fit : AllFit the_threads.rules the_threads.rules
-unfolding program record_command threads_command drive_command topology_command explain_command texts_command
+unfolding program plan_command record_command threads_command drive_command topology_command explain_command texts_command
     tables_command
 threads_fit = (
   (refl, inl (refl, refl, refl)),
@@ -274,7 +204,7 @@ abbrev the_turns : Rule
 the_turns = slice_index_or the_threads.rules 1 (new_rule [])
 
 turns_are_numbers : IsOfNumbers 1 100000 the_turns
-unfolding program record_command threads_command drive_command topology_command explain_command texts_command
+unfolding program plan_command record_command threads_command drive_command topology_command explain_command texts_command
     tables_command
 turns_are_numbers = record {
   passes =
@@ -284,7 +214,7 @@ turns_are_numbers = record {
 }
 
 has_threads : (words : List Text) → TakesWords the_threads words → HasThreads (rows_of_words the_threads words)
-unfolding program record_command threads_command drive_command topology_command explain_command texts_command
+unfolding program plan_command record_command threads_command drive_command topology_command explain_command texts_command
     tables_command
 has_threads words e =
     let c = the_threads.rules in
@@ -303,7 +233,7 @@ has_threads words e =
 -- ---- the subcommand `drive`
 
 drive_fit : AllFit the_drive.rules the_drive.rules
-unfolding program record_command threads_command drive_command topology_command explain_command texts_command
+unfolding program plan_command record_command threads_command drive_command topology_command explain_command texts_command
     tables_command
 drive_fit = (
   (refl, inl (refl, refl, refl)),
@@ -329,7 +259,7 @@ abbrev the_faults : Rule
 the_faults = slice_index_or the_drive.rules 4 (new_rule [])
 
 steps_are_numbers : IsOfNumbers 1 1000000 the_steps
-unfolding program record_command threads_command drive_command topology_command explain_command texts_command
+unfolding program plan_command record_command threads_command drive_command topology_command explain_command texts_command
     tables_command
 steps_are_numbers = record {
   passes =
@@ -339,7 +269,7 @@ steps_are_numbers = record {
 }
 
 drive_seeds_are_numbers : IsOfNumbers 0 4294967295 the_drive_seed
-unfolding program record_command threads_command drive_command topology_command explain_command texts_command
+unfolding program plan_command record_command threads_command drive_command topology_command explain_command texts_command
     tables_command
 drive_seeds_are_numbers = record {
   passes =
@@ -349,7 +279,7 @@ drive_seeds_are_numbers = record {
 }
 
 faults_are_numbers : IsOfNumbers 0 1000 the_faults
-unfolding program record_command threads_command drive_command topology_command explain_command texts_command
+unfolding program plan_command record_command threads_command drive_command topology_command explain_command texts_command
     tables_command
 faults_are_numbers = record {
   passes =
@@ -359,7 +289,7 @@ faults_are_numbers = record {
 }
 
 has_drive : (words : List Text) → TakesWords the_drive words → HasDrive (rows_of_words the_drive words)
-unfolding program record_command threads_command drive_command topology_command explain_command texts_command
+unfolding program plan_command record_command threads_command drive_command topology_command explain_command texts_command
     tables_command
 has_drive words e =
     let c = the_drive.rules in
@@ -380,7 +310,7 @@ has_drive words e =
 -- ---- the subcommand `topology`
 
 topology_fit : AllFit the_topology.rules the_topology.rules
-unfolding program record_command threads_command drive_command topology_command explain_command texts_command
+unfolding program plan_command record_command threads_command drive_command topology_command explain_command texts_command
     tables_command
 topology_fit = (
   (refl, inl (refl, refl, refl)),
@@ -400,7 +330,7 @@ abbrev the_shape_seed : Rule
 the_shape_seed = slice_index_or the_topology.rules 2 (new_rule [])
 
 nodes_are_numbers : IsOfNumbers 1 1024 the_nodes
-unfolding program record_command threads_command drive_command topology_command explain_command texts_command
+unfolding program plan_command record_command threads_command drive_command topology_command explain_command texts_command
     tables_command
 nodes_are_numbers = record {
   passes =
@@ -410,7 +340,7 @@ nodes_are_numbers = record {
 }
 
 shape_seeds_are_numbers : IsOfNumbers 0 4294967295 the_shape_seed
-unfolding program record_command threads_command drive_command topology_command explain_command texts_command
+unfolding program plan_command record_command threads_command drive_command topology_command explain_command texts_command
     tables_command
 shape_seeds_are_numbers = record {
   passes =
@@ -420,7 +350,7 @@ shape_seeds_are_numbers = record {
 }
 
 has_shape : (words : List Text) → TakesWords the_topology words → HasShape (rows_of_words the_topology words)
-unfolding program record_command threads_command drive_command topology_command explain_command texts_command
+unfolding program plan_command record_command threads_command drive_command topology_command explain_command texts_command
     tables_command
 has_shape words e =
     let c = the_topology.rules in
@@ -437,13 +367,13 @@ has_shape words e =
 -- ---- the subcommand `explain`
 
 explain_fit : AllFit the_explain.rules the_explain.rules
-unfolding program record_command threads_command drive_command topology_command explain_command texts_command
+unfolding program plan_command record_command threads_command drive_command topology_command explain_command texts_command
     tables_command
 explain_fit = ((refl, inl (refl, refl, refl)), ((refl, inr refl), tt))
 
 has_word : (words : List Text) → TakesWords the_explain words
     → IsSome (first_of (codes "WORD") (rows_of_words the_explain words))
-unfolding program record_command threads_command drive_command topology_command explain_command texts_command
+unfolding program plan_command record_command threads_command drive_command topology_command explain_command texts_command
     tables_command
 has_word words e =
     let rows = rows_of_words the_explain words in
@@ -477,14 +407,14 @@ asks-met words false s below here there = there
 -- `help` isn't met, and where none is met, the words are the program's own
 no_help_met : (p : Text × List Text) → bytes_eq p.0 (codes "help") ≡ false → (h : Bool)
     → answers_to p.0 (label_of the_help) ≡ h → AsksJob p.1 (cond h (Some the_help) None)
-unfolding program record_command threads_command drive_command topology_command explain_command texts_command
+unfolding program plan_command record_command threads_command drive_command topology_command explain_command texts_command
     tables_command
 no_help_met p no_help true a = absurd (bytes_eq-swap p.0 (codes "help") no_help a)
 no_help_met p no_help false a = λ f. tt
 
 job_at : (stop : Option (Text × List Text)) → IsNoHelp stop → entered_fault (built program) stop ≡ []
     → HasJob (entered (built program) stop)
-unfolding program record_command threads_command drive_command topology_command explain_command texts_command
+unfolding program plan_command record_command threads_command drive_command topology_command explain_command texts_command
     tables_command
 job_at None no_help e = tt
 job_at (Some p) no_help e =
@@ -492,6 +422,8 @@ job_at (Some p) no_help e =
     (λ f. inl (inl refl, has_scripts (codes "replay") p.1 f))
     (asks-met p.1 (answers_to p.0 (label_of the_check)) the_check _
     (λ f. inl (inr refl, has_scripts (codes "check") p.1 f))
+    (asks-met p.1 (answers_to p.0 (label_of the_plan)) the_plan _
+    (λ f. inr (inr (inr (inr (inr (inr (inr (inr (refl, has_plan p.1 f)))))))))
     (asks-met p.1 (answers_to p.0 (label_of the_verify)) the_verify _
     (λ f. inr (inl (inl refl, has_histories (codes "verify") p.1 f)))
     (asks-met p.1 (answers_to p.0 (label_of the_picture)) the_picture _
@@ -506,12 +438,12 @@ job_at (Some p) no_help e =
     (asks-met p.1 (answers_to p.0 (label_of the_explain)) the_explain _
     (λ f. inr (inr (inr (inr (inr (inr (inl (refl, has_word p.1 f))))))))
     (asks-met p.1 (answers_to p.0 (label_of the_tables)) the_tables _
-    (λ f. inr (inr (inr (inr (inr (inr (inr refl)))))))
-    (no_help_met p no_help (answers_to p.0 (label_of the_help)) refl)))))))))) e
+    (λ f. inr (inr (inr (inr (inr (inr (inr (inl refl))))))))
+    (no_help_met p no_help (answers_to p.0 (label_of the_help)) refl))))))))))) e
 
 -- words in which clap finds no fault ask for a job
 pub has_job : (words : List Text) → fault_of program words ≡ [] → HasJob (subcommand_of program words)
-unfolding program record_command threads_command drive_command topology_command explain_command texts_command
+unfolding program plan_command record_command threads_command drive_command topology_command explain_command texts_command
     tables_command
 has_job words e =
     let a : App = built program in
@@ -528,12 +460,12 @@ has_job words e =
 -- ---- the answer of clap for a command that is the program
 
 program_is_simple : is_simple program ≡ true
-unfolding program record_command threads_command drive_command topology_command explain_command texts_command
+unfolding program plan_command record_command threads_command drive_command topology_command explain_command texts_command
     tables_command clap_on_literals
 program_is_simple = refl
 
 program_is_free : is_simple_and_free program ≡ true
-unfolding program record_command threads_command drive_command topology_command explain_command texts_command
+unfolding program plan_command record_command threads_command drive_command topology_command explain_command texts_command
     tables_command clap_on_literals
 program_is_free = refl
 

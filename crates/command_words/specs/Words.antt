@@ -14,11 +14,12 @@ use Rattle.clap.specs.declared.error.Error.{Error}
 use Rattle.clap.specs.declared.error.ErrorKind.TheVariants.{OutOfMemory}
 use Rattle.command_words.specs.declared.words.Job.{Job}
 use Rattle.command_words.specs.declared.words.Job.TheVariants.{Joined, Replay, Check, Verify, Picture, Record, Threads}
-use Rattle.command_words.specs.declared.words.Job.TheVariants.{Drive, Shape, Explain, Tables}
+use Rattle.command_words.specs.declared.words.Job.TheVariants.{Drive, Plan, Shape, Explain, Tables}
 use Rattle.command_words.specs.declared.words.LineFault.{LineFault}
 use Rattle.command_words.specs.declared.words.Paths.{Paths}
 use Rattle.command_words.specs.declared.words.LineFault.TheVariants.{BadWords, NoMemory}
 use Rattle.command_words.specs.declared.drive_words.DriveWords.{DriveWords}
+use Rattle.command_words.specs.declared.plan_words.PlanWords.{PlanWords}
 use Rattle.command_words.specs.declared.record_words.RecordWords.{RecordWords}
 use Rattle.command_words.specs.declared.shape_words.ShapeWords.{ShapeWords}
 use Rattle.command_words.specs.declared.thread_words.ThreadWords.{ThreadWords}
@@ -28,10 +29,6 @@ use Rattle.command_words.specs.declared.thread_words.ThreadWords.{ThreadWords}
 -- a path that has to be given
 abbrev pub path : Text → Rule
 path name = record (new_rule name) { required = true }
-
--- a subcommand with two paths: `NAME TOPOLOGY INPUT`
-unfoldable pub texts_command : Text → Text → App
-texts_command name input = with_rule (with_rule (new_app name) (path (codes "TOPOLOGY"))) (path input)
 
 -- the path of a file behind its name, which has to be given: `--NAME FILE`
 abbrev pub file_option : Text → Rule
@@ -48,6 +45,22 @@ number_option name least most = within least most (file_option name)
 -- an option that may be left out
 abbrev pub optional : Rule → Rule
 optional rule = record rule { required = false }
+
+-- the path of a snapshot, which may be left out: `--from SNAPSHOT`
+abbrev pub from_option : Rule
+from_option = optional (file_option (codes "from"))
+
+-- a subcommand with two paths: `NAME TOPOLOGY INPUT [--from SNAPSHOT]`
+unfoldable pub texts_command : Text → Text → App
+texts_command name input =
+    with_rule (with_rule (with_rule (new_app name) (path (codes "TOPOLOGY"))) (path input)) from_option
+
+-- `plan TOPOLOGY [SCRIPT] [--from SNAPSHOT]`
+unfoldable pub plan_command : App
+plan_command =
+    with_rule
+    (with_rule (with_rule (new_app (codes "plan")) (path (codes "TOPOLOGY"))) (optional (path (codes "SCRIPT"))))
+    from_option
 
 -- `record TOPOLOGY SCRIPT --history FILE`
 unfoldable pub record_command : App
@@ -96,8 +109,9 @@ new_program = on_top (λ s. record s { has_version = true }) (new_app (codes "re
 -- with the subcommands that read a script
 abbrev pub scripts_program : App
 scripts_program =
-    with_subcommand (with_subcommand new_program (texts_command (codes "replay") (codes "SCRIPT")).top)
-    (texts_command (codes "check") (codes "SCRIPT")).top
+    with_subcommand
+    (with_subcommand (with_subcommand new_program (texts_command (codes "replay") (codes "SCRIPT")).top)
+    (texts_command (codes "check") (codes "SCRIPT")).top) plan_command.top
 
 -- with those that read a history
 abbrev pub texts_program : App
@@ -111,7 +125,7 @@ histories_program =
     with_subcommand
     (with_subcommand (with_subcommand texts_program record_command.top) threads_command.top) drive_command.top
 
--- the program with its ten subcommands
+-- the program with its eleven subcommands
 unfoldable pub program : App
 program =
     with_subcommand
@@ -133,6 +147,7 @@ value_in found argument = option_and_then (λ s. first_of argument s.1) found
 abbrev pub HasPaths : Found → Text → Text → Paths → Type 0
 HasPaths found name input paths = (name_in found ≡ Some name)
     × (value_in found (codes "TOPOLOGY") ≡ Some paths.topology.now) × (value_in found input ≡ Some paths.input.now)
+    × (value_in found (codes "from") ≡ option_map (λ from. from.now) paths.from)
 
 -- the text is the number in decimal digits; a plus may stand first
 abbrev pub Writes : ℕ → Text → Type 0
@@ -147,6 +162,13 @@ IsNumberWithin least most text number = IsSomeAnd text (Writes number) × (least
 abbrev pub IsNumberOr : ℕ → ℕ → ℕ → Option Text → ℕ → Type 0
 IsNumberOr other least most None number = number ≡ other
 IsNumberOr other least most (Some text) number = IsNumberWithin least most (Some text) number
+
+-- it is the subcommand `plan` with these values
+abbrev pub HasPlanWords : Found → PlanWords → Type 0
+HasPlanWords found words = (name_in found ≡ Some (codes "plan"))
+    × (value_in found (codes "TOPOLOGY") ≡ Some words.topology.now)
+    × (value_in found (codes "SCRIPT") ≡ option_map (λ script. script.now) words.script)
+    × (value_in found (codes "from") ≡ option_map (λ from. from.now) words.from)
 
 -- it is the subcommand `record` with these values
 abbrev pub HasRecordWords : Found → RecordWords → Type 0
@@ -189,6 +211,7 @@ abbrev pub AskedBy : Found → Job → Type 0
 AskedBy found Joined = found ≡ None
 AskedBy found (Replay paths) = HasPaths found (codes "replay") (codes "SCRIPT") paths
 AskedBy found (Check paths) = HasPaths found (codes "check") (codes "SCRIPT") paths
+AskedBy found (Plan words) = HasPlanWords found words
 AskedBy found (Verify paths) = HasPaths found (codes "verify") (codes "HISTORY") paths
 AskedBy found (Picture paths) = HasPaths found (codes "picture") (codes "HISTORY") paths
 AskedBy found (Record words) = HasRecordWords found words
@@ -235,6 +258,10 @@ abbrev pub MayHaveNumber : Text → ℕ → ℕ → List Row → Type 0
 MayHaveNumber name least most rows =
     ((first_of name rows ≡ None) × (one_of name rows ≡ None)) ⊎ HasNumber name least most rows
 
+-- what `plan` needs was found
+abbrev pub HasPlan : List Row → Type 0
+HasPlan rows = IsSome (first_of (codes "TOPOLOGY") rows)
+
 -- what `record` needs was found
 abbrev pub HasRecord : List Row → Type 0
 HasRecord rows = HasTexts (codes "SCRIPT") rows × IsSome (first_of (codes "history") rows)
@@ -270,7 +297,8 @@ HasJob (Some s) = (IsOfScript s.0 × HasTexts (codes "SCRIPT") s.1)
     ⊎ (((s.0 ≡ codes "threads") × HasThreads s.1)
     ⊎ (((s.0 ≡ codes "drive") × HasDrive s.1)
     ⊎ (((s.0 ≡ codes "topology") × HasShape s.1)
-    ⊎ (((s.0 ≡ codes "explain") × IsSome (first_of (codes "WORD") s.1)) ⊎ (s.0 ≡ codes "tables")))))))
+    ⊎ (((s.0 ≡ codes "explain") × IsSome (first_of (codes "WORD") s.1))
+    ⊎ ((s.0 ≡ codes "tables") ⊎ ((s.0 ≡ codes "plan") × HasPlan s.1))))))))
 
 -- clap's error as a fault
 abbrev pub StandsFor : Error → LineFault → Type 0

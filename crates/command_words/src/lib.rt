@@ -3,12 +3,15 @@
 
 mod commands;
 mod drive_words;
+mod help;
+mod plan_words;
 mod record_words;
 mod shape_words;
 mod thread_words;
 mod words;
 
 pub use drive_words::DriveWords;
+pub use plan_words::PlanWords;
 pub use record_words::RecordWords;
 pub use shape_words::ShapeWords;
 pub use thread_words::ThreadWords;

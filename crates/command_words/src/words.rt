@@ -3,12 +3,13 @@
 ghost use Rattle.std.specs.Prelude.{◌≡◌, [], codes, map, option_map, IfErr, IfOk, IsSome, Some};
 ghost use Rattle.clap.specs.Words.{first_of, found_of, rows_of, subcommand_rows_of};
 ghost use Rattle.command_words.specs.declared.words.LineFault.TheVariants.{NoMemory};
-ghost use Rattle.command_words.specs.Words.{faults_of, AskFor, AskedBy, HasDrive, HasJob, HasRecord, HasShape};
+ghost use Rattle.command_words.specs.Words.{faults_of, AskFor, AskedBy, HasDrive, HasJob, HasPlan, HasRecord, HasShape};
 ghost use Rattle.command_words.specs.Words.{HasTexts, HasThreads, IsFaultOf, IsNumberOr};
 ghost use Rattle.command_words.specs.Words.{IsNumberWithin, StandsFor, line_fault_text};
 
 use crate::commands::command_line;
 use crate::drive_words::DriveWords;
+use crate::plan_words::PlanWords;
 use crate::record_words::RecordWords;
 use crate::shape_words::ShapeWords;
 use crate::thread_words::ThreadWords;
@@ -25,6 +26,8 @@ pub struct Paths<'a> {
     pub topology: &'a str,
     /// The path of the script, or of the history.
     pub input: &'a str,
+    /// The path of the snapshot that it starts from, if one is given.
+    pub from: Option<&'a str>,
 }
 
 /// What the program is to do.
@@ -32,13 +35,15 @@ pub struct Paths<'a> {
 pub enum Job<'a> {
     /// Replay the joined text of the standard input.
     Joined,
-    /// Replay the script of a file on the topology of another.
+    /// Replay the script of a file on the topology of another, from its booted configuration or a snapshot.
     Replay(Paths<'a>),
     /// The same, and check the network that the script leaves.
     Check(Paths<'a>),
-    /// Verify the history of a file from the booted configuration of another's topology.
+    /// Plan for the network that a script leaves of a topology.
+    Plan(PlanWords<'a>),
+    /// Verify the history of a file from the booted configuration of another's topology, or from a snapshot.
     Verify(Paths<'a>),
-    /// Draw the history of a file from the booted configuration of another's topology.
+    /// Draw the history of a file from the booted configuration of another's topology, or from a snapshot.
     Picture(Paths<'a>),
     /// Replay the script of a file on the topology of another, and write what happened to a third.
     Record(RecordWords<'a>),
@@ -125,6 +130,7 @@ fn named_job<'a>(name: &str, values: &ArgMatches<'a>) -> Job<'a>
     match name {
         "replay" => Job::Replay(paths_of(values, "SCRIPT")),
         "check" => Job::Check(paths_of(values, "SCRIPT")),
+        "plan" => Job::Plan(plan_words_of(values)),
         "verify" => Job::Verify(paths_of(values, "HISTORY")),
         "picture" => Job::Picture(paths_of(values, "HISTORY")),
         "record" => Job::Record(record_words_of(values)),
@@ -136,15 +142,35 @@ fn named_job<'a>(name: &str, values: &ArgMatches<'a>) -> Job<'a>
     }
 }
 
-// The paths of matches that have both: that of the topology, and that of the argument of this name.
+// The paths of matches that have a topology and the argument of this name, and may have a snapshot.
 fn paths_of<'a>(values: &ArgMatches<'a>, input: &str) -> Paths<'a>
     requires { HasTexts input.now (rows_of (found_of values.now)) }
     ensures topology { first_of (codes "TOPOLOGY") (rows_of (found_of values.now)) ≡ Some result.topology.now }
     ensures input { first_of input.now (rows_of (found_of values.now)) ≡ Some result.input.now }
+    ensures from { first_of (codes "from") (rows_of (found_of values.now)) ≡ option_map (λ from. from.now) result.from }
 {
     Paths {
         topology: values.get_str("TOPOLOGY").unwrap(),
         input: values.get_str(input).unwrap(),
+        from: values.get_str("from"),
+    }
+}
+
+// The words of matches that have a topology, and may have a script and a snapshot.
+fn plan_words_of<'a>(values: &ArgMatches<'a>) -> PlanWords<'a>
+    requires { HasPlan (rows_of (found_of values.now)) }
+    ensures topology { first_of (codes "TOPOLOGY") (rows_of (found_of values.now)) ≡ Some result.topology.now }
+    ensures script { first_of (codes "SCRIPT") (rows_of (found_of values.now))
+        ≡ option_map (λ script. script.now) result.script }
+    ensures from { first_of (codes "from") (rows_of (found_of values.now)) ≡ option_map (λ from. from.now) result.from }
+{
+    let topology = values.get_str("TOPOLOGY").unwrap();
+    let script = values.get_str("SCRIPT");
+    let from = values.get_str("from");
+    PlanWords {
+        topology,
+        script,
+        from,
     }
 }
 
@@ -190,6 +216,7 @@ fn drive_words_of<'a>(values: &ArgMatches<'a>) -> DriveWords<'a>
     let Paths {
         topology,
         input: history,
+        from: _,
     } = paths_of(values, "history");
     DriveWords {
         topology,

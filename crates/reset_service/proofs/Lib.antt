@@ -8,3 +8,4 @@ pub mod Threading
 pub mod KeptRuns
 pub mod RecordedRuns
 pub mod SteppedHistories
+pub mod Starting

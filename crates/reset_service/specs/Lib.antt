@@ -7,3 +7,5 @@ pub mod Shaped
 pub mod Explained
 pub mod Tables
 pub mod Stepped
+pub mod Planned
+pub mod Started

@@ -6,9 +6,8 @@ ghost use Rattle.reset_service.specs.Explained.{explanation_output};
 ghost use Rattle.script_replay.specs.Output.{Leaves};
 ghost use Rattle.script_replay.specs.Stops.{IsOutputStop};
 
-use crate::explanations::{
-    ANSWERS, APPLICATIONS, COMMANDS, REFUSALS, REGISTERS, TEXT_FAULTS, TOPOLOGY_FAULTS,
-};
+use crate::refusal_explanations::{REFUSALS, TEXT_FAULTS, TOPOLOGY_FAULTS};
+use crate::word_explanations::{ANSWERS, APPLICATIONS, COMMANDS, REGISTERS};
 use action_tables::put_bytes;
 use script_replay::{RunStop, Status};
 use std::io::Write;

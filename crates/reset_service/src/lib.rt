@@ -1,7 +1,7 @@
 //! What the program of the distributed reset service does, as calls on texts, readers and writers: it
 //! replays scripts of reset events on the booted configuration of a topology and writes an answer to
-//! each line, checks the network that a script leaves, records what a script did as a history, verifies
-//! histories, runs a thread for each node or a seeded scheduler and writes the history that they keep, draws
+//! each line, checks the network that a script leaves, plans how it recovers, records what a script did as a history,
+//! verifies histories, runs a thread for each node or a seeded scheduler and writes the history that they keep, draws
 //! histories, writes topologies, prints the tables that the nodes act by, explains the words of its answers,
 //! and reads those of its command line.
 //! Scripts are replayed by the crate `script_replay`, and the command line is read by `command_words`.
@@ -10,18 +10,21 @@
 mod counts;
 mod driven;
 mod explained;
-mod explanations;
 mod laws;
 mod line;
 mod pictured;
+mod planned;
+mod refusal_explanations;
 mod shaped;
+mod started;
 mod tables;
 mod threaded;
 mod told;
 mod verified;
+mod word_explanations;
 
 pub use command_words::{
-    DriveWords, Job, LineFault, Paths, RecordWords, ShapeWords, ThreadWords, read_words,
+    DriveWords, Job, LineFault, Paths, PlanWords, RecordWords, ShapeWords, ThreadWords, read_words,
 };
 pub use driven::{Drive, drive_text};
 pub use explained::{Explanation, explain};
@@ -30,13 +33,15 @@ pub use laws::{
     one_verification, recordings_are_verified, threads_are_verified, threads_keep_a_run,
     verified_histories_tell_steps, verified_reports_are_true,
 };
-pub use pictured::picture_text;
+pub use pictured::{picture_from, picture_text};
+pub use planned::{plan_from, plan_text};
 pub use script_replay::{
     BufferedOutput, READ_LIMIT, RunStop, Status, check_text, one_joined_output, one_output,
     one_record, read_text, record_text, recordings_are_replays, replay, replay_joined, replay_text,
     scripts_are_steps, stretches_are_runs,
 };
 pub use shaped::write_shape;
+pub use started::{MAX_SNAPSHOT, check_from, replay_from};
 pub use tables::print_tables;
 pub use threaded::threads_text;
-pub use verified::verify_text;
+pub use verified::{verify_from, verify_text};

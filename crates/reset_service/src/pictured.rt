@@ -12,7 +12,9 @@ ghost use Rattle.reset_service.specs.Pictured.{drawing, IsDrawing, IsPicture};
 ghost use Rattle.reset_service.specs.Pictured.{IsPictureFrom, IsPictureOf, IsPictureText};
 ghost use Rattle.reset_service.specs.Verified.{LeavesOfReader};
 ghost use Rattle.script_replay.specs.Stops.{IsOutputStop};
+ghost use Rattle.reset_service.specs.Started.{Draws, IsStartedFrom, IsStartedOf, IsStartedText};
 
+use crate::started::{refuse_start, start};
 use crate::verified::{refuse_entry, refuse_history, refuse_modulus};
 use app_interface::{Application, Idle};
 use app_mutex::EdgeReversal;
@@ -43,6 +45,67 @@ pub fn picture_text<R: Read, W: Write>(
     match read_network(alloc, topology) {
         Ok(network) => draw_app(alloc, network, history, out),
         Err(fault) => refuse_topology(fault, out),
+    }
+}
+
+/// As `picture_text`, from the configuration that a snapshot of the topology names in place of the booted one. The
+/// topology is judged first, and the snapshot before the history.
+pub fn picture_from<R: Read, W: Write>(
+    alloc: Global,
+    topology: &[u8],
+    snapshot: &[u8],
+    history: &mut R,
+    out: &mut W,
+) -> Result<Status, RunStop>
+    ensures leaves { LeavesOfReader (R.remaining history.old)
+        (λ text. IsStartedText (Draws text) topology.now snapshot.now) (W.contents out.old) (W.contents out.new) result }
+    ensures untouched { (f : ReadFault) → IsReadFault topology.now f → history.new ≡ history.old }
+{
+    match read_network(alloc, topology) {
+        Ok(network) => draw_app_from(alloc, network, snapshot, history, out),
+        Err(fault) => refuse_topology(fault, out),
+    }
+}
+
+// Draws a history from a snapshot of a network, with the application that it names.
+fn draw_app_from<R: Read, W: Write>(
+    alloc: Global,
+    network: Network,
+    snapshot: &[u8],
+    history: &mut R,
+    out: &mut W,
+) -> Result<Status, RunStop>
+    requires { network.topology.nodes ≡ network.topology.ids }
+    ensures leaves { LeavesOfReader (R.remaining history.old)
+        (λ text. IsStartedOf (Draws text) network.app network.topology network.modulus snapshot.now)
+        (W.contents out.old) (W.contents out.new) result }
+{
+    match network.app {
+        AppName::Idle => draw_started::<Idle, R, W>(alloc, network, snapshot, history, out),
+        AppName::Token => draw_started::<Token, R, W>(alloc, network, snapshot, history, out),
+        AppName::Mutex => draw_started::<EdgeReversal, R, W>(
+            alloc, network, snapshot, history, out,
+        ),
+        AppName::Routes => draw_started::<Routes, R, W>(alloc, network, snapshot, history, out),
+    }
+}
+
+fn draw_started<P: Application, R: Read, W: Write>(
+    alloc: Global,
+    network: Network,
+    snapshot: &[u8],
+    history: &mut R,
+    out: &mut W,
+) -> Result<Status, RunStop>
+    requires { network.topology.nodes ≡ network.topology.ids }
+    ensures leaves { LeavesOfReader (R.remaining history.old)
+        (λ text. IsStartedFrom (meaning_of P.app P.text P.from_text P.names) network.topology network.modulus
+        snapshot.now (Draws text P.Local (meaning_of P.app P.text P.from_text P.names)))
+        (W.contents out.old) (W.contents out.new) result }
+{
+    match start::<P>(alloc, network, snapshot) {
+        Ok(opening) => draw_from(alloc, &opening, history, out),
+        Err(fault) => refuse_start(fault, out),
     }
 }
 

@@ -12,9 +12,11 @@ ghost use Rattle.reset_service.specs.Verified.{position_text, report_line, verif
 ghost use Rattle.reset_service.specs.Verified.{IsVerified, IsVerifiedFrom, IsVerifiedOf, LeavesOfReader};
 ghost use Rattle.reset_service.specs.declared.line.TheConstants.{ROOM};
 ghost use Rattle.script_replay.specs.Stops.{IsOutputStop};
+ghost use Rattle.reset_service.specs.Started.{IsStartedFrom, IsStartedOf, IsStartedText, Verifies};
 
 use crate::counts::put_counts;
 use crate::line::LineBuffer;
+use crate::started::{refuse_start, start};
 use action_tables::{WriteFault, put_bytes};
 use app_interface::{Application, Idle};
 use app_mutex::EdgeReversal;
@@ -50,6 +52,67 @@ pub fn verify_text<R: Read, W: Write>(
     }
 }
 
+/// As `verify_text`, from the configuration that a snapshot of the topology names in place of the booted one. The
+/// topology is judged first, and the snapshot before the history.
+pub fn verify_from<R: Read, W: Write>(
+    alloc: Global,
+    topology: &[u8],
+    snapshot: &[u8],
+    history: &mut R,
+    out: &mut W,
+) -> Result<Status, RunStop>
+    ensures leaves { LeavesOfReader (R.remaining history.old)
+        (λ text. IsStartedText (Verifies text) topology.now snapshot.now) (W.contents out.old) (W.contents out.new) result }
+    ensures untouched { (f : ReadFault) → IsReadFault topology.now f → history.new ≡ history.old }
+{
+    match read_network(alloc, topology) {
+        Ok(network) => verify_app_from(alloc, network, snapshot, history, out),
+        Err(fault) => refuse_topology(fault, out),
+    }
+}
+
+// Verifies a history from a snapshot of a network, with the application that it names.
+fn verify_app_from<R: Read, W: Write>(
+    alloc: Global,
+    network: Network,
+    snapshot: &[u8],
+    history: &mut R,
+    out: &mut W,
+) -> Result<Status, RunStop>
+    requires { network.topology.nodes ≡ network.topology.ids }
+    ensures leaves { LeavesOfReader (R.remaining history.old)
+        (λ text. IsStartedOf (Verifies text) network.app network.topology network.modulus snapshot.now)
+        (W.contents out.old) (W.contents out.new) result }
+{
+    match network.app {
+        AppName::Idle => verify_started::<Idle, R, W>(alloc, network, snapshot, history, out),
+        AppName::Token => verify_started::<Token, R, W>(alloc, network, snapshot, history, out),
+        AppName::Mutex => {
+            verify_started::<EdgeReversal, R, W>(alloc, network, snapshot, history, out)
+        }
+        AppName::Routes => verify_started::<Routes, R, W>(alloc, network, snapshot, history, out),
+    }
+}
+
+fn verify_started<P: Application, R: Read, W: Write>(
+    alloc: Global,
+    network: Network,
+    snapshot: &[u8],
+    history: &mut R,
+    out: &mut W,
+) -> Result<Status, RunStop>
+    requires { network.topology.nodes ≡ network.topology.ids }
+    ensures leaves { LeavesOfReader (R.remaining history.old)
+        (λ text. IsStartedFrom (meaning_of P.app P.text P.from_text P.names) network.topology network.modulus
+        snapshot.now (Verifies text P.Local (meaning_of P.app P.text P.from_text P.names)))
+        (W.contents out.old) (W.contents out.new) result }
+{
+    match start::<P>(alloc, network, snapshot) {
+        Ok(opening) => verify_opened(alloc, opening, history, out),
+        Err(fault) => refuse_start(fault, out),
+    }
+}
+
 // Verifies a history from the booted configuration of a network, with the application that it names.
 fn verify_app<R: Read, W: Write>(
     alloc: Global,
@@ -79,13 +142,13 @@ fn verify_booted<P: Application, R: Read, W: Write>(
         (W.contents out.old) (W.contents out.new) result }
 {
     match Config::<P>::boot(alloc, network.topology, network.modulus) {
-        Ok(opening) => verify_from(alloc, opening, history, out),
+        Ok(opening) => verify_opened(alloc, opening, history, out),
         Err(_) => Err(RunStop::NoMemory),
     }
 }
 
 // Verifies a history from this configuration on.
-fn verify_from<P: Application, R: Read, W: Write>(
+fn verify_opened<P: Application, R: Read, W: Write>(
     alloc: Global,
     opening: Config<P>,
     history: &mut R,

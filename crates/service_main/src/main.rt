@@ -1,24 +1,25 @@
 //! The program of the distributed reset service: it replays a script of reset events on the booted
-//! configuration of a topology and writes an answer to each, records what it did as a history, runs a thread for each
-//! node, drives a network by a seeded scheduler, and verifies and draws histories. Here stand the files and the streams that it opens and its exit status;
-//! all else is the library `reset_service`.
+//! configuration of a topology and writes an answer to each, plans how a damaged network recovers, records what it did
+//! as a history, runs a thread for each node, drives a network by a seeded scheduler, and verifies and draws histories.
+//! Here stand the files and the streams that it opens and its exit status; all else is the library `reset_service`.
 #![tactic(auto)]
 
 mod files;
 mod progress;
 mod status;
 
-use crate::files::{create_file, open_file, read_file};
+use crate::files::{create_file, open_file, read_file, read_snapshot};
 use crate::progress::{BelowLine, ProgressLine};
 use crate::status::exit_code;
 use action_tables::put_bytes;
 use reset_service::{
-    BufferedOutput, Drive, DriveWords, Job, LineFault, Paths, RecordWords, RunStop, ShapeWords,
-    Status, ThreadWords, check_text, drive_text, explain, picture_text, print_tables, read_words,
-    record_text, replay, replay_joined, threads_text, verify_text, write_shape,
+    BufferedOutput, Drive, DriveWords, Job, LineFault, Paths, PlanWords, RecordWords, RunStop,
+    ShapeWords, Status, ThreadWords, check_from, check_text, drive_text, explain, picture_from,
+    picture_text, plan_from, plan_text, print_tables, read_words, record_text, replay, replay_from,
+    replay_joined, threads_text, verify_from, verify_text, write_shape,
 };
 use std::env::Env;
-use std::io::{Stderr, Write};
+use std::io::{Read, Stderr, Write};
 use std::process::ExitCode;
 use std::rt::Files;
 use std::sync::Wait;
@@ -118,28 +119,100 @@ fn job_output<R: Files + Input + AllocGlobal + Threads + Wait + Sync, W: Write>(
 ) -> Result<Status, RunStop> {
     match job {
         Job::Joined => replay_joined(rt.alloc(), &mut rt.reader(), out),
-        Job::Replay(paths) => {
-            let (topology, mut script) = open_texts(rt, paths)?;
-            replay(rt.alloc(), &topology, &mut script, out)
-        }
-        Job::Check(paths) => {
-            let (topology, mut script) = open_texts(rt, paths)?;
-            check_text(rt.alloc(), &topology, &mut script, out)
-        }
-        Job::Verify(paths) => {
-            let (topology, mut history) = open_texts(rt, paths)?;
-            verify_text(rt.alloc(), &topology, &mut history, out)
-        }
-        Job::Picture(paths) => {
-            let (topology, mut history) = open_texts(rt, paths)?;
-            picture_text(rt.alloc(), &topology, &mut history, out)
-        }
+        Job::Replay(paths) => run_replay(rt, paths, out),
+        Job::Check(paths) => run_check(rt, paths, out),
+        Job::Plan(words) => run_plan(rt, words, out),
+        Job::Verify(paths) => run_verify(rt, paths, out),
+        Job::Picture(paths) => run_picture(rt, paths, out),
         Job::Record(words) => run_record(rt, words, out),
         Job::Threads(words) => run_threads(rt, words, out),
         Job::Drive(words) => run_drive(rt, words, out),
         Job::Shape(words) => put_shape(rt, words, out),
         Job::Explain(word) => explain(word, out),
         Job::Tables => print_tables(out),
+    }
+}
+
+fn run_replay<R: Files + AllocGlobal, W: Write>(
+    rt: &R,
+    paths: Paths<'_>,
+    out: &mut W,
+) -> Result<Status, RunStop> {
+    let topology = read_file(rt, paths.topology)?;
+    let snapshot = read_snapshot(rt, paths.from)?;
+    let mut script = open_file(rt, paths.input)?;
+    match snapshot {
+        None => replay(rt.alloc(), &topology, &mut script, out),
+        Some(snapshot) => replay_from(rt.alloc(), &topology, &snapshot, &mut script, out),
+    }
+}
+
+fn run_check<R: Files + AllocGlobal, W: Write>(
+    rt: &R,
+    paths: Paths<'_>,
+    out: &mut W,
+) -> Result<Status, RunStop> {
+    let topology = read_file(rt, paths.topology)?;
+    let snapshot = read_snapshot(rt, paths.from)?;
+    let mut script = open_file(rt, paths.input)?;
+    match snapshot {
+        None => check_text(rt.alloc(), &topology, &mut script, out),
+        Some(snapshot) => check_from(rt.alloc(), &topology, &snapshot, &mut script, out),
+    }
+}
+
+// Where no script is given, the plan is for what a run starts from.
+fn run_plan<R: Files + AllocGlobal, W: Write>(
+    rt: &R,
+    words: PlanWords<'_>,
+    out: &mut W,
+) -> Result<Status, RunStop> {
+    let topology = read_file(rt, words.topology)?;
+    let snapshot = read_snapshot(rt, words.from)?;
+    match words.script {
+        Some(path) => put_plan(rt, &topology, snapshot, &mut open_file(rt, path)?, out),
+        None => put_plan(rt, &topology, snapshot, &mut b"".as_slice(), out),
+    }
+}
+
+fn put_plan<R: AllocGlobal, S: Read, W: Write>(
+    rt: &R,
+    topology: &[u8],
+    snapshot: Option<Vec<u8>>,
+    script: &mut S,
+    out: &mut W,
+) -> Result<Status, RunStop> {
+    match snapshot {
+        None => plan_text(rt.alloc(), topology, script, out),
+        Some(snapshot) => plan_from(rt.alloc(), topology, &snapshot, script, out),
+    }
+}
+
+fn run_verify<R: Files + AllocGlobal, W: Write>(
+    rt: &R,
+    paths: Paths<'_>,
+    out: &mut W,
+) -> Result<Status, RunStop> {
+    let topology = read_file(rt, paths.topology)?;
+    let snapshot = read_snapshot(rt, paths.from)?;
+    let mut history = open_file(rt, paths.input)?;
+    match snapshot {
+        None => verify_text(rt.alloc(), &topology, &mut history, out),
+        Some(snapshot) => verify_from(rt.alloc(), &topology, &snapshot, &mut history, out),
+    }
+}
+
+fn run_picture<R: Files + AllocGlobal, W: Write>(
+    rt: &R,
+    paths: Paths<'_>,
+    out: &mut W,
+) -> Result<Status, RunStop> {
+    let topology = read_file(rt, paths.topology)?;
+    let snapshot = read_snapshot(rt, paths.from)?;
+    let mut history = open_file(rt, paths.input)?;
+    match snapshot {
+        None => picture_text(rt.alloc(), &topology, &mut history, out),
+        Some(snapshot) => picture_from(rt.alloc(), &topology, &snapshot, &mut history, out),
     }
 }
 
@@ -193,14 +266,4 @@ fn put_shape<R: AllocGlobal, W: Write>(
         words.app,
         out,
     )
-}
-
-// The text of the topology, and the script or the history, opened: both before anything is judged.
-fn open_texts<R: Files + AllocGlobal>(
-    rt: &R,
-    paths: Paths<'_>,
-) -> Result<(Vec<u8>, R::File), RunStop> {
-    let topology = read_file(rt, paths.topology)?;
-    let input = open_file(rt, paths.input)?;
-    Ok((topology, input))
 }

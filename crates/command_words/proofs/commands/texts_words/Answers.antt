@@ -5,4 +5,5 @@ pub returns : goal.returns
 unfolding texts_command
 returns c =
     let one = c.with_argument-line.ensures _ _ c.bare_words.ensures c.path_word.ensures in
-    c.with_argument.ensures _ _ one c.path_word-2.ensures
+    let two = c.with_argument-line-2.ensures _ _ one c.path_word-2.ensures in
+    c.with_argument.ensures _ _ two c.from_word.ensures

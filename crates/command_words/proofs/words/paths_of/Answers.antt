@@ -24,3 +24,6 @@ pub returns-clause-input : goal.returns-clause-input
 returns-clause-input c =
     sym (first_value-rows (found_of c.args.values.now) c.args.input.now) ∙ sym c.get_str-2.ensures
     ∙ ap (option_map (λ s. s.now)) c.unwrap-2.ensures
+
+pub returns-clause-from : goal.returns-clause-from
+returns-clause-from c = sym (first_value-rows (found_of c.args.values.now) (codes "from")) ∙ sym c.get_str-3.ensures

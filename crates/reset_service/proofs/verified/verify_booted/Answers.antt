@@ -9,8 +9,8 @@ returns-in-Ok g c =
     let m = meaning_of g.P.Application.app g.P.Application.text g.P.Application.from_text g.P.Application.names in
     record {
       leaves = read_weaker (g.R.Read.remaining c.args.history.now)
-          (IsVerifiedFrom m c.args.network.topology c.args.network.modulus) (IsVerified m c.in-Ok.opening) _ _ c.verify_from.result
-          (λ text o is. (c.in-Ok.opening, c.in-Ok.ensures.ok, is)) c.verify_from.ensures.leaves;
+          (IsVerifiedFrom m c.args.network.topology c.args.network.modulus) (IsVerified m c.in-Ok.opening) _ _ c.verify_opened.result
+          (λ text o is. (c.in-Ok.opening, c.in-Ok.ensures.ok, is)) c.verify_opened.ensures.leaves;
     }
 
 pub returns : goal.returns

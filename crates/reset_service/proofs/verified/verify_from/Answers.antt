@@ -1,63 +1,30 @@
-use Rattle.std.proofs.Common.{◌≡◌, ◌≢◌, Ok, Err, rules}
-use Rattle.history.specs.Verdict.{IsVerdict}
-use Rattle.history.specs.declared.entry.VerifyFault.TheVariants.{NotEnabledAt}
-use Rattle.history.specs.declared.text.BookFault.TheVariants.{NoMemory, ReadFailed}
-use Rattle.history.specs.declared.verification.ReaderFault.TheVariants.{Entries, OtherModulus, Text}
-use Rattle.script_replay.specs.Meaning.{meaning_of}
-use Rattle.reset_service.specs.Verified.{IsVerified, bad_history_text, not_enabled_text, other_modulus_text}
-use Rattle.reset_service.specs.Verified.{verified_text}
-use Rattle.script_replay.specs.declared.status.Status.TheVariants.{BadInput, Good, NotEnabled}
-use Rattle.reset_service.proofs.Verifying.{of_no_history, of_other_modulus, of_refused, of_summary, read_leaves}
+use Rattle.std.proofs.Common.{◌≡◌, ◌≢◌}
+use Rattle.topology.specs.declared.text.ReadFault.TheVariants.{NoMemory}
+use Rattle.script_replay.specs.Output.{bad_topology_text}
+use Rattle.script_replay.specs.Output.IsJudged.{bad_topology, good_topology}
+use Rattle.script_replay.specs.declared.status.Status.TheVariants.{BadInput}
+use Rattle.reset_service.specs.Started.{Verifies, IsStartedOf, IsStartedText}
+use Rattle.reset_service.proofs.Starting.{all_up}
+use Rattle.reset_service.proofs.Verifying.{read_anyway, read_weaker}
 use Rattle.reset_service.proofs.verified.verify_from.Goals as goal
 
-pub returns-in-Ok : goal.returns-in-Ok
-returns-in-Ok g c =
-    let m = meaning_of g.P.Application.app g.P.Application.text g.P.Application.from_text g.P.Application.names in
-    let s = c.in-Ok.summary in
-    record {
-      leaves = read_leaves (g.R.Read.remaining c.args.history.now) (IsVerified m c.args.opening)
-          (λ text. IsVerdict m.app m.from_text c.args.opening text (Ok s))
-          (λ o. o ≡ (verified_text s.entries s.reports.items, Good)) _ _ c.answer_summary.result
-          (λ text o verdict is. of_summary m c.args.opening text s o verdict is)
-          c.in-Ok.ensures.told c.answer_summary.ensures.leaves;
-    }
+pub verify_app_from-requires : goal.verify_app_from-requires
+verify_app_from-requires g c =
+    all_up c.args.topology.now c.in-Ok.network.topology c.in-Ok.network.app c.in-Ok.network.modulus c.in-Ok.ensures.ok
 
-pub returns-in-Err-Text : goal.returns-in-Err-Text
-returns-in-Err-Text g c =
-    let m = meaning_of g.P.Application.app g.P.Application.text g.P.Application.from_text g.P.Application.names in
-    let fault = c.in-Err-Text.fault in
-    let memory : fault ≢ NoMemory = search rules in
-    let device : fault ≢ ReadFailed = search rules in
-    record {
-      leaves = read_leaves (g.R.Read.remaining c.args.history.now) (IsVerified m c.args.opening)
-          (λ text. IsVerdict m.app m.from_text c.args.opening text (Err (Text fault)))
-          (λ o. o ≡ (bad_history_text fault, BadInput)) _ _ c.refuse_history.result
-          (λ text o verdict is. of_no_history m c.args.opening text fault o memory device verdict is)
-          (rw c.in-Err-Text.field-0-is at c.in-Err-Text.ensures.told) c.refuse_history.ensures.leaves;
-    }
+pub returns-in-Ok-clause-leaves : goal.returns-in-Ok-clause-leaves
+returns-in-Ok-clause-leaves g c =
+    read_weaker (g.R.Read.remaining c.args.history.now)
+    (λ text. IsStartedText (Verifies text) c.args.topology.now c.args.snapshot.now)
+    (λ text. IsStartedOf (Verifies text) c.in-Ok.network.app c.in-Ok.network.topology c.in-Ok.network.modulus
+    c.args.snapshot.now) _ _ c.verify_app_from.result
+    (λ text o is. good_topology c.in-Ok.network.topology c.in-Ok.network.app c.in-Ok.network.modulus
+    c.in-Ok.ensures.ok is) c.verify_app_from.ensures.leaves
 
-pub returns-in-Err-OtherModulus : goal.returns-in-Err-OtherModulus
-returns-in-Err-OtherModulus g c =
-    let m = meaning_of g.P.Application.app g.P.Application.text g.P.Application.from_text g.P.Application.names in
-    let modulus = c.in-Err-OtherModulus.modulus in
-    record {
-      leaves = read_leaves (g.R.Read.remaining c.args.history.now) (IsVerified m c.args.opening)
-          (λ text. IsVerdict m.app m.from_text c.args.opening text (Err (OtherModulus modulus)))
-          (λ o. o ≡ (other_modulus_text modulus, BadInput)) _ _ c.refuse_modulus.result
-          (λ text o verdict is. of_other_modulus m c.args.opening text modulus o verdict is)
-          (rw c.in-Err-OtherModulus.field-0-is at c.in-Err-OtherModulus.ensures.told)
-          c.refuse_modulus.ensures.leaves;
-    }
-
-pub returns-in-Err-Entries-NotEnabledAt : goal.returns-in-Err-Entries-NotEnabledAt
-returns-in-Err-Entries-NotEnabledAt g c =
-    let m = meaning_of g.P.Application.app g.P.Application.text g.P.Application.from_text g.P.Application.names in
-    let position = c.in-Err-Entries-NotEnabledAt.position in
-    record {
-      leaves = read_leaves (g.R.Read.remaining c.args.history.now) (IsVerified m c.args.opening)
-          (λ text. IsVerdict m.app m.from_text c.args.opening text (Err (Entries (NotEnabledAt position))))
-          (λ o. o ≡ (not_enabled_text position, NotEnabled)) _ _ c.refuse_entry.result
-          (λ text o verdict is. of_refused m c.args.opening text position o verdict is)
-          (rw (c.in-Err-Entries-NotEnabledAt.field-0-is, c.in-Err-Entries-NotEnabledAt.field-0-0-is)
-          at c.in-Err-Entries-NotEnabledAt.ensures.told) c.refuse_entry.ensures.leaves;
-    }
+pub returns-in-Err-clause-leaves : goal.returns-in-Err-clause-leaves
+returns-in-Err-clause-leaves g c =
+    read_anyway (g.R.Read.remaining c.args.history.now)
+    (λ text. IsStartedText (Verifies text) c.args.topology.now c.args.snapshot.now)
+    (λ o. (c.in-Err.fault ≢ NoMemory) × (o ≡ (bad_topology_text c.in-Err.fault, BadInput))) _ _
+    c.refuse_topology.result
+    (λ text o is. bad_topology c.in-Err.fault (c.in-Err.ensures.err is.0) is.1) c.refuse_topology.ensures.leaves

@@ -1,0 +1,42 @@
+use Rattle.std.proofs.Common.{◌≡◌, ◌<◌, ◌≤◌, ◌∙◌, List, None, Some, length, rules, subst, sym}
+use Rattle.reset_model.specs.declared.event.Event.{Event}
+use Rattle.recovery.specs.Recovered.{Recovers}
+use Rattle.script_replay.specs.Left.{bad_line_of}
+use Rattle.script_replay.specs.Meaning.{meaning_of}
+use Rattle.script_replay.specs.Output.{bad_line_text, too_long_text}
+use Rattle.script_replay.specs.declared.status.Status.TheVariants.{BadInput, Good}
+use Rattle.script_replay.proofs.Runs.{leaves_weaker}
+use Rattle.reset_service.specs.Planned.{IsPlan, recovery_text}
+use Rattle.reset_service.specs.Planned.IsPlan.{bad_line, planned, too_long}
+use Rattle.reset_service.proofs.planned.plan_after.Goals as goal
+
+pub returns-then-script-gt-MAX_TEXT-clause-leaves : goal.returns-then-script-gt-MAX_TEXT-clause-leaves
+returns-then-script-gt-MAX_TEXT-clause-leaves g c =
+    let m = meaning_of g.P.Application.app g.P.Application.text g.P.Application.from_text g.P.Application.names in
+    let long : 1048576 < length c.args.script.now = search rules in
+    leaves_weaker (λ o. o ≡ (too_long_text, BadInput)) (IsPlan m c.args.config.now c.args.script.now) _ _
+    c.refuse_input.result (λ o is. too_long long is) c.refuse_input.ensures.leaves
+
+pub returns-in-Ok-None-clause-leaves : goal.returns-in-Ok-None-clause-leaves
+returns-in-Ok-None-clause-leaves g c =
+    let m = meaning_of g.P.Application.app g.P.Application.text g.P.Application.from_text g.P.Application.names in
+    let script = c.args.script.now in
+    let short : length script ≤ 1048576 = search rules in
+    let good : bad_line_of m.names script ≡ None = sym c.in-Ok-None.ensures.bad ∙ c.in-Ok-None.field-0-is in
+    leaves_weaker
+    (λ o. (repairs reset : List Event) × Recovers m.app c.leave_script.new.config repairs reset
+    × (o ≡ (recovery_text repairs reset, Good)))
+    (IsPlan m c.args.config.now script) _ _ c.plan_here.result
+    (λ o is. planned is.0 is.1 short good
+    (subst (λ left. Recovers m.app left is.0 is.1) c.in-Ok-None.ensures.left is.2) is.3) c.plan_here.ensures.leaves
+
+pub returns-in-Ok-Some-clause-leaves : goal.returns-in-Ok-Some-clause-leaves
+returns-in-Ok-Some-clause-leaves g c =
+    let m = meaning_of g.P.Application.app g.P.Application.text g.P.Application.from_text g.P.Application.names in
+    let script = c.args.script.now in
+    let short : length script ≤ 1048576 = search rules in
+    let number = c.in-Ok-Some.number in
+    let bad : bad_line_of m.names script ≡ Some number =
+    sym c.in-Ok-Some.ensures.bad ∙ c.in-Ok-Some.field-0-is in
+    leaves_weaker (λ o. o ≡ (bad_line_text number, BadInput)) (IsPlan m c.args.config.now script) _ _
+    c.refuse_line.result (λ o is. bad_line number short bad is) c.refuse_line.ensures.leaves

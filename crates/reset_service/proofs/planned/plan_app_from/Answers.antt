@@ -1,0 +1,13 @@
+use Rattle.reset_service.proofs.planned.plan_app_from.Goals as goal
+
+pub returns-in-Idle-clause-leaves : goal.returns-in-Idle-clause-leaves
+returns-in-Idle-clause-leaves g c = rw c.in-Idle.is c.plan_started.ensures.leaves
+
+pub returns-in-Token-clause-leaves : goal.returns-in-Token-clause-leaves
+returns-in-Token-clause-leaves g c = rw c.in-Token.is c.plan_started-in-Token.ensures.leaves
+
+pub returns-in-Mutex-clause-leaves : goal.returns-in-Mutex-clause-leaves
+returns-in-Mutex-clause-leaves g c = rw c.in-Mutex.is c.plan_started-in-Mutex.ensures.leaves
+
+pub returns-in-Routes-clause-leaves : goal.returns-in-Routes-clause-leaves
+returns-in-Routes-clause-leaves g c = rw c.in-Routes.is c.plan_started-in-Routes.ensures.leaves
