@@ -183,6 +183,9 @@ check
 check N
 alarm N
 watch N
+moves
+moves N
+snapshot
 """
 KINDS = {
     "N": lambda word: number(word) is not None,

@@ -481,6 +481,22 @@ class Network:
     def is_ready(self, i):
         return bool(self.tree_rows(i) or self.wave_rows(i) - {1} or self.act_rows(i))
 
+    def choices(self, i, case):
+        """Whom a case may be about."""
+        return self.graph[i] if self.wants_neighbour(case) else [None]
+
+    def moves(self, i):
+        """The commands of the events that are allowed at node i, in their order."""
+        tree, wave, father = self.tree_rows(i), self.wave_rows(i), self.tree[i][1]
+        told = [f"{word} {i}" for word in ("claim", "follow") if tree & TREE_ROWS[word]]
+        told += [f"adopt {i} {j}" for j in self.graph[i] if any(it and row > 6 for row, it in self.link_rows(i, j))]
+        told += [f"{word} {i}" for word in ("mend", "join", "finish", "open", "request") if wave & EVENT_ROWS[word]]
+        told += [f"relay {i} {c}" for c in self.children(i) if 2 in wave and self.wave[c][0] == "initiate"]
+        for case in range(1, len(self.app.cases) + 1):
+            near = [j for j in self.choices(i, case) if self.can(i, case, j)]
+            told += [f"act {i} {case}" if j is None else f"act {i} {case} {j}" for j in near]
+        return told
+
     def app_row(self, i, j):
         together = self.wave[i][1] == self.wave[j][1]
         return least(self.app.failing(i, self.local[i], j, self.local[j])) if together else None
@@ -540,6 +556,13 @@ class Network:
         told = self.ask_alarm(i)
         return told if told == ["quiet"] else [*told, *self.answer(["request", str(i)])]
 
+    def ask_moves(self, *ids):
+        return [f"move {line}" for i in ids or self.graph for line in self.moves(i)]
+
+    def ask_snapshot(self):
+        links = [f"link {i} {j}" for i, j in sorted(self.links()) if i < j]
+        return ["reset-snapshot 1", *self.ask_show(), *(links or ["link -"])]
+
 
 QUESTIONS = {
     "show": Network.ask_show,
@@ -549,4 +572,6 @@ QUESTIONS = {
     "check": Network.ask_check,
     "alarm": Network.ask_alarm,
     "watch": Network.ask_watch,
+    "moves": Network.ask_moves,
+    "snapshot": Network.ask_snapshot,
 }
