@@ -4,7 +4,7 @@
 .PHONY: run try build install examples test mutants gate-times reading-list bench fuzz soak
 
 # Replays one whole reset on the line of nodes 1, 2, 3: by the proved program where `make build` has left it, else
-# by the program before its proof, within two minutes.
+# by the program before its proof, within one to two and a half minutes.
 run:
 	@tools/run replay examples/one-wave/topology.toml examples/one-wave/script
 
