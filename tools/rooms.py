@@ -14,7 +14,10 @@ import time
 PARTS = ("src", "specs", "proofs")
 PROGRAM = "service_main"
 BUILT = "build/reset-service"
-KIT = "rattle-kit-13f"  # what the repository is proved with, the first word of `rt version`
+# What the repository is proved with. `rt version` prints KIT, a letter for its issue, `logic` and LOGIC: two kits of one
+# logic prove the same, so that the letter doesn't matter.
+KIT = "rattle-kit-13"
+LOGIC = "dac8208d650f15bf"
 
 
 def crates():
@@ -63,8 +66,9 @@ def kit_fault():
         said = subprocess.run(["rt", "version"], stdout=subprocess.PIPE, stderr=subprocess.DEVNULL, text=True).stdout.split()
     except FileNotFoundError:
         return f"`rt`, the command of the Rattle kit, isn't in the PATH: install {KIT} and add its folder bin to the PATH"
-    if said[:1] != [KIT]:
-        return f"`rt version` prints {' '.join(said) or 'nothing'}, and the repository is proved with {KIT}: install that kit"
+    if said[1:3] != ["logic", LOGIC]:
+        printed = " ".join(said) or "nothing"
+        return f"`rt version` prints {printed}, and the repository is proved with {KIT}, logic {LOGIC}: install that kit"
     return None
 
 
