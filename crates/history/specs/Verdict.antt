@@ -9,6 +9,7 @@ use Rattle.history.specs.declared.entry.VerifyFault.TheVariants.{NotEnabledAt}
 use Rattle.history.specs.declared.entry.VerifyFault.TheVariants as verify
 use Rattle.history.specs.declared.text.BookFault.TheVariants as book
 use Rattle.history.specs.declared.verification.ReaderFault.{ReaderFault}
+use Rattle.history.specs.declared.verification.Resumed.{Resumed}
 use Rattle.history.specs.declared.verification.ReaderFault.TheVariants as reader
 use Rattle.history.specs.Entries.{IsFirstRefused, replayed}
 use Rattle.history.specs.HistoryText.{IsReadAs}
@@ -20,6 +21,12 @@ pub record IsSummary {L : Type 0} (app : App L) (from_text : List ℕ → Option
   pub allowed : IsSome (replayed app from_text c es)
   pub entries : s.entries ≡ length es
   pub reports : s.reports.items ≡ reports_of app from_text c es
+
+-- and this is the configuration that they leave
+pub record IsResumed {L : Type 0} (app : App L) (from_text : List ℕ → Option L) (c : Configuration L) (es : List Entry)
+    (left : Configuration L) (s : Summary) : Type 0 where
+  pub summary : IsSummary app from_text c es s
+  pub left_is : replayed app from_text c es ≡ Some left
 
 -- what is answered of the text of a history that opens so: the summary of its entries; why the text is none,
 -- before anything of it is judged; then the modulus that it names, where that isn't the opening's; or which entry is
@@ -37,6 +44,13 @@ IsVerdict app from_text c text (Err (reader.Entries verify.NoMemory)) = ⊤
 IsVerdict app from_text c text (Err (reader.Text book.NoMemory)) = ⊤
 IsVerdict app from_text c text (Err (reader.Text book.ReadFailed)) = ⊤
 IsVerdict app from_text c text (Err (reader.Text f)) = IsReadAs text (Err f)
+
+-- the same, with the configuration that the entries leave
+abbrev pub IsResumption : {P L : Type 0} → App L → (List ℕ → Option L) → Configuration L → List ℕ
+    → Result (Resumed P L) ReaderFault → Type 0
+IsResumption app from_text c text (Ok r) =
+    (es : List Entry) × IsReadAs text (Ok (c.modulus, es)) × IsResumed app from_text c es r.config r.summary
+IsResumption app from_text c text (Err f) = IsVerdict app from_text c text (Err f)
 
 -- what an answer tells: how many entries there are, and their reports, or the fault. Want of memory, and a reader
 -- that failed, tell nothing of a text

@@ -29,4 +29,6 @@ pub use stretches::{
     undisturbed_parts_are_stretches,
 };
 pub use text::{BookFault, books_read_back, one_reading_a_text, write_book};
-pub use verification::{ReaderFault, one_verdict_a_text, verify, verify_reader};
+pub use verification::{
+    ReaderFault, Resumed, one_verdict_a_text, resume_reader, verify, verify_reader,
+};

@@ -49,14 +49,22 @@ impl<P: Application> Player<P> {
     pub fn into_reports(self) -> Vec<Report>
         ensures { result ≡ self.reports }
     {
+        let (config, reports) = self.into_parts();
+        drop(config);
+        reports
+    }
+
+    // What the entries left, and what they reported.
+    pub fn into_parts(self) -> (Config<P>, Vec<Report>)
+        ensures { result ≡ (self.config, self.reports) }
+    {
         let Player {
             config,
             openings,
             reports,
         } = self;
         drop(openings);
-        drop(config);
-        reports
+        (config, reports)
     }
 
     // Does the event, which is entered at this position.

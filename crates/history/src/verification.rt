@@ -12,7 +12,7 @@ ghost use Rattle.history.specs.HistoryText.{IsReadWhole};
 ghost use Rattle.history.specs.Played.{HasVerified};
 ghost use Rattle.history.specs.Reading.{HasRead};
 ghost use Rattle.history.specs.Reports.{reports_of};
-ghost use Rattle.history.specs.Verdict.{IsVerdict, verdict_of};
+ghost use Rattle.history.specs.Verdict.{IsResumption, IsVerdict, verdict_of};
 
 use crate::entry::{Entry, Summary, VerifyFault};
 use crate::lines::{CHUNK, Reading};
@@ -23,6 +23,14 @@ use app_interface::Application;
 use reset_machine::Config;
 use std::alloc::Global;
 use std::io::Read;
+
+/// What the entries of a history leave, and what they come to.
+#[derive(Drop)]
+pub struct Resumed<P: Application> {
+    /// The configuration after the last entry.
+    pub config: Config<P>,
+    pub summary: Summary,
+}
 
 /// Why what a reader gives isn't a history.
 #[derive(Clone, Copy, Debug, PartialEq, Eq)]
@@ -55,6 +63,31 @@ pub fn verify_reader<P: Application, R: Read>(
         × IsVerdict P.app P.from_text opening text result }
     ensures end { OnOk result (IsAtEnd (R.remaining reader.new)) }
 {
+    match resume_reader(alloc, opening, reader) {
+        Ok(resumed) => Ok(summary_of(resumed)),
+        Err(refused) => Err(refused),
+    }
+}
+
+// What a resumed history comes to, without its configuration.
+fn summary_of<P: Application>(resumed: Resumed<P>) -> Summary
+    ensures { result ≡ resumed.summary }
+{
+    let Resumed { config, summary } = resumed;
+    drop(config);
+    summary
+}
+
+/// As `verify_reader`, with the configuration that the entries leave, for whoever goes on from there.
+pub fn resume_reader<P: Application, R: Read>(
+    alloc: Global,
+    opening: Config<P>,
+    reader: &mut R,
+) -> Result<Resumed<P>, ReaderFault>
+    ensures told { (text : List ℕ) × IsReadWhole (R.remaining reader.old) text
+        × IsResumption P.app P.from_text opening text result }
+    ensures end { OnOk result (IsAtEnd (R.remaining reader.new)) }
+{
     let modulus = opening.modulus().get();
     let mut verifier = Verifier::new(alloc, opening);
     let mut reading = Reading::new(alloc);
@@ -79,15 +112,15 @@ fn verdict<P: Application>(
     modulus: u64,
     verifier: Verifier<P>,
     reading: &Reading,
-) -> Result<Summary, ReaderFault>
+) -> Result<Resumed<P>, ReaderFault>
     requires { reading.now.lines.entries.items ≡ [] }
     ensures { (c : Configuration P.Local) (es : List Entry) (text : List ℕ) → c.modulus ≡ modulus
         → HasVerified P.app P.from_text c es verifier → HasRead reading.now es text
-        → IsVerdict P.app P.from_text c text result }
+        → IsResumption P.app P.from_text c text result }
 {
     match reading.end() {
-        Ok((other, count)) if other == modulus => match verifier.summary(count) {
-            Ok(summary) => Ok(summary),
+        Ok((other, count)) if other == modulus => match verifier.resumed(count) {
+            Ok(resumed) => Ok(resumed),
             Err(fault) => Err(ReaderFault::Entries(fault)),
         },
         Ok((other, _)) => {

@@ -6,6 +6,7 @@ ghost use Rattle.history.specs.declared.entry.Entry.{Entry};
 
 use crate::entry::{Entry, Summary, VerifyFault};
 use crate::player::Player;
+use crate::verification::Resumed;
 use app_interface::Application;
 use reset_machine::Config;
 use std::alloc::Global;
@@ -20,7 +21,7 @@ pub struct Verifier<P: Application> {
 impl<P: Application> Verifier<P> {
     ghost use Rattle.history.specs.Entries.{IsFirstRefused};
     ghost use Rattle.history.specs.Played.{HasVerified};
-    ghost use Rattle.history.specs.Verdict.{IsSummary};
+    ghost use Rattle.history.specs.Verdict.{IsResumed};
 
     // Before the first entry.
     pub fn new(alloc: Global, opening: Config<P>) -> Verifier<P>
@@ -43,23 +44,29 @@ impl<P: Application> Verifier<P> {
         }
     }
 
-    // What the entries come to, which are so many.
-    pub fn summary(self, count: usize) -> Result<Summary, VerifyFault>
-        ensures ok { IfOk result (λ s. (c : Configuration P.Local) (es : List Entry)
+    // What the entries leave and come to, which are so many.
+    pub fn resumed(self, count: usize) -> Result<Resumed<P>, VerifyFault>
+        ensures ok { IfOk result (λ r. (c : Configuration P.Local) (es : List Entry)
             → HasVerified P.app P.from_text c es self → count ≡ length es
-            → IsSummary P.app P.from_text c es s) }
+            → IsResumed P.app P.from_text c es r.config r.summary) }
         ensures err { IfErr result (λ f. (c : Configuration P.Local) (es : List Entry) (position : ℕ)
             → HasVerified P.app P.from_text c es self → f ≡ VerifyFault.NotEnabledAt position
             → IsFirstRefused P.app P.from_text c es position) }
     {
         let Verifier { player, fault } = self;
-        let reports = player.into_reports();
+        let (config, reports) = player.into_parts();
         match fault {
-            None => Ok(Summary {
-                entries: count,
-                reports,
+            None => Ok(Resumed {
+                config,
+                summary: Summary {
+                    entries: count,
+                    reports,
+                },
             }),
-            Some(fault) => Err(fault),
+            Some(fault) => {
+                drop(config);
+                Err(fault)
+            }
         }
     }
 }

@@ -177,9 +177,9 @@ pub fn answer_step<P: Application, W: Write>(
     }
 }
 
-// Writes what an allowed step is answered with.
+/// Writes what an allowed step is answered with.
 #[inline(always)]
-pub(crate) fn put_reply<W: Write>(out: &mut W, reply: Reply) -> Result<(), WriteFault>
+pub fn put_reply<W: Write>(out: &mut W, reply: Reply) -> Result<(), WriteFault>
     ensures ok { OnOk result (Appends (W.contents out.old) (W.contents out.new) (reply_text reply)) }
     ensures err { OnErr result (AppendsPrefix (W.contents out.old) (W.contents out.new) (reply_text reply)) }
 {

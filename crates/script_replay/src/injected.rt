@@ -94,8 +94,8 @@ pub fn drawn<P: Application>(config: &Config<P>, seed: u32) -> Fault
     draw_fault(&mut random, config)
 }
 
-// Writes the line of a fault that was drawn.
-fn put_drawn<W: Write>(out: &mut W, fault: &Fault) -> Result<(), WriteFault>
+/// Writes the line of a fault that was drawn.
+pub fn put_drawn<W: Write>(out: &mut W, fault: &Fault) -> Result<(), WriteFault>
     ensures ok { OnOk result (Appends (W.contents out.old) (W.contents out.new) (drawn_text fault.now)) }
     ensures err { OnErr result (AppendsPrefix (W.contents out.old) (W.contents out.new) (drawn_text fault.now)) }
 {
@@ -104,8 +104,8 @@ fn put_drawn<W: Write>(out: &mut W, fault: &Fault) -> Result<(), WriteFault>
     put_bytes(out, b"\n")
 }
 
-// The line that a refused fault is answered with.
-fn fault_refusal_line(refusal: FaultRefusal) -> &'static [u8]
+/// The line that a refused fault is answered with.
+pub fn fault_refusal_line(refusal: FaultRefusal) -> &'static [u8]
     ensures { result.now ≡ fault_refusal_text refusal }
 {
     match refusal {

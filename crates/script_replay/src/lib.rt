@@ -21,8 +21,13 @@ mod show;
 mod snapshot;
 mod status;
 
-pub use answer::{put_bad_line, put_numbered, put_topology_fault};
+pub use answer::{
+    answer as answer_command, answer_step, put_bad_line, put_numbered, put_refusal, put_reply,
+    put_topology_fault,
+};
 pub use buffered_output::BufferedOutput;
+pub use faults::answer_alarm;
+pub use injected::{drawn, fault_refusal_line, put_drawn};
 pub use input::{READ_LIMIT, read_text, split_line};
 pub use laws::{
     one_joined_output, one_output, one_record, recordings_are_replays, scripts_are_steps,
@@ -30,9 +35,11 @@ pub use laws::{
 };
 pub use left::leave_script;
 pub use network::{Network, read_network};
-pub use recorded::record_text;
+pub use next_line::{NextLine, next_line as first_line_of};
+pub use recorded::{record_script, record_text};
 pub use recording::text_of;
 pub use replays::{
     check_text, refuse_input, refuse_topology, replay, replay_joined, replay_text, run_script,
 };
+pub use script::{Command, Line, read_line};
 pub use status::{Purpose, RunStop, Status};

@@ -88,8 +88,8 @@ fn record_booted<P: Application, H: Write, W: Write>(
     }
 }
 
-// Records a script from this configuration on.
-fn record_script<P: Application, H: Write, W: Write>(
+/// Records a script from this configuration on: its history goes to one writer, and then its answers to the other.
+pub fn record_script<P: Application, H: Write, W: Write>(
     alloc: Global,
     config: &mut Config<P>,
     script: &[u8],

@@ -2,7 +2,7 @@ use Rattle.std.proofs.Common.{◌++◌, ◌∙◌, Ok, ap, sym}
 use Rattle.std.proofs.KnownBytes.{Consumes-trans}
 use Rattle.history.proofs.ReadLines.{all_given, read_whole, some_whole, whole_before}
 use Rattle.history.proofs.Verified.{fault_verdict}
-use Rattle.history.proofs.verification.verify_reader.Goals as goal
+use Rattle.history.proofs.verification.resume_reader.Goals as goal
 
 pub returns-in-Ok-false-clause-told : goal.returns-in-Ok-false-clause-told
 returns-in-Ok-false-clause-told g c =
