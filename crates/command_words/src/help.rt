@@ -118,11 +118,11 @@ pub const SESSION_HELP: Help = Help {
     long_about: "\
 Answers commands as they come, and keeps what happened in a file.
 
-Each line of standard input is a command, which is answered as `replay` answers it, at once: whoever
-writes the next line has read the answer to the last one. With --history each event that is applied
-and each fault that is done is appended to FILE as an entry, and synced to the disk, before its answer
-is written. Where FILE isn't empty, it is verified first, and the session goes on after its last
-entry. `verify` and `picture` accept it.",
+Each line of standard input is a command, which is answered at once, as `replay` answers it, so that
+the next line can depend on the answer. With --history each event that is applied and each fault that
+is done is appended to FILE as an entry, and synced to the disk, before its answer is written. Where
+FILE isn't empty, it is verified first, and the session goes on after its last entry. `verify` and
+`picture` accept FILE.",
     after_help: "\
 Example:
   reset-service session examples/one-wave/topology.toml --history history < examples/one-wave/script
