@@ -1,7 +1,7 @@
 -- The course of a session, line by line.
 use Rattle.std.proofs.Common.{◌≡◌, ◌≢◌, ℕ, ◌+◌, ◌≤◌, ◌<◌, Bool, true, false, if◌then◌else◌, List, [], ◌∷◌, ◌++◌, refl}
 use Rattle.std.proofs.Common.{sym, ap, ap₂, ◌∙◌, subst, append-nil, append_assoc, length, take, codes, arith, Option}
-use Rattle.std.proofs.Common.{Some, None, ◌⊎◌, inl, inr, ◌-◌, min}
+use Rattle.std.proofs.Common.{Some, None, ◌⊎◌, inl, inr, ◌-◌, min, Result, Ok, Err, OnOk, is_ok}
 use Rattle.std.specs.Prelude.{nat_lt}
 use Rattle.std.specs.List.{flat_map}
 use Rattle.std.specs.Str.{bytes_eq}
@@ -12,6 +12,10 @@ use Rattle.std.proofs.lemmas.List.{length-take-le, take_all, take-append-le}
 use Rattle.std.proofs.lemmas.Slice.Eq.{bytes_eq-Decides}
 use Rattle.std.proofs.Math.Seq.{take-append-add}
 use Rattle.reset_model.specs.Configuration.{Configuration}
+use Rattle.reset_model.specs.EventText.{event_line}
+use Rattle.reset_model.specs.declared.event.Event.{Event}
+use Rattle.reset_model.specs.declared.event.Event.TheVariants.{Claim, Follow, Adopt, Request, Relay, Open, Join, Finish}
+use Rattle.reset_model.specs.declared.event.Event.TheVariants.{Mend, Act}
 use Rattle.history.specs.HistoryText.{ended, entries_text, entry_line}
 use Rattle.history.specs.declared.entry.Entry.{Entry}
 use Rattle.script_replay.specs.Meaning.{Meaning}
@@ -49,6 +53,20 @@ module _ {L : Type 0} (m : Meaning L) (room : Option ℕ) (c : Configuration L) 
   pub course_more : (line : List ℕ) (lines : List (List ℕ)) → is_exit line ≡ false
       → course_of m room c n (line ∷ lines) ≡ next line lines
   course_more line lines goes = course_line line lines ∙ ap (λ b. next_if b line lines) goes
+
+-- no event is spelled as the line that ends a session
+pub event_stays : (e : Event) → is_exit (event_line e) ≡ false
+event_stays (Claim at) = refl
+event_stays (Follow at) = refl
+event_stays (Adopt at from) = refl
+event_stays (Request at) = refl
+event_stays (Relay at child) = refl
+event_stays (Open at) = refl
+event_stays (Join at) = refl
+event_stays (Finish at) = refl
+event_stays (Mend at) = refl
+event_stays (Act at case None) = refl
+event_stays (Act at case (Some with)) = refl
 
 -- ---- what is written of exchanges
 
@@ -95,6 +113,14 @@ front_grown old new line bytes room count room_is count_is new_is front =
     ∙ ap (λ k. old ++ take k bytes) (count_is ∙ ap (λ k. min k (length bytes)) room_is)
     ∙ ap (λ l. old ++ l) (taken_at_most (257 - length old) bytes)
     ∙ front_on old line bytes 257 front
+
+pub front_if_ok : {D E : Type 0} (r : Result D E) (old new bytes : List ℕ) (room count : ℕ)
+    → room ≡ 257 - length old → count ≡ min room (length bytes)
+    → new ≡ (if is_ok r then old ++ take count bytes else old)
+    → OnOk r ((line : List ℕ) → IsFront old line → IsFront new (line ++ bytes))
+front_if_ok (Ok done) old new bytes room count room_is count_is is =
+    λ line front. front_grown old new line bytes room count room_is count_is is front
+front_if_ok (Err fault) old new bytes room count room_is count_is is = tt
 
 pub front_none : (line : List ℕ) → IsFront [] line → line ≡ []
 front_none [] is = refl

@@ -11,7 +11,7 @@ use Rattle.script_replay.specs.Meaning.{Meaning}
 use Rattle.script_replay.specs.Script.{line_of}
 use Rattle.live_session.specs.Course.{Course, Exchange, IsCutShort, IsDone, answers_text, config_after, course, course_of}
 use Rattle.live_session.specs.Course.{exchange, is_exit, kept_lines, kept_text, led_by, rested, room_after}
-use Rattle.live_session.specs.Progress.{Goes, HasActed, IsAnswered, IsUncommitted, Start}
+use Rattle.live_session.specs.Progress.{Goes, HasDone, after, IsAnswered, IsUncommitted, Start}
 use Rattle.live_session.specs.Progress.IsUncommitted.{entries_failed, answers_failed}
 use Rattle.live_session.specs.declared.batch.Batch.{Batch}
 use Rattle.live_session.proofs.Courses.{answers_on, course_exit, course_more, kept_on}
@@ -24,9 +24,9 @@ led_on {L = L} xs ys course =
 
 module _ {L : Type 0} (m : Meaning L) (s : Start L) where
   -- it goes on as another course does that is the same
-  pub goes_as : (given : List ℕ) (on other : List ℕ → Course L) (batch : Batch) (log out : Option (List ℕ))
-      → ((more : List ℕ) → on more ≡ other more) → Goes m s given on batch log out → Goes m s given other batch log out
-  goes_as given on other batch log out same goes = record {
+  pub goes_as : {F : Type 0} (text : F → List ℕ) (on other : F → Course L) (batch : Batch) (log out : Option (List ℕ))
+      → ((more : F) → on more ≡ other more) → Goes m s text on batch log out → Goes m s text other batch log out
+  goes_as text on other batch log out same goes = record {
     sent = goes.sent;
     held = goes.held;
     goes_on = λ more. goes.goes_on more ∙ ap (led_by (goes.sent ++ goes.held)) (same more);
@@ -38,7 +38,8 @@ module _ {L : Type 0} (m : Meaning L) (s : Start L) where
 
   -- some of the bytes that come were given
   pub goes_given : (given bytes : List ℕ) (on : List ℕ → Course L) (batch : Batch) (log out : Option (List ℕ))
-      → Goes m s given on batch log out → Goes m s (given ++ bytes) (λ more. on (bytes ++ more)) batch log out
+      → Goes m s (after given) on batch log out
+      → Goes m s (after (given ++ bytes)) (λ more. on (bytes ++ more)) batch log out
   goes_given given bytes on batch log out goes = record {
     sent = goes.sent;
     held = goes.held;
@@ -51,27 +52,27 @@ module _ {L : Type 0} (m : Meaning L) (s : Start L) where
   }
 
   -- a line that ends the session
-  pub goes_out : (given line : List ℕ) (room : Option ℕ) (c : Configuration L) (n : ℕ)
-      (lines : List ℕ → List (List ℕ)) (batch : Batch) (log out : Option (List ℕ)) → is_exit line ≡ true
-      → Goes m s given (λ more. course_of m room c n (line ∷ lines more)) batch log out
-      → Goes m s given (λ more. rested c) batch log out
-  goes_out given line room c n lines batch log out ends goes =
-      goes_as given (λ more. course_of m room c n (line ∷ lines more)) (λ more. rested c) batch log out
+  pub goes_out : {F : Type 0} (text : F → List ℕ) (line : List ℕ) (room : Option ℕ) (c : Configuration L) (n : ℕ)
+      (lines : F → List (List ℕ)) (batch : Batch) (log out : Option (List ℕ)) → is_exit line ≡ true
+      → Goes m s text (λ more. course_of m room c n (line ∷ lines more)) batch log out
+      → Goes m s text (λ more. rested c) batch log out
+  goes_out text line room c n lines batch log out ends goes =
+      goes_as text (λ more. course_of m room c n (line ∷ lines more)) (λ more. rested c) batch log out
       (λ more. course_exit m room c n line (lines more) ends) goes
 
   -- a line that was answered
-  pub goes_on_by : (given line : List ℕ) (room left : Option ℕ) (c c' : Configuration L) (n : ℕ)
-      (lines : List ℕ → List (List ℕ)) (old new : Batch) (log out : Option (List ℕ)) → is_exit line ≡ false
+  pub goes_on_by : {F : Type 0} (text : F → List ℕ) (line : List ℕ) (room left : Option ℕ) (c c' : Configuration L) (n : ℕ)
+      (lines : F → List (List ℕ)) (old new : Batch) (log out : Option (List ℕ)) → is_exit line ≡ false
       → ((entries : List Entry) → kept_lines room entries ≡ kept_lines s.room entries)
       → IsAnswered m room c n (line_of m.names line) left c' old new
-      → Goes m s given (λ more. course_of m room c n (line ∷ lines more)) old log out
-      → Goes m s given (λ more. course_of m left c' (n + 1) (lines more)) new log out
-  goes_on_by given line room left c c' n lines old new log out stays alike done goes =
+      → Goes m s text (λ more. course_of m room c n (line ∷ lines more)) old log out
+      → Goes m s text (λ more. course_of m left c' (n + 1) (lines more)) new log out
+  goes_on_by {F = F} text line room left c c' n lines old new log out stays alike done goes =
       let e : Exchange = exchange m room c n (line_of m.names line) in
-      let after : List ℕ → Course L =
+      let next : F → Course L =
       λ more. course_of m (room_after room e.entries) (config_after m room c n (line_of m.names line)) (n + 1)
       (lines more) in
-      let same : (more : List ℕ) → after more ≡ course_of m left c' (n + 1) (lines more) =
+      let same : (more : F) → next more ≡ course_of m left c' (n + 1) (lines more) =
       λ more. ap₂ (λ r x. course_of m r x (n + 1) (lines more)) (sym done.acted.room_is) (sym done.config_is) in
       record {
         sent = goes.sent;
@@ -79,8 +80,8 @@ module _ {L : Type 0} (m : Meaning L) (s : Start L) where
         goes_on = λ more.
             goes.goes_on more
             ∙ ap (led_by (goes.sent ++ goes.held)) (course_more m room c n line (lines more) stays)
-            ∙ led_on (goes.sent ++ goes.held) (e ∷ []) (after more)
-            ∙ ap (λ es. led_by es (after more)) (append_assoc goes.sent goes.held (e ∷ []))
+            ∙ led_on (goes.sent ++ goes.held) (e ∷ []) (next more)
+            ∙ ap (λ es. led_by es (next more)) (append_assoc goes.sent goes.held (e ∷ []))
             ∙ ap (led_by (goes.sent ++ (goes.held ++ (e ∷ [])))) (same more);
         kept = goes.kept;
         answered = goes.answered;
@@ -96,11 +97,11 @@ module _ {L : Type 0} (m : Meaning L) (s : Start L) where
       }
 
   -- what was held back was written
-  pub goes_written : (given : List ℕ) (on : List ℕ → Course L) (old new : Batch) (log log' out out' : Option (List ℕ))
+  pub goes_written : {F : Type 0} (text : F → List ℕ) (on : F → Course L) (old new : Batch) (log log' out out' : Option (List ℕ))
       → Appends log log' old.entries.items → Appends out out' old.answers.items
       → new.entries.items ≡ [] → new.answers.items ≡ []
-      → Goes m s given on old log out → Goes m s given on new log' out'
-  goes_written given on old new log log' out out' wrote answered no_entries no_answers goes = record {
+      → Goes m s text on old log out → Goes m s text on new log' out'
+  goes_written text on old new log log' out out' wrote answered no_entries no_answers goes = record {
     sent = goes.sent ++ goes.held;
     held = [];
     goes_on = λ more.
@@ -123,22 +124,22 @@ module _ {L : Type 0} (m : Meaning L) (s : Start L) where
 
   -- ---- where it is cut short
 
-  exchanges_are : (given more : List ℕ) (on : List ℕ → Course L) (batch : Batch) (log out : Option (List ℕ))
-      (goes : Goes m s given on batch log out)
-      → (course m s.room s.config (given ++ more)).exchanges ≡ (goes.sent ++ goes.held) ++ (on more).exchanges
-  exchanges_are given more on batch log out goes = ap (λ (x : Course L). x.exchanges) (goes.goes_on more)
+  exchanges_are : {F : Type 0} (text : F → List ℕ) (more : F) (on : F → Course L) (batch : Batch) (log out : Option (List ℕ))
+      (goes : Goes m s text on batch log out)
+      → (course m s.room s.config (text more)).exchanges ≡ (goes.sent ++ goes.held) ++ (on more).exchanges
+  exchanges_are text more on batch log out goes = ap (λ (x : Course L). x.exchanges) (goes.goes_on more)
 
   -- nothing was written since
-  pub cut_here : (given more : List ℕ) (on : List ℕ → Course L) (batch : Batch) (log out : Option (List ℕ))
-      → Goes m s given on batch log out
-      → IsCutShort s.room (course m s.room s.config (given ++ more)).exchanges s.log log s.out out
-  cut_here given more on batch log out goes =
+  pub cut_here : {F : Type 0} (text : F → List ℕ) (more : F) (on : F → Course L) (batch : Batch) (log out : Option (List ℕ))
+      → Goes m s text on batch log out
+      → IsCutShort s.room (course m s.room s.config (text more)).exchanges s.log log s.out out
+  cut_here text more on batch log out goes =
       let rest : List Exchange = goes.held ++ (on more).exchanges in
       record {
         first = goes.sent;
         rest = rest;
         split =
-            exchanges_are given more on batch log out goes
+            exchanges_are text more on batch log out goes
             ∙ append_assoc goes.sent goes.held (on more).exchanges;
         answered = record {
           prefix = answers_text goes.sent;
@@ -153,16 +154,16 @@ module _ {L : Type 0} (m : Meaning L) (s : Start L) where
       }
 
   -- what was held back couldn't be written
-  pub cut_writing : (given more : List ℕ) (on : List ℕ → Course L) (batch : Batch) (log log' out out' : Option (List ℕ))
-      → Goes m s given on batch log out → IsUncommitted batch log log' out out'
-      → IsCutShort s.room (course m s.room s.config (given ++ more)).exchanges s.log log' s.out out'
-  cut_writing given more on batch log log' out out' goes (entries_failed wrote same) =
+  pub cut_writing : {F : Type 0} (text : F → List ℕ) (more : F) (on : F → Course L) (batch : Batch) (log log' out out' : Option (List ℕ))
+      → Goes m s text on batch log out → IsUncommitted batch log log' out out'
+      → IsCutShort s.room (course m s.room s.config (text more)).exchanges s.log log' s.out out'
+  cut_writing text more on batch log log' out out' goes (entries_failed wrote same) =
       let later : List Exchange = (on more).exchanges in
       record {
         first = goes.sent;
         rest = goes.held ++ later;
         split =
-            exchanges_are given more on batch log out goes ∙ append_assoc goes.sent goes.held later;
+            exchanges_are text more on batch log out goes ∙ append_assoc goes.sent goes.held later;
         answered = record {
           prefix = answers_text goes.sent;
           rest = [];
@@ -177,7 +178,7 @@ module _ {L : Type 0} (m : Meaning L) (s : Start L) where
             ∙ ap (λ t. t ++ kept_text s.room later) (sym goes.entries ∙ wrote.cut)
             ∙ append_assoc wrote.prefix wrote.rest (kept_text s.room later);
       }
-  cut_writing given more on batch log log' out out' goes (answers_failed wrote told) =
+  cut_writing text more on batch log log' out out' goes (answers_failed wrote told) =
       let first : List Exchange = goes.sent ++ goes.held in
       let kept : Appends s.log log' (kept_text s.room first) =
       subst (Appends s.log log')
@@ -186,7 +187,7 @@ module _ {L : Type 0} (m : Meaning L) (s : Start L) where
       record {
         first = first;
         rest = (on more).exchanges;
-        split = exchanges_are given more on batch log out goes;
+        split = exchanges_are text more on batch log out goes;
         answered = record {
           prefix = answers_text goes.sent ++ told.prefix;
           rest = told.rest;
@@ -201,3 +202,35 @@ module _ {L : Type 0} (m : Meaning L) (s : Start L) where
         kept = subst (Appends s.log log') (sym (append-nil (kept_text s.room first))) kept;
         within = refl;
       }
+
+  -- ---- the end
+
+  -- nothing is held back, and nothing follows
+  pub goes_done : {F : Type 0} (text : F → List ℕ) (more : F) (c left : Configuration L) (batch : Batch) (log out : Option (List ℕ))
+      → left ≡ c → batch.entries.items ≡ [] → batch.answers.items ≡ []
+      → (goes : Goes m s text (λ more. rested c) batch log out) → goes.held ≡ []
+      → HasDone m s (text more) left log out
+  goes_done text more c left batch log out same no_entries no_answers goes none =
+      let is : course m s.room s.config (text more) ≡ record { exchanges = goes.sent; config = c } =
+      goes.goes_on more
+      ∙ ap (λ es. led_by es (rested c)) (ap (λ es. goes.sent ++ es) none ∙ append-nil goes.sent)
+      ∙ ap (λ es. record { exchanges = es; config = c }) (append-nil goes.sent) in
+      record {
+        left_is = same ∙ sym (ap (λ (x : Course L). x.config) is);
+        done = record {
+          kept =
+              subst (λ (x : Course L). Appends s.log log (kept_text s.room x.exchanges)) (sym is) goes.kept;
+          answered = subst (λ (x : Course L). Appends s.out out (answers_text x.exchanges)) (sym is) goes.answered;
+        };
+      }
+
+  -- what is held back is written at the end
+  pub goes_out_done : {F : Type 0} (text : F → List ℕ) (more : F) (c left : Configuration L) (old new : Batch)
+      (log log' out out' : Option (List ℕ)) → left ≡ c
+      → Appends log log' old.entries.items → Appends out out' old.answers.items
+      → new.entries.items ≡ [] → new.answers.items ≡ []
+      → Goes m s text (λ more. rested c) old log out → HasDone m s (text more) left log' out'
+  unfolding goes_written
+  goes_out_done text more c left old new log log' out out' same wrote answered no_entries no_answers goes =
+      goes_done text more c left new log' out' same no_entries no_answers
+      (goes_written text (λ more. rested c) old new log log' out out' wrote answered no_entries no_answers goes) refl

@@ -2,3 +2,6 @@ mod LineBreaks
 mod Courses
 mod Going
 mod Replayed
+mod Taken
+mod Watched
+mod Questions

@@ -1,8 +1,8 @@
 -- The lines of a text of which more comes.
 use Rattle.std.proofs.Common.{◌≡◌, ◌≢◌, ℕ, ◌==◌, Bool, true, false, List, [], ◌∷◌, ◌++◌, refl, sym, ap, ◌∙◌, append_assoc}
-use Rattle.std.proofs.Common.{subst, append-nil}
+use Rattle.std.proofs.Common.{subst, append-nil, ne_eqb, arith, length, ◌<◌}
 use Rattle.std.specs.List.{onto_first}
-use Rattle.std.proofs.lemmas.List.Splits.{slice_split-cons_no, slice_split-cons_yes}
+use Rattle.std.proofs.lemmas.List.Splits.{length-slice_split, slice_split-cons_no, slice_split-cons_yes}
 use Rattle.action_tables.specs.Cuts.{HasNo}
 use Rattle.history.specs.HistoryText.{ended}
 use Rattle.script_replay.specs.Lines.{is_line_feed, lines_of}
@@ -12,26 +12,29 @@ use Rattle.script_replay.proofs.TextLines.{first_line, lines_cut}
 abbrev BeginsWithLine : List (List ℕ) → List ℕ → Type 0
 BeginsWithLine lines line = (later : List (List ℕ)) × (lines ≡ line ∷ later)
 
-onto_first-is : (b : ℕ) (bs : List ℕ) (lines : List (List ℕ)) → BeginsWithLine (onto_first b lines) (b ∷ bs)
-    → BeginsWithLine lines bs
-onto_first-is b bs [] (later, is) = absurd (cc)
-onto_first-is b bs (l ∷ ls) (later, is) = let same : l ≡ bs = cc in (ls, ap (λ x. x ∷ ls) same)
+onto_first-is : (b : ℕ) (bs : List ℕ) (lines : List (List ℕ)) → 0 < length lines
+    → BeginsWithLine (onto_first b lines) (b ∷ bs) → BeginsWithLine lines bs
+onto_first-is b bs [] some first = absurd (omega (arith, some))
+onto_first-is b bs (l ∷ ls) some (later, is) = let same : l ≡ bs = cc in (ls, ap (λ x. x ∷ ls) same)
 
 -- the first line of a text that begins with these bytes has no line feed
 first_unbroken : (line rest : List ℕ) → BeginsWithLine (lines_of (line ++ rest)) line → HasNo 10 line
 first_unbroken [] rest is = tt
-first_unbroken (b ∷ bs) rest (later, is) = go (b == 10) refl
+first_unbroken (b ∷ bs) rest (later, is) = go (b == 10) refl (first_unbroken bs rest)
   where
-    go : (same : Bool) → (b == 10) ≡ same → HasNo 10 (b ∷ bs)
-    go true here =
+    go : (same : Bool) → (b == 10) ≡ same → (BeginsWithLine (lines_of (bs ++ rest)) bs → HasNo 10 bs)
+        → HasNo 10 (b ∷ bs)
+    go true here more =
         let cut : lines_of (b ∷ (bs ++ rest)) ≡ [] ∷ lines_of (bs ++ rest) =
         slice_split-cons_yes is_line_feed b (bs ++ rest) here in
         let no : [] ∷ lines_of (bs ++ rest) ≡ (b ∷ bs) ∷ later = sym cut ∙ is in absurd (cc)
-    go false other =
+    go false other more =
         let cut : lines_of (b ∷ (bs ++ rest)) ≡ onto_first b (lines_of (bs ++ rest)) =
-        slice_split-cons_no is_line_feed b (bs ++ rest) other in (
+        slice_split-cons_no is_line_feed b (bs ++ rest) other in
+        let some : 0 < length (lines_of (bs ++ rest)) =
+        omega (arith, length-slice_split is_line_feed (bs ++ rest)) in (
           λ e. let here : (b == 10) ≡ true = rw e refl in absurd (cc),
-          first_unbroken bs rest (onto_first-is b bs (lines_of (bs ++ rest)) (later, sym cut ∙ is)),
+          more (onto_first-is b bs (lines_of (bs ++ rest)) some (later, sym cut ∙ is)),
         )
 
 pub line_unbroken : (text line after : List ℕ) → lines_of text ≡ line ∷ lines_of after → HasNo 10 line
@@ -53,3 +56,8 @@ pub line_ends : (begun line more : List ℕ) → HasNo 10 begun → HasNo 10 lin
 line_ends begun line more a b =
     lines_cut (begun ++ (ended line ++ more)) (begun ++ line) more (unbroken_on begun line a b)
     (ap (λ t. begun ++ t) (append_assoc line (10 ∷ []) more) ∙ sym (append_assoc begun line (10 ∷ more)))
+
+pub whole_line : (line : List ℕ) → HasNo 10 line → lines_of line ≡ line ∷ []
+whole_line [] none = refl
+whole_line (b ∷ bs) (here, none) =
+    slice_split-cons_no is_line_feed b bs (ne_eqb b 10 here) ∙ ap (onto_first b) (whole_line bs none)

@@ -92,6 +92,7 @@ module _ {L : Type 0} (m : Meaning L) (c : Configuration L) where
           → left_by (line_entries m c (Asks (Watch i))) ≡ Some (answered m c (Watch i)).0
       by_alarm None is node = quiet_replayed i (λ there. is)
       by_alarm (Some fault) is node = alarm_replayed i fault node is
+
       by_node : (b : Bool) → is_node c.graph i ≡ b
           → left_by (line_entries m c (Asks (Watch i))) ≡ Some (answered m c (Watch i)).0
       by_node true is = by_alarm (alarm_of m.app c i) refl (node_of c i is)
@@ -122,16 +123,21 @@ module _ {L : Type 0} (m : Meaning L) (c : Configuration L) where
   line_replayed n (Asks command) = command_replayed command
   line_replayed n Bad = replayed-none m.app m.from_text c
 
+  abbrev exchange_if : Bool → ℕ → Line → Exchange
+  exchange_if refused n line =
+      if refused then record { answer = full_text; entries = [] }
+      else record { answer = (answer_to m c n line).text; entries = line_entries m c line }
+
+  abbrev config_if : Bool → ℕ → Line → Configuration L
+  config_if refused n line = if refused then c else (answer_to m c n line).config
+
+  replayed_if : (b : Bool) (n : ℕ) (line : Line) → left_by (exchange_if b n line).entries ≡ Some (config_if b n line)
+  replayed_if true n line = replayed-none m.app m.from_text c
+  replayed_if false n line = line_replayed n line
+
   exchange_replayed : (room : Option ℕ) (n : ℕ) (line : Line)
       → left_by (exchange m room c n line).entries ≡ Some (config_after m room c n line)
-  exchange_replayed room n line = go (is_refused room line)
-    where
-      go : (b : Bool)
-          → left_by (if b then record { answer = full_text; entries = [] }
-          else record { answer = (answer_to m c n line).text; entries = line_entries m c line }).entries
-          ≡ Some (if b then c else (answer_to m c n line).config)
-      go true = replayed-none m.app m.from_text c
-      go false = line_replayed n line
+  exchange_replayed room n line = replayed_if (is_refused room line) n line
 
 module _ {L : Type 0} (m : Meaning L) where
   pub course_replayed : (room : Option ℕ) (c : Configuration L) (n : ℕ) (lines : List (List ℕ))
@@ -139,13 +145,17 @@ module _ {L : Type 0} (m : Meaning L) where
       ≡ Some (course_of m room c n lines).config
   course_replayed room c n [] =
       let is = course_none m room c n in rw is (replayed-none m.app m.from_text c)
-  course_replayed room c n (line ∷ lines) = go (is_exit line) refl
+  course_replayed room c n (line ∷ lines) = go (is_exit line) refl (λ r x. course_replayed r x (n + 1) lines)
     where
       go : (b : Bool) → is_exit line ≡ b
+          → ((r : Option ℕ) (x : Configuration L)
+          → replayed m.app m.from_text x (entries_of (course_of m r x (n + 1) lines).exchanges)
+          ≡ Some (course_of m r x (n + 1) lines).config)
           → replayed m.app m.from_text c (entries_of (course_of m room c n (line ∷ lines)).exchanges)
           ≡ Some (course_of m room c n (line ∷ lines)).config
-      go true ends = let is = course_exit m room c n line lines ends in rw is (replayed-none m.app m.from_text c)
-      go false stays =
+      go true ends more =
+          let is = course_exit m room c n line lines ends in rw is (replayed-none m.app m.from_text c)
+      go false stays more =
           let is = course_more m room c n line lines stays in
           let e : Exchange = exchange m room c n (line_of m.names line) in
           let after : Configuration L = config_after m room c n (line_of m.names line) in
@@ -153,4 +163,4 @@ module _ {L : Type 0} (m : Meaning L) where
           (replayed_on m.app m.from_text c after e.entries
           (entries_of (course_of m (room_after room e.entries) after (n + 1) lines).exchanges)
           (exchange_replayed m c room n (line_of m.names line))
-          ∙ course_replayed (room_after room e.entries) after (n + 1) lines)
+          ∙ more (room_after room e.entries) after)

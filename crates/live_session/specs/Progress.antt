@@ -1,10 +1,12 @@
 -- How far a session is: what the clauses of private functions cite.
-use Rattle.std.specs.Prelude.{◌≡◌, ℕ, ◌+◌, Bool, true, false, List, ◌++◌, take, Option}
+use Rattle.std.specs.Prelude.{◌≡◌, ℕ, ◌+◌, Bool, true, false, if◌then◌else◌, List, [], ◌∷◌, ◌++◌, take, Option}
 use Rattle.std.specs.Io.KnownBytes.{Appends, Keeps}
 use Rattle.action_tables.specs.Cuts.{HasNo}
 use Rattle.action_tables.specs.Written.{AppendsPrefix}
 use Rattle.reset_model.specs.Configuration.{Configuration}
+use Rattle.reset_model.specs.declared.event.Event.{Event}
 use Rattle.history.specs.declared.entry.Entry.{Entry}
+use Rattle.history.specs.declared.entry.Entry.TheVariants as entry
 use Rattle.script_replay.specs.Lines.{lines_of}
 use Rattle.script_replay.specs.Meaning.{Meaning}
 use Rattle.script_replay.specs.Script.{line_of}
@@ -23,6 +25,10 @@ pub record HasActed (room : Option ℕ) (answer : List ℕ) (entries : List Entr
   pub room_is : left ≡ room_after room entries
   pub answers_are : new.answers.items ≡ old.answers.items ++ answer
   pub entries_are : new.entries.items ≡ old.entries.items ++ kept_lines room entries
+
+-- the entry of an event, if it was applied
+abbrev pub entry_if : Bool → Event → List Entry
+entry_if applied e = if applied then entry.Step e ∷ [] else []
 
 -- the n-th line was answered
 pub record IsAnswered {L : Type 0} (m : Meaning L) (room : Option ℕ) (c : Configuration L) (n : ℕ) (line : Line)
@@ -60,17 +66,21 @@ pub record Start (L : Type 0) : Type 0 where
   pub log : Option (List ℕ)
   pub out : Option (List ℕ)
 
--- after these bytes were read: which exchanges were written and which are held back, and how the session goes on with
--- the bytes that come
-pub record Goes {L : Type 0} (m : Meaning L) (s : Start L) (given : List ℕ) (on : List ℕ → Course L) (batch : Batch)
+-- which exchanges were written and which are held back, and how the session goes on in each future, of which it has this
+-- text
+pub record Goes {F L : Type 0} (m : Meaning L) (s : Start L) (text : F → List ℕ) (on : F → Course L) (batch : Batch)
     (log out : Option (List ℕ)) : Type 0 where
   pub sent : List Exchange
   pub held : List Exchange
-  pub goes_on : (more : List ℕ) → course m s.room s.config (given ++ more) ≡ led_by (sent ++ held) (on more)
+  pub goes_on : (more : F) → course m s.room s.config (text more) ≡ led_by (sent ++ held) (on more)
   pub kept : Appends s.log log (kept_text s.room sent)
   pub answered : Appends s.out out (answers_text sent)
   pub entries : batch.entries.items ≡ kept_text s.room held
   pub answers : batch.answers.items ≡ answers_text held
+
+-- after these bytes were read, with those that come
+abbrev pub after : List ℕ → List ℕ → List ℕ
+after given more = given ++ more
 
 -- it is within this line
 pub record IsWithin {P L : Type 0} (m : Meaning L) (s : Start L) (given line : List ℕ) (now : Session P L)
@@ -79,7 +89,7 @@ pub record IsWithin {P L : Type 0} (m : Meaning L) (s : Start L) (given line : L
   pub unbroken : HasNo 10 line
   -- both keep a history, or neither does
   pub alike : (entries : List Entry) → kept_lines now.room entries ≡ kept_lines s.room entries
-  pub goes : Goes m s given (λ more. course_of m now.room now.config now.number (lines_of (line ++ more))) now.batch log out
+  pub goes : Goes m s (after given) (λ more. course_of m now.room now.config now.number (lines_of (line ++ more))) now.batch log out
 
 abbrev pub IsAt : {P L : Type 0} → Meaning L → Start L → List ℕ → Session P L → Option (List ℕ) → Option (List ℕ)
     → Type 0
@@ -88,7 +98,13 @@ IsAt m s given now log out = (line : List ℕ) × IsWithin m s given line now lo
 -- it has ended, whatever comes
 abbrev pub HasEnded : {P L : Type 0} → Meaning L → Start L → List ℕ → Session P L → Option (List ℕ) → Option (List ℕ)
     → Type 0
-HasEnded m s given now log out = Goes m s given (λ more. rested now.config) now.batch log out
+HasEnded m s given now log out = Goes m s (after given) (λ more. rested now.config) now.batch log out
+
+-- it has ended with this text
+abbrev pub HasEndedWith : {P L : Type 0} → Meaning L → Start L → List ℕ → Session P L → Option (List ℕ)
+    → Option (List ℕ) → Type 0
+HasEndedWith m s text now log out =
+    Goes {F = Unit {0}} m s (λ only. text) (λ only. rested now.config) now.batch log out
 
 abbrev pub Comes : {P L : Type 0} → Bool → Meaning L → Start L → List ℕ → Session P L → Option (List ℕ)
     → Option (List ℕ) → Type 0

@@ -10,7 +10,8 @@ ghost use Rattle.script_replay.specs.Recorded.{event_entry, fault_entry, line_en
 ghost use Rattle.script_replay.specs.declared.script.Command.TheVariants.{Watch};
 ghost use Rattle.script_replay.specs.declared.script.Line.TheVariants.{Asks};
 ghost use Rattle.live_session.specs.Course.{is_full, kept_lines, room_after};
-ghost use Rattle.live_session.specs.Progress.{HasActed};
+ghost use Rattle.live_session.specs.Progress.{HasActed, entry_if};
+ghost use Rattle.reset_model.specs.declared.event.Event.TheVariants.{Request};
 
 use crate::batch::Batch;
 use action_tables::{WriteFault, put_bytes};
@@ -18,7 +19,9 @@ use app_interface::Application;
 use fault_inject::{Fault, FaultRefusal, inject, write_fault};
 use link_predicates::alarm;
 use reset_machine::{Config, Event, StepRefusal, write_event};
-use script_replay::{answer_alarm, drawn, fault_refusal_line, put_drawn, put_refusal, put_reply};
+use script_replay::{
+    Command, answer_command, drawn, fault_refusal_line, put_drawn, put_refusal, put_reply,
+};
 use std::alloc::{AllocError, Global};
 
 /// Does what the event says, and holds its answer and, where it was applied, its entry. The answer is the room that is
@@ -115,10 +118,48 @@ pub fn act_watch<P: Application>(
         (line_entries (meaning_of P.app P.text P.from_text P.names) config.old (Asks (Watch at))) left
         batch.old batch.new) }
 {
-    gathered(answer_alarm(config, at, &mut batch.answers))?;
+    let asks = asks_for_reset(alloc, config, at)?;
+    match answer_command(alloc, config, Command::Watch(at), &mut batch.answers) {
+        Ok(()) => {}
+        Err(_) => return Err(AllocError),
+    }
+    if asks {
+        keep_event(room, Event::Request { at }, &mut batch.entries)
+    } else {
+        Ok(room)
+    }
+}
+
+// Whether a node that watches asks for a reset: it has an alarm, and its request is applied.
+fn asks_for_reset<P: Application>(
+    alloc: Global,
+    config: &Config<P>,
+    at: u32,
+) -> Result<bool, AllocError>
+    ensures { IfOk result (λ asks. line_entries (meaning_of P.app P.text P.from_text P.names) config.now (Asks (Watch at))
+        ≡ entry_if asks (Request at)) }
+{
     match alarm(config, at) {
-        None => Ok(room),
-        Some(_) => act_event(alloc, config, room, Event::Request { at }, batch),
+        None => Ok(false),
+        Some(_) => is_applied(alloc, config, Event::Request { at }),
+    }
+}
+
+// Whether the event would be applied, as a copy shows: few nodes watch.
+fn is_applied<P: Application>(
+    alloc: Global,
+    config: &Config<P>,
+    event: Event,
+) -> Result<bool, AllocError>
+    ensures { IfOk result (λ applied. event_entry event (outcome_of P.app config.now event) ≡ entry_if applied event) }
+{
+    let mut copy = config.copy(alloc)?;
+    let stepped = copy.step(alloc, event);
+    drop(copy);
+    match stepped {
+        Ok(_) => Ok(true),
+        Err(StepRefusal::NoMemory) => Err(AllocError),
+        Err(_) => Ok(false),
     }
 }
 

@@ -2,6 +2,7 @@
 
 ghost use Rattle.std.specs.Prelude.{◌≡◌, ◌++◌, ℕ, IfOk, OnOk};
 ghost use Rattle.script_replay.specs.Meaning.{meaning_of};
+ghost use Rattle.script_replay.specs.Output.{answered};
 ghost use Rattle.script_replay.specs.Script.{line_of};
 ghost use Rattle.script_replay.specs.declared.script.Command.TheVariants.{Step};
 ghost use Rattle.script_replay.specs.declared.script.Line.TheVariants.{Asks};
@@ -102,6 +103,11 @@ fn answer_question<P: Application>(
     command: Command,
     batch: &mut Batch,
 ) -> Result<(), AllocError>
+    ensures config { OnOk result
+        (config.new ≡ (answered (meaning_of P.app P.text P.from_text P.names) config.old command).0) }
+    ensures answers { OnOk result (batch.new.answers.items ≡ batch.old.answers.items
+        ++ (answered (meaning_of P.app P.text P.from_text P.names) config.old command).1) }
+    ensures entries { OnOk result (batch.new.entries.items ≡ batch.old.entries.items) }
 {
     match answer_command(alloc, config, command, &mut batch.answers) {
         Ok(()) => Ok(()),

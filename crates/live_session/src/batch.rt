@@ -39,11 +39,7 @@ impl Batch {
     }
 
     /// Writes and flushes the entries, and then the answers: no answer is written before the entries are safe.
-    pub fn commit<H: Write, W: Write>(
-        &mut self,
-        log: &mut H,
-        out: &mut W,
-    ) -> Result<(), WriteFault>
+    pub fn commit<H: Write, W: Write>(&mut self, log: &mut H, out: &mut W) -> Result<(), WriteFault>
         ensures log { OnOk result (Appends (H.contents log.old) (H.contents log.new) self.old.entries.items) }
         ensures out { OnOk result (Appends (W.contents out.old) (W.contents out.new) self.old.answers.items) }
         ensures entries { OnOk result (self.new.entries.items ≡ []) }

@@ -124,11 +124,7 @@ fn put_resumed<H: Write, W: Write>(
     }
 }
 
-fn put_resumed_line<W: Write>(
-    out: &mut W,
-    entries: usize,
-    reports: usize,
-) -> Result<(), WriteFault>
+fn put_resumed_line<W: Write>(out: &mut W, entries: usize, reports: usize) -> Result<(), WriteFault>
     ensures ok { OnOk result (Appends (W.contents out.old) (W.contents out.new) (resumed_text entries reports)) }
     ensures err { OnErr result (AppendsPrefix (W.contents out.old) (W.contents out.new) (resumed_text entries reports)) }
 {

@@ -1,6 +1,6 @@
 // Sessions.
 
-ghost use Rattle.std.specs.Prelude.{◌≡◌, ◌+◌, ◌<◌, ◌^◌, ◌++◌, [], false, ℕ, List, length, IfOk, OnErr, OnOk};
+ghost use Rattle.std.specs.Prelude.{◌≡◌, ◌+◌, ◌<◌, ◌≤◌, ◌^◌, ◌++◌, [], false, ℕ, List, length, IfOk, OnErr, OnOk};
 ghost use Rattle.history.specs.HistoryText.{IsReadWhole};
 ghost use Rattle.script_replay.specs.Parts.{HasFitting, next_text};
 ghost use Rattle.script_replay.specs.Meaning.{meaning_of};
@@ -54,28 +54,15 @@ pub fn run_session<P: Application, R: Read, H: Write, W: Write>(
         (H.contents log.old) (H.contents log.new) (W.contents out.old) (W.contents out.new)) }
 {
     let mut session = Session::new(alloc, config, room);
-    let mut chunk = [0; CHUNK];
-    for _ in 0..u64::MAX {
-        match session.batch.commit(log, out) {
-            Ok(()) => {}
-            Err(WriteFault) => return Err(RunStop::WriteFailed),
-        }
-        let Ok(count) = input.read(&mut chunk) else {
-            return Err(RunStop::ReadFailed);
-        };
-        if session.number > MOST_LINES {
-            return Err(RunStop::ReadFailed);
-        }
-        if count == 0 {
-            return session.end(alloc, log, out);
-        }
-        match session.take_bytes(alloc, &chunk[..count], log, out) {
-            Ok(false) => {}
-            Ok(true) => return session.leave(log, out),
-            Err(stop) => return Err(stop),
+    let ended = session.converse(alloc, input, log, out);
+    let left = session.into_config();
+    match ended {
+        Ok(()) => Ok(left),
+        Err(stop) => {
+            drop(left);
+            Err(stop)
         }
     }
-    Err(RunStop::ReadFailed)
 }
 
 // A session between two lines, or within one.
@@ -92,7 +79,7 @@ struct Session<P: Application> {
 }
 
 impl<P: Application> Session<P> {
-    ghost use Rattle.live_session.specs.Progress.{Comes, HasDone, HasEnded, HasTaken, IsAt, IsCut, IsFront, Start};
+    ghost use Rattle.live_session.specs.Progress.{Comes, HasDone, HasEndedWith, HasTaken, IsAt, IsCut, IsFront, Start};
 
     // Before the first line.
     fn new(alloc: Global, config: Config<P>, room: Option<u64>) -> Session<P>
@@ -126,20 +113,64 @@ impl<P: Application> Session<P> {
         config
     }
 
+    // Answers the lines of a reader to its end, or to the line that ends the session.
+    fn converse<R: Read, H: Write, W: Write>(
+        &mut self,
+        alloc: Global,
+        input: &mut R,
+        log: &mut H,
+        out: &mut W,
+    ) -> Result<(), RunStop>
+        ensures done { OnOk result ((s : Start P.Local)
+            → IsAt (meaning_of P.app P.text P.from_text P.names) s [] self.old (H.contents log.old) (W.contents out.old)
+            → (text : List ℕ) × IsReadWhole (R.remaining input.old) text
+            × HasDone (meaning_of P.app P.text P.from_text P.names) s text self.new.config (H.contents log.new)
+            (W.contents out.new)) }
+        ensures cut { OnErr result ((s : Start P.Local)
+            → IsAt (meaning_of P.app P.text P.from_text P.names) s [] self.old (H.contents log.old) (W.contents out.old)
+            → (text : List ℕ) × IsReadWhole (R.remaining input.old) text
+            × IsCut (meaning_of P.app P.text P.from_text P.names) s text (H.contents log.new) (W.contents out.new)) }
+    {
+        let mut chunk = [0; CHUNK];
+        for _ in 0..u64::MAX {
+            match self.batch.commit(log, out) {
+                Ok(()) => {}
+                Err(WriteFault) => return Err(RunStop::WriteFailed),
+            }
+            let Ok(count) = input.read(&mut chunk) else {
+                return Err(RunStop::ReadFailed);
+            };
+            if self.number > MOST_LINES {
+                return Err(RunStop::ReadFailed);
+            }
+            if count == 0 {
+                return self.end(alloc, log, out);
+            }
+            match self.take_bytes(alloc, &chunk[..count], log, out) {
+                Ok(false) => {}
+                Ok(true) => return self.leave(log, out),
+                Err(stop) => return Err(stop),
+            }
+        }
+        Err(RunStop::ReadFailed)
+    }
+
     // The input ends here, and with it the last line, which has no line feed.
     fn end<H: Write, W: Write>(
-        mut self,
+        &mut self,
         alloc: Global,
         log: &mut H,
         out: &mut W,
-    ) -> Result<Config<P>, RunStop>
-        requires { self.number + 1 < 2 ^ 64 }
-        ensures done { IfOk result (λ left. (s : Start P.Local) (given : List ℕ)
-            → IsAt (meaning_of P.app P.text P.from_text P.names) s given self (H.contents log.old) (W.contents out.old)
-            → HasDone (meaning_of P.app P.text P.from_text P.names) s given left (H.contents log.new)
+    ) -> Result<(), RunStop>
+        requires { self.old.number + 1 < 2 ^ 64 }
+        ensures done { OnOk result ((s : Start P.Local) (given : List ℕ)
+            → IsAt (meaning_of P.app P.text P.from_text P.names) s given self.old (H.contents log.old)
+            (W.contents out.old)
+            → HasDone (meaning_of P.app P.text P.from_text P.names) s given self.new.config (H.contents log.new)
             (W.contents out.new)) }
         ensures cut { OnErr result ((s : Start P.Local) (given : List ℕ)
-            → IsAt (meaning_of P.app P.text P.from_text P.names) s given self (H.contents log.old) (W.contents out.old)
+            → IsAt (meaning_of P.app P.text P.from_text P.names) s given self.old (H.contents log.old)
+            (W.contents out.old)
             → IsCut (meaning_of P.app P.text P.from_text P.names) s given (H.contents log.new) (W.contents out.new)) }
     {
         match self.take_partial(alloc) {
@@ -148,21 +179,20 @@ impl<P: Application> Session<P> {
         }
     }
 
-    // Writes what is held back, and hands the configuration back.
-    fn leave<H: Write, W: Write>(mut self, log: &mut H, out: &mut W) -> Result<Config<P>, RunStop>
-        ensures done { IfOk result (λ left. (s : Start P.Local) (given more : List ℕ)
-            → HasEnded (meaning_of P.app P.text P.from_text P.names) s given self (H.contents log.old)
+    // Writes what is held back, when the session has ended.
+    fn leave<H: Write, W: Write>(&mut self, log: &mut H, out: &mut W) -> Result<(), RunStop>
+        ensures done { OnOk result ((s : Start P.Local) (text : List ℕ)
+            → HasEndedWith (meaning_of P.app P.text P.from_text P.names) s text self.old (H.contents log.old)
             (W.contents out.old)
-            → HasDone (meaning_of P.app P.text P.from_text P.names) s (given ++ more) left (H.contents log.new)
+            → HasDone (meaning_of P.app P.text P.from_text P.names) s text self.new.config (H.contents log.new)
             (W.contents out.new)) }
-        ensures cut { OnErr result ((s : Start P.Local) (given more : List ℕ)
-            → HasEnded (meaning_of P.app P.text P.from_text P.names) s given self (H.contents log.old)
+        ensures cut { OnErr result ((s : Start P.Local) (text : List ℕ)
+            → HasEndedWith (meaning_of P.app P.text P.from_text P.names) s text self.old (H.contents log.old)
             (W.contents out.old)
-            → IsCut (meaning_of P.app P.text P.from_text P.names) s (given ++ more) (H.contents log.new)
-            (W.contents out.new)) }
+            → IsCut (meaning_of P.app P.text P.from_text P.names) s text (H.contents log.new) (W.contents out.new)) }
     {
         match self.batch.commit(log, out) {
-            Ok(()) => Ok(self.into_config()),
+            Ok(()) => Ok(()),
             Err(WriteFault) => Err(RunStop::WriteFailed),
         }
     }
@@ -283,6 +313,7 @@ impl<P: Application> Session<P> {
         ensures taken { IfOk result (λ ends. HasTaken (meaning_of P.app P.text P.from_text P.names) text.now ends
             self.old self.new) }
         ensures partial { self.new.partial ≡ self.old.partial }
+        ensures number { OnOk result (self.new.number ≤ self.old.number + 1) }
     {
         if is_exit(text) {
             return Ok(true);
@@ -305,6 +336,7 @@ impl<P: Application> Session<P> {
         ensures taken { IfOk result (λ ends. (line : List ℕ) → IsFront self.old.partial.items line
             → HasTaken (meaning_of P.app P.text P.from_text P.names) (line ++ bytes.now) ends self.old self.new) }
         ensures partial { OnOk result (self.new.partial.items ≡ []) }
+        ensures number { OnOk result (self.new.number ≤ self.old.number + 1) }
     {
         match go_on(&mut self.partial, bytes) {
             Ok(()) => self.take_partial(alloc),
@@ -318,6 +350,7 @@ impl<P: Application> Session<P> {
         ensures taken { IfOk result (λ ends. (line : List ℕ) → IsFront self.old.partial.items line
             → HasTaken (meaning_of P.app P.text P.from_text P.names) line ends self.old self.new) }
         ensures partial { OnOk result (self.new.partial.items ≡ []) }
+        ensures number { OnOk result (self.new.number ≤ self.old.number + 1) }
     {
         let line = mem::replace(&mut self.partial, Vec::new(alloc));
         self.take_text(alloc, &line)

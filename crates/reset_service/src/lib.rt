@@ -16,6 +16,7 @@ mod pictured;
 mod planned;
 mod recorded;
 mod refusal_explanations;
+mod session;
 mod shaped;
 mod started;
 mod tables;
@@ -43,6 +44,7 @@ pub use script_replay::{
     one_record, read_text, record_text, recordings_are_replays, replay, replay_joined, replay_text,
     scripts_are_steps, stretches_are_runs,
 };
+pub use session::{Past, session_text};
 pub use shaped::write_shape;
 pub use started::{MAX_SNAPSHOT, check_from, replay_from};
 pub use tables::print_tables;

@@ -95,7 +95,9 @@ fn create_part<R: Files + Eprint>(rt: &R, part: &str) -> Result<R::File, RunStop
         Ok(file) => Ok(file),
         Err(error) => {
             if error.kind() == io::ErrorKind::AlreadyExists {
-                let _ = eprintln!(rt; "{part} is there: a run is writing it, or was cut off and left it");
+                let _ = eprintln!(rt;
+                    "{part} is there: a run is writing it, or was cut off and left it"
+                );
             }
             Err(write_stop(error))
         }
@@ -181,6 +183,12 @@ pub fn is_input<R: Files>(rt: &R, path: &str, inputs: &[Option<&str>]) -> bool {
         Ok(file) => file.is_file() && names_one(rt, &file, inputs),
         Err(_) => false,
     }
+}
+
+/// Says that the file of a history is an input too, before it is opened.
+pub fn refuse_history<R: Eprint>(rt: &R) -> Result<Status, RunStop> {
+    let _ = eprintln!(rt; "history is an input");
+    Ok(Status::BadInput)
 }
 
 // Whether one of the paths names this file.

@@ -6,11 +6,14 @@
 
 mod files;
 mod history_file;
+mod kept_file;
+mod live;
 mod progress;
 mod status;
 
 use crate::files::{open_file, read_file, read_snapshot};
-use crate::history_file::{create_history, is_input};
+use crate::history_file::{create_history, is_input, refuse_history};
+use crate::live::run_session;
 use crate::progress::{BelowLine, ProgressLine};
 use crate::status::exit_code;
 use action_tables::put_bytes;
@@ -99,8 +102,12 @@ fn do_job<R: Clock + Files + Input + Print + Eprint + AllocGlobal + Threads + Wa
     let writer = BelowLine::new(rt, line.as_ref(), io::writer(rt));
     let mut out = BufferedOutput::new(rt.alloc(), writer)?;
     let ended = match (long_name(&job), &line) {
-        (Some(name), Some(line)) => line.during(rt, name, || job_output(rt, job, &mut out)),
-        _ => job_output(rt, job, &mut out),
+        (Some(name), Some(line)) => line.during(
+            rt,
+            name,
+            || job_output(rt, terminal, job, &mut out),
+        ),
+        _ => job_output(rt, terminal, job, &mut out),
     };
     out.end(ended)
 }
@@ -117,6 +124,7 @@ fn long_name(job: &Job<'_>) -> Option<&'static str> {
 
 fn job_output<R: Files + Input + Eprint + AllocGlobal + Threads + Wait + Sync, W: Write>(
     rt: &R,
+    terminal: Stderr,
     job: Job<'_>,
     out: &mut W,
 ) -> Result<Status, RunStop> {
@@ -125,7 +133,8 @@ fn job_output<R: Files + Input + Eprint + AllocGlobal + Threads + Wait + Sync, W
         Job::Replay(paths) => run_replay(rt, paths, out),
         Job::Check(paths) => run_check(rt, paths, out),
         Job::Plan(words) => run_plan(rt, words, out),
-        Job::Session(_) | Job::Page(_) => not_written_yet(),
+        Job::Session(words) => run_session(rt, terminal, words, out),
+        Job::Page(_) => not_written_yet(),
         Job::Verify(paths) => run_verify(rt, paths, out),
         Job::Picture(paths) => run_picture(rt, paths, out),
         Job::Record(words) => run_record(rt, words, out),
@@ -137,7 +146,7 @@ fn job_output<R: Files + Input + Eprint + AllocGlobal + Threads + Wait + Sync, W
     }
 }
 
-// A session and a page, whose calls are to come.
+// A page, whose call is to come.
 fn not_written_yet() -> Result<Status, RunStop> {
     Err(RunStop::ReadFailed)
 }
@@ -241,14 +250,7 @@ fn run_record<R: Files + Eprint + AllocGlobal, W: Write>(
     let history = &mut kept.file;
     let ended = match snapshot {
         None => record_text(rt.alloc(), &topology, &mut script, history, out),
-        Some(snapshot) => record_from(
-            rt.alloc(),
-            &topology,
-            &snapshot,
-            &mut script,
-            history,
-            out,
-        ),
+        Some(snapshot) => record_from(rt.alloc(), &topology, &snapshot, &mut script, history, out),
     };
     kept.end(rt, out, ended)
 }
@@ -268,15 +270,7 @@ fn run_threads<R: Files + Eprint + AllocGlobal + Threads + Wait + Sync, W: Write
     let turns = words.turns;
     let ended = match snapshot {
         None => threads_text(rt, rt.alloc(), &topology, turns, history, out),
-        Some(snapshot) => threads_from(
-            rt,
-            rt.alloc(),
-            &topology,
-            &snapshot,
-            turns,
-            history,
-            out,
-        ),
+        Some(snapshot) => threads_from(rt, rt.alloc(), &topology, &snapshot, turns, history, out),
     };
     kept.end(rt, out, ended)
 }
@@ -303,12 +297,6 @@ fn run_drive<R: Files + Eprint + AllocGlobal, W: Write>(
         Some(snapshot) => drive_from(rt.alloc(), &topology, &snapshot, run, history, out),
     };
     kept.end(rt, out, ended)
-}
-
-// Tells that the file of a history is an input too, before it is opened.
-fn refuse_history<R: Eprint>(rt: &R) -> Result<Status, RunStop> {
-    let _ = eprintln!(rt; "history is an input");
-    Ok(Status::BadInput)
 }
 
 fn put_shape<R: AllocGlobal, W: Write>(
