@@ -6,10 +6,10 @@ use Rattle.reset_service.proofs.Starting.{all_up}
 use Rattle.reset_service.proofs.threaded.run_text_from.Goals as goal
 
 pub run_app_from-requires : goal.run_app_from-requires
-run_app_from-requires g c = record {
-  few = c.requires;
-  up = all_up c.args.topology.now c.in-Ok.network.topology c.in-Ok.network.app c.in-Ok.network.modulus c.in-Ok.ensures.ok;
-}
+run_app_from-requires g c =
+    let up = all_up c.args.topology.now c.in-Ok.network.topology c.in-Ok.network.app c.in-Ok.network.modulus
+    c.in-Ok.ensures.ok in
+    (search rules, (search rules, up))
 
 pub returns-in-Ok-clause-ok : goal.returns-in-Ok-clause-ok
 returns-in-Ok-clause-ok g c =
