@@ -1,0 +1,6 @@
+pub mod Down
+pub mod Harmless
+pub mod ReportCursor
+pub mod PutEntries
+pub mod Sequences
+pub mod Neighbours
