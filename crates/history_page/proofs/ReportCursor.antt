@@ -1,6 +1,6 @@
 -- The reports of entries in turn, of which those of the next entry stand first.
-use Rattle.std.proofs.Common.{◌≡◌, ℕ, zero, suc, ◌+◌, ◌<◌, ◌≤◌, ◌==◌, ◌⊎◌, inl, inr, List, [], ◌∷◌, ◌++◌, length, take, drop}
-use Rattle.std.proofs.Common.{◌≢◌, Bool, cond, nat_eq, true, false, Option, Some, None, Ok, Err, refl, ap, sym, ◌∙◌, arith}
+use Rattle.std.proofs.Common.{◌≡◌, ℕ, suc, ◌+◌, ◌<◌, ◌≤◌, ◌⊎◌, inl, inr, List, [], ◌∷◌, ◌++◌, length, take, drop}
+use Rattle.std.proofs.Common.{◌≢◌, Bool, cond, nat_eq, true, false, Option, Some, None, Ok, Err, refl, arith}
 use Rattle.std.specs.Option.{option_map_or}
 use Rattle.std.proofs.lemmas.Bool.Decides.{eqb_tells}
 use Rattle.app_interface.specs.Application.{App}
@@ -36,7 +36,6 @@ told_first place [] (r ∷ rs) here later = by (eqb_tells r.finished place)
   where
     Told : ℕ → Type 0
     Told n = (take n (r ∷ rs) ≡ []) × (drop n (r ∷ rs) ≡ r ∷ rs)
-
     by : ((nat_eq r.finished place ≡ true) × (r.finished ≡ place)) ⊎ ((nat_eq r.finished place ≡ false) × (r.finished ≢ place))
         → Told (cond (nat_eq r.finished place) 1 0)
     by (inl t) = absurd (omega (arith, later, t.1))
@@ -45,7 +44,6 @@ told_first place (r ∷ []) more here later = by (eqb_tells r.finished place)
   where
     Told : ℕ → Type 0
     Told n = (take n (r ∷ more) ≡ r ∷ []) × (drop n (r ∷ more) ≡ more)
-
     by : ((nat_eq r.finished place ≡ true) × (r.finished ≡ place)) ⊎ ((nat_eq r.finished place ≡ false) × (r.finished ≢ place))
         → Told (cond (nat_eq r.finished place) 1 0)
     by (inl t) = rw t.0 (refl, refl)

@@ -9,3 +9,4 @@ pub mod Tables
 pub mod Stepped
 pub mod Planned
 pub mod Started
+pub mod Page

@@ -12,6 +12,7 @@ mod driven;
 mod explained;
 mod laws;
 mod line;
+mod page;
 mod pictured;
 mod planned;
 mod refusal_explanations;
@@ -33,6 +34,7 @@ pub use laws::{
     one_verification, recordings_are_verified, threads_are_verified, threads_keep_a_run,
     verified_histories_tell_steps, verified_reports_are_true,
 };
+pub use page::{MAX_PLAYED, page_from, page_text};
 pub use pictured::{picture_from, picture_text};
 pub use planned::{plan_from, plan_text};
 pub use script_replay::{

@@ -1,5 +1,4 @@
-use Rattle.std.proofs.Common.{◌≡◌, ◌≢◌, sym, ◌∙◌, rules}
-use Rattle.reset_model.specs.declared.step.StepRefusal.TheVariants.{NoMemory}
+use Rattle.std.proofs.Common.{sym, ◌∙◌, rules}
 use Rattle.history_page.proofs.Down.{failing_down}
 use Rattle.history_page.proofs.changes.failing.Goals as goal
 
