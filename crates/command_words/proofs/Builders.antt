@@ -4,6 +4,7 @@ use Rattle.std.specs.Borrow.{Bor}
 use Rattle.clap.specs.Simple.{app_of_fields}
 use Rattle.clap.specs.Words.{AddsArg, AddsSubcommand, App, Rule, Text, new_rule, rule_of, with_rule}
 use Rattle.clap.specs.Words.{with_subcommand}
+use Rattle.clap.specs.declared.builder.action.ArgAction.{ArgAction}
 use Rattle.clap.specs.declared.builder.arg.Arg.{Arg}
 use Rattle.clap.specs.declared.builder.texts.Texts.TheVariants.{One}
 use Rattle.clap.specs.declared.builder.command.Command.{Command}
@@ -65,6 +66,14 @@ pub reads_required : (rule : Rule) (given : Bool) (old new : Arg) → IsWord rul
 unfolding IsWord
 reads_required rule given old new reads made = (
   ap rule_of made ∙ ap (λ (r : Rule). record r { required = given }) reads.0,
+  ap (λ (a : Arg). a.global) made ∙ reads.1,
+)
+
+pub reads_action : (rule : Rule) (does : ArgAction) (old new : Arg) → IsWord rule old
+    → new ≡ record old { action = Some does } → IsWord (record rule { action = Some does }) new
+unfolding IsWord
+reads_action rule does old new reads made = (
+  ap rule_of made ∙ ap (λ (r : Rule). record r { action = Some does }) reads.0,
   ap (λ (a : Arg). a.global) made ∙ reads.1,
 )
 

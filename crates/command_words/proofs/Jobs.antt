@@ -1,15 +1,17 @@
 -- The job of a subcommand that clap met, and the fault that stands for clap's error.
-use Rattle.std.proofs.Common.{◌≡◌, ◌∙◌, ◌<◌, ◌^◌, ℕ, refl, sym, subst, ap, arith, List, Option, Some, None}
+use Rattle.std.proofs.Common.{◌≡◌, ◌∙◌, ◌<◌, ◌^◌, ℕ, Bool, true, false, refl, sym, subst, ap, arith, codes, List}
+use Rattle.std.proofs.Common.{◌⊎◌, Option, Some, None}
 use Rattle.std.proofs.Common.{Result, Ok, Err, inl, inr}
 use Rattle.std.specs.Borrow.{Bor}
-use Rattle.std.specs.Prelude.{IfErr, IsErrAnd, IsSome, IsSomeAnd, option_map, unwrap_or}
+use Rattle.std.specs.Prelude.{IfErr, IfSome, IsErrAnd, IsSome, IsSomeAnd, option_map, unwrap_or}
+use Rattle.std.specs.Str.{bytes_eq}
 use Rattle.std.specs.Str.Parse.{ParsesUnsigned, digits_value, without_leading_plus}
 use Rattle.clap.specs.Words.{HasKind, Text, IsAmong, ReadsOne, first_of, kind_of, one_text, rows_of}
 use Rattle.clap.specs.declared.error.Error.{Error}
 use Rattle.clap.specs.declared.parser.matches.Found.{Found}
 use Rattle.clap.proofs.WalkLemmas.{one_text-rows}
-use Rattle.command_words.specs.Words.{HasNumber, IsFaultOf, IsNumberOr, IsNumberWithin, MayHaveNumber, StandsFor}
-use Rattle.command_words.specs.Words.{Writes, faults_of}
+use Rattle.command_words.specs.Words.{HasFlag, HasNumber, IsFaultOf, IsNumberOr, IsNumberWithin, MayHaveNumber}
+use Rattle.command_words.specs.Words.{StandsFor, Writes, faults_of, is_on}
 use Rattle.command_words.specs.declared.words.Job.{Job}
 use Rattle.command_words.specs.declared.words.LineFault.{LineFault}
 use Rattle.command_words.specs.declared.words.LineFault.TheVariants.{BadWords, NoMemory}
@@ -77,3 +79,17 @@ module _ (E : Type 0) (G : Text → Result ℕ E → Type 0)
       given : (o : Option Text) → IsNumberWithin least most o h.0 → IsNumberOr other least most o h.0
       given None is = absurd is.0
       given (Some t) is = is
+
+-- a flag is on where it is given
+pub flag_is : (name : Text) (f : Found) (b : Bool) → (one_text f name ≡ None → b ≡ false)
+    → (one_text f name ≡ Some (codes "true") → b ≡ true) → (one_text f name ≡ Some (codes "false") → b ≡ false)
+    → HasFlag name (rows_of f) → b ≡ is_on (first_of name (rows_of f))
+flag_is name f b none on off has = go (first_of name (rows_of f)) (one_text-rows f name ∙ has.1) has.0
+  where
+    go : (o : Option Text) → one_text f name ≡ o
+        → IfSome o (λ value. (value ≡ codes "true") ⊎ (value ≡ codes "false")) → b ≡ is_on o
+    go None text truth = none text
+    go (Some t) text (inl is) =
+        subst (λ (v : Text). b ≡ bytes_eq v (codes "true")) (sym is) (on (text ∙ ap Some is))
+    go (Some t) text (inr is) =
+        subst (λ (v : Text). b ≡ bytes_eq v (codes "true")) (sym is) (off (text ∙ ap Some is))

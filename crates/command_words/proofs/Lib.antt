@@ -3,4 +3,5 @@ pub mod Jobs
 pub mod PathRows
 pub mod NoHelp
 pub mod Values
+pub mod SessionAndPage
 pub mod Subcommands

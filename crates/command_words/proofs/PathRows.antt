@@ -1,6 +1,7 @@
 -- Each row of a walk in which clap finds no fault has values, and its argument takes them.
 use Rattle.std.proofs.Common.{◌≡◌, ◌∙◌, ◌<◌, ◌&&◌, ◌⊎◌, ℕ, Bool, cond, true, false, zero, suc, refl, sym, subst, ap}
 use Rattle.std.proofs.Common.{arith, inl, inr, not, List, [], ◌∷◌, ◌++◌, length, drop, Option, Some, None, true≢false}
+use Rattle.std.proofs.lemmas.Bool.{ltb-true}
 use Rattle.std.proofs.lemmas.List.{length-append}
 use Rattle.std.proofs.lemmas.Slice.Eq.{bytes_eq-Decides}
 use Rattle.std.specs.List.{fold}
@@ -25,8 +26,9 @@ use Rattle.clap.specs.Walk.{settled_rows, short_met, short_or_plain, stronger, s
 use Rattle.clap.specs.Walk.{takes_several, takes_values, to_positional, used, used_as, used_by_id, walk, walk_from}
 use Rattle.clap.specs.Walk.{walked, walked_from, with_default, with_values, without, word_met, done, waits, plain}
 use Rattle.clap.specs.Walk.{refused, idle, option, positional, next, trailing, subcommand, value}
+use Rattle.clap.specs.Walk.{default_rows, values_or_missing}
 use Rattle.clap.specs.declared.builder.action.ArgAction.{ArgAction}
-use Rattle.clap.specs.declared.builder.action.ArgAction.TheVariants.{Set, Help}
+use Rattle.clap.specs.declared.builder.action.ArgAction.TheVariants.{Set, SetTrue, Help}
 use Rattle.clap.specs.declared.error.kind.ErrorKind.TheVariants.{TooManyValues}
 use Rattle.clap.specs.declared.parser.matches.ValueSource.{ValueSource}
 
@@ -48,13 +50,22 @@ abbrev pub AreTaken : List Rule → List Row → Type 0
 AreTaken c [] = ⊤
 AreTaken c (r ∷ rs) = IsTaken (arg_by_id c r.id) r × AreTaken c rs
 
--- an argument that asks for help, or takes a value with each use and is the one of its id; it has no default
+-- an argument that takes a value with each use, has no default, and is the one of its id
 abbrev pub TakesValue : List Rule → Rule → Type 0
-TakesValue c a = (action_of a ≡ Set) × (nat_lt 0 (unwrap_or_range a.range).start_inclusive ≡ true)
+TakesValue c a = (a.defaults ≡ []) × (action_of a ≡ Set)
+    × (nat_lt 0 (unwrap_or_range a.range).start_inclusive ≡ true) × (arg_by_id c a.id ≡ Some a)
+
+-- one that asks for help
+abbrev pub AsksHelp : Rule → Type 0
+AsksHelp a = (a.defaults ≡ []) × (action_of a ≡ Help)
+
+-- a flag that is the one of its id, with a value for where it is given and a default that it takes
+abbrev pub IsFlag : List Rule → Rule → Type 0
+IsFlag c a = (values_fault a a.defaults ≡ []) × (action_of a ≡ SetTrue) × (nat_lt 0 (length a.missing) ≡ true)
     × (arg_by_id c a.id ≡ Some a)
 
 abbrev pub Fits : List Rule → Rule → Type 0
-Fits c a = (a.defaults ≡ []) × (TakesValue c a ⊎ (action_of a ≡ Help))
+Fits c a = TakesValue c a ⊎ (AsksHelp a ⊎ IsFlag c a)
 
 abbrev pub AllFit : List Rule → List Rule → Type 0
 AllFit c [] = ⊤
@@ -128,23 +139,39 @@ no_values least most some e =
     let bad = rw some at e in
     cc
 
+-- a flag has a value for where it is given
+some_given : (a : Rule) (values : List Text) → nat_lt 0 (length a.missing) ≡ true
+    → 0 < length (values_or_missing a values)
+some_given a [] some = ltb-true 0 (length a.missing) some
+some_given a (v ∷ vs) some = omega arith
+
 AreTaken-used : (c : List Rule) (again : Bool) (a : Rule) (values : List Text) (rows : List Row) → Fits c a
     → use_fault again a values rows ≡ [] → AreTaken c rows → AreTaken c (used a values rows)
-AreTaken-used c again a values rows (none, inr help) e f =
+AreTaken-used c again a values rows (inr (inl help)) e f =
     let parts =
     or_else-nil (range_kinds (unwrap_or_range a.range).start_inclusive (most_values a) (length values)) _ e in
-    let bad = rw help at parts.1 in
+    let bad = rw help.1 at parts.1 in
     absurd (cc)
-AreTaken-used c again a [] rows (none, inl fit) e f =
-    absurd (no_values _ (most_values a) fit.1 (or_else-nil (range_kinds _ (most_values a) 0) _ e).0)
-AreTaken-used c again a (v ∷ vs) rows (none, inl fit) e f =
+AreTaken-used c again a [] rows (inl fit) e f =
+    absurd (no_values _ (most_values a) fit.2 (or_else-nil (range_kinds _ (most_values a) 0) _ e).0)
+AreTaken-used c again a (v ∷ vs) rows (inl fit) e f =
     let parts =
     or_else-nil (range_kinds (unwrap_or_range a.range).start_inclusive (most_values a) (length (v ∷ vs))) _ e in
     let as_set : action_fault Set again a (v ∷ vs) rows ≡ [] =
-    subst (λ (x : ArgAction). action_fault x again a (v ∷ vs) rows ≡ []) fit.0 parts.1 in
+    subst (λ (x : ArgAction). action_fault x again a (v ∷ vs) rows ≡ []) fit.1 parts.1 in
     let passes = (or_else-nil (repeat_fault again a.id rows) _ as_set).1 in
-    subst (λ (x : ArgAction). AreTaken c (used_as x a.id (reading_by a) (v ∷ vs) rows)) (sym fit.0)
-    (AreTaken-with_values c a _ (v ∷ vs) (without a.id rows) fit.2 (omega arith) passes
+    subst (λ (x : ArgAction). AreTaken c (used_as x a.id (reading_by a) (v ∷ vs) rows)) (sym fit.1)
+    (AreTaken-with_values c a _ (v ∷ vs) (without a.id rows) fit.3 (omega arith) passes
+    (AreTaken-without c a.id rows f))
+AreTaken-used c again a values rows (inr (inr flag)) e f =
+    let given : List Text = values_or_missing a values in
+    let parts =
+    or_else-nil (range_kinds (unwrap_or_range a.range).start_inclusive (most_values a) (length values)) _ e in
+    let as_set : action_fault SetTrue again a given rows ≡ [] =
+    subst (λ (x : ArgAction). action_fault x again a given rows ≡ []) flag.1 parts.1 in
+    let passes = (or_else-nil (repeat_fault again a.id rows) _ as_set).1 in
+    subst (λ (x : ArgAction). AreTaken c (used_as x a.id (reading_by a) given rows)) (sym flag.1)
+    (AreTaken-with_values c a _ given (without a.id rows) flag.3 (some_given a values flag.2) passes
     (AreTaken-without c a.id rows f))
 
 -- ---- what is held
@@ -340,17 +367,33 @@ module _ (s : Shape) (fit : AllFit s.rules s.rules) where
 
 -- ---- after the walk
 
--- no argument has a default
-no_defaults : (c rest : List Rule) (rows : List Row) → AllFit c rest → fold with_default rows rest ≡ rows
-no_defaults c [] rows fit = refl
-no_defaults c (a ∷ rest) rows fit = ap (λ rs. fold with_default rs rest) same ∙ no_defaults c rest rows fit.1
+-- the argument of no default, and the flag of a default that it takes
+AreTaken-default_rows : (c : List Rule) (a : Rule) (rows : List Row) → Fits c a → AreTaken c rows
+    → AreTaken c (default_rows a.id (reading_by a) a.defaults rows)
+AreTaken-default_rows c a rows (inl fit) f =
+    subst (λ (ds : List Text). AreTaken c (default_rows a.id (reading_by a) ds rows)) (sym fit.0) f
+AreTaken-default_rows c a rows (inr (inl help)) f =
+    subst (λ (ds : List Text). AreTaken c (default_rows a.id (reading_by a) ds rows)) (sym help.0) f
+AreTaken-default_rows c a rows (inr (inr flag)) f = go a.defaults flag.0
   where
-    same : with_default rows a ≡ rows
-    same = rw fit.0.0 (go (has_row a.id rows))
-      where
-        go : (b : Bool) → cond b rows rows ≡ rows
-        go true = refl
-        go false = refl
+    go : (ds : List Text) → values_fault a ds ≡ [] → AreTaken c (default_rows a.id (reading_by a) ds rows)
+    go [] passes = f
+    go (d ∷ ds) passes = AreTaken-with_values c a _ (d ∷ ds) rows flag.3 (omega arith) passes f
+
+AreTaken-with_default : (c : List Rule) (a : Rule) (rows : List Row) → Fits c a → AreTaken c rows
+    → AreTaken c (with_default rows a)
+AreTaken-with_default c a rows fits f = go (has_row a.id rows) (AreTaken-default_rows c a rows fits f)
+  where
+    go : (b : Bool) → AreTaken c (default_rows a.id (reading_by a) a.defaults rows)
+        → AreTaken c (cond b rows (default_rows a.id (reading_by a) a.defaults rows))
+    go true defaulted = f
+    go false defaulted = defaulted
+
+AreTaken-defaults : (c rest : List Rule) (rows : List Row) → AllFit c rest → AreTaken c rows
+    → AreTaken c (fold with_default rows rest)
+AreTaken-defaults c [] rows fit f = f
+AreTaken-defaults c (a ∷ rest) rows fit f =
+    AreTaken-defaults c rest (with_default rows a) fit.1 (AreTaken-with_default c a rows fit.0 f)
 
 -- clap finds no fault in the words behind the subcommand
 abbrev pub TakesWords : Shape → List Text → Type 0
@@ -362,7 +405,7 @@ rows_taken s fit words e =
     let end = (walk s.rules [] nothing_held words).held in
     let walked_well = or_else-nil (walk_fault s [] (walk_from nothing_held) words) _ e in
     let settled_well = or_else-nil (settle_fault s.rules s.args_override_self end) _ walked_well.1 in
-    subst (AreTaken s.rules) (sym (no_defaults s.rules s.rules (settled s.rules end).rows fit))
+    AreTaken-defaults s.rules s.rules (settled s.rules end).rows fit
     (Taken-settled s.rules s.args_override_self fit end settled_well.0
     (Taken-walk s fit [] (walk_from nothing_held) words walked_well.0 tt))
 

@@ -1,6 +1,7 @@
--- Values that were found for arguments: texts, and numbers of a range.
+-- Values that were found for arguments: texts, numbers of a range, and flags.
 use Rattle.std.proofs.Common.{◌≡◌, ◌∙◌, ◌<◌, ◌||◌, not, ℕ, Bool, cond, true, false, refl, sym, ap, subst}
-use Rattle.std.proofs.Common.{arith, List, [], ◌∷◌, length, Option, Some, None, inl, inr}
+use Rattle.std.proofs.Common.{arith, codes, List, [], ◌∷◌, length, Option, Some, None, inl, inr}
+use Rattle.std.proofs.lemmas.Slice.Eq.{bytes_eq-Decides}
 use Rattle.std.specs.Str.{bytes_eq}
 use Rattle.std.specs.Str.Parse.{digits_value, without_leading_plus}
 use Rattle.std.specs.Prelude.{◌⊎◌, IfSome, IsSome, find, option_and_then, option_map}
@@ -11,14 +12,14 @@ use Rattle.clap.specs.Takes.{is_given}
 use Rattle.clap.specs.ValueTests.{accepts}
 use Rattle.clap.specs.Values.{IsUnsignedIn}
 use Rattle.clap.specs.Faults.{values_fault}
-use Rattle.clap.specs.declared.builder.value_parser.ValueParser.TheVariants.{Unsigned}
+use Rattle.clap.specs.declared.builder.value_parser.ValueParser.TheVariants.{Unsigned, Bool as Flags}
 use Rattle.clap.specs.declared.error.ErrorKind.{ErrorKind}
 use Rattle.clap.specs.Walk.{arg_by_id}
 use Rattle.clap.specs.Walk.{row_text}
 use Rattle.clap.proofs.ValueTestLemmas.{accepts-Accepts}
 use Rattle.clap.specs.declared.builder.value_parser.Reading.TheVariants.{AsWritten}
 use Rattle.clap.specs.Walk.{reading_by}
-use Rattle.command_words.specs.Words.{HasNumber}
+use Rattle.command_words.specs.Words.{HasFlag, HasNumber}
 use Rattle.command_words.specs.Words.{IsNumberWithin, MayHaveNumber}
 use Rattle.command_words.proofs.PathRows.{AreTaken, IsTaken, given_row}
 use Rattle.command_words.proofs.PathRows.{row_taken}
@@ -124,3 +125,43 @@ number_or_none least most c id a rows numbers is taken =
     go None none = inl (refl, refl)
     go (Some r) some =
         inr (row_has_number least most a numbers r (subst (λ (x : Option Rule). IsTaken x r) is some))
+
+-- ---- flags
+
+-- an argument whose values are `true` and `false`
+pub record IsOfFlags (a : Rule) : Type 0 where
+  pub passes : (v : Text) (vs : List Text) → values_fault a (v ∷ vs) ≡ [] → accepts false Flags v ≡ true
+  pub reading : reading_by a ≡ AsWritten
+
+abbrev IsTruth : Text → Type 0
+IsTruth v = (v ≡ codes "true") ⊎ (v ≡ codes "false")
+
+is_truth : (v : Text) → accepts false Flags v ≡ true → IsTruth v
+is_truth v = go (bytes_eq v (codes "true")) refl
+  where
+    go : (b : Bool) → bytes_eq v (codes "true") ≡ b → (b || bytes_eq v (codes "false")) ≡ true → IsTruth v
+    go true e passed = inl ((bytes_eq-Decides v (codes "true")).0 e)
+    go false e passed = inr ((bytes_eq-Decides v (codes "false")).0 passed)
+
+-- what was found of a flag is `true` or `false`, if there is something, and is read as it was written
+pub flag_found : (c : List Rule) (id : Text) (a : Rule) (rows : List Row) → IsOfFlags a → arg_by_id c id ≡ Some a
+    → AreTaken c rows → HasFlag id rows
+flag_found c id a rows flags is taken = go (find (λ x. bytes_eq x.id id) rows) (row_taken c id rows taken)
+  where
+    of_values : (r : Row) (values : List Text) → values_fault a values ≡ [] → IfSome (slice_get values 0) IsTruth
+    of_values r [] e = tt
+    of_values r (v ∷ vs) e = is_truth v (flags.passes v vs e)
+
+    of_row : (r : Row) → IsTaken (Some a) r
+        → IfSome (slice_get r.values 0) IsTruth × (row_text r ≡ slice_get r.values 0)
+    of_row r of_a = (
+      of_values r r.values of_a.1,
+      ap (λ how. option_map (read_as how) (slice_get r.values 0)) (of_a.2 ∙ flags.reading)
+          ∙ read_as_written (slice_get r.values 0),
+    )
+
+    go : (o : Option Row) → IfSome o (IsTaken (arg_by_id c id))
+        → IfSome (option_and_then (λ r. slice_get r.values 0) o) IsTruth
+        × (option_and_then row_text o ≡ option_and_then (λ r. slice_get r.values 0) o)
+    go None none = (tt, refl)
+    go (Some r) some = of_row r (subst (λ (x : Option Rule). IsTaken x r) is some)

@@ -1,11 +1,13 @@
 -- What the words of the command line ask for, by clap's own definition of what a command makes of words.
-use Rattle.std.specs.Prelude.{◌≡◌, ◌≢◌, ◌≤◌, ◌⊎◌, ⊤, ℕ, true, false, List, codes, Option, Some, None, IsSome}
-use Rattle.std.specs.Prelude.{IsSomeAnd}
+use Rattle.std.specs.Prelude.{◌≡◌, ◌≢◌, ◌≤◌, ◌⊎◌, ⊤, ℕ, Bool, not, true, false, List, codes, Option, Some, None, IsSome}
+use Rattle.std.specs.Prelude.{IfSome, IsSomeAnd}
 use Rattle.std.specs.Prelude.{option_and_then, option_map}
+use Rattle.std.specs.Str.{bytes_eq}
 use Rattle.std.specs.Str.Parse.{IsNumeral, digits_value, without_leading_plus}
 use Rattle.clap.specs.Words.{App, Kinds, Row, Rule, Text, IsAmong, app_of, fault_of, first_of, kind_of}
 use Rattle.clap.specs.Words.{new_app, new_rule, one_of, rule_of, subcommand_of, with_rule, with_subcommand}
 use Rattle.clap.specs.Simple.{on_top}
+use Rattle.clap.specs.declared.builder.action.ArgAction.TheVariants.{SetTrue}
 use Rattle.clap.specs.declared.builder.arg.Arg.{Arg}
 use Rattle.clap.specs.declared.builder.command.Command.{Command}
 use Rattle.clap.specs.declared.builder.command.Command.TheViews.{out-Command as fields_of}
@@ -14,13 +16,15 @@ use Rattle.clap.specs.declared.error.Error.{Error}
 use Rattle.clap.specs.declared.error.ErrorKind.TheVariants.{OutOfMemory}
 use Rattle.command_words.specs.declared.words.Job.{Job}
 use Rattle.command_words.specs.declared.words.Job.TheVariants.{Joined, Replay, Check, Verify, Picture, Record, Threads}
-use Rattle.command_words.specs.declared.words.Job.TheVariants.{Drive, Plan, Shape, Explain, Tables}
+use Rattle.command_words.specs.declared.words.Job.TheVariants.{Drive, Plan, Session, Page, Shape, Explain, Tables}
 use Rattle.command_words.specs.declared.words.LineFault.{LineFault}
 use Rattle.command_words.specs.declared.words.Paths.{Paths}
 use Rattle.command_words.specs.declared.words.LineFault.TheVariants.{BadWords, NoMemory}
 use Rattle.command_words.specs.declared.drive_words.DriveWords.{DriveWords}
+use Rattle.command_words.specs.declared.page_words.PageWords.{PageWords}
 use Rattle.command_words.specs.declared.plan_words.PlanWords.{PlanWords}
 use Rattle.command_words.specs.declared.record_words.RecordWords.{RecordWords}
+use Rattle.command_words.specs.declared.session_words.SessionWords.{SessionWords}
 use Rattle.command_words.specs.declared.shape_words.ShapeWords.{ShapeWords}
 use Rattle.command_words.specs.declared.thread_words.ThreadWords.{ThreadWords}
 
@@ -46,6 +50,10 @@ number_option name least most = within least most (file_option name)
 abbrev pub optional : Rule → Rule
 optional rule = record rule { required = false }
 
+-- a flag, which may be left out: `--NAME`
+abbrev pub flag : Text → Rule
+flag name = record (new_rule name) { long = Some name; action = Some SetTrue }
+
 -- the path of a snapshot, which may be left out: `--from SNAPSHOT`
 abbrev pub from_option : Rule
 from_option = optional (file_option (codes "from"))
@@ -62,29 +70,48 @@ plan_command =
     (with_rule (with_rule (new_app (codes "plan")) (path (codes "TOPOLOGY"))) (optional (path (codes "SCRIPT"))))
     from_option
 
--- `record TOPOLOGY SCRIPT --history FILE`
+-- `session TOPOLOGY [--from SNAPSHOT] [--history FILE] [--no-sync]`
+unfoldable pub session_command : App
+session_command =
+    with_rule
+    (with_rule
+    (with_rule (with_rule (new_app (codes "session")) (path (codes "TOPOLOGY"))) from_option)
+    (optional (file_option (codes "history")))) (flag (codes "no-sync"))
+
+-- `page TOPOLOGY HISTORY [--from SNAPSHOT] [--title TEXT]`
+unfoldable pub page_command : App
+page_command =
+    with_rule
+    (with_rule
+    (with_rule (with_rule (new_app (codes "page")) (path (codes "TOPOLOGY"))) (path (codes "HISTORY")))
+    from_option) (optional (file_option (codes "title")))
+
+-- `record TOPOLOGY SCRIPT --history FILE [--from SNAPSHOT]`
 unfoldable pub record_command : App
 record_command =
     with_rule
+    (with_rule
     (with_rule (with_rule (new_app (codes "record")) (path (codes "TOPOLOGY"))) (path (codes "SCRIPT")))
-    (file_option (codes "history"))
+    (file_option (codes "history"))) from_option
 
--- `threads TOPOLOGY --turns N --history FILE`
+-- `threads TOPOLOGY --turns N --history FILE [--from SNAPSHOT]`
 unfoldable pub threads_command : App
 threads_command =
     with_rule
+    (with_rule
     (with_rule (with_rule (new_app (codes "threads")) (path (codes "TOPOLOGY")))
-    (number_option (codes "turns") 1 100000)) (file_option (codes "history"))
+    (number_option (codes "turns") 1 100000)) (file_option (codes "history"))) from_option
 
--- `drive TOPOLOGY --steps N --seed S --history FILE [--faults P]`
+-- `drive TOPOLOGY --steps N --seed S --history FILE [--faults P] [--from SNAPSHOT]`
 unfoldable pub drive_command : App
 drive_command =
     with_rule
     (with_rule
     (with_rule
+    (with_rule
     (with_rule (with_rule (new_app (codes "drive")) (path (codes "TOPOLOGY")))
     (number_option (codes "steps") 1 1000000)) (number_option (codes "seed") 0 4294967295))
-    (file_option (codes "history"))) (optional (number_option (codes "faults") 0 1000))
+    (file_option (codes "history"))) (optional (number_option (codes "faults") 0 1000))) from_option
 
 -- `topology SHAPE N [--seed S] [--app A]`
 unfoldable pub topology_command : App
@@ -106,18 +133,20 @@ tables_command = new_app (codes "tables")
 abbrev pub new_program : App
 new_program = on_top (λ s. record s { has_version = true }) (new_app (codes "reset-service"))
 
--- with the subcommands that read a script
+-- with the subcommands that read a script, or commands as they come
 abbrev pub scripts_program : App
 scripts_program =
     with_subcommand
+    (with_subcommand
     (with_subcommand (with_subcommand new_program (texts_command (codes "replay") (codes "SCRIPT")).top)
-    (texts_command (codes "check") (codes "SCRIPT")).top) plan_command.top
+    (texts_command (codes "check") (codes "SCRIPT")).top) plan_command.top) session_command.top
 
 -- with those that read a history
 abbrev pub texts_program : App
 texts_program =
-    with_subcommand (with_subcommand scripts_program (texts_command (codes "verify") (codes "HISTORY")).top)
-    (texts_command (codes "picture") (codes "HISTORY")).top
+    with_subcommand
+    (with_subcommand (with_subcommand scripts_program (texts_command (codes "verify") (codes "HISTORY")).top)
+    (texts_command (codes "picture") (codes "HISTORY")).top) page_command.top
 
 -- with those that write a history
 abbrev pub histories_program : App
@@ -125,7 +154,7 @@ histories_program =
     with_subcommand
     (with_subcommand (with_subcommand texts_program record_command.top) threads_command.top) drive_command.top
 
--- the program with its eleven subcommands
+-- the program with its thirteen subcommands
 unfoldable pub program : App
 program =
     with_subcommand
@@ -170,12 +199,34 @@ HasPlanWords found words = (name_in found ≡ Some (codes "plan"))
     × (value_in found (codes "SCRIPT") ≡ option_map (λ script. script.now) words.script)
     × (value_in found (codes "from") ≡ option_map (λ from. from.now) words.from)
 
+-- the value of a flag says that it is given
+abbrev pub is_on : Option Text → Bool
+is_on None = false
+is_on (Some value) = bytes_eq value (codes "true")
+
+-- it is the subcommand `session` with these values, and the history is synced unless the words say that it isn't
+abbrev pub HasSessionWords : Found → SessionWords → Type 0
+HasSessionWords found words = (name_in found ≡ Some (codes "session"))
+    × (value_in found (codes "TOPOLOGY") ≡ Some words.topology.now)
+    × (value_in found (codes "from") ≡ option_map (λ from. from.now) words.from)
+    × (value_in found (codes "history") ≡ option_map (λ history. history.now) words.history)
+    × (words.sync ≡ not (is_on (value_in found (codes "no-sync"))))
+
+-- it is the subcommand `page` with these values
+abbrev pub HasPageWords : Found → PageWords → Type 0
+HasPageWords found words = (name_in found ≡ Some (codes "page"))
+    × (value_in found (codes "TOPOLOGY") ≡ Some words.topology.now)
+    × (value_in found (codes "HISTORY") ≡ Some words.history.now)
+    × (value_in found (codes "from") ≡ option_map (λ from. from.now) words.from)
+    × (value_in found (codes "title") ≡ option_map (λ title. title.now) words.title)
+
 -- it is the subcommand `record` with these values
 abbrev pub HasRecordWords : Found → RecordWords → Type 0
 HasRecordWords found words = (name_in found ≡ Some (codes "record"))
     × (value_in found (codes "TOPOLOGY") ≡ Some words.topology.now)
     × (value_in found (codes "SCRIPT") ≡ Some words.script.now)
     × (value_in found (codes "history") ≡ Some words.history.now)
+    × (value_in found (codes "from") ≡ option_map (λ from. from.now) words.from)
 
 -- it is the subcommand `threads` with these values, and the turns are from 1 to 100,000
 abbrev pub HasThreadWords : Found → ThreadWords → Type 0
@@ -183,6 +234,7 @@ HasThreadWords found words = (name_in found ≡ Some (codes "threads"))
     × (value_in found (codes "TOPOLOGY") ≡ Some words.topology.now)
     × (value_in found (codes "history") ≡ Some words.history.now)
     × IsNumberWithin 1 100000 (value_in found (codes "turns")) words.turns
+    × (value_in found (codes "from") ≡ option_map (λ from. from.now) words.from)
 
 -- it is the subcommand `drive` with these values: the steps are from 1 to 1,000,000, the seed has 32 bits, and of a
 -- thousand steps at most as many are faults, none where that isn't said
@@ -193,6 +245,7 @@ HasDriveWords found words = (name_in found ≡ Some (codes "drive"))
     × IsNumberWithin 1 1000000 (value_in found (codes "steps")) words.steps
     × IsNumberWithin 0 4294967295 (value_in found (codes "seed")) words.seed
     × IsNumberOr 0 0 1000 (value_in found (codes "faults")) words.faults
+    × (value_in found (codes "from") ≡ option_map (λ from. from.now) words.from)
 
 -- it is the subcommand `topology` with these values: the nodes are from 1 to 1,024, the seed is 0 where it isn't given
 abbrev pub HasShapeWords : Found → ShapeWords → Type 0
@@ -212,8 +265,10 @@ AskedBy found Joined = found ≡ None
 AskedBy found (Replay paths) = HasPaths found (codes "replay") (codes "SCRIPT") paths
 AskedBy found (Check paths) = HasPaths found (codes "check") (codes "SCRIPT") paths
 AskedBy found (Plan words) = HasPlanWords found words
+AskedBy found (Session words) = HasSessionWords found words
 AskedBy found (Verify paths) = HasPaths found (codes "verify") (codes "HISTORY") paths
 AskedBy found (Picture paths) = HasPaths found (codes "picture") (codes "HISTORY") paths
+AskedBy found (Page words) = HasPageWords found words
 AskedBy found (Record words) = HasRecordWords found words
 AskedBy found (Threads words) = HasThreadWords found words
 AskedBy found (Drive words) = HasDriveWords found words
@@ -262,6 +317,15 @@ MayHaveNumber name least most rows =
 abbrev pub HasPlan : List Row → Type 0
 HasPlan rows = IsSome (first_of (codes "TOPOLOGY") rows)
 
+-- the value of a flag, if it has one, is `true` or `false`, and is read as it was written
+abbrev pub HasFlag : Text → List Row → Type 0
+HasFlag name rows = IfSome (first_of name rows) (λ value. (value ≡ codes "true") ⊎ (value ≡ codes "false"))
+    × (one_of name rows ≡ first_of name rows)
+
+-- what `session` needs was found
+abbrev pub HasSession : List Row → Type 0
+HasSession rows = IsSome (first_of (codes "TOPOLOGY") rows) × HasFlag (codes "no-sync") rows
+
 -- what `record` needs was found
 abbrev pub HasRecord : List Row → Type 0
 HasRecord rows = HasTexts (codes "SCRIPT") rows × IsSome (first_of (codes "history") rows)
@@ -298,7 +362,10 @@ HasJob (Some s) = (IsOfScript s.0 × HasTexts (codes "SCRIPT") s.1)
     ⊎ (((s.0 ≡ codes "drive") × HasDrive s.1)
     ⊎ (((s.0 ≡ codes "topology") × HasShape s.1)
     ⊎ (((s.0 ≡ codes "explain") × IsSome (first_of (codes "WORD") s.1))
-    ⊎ ((s.0 ≡ codes "tables") ⊎ ((s.0 ≡ codes "plan") × HasPlan s.1))))))))
+    ⊎ ((s.0 ≡ codes "tables")
+    ⊎ (((s.0 ≡ codes "plan") × HasPlan s.1)
+    ⊎ (((s.0 ≡ codes "session") × HasSession s.1)
+    ⊎ ((s.0 ≡ codes "page") × HasTexts (codes "HISTORY") s.1))))))))))
 
 -- clap's error as a fault
 abbrev pub StandsFor : Error → LineFault → Type 0

@@ -3,20 +3,22 @@
 ghost use Rattle.std.specs.Prelude.{◌≡◌, IfOk, codes};
 ghost use Rattle.clap.specs.Words.{App, Rule, app_of, new_app, with_rule, with_subcommand};
 ghost use Rattle.command_words.specs.Words.{IsCommand, IsWord, drive_command, explain_command, file_option};
-ghost use Rattle.command_words.specs.Words.{from_option};
+ghost use Rattle.command_words.specs.Words.{flag, from_option};
 ghost use Rattle.command_words.specs.Words.{histories_program, new_program, number_option, optional, path, program};
-ghost use Rattle.command_words.specs.Words.{plan_command, record_command, scripts_program, tables_command, texts_command};
-ghost use Rattle.command_words.specs.Words.{texts_program, threads_command, topology_command, within};
+ghost use Rattle.command_words.specs.Words.{page_command, plan_command, record_command, scripts_program};
+ghost use Rattle.command_words.specs.Words.{session_command, tables_command, texts_command, texts_program};
+ghost use Rattle.command_words.specs.Words.{threads_command, topology_command, within};
 
 use crate::help::{
     ABOUT, AFTER_HELP, APP_HELP, CHECK_HELP, DRIVE_HELP, DRIVE_SEED_HELP, EXPLAIN_HELP,
     FAULTS_HELP, FEW_NODES_HELP, FROM_HELP, HISTORY_FILE_HELP, HISTORY_HELP, Help, LONG_ABOUT,
-    NODES_HELP, PICTURE_HELP, PLAN_HELP, PLAN_SCRIPT_HELP, RECORD_HELP, REPLAY_HELP, SCRIPT_HELP,
-    SHAPE_HELP, SHAPE_NAME_HELP, SHAPE_SEED_HELP, STEPS_HELP, TABLES_ABOUT, TABLES_LONG_ABOUT,
-    THREADS_HELP, TOPOLOGY_HELP, TURNS_HELP, VERIFY_HELP, VERSION, WORD_HELP,
+    NO_SYNC_HELP, NODES_HELP, PAGE_HELP, PICTURE_HELP, PLAN_HELP, PLAN_SCRIPT_HELP, RECORD_HELP,
+    REPLAY_HELP, SCRIPT_HELP, SESSION_HELP, SESSION_HISTORY_HELP, SHAPE_HELP, SHAPE_NAME_HELP,
+    SHAPE_SEED_HELP, STEPS_HELP, TABLES_ABOUT, TABLES_LONG_ABOUT, THREADS_HELP, TITLE_HELP,
+    TOPOLOGY_HELP, TURNS_HELP, VERIFY_HELP, VERSION, WORD_HELP,
 };
 use clap::builder::ValueParser;
-use clap::{Arg, Command};
+use clap::{Arg, ArgAction, Command};
 use std::alloc::{AllocError, Global};
 
 /// The command line: the program and its subcommands.
@@ -28,7 +30,7 @@ pub fn command_line<'a>(alloc: Global) -> Result<Command<'a>, AllocError>
     with_command(line, Ok(tables_words(alloc)))
 }
 
-// The program with the subcommands that read two texts, and those that write a history.
+// The program with the subcommands that read a script or a history, and those that write a history.
 fn histories_line<'a>(alloc: Global) -> Result<Command<'a>, AllocError>
     ensures { IfOk result (IsCommand histories_program) }
 {
@@ -37,17 +39,18 @@ fn histories_line<'a>(alloc: Global) -> Result<Command<'a>, AllocError>
     with_command(line, drive_words(alloc))
 }
 
-// The program with the subcommands that read two texts.
+// The program with the subcommands that read a script or a history.
 fn texts_line<'a>(alloc: Global) -> Result<Command<'a>, AllocError>
     ensures { IfOk result (IsCommand texts_program) }
 {
     let verify = texts_words(alloc, "verify", "HISTORY", HISTORY_HELP, &VERIFY_HELP);
     let picture = texts_words(alloc, "picture", "HISTORY", HISTORY_HELP, &PICTURE_HELP);
     let line = with_command(scripts_line(alloc), verify);
-    with_command(line, picture)
+    let line = with_command(line, picture);
+    with_command(line, page_words(alloc))
 }
 
-// The program with the subcommands that read a script.
+// The program with the subcommands that read a script, or commands as they come.
 fn scripts_line<'a>(alloc: Global) -> Result<Command<'a>, AllocError>
     ensures { IfOk result (IsCommand scripts_program) }
 {
@@ -55,7 +58,8 @@ fn scripts_line<'a>(alloc: Global) -> Result<Command<'a>, AllocError>
     let check = texts_words(alloc, "check", "SCRIPT", SCRIPT_HELP, &CHECK_HELP);
     let line = with_command(Ok(program_words(alloc)), replay);
     let line = with_command(line, check);
-    with_command(line, plan_words(alloc))
+    let line = with_command(line, plan_words(alloc));
+    with_command(line, session_words(alloc))
 }
 
 // The program before it has subcommands.
@@ -95,27 +99,56 @@ fn plan_words<'a>(alloc: Global) -> Result<Command<'a>, AllocError>
     with_argument(line, from_word(alloc))
 }
 
-// The subcommand with the paths of a topology, of a script and of a file for the history.
+// The subcommand with the path of a topology and, where they are given, those of a snapshot and of a file for the
+// history, and the flag that leaves out its sync.
+fn session_words<'a>(alloc: Global) -> Result<Command<'a>, AllocError>
+    ensures { IfOk result (IsCommand session_command) }
+{
+    let line = Ok(bare_words(alloc, "session", &SESSION_HELP));
+    let line = with_argument(line, path_word(alloc, "TOPOLOGY", TOPOLOGY_HELP));
+    let line = with_argument(line, from_word(alloc));
+    let line = with_argument(line, kept_history_word(alloc));
+    with_argument(line, flag_word(alloc, "no-sync", NO_SYNC_HELP))
+}
+
+// The subcommand with the paths of a topology and of a history and, where they are given, that of a snapshot and a
+// title.
+fn page_words<'a>(alloc: Global) -> Result<Command<'a>, AllocError>
+    ensures { IfOk result (IsCommand page_command) }
+{
+    let line = Ok(bare_words(alloc, "page", &PAGE_HELP));
+    let line = with_argument(line, path_word(alloc, "TOPOLOGY", TOPOLOGY_HELP));
+    let line = with_argument(line, path_word(alloc, "HISTORY", HISTORY_HELP));
+    let line = with_argument(line, from_word(alloc));
+    with_argument(line, title_word(alloc))
+}
+
+// The subcommand with the paths of a topology, of a script and of a file for the history and, where it is given, that
+// of a snapshot.
 fn record_words<'a>(alloc: Global) -> Result<Command<'a>, AllocError>
     ensures { IfOk result (IsCommand record_command) }
 {
     let line = Ok(bare_words(alloc, "record", &RECORD_HELP));
     let line = with_argument(line, path_word(alloc, "TOPOLOGY", TOPOLOGY_HELP));
     let line = with_argument(line, path_word(alloc, "SCRIPT", SCRIPT_HELP));
-    with_argument(line, history_word(alloc))
+    let line = with_argument(line, history_word(alloc));
+    with_argument(line, from_word(alloc))
 }
 
-// The subcommand with the path of a topology, a number of turns and the path of a file for the history.
+// The subcommand with the path of a topology, a number of turns and the path of a file for the history and, where it is
+// given, that of a snapshot.
 fn threads_words<'a>(alloc: Global) -> Result<Command<'a>, AllocError>
     ensures { IfOk result (IsCommand threads_command) }
 {
     let line = Ok(bare_words(alloc, "threads", &THREADS_HELP));
     let line = with_argument(line, path_word(alloc, "TOPOLOGY", FEW_NODES_HELP));
     let line = with_argument(line, turns_word(alloc));
-    with_argument(line, history_word(alloc))
+    let line = with_argument(line, history_word(alloc));
+    with_argument(line, from_word(alloc))
 }
 
-// The subcommand with the path of a topology, the numbers of a seeded scheduler and the path of a file for the history.
+// The subcommand with the path of a topology, the numbers of a seeded scheduler and the path of a file for the history
+// and, where it is given, that of a snapshot.
 fn drive_words<'a>(alloc: Global) -> Result<Command<'a>, AllocError>
     ensures { IfOk result (IsCommand drive_command) }
 {
@@ -124,7 +157,8 @@ fn drive_words<'a>(alloc: Global) -> Result<Command<'a>, AllocError>
     let line = with_argument(line, steps_word(alloc));
     let line = with_argument(line, seed_word(alloc, true, DRIVE_SEED_HELP));
     let line = with_argument(line, history_word(alloc));
-    with_argument(line, faults_word(alloc))
+    let line = with_argument(line, faults_word(alloc));
+    with_argument(line, from_word(alloc))
 }
 
 // The subcommand with the name of a shape, a number of nodes, a seed and the name of an application.
@@ -237,6 +271,30 @@ fn history_word<'a>(alloc: Global) -> Arg<'a>
     ensures { IsWord (file_option (codes "history")) result }
 {
     option_word(alloc, "history", "FILE", true, HISTORY_FILE_HELP)
+}
+
+// The path of the file that a session keeps, which may be left out.
+fn kept_history_word<'a>(alloc: Global) -> Arg<'a>
+    ensures { IsWord (optional (file_option (codes "history"))) result }
+{
+    option_word(alloc, "history", "FILE", false, SESSION_HISTORY_HELP)
+}
+
+// The title of a page, which may be left out.
+fn title_word<'a>(alloc: Global) -> Arg<'a>
+    ensures { IsWord (optional (file_option (codes "title"))) result }
+{
+    option_word(alloc, "title", "TEXT", false, TITLE_HELP)
+}
+
+// A flag, which may be left out.
+fn flag_word<'a>(alloc: Global, name: &'a str, help: &'a str) -> Arg<'a>
+    ensures { IsWord (flag name.entry.now) result }
+{
+    Arg::new(alloc, name)
+        .long(name)
+        .action(ArgAction::SetTrue)
+        .help(help)
 }
 
 // The path of a file, or another word, which has to be given.

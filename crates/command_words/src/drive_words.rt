@@ -13,4 +13,6 @@ pub struct DriveWords<'a> {
     pub faults: u32,
     /// The path of the file for the history.
     pub history: &'a str,
+    /// The path of the snapshot that it starts from, if one is given.
+    pub from: Option<&'a str>,
 }

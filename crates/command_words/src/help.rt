@@ -98,19 +98,55 @@ pub const PLAN_HELP: Help = Help {
     long_about: "\
 Plans how a damaged network is repaired and restarted, and writes that as a script.
 
-The script is run as `replay` runs it, but its answers aren't written. The plan is for the network that it leaves, whatever its registers and local states are. It is a
-comment `# R repairs` and the repairs, after which no row of tree and wave fails, and then a comment
-`# S steps of a reset` and the steps of a reset of each component, after which each node is normal, in
-one session of its component, and has its start state. There is one command a line, and each is
-applied when `replay` comes to it. There are no repairs where `check` prints no row of tree or wave,
-and at most K + 4 for each node; there are at most 5 steps for each node. A bad line of the script is
-answered as by `replay`, and the exit status is 2.",
+The script is run as `replay` runs it, but its answers aren't written. The plan is for the network
+that it leaves, whatever its registers and local states are. It is a comment `# R repairs` and the
+repairs, after which no row of tree and wave fails, and then a comment `# S steps of a reset` and the
+steps of a reset of each component, after which each node is normal, in one session of its component,
+and has its start state. There is one command a line, and each is applied when `replay` comes to it.
+There are no repairs where `check` prints no row of tree or wave, and at most K + 4 for each node;
+there are at most 5 steps for each node. A bad line of the script is answered as by `replay`, and the
+exit status is 2.",
     after_help: "\
 Example:
   reset-service plan examples/planned-repair/topology.toml examples/planned-repair/damage > plan
   cat examples/planned-repair/damage plan > script
   reset-service replay examples/planned-repair/topology.toml script",
 };
+
+pub const SESSION_HELP: Help = Help {
+    about: "Answers commands as they come, and keeps what happened in a file",
+    long_about: "\
+Answers commands as they come, and keeps what happened in a file.
+
+Each line of standard input is a command, which is answered at once, as `replay` answers it, so that
+the next line can depend on the answer. With --history each event that is applied and each fault that
+is done is appended to FILE as an entry, and synced to the disk, before its answer is written. Where
+FILE isn't empty, it is verified first, and the session goes on after its last entry. `verify` and
+`picture` accept FILE.",
+    after_help: "\
+Example:
+  reset-service session examples/one-wave/topology.toml --history history < examples/one-wave/script
+  reset-service verify examples/one-wave/topology.toml history",
+};
+
+pub const SESSION_HISTORY_HELP: &str =
+    "The file that entries are appended to; what it has is verified, and the session goes on after it";
+
+pub const NO_SYNC_HELP: &str =
+    "Leaves it to the system when an entry reaches the disk, which is faster";
+
+pub const PAGE_HELP: Help = Help {
+    about: "Writes a page that plays a history forward and back, in HTML",
+    long_about: "\
+Writes a page that plays a history forward and back, in HTML, on standard output.
+
+The page is one file that needs no other: a browser shows it without a network.",
+    after_help: "\
+Example:
+  reset-service page examples/verified-wave/topology.toml examples/verified-wave/history > page.html",
+};
+
+pub const TITLE_HELP: &str = "The title of the page";
 
 pub const FROM_HELP: &str =
     "A file with a snapshot, which it starts from in place of the booted configuration";
@@ -160,8 +196,9 @@ Standard output and the exit status are those of `replay`. Before the first answ
 is applied and each fault that is done is written to FILE as an entry, in order: the event or the
 fault of a line, the fault that `draw` draws, and the request that `watch` makes after an alarm. What
 is refused, questions and comments leave no entry, and a bad line ends the history too. `verify` and
-`picture` accept it. The file is created, or emptied where it is there; it stays empty where the
-topology is bad or the script is too long.",
+`picture` accept it. A bad topology, a bad snapshot and a script that is too long leave no history.
+The history is written to FILE.part, which takes the place of FILE at the end: a run that stops, or
+that leaves no history, leaves FILE as it was.",
     after_help: "\
 Example:
   reset-service record examples/one-wave/topology.toml examples/one-wave/script --history history
@@ -178,8 +215,9 @@ identifier asks for a reset first. Then each node takes N turns, all nodes at th
 turn a node does the first event that it may do, requests left out, or nothing where a neighbour has
 changed what it saw. A node that may do none waits until a neighbour has changed, and the turns end
 where every node that has turns left waits. What the nodes did is written to FILE as a history,
-which `verify` accepts; the file is created or truncated. At most 1,000,000 entries are kept: a run
-that reaches this many ends there. Then one line is printed, `threads N nodes E entries R reports`:
+which `verify` accepts. It is written to FILE.part, which takes the place of FILE at the end: a run
+that stops, or that leaves no history, leaves FILE as it was. At most 1,000,000 entries are kept: a
+run that reaches this many ends there. Then one line is printed, `threads N nodes E entries R reports`:
 the nodes, the entries of the history, and the resets that were completed.
 
 A topology of over 64 nodes is answered by `bad topology TooManyForThreads`, and the exit status
@@ -196,7 +234,7 @@ pub const FEW_NODES_HELP: &str =
 pub const TURNS_HELP: &str = "How many turns each node takes, from 1 to 100000";
 
 pub const HISTORY_FILE_HELP: &str =
-    "The file that the history is written to; it is truncated, and must not be an input";
+    "The file that the history is written to, in place of what it has; it can't be an input";
 
 pub const TABLES_ABOUT: &str = "Prints the tables that the nodes act by";
 
@@ -220,10 +258,11 @@ Drives a network by a seeded scheduler, and writes what it did as a history.
 The network starts from the booted configuration of its topology. At each of N steps the scheduler
 draws a node among those that are ready (among all, where none is), and then one of the events that
 are enabled there, requests included; or, in about P of a thousand steps, a fault. The same words
-give the same history on every machine. It is written to FILE, and `verify` accepts it; the file is
-created, or emptied where it is there. A drawn fault may be refused, and then the step does
-nothing. Then one line is printed, `drove E entries R reports`: the entries of the history, and the
-resets that were completed.",
+give the same history on every machine. A drawn fault may be refused, and then the step does
+nothing. The history is written to FILE, and `verify` accepts it. It is written to FILE.part, which
+takes the place of FILE at the end: a run that stops, or that leaves no history, leaves FILE as it
+was. Then one line is printed, `drove E entries R reports`: the entries of the history, and the resets
+that were completed.",
     after_help: "\
 Example:
   reset-service drive examples/one-wave/topology.toml --steps 1000 --seed 7 --history history

@@ -4,15 +4,19 @@
 mod commands;
 mod drive_words;
 mod help;
+mod page_words;
 mod plan_words;
 mod record_words;
+mod session_words;
 mod shape_words;
 mod thread_words;
 mod words;
 
 pub use drive_words::DriveWords;
+pub use page_words::PageWords;
 pub use plan_words::PlanWords;
 pub use record_words::RecordWords;
+pub use session_words::SessionWords;
 pub use shape_words::ShapeWords;
 pub use thread_words::ThreadWords;
 pub use words::{Job, LineFault, Paths, read_words};

@@ -9,4 +9,6 @@ pub struct RecordWords<'a> {
     pub script: &'a str,
     /// The path of the file for the history.
     pub history: &'a str,
+    /// The path of the snapshot that it starts from, if one is given.
+    pub from: Option<&'a str>,
 }

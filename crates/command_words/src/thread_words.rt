@@ -11,5 +11,7 @@ pub struct ThreadWords<'a> {
     pub turns: u32,
     /// The path of the file for the history.
     pub history: &'a str,
+    /// The path of the snapshot that it starts from, if one is given.
+    pub from: Option<&'a str>,
     ghost few: { turns ≤ 100000 },
 }

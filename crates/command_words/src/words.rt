@@ -1,16 +1,18 @@
 // What the words of the command line ask for.
 
-ghost use Rattle.std.specs.Prelude.{◌≡◌, [], codes, map, option_map, IfErr, IfOk, IsSome, Some};
+ghost use Rattle.std.specs.Prelude.{◌≡◌, [], codes, map, not, option_map, IfErr, IfOk, IsSome, Some};
 ghost use Rattle.clap.specs.Words.{first_of, found_of, rows_of, subcommand_rows_of};
 ghost use Rattle.command_words.specs.declared.words.LineFault.TheVariants.{NoMemory};
 ghost use Rattle.command_words.specs.Words.{faults_of, AskFor, AskedBy, HasDrive, HasJob, HasPlan, HasRecord, HasShape};
-ghost use Rattle.command_words.specs.Words.{HasTexts, HasThreads, IsFaultOf, IsNumberOr};
-ghost use Rattle.command_words.specs.Words.{IsNumberWithin, StandsFor, line_fault_text};
+ghost use Rattle.command_words.specs.Words.{HasSession, HasTexts, HasThreads, IsFaultOf, IsNumberOr};
+ghost use Rattle.command_words.specs.Words.{IsNumberWithin, StandsFor, is_on, line_fault_text};
 
 use crate::commands::command_line;
 use crate::drive_words::DriveWords;
+use crate::page_words::PageWords;
 use crate::plan_words::PlanWords;
 use crate::record_words::RecordWords;
+use crate::session_words::SessionWords;
 use crate::shape_words::ShapeWords;
 use crate::thread_words::ThreadWords;
 use clap::error::ErrorKind;
@@ -41,10 +43,14 @@ pub enum Job<'a> {
     Check(Paths<'a>),
     /// Plan for the network that a script leaves of a topology.
     Plan(PlanWords<'a>),
+    /// Answer the commands of the standard input as they come, and keep what happened in a file.
+    Session(SessionWords<'a>),
     /// Verify the history of a file from the booted configuration of another's topology, or from a snapshot.
     Verify(Paths<'a>),
     /// Draw the history of a file from the booted configuration of another's topology, or from a snapshot.
     Picture(Paths<'a>),
+    /// Write a page that plays the history of a file forward and back.
+    Page(PageWords<'a>),
     /// Replay the script of a file on the topology of another, and write what happened to a third.
     Record(RecordWords<'a>),
     /// Run a thread for each node of a topology, and write what the nodes did to a file.
@@ -131,8 +137,10 @@ fn named_job<'a>(name: &str, values: &ArgMatches<'a>) -> Job<'a>
         "replay" => Job::Replay(paths_of(values, "SCRIPT")),
         "check" => Job::Check(paths_of(values, "SCRIPT")),
         "plan" => Job::Plan(plan_words_of(values)),
+        "session" => Job::Session(session_words_of(values)),
         "verify" => Job::Verify(paths_of(values, "HISTORY")),
         "picture" => Job::Picture(paths_of(values, "HISTORY")),
+        "page" => Job::Page(page_words_of(values)),
         "record" => Job::Record(record_words_of(values)),
         "threads" => Job::Threads(thread_words_of(values)),
         "drive" => Job::Drive(drive_words_of(values)),
@@ -174,37 +182,82 @@ fn plan_words_of<'a>(values: &ArgMatches<'a>) -> PlanWords<'a>
     }
 }
 
-// The words of matches that have a topology, a script and a file for the history.
+// The words of matches that have a topology, and may have a snapshot, a file for the history and the flag that leaves
+// out its sync.
+fn session_words_of<'a>(values: &ArgMatches<'a>) -> SessionWords<'a>
+    requires { HasSession (rows_of (found_of values.now)) }
+    ensures topology { first_of (codes "TOPOLOGY") (rows_of (found_of values.now)) ≡ Some result.topology.now }
+    ensures from { first_of (codes "from") (rows_of (found_of values.now)) ≡ option_map (λ from. from.now) result.from }
+    ensures history { first_of (codes "history") (rows_of (found_of values.now))
+        ≡ option_map (λ history. history.now) result.history }
+    ensures sync { result.sync ≡ not (is_on (first_of (codes "no-sync") (rows_of (found_of values.now)))) }
+{
+    let topology = values.get_str("TOPOLOGY").unwrap();
+    let from = values.get_str("from");
+    let history = values.get_str("history");
+    let sync = !values.get_flag("no-sync");
+    SessionWords {
+        topology,
+        from,
+        history,
+        sync,
+    }
+}
+
+// The words of matches that have a topology and a history, and may have a snapshot and a title.
+fn page_words_of<'a>(values: &ArgMatches<'a>) -> PageWords<'a>
+    requires { HasTexts (codes "HISTORY") (rows_of (found_of values.now)) }
+    ensures topology { first_of (codes "TOPOLOGY") (rows_of (found_of values.now)) ≡ Some result.topology.now }
+    ensures history { first_of (codes "HISTORY") (rows_of (found_of values.now)) ≡ Some result.history.now }
+    ensures from { first_of (codes "from") (rows_of (found_of values.now)) ≡ option_map (λ from. from.now) result.from }
+    ensures title { first_of (codes "title") (rows_of (found_of values.now))
+        ≡ option_map (λ title. title.now) result.title }
+{
+    let paths = paths_of(values, "HISTORY");
+    let title = values.get_str("title");
+    PageWords {
+        topology: paths.topology,
+        history: paths.input,
+        from: paths.from,
+        title,
+    }
+}
+
+// The words of matches that have a topology, a script and a file for the history, and may have a snapshot.
 fn record_words_of<'a>(values: &ArgMatches<'a>) -> RecordWords<'a>
     requires { HasRecord (rows_of (found_of values.now)) }
     ensures topology { first_of (codes "TOPOLOGY") (rows_of (found_of values.now)) ≡ Some result.topology.now }
     ensures script { first_of (codes "SCRIPT") (rows_of (found_of values.now)) ≡ Some result.script.now }
     ensures history { first_of (codes "history") (rows_of (found_of values.now)) ≡ Some result.history.now }
+    ensures from { first_of (codes "from") (rows_of (found_of values.now)) ≡ option_map (λ from. from.now) result.from }
 {
     let paths = paths_of(values, "SCRIPT");
     RecordWords {
         topology: paths.topology,
         script: paths.input,
         history: values.get_str("history").unwrap(),
+        from: paths.from,
     }
 }
 
-// The words of matches that have a topology, a number of turns and a file for the history.
+// The words of matches that have a topology, a number of turns and a file for the history, and may have a snapshot.
 fn thread_words_of<'a>(values: &ArgMatches<'a>) -> ThreadWords<'a>
     requires { HasThreads (rows_of (found_of values.now)) }
     ensures topology { first_of (codes "TOPOLOGY") (rows_of (found_of values.now)) ≡ Some result.topology.now }
     ensures history { first_of (codes "history") (rows_of (found_of values.now)) ≡ Some result.history.now }
     ensures turns { IsNumberWithin 1 100000 (first_of (codes "turns") (rows_of (found_of values.now))) result.turns }
+    ensures from { first_of (codes "from") (rows_of (found_of values.now)) ≡ option_map (λ from. from.now) result.from }
 {
     let paths = paths_of(values, "history");
     ThreadWords {
         topology: paths.topology,
         turns: values.get_one::<u32>("turns").unwrap(),
         history: paths.input,
+        from: paths.from,
     }
 }
 
-// The words of matches that have what a run of the seeded scheduler needs.
+// The words of matches that have what a run of the seeded scheduler needs, and may have a snapshot.
 fn drive_words_of<'a>(values: &ArgMatches<'a>) -> DriveWords<'a>
     requires { HasDrive (rows_of (found_of values.now)) }
     ensures topology { first_of (codes "TOPOLOGY") (rows_of (found_of values.now)) ≡ Some result.topology.now }
@@ -212,11 +265,12 @@ fn drive_words_of<'a>(values: &ArgMatches<'a>) -> DriveWords<'a>
     ensures steps { IsNumberWithin 1 1000000 (first_of (codes "steps") (rows_of (found_of values.now))) result.steps }
     ensures seed { IsNumberWithin 0 4294967295 (first_of (codes "seed") (rows_of (found_of values.now))) result.seed }
     ensures faults { IsNumberOr 0 0 1000 (first_of (codes "faults") (rows_of (found_of values.now))) result.faults }
+    ensures from { first_of (codes "from") (rows_of (found_of values.now)) ≡ option_map (λ from. from.now) result.from }
 {
     let Paths {
         topology,
         input: history,
-        from: _,
+        from,
     } = paths_of(values, "history");
     DriveWords {
         topology,
@@ -224,6 +278,7 @@ fn drive_words_of<'a>(values: &ArgMatches<'a>) -> DriveWords<'a>
         seed: values.get_one::<u32>("seed").unwrap(),
         faults: values.get_one::<u32>("faults").unwrap_or(0),
         history,
+        from,
     }
 }
 

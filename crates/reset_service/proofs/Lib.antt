@@ -9,3 +9,4 @@ pub mod KeptRuns
 pub mod RecordedRuns
 pub mod SteppedHistories
 pub mod Starting
+pub mod Beginning

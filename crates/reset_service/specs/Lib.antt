@@ -10,3 +10,4 @@ pub mod Stepped
 pub mod Planned
 pub mod Started
 pub mod Page
+pub mod Begun

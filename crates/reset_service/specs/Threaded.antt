@@ -23,6 +23,7 @@ use Rattle.history.specs.Reports.{reports_of}
 use Rattle.history.specs.Stretches.{IsStretch, IsTrueReport, Stretch, steps}
 use Rattle.reset_service.specs.Counts.{counts_line}
 use Rattle.reset_service.specs.Drove.{drove_line}
+use Rattle.reset_service.specs.Started.{start_fault_text}
 use Rattle.script_replay.specs.Meaning.{Meaning, idle_meaning, token_meaning, mutex_meaning, routes_meaning}
 use Rattle.script_replay.specs.Output.{IsJudged, bad_topology_text}
 use Rattle.script_replay.specs.declared.status.RunStop.{RunStop}
@@ -30,7 +31,7 @@ use Rattle.script_replay.specs.declared.status.RunStop.TheVariants as stop
 use Rattle.script_replay.specs.declared.status.Status.{Status}
 use Rattle.script_replay.specs.declared.status.Status.TheVariants.{Good, BadInput}
 use Rattle.reset_service.specs.declared.told.Told.{Told}
-use Rattle.reset_service.specs.declared.told.Told.TheVariants.{BadTopology, TooManyNodes, Kept, Driven}
+use Rattle.reset_service.specs.declared.told.Told.TheVariants.{BadTopology, BadSnapshot, TooManyNodes, Kept, Driven}
 
 -- ---- lines
 
@@ -141,6 +142,7 @@ told_history told = []
 
 abbrev pub told_output : Told → List ℕ × Status
 told_output (BadTopology f) = (bad_topology_text f, BadInput)
+told_output (BadSnapshot f) = (start_fault_text f, BadInput)
 told_output TooManyNodes = (too_many_text, BadInput)
 told_output (Kept k) = (threads_line k.nodes k.entries k.reports, Good)
 told_output (Driven d) = (drove_line d.entries d.reports, Good)

@@ -1,11 +1,13 @@
-// Runs of the seeded scheduler from a booted configuration.
+// Runs of the seeded scheduler, from a booted configuration or a snapshot.
 
 ghost use Rattle.std.specs.Prelude.{◌≡◌, ◌≤◌, [], IfErr, IfOk};
+ghost use Rattle.reset_service.specs.Begun.{Drives, IsBegunFrom, IsBegunOf, IsBegunText};
 ghost use Rattle.reset_service.specs.Drove.{IsDrove, IsDroveFrom, IsDroveOf, IsDroveText};
 ghost use Rattle.script_replay.specs.Meaning.{meaning_of};
 ghost use Rattle.script_replay.specs.Stops.{IsRunStop};
 ghost use Rattle.reset_service.specs.Threaded.{LeavesBoth, told_history, told_output};
 
+use crate::started::{StartFault, start};
 use crate::told::{Driven, Told, put_history, put_told, status_of};
 use app_interface::{Application, Idle};
 use app_mutex::EdgeReversal;
@@ -92,13 +94,92 @@ fn drive_booted<P: Application>(
     ensures stop { IfErr result IsRunStop }
 {
     match Config::<P>::boot(alloc, network.topology, network.modulus) {
-        Ok(opening) => drive_from(alloc, opening, run),
+        Ok(opening) => drive_opened(alloc, opening, run),
         Err(_) => Err(RunStop::NoMemory),
     }
 }
 
+/// As `drive_text`, from the configuration that a snapshot of the topology names in place of the booted one. The topology
+/// is judged first. A snapshot that can't be started from leaves no history.
+pub fn drive_from<H: Write, W: Write>(
+    alloc: Global,
+    topology: &[u8],
+    snapshot: &[u8],
+    run: Drive,
+    history: &mut H,
+    out: &mut W,
+) -> Result<Status, RunStop>
+    ensures { LeavesBoth (IsBegunText (Drives run.steps run.seed run.faults) topology.now snapshot.now)
+        (H.contents history.old) (H.contents history.new) (W.contents out.old) (W.contents out.new) result }
+{
+    let told = drive_topology_from(alloc, topology, snapshot, run)?;
+    put_history(history, &told)?;
+    put_told(out, &told)?;
+    Ok(status_of(&told))
+}
+
+// Drives the network of a topology text from a snapshot.
+fn drive_topology_from(
+    alloc: Global,
+    topology: &[u8],
+    snapshot: &[u8],
+    run: Drive,
+) -> Result<Told, RunStop>
+    ensures ok { IfOk result
+        (λ told. IsBegunText (Drives run.steps run.seed run.faults) topology.now snapshot.now
+        (told_history told) (told_output told)) }
+    ensures stop { IfErr result IsRunStop }
+{
+    match read_network(alloc, topology) {
+        Ok(network) => drive_app_from(alloc, network, snapshot, run),
+        Err(ReadFault::NoMemory) => Err(RunStop::NoMemory),
+        Err(fault) => Ok(Told::BadTopology(fault)),
+    }
+}
+
+// Drives a network from a snapshot, with the application that it names.
+fn drive_app_from(
+    alloc: Global,
+    network: Network,
+    snapshot: &[u8],
+    run: Drive,
+) -> Result<Told, RunStop>
+    requires { network.topology.nodes ≡ network.topology.ids }
+    ensures ok { IfOk result
+        (λ told. IsBegunOf (Drives run.steps run.seed run.faults) network.app network.topology network.modulus
+        snapshot.now (told_history told) (told_output told)) }
+    ensures stop { IfErr result IsRunStop }
+{
+    match network.app {
+        AppName::Idle => drive_started::<Idle>(alloc, network, snapshot, run),
+        AppName::Token => drive_started::<Token>(alloc, network, snapshot, run),
+        AppName::Mutex => drive_started::<EdgeReversal>(alloc, network, snapshot, run),
+        AppName::Routes => drive_started::<Routes>(alloc, network, snapshot, run),
+    }
+}
+
+fn drive_started<P: Application>(
+    alloc: Global,
+    network: Network,
+    snapshot: &[u8],
+    run: Drive,
+) -> Result<Told, RunStop>
+    requires { network.topology.nodes ≡ network.topology.ids }
+    ensures ok { IfOk result
+        (λ told. IsBegunFrom (meaning_of P.app P.text P.from_text P.names) network.topology network.modulus snapshot.now
+        (Drives run.steps run.seed run.faults P.Local (meaning_of P.app P.text P.from_text P.names))
+        (told_history told) (told_output told)) }
+    ensures stop { IfErr result IsRunStop }
+{
+    match start::<P>(alloc, network, snapshot) {
+        Ok(opening) => drive_opened(alloc, opening, run),
+        Err(StartFault::NoMemory) => Err(RunStop::NoMemory),
+        Err(fault) => Ok(Told::BadSnapshot(fault)),
+    }
+}
+
 // Drives a network from this configuration on.
-fn drive_from<P: Application>(
+fn drive_opened<P: Application>(
     alloc: Global,
     opening: Config<P>,
     run: Drive,

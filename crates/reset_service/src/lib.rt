@@ -15,6 +15,7 @@ mod line;
 mod page;
 mod pictured;
 mod planned;
+mod recorded;
 mod refusal_explanations;
 mod shaped;
 mod started;
@@ -25,9 +26,10 @@ mod verified;
 mod word_explanations;
 
 pub use command_words::{
-    DriveWords, Job, LineFault, Paths, PlanWords, RecordWords, ShapeWords, ThreadWords, read_words,
+    DriveWords, Job, LineFault, PageWords, Paths, PlanWords, RecordWords, SessionWords, ShapeWords,
+    ThreadWords, read_words,
 };
-pub use driven::{Drive, drive_text};
+pub use driven::{Drive, drive_from, drive_text};
 pub use explained::{Explanation, explain};
 pub use laws::{
     booted_invariants_hold, driven_runs_are_verified, kept_histories_are_runs, one_driven_run,
@@ -37,6 +39,7 @@ pub use laws::{
 pub use page::{MAX_PLAYED, page_from, page_text};
 pub use pictured::{picture_from, picture_text};
 pub use planned::{plan_from, plan_text};
+pub use recorded::record_from;
 pub use script_replay::{
     BufferedOutput, READ_LIMIT, RunStop, Status, check_text, one_joined_output, one_output,
     one_record, read_text, record_text, recordings_are_replays, replay, replay_joined, replay_text,
@@ -45,5 +48,5 @@ pub use script_replay::{
 pub use shaped::write_shape;
 pub use started::{MAX_SNAPSHOT, check_from, replay_from};
 pub use tables::print_tables;
-pub use threaded::threads_text;
+pub use threaded::{threads_from, threads_text};
 pub use verified::{verify_from, verify_text};

@@ -1,6 +1,8 @@
 // Where a run starts from a snapshot.
 
-ghost use Rattle.std.specs.Prelude.{◌≡◌, ◌≢◌, ◌≤◌, ℕ, List, IfErr, IfOk, length, OnOk};
+ghost use Rattle.std.specs.Prelude.{◌≡◌, ◌≢◌, ◌≤◌, ℕ, List, IfErr, IfOk, length, OnErr, OnOk};
+ghost use Rattle.std.specs.Io.KnownBytes.{Appends};
+ghost use Rattle.action_tables.specs.Written.{AppendsPrefix};
 ghost use Rattle.topology.specs.TopologyText.{IsReadFault};
 ghost use Rattle.script_replay.specs.Lines.{GaveText, IsReadFrom};
 ghost use Rattle.script_replay.specs.Meaning.{meaning_of};
@@ -11,6 +13,7 @@ ghost use Rattle.snapshots.specs.Named.{IsSnapshotOf};
 ghost use Rattle.reset_service.specs.Started.{Answers, IsStartFault, IsStartedFrom, IsStartedOf, IsStartedText};
 ghost use Rattle.reset_service.specs.Started.{start_fault_text};
 
+use action_tables::{WriteFault, put_bytes};
 use app_interface::{Application, Idle};
 use app_mutex::EdgeReversal;
 use app_routes::Routes;
@@ -77,6 +80,18 @@ fn start_on<P: Application>(
         Ok(config) => Ok(config),
         Err(SnapshotFault::NoMemory) => Err(StartFault::NoMemory),
         Err(fault) => Err(StartFault::Bad(fault)),
+    }
+}
+
+// Writes the line of a text that a run can't start from.
+pub fn put_start_fault<W: Write>(out: &mut W, fault: StartFault) -> Result<(), WriteFault>
+    ensures ok { OnOk result (Appends (W.contents out.old) (W.contents out.new) (start_fault_text fault)) }
+    ensures err { OnErr result (AppendsPrefix (W.contents out.old) (W.contents out.new) (start_fault_text fault)) }
+{
+    match fault {
+        StartFault::TooLong => put_bytes(out, b"bad snapshot TooLong\n"),
+        StartFault::Bad(fault) => put_snapshot_fault(out, fault),
+        StartFault::NoMemory => put_bytes(out, b"bad snapshot NoMemory\n"),
     }
 }
 

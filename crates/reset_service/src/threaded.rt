@@ -1,13 +1,15 @@
-// Runs of node threads from a booted configuration.
+// Runs of node threads, from a booted configuration or a snapshot.
 
 ghost use Rattle.std.specs.Prelude.{◌≡◌, ◌≤◌, [], length, IfErr, IfOk, IsTrue};
 ghost use Rattle.std.specs.List.{list_all};
 ghost use Rattle.node_threads.specs.Locked.{is_step};
 ghost use Rattle.script_replay.specs.Meaning.{meaning_of};
+ghost use Rattle.reset_service.specs.Begun.{IsBegunFrom, IsBegunOf, IsBegunText, RunsThreads};
 ghost use Rattle.reset_service.specs.Threaded.{IsKept, IsKeptFrom, IsKeptOf, IsThreaded};
 ghost use Rattle.reset_service.specs.Threaded.{LeavesBoth, told_history, told_output};
 ghost use Rattle.script_replay.specs.Stops.{IsRunStop};
 
+use crate::started::{StartFault, start};
 use crate::told::{Kept, Told, put_history, put_told, status_of};
 use app_interface::{Application, Idle};
 use app_mutex::EdgeReversal;
@@ -113,6 +115,92 @@ fn run_booted<P: Application, R: Threads + Wait + Sync>(
     match Config::<P>::boot(alloc, network.topology, network.modulus) {
         Ok(opening) => run_from(rt, alloc, opening, turns),
         Err(_) => Err(RunStop::NoMemory),
+    }
+}
+
+/// As `threads_text`, from the configuration that a snapshot of the topology names in place of the booted one. The
+/// topology is judged first, and the snapshot before the number of nodes. A snapshot that can't be started from leaves no
+/// history.
+pub fn threads_from<R: Threads + Wait + Sync, H: Write, W: Write>(
+    rt: &R,
+    alloc: Global,
+    topology: &[u8],
+    snapshot: &[u8],
+    turns: u32,
+    history: &mut H,
+    out: &mut W,
+) -> Result<Status, RunStop>
+    requires { turns ≤ 100000 }
+    ensures { LeavesBoth (IsBegunText RunsThreads topology.now snapshot.now) (H.contents history.old)
+        (H.contents history.new) (W.contents out.old) (W.contents out.new) result }
+{
+    let told = run_text_from(rt, alloc, topology, snapshot, turns)?;
+    put_history(history, &told)?;
+    put_told(out, &told)?;
+    Ok(status_of(&told))
+}
+
+// Runs the threads of a topology text from a snapshot.
+fn run_text_from<R: Threads + Wait + Sync>(
+    rt: &R,
+    alloc: Global,
+    topology: &[u8],
+    snapshot: &[u8],
+    turns: u32,
+) -> Result<Told, RunStop>
+    requires { turns ≤ 100000 }
+    ensures ok { IfOk result (λ told. IsBegunText RunsThreads topology.now snapshot.now (told_history told)
+        (told_output told)) }
+    ensures stop { IfErr result IsRunStop }
+{
+    match read_network(alloc, topology) {
+        Ok(network) => run_app_from(rt, alloc, network, snapshot, turns),
+        Err(ReadFault::NoMemory) => Err(RunStop::NoMemory),
+        Err(fault) => Ok(Told::BadTopology(fault)),
+    }
+}
+
+// Runs the threads of a network from a snapshot, with the application that it names.
+fn run_app_from<R: Threads + Wait + Sync>(
+    rt: &R,
+    alloc: Global,
+    network: Network,
+    snapshot: &[u8],
+    turns: u32,
+) -> Result<Told, RunStop>
+    requires few { turns ≤ 100000 }
+    requires up { network.topology.nodes ≡ network.topology.ids }
+    ensures ok { IfOk result
+        (λ told. IsBegunOf RunsThreads network.app network.topology network.modulus snapshot.now (told_history told)
+        (told_output told)) }
+    ensures stop { IfErr result IsRunStop }
+{
+    match network.app {
+        AppName::Idle => run_started::<Idle, R>(rt, alloc, network, snapshot, turns),
+        AppName::Token => run_started::<Token, R>(rt, alloc, network, snapshot, turns),
+        AppName::Mutex => run_started::<EdgeReversal, R>(rt, alloc, network, snapshot, turns),
+        AppName::Routes => run_started::<Routes, R>(rt, alloc, network, snapshot, turns),
+    }
+}
+
+fn run_started<P: Application, R: Threads + Wait + Sync>(
+    rt: &R,
+    alloc: Global,
+    network: Network,
+    snapshot: &[u8],
+    turns: u32,
+) -> Result<Told, RunStop>
+    requires few { turns ≤ 100000 }
+    requires up { network.topology.nodes ≡ network.topology.ids }
+    ensures ok { IfOk result
+        (λ told. IsBegunFrom (meaning_of P.app P.text P.from_text P.names) network.topology network.modulus snapshot.now
+        (RunsThreads P.Local (meaning_of P.app P.text P.from_text P.names)) (told_history told) (told_output told)) }
+    ensures stop { IfErr result IsRunStop }
+{
+    match start::<P>(alloc, network, snapshot) {
+        Ok(opening) => run_from(rt, alloc, opening, turns),
+        Err(StartFault::NoMemory) => Err(RunStop::NoMemory),
+        Err(fault) => Ok(Told::BadSnapshot(fault)),
     }
 }
 

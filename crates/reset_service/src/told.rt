@@ -6,6 +6,7 @@ ghost use Rattle.action_tables.specs.Written.{AppendsPrefix};
 ghost use Rattle.reset_service.specs.Threaded.{threads_line, told_history, told_output};
 
 use crate::counts::put_counts;
+use crate::started::{StartFault, put_start_fault};
 use action_tables::{Part, WriteFault, put_bytes, put_parts};
 use script_replay::{Status, put_topology_fault};
 use std::io::Write;
@@ -15,6 +16,7 @@ use topology::ReadFault;
 #[derive(Drop)]
 pub enum Told {
     BadTopology(ReadFault),
+    BadSnapshot(StartFault),
     TooManyNodes,
     Kept(Kept),
     Driven(Driven),
@@ -46,7 +48,7 @@ pub fn put_history<H: Write>(history: &mut H, told: &Told) -> Result<(), WriteFa
     match told {
         Told::Kept(kept) => put_bytes(history, &kept.history),
         Told::Driven(driven) => put_bytes(history, &driven.history),
-        Told::BadTopology(_) | Told::TooManyNodes => put_bytes(history, b""),
+        Told::BadTopology(_) | Told::BadSnapshot(_) | Told::TooManyNodes => put_bytes(history, b""),
     }
 }
 
@@ -57,6 +59,7 @@ pub fn put_told<W: Write>(out: &mut W, told: &Told) -> Result<(), WriteFault>
 {
     match told {
         Told::BadTopology(fault) => put_topology_fault(out, *fault),
+        Told::BadSnapshot(fault) => put_start_fault(out, *fault),
         Told::TooManyNodes => put_bytes(out, b"bad topology TooManyForThreads\n"),
         Told::Kept(kept) => put_threads(out, kept.nodes, kept.entries, kept.reports),
         Told::Driven(driven) => put_counts(out, b"drove ", driven.entries, driven.reports),
@@ -83,7 +86,7 @@ pub fn status_of(told: &Told) -> Status
     ensures { result ≡ (told_output told.now).1 }
 {
     match told {
-        Told::BadTopology(_) | Told::TooManyNodes => Status::BadInput,
+        Told::BadTopology(_) | Told::BadSnapshot(_) | Told::TooManyNodes => Status::BadInput,
         Told::Kept(_) | Told::Driven(_) => Status::Good,
     }
 }

@@ -1,8 +1,8 @@
-// Opening, reading and creating the files that the command line names.
+// Opening and reading the files that the command line names.
 
 ghost use Rattle.std.specs.Prelude.{IfErr, IfOk};
 ghost use Rattle.script_replay.specs.Lines.{IsReadFrom};
-ghost use Rattle.script_replay.specs.Stops.{IsInputStop, IsOutputStop};
+ghost use Rattle.script_replay.specs.Stops.{IsInputStop};
 
 use reset_service::{MAX_SNAPSHOT, READ_LIMIT, RunStop, read_text};
 use std::alloc::Global;
@@ -28,17 +28,6 @@ pub fn read_file<R: Files + AllocGlobal>(rt: &R, path: &str) -> Result<Vec<u8>, 
 {
     let mut file = open_file(rt, path)?;
     read_text(rt.alloc(), &mut file)
-}
-
-/// Creates a file for writing, or empties the one that is there. One that can't be created is a write fault.
-pub fn create_file<R: Files>(rt: &R, path: &str) -> Result<R::File, RunStop>
-    ensures { IfErr result IsOutputStop }
-{
-    match fs::create(rt, path) {
-        Ok(file) => Ok(file),
-        Err(error) if error.kind() == io::ErrorKind::OutOfMemory => Err(RunStop::NoMemory),
-        Err(_) => Err(RunStop::WriteFailed),
-    }
 }
 
 /// The text of a file with a snapshot, if one is given, or its first bytes, which are more than a snapshot may have.

@@ -5,18 +5,21 @@
 #![tactic(auto)]
 
 mod files;
+mod history_file;
 mod progress;
 mod status;
 
-use crate::files::{create_file, open_file, read_file, read_snapshot};
+use crate::files::{open_file, read_file, read_snapshot};
+use crate::history_file::{create_history, is_input};
 use crate::progress::{BelowLine, ProgressLine};
 use crate::status::exit_code;
 use action_tables::put_bytes;
 use reset_service::{
     BufferedOutput, Drive, DriveWords, Job, LineFault, Paths, PlanWords, RecordWords, RunStop,
-    ShapeWords, Status, ThreadWords, check_from, check_text, drive_text, explain, picture_from,
-    picture_text, plan_from, plan_text, print_tables, read_words, record_text, replay, replay_from,
-    replay_joined, threads_text, verify_from, verify_text, write_shape,
+    ShapeWords, Status, ThreadWords, check_from, check_text, drive_from, drive_text, explain,
+    picture_from, picture_text, plan_from, plan_text, print_tables, read_words, record_from,
+    record_text, replay, replay_from, replay_joined, threads_from, threads_text, verify_from,
+    verify_text, write_shape,
 };
 use std::env::Env;
 use std::io::{Read, Stderr, Write};
@@ -87,7 +90,7 @@ fn answer_fault<R: Print + Eprint + AllocGlobal>(
     }
 }
 
-fn do_job<R: Clock + Files + Input + Print + AllocGlobal + Threads + Wait + Sync>(
+fn do_job<R: Clock + Files + Input + Print + Eprint + AllocGlobal + Threads + Wait + Sync>(
     rt: &R,
     terminal: Stderr,
     job: Job<'_>,
@@ -112,7 +115,7 @@ fn long_name(job: &Job<'_>) -> Option<&'static str> {
     }
 }
 
-fn job_output<R: Files + Input + AllocGlobal + Threads + Wait + Sync, W: Write>(
+fn job_output<R: Files + Input + Eprint + AllocGlobal + Threads + Wait + Sync, W: Write>(
     rt: &R,
     job: Job<'_>,
     out: &mut W,
@@ -122,6 +125,7 @@ fn job_output<R: Files + Input + AllocGlobal + Threads + Wait + Sync, W: Write>(
         Job::Replay(paths) => run_replay(rt, paths, out),
         Job::Check(paths) => run_check(rt, paths, out),
         Job::Plan(words) => run_plan(rt, words, out),
+        Job::Session(_) | Job::Page(_) => not_written_yet(),
         Job::Verify(paths) => run_verify(rt, paths, out),
         Job::Picture(paths) => run_picture(rt, paths, out),
         Job::Record(words) => run_record(rt, words, out),
@@ -131,6 +135,11 @@ fn job_output<R: Files + Input + AllocGlobal + Threads + Wait + Sync, W: Write>(
         Job::Explain(word) => explain(word, out),
         Job::Tables => print_tables(out),
     }
+}
+
+// A session and a page, whose calls are to come.
+fn not_written_yet() -> Result<Status, RunStop> {
+    Err(RunStop::ReadFailed)
 }
 
 fn run_replay<R: Files + AllocGlobal, W: Write>(
@@ -216,41 +225,90 @@ fn run_picture<R: Files + AllocGlobal, W: Write>(
     }
 }
 
-fn run_record<R: Files + AllocGlobal, W: Write>(
+fn run_record<R: Files + Eprint + AllocGlobal, W: Write>(
     rt: &R,
     words: RecordWords<'_>,
     out: &mut W,
 ) -> Result<Status, RunStop> {
+    let inputs = [Some(words.topology), Some(words.script), words.from];
+    if is_input(rt, words.history, &inputs) {
+        return refuse_history(rt);
+    }
     let topology = read_file(rt, words.topology)?;
+    let snapshot = read_snapshot(rt, words.from)?;
     let mut script = open_file(rt, words.script)?;
-    let mut history = create_file(rt, words.history)?;
-    record_text(rt.alloc(), &topology, &mut script, &mut history, out)
+    let mut kept = create_history(rt, words.history)?;
+    let history = &mut kept.file;
+    let ended = match snapshot {
+        None => record_text(rt.alloc(), &topology, &mut script, history, out),
+        Some(snapshot) => record_from(
+            rt.alloc(),
+            &topology,
+            &snapshot,
+            &mut script,
+            history,
+            out,
+        ),
+    };
+    kept.end(rt, out, ended)
 }
 
-fn run_threads<R: Files + AllocGlobal + Threads + Wait + Sync, W: Write>(
+fn run_threads<R: Files + Eprint + AllocGlobal + Threads + Wait + Sync, W: Write>(
     rt: &R,
     words: ThreadWords<'_>,
     out: &mut W,
 ) -> Result<Status, RunStop> {
+    if is_input(rt, words.history, &[Some(words.topology), words.from]) {
+        return refuse_history(rt);
+    }
     let topology = read_file(rt, words.topology)?;
-    let mut history = create_file(rt, words.history)?;
+    let snapshot = read_snapshot(rt, words.from)?;
+    let mut kept = create_history(rt, words.history)?;
+    let history = &mut kept.file;
     let turns = words.turns;
-    threads_text(rt, rt.alloc(), &topology, turns, &mut history, out)
+    let ended = match snapshot {
+        None => threads_text(rt, rt.alloc(), &topology, turns, history, out),
+        Some(snapshot) => threads_from(
+            rt,
+            rt.alloc(),
+            &topology,
+            &snapshot,
+            turns,
+            history,
+            out,
+        ),
+    };
+    kept.end(rt, out, ended)
 }
 
-fn run_drive<R: Files + AllocGlobal, W: Write>(
+fn run_drive<R: Files + Eprint + AllocGlobal, W: Write>(
     rt: &R,
     words: DriveWords<'_>,
     out: &mut W,
 ) -> Result<Status, RunStop> {
+    if is_input(rt, words.history, &[Some(words.topology), words.from]) {
+        return refuse_history(rt);
+    }
     let topology = read_file(rt, words.topology)?;
-    let mut history = create_file(rt, words.history)?;
+    let snapshot = read_snapshot(rt, words.from)?;
+    let mut kept = create_history(rt, words.history)?;
+    let history = &mut kept.file;
     let run = Drive {
         steps: words.steps,
         seed: words.seed,
         faults: words.faults,
     };
-    drive_text(rt.alloc(), &topology, run, &mut history, out)
+    let ended = match snapshot {
+        None => drive_text(rt.alloc(), &topology, run, history, out),
+        Some(snapshot) => drive_from(rt.alloc(), &topology, &snapshot, run, history, out),
+    };
+    kept.end(rt, out, ended)
+}
+
+// Tells that the file of a history is an input too, before it is opened.
+fn refuse_history<R: Eprint>(rt: &R) -> Result<Status, RunStop> {
+    let _ = eprintln!(rt; "history is an input");
+    Ok(Status::BadInput)
 }
 
 fn put_shape<R: AllocGlobal, W: Write>(

@@ -6,4 +6,5 @@ unfolding record_command
 returns c =
     let one = c.with_argument-line.ensures _ _ c.bare_words.ensures c.path_word.ensures in
     let two = c.with_argument-line-2.ensures _ _ one c.path_word-2.ensures in
-    c.with_argument.ensures _ _ two c.history_word.ensures
+    let three = c.with_argument-line-3.ensures _ _ two c.history_word.ensures in
+    c.with_argument.ensures _ _ three c.from_word.ensures

@@ -1,15 +1,14 @@
-use Rattle.std.proofs.Common.{◌∙◌, ap, length}
-use Rattle.scheduler.specs.Driven.{driven}
-use Rattle.script_replay.specs.Meaning.{meaning_of}
-use Rattle.reset_service.proofs.Driving.{drove}
+use Rattle.std.proofs.Common.{◌≡◌, rules}
+use Rattle.std.specs.Prelude.{IsErrAnd}
+use Rattle.script_replay.specs.declared.status.RunStop.TheVariants.{WriteFailed}
+use Rattle.reset_service.specs.Begun.{Drives, IsBegunText}
+use Rattle.reset_service.proofs.Threading.{cut_history}
 use Rattle.reset_service.proofs.driven.drive_from.Goals as goal
 
-pub returns-clause-ok : goal.returns-clause-ok
-returns-clause-ok g c =
-    let m = meaning_of g.P.Application.app g.P.Application.text g.P.Application.from_text g.P.Application.names in
+pub returns-in_err-put_history : goal.returns-in_err-put_history
+returns-in_err-put_history g c =
     let run = c.args.run in
-    drove run.steps run.seed run.faults m c.args.opening c.drive.new.book c.in_ok-history.history.items
-    (c.in-Ok.ensures.ok ∙ ap (λ b. driven m.app m.from_text run.steps run.seed run.faults b) c.open_book-book.ensures)
-    (c.drive.ensures.opening ∙ ap (λ b. b.opening) c.open_book-book.ensures) c.lemma_is_book.ensures
-    c.in_ok-history.ensures.text c.in_ok-history.ensures.read c.len-entries.result
-    (length c.reports-reports.result.now) c.len-entries.ensures (ap length c.reports-reports.ensures)
+    let residual = c.from_residual-in_err-put_history in
+    let stop : IsErrAnd residual.result (λ s. s ≡ WriteFailed) = search (rules, residual.ensures) in
+    cut_history (IsBegunText (Drives run.steps run.seed run.faults) c.args.topology.now c.args.snapshot.now)
+    c.in_ok-told.told _ _ _ residual.result stop c.in_ok-told.ensures.ok c.in_err-put_history.ensures.err

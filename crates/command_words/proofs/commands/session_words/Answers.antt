@@ -1,0 +1,10 @@
+use Rattle.command_words.specs.Words.{session_command}
+use Rattle.command_words.proofs.commands.session_words.Goals as goal
+
+pub returns : goal.returns
+unfolding session_command
+returns c =
+    let one = c.with_argument-line.ensures _ _ c.bare_words.ensures c.path_word.ensures in
+    let two = c.with_argument-line-2.ensures _ _ one c.from_word.ensures in
+    let three = c.with_argument-line-3.ensures _ _ two c.kept_history_word.ensures in
+    c.with_argument.ensures _ _ three c.flag_word.ensures

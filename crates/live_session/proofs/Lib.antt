@@ -1,0 +1,4 @@
+mod LineBreaks
+mod Courses
+mod Going
+mod Replayed

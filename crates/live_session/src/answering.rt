@@ -1,0 +1,118 @@
+// The answer to one line.
+
+ghost use Rattle.std.specs.Prelude.{◌≡◌, ◌++◌, ℕ, IfOk, OnOk};
+ghost use Rattle.script_replay.specs.Meaning.{meaning_of};
+ghost use Rattle.script_replay.specs.Script.{line_of};
+ghost use Rattle.script_replay.specs.declared.script.Command.TheVariants.{Step};
+ghost use Rattle.script_replay.specs.declared.script.Line.TheVariants.{Asks};
+ghost use Rattle.live_session.specs.Course.{asks_for_change, full_text, is_full};
+ghost use Rattle.live_session.specs.Progress.{IsAnswered};
+
+use crate::acting::{act_draw, act_event, act_fault, act_watch, gathered};
+use crate::batch::Batch;
+use action_tables::put_bytes;
+use app_interface::Application;
+use reset_machine::{Config, Event};
+use script_replay::{Command, Line, RunStop, answer_command, put_bad_line, read_line};
+use std::alloc::{AllocError, Global};
+
+/// Answers the line with this number and text. The answer is the room that the history has left.
+pub fn answer_text<P: Application>(
+    alloc: Global,
+    config: &mut Config<P>,
+    room: Option<u64>,
+    number: u64,
+    line: &[u8],
+    batch: &mut Batch,
+) -> Result<Option<u64>, AllocError>
+    ensures { IfOk result (λ left. IsAnswered (meaning_of P.app P.text P.from_text P.names) room config.old number
+        (line_of P.names line.now) left config.new batch.old batch.new) }
+{
+    match read_line::<P>(alloc, line)? {
+        Line::Silent => Ok(room),
+        Line::Bad => {
+            gathered(put_bad_line(&mut batch.answers, number))?;
+            Ok(room)
+        }
+        Line::Asks(command) => answer_asked(alloc, config, room, command, batch),
+    }
+}
+
+/// Answers the line of an event. The answer is the room that the history has left.
+#[inline(always)]
+pub fn answer_event<P: Application>(
+    alloc: Global,
+    config: &mut Config<P>,
+    room: Option<u64>,
+    event: Event,
+    batch: &mut Batch,
+) -> Result<Option<u64>, AllocError>
+    ensures { IfOk result (λ left. (n : ℕ) → IsAnswered (meaning_of P.app P.text P.from_text P.names) room config.old n
+        (Asks (Step event)) left config.new batch.old batch.new) }
+{
+    if room == Some(0) {
+        refuse_full(batch)?;
+        return Ok(room);
+    }
+    act_event(alloc, config, room, event, batch)
+}
+
+// Answers a command.
+fn answer_asked<P: Application>(
+    alloc: Global,
+    config: &mut Config<P>,
+    room: Option<u64>,
+    command: Command,
+    batch: &mut Batch,
+) -> Result<Option<u64>, AllocError>
+    ensures { IfOk result (λ left. (n : ℕ) → IsAnswered (meaning_of P.app P.text P.from_text P.names) room config.old n
+        (Asks command) left config.new batch.old batch.new) }
+{
+    if !asks_for_change(&command) {
+        answer_question(alloc, config, command, batch)?;
+        return Ok(room);
+    }
+    if room == Some(0) {
+        refuse_full(batch)?;
+        return Ok(room);
+    }
+    match command {
+        Command::Step(event) => act_event(alloc, config, room, event, batch),
+        Command::Inject(fault) => act_fault(alloc, config, room, &fault, batch),
+        Command::Draw(seed) => act_draw(alloc, config, room, seed, batch),
+        Command::Watch(at) => act_watch(alloc, config, room, at, batch),
+        _ => unreachable!(),
+    }
+}
+
+// Whether a command asks for a change of the network.
+fn asks_for_change(command: &Command) -> bool
+    ensures { result ≡ asks_for_change (Asks command.now) }
+{
+    matches!(
+        command,
+        Command::Step(_) | Command::Inject(_) | Command::Draw(_) | Command::Watch(_)
+    )
+}
+
+// Answers a question, which changes nothing.
+fn answer_question<P: Application>(
+    alloc: Global,
+    config: &mut Config<P>,
+    command: Command,
+    batch: &mut Batch,
+) -> Result<(), AllocError>
+{
+    match answer_command(alloc, config, command, &mut batch.answers) {
+        Ok(()) => Ok(()),
+        Err(_) => Err(AllocError),
+    }
+}
+
+// Answers that the history has no room for the entry that a command may leave.
+fn refuse_full(batch: &mut Batch) -> Result<(), AllocError>
+    ensures answers { OnOk result (batch.new.answers.items ≡ batch.old.answers.items ++ full_text) }
+    ensures entries { OnOk result (batch.new.entries.items ≡ batch.old.entries.items) }
+{
+    gathered(put_bytes(&mut batch.answers, b"refused BookFull\n"))
+}

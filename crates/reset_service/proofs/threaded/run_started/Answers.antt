@@ -1,0 +1,27 @@
+use Rattle.std.proofs.Common.{◌≢◌, ◌≡◌, [], refl, rules}
+use Rattle.script_replay.specs.Meaning.{meaning_of}
+use Rattle.script_replay.specs.declared.status.Status.TheVariants.{BadInput}
+use Rattle.reset_service.specs.Begun.{IsBegunFrom, RunsThreads}
+use Rattle.reset_service.specs.Begun.IsBegunFrom.{bad_snapshot, begun}
+use Rattle.reset_service.specs.Threaded.{IsKept, told_history, told_output}
+use Rattle.reset_service.specs.declared.started.StartFault.TheVariants.{NoMemory}
+use Rattle.reset_service.proofs.Beginning.{ok_both}
+use Rattle.reset_service.proofs.Threading.{ok_weaker}
+use Rattle.reset_service.proofs.threaded.run_started.Goals as goal
+
+pub returns-in-Ok-clause-ok : goal.returns-in-Ok-clause-ok
+returns-in-Ok-clause-ok g c =
+    let m = meaning_of g.P.Application.app g.P.Application.text g.P.Application.from_text g.P.Application.names in
+    let follows = RunsThreads _ m in
+    ok_weaker c.run_from.result (λ told. follows c.in-Ok.opening (told_history told) (told_output told))
+    (λ told. IsBegunFrom m c.args.network.topology c.args.network.modulus c.args.snapshot.now follows
+    (told_history told) (told_output told))
+    (λ told is. begun c.in-Ok.opening c.in-Ok.ensures.short c.in-Ok.ensures.ok is)
+    (ok_both c.run_from.result (λ told. IsKept m c.in-Ok.opening (told_history told) (told_output told))
+    (λ told. (told_output told).1 ≡ BadInput → told_history told ≡ []) c.run_from.ensures.ok
+    c.run_from.ensures.unkept)
+
+pub returns-in-Err-clause-ok : goal.returns-in-Err-clause-ok
+returns-in-Err-clause-ok g c =
+    let memory : c.in-Err.fault ≢ NoMemory = search rules in
+    bad_snapshot c.in-Err.fault (c.in-Err.ensures.err memory) refl refl
