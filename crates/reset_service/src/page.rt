@@ -74,18 +74,6 @@ pub fn page_from<R: Read, W: Write>(
     }
 }
 
-// The name of an application.
-fn app_name(app: AppName) -> &'static str
-    ensures { result.now ≡ app_word app }
-{
-    match app {
-        AppName::Idle => "idle",
-        AppName::Token => "token",
-        AppName::Mutex => "mutex",
-        AppName::Routes => "routes",
-    }
-}
-
 // Plays a history from a snapshot of a network, with the application that it names.
 fn play_app_from<R: Read, W: Write>(
     alloc: Global,
@@ -100,19 +88,20 @@ fn play_app_from<R: Read, W: Write>(
         (λ text. IsStartedOf (Plays (page_text HEAD.now MOMENTS.now VIEWS.now) title.now (app_word network.app) text) network.app network.topology network.modulus
         snapshot.now) (W.contents out.old) (W.contents out.new) result }
 {
-    let app = app_name(network.app).as_bytes();
     match network.app {
         AppName::Idle => play_started::<Idle, R, W>(
-            alloc, network, snapshot, history, app, title, out,
+            alloc, network, snapshot, history, b"idle", title, out,
         ),
         AppName::Token => {
-            play_started::<Token, R, W>(alloc, network, snapshot, history, app, title, out)
+            play_started::<Token, R, W>(alloc, network, snapshot, history, b"token", title, out)
         }
         AppName::Mutex => {
-            play_started::<EdgeReversal, R, W>(alloc, network, snapshot, history, app, title, out)
+            play_started::<EdgeReversal, R, W>(
+                alloc, network, snapshot, history, b"mutex", title, out,
+            )
         }
         AppName::Routes => {
-            play_started::<Routes, R, W>(alloc, network, snapshot, history, app, title, out)
+            play_started::<Routes, R, W>(alloc, network, snapshot, history, b"routes", title, out)
         }
     }
 }
@@ -151,14 +140,15 @@ fn play_app<R: Read, W: Write>(
         (IsPageOf (page_text HEAD.now MOMENTS.now VIEWS.now) title.now network.app network.topology network.modulus)
         (W.contents out.old) (W.contents out.new) result }
 {
-    let app = app_name(network.app).as_bytes();
     match network.app {
-        AppName::Idle => play_booted::<Idle, R, W>(alloc, network, history, app, title, out),
-        AppName::Token => play_booted::<Token, R, W>(alloc, network, history, app, title, out),
+        AppName::Idle => play_booted::<Idle, R, W>(alloc, network, history, b"idle", title, out),
+        AppName::Token => play_booted::<Token, R, W>(alloc, network, history, b"token", title, out),
         AppName::Mutex => play_booted::<EdgeReversal, R, W>(
-            alloc, network, history, app, title, out,
+            alloc, network, history, b"mutex", title, out,
         ),
-        AppName::Routes => play_booted::<Routes, R, W>(alloc, network, history, app, title, out),
+        AppName::Routes => play_booted::<Routes, R, W>(
+            alloc, network, history, b"routes", title, out,
+        ),
     }
 }
 
