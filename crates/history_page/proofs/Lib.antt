@@ -4,3 +4,4 @@ pub mod ReportCursor
 pub mod PutEntries
 pub mod Sequences
 pub mod Neighbours
+pub mod Plain

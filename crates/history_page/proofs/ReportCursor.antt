@@ -36,6 +36,7 @@ told_first place [] (r ∷ rs) here later = by (eqb_tells r.finished place)
   where
     Told : ℕ → Type 0
     Told n = (take n (r ∷ rs) ≡ []) × (drop n (r ∷ rs) ≡ r ∷ rs)
+
     by : ((nat_eq r.finished place ≡ true) × (r.finished ≡ place)) ⊎ ((nat_eq r.finished place ≡ false) × (r.finished ≢ place))
         → Told (cond (nat_eq r.finished place) 1 0)
     by (inl t) = absurd (omega (arith, later, t.1))
@@ -44,6 +45,7 @@ told_first place (r ∷ []) more here later = by (eqb_tells r.finished place)
   where
     Told : ℕ → Type 0
     Told n = (take n (r ∷ more) ≡ r ∷ []) × (drop n (r ∷ more) ≡ more)
+
     by : ((nat_eq r.finished place ≡ true) × (r.finished ≡ place)) ⊎ ((nat_eq r.finished place ≡ false) × (r.finished ≢ place))
         → Told (cond (nat_eq r.finished place) 1 0)
     by (inl t) = rw t.0 (refl, refl)

@@ -1,7 +1,7 @@
 // The lines of the data.
 
 ghost use Rattle.std.specs.Prelude.{◌≡◌, ◌<◌, ◌++◌, ◌∷◌, [], OnErr, OnOk};
-ghost use Rattle.std.specs.List.{flat_map};
+ghost use Rattle.std.specs.List.{flat_map, list_all};
 ghost use Rattle.std.specs.Io.KnownBytes.{Appends};
 ghost use Rattle.action_tables.specs.RowText.{part_text};
 ghost use Rattle.action_tables.specs.Written.{AppendsPrefix};
@@ -30,8 +30,23 @@ pub fn put_line<W: Write>(out: &mut W, line: &[u8]) -> Result<(), WriteFault>
     put_bytes(out, b"\n")
 }
 
-// Writes the bytes of a line.
+// Writes the bytes of a line, at once where each stands in the data as it is.
+#[tactic(auto, using(crate::proofs::Plain::plain_encoded))]
 fn put_encoded<W: Write>(out: &mut W, line: &[u8]) -> Result<(), WriteFault>
+    ensures ok { OnOk result
+        (Appends (W.contents out.old) (W.contents out.new) (flat_map encoded_byte line.now)) }
+    ensures err { OnErr result
+        (AppendsPrefix (W.contents out.old) (W.contents out.new) (flat_map encoded_byte line.now)) }
+{
+    if is_plain_line(line) {
+        put_bytes(out, line)
+    } else {
+        put_each(out, line)
+    }
+}
+
+// Writes the bytes of a line, one after another.
+fn put_each<W: Write>(out: &mut W, line: &[u8]) -> Result<(), WriteFault>
     ensures ok { OnOk result
         (Appends (W.contents out.old) (W.contents out.new) (flat_map encoded_byte line.now)) }
     ensures err { OnErr result
@@ -53,6 +68,13 @@ fn put_encoded_byte<W: Write>(out: &mut W, byte: u8) -> Result<(), WriteFault>
     } else {
         put_bytes(out, &[b'%', hex_digit(byte / 16), hex_digit(byte % 16)])
     }
+}
+
+// Whether each byte of a line stands in the data as it is.
+fn is_plain_line(line: &[u8]) -> bool
+    ensures { result ≡ list_all is_plain line.now }
+{
+    line.iter().all(|byte| is_plain(*byte))
 }
 
 // Whether a byte stands in the data as it is.

@@ -9,9 +9,11 @@ use Rattle.history_page.proofs.PutEntries.{ArePut, all_put, line_failed, more_pu
 use Rattle.history_page.proofs.entry.put_entries.Goals as goal
 
 pub loop-entry-init : goal.loop-entry-init
-loop-entry-init g c =
-    (none_put g.P.Application.app g.P.Application.text g.P.Application.from_text c.args.config.now c.args.entries.now
-    (g.W.Write.contents c.args.out.now) c.args.reports.now c.requires.run c.requires.reports, refl)
+loop-entry-init g c = (
+  none_put g.P.Application.app g.P.Application.text g.P.Application.from_text c.args.config.now c.args.entries.now
+      (g.W.Write.contents c.args.out.now) c.args.reports.now c.requires.run c.requires.reports,
+  refl,
+)
 
 pub next_line-requires-after_bounds : goal.next_line-requires-after_bounds
 next_line-requires-after_bounds g c κs within =

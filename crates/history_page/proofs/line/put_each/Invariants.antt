@@ -3,7 +3,7 @@ use Rattle.std.proofs.Common.{take}
 use Rattle.std.specs.List.{flat_map}
 use Rattle.std.specs.Io.KnownBytes.{Appends}
 use Rattle.history_page.specs.Lines.{encoded_byte}
-use Rattle.history_page.proofs.line.put_encoded.Given as goal
+use Rattle.history_page.proofs.line.put_each.Given as goal
 
 abbrev pub invariant-loop-byte : goal.invariant-loop-byte
 invariant-loop-byte g l =
