@@ -10,3 +10,4 @@ pub mod RecordedRuns
 pub mod SteppedHistories
 pub mod Starting
 pub mod Beginning
+pub mod Paging

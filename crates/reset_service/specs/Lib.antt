@@ -9,4 +9,5 @@ pub mod Tables
 pub mod Stepped
 pub mod Planned
 pub mod Started
+pub mod Page
 pub mod Begun

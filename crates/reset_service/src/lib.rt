@@ -2,7 +2,7 @@
 //! replays scripts of reset events on the booted configuration of a topology and writes an answer to
 //! each line, checks the network that a script leaves, plans how it recovers, records what a script did as a history,
 //! verifies histories, runs a thread for each node or a seeded scheduler and writes the history that they keep, draws
-//! histories, writes topologies, prints the tables that the nodes act by, explains the words of its answers,
+//! histories, writes pages that play them, holds sessions, writes topologies, prints the tables that the nodes act by, explains the words of its answers,
 //! and reads those of its command line.
 //! Scripts are replayed by the crate `script_replay`, and the command line is read by `command_words`.
 #![tactic(auto)]
@@ -12,6 +12,7 @@ mod driven;
 mod explained;
 mod laws;
 mod line;
+mod page;
 mod pictured;
 mod planned;
 mod recorded;
@@ -36,6 +37,7 @@ pub use laws::{
     one_verification, recordings_are_verified, threads_are_verified, threads_keep_a_run,
     verified_histories_tell_steps, verified_reports_are_true,
 };
+pub use page::{MAX_PLAYED, page_from, page_text};
 pub use pictured::{picture_from, picture_text};
 pub use planned::{plan_from, plan_text};
 pub use recorded::record_from;

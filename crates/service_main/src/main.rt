@@ -1,6 +1,7 @@
 //! The program of the distributed reset service: it replays a script of reset events on the booted
 //! configuration of a topology and writes an answer to each, plans how a damaged network recovers, records what it did
-//! as a history, runs a thread for each node, drives a network by a seeded scheduler, and verifies and draws histories.
+//! as a history, runs a thread for each node, drives a network by a seeded scheduler, holds sessions, and verifies,
+//! draws and plays histories.
 //! Here stand the files and the streams that it opens and its exit status; all else is the library `reset_service`.
 #![tactic(auto)]
 
@@ -18,11 +19,11 @@ use crate::progress::{BelowLine, ProgressLine};
 use crate::status::exit_code;
 use action_tables::put_bytes;
 use reset_service::{
-    BufferedOutput, Drive, DriveWords, Job, LineFault, Paths, PlanWords, RecordWords, RunStop,
-    ShapeWords, Status, ThreadWords, check_from, check_text, drive_from, drive_text, explain,
-    picture_from, picture_text, plan_from, plan_text, print_tables, read_words, record_from,
-    record_text, replay, replay_from, replay_joined, threads_from, threads_text, verify_from,
-    verify_text, write_shape,
+    BufferedOutput, Drive, DriveWords, Job, LineFault, PageWords, Paths, PlanWords, RecordWords,
+    RunStop, ShapeWords, Status, ThreadWords, check_from, check_text, drive_from, drive_text,
+    explain, page_from, page_text, picture_from, picture_text, plan_from, plan_text, print_tables,
+    read_words, record_from, record_text, replay, replay_from, replay_joined, threads_from,
+    threads_text, verify_from, verify_text, write_shape,
 };
 use std::env::Env;
 use std::io::{Read, Stderr, Write};
@@ -118,6 +119,7 @@ fn long_name(job: &Job<'_>) -> Option<&'static str> {
         Job::Verify(_) => Some("verify"),
         Job::Threads(_) => Some("threads"),
         Job::Drive(_) => Some("drive"),
+        Job::Page(_) => Some("page"),
         _ => None,
     }
 }
@@ -134,9 +136,9 @@ fn job_output<R: Files + Input + Eprint + AllocGlobal + Threads + Wait + Sync, W
         Job::Check(paths) => run_check(rt, paths, out),
         Job::Plan(words) => run_plan(rt, words, out),
         Job::Session(words) => run_session(rt, terminal, words, out),
-        Job::Page(_) => not_written_yet(),
         Job::Verify(paths) => run_verify(rt, paths, out),
         Job::Picture(paths) => run_picture(rt, paths, out),
+        Job::Page(words) => run_page(rt, words, out),
         Job::Record(words) => run_record(rt, words, out),
         Job::Threads(words) => run_threads(rt, words, out),
         Job::Drive(words) => run_drive(rt, words, out),
@@ -144,11 +146,6 @@ fn job_output<R: Files + Input + Eprint + AllocGlobal + Threads + Wait + Sync, W
         Job::Explain(word) => explain(word, out),
         Job::Tables => print_tables(out),
     }
-}
-
-// A page, whose call is to come.
-fn not_written_yet() -> Result<Status, RunStop> {
-    Err(RunStop::ReadFailed)
 }
 
 fn run_replay<R: Files + AllocGlobal, W: Write>(
@@ -231,6 +228,22 @@ fn run_picture<R: Files + AllocGlobal, W: Write>(
     match snapshot {
         None => picture_text(rt.alloc(), &topology, &mut history, out),
         Some(snapshot) => picture_from(rt.alloc(), &topology, &snapshot, &mut history, out),
+    }
+}
+
+// Where no title is given, the page has none.
+fn run_page<R: Files + AllocGlobal, W: Write>(
+    rt: &R,
+    words: PageWords<'_>,
+    out: &mut W,
+) -> Result<Status, RunStop> {
+    let topology = read_file(rt, words.topology)?;
+    let snapshot = read_snapshot(rt, words.from)?;
+    let mut history = open_file(rt, words.history)?;
+    let title = words.title.unwrap_or("").as_bytes();
+    match snapshot {
+        None => page_text(rt.alloc(), &topology, &mut history, title, out),
+        Some(snapshot) => page_from(rt.alloc(), &topology, &snapshot, &mut history, title, out),
     }
 }
 

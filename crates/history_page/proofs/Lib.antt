@@ -1,0 +1,7 @@
+pub mod Down
+pub mod Harmless
+pub mod ReportCursor
+pub mod PutEntries
+pub mod Sequences
+pub mod Neighbours
+pub mod Plain

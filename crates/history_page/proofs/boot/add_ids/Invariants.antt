@@ -1,0 +1,8 @@
+-- The identifiers before the index were added.
+use Rattle.std.proofs.Common.{◌≡◌, ◌++◌, take}
+use Rattle.std.specs.List.{flat_map}
+use Rattle.history_page.specs.Opening.{spaced}
+use Rattle.history_page.proofs.boot.add_ids.Given as goal
+
+abbrev pub invariant-loop-id : goal.invariant-loop-id
+invariant-loop-id l = l.line.items ≡ l.initial.line.items ++ flat_map spaced (take l.id-index l.ids)

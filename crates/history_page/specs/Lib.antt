@@ -1,0 +1,7 @@
+pub mod Lines
+pub mod Fields
+pub mod Failing
+pub mod Opening
+pub mod Entries
+pub mod Page
+pub mod Cursor

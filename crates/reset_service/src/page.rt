@@ -1,0 +1,287 @@
+// The page that plays a history, from a booted configuration or a snapshot.
+
+ghost use Rattle.std.specs.Prelude.{◌≡◌, ◌≤◌, ℕ, IfErr, IsSome, List, Ok, length};
+ghost use Rattle.topology.specs.TopologyTable.{app_word};
+ghost use Rattle.topology.specs.TopologyText.{IsReadFault};
+ghost use Rattle.history.specs.Entries.{replayed};
+ghost use Rattle.history.specs.HistoryText.{IsReadAs};
+ghost use Rattle.history.specs.Reports.{reports_of};
+ghost use Rattle.history_page.specs.Page.{data_text, page_text};
+ghost use Rattle.script_replay.specs.Meaning.{meaning_of};
+ghost use Rattle.script_replay.specs.Output.{Leaves};
+ghost use Rattle.script_replay.specs.Stops.{IsOutputStop};
+ghost use Rattle.reset_service.specs.Page.{IsPage, IsPageFrom, IsPageOf, IsPageOfEntries, IsPageText, IsPageTextFrom};
+ghost use Rattle.reset_service.specs.Page.{Plays, page_output};
+ghost use Rattle.reset_service.specs.Started.{IsStartedFrom, IsStartedOf};
+ghost use Rattle.reset_service.specs.Verified.{LeavesOfReader};
+
+use crate::started::{refuse_start, start};
+use crate::verified::{refuse_entry, refuse_history, refuse_modulus};
+use app_interface::{Application, Idle};
+use app_mutex::EdgeReversal;
+use app_routes::Routes;
+use app_token::Token;
+use history::{BookFault, BookText, Entry, Report, VerifyFault, read_book, verify};
+use history_page::{HEAD, MOMENTS, PageStop, VIEWS, put_page};
+use reset_machine::Config;
+use script_replay::{Network, RunStop, Status, read_network, refuse_input, refuse_topology};
+use std::alloc::Global;
+use std::io::{Read, Write};
+use topology::{AppName, ReadFault};
+
+/// The most entries of a history that a page plays.
+pub const MAX_PLAYED: usize = 100_000;
+
+/// Writes the page that plays the history that a reader gives, from the booted configuration of a topology text. Its
+/// title is UTF-8, and empty where it has none of its own.
+///
+/// The topology is judged before the reader is touched. A history that a verification wouldn't take is answered as
+/// there, and one of more than `MAX_PLAYED` entries isn't played: in place of the page there is the answer alone.
+pub fn page_text<R: Read, W: Write>(
+    alloc: Global,
+    topology: &[u8],
+    history: &mut R,
+    title: &[u8],
+    out: &mut W,
+) -> Result<Status, RunStop>
+    ensures leaves { LeavesOfReader (R.remaining history.old) (IsPageText (page_text HEAD.now MOMENTS.now VIEWS.now) title.now topology.now)
+        (W.contents out.old) (W.contents out.new) result }
+    ensures untouched { (f : ReadFault) → IsReadFault topology.now f → history.new ≡ history.old }
+{
+    match read_network(alloc, topology) {
+        Ok(network) => play_app(alloc, network, history, title, out),
+        Err(fault) => refuse_topology(fault, out),
+    }
+}
+
+/// As `page_text`, from the configuration that a snapshot of the topology names in place of the booted one. The
+/// topology is judged first, and the snapshot before the history.
+pub fn page_from<R: Read, W: Write>(
+    alloc: Global,
+    topology: &[u8],
+    snapshot: &[u8],
+    history: &mut R,
+    title: &[u8],
+    out: &mut W,
+) -> Result<Status, RunStop>
+    ensures leaves { LeavesOfReader (R.remaining history.old)
+        (IsPageTextFrom (page_text HEAD.now MOMENTS.now VIEWS.now) title.now topology.now snapshot.now) (W.contents out.old) (W.contents out.new) result }
+    ensures untouched { (f : ReadFault) → IsReadFault topology.now f → history.new ≡ history.old }
+{
+    match read_network(alloc, topology) {
+        Ok(network) => play_app_from(alloc, network, snapshot, history, title, out),
+        Err(fault) => refuse_topology(fault, out),
+    }
+}
+
+// Plays a history from a snapshot of a network, with the application that it names.
+fn play_app_from<R: Read, W: Write>(
+    alloc: Global,
+    network: Network,
+    snapshot: &[u8],
+    history: &mut R,
+    title: &[u8],
+    out: &mut W,
+) -> Result<Status, RunStop>
+    requires { network.topology.nodes ≡ network.topology.ids }
+    ensures leaves { LeavesOfReader (R.remaining history.old)
+        (λ text. IsStartedOf (Plays (page_text HEAD.now MOMENTS.now VIEWS.now) title.now (app_word network.app) text) network.app network.topology network.modulus
+        snapshot.now) (W.contents out.old) (W.contents out.new) result }
+{
+    match network.app {
+        AppName::Idle => play_started::<Idle, R, W>(
+            alloc, network, snapshot, history, b"idle", title, out,
+        ),
+        AppName::Token => {
+            play_started::<Token, R, W>(alloc, network, snapshot, history, b"token", title, out)
+        }
+        AppName::Mutex => {
+            play_started::<EdgeReversal, R, W>(
+                alloc, network, snapshot, history, b"mutex", title, out,
+            )
+        }
+        AppName::Routes => {
+            play_started::<Routes, R, W>(alloc, network, snapshot, history, b"routes", title, out)
+        }
+    }
+}
+
+fn play_started<P: Application, R: Read, W: Write>(
+    alloc: Global,
+    network: Network,
+    snapshot: &[u8],
+    history: &mut R,
+    app: &[u8],
+    title: &[u8],
+    out: &mut W,
+) -> Result<Status, RunStop>
+    requires { network.topology.nodes ≡ network.topology.ids }
+    ensures leaves { LeavesOfReader (R.remaining history.old)
+        (λ text. IsStartedFrom (meaning_of P.app P.text P.from_text P.names) network.topology network.modulus
+        snapshot.now
+        (Plays (page_text HEAD.now MOMENTS.now VIEWS.now) title.now app.now text P.Local (meaning_of P.app P.text P.from_text P.names)))
+        (W.contents out.old) (W.contents out.new) result }
+{
+    match start::<P>(alloc, network, snapshot) {
+        Ok(opening) => play_from(alloc, &opening, history, app, title, out),
+        Err(fault) => refuse_start(fault, out),
+    }
+}
+
+// Plays a history from the booted configuration of a network, with the application that it names.
+fn play_app<R: Read, W: Write>(
+    alloc: Global,
+    network: Network,
+    history: &mut R,
+    title: &[u8],
+    out: &mut W,
+) -> Result<Status, RunStop>
+    ensures leaves { LeavesOfReader (R.remaining history.old)
+        (IsPageOf (page_text HEAD.now MOMENTS.now VIEWS.now) title.now network.app network.topology network.modulus)
+        (W.contents out.old) (W.contents out.new) result }
+{
+    match network.app {
+        AppName::Idle => play_booted::<Idle, R, W>(alloc, network, history, b"idle", title, out),
+        AppName::Token => play_booted::<Token, R, W>(alloc, network, history, b"token", title, out),
+        AppName::Mutex => play_booted::<EdgeReversal, R, W>(
+            alloc, network, history, b"mutex", title, out,
+        ),
+        AppName::Routes => play_booted::<Routes, R, W>(
+            alloc, network, history, b"routes", title, out,
+        ),
+    }
+}
+
+fn play_booted<P: Application, R: Read, W: Write>(
+    alloc: Global,
+    network: Network,
+    history: &mut R,
+    app: &[u8],
+    title: &[u8],
+    out: &mut W,
+) -> Result<Status, RunStop>
+    ensures leaves { LeavesOfReader (R.remaining history.old)
+        (IsPageFrom (page_text HEAD.now MOMENTS.now VIEWS.now) title.now app.now (meaning_of P.app P.text P.from_text P.names) network.topology
+        network.modulus) (W.contents out.old) (W.contents out.new) result }
+{
+    match Config::<P>::boot(alloc, network.topology, network.modulus) {
+        Ok(opening) => play_from(alloc, &opening, history, app, title, out),
+        Err(_) => Err(RunStop::NoMemory),
+    }
+}
+
+// Plays a history from this configuration on.
+fn play_from<P: Application, R: Read, W: Write>(
+    alloc: Global,
+    opening: &Config<P>,
+    history: &mut R,
+    app: &[u8],
+    title: &[u8],
+    out: &mut W,
+) -> Result<Status, RunStop>
+    ensures leaves { LeavesOfReader (R.remaining history.old)
+        (IsPage (page_text HEAD.now MOMENTS.now VIEWS.now) title.now app.now (meaning_of P.app P.text P.from_text P.names) opening.now)
+        (W.contents out.old) (W.contents out.new) result }
+{
+    match read_book(alloc, history) {
+        Ok(book) => play_book(alloc, opening, &book, app, title, out),
+        Err(BookFault::NoMemory) => Err(RunStop::NoMemory),
+        Err(BookFault::ReadFailed) => Err(RunStop::ReadFailed),
+        Err(fault) => refuse_history(fault, out),
+    }
+}
+
+// Plays the history of a text from this configuration on, if both count sessions modulo the same number.
+fn play_book<P: Application, W: Write>(
+    alloc: Global,
+    opening: &Config<P>,
+    book: &BookText,
+    app: &[u8],
+    title: &[u8],
+    out: &mut W,
+) -> Result<Status, RunStop>
+    ensures leaves { Leaves
+        (λ output. (text : List ℕ) → IsReadAs text (Ok (book.now.modulus, book.now.entries.items))
+        → IsPage (page_text HEAD.now MOMENTS.now VIEWS.now) title.now app.now (meaning_of P.app P.text P.from_text P.names) opening.now text output)
+        (W.contents out.old) (W.contents out.new) result }
+    ensures stop { IfErr result IsOutputStop }
+{
+    if book.modulus != opening.modulus().get() {
+        return refuse_modulus(book.modulus, out);
+    }
+    play_entries(alloc, opening, &book.entries, app, title, out)
+}
+
+// Plays entries from this configuration on.
+fn play_entries<P: Application, W: Write>(
+    alloc: Global,
+    opening: &Config<P>,
+    entries: &[Entry],
+    app: &[u8],
+    title: &[u8],
+    out: &mut W,
+) -> Result<Status, RunStop>
+    ensures leaves { Leaves
+        (IsPageOfEntries (page_text HEAD.now MOMENTS.now VIEWS.now) title.now app.now (meaning_of P.app P.text P.from_text P.names) opening.now
+        entries.now) (W.contents out.old) (W.contents out.new) result }
+    ensures stop { IfErr result IsOutputStop }
+{
+    match verify(alloc, opening.copy(alloc)?, entries) {
+        Ok(summary) => play(alloc, opening, entries, &summary.reports, app, title, out),
+        Err(VerifyFault::NotEnabledAt(position)) => refuse_entry(position, out),
+        Err(VerifyFault::NoMemory) => Err(RunStop::NoMemory),
+    }
+}
+
+// Plays entries that are a run from this configuration on, with their reports, if they aren't too many.
+fn play<P: Application, W: Write>(
+    alloc: Global,
+    opening: &Config<P>,
+    entries: &[Entry],
+    reports: &[Report],
+    app: &[u8],
+    title: &[u8],
+    out: &mut W,
+) -> Result<Status, RunStop>
+    requires run { IsSome (replayed P.app P.from_text opening.now entries.now) }
+    requires reports { reports.now ≡ reports_of P.app P.from_text opening.now entries.now }
+    ensures leaves { Leaves
+        (λ output. output ≡ page_output (page_text HEAD.now MOMENTS.now VIEWS.now) title.now app.now (meaning_of P.app P.text P.from_text P.names)
+        opening.now entries.now) (W.contents out.old) (W.contents out.new) result }
+    ensures stop { IfErr result IsOutputStop }
+{
+    if entries.len() > MAX_PLAYED {
+        refuse_input(out, b"bad history TooLongForPage\n")
+    } else {
+        play_few(alloc, opening, entries, reports, app, title, out)
+    }
+}
+
+// The same of entries that aren't too many.
+fn play_few<P: Application, W: Write>(
+    alloc: Global,
+    opening: &Config<P>,
+    entries: &[Entry],
+    reports: &[Report],
+    app: &[u8],
+    title: &[u8],
+    out: &mut W,
+) -> Result<Status, RunStop>
+    requires run { IsSome (replayed P.app P.from_text opening.now entries.now) }
+    requires reports { reports.now ≡ reports_of P.app P.from_text opening.now entries.now }
+    ensures leaves { Leaves
+        (λ output. output
+        ≡ (
+          page_text HEAD.now MOMENTS.now VIEWS.now
+              (data_text P.app P.text P.from_text title.now app.now opening.now entries.now),
+          Status.Good,
+        ))
+        (W.contents out.old) (W.contents out.new) result }
+    ensures stop { IfErr result IsOutputStop }
+{
+    match put_page(alloc, opening, app, title, entries, reports, out) {
+        Ok(()) => Ok(Status::Good),
+        Err(PageStop::WriteFailed) => Err(RunStop::WriteFailed),
+        Err(PageStop::NoMemory) => Err(RunStop::NoMemory),
+    }
+}
