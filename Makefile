@@ -1,7 +1,7 @@
 # Needs `rt`, the command of the Rattle kit, make and python3, which rt needs too: nothing else, but for
 # `make bench`.
 
-.PHONY: run try build install examples test mutants gate-times reading-list bench fuzz soak
+.PHONY: run try build install examples test test-page mutants gate-times reading-list bench fuzz soak
 
 # Replays one whole reset on the line of nodes 1, 2, 3: by the proved program where `make build` has left it, else
 # by the program before its proof, within one to two and a half minutes.
@@ -30,6 +30,10 @@ examples: build
 # it has built.
 test:
 	@bash tests/all
+
+# Opens pages in Chromium (the Debian package `chromium`) and compares what they show with what the program prints.
+test-page: build
+	@tests/page-browser build/reset-service
 
 # Tries the wrong bodies that the gate leaves out, of one crate or of all: make mutants CRATE=topology
 mutants:

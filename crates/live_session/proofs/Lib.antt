@@ -5,3 +5,4 @@ mod Replayed
 mod Taken
 mod Watched
 mod Questions
+mod Keeping

@@ -45,6 +45,25 @@ pub data IsCutAtBeginning {L : Type 0} (m : Meaning L) (c : Configuration L)
       → IsReadWhole known text → IsCutShort (Some 1000000) (exchanges_of m 1000000 c text) begun log' out out'
       → IsCutAtBeginning m c known log log' out out'
 
+-- ---- a session after its first answer
+
+-- the lines of a reader were answered after this first line, and their entries went to the history
+pub record HasGoneOn {L : Type 0} (m : Meaning L) (room : ℕ) (c : Configuration L) (line : List ℕ)
+    (known log log' out out' : Option (List ℕ)) (left : Configuration L) : Type 0 where
+  pub text : List ℕ
+  pub read : IsReadWhole known text
+  pub left_is : left ≡ (course m (Some room) c text).config
+  pub kept : Appends log log' (entries_text (entries_of (exchanges_of m room c text)))
+  pub answered : Appends out out' (line ++ answers_text (exchanges_of m room c text))
+
+-- it was cut short: within the first line, or after it
+pub data IsCutGoingOn {L : Type 0} (m : Meaning L) (room : ℕ) (c : Configuration L) (line : List ℕ)
+    (known log log' out out' : Option (List ℕ)) : Type 0 where
+  within_line : Keeps log log' → AppendsPrefix out out' line → IsCutGoingOn m room c line known log log' out out'
+  after_line : (begun held : Option (List ℕ)) (text : List ℕ) → Appends out begun line → Keeps log held
+      → IsReadWhole known text → IsCutShort (Some room) (exchanges_of m room c text) held log' begun out'
+      → IsCutGoingOn m room c line known log log' out out'
+
 -- ---- a history that goes on
 
 -- the past is a history of these entries, which lead from an opening to a configuration

@@ -1,12 +1,12 @@
 // Sessions that keep a history.
 
-ghost use Rattle.std.specs.Prelude.{◌≡◌, Err, IfErr, IfOk, OnErr, OnOk};
+ghost use Rattle.std.specs.Prelude.{◌-◌, length, IfErr, IfOk, OnErr, OnOk};
 ghost use Rattle.std.specs.Io.KnownBytes.{Appends, Keeps};
 ghost use Rattle.action_tables.specs.Written.{AppendsPrefix};
 ghost use Rattle.script_replay.specs.Meaning.{meaning_of};
 ghost use Rattle.live_session.specs.Kept.{HasBegun, HasResumed, IsCutAtBeginning, IsCutOnItsWay, IsNoPast};
 ghost use Rattle.history.specs.HistoryText.{ended, first_line};
-ghost use Rattle.live_session.specs.Kept.{IsStopped, resumed_text};
+ghost use Rattle.live_session.specs.Kept.{HasGoneOn, IsCutGoingOn, IsStopped, resumed_text};
 
 use crate::session::run_session;
 use action_tables::{Part, WriteFault, put_parts};
@@ -93,7 +93,16 @@ fn go_on<P: Application, R: Read, H: Write, W: Write>(
     input: &mut R,
     log: &mut H,
     out: &mut W,
-) -> Result<Config<P>, RunStop> {
+) -> Result<Config<P>, RunStop>
+    ensures done { IfOk result (HasGoneOn (meaning_of P.app P.text P.from_text P.names)
+        (1000000 - resumed.summary.entries) resumed.config
+        (resumed_text resumed.summary.entries (length resumed.summary.reports.items)) (R.remaining input.old)
+        (H.contents log.old) (H.contents log.new) (W.contents out.old) (W.contents out.new)) }
+    ensures cut { OnErr result (IsCutGoingOn (meaning_of P.app P.text P.from_text P.names)
+        (1000000 - resumed.summary.entries) resumed.config
+        (resumed_text resumed.summary.entries (length resumed.summary.reports.items)) (R.remaining input.old)
+        (H.contents log.old) (H.contents log.new) (W.contents out.old) (W.contents out.new)) }
+{
     let Resumed { config, summary } = resumed;
     let room = MAX_ENTRIES.saturating_sub(summary.entries) as u64;
     let put = put_resumed(log, out, summary.entries, summary.reports.len());

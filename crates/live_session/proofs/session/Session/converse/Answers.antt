@@ -217,7 +217,7 @@ loop-preserved g c =
     let bytes = take c.in-Ok-read.count c.read.new.buf in (
       given ++ bytes,
       Consumes-trans old here new given bytes consumed c.in-Ok-read.ensures.bytes.0,
-      c.in-Ok-read.ensures.bound.1 ∙ sized,
+      omega (arith, sized, c.in-Ok-read.ensures.bound.1),
       λ s start. let (line, within) = on s start in
           let log = g.H.Write.contents c.loop.log in
           let out = g.W.Write.contents c.loop.out in
