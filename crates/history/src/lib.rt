@@ -28,7 +28,7 @@ pub use stretches::{
     replays_stay_shaped, reports_are_completions, reports_are_true, stretches_are_steps,
     undisturbed_parts_are_stretches,
 };
-pub use text::{BookFault, books_read_back, one_reading_a_text, write_book};
+pub use text::{BookFault, books_read_back, one_reading_a_text, put_first_line, write_book};
 pub use verification::{
     ReaderFault, Resumed, one_verdict_a_text, resume_reader, verify, verify_reader,
 };

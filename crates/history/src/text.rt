@@ -70,8 +70,8 @@ fn write_segments<W: Write>(
     put_segments(out, segments)
 }
 
-// Writes the first line of a history with this modulus, with its line feed.
-fn put_first_line<W: Write>(out: &mut W, modulus: u64) -> Result<(), WriteFault>
+/// Writes the first line of a history with sessions modulo this number, with its line feed.
+pub fn put_first_line<W: Write>(out: &mut W, modulus: u64) -> Result<(), WriteFault>
     ensures ok { OnOk result (Appends (W.contents out.old) (W.contents out.new) (ended (first_line modulus))) }
     ensures err { OnErr result (AppendsPrefix (W.contents out.old) (W.contents out.new) (ended (first_line modulus))) }
 {
