@@ -1,25 +1,30 @@
+// Small systems.
+
 ghost use Rattle.std.specs.Prelude.{◌≡◌, ◌<◌, ◌++◌, ◌∷◌, [], OnOk, length, map};
 ghost use Rattle.exploration_tests.specs.Systems.{only_if};
 
 use exploration::{Lists, System};
 use std::alloc::{AllocError, Global};
 
-/// Adds one or two, modulo the size.
+/// A number, to which a step adds one or two, modulo the size.
 #[derive(Drop)]
 pub struct Counter {
+    /// The size, above 0.
     pub size: u32,
     ghost some: { 0 < size },
 }
 
-/// Goes right or up, as far as the side.
+/// A point of a grid, from which a step leads right or up.
 #[derive(Drop)]
 pub struct Grid {
+    /// The greatest coordinate.
     pub side: u32,
 }
 
-/// Goes to a neighbour of a vertex.
+/// A vertex of a directed graph, from which a step leads to a neighbour.
 #[derive(Drop)]
 pub struct Graph {
+    /// For each vertex its neighbours; a vertex without a row has none.
     pub rows: Vec<Vec<u32>>,
 }
 

@@ -5,8 +5,13 @@ use std::test::Fail;
 
 #[test]
 fn grid_is_counted(rt: HostRuntime) -> Result<(), Fail> {
-    let told = explore(rt.alloc(), &mut Grid { side: 20 }, &[0, 0], 1000)?;
-    let Explored { states, steps, ends, length } = told;
+    let found = explore(rt.alloc(), &mut Grid { side: 20 }, &[0, 0], 1000)?;
+    let Explored {
+        states,
+        steps,
+        ends,
+        length,
+    } = found;
     assert_eq!(rt; states.len(), 441);
     assert_eq!(rt; steps, 840);
     assert_eq!(rt; ends, 1);
@@ -19,8 +24,13 @@ fn grid_is_counted(rt: HostRuntime) -> Result<(), Fail> {
 
 #[test]
 fn counter_goes_round(rt: HostRuntime) -> Result<(), Fail> {
-    let told = explore(rt.alloc(), &mut Counter { size: 100 }, &[0], 100)?;
-    let Explored { states, steps, ends, length } = told;
+    let found = explore(rt.alloc(), &mut Counter { size: 100 }, &[0], 100)?;
+    let Explored {
+        states,
+        steps,
+        ends,
+        length,
+    } = found;
     assert_eq!(rt; states.len(), 100);
     assert_eq!(rt; steps, 200);
     assert_eq!(rt; ends, 0);
@@ -62,16 +72,21 @@ fn diamond(alloc: Global) -> Result<Graph, AllocError> {
 #[test]
 fn diamond_is_counted(rt: HostRuntime) -> Result<(), Fail> {
     let mut graph = diamond(rt.alloc())?;
-    let told = explore(rt.alloc(), &mut graph, &[0], 1000)?;
-    let Explored { states, steps, ends, length } = told;
+    let found = explore(rt.alloc(), &mut graph, &[0], 1000)?;
+    let Explored {
+        states,
+        steps,
+        ends,
+        length,
+    } = found;
     assert_eq!(rt; states.len(), 5);
     assert_eq!(rt; steps, 5);
     assert_eq!(rt; ends, 1);
     assert!(rt; matches!(length, Length::Longest(3)));
-    let told = explore(rt.alloc(), &mut graph, &[3], 1000)?;
-    assert_eq!(rt; told.states.len(), 1);
-    assert_eq!(rt; told.ends, 1);
-    assert!(rt; matches!(told.length, Length::Longest(0)));
+    let found = explore(rt.alloc(), &mut graph, &[3], 1000)?;
+    assert_eq!(rt; found.states.len(), 1);
+    assert_eq!(rt; found.ends, 1);
+    assert!(rt; matches!(found.length, Length::Longest(0)));
     Ok(())
 }
 
@@ -89,15 +104,20 @@ fn lasso(alloc: Global) -> Result<Graph, AllocError> {
 #[test]
 fn lasso_goes_round(rt: HostRuntime) -> Result<(), Fail> {
     let mut graph = lasso(rt.alloc())?;
-    let told = explore(rt.alloc(), &mut graph, &[0], 1000)?;
-    let Explored { states, steps, ends, length } = told;
+    let found = explore(rt.alloc(), &mut graph, &[0], 1000)?;
+    let Explored {
+        states,
+        steps,
+        ends,
+        length,
+    } = found;
     assert_eq!(rt; states.len(), 5);
     assert_eq!(rt; steps, 6);
     assert_eq!(rt; ends, 1);
     match length {
         Length::Longest(_) => assert!(rt; false),
         Length::Endless { run, before } => {
-            // 0, 2, 3, 4 and 3 again, by their numbers
+            // the vertices 0, 2, 3, 4 and again 3
             assert_eq!(rt; run.as_slice(), [0, 2, 3, 4, 3].as_slice());
             assert_eq!(rt; before, 2);
         }

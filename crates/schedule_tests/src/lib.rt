@@ -1,4 +1,4 @@
-//! Tests of what every order of the enabled events leads to, by its public call.
+//! Tests of `explore` of `schedules`.
 #![tactic(auto)]
 
 #[cfg(test)]

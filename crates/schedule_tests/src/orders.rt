@@ -1,4 +1,4 @@
-// Small networks, whose numbers an independent program found too.
+// Small networks, whose counts the model of tests/explored finds too.
 
 use app_interface::{Application, Idle};
 use app_mutex::EdgeReversal;
@@ -10,7 +10,7 @@ use test_networks::{greatest_modulus, line};
 use topology::Topology;
 use wave_layer::{Phase, WaveRegs};
 
-// The exploration of the configuration finds these numbers.
+// The exploration of the configuration gives what is expected.
 fn is_explored<P: Application, R: Abort>(
     rt: &R,
     alloc: Global,
@@ -35,7 +35,12 @@ fn a_reset_of_a_ring_has_one_end(rt: HostRuntime) {
     for at in 1..=6 {
         assert!(rt; config.step(rt.alloc(), Event::Request { at }).is_ok());
     }
-    let expected = Schedules { configurations: 37, steps: 60, ends: 1, runs: Runs::Longest(12) };
+    let expected = Schedules {
+        configurations: 37,
+        steps: 60,
+        ends: 1,
+        runs: Runs::Longest(12),
+    };
     is_explored(&rt, rt.alloc(), &config, false, expected);
     drop(config);
 }
@@ -46,7 +51,12 @@ fn one_more_than_the_limit_is_too_many(rt: HostRuntime) {
     for at in 1..=2 {
         assert!(rt; config.step(rt.alloc(), Event::Request { at }).is_ok());
     }
-    let expected = Schedules { configurations: 8, steps: 7, ends: 1, runs: Runs::Longest(7) };
+    let expected = Schedules {
+        configurations: 8,
+        steps: 7,
+        ends: 1,
+        runs: Runs::Longest(7),
+    };
     is_explored(&rt, rt.alloc(), &config, false, expected);
     assert!(rt; explore(rt.alloc(), &config, false, 8).is_ok());
     match explore(rt.alloc(), &config, false, 7) {
@@ -59,11 +69,22 @@ fn one_more_than_the_limit_is_too_many(rt: HostRuntime) {
 #[test]
 fn damaged_registers_are_repaired(rt: HostRuntime) {
     let mut config = line::<Idle>(rt.alloc()).expect(&rt, "the line");
-    let asked = WaveRegs { phase: Phase::Initiate, session: 1 };
-    let open = WaveRegs { phase: Phase::Reset, session: 2 };
+    let asked = WaveRegs {
+        phase: Phase::Initiate,
+        session: 1,
+    };
+    let open = WaveRegs {
+        phase: Phase::Reset,
+        session: 2,
+    };
     assert!(rt; config.put_wave(1, asked).is_ok());
     assert!(rt; config.put_wave(3, open).is_ok());
-    let expected = Schedules { configurations: 11, steps: 13, ends: 1, runs: Runs::Longest(7) };
+    let expected = Schedules {
+        configurations: 11,
+        steps: 13,
+        ends: 1,
+        runs: Runs::Longest(7),
+    };
     is_explored(&rt, rt.alloc(), &config, false, expected);
     drop(config);
 }
@@ -71,9 +92,19 @@ fn damaged_registers_are_repaired(rt: HostRuntime) {
 #[test]
 fn actions_go_on_for_ever(rt: HostRuntime) {
     let config = line::<EdgeReversal>(rt.alloc()).expect(&rt, "the line");
-    let rest = Schedules { configurations: 1, steps: 0, ends: 1, runs: Runs::Longest(0) };
+    let rest = Schedules {
+        configurations: 1,
+        steps: 0,
+        ends: 1,
+        runs: Runs::Longest(0),
+    };
     is_explored(&rt, rt.alloc(), &config, false, rest);
-    let expected = Schedules { configurations: 20, steps: 28, ends: 0, runs: Runs::Endless };
+    let expected = Schedules {
+        configurations: 20,
+        steps: 28,
+        ends: 0,
+        runs: Runs::Endless,
+    };
     is_explored(&rt, rt.alloc(), &config, true, expected);
     drop(config);
 }
