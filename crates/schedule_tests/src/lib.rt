@@ -1,0 +1,5 @@
+//! Tests of `explore` of `schedules`.
+#![tactic(auto)]
+
+#[cfg(test)]
+mod orders;
