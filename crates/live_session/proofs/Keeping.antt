@@ -21,7 +21,7 @@ kept_then None b c bs same grown = tt
 kept_then (Some xs) None c bs same grown = absurd same
 kept_then (Some xs) (Some ys) c bs same grown = subst (λ z. Appends (Some z) c bs) same grown
 
-module _ {L E : Type 0} (m : Meaning L) (room : ℕ) (c : Configuration L) (known log log' out out' : Option (List ℕ)) where
+module _ {L : Type 0} (m : Meaning L) (room : ℕ) (c : Configuration L) (known log log' out out' : Option (List ℕ)) where
   -- what a run from there leaves to its writers
   abbrev IsRunTo : Option (List ℕ) → Option (List ℕ) → Configuration L → Type 0
   IsRunTo held begun left =
@@ -33,7 +33,7 @@ module _ {L E : Type 0} (m : Meaning L) (room : ℕ) (c : Configuration L) (know
       (text : List ℕ) × IsReadWhole known text
       × IsCutShort (Some room) (course m (Some room) c text).exchanges held log' begun out'
 
-  pub gone_on : (r : Result (Configuration L) E) (line : List ℕ) (held begun : Option (List ℕ)) → Keeps log held
+  pub gone_on : {E : Type 0} (r : Result (Configuration L) E) (line : List ℕ) (held begun : Option (List ℕ)) → Keeps log held
       → Appends out begun line → IfOk r (IsRunTo held begun) → IfOk r (HasGoneOn m room c line known log log' out out')
   gone_on (Err e) line held begun same wrote run = tt
   gone_on (Ok left) line held begun same wrote (text, read, left_is, done) = record {
@@ -44,15 +44,15 @@ module _ {L E : Type 0} (m : Meaning L) (room : ℕ) (c : Configuration L) (know
     answered = Appends-trans out begun out' line (answers_text (exchanges_of m room c text)) wrote done.answered;
   }
 
-  pub cut_going_on : (r : Result (Configuration L) E) (line : List ℕ) (held begun : Option (List ℕ)) → Keeps log held
+  pub cut_going_on : {E : Type 0} (r : Result (Configuration L) E) (line : List ℕ) (held begun : Option (List ℕ)) → Keeps log held
       → Appends out begun line → OnErr r (IsRunCut held begun)
       → OnErr r (IsCutGoingOn m room c line known log log' out out')
   cut_going_on (Ok left) line held begun same wrote run = tt
   cut_going_on (Err e) line held begun same wrote (text, read, cut) = after_line begun held text wrote same read cut
 
-module _ {L E : Type 0} (m : Meaning L) (c : Configuration L) (known log log' out out' : Option (List ℕ)) where
-  pub begun : (r : Result (Configuration L) E) (modulus : ℕ) (held : Option (List ℕ)) → modulus ≡ c.modulus
-      → Appends log held (ended (first_line modulus)) → IfOk r (IsRunTo m 1000000 c known log' out' held out)
+module _ {L : Type 0} (m : Meaning L) (c : Configuration L) (known log log' out out' : Option (List ℕ)) where
+  pub begun : {E : Type 0} (r : Result (Configuration L) E) (modulus : ℕ) (held : Option (List ℕ)) → modulus ≡ c.modulus
+      → Appends log held (ended (first_line modulus)) → IfOk r (IsRunTo m 1000000 c known log log' out out' held out)
       → IfOk r (HasBegun m c known log log' out out')
   begun (Err e) modulus held is wrote run = tt
   begun (Ok left) modulus held is wrote (text, read, left_is, done) = record {
@@ -66,8 +66,8 @@ module _ {L E : Type 0} (m : Meaning L) (c : Configuration L) (known log log' ou
     answered = done.answered;
   }
 
-  pub cut_beginning : (r : Result (Configuration L) E) (modulus : ℕ) (held : Option (List ℕ)) → modulus ≡ c.modulus
-      → Appends log held (ended (first_line modulus)) → OnErr r (IsRunCut m 1000000 c known log' out' held out)
+  pub cut_beginning : {E : Type 0} (r : Result (Configuration L) E) (modulus : ℕ) (held : Option (List ℕ)) → modulus ≡ c.modulus
+      → Appends log held (ended (first_line modulus)) → OnErr r (IsRunCut m 1000000 c known log log' out out' held out)
       → OnErr r (IsCutAtBeginning m c known log log' out out')
   cut_beginning (Ok left) modulus held is wrote run = tt
   cut_beginning (Err e) modulus held is wrote (text, read, cut) =
