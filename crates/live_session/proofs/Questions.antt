@@ -74,7 +74,11 @@ module _ {P L : Type 0} (m : Meaning L) where
   -- a line is answered as its first bytes are
   pub front_taken : (kept line : List ℕ) (ends : Bool) (old mid new : Session P L) → IsFront kept line
       → mid ≡ record {
-        config = old.config; room = old.room; number = old.number; partial = mid.partial; batch = old.batch;
+        config = old.config;
+        room = old.room;
+        number = old.number;
+        partial = mid.partial;
+        batch = old.batch;
       }
       → HasTaken m kept ends mid new → HasTaken m line ends old new
   front_taken kept line ends old mid new front is taken =
@@ -91,7 +95,11 @@ module _ {P L : Type 0} (m : Meaning L) where
 
   pub same_taken : (line : List ℕ) (ends : Bool) (old mid new : Session P L)
       → mid ≡ record {
-        config = old.config; room = old.room; number = old.number; partial = mid.partial; batch = old.batch;
+        config = old.config;
+        room = old.room;
+        number = old.number;
+        partial = mid.partial;
+        batch = old.batch;
       }
       → HasTaken m line ends mid new → HasTaken m line ends old new
   same_taken line ends old mid new is taken =

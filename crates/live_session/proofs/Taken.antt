@@ -50,7 +50,11 @@ begun_cut m s log out given bytes end next more found cut =
 -- a session that has written what it held back
 abbrev pub committed : {P L : Type 0} → Session P L → Batch → Session P L
 committed now batch = record {
-  config = now.config; room = now.room; number = now.number; partial = now.partial; batch = batch;
+  config = now.config;
+  room = now.room;
+  number = now.number;
+  partial = now.partial;
+  batch = batch;
 }
 
 module _ {P L : Type 0} (m : Meaning L) (s : Start L) (log out : Option (List ℕ)) where
@@ -214,19 +218,19 @@ module _ {P L : Type 0} (m : Meaning L) (s : Start L) (log out : Option (List �
       → IsWithin m s given line old log out → IsWithin m s given line new log' out'
   written_within given line log' out' old new wrote answered no_entries no_answers same_partial same_config same_room
       same_number within = record {
-    front = ap (λ p. p.items) same_partial ∙ within.front;
-    unbroken = within.unbroken;
-    alike = λ entries. ap (λ r. kept_lines r entries) same_room ∙ within.alike entries;
-    goes =
-        goes_as m s (after given) (λ more. course_of m old.room old.config old.number (lines_of (line ++ more)))
-        (λ more. course_of m new.room new.config new.number (lines_of (line ++ more))) new.batch log' out'
-        (λ more.
-        ap (λ r. course_of m r old.config old.number (lines_of (line ++ more))) (sym same_room)
-        ∙ ap (λ c. course_of m new.room c old.number (lines_of (line ++ more))) (sym same_config)
-        ∙ ap (λ n. course_of m new.room new.config n (lines_of (line ++ more))) (sym same_number))
-        (goes_written m s (after given) (λ more. course_of m old.room old.config old.number (lines_of (line ++ more)))
-        old.batch new.batch log log' out out' wrote answered no_entries no_answers within.goes);
-  }
+        front = ap (λ p. p.items) same_partial ∙ within.front;
+        unbroken = within.unbroken;
+        alike = λ entries. ap (λ r. kept_lines r entries) same_room ∙ within.alike entries;
+        goes =
+            goes_as m s (after given) (λ more. course_of m old.room old.config old.number (lines_of (line ++ more)))
+            (λ more. course_of m new.room new.config new.number (lines_of (line ++ more))) new.batch log' out'
+            (λ more.
+            ap (λ r. course_of m r old.config old.number (lines_of (line ++ more))) (sym same_room)
+            ∙ ap (λ c. course_of m new.room c old.number (lines_of (line ++ more))) (sym same_config)
+            ∙ ap (λ n. course_of m new.room new.config n (lines_of (line ++ more))) (sym same_number))
+            (goes_written m s (after given) (λ more. course_of m old.room old.config old.number (lines_of (line ++ more)))
+            old.batch new.batch log log' out out' wrote answered no_entries no_answers within.goes);
+      }
 
   -- ---- the lines of some bytes, one after the other
 
@@ -305,6 +309,7 @@ module _ {P L : Type 0} (m : Meaning L) (s : Start L) (log out : Option (List �
       kept_nothing : (room : Option ℕ) → kept_text room [] ≡ []
       kept_nothing None = refl
       kept_nothing (Some n) = refl
+
       nothing_kept : (room : Option ℕ) (a : Option (List ℕ)) → Appends a a (kept_text room [])
       nothing_kept None a = Appends-nil a
       nothing_kept (Some n) a = Appends-nil a

@@ -15,9 +15,11 @@ returns-in-Ok-clause-done g c =
     } in
     let new = c.new-session.ensures in
     let (text, whole, done) =
-    c.in-Ok.ensures.done s
-    ([], begins m s s.log s.out c.new-session.result new.room new.config new.number new.partial new.entries new.answers
-    refl refl) in
+    c.in-Ok.ensures.done s (
+      [],
+      begins m s s.log s.out c.new-session.result new.room new.config new.number new.partial new.entries new.answers
+          refl refl,
+    ) in
     (text, whole, c.into_config-left.ensures ∙ done.left_is, done.done)
 
 pub returns-in-Err-clause-cut : goal.returns-in-Err-clause-cut
@@ -30,6 +32,8 @@ returns-in-Err-clause-cut g c =
       out = g.W.Write.contents c.args.out.now;
     } in
     let new = c.new-session.ensures in
-    c.in-Err.ensures.cut s
-    ([], begins m s s.log s.out c.new-session.result new.room new.config new.number new.partial new.entries new.answers
-    refl refl)
+    c.in-Err.ensures.cut s (
+      [],
+      begins m s s.log s.out c.new-session.result new.room new.config new.number new.partial new.entries new.answers
+          refl refl,
+    )

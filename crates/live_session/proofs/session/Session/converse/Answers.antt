@@ -20,8 +20,7 @@ returns-in-Err-clause-cut g c s start =
     let out = g.W.Write.contents c.loop.out in
     let (rest, whole) = some_whole (g.R.Read.remaining c.loop.input) in
     let all =
-    whole_before (g.R.Read.remaining c.args.input.now) (g.R.Read.remaining c.loop.input) given rest consumed whole in
-    (
+    whole_before (g.R.Read.remaining c.args.input.now) (g.R.Read.remaining c.loop.input) given rest consumed whole in (
       given ++ rest,
       all,
       cut_within_commit m s log out given line rest (g.H.Write.contents c.commit.new.log)

@@ -20,7 +20,11 @@ returns-in-Ok-clause-ok g c s given at =
     let old = c.args.self.now in
     begun_on m s (g.H.Write.contents c.args.log.now) (g.W.Write.contents c.args.out.now) given line c.args.bytes.now old
     (record {
-      config = old.config; room = old.room; number = old.number; partial = c.go_on.new.kept; batch = old.batch;
+      config = old.config;
+      room = old.room;
+      number = old.number;
+      partial = c.go_on.new.kept;
+      batch = old.batch;
     })
     (rest_unbroken c.args.bytes.now c.in-None.ensures.only) (c.in-Ok.ensures line within.front) refl refl refl refl within
 

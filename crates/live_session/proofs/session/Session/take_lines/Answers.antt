@@ -83,12 +83,15 @@ loop-line-preserved-in-Ok g c =
       split_on passed rest c.args.bytes.now text next split found,
       omega (arith, bound, shorter, number),
       still,
-      λ s given within. 
+      λ s given within.
           written_within m s log out (given ++ (passed ++ ended text)) [] (g.H.Write.contents c.commit.new.log)
           (g.W.Write.contents c.commit.new.out) c.take_line.new.self
           (record {
-            config = c.take_line.new.self.config; room = c.take_line.new.self.room;
-            number = c.take_line.new.self.number; partial = c.take_line.new.self.partial; batch = c.commit.new.self;
+            config = c.take_line.new.self.config;
+            room = c.take_line.new.self.room;
+            number = c.take_line.new.self.number;
+            partial = c.take_line.new.self.partial;
+            batch = c.commit.new.self;
           })
           c.in-Ok.ensures.log c.in-Ok.ensures.out c.in-Ok.ensures.entries c.in-Ok.ensures.answers refl refl refl refl
           (lines_go_on m s log out given passed rest c.args.bytes.now split text next found c.in-Ok-false.field-0
@@ -128,8 +131,11 @@ returns-in-Ok-go_on-clause-ok g c s given at =
     lines_rest m s (g.H.Write.contents c.loop-line.log) (g.W.Write.contents c.loop-line.out) given passed
     c.loop-line.rest.now c.args.bytes.now split c.loop-line.self
     (record {
-      config = c.loop-line.self.config; room = c.loop-line.self.room; number = c.loop-line.self.number;
-      partial = c.go_on.new.kept; batch = c.loop-line.self.batch;
+      config = c.loop-line.self.config;
+      room = c.loop-line.self.room;
+      number = c.loop-line.self.number;
+      partial = c.go_on.new.kept;
+      batch = c.loop-line.self.batch;
     })
     c.in_default.ensures.only (c.in-Ok-go_on.ensures [] fresh) refl refl refl refl
     (on s given
