@@ -1,0 +1,137 @@
+// Sessions on the network of a topology.
+
+use crate::started::{refuse_start, start};
+use crate::verified::{refuse_entry, refuse_history, refuse_modulus};
+use app_interface::{Application, Idle};
+use app_mutex::EdgeReversal;
+use app_routes::Routes;
+use app_token::Token;
+use history::{BookFault, ReaderFault, VerifyFault};
+use live_session::{ResumeStop, begin_history, resume_history, run_session};
+use reset_machine::Config;
+use script_replay::{Network, RunStop, Status, read_network, refuse_topology};
+use std::alloc::Global;
+use std::io::{Read, Write};
+use topology::AppName;
+
+/// The history that a session keeps.
+#[derive(Drop)]
+pub enum Past<'f, F: Read> {
+    /// None is kept.
+    Unkept,
+    /// One that begins with the session.
+    New,
+    /// One that goes on: what the reader gives.
+    Kept(&'f mut F),
+}
+
+/// Answers commands as a reader gives them, on the network of a topology text: from its booted configuration, or from
+/// that which a snapshot names, or, where a history is kept that goes on, from what its entries leave.
+pub fn session_text<F: Read, R: Read, H: Write, W: Write>(
+    alloc: Global,
+    topology: &[u8],
+    snapshot: Option<&[u8]>,
+    past: Past<'_, F>,
+    input: &mut R,
+    log: &mut H,
+    out: &mut W,
+) -> Result<Status, RunStop> {
+    match read_network(alloc, topology) {
+        Ok(network) => session_app(alloc, network, snapshot, past, input, log, out),
+        Err(fault) => refuse_topology(fault, out),
+    }
+}
+
+// A session on a network, with the application that it names.
+fn session_app<F: Read, R: Read, H: Write, W: Write>(
+    alloc: Global,
+    network: Network,
+    snapshot: Option<&[u8]>,
+    past: Past<'_, F>,
+    input: &mut R,
+    log: &mut H,
+    out: &mut W,
+) -> Result<Status, RunStop>
+    requires { network.topology.nodes ≡ network.topology.ids }
+{
+    match network.app {
+        AppName::Idle => {
+            session_on::<Idle, F, R, H, W>(alloc, network, snapshot, past, input, log, out)
+        }
+        AppName::Token => {
+            session_on::<Token, F, R, H, W>(alloc, network, snapshot, past, input, log, out)
+        }
+        AppName::Mutex => {
+            session_on::<EdgeReversal, F, R, H, W>(alloc, network, snapshot, past, input, log, out)
+        }
+        AppName::Routes => {
+            session_on::<Routes, F, R, H, W>(alloc, network, snapshot, past, input, log, out)
+        }
+    }
+}
+
+fn session_on<P: Application, F: Read, R: Read, H: Write, W: Write>(
+    alloc: Global,
+    network: Network,
+    snapshot: Option<&[u8]>,
+    past: Past<'_, F>,
+    input: &mut R,
+    log: &mut H,
+    out: &mut W,
+) -> Result<Status, RunStop>
+    requires { network.topology.nodes ≡ network.topology.ids }
+{
+    match snapshot {
+        None => match Config::<P>::boot(alloc, network.topology, network.modulus) {
+            Ok(opening) => session_from(alloc, opening, past, input, log, out),
+            Err(_) => Err(RunStop::NoMemory),
+        },
+        Some(snapshot) => match start::<P>(alloc, network, snapshot) {
+            Ok(opening) => session_from(alloc, opening, past, input, log, out),
+            Err(fault) => refuse_start(fault, out),
+        },
+    }
+}
+
+// A session from this configuration on.
+fn session_from<P: Application, F: Read, R: Read, H: Write, W: Write>(
+    alloc: Global,
+    opening: Config<P>,
+    past: Past<'_, F>,
+    input: &mut R,
+    log: &mut H,
+    out: &mut W,
+) -> Result<Status, RunStop> {
+    match past {
+        Past::Unkept => end_session(run_session(alloc, opening, None, input, log, out)),
+        Past::New => end_session(begin_history(alloc, opening, input, log, out)),
+        Past::Kept(reader) => match resume_history(alloc, opening, reader, input, log, out) {
+            Ok(left) => end_session(Ok(left)),
+            Err(ResumeStop::Past(fault)) => refuse_past(fault, out),
+            Err(ResumeStop::Run(stop)) => Err(stop),
+        },
+    }
+}
+
+// The status of a session that ended so.
+fn end_session<P: Application>(ended: Result<Config<P>, RunStop>) -> Result<Status, RunStop> {
+    match ended {
+        Ok(left) => {
+            drop(left);
+            Ok(Status::Good)
+        }
+        Err(stop) => Err(stop),
+    }
+}
+
+// Answers a history from which no session can go on.
+fn refuse_past<W: Write>(fault: ReaderFault, out: &mut W) -> Result<Status, RunStop> {
+    match fault {
+        ReaderFault::Text(BookFault::NoMemory) => Err(RunStop::NoMemory),
+        ReaderFault::Text(BookFault::ReadFailed) => Err(RunStop::ReadFailed),
+        ReaderFault::Text(fault) => refuse_history(fault, out),
+        ReaderFault::OtherModulus(modulus) => refuse_modulus(modulus, out),
+        ReaderFault::Entries(VerifyFault::NotEnabledAt(position)) => refuse_entry(position, out),
+        ReaderFault::Entries(VerifyFault::NoMemory) => Err(RunStop::NoMemory),
+    }
+}
