@@ -16,7 +16,8 @@ abbrev pub page_frame : Frame
 page_frame = page_text HEAD.now MOMENTS.now VIEWS.now
 
 -- entries that aren't too many are played
-pub page_few : {L : Type 0} (around : Frame) (title name : List ℕ) (m : Meaning L) (c : Configuration L) (es : List Entry)
+pub page_few : {L : Type 0} (around : Frame) (title name : List ℕ) (m : Meaning L) (c : Configuration L)
+    (es : List Entry)
     → length es ≤ 100000
     → page_output around title name m c es ≡ (around (data_text m.app m.text m.from_text title name c es), Good)
 page_few around title name m c es few = rw (le-ltb 100000 (length es) few) refl

@@ -35,7 +35,8 @@ page_output around title name m c es =
     else (around (data_text m.app m.text m.from_text title name c es), Good)
 
 -- what is written for entries that a text has: whether each is allowed where it stands is judged before their number
-pub data IsPageOfEntries {L : Type 0} (around : Frame) (title name : List ℕ) (m : Meaning L) (c : Configuration L) (es : List Entry)
+pub data IsPageOfEntries {L : Type 0} (around : Frame) (title name : List ℕ) (m : Meaning L) (c : Configuration L)
+    (es : List Entry)
     (output : List ℕ × Status) : Type 0 where
   not_enabled : (position : ℕ) → IsFirstRefused m.app m.from_text c es position
       → output ≡ (not_enabled_text position, NotEnabled) → IsPageOfEntries around title name m c es output
@@ -44,7 +45,8 @@ pub data IsPageOfEntries {L : Type 0} (around : Frame) (title name : List ℕ) (
 
 -- what is written for the text of a history that opens so, and the status: the text is judged first, then its modulus,
 -- which has to be the opening's, and then its entries
-pub data IsPage {L : Type 0} (around : Frame) (title name : List ℕ) (m : Meaning L) (c : Configuration L) (history : List ℕ)
+pub data IsPage {L : Type 0} (around : Frame) (title name : List ℕ) (m : Meaning L) (c : Configuration L)
+    (history : List ℕ)
     (output : List ℕ × Status) : Type 0 where
   bad_history : (f : BookFault) → IsReadAs history (Err f) → output ≡ (bad_history_text f, BadInput)
       → IsPage around title name m c history output
@@ -54,7 +56,8 @@ pub data IsPage {L : Type 0} (around : Frame) (title name : List ℕ) (m : Meani
       → IsPage around title name m c history output
 
 -- the same from the booted configuration of a graph, with sessions modulo this number
-abbrev pub IsPageFrom : {L : Type 0} → Frame → List ℕ → List ℕ → Meaning L → Graph → ℕ → List ℕ → List ℕ × Status → Type 0
+abbrev pub IsPageFrom : {L : Type 0} → Frame → List ℕ → List ℕ → Meaning L → Graph → ℕ → List ℕ → List ℕ × Status
+    → Type 0
 IsPageFrom {L = L} around title name m g modulus history output =
     (c : Configuration L) × IsBoot m.app g modulus c × IsPage around title name m c history output
 

@@ -1,6 +1,6 @@
 // The page that plays a history, from a booted configuration or a snapshot.
 
-ghost use Rattle.std.specs.Prelude.{◌≡◌, ◌≤◌, ℕ, IfErr, IsSome, List, Ok, length};
+ghost use Rattle.std.specs.Prelude.{◌≡◌, ℕ, IfErr, IsSome, List, Ok};
 ghost use Rattle.topology.specs.TopologyTable.{app_word};
 ghost use Rattle.topology.specs.TopologyText.{IsReadFault};
 ghost use Rattle.history.specs.Entries.{replayed};
@@ -44,7 +44,8 @@ pub fn page_text<R: Read, W: Write>(
     title: &[u8],
     out: &mut W,
 ) -> Result<Status, RunStop>
-    ensures leaves { LeavesOfReader (R.remaining history.old) (IsPageText (page_text HEAD.now MOMENTS.now VIEWS.now) title.now topology.now)
+    ensures leaves { LeavesOfReader (R.remaining history.old)
+        (IsPageText (page_text HEAD.now MOMENTS.now VIEWS.now) title.now topology.now)
         (W.contents out.old) (W.contents out.new) result }
     ensures untouched { (f : ReadFault) → IsReadFault topology.now f → history.new ≡ history.old }
 {
@@ -65,7 +66,8 @@ pub fn page_from<R: Read, W: Write>(
     out: &mut W,
 ) -> Result<Status, RunStop>
     ensures leaves { LeavesOfReader (R.remaining history.old)
-        (IsPageTextFrom (page_text HEAD.now MOMENTS.now VIEWS.now) title.now topology.now snapshot.now) (W.contents out.old) (W.contents out.new) result }
+        (IsPageTextFrom (page_text HEAD.now MOMENTS.now VIEWS.now) title.now topology.now snapshot.now)
+        (W.contents out.old) (W.contents out.new) result }
     ensures untouched { (f : ReadFault) → IsReadFault topology.now f → history.new ≡ history.old }
 {
     match read_network(alloc, topology) {
@@ -85,7 +87,8 @@ fn play_app_from<R: Read, W: Write>(
 ) -> Result<Status, RunStop>
     requires { network.topology.nodes ≡ network.topology.ids }
     ensures leaves { LeavesOfReader (R.remaining history.old)
-        (λ text. IsStartedOf (Plays (page_text HEAD.now MOMENTS.now VIEWS.now) title.now (app_word network.app) text) network.app network.topology network.modulus
+        (λ text. IsStartedOf (Plays (page_text HEAD.now MOMENTS.now VIEWS.now) title.now (app_word network.app)
+        text) network.app network.topology network.modulus
         snapshot.now) (W.contents out.old) (W.contents out.new) result }
 {
     match network.app {
@@ -119,7 +122,8 @@ fn play_started<P: Application, R: Read, W: Write>(
     ensures leaves { LeavesOfReader (R.remaining history.old)
         (λ text. IsStartedFrom (meaning_of P.app P.text P.from_text P.names) network.topology network.modulus
         snapshot.now
-        (Plays (page_text HEAD.now MOMENTS.now VIEWS.now) title.now app.now text P.Local (meaning_of P.app P.text P.from_text P.names)))
+        (Plays (page_text HEAD.now MOMENTS.now VIEWS.now) title.now app.now text P.Local
+        (meaning_of P.app P.text P.from_text P.names)))
         (W.contents out.old) (W.contents out.new) result }
 {
     match start::<P>(alloc, network, snapshot) {
@@ -161,7 +165,8 @@ fn play_booted<P: Application, R: Read, W: Write>(
     out: &mut W,
 ) -> Result<Status, RunStop>
     ensures leaves { LeavesOfReader (R.remaining history.old)
-        (IsPageFrom (page_text HEAD.now MOMENTS.now VIEWS.now) title.now app.now (meaning_of P.app P.text P.from_text P.names) network.topology
+        (IsPageFrom (page_text HEAD.now MOMENTS.now VIEWS.now) title.now app.now
+        (meaning_of P.app P.text P.from_text P.names) network.topology
         network.modulus) (W.contents out.old) (W.contents out.new) result }
 {
     match Config::<P>::boot(alloc, network.topology, network.modulus) {
@@ -180,7 +185,8 @@ fn play_from<P: Application, R: Read, W: Write>(
     out: &mut W,
 ) -> Result<Status, RunStop>
     ensures leaves { LeavesOfReader (R.remaining history.old)
-        (IsPage (page_text HEAD.now MOMENTS.now VIEWS.now) title.now app.now (meaning_of P.app P.text P.from_text P.names) opening.now)
+        (IsPage (page_text HEAD.now MOMENTS.now VIEWS.now) title.now app.now
+        (meaning_of P.app P.text P.from_text P.names) opening.now)
         (W.contents out.old) (W.contents out.new) result }
 {
     match read_book(alloc, history) {
@@ -202,7 +208,8 @@ fn play_book<P: Application, W: Write>(
 ) -> Result<Status, RunStop>
     ensures leaves { Leaves
         (λ output. (text : List ℕ) → IsReadAs text (Ok (book.now.modulus, book.now.entries.items))
-        → IsPage (page_text HEAD.now MOMENTS.now VIEWS.now) title.now app.now (meaning_of P.app P.text P.from_text P.names) opening.now text output)
+        → IsPage (page_text HEAD.now MOMENTS.now VIEWS.now) title.now app.now
+        (meaning_of P.app P.text P.from_text P.names) opening.now text output)
         (W.contents out.old) (W.contents out.new) result }
     ensures stop { IfErr result IsOutputStop }
 {
@@ -222,7 +229,8 @@ fn play_entries<P: Application, W: Write>(
     out: &mut W,
 ) -> Result<Status, RunStop>
     ensures leaves { Leaves
-        (IsPageOfEntries (page_text HEAD.now MOMENTS.now VIEWS.now) title.now app.now (meaning_of P.app P.text P.from_text P.names) opening.now
+        (IsPageOfEntries (page_text HEAD.now MOMENTS.now VIEWS.now) title.now app.now
+        (meaning_of P.app P.text P.from_text P.names) opening.now
         entries.now) (W.contents out.old) (W.contents out.new) result }
     ensures stop { IfErr result IsOutputStop }
 {
@@ -246,7 +254,8 @@ fn play<P: Application, W: Write>(
     requires run { IsSome (replayed P.app P.from_text opening.now entries.now) }
     requires reports { reports.now ≡ reports_of P.app P.from_text opening.now entries.now }
     ensures leaves { Leaves
-        (λ output. output ≡ page_output (page_text HEAD.now MOMENTS.now VIEWS.now) title.now app.now (meaning_of P.app P.text P.from_text P.names)
+        (λ output. output ≡ page_output (page_text HEAD.now MOMENTS.now VIEWS.now) title.now app.now
+        (meaning_of P.app P.text P.from_text P.names)
         opening.now entries.now) (W.contents out.old) (W.contents out.new) result }
     ensures stop { IfErr result IsOutputStop }
 {

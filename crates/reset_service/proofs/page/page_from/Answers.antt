@@ -19,7 +19,8 @@ pub returns-in-Ok-clause-leaves : goal.returns-in-Ok-clause-leaves
 returns-in-Ok-clause-leaves g c =
     read_weaker (g.R.Read.remaining c.args.history.now)
     (IsPageTextFrom page_frame c.args.title.now c.args.topology.now c.args.snapshot.now)
-    (λ text. IsStartedOf (Plays page_frame c.args.title.now (app_word c.in-Ok.network.app) text) c.in-Ok.network.app c.in-Ok.network.topology c.in-Ok.network.modulus
+    (λ text. IsStartedOf (Plays page_frame c.args.title.now (app_word c.in-Ok.network.app) text) c.in-Ok.network.app
+    c.in-Ok.network.topology c.in-Ok.network.modulus
     c.args.snapshot.now) _ _ c.play_app_from.result
     (λ text o is. good_topology c.in-Ok.network.topology c.in-Ok.network.app c.in-Ok.network.modulus
     c.in-Ok.ensures.ok is) c.play_app_from.ensures.leaves

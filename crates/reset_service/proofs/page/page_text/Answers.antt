@@ -11,7 +11,8 @@ use Rattle.reset_service.proofs.page.page_text.Goals as goal
 pub returns-in-Ok-clause-leaves : goal.returns-in-Ok-clause-leaves
 returns-in-Ok-clause-leaves g c =
     read_weaker (g.R.Read.remaining c.args.history.now) (IsPageText page_frame c.args.title.now c.args.topology.now)
-    (IsPageOf page_frame c.args.title.now c.in-Ok.network.app c.in-Ok.network.topology c.in-Ok.network.modulus) _ _ c.play_app.result
+    (IsPageOf page_frame c.args.title.now c.in-Ok.network.app c.in-Ok.network.topology c.in-Ok.network.modulus) _ _
+    c.play_app.result
     (λ text o is. good_topology c.in-Ok.network.topology c.in-Ok.network.app c.in-Ok.network.modulus
     c.in-Ok.ensures.ok is) c.play_app.ensures.leaves
 

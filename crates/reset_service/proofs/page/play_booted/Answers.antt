@@ -10,7 +10,8 @@ returns-in-Ok g c =
     let m = meaning_of g.P.Application.app g.P.Application.text g.P.Application.from_text g.P.Application.names in
     record {
       leaves = read_weaker (g.R.Read.remaining c.args.history.now)
-          (IsPageFrom page_frame c.args.title.now c.args.app.now m c.args.network.topology c.args.network.modulus) (IsPage page_frame c.args.title.now c.args.app.now m c.in-Ok.opening)
+          (IsPageFrom page_frame c.args.title.now c.args.app.now m c.args.network.topology c.args.network.modulus)
+          (IsPage page_frame c.args.title.now c.args.app.now m c.in-Ok.opening)
           _ _ c.play_from.result
           (λ text o is. (c.in-Ok.opening, c.in-Ok.ensures.ok, is)) c.play_from.ensures.leaves;
     }

@@ -15,7 +15,8 @@ returns-in-Err-NotEnabledAt-clause-leaves g c =
     let position = c.in-Err-NotEnabledAt.position in
     let es = c.args.entries.now in
     let first = c.in-Err-NotEnabledAt.ensures.err position c.in-Err-NotEnabledAt.field-0-is in
-    leaves_weaker (λ o. o ≡ (not_enabled_text position, NotEnabled)) (IsPageOfEntries page_frame c.args.title.now c.args.app.now m c.args.opening.now es) _ _
+    leaves_weaker (λ o. o ≡ (not_enabled_text position, NotEnabled))
+    (IsPageOfEntries page_frame c.args.title.now c.args.app.now m c.args.opening.now es) _ _
     c.refuse_entry.result
     (λ o is. not_enabled position
     (subst (λ x. IsFirstRefused m.app m.from_text x es position) c.in_ok-copy.ensures first) is)

@@ -1,4 +1,4 @@
-use Rattle.std.proofs.Common.{◌≡◌, ◌≢◌, ◌<◌, ◌≤◌, ℕ, Err, length, List, Ok, rules}
+use Rattle.std.proofs.Common.{◌≡◌, ◌≢◌, ℕ, Err, List, Ok, rules}
 use Rattle.history.specs.HistoryText.{IsReadAs}
 use Rattle.history.specs.declared.text.BookFault.TheVariants.{NoMemory, ReadFailed}
 use Rattle.script_replay.specs.Meaning.{meaning_of}
@@ -7,7 +7,7 @@ use Rattle.reset_service.specs.Page.IsPage.{bad_history}
 use Rattle.reset_service.specs.Verified.{bad_history_text}
 use Rattle.script_replay.specs.declared.status.RunStop.TheVariants as stop
 use Rattle.script_replay.specs.declared.status.Status.TheVariants.{BadInput}
-use Rattle.reset_service.proofs.Verifying.{read_anyway, read_leaves, read_unread}
+use Rattle.reset_service.proofs.Verifying.{read_leaves, read_unread}
 use Rattle.reset_service.proofs.Paging.{page_frame}
 use Rattle.reset_service.proofs.page.play_from.Goals as goal
 
@@ -18,9 +18,11 @@ returns-in-Ok g c =
     let modulus = c.in-Ok.book.modulus in
     let es = c.in-Ok.book.entries.items in
     record {
-      leaves = read_leaves (g.R.Read.remaining c.args.history.now) (IsPage page_frame c.args.title.now c.args.app.now m opening)
+      leaves = read_leaves (g.R.Read.remaining c.args.history.now)
+          (IsPage page_frame c.args.title.now c.args.app.now m opening)
           (λ text. IsReadAs text (Ok (modulus, es)))
-          (λ o. (text : List ℕ) → IsReadAs text (Ok (modulus, es)) → IsPage page_frame c.args.title.now c.args.app.now m opening text o) _ _ c.play_book.result
+          (λ o. (text : List ℕ) → IsReadAs text (Ok (modulus, es)) → IsPage page_frame c.args.title.now
+          c.args.app.now m opening text o) _ _ c.play_book.result
           (λ text o reads is. is text reads) c.in-Ok.ensures.ok c.play_book.ensures.leaves;
     }
 
@@ -32,7 +34,8 @@ returns-in-Err g c =
     let memory : fault ≢ NoMemory = search rules in
     let device : fault ≢ ReadFailed = search rules in
     record {
-      leaves = read_leaves (g.R.Read.remaining c.args.history.now) (IsPage page_frame c.args.title.now c.args.app.now m opening) (λ text. IsReadAs text (Err fault))
+      leaves = read_leaves (g.R.Read.remaining c.args.history.now)
+          (IsPage page_frame c.args.title.now c.args.app.now m opening) (λ text. IsReadAs text (Err fault))
           (λ o. o ≡ (bad_history_text fault, BadInput)) _ _ c.refuse_history.result
           (λ text o bad is. bad_history fault bad is) (c.in-Err.ensures.err memory device)
           c.refuse_history.ensures.leaves;
@@ -42,7 +45,8 @@ pub returns-in-Err-NoMemory : goal.returns-in-Err-NoMemory
 returns-in-Err-NoMemory g c =
     let m = meaning_of g.P.Application.app g.P.Application.text g.P.Application.from_text g.P.Application.names in
     record {
-      leaves = read_unread (g.R.Read.remaining c.args.history.now) (IsPage page_frame c.args.title.now c.args.app.now m c.args.opening.now)
+      leaves = read_unread (g.R.Read.remaining c.args.history.now)
+          (IsPage page_frame c.args.title.now c.args.app.now m c.args.opening.now)
           (g.W.Write.contents c.args.out.now) stop.NoMemory tt;
     }
 
@@ -50,6 +54,7 @@ pub returns-in-Err-ReadFailed : goal.returns-in-Err-ReadFailed
 returns-in-Err-ReadFailed g c =
     let m = meaning_of g.P.Application.app g.P.Application.text g.P.Application.from_text g.P.Application.names in
     record {
-      leaves = read_unread (g.R.Read.remaining c.args.history.now) (IsPage page_frame c.args.title.now c.args.app.now m c.args.opening.now)
+      leaves = read_unread (g.R.Read.remaining c.args.history.now)
+          (IsPage page_frame c.args.title.now c.args.app.now m c.args.opening.now)
           (g.W.Write.contents c.args.out.now) stop.ReadFailed tt;
     }

@@ -14,7 +14,8 @@ returns-in-Ok g c =
     let m = meaning_of g.P.Application.app g.P.Application.text g.P.Application.from_text g.P.Application.names in
     let here = IsStartedFrom m c.args.network.topology c.args.network.modulus c.args.snapshot.now in
     record {
-      leaves = read_weaker (g.R.Read.remaining c.args.history.now) (λ text. here (Plays page_frame c.args.title.now c.args.app.now text _ m))
+      leaves = read_weaker (g.R.Read.remaining c.args.history.now)
+          (λ text. here (Plays page_frame c.args.title.now c.args.app.now text _ m))
           (λ text. Plays page_frame c.args.title.now c.args.app.now text _ m c.in-Ok.opening) _ _ c.play_from.result
           (λ text o is. started c.in-Ok.opening c.in-Ok.ensures.short c.in-Ok.ensures.ok is) c.play_from.ensures.leaves;
     }
@@ -24,7 +25,9 @@ returns-in-Err g c =
     let m = meaning_of g.P.Application.app g.P.Application.text g.P.Application.from_text g.P.Application.names in
     let here = IsStartedFrom m c.args.network.topology c.args.network.modulus c.args.snapshot.now in
     record {
-      leaves = read_anyway (g.R.Read.remaining c.args.history.now) (λ text. here (Plays page_frame c.args.title.now c.args.app.now text _ m))
-          (λ o. (c.in-Err.fault ≢ NoMemory) × (o ≡ (start_fault_text c.in-Err.fault, BadInput))) _ _ c.refuse_start.result
+      leaves = read_anyway (g.R.Read.remaining c.args.history.now)
+          (λ text. here (Plays page_frame c.args.title.now c.args.app.now text _ m))
+          (λ o. (c.in-Err.fault ≢ NoMemory) × (o ≡ (start_fault_text c.in-Err.fault, BadInput))) _ _
+          c.refuse_start.result
           (λ text o is. bad_snapshot c.in-Err.fault (c.in-Err.ensures.err is.0) is.1) c.refuse_start.ensures.leaves;
     }
