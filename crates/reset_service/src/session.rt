@@ -1,5 +1,7 @@
 // Sessions on the network of a topology.
 
+ghost use Rattle.std.specs.Prelude.{◌≡◌};
+
 use crate::started::{refuse_start, start};
 use crate::verified::{refuse_entry, refuse_history, refuse_modulus};
 use app_interface::{Application, Idle};
@@ -82,14 +84,43 @@ fn session_on<P: Application, F: Read, R: Read, H: Write, W: Write>(
     requires { network.topology.nodes ≡ network.topology.ids }
 {
     match snapshot {
-        None => match Config::<P>::boot(alloc, network.topology, network.modulus) {
-            Ok(opening) => session_from(alloc, opening, past, input, log, out),
-            Err(_) => Err(RunStop::NoMemory),
-        },
-        Some(snapshot) => match start::<P>(alloc, network, snapshot) {
-            Ok(opening) => session_from(alloc, opening, past, input, log, out),
-            Err(fault) => refuse_start(fault, out),
-        },
+        None => session_booted::<P, F, R, H, W>(alloc, network, past, input, log, out),
+        Some(snapshot) => {
+            session_started::<P, F, R, H, W>(alloc, network, snapshot, past, input, log, out)
+        }
+    }
+}
+
+// A session from the booted configuration of a network.
+fn session_booted<P: Application, F: Read, R: Read, H: Write, W: Write>(
+    alloc: Global,
+    network: Network,
+    past: Past<'_, F>,
+    input: &mut R,
+    log: &mut H,
+    out: &mut W,
+) -> Result<Status, RunStop> {
+    match Config::<P>::boot(alloc, network.topology, network.modulus) {
+        Ok(opening) => session_from(alloc, opening, past, input, log, out),
+        Err(_) => Err(RunStop::NoMemory),
+    }
+}
+
+// A session from the configuration of a network that a snapshot names.
+fn session_started<P: Application, F: Read, R: Read, H: Write, W: Write>(
+    alloc: Global,
+    network: Network,
+    snapshot: &[u8],
+    past: Past<'_, F>,
+    input: &mut R,
+    log: &mut H,
+    out: &mut W,
+) -> Result<Status, RunStop>
+    requires { network.topology.nodes ≡ network.topology.ids }
+{
+    match start::<P>(alloc, network, snapshot) {
+        Ok(opening) => session_from(alloc, opening, past, input, log, out),
+        Err(fault) => refuse_start(fault, out),
     }
 }
 
