@@ -117,7 +117,7 @@ fn whole_lines<F: Read + Seek>(file: &mut F) -> io::Result<(u64, u64)> {
     let start = length.saturating_sub(TAIL as u64);
     file.seek(SeekFrom::Start(start))?;
     let mut tail = [0; TAIL];
-    let count = read_tail(file, &mut tail)?;
+    let count = read_tail(file, length, &mut tail)?;
     match last_line_feed(&tail[..count]) {
         Some(at) => {
             let torn = (count - at - 1) as u64;
@@ -128,18 +128,15 @@ fn whole_lines<F: Read + Seek>(file: &mut F) -> io::Result<(u64, u64)> {
     }
 }
 
-// Fills the buffer, as far as the reader has bytes.
-fn read_tail<F: Read>(file: &mut F, tail: &mut [u8; TAIL]) -> io::Result<usize>
+// Reads the last bytes of a file of this length, and returns how many they are.
+fn read_tail<F: Read>(file: &mut F, length: u64, tail: &mut [u8; TAIL]) -> io::Result<usize>
     ensures { IfOk result (λ count. count ≤ 4096) }
 {
-    let mut count = 0;
-    for _ in 0..TAIL {
-        let more = file.read(&mut tail[count..])?;
-        if more == 0 {
-            return Ok(count);
-        }
-        count += more;
-    }
+    let count = match usize::try_from(length) {
+        Ok(length) if length < TAIL => length,
+        _ => TAIL,
+    };
+    file.read_exact(&mut tail[..count])?;
     Ok(count)
 }
 
