@@ -116,7 +116,7 @@ impl<'a, R: Files> HistoryFile<'a, R> {
         match self.file.set_permissions(permissions) {
             Ok(()) => Ok(self),
             Err(error) => {
-                self.discard(rt);
+                discard(rt, &self.part);
                 Err(write_stop(error))
             }
         }
@@ -133,39 +133,55 @@ impl<'a, R: Files> HistoryFile<'a, R> {
         ensures stopped { IfErr ended (λ stop. result ≡ Err stop) }
         ensures ok { IfOk result (λ _. result ≡ ended) }
     {
-        let taken = match ended {
-            Ok(_) => self.take_place(rt, out),
+        let HistoryFile { path, part, file } = self;
+        let left = match ended {
+            Ok(_) => has_bytes(&file),
             Err(_) => Ok(false),
+        };
+        // Where standard output is closed, the file may have its descriptor, and isn't to get the answers.
+        drop(file);
+        let taken = match left {
+            Ok(true) => take_place(rt, path, &part, out),
+            left => left,
         };
         match taken {
             Ok(true) => {}
-            Ok(false) => self.discard(rt),
+            Ok(false) => discard(rt, &part),
             Err(error) => {
-                self.discard(rt);
+                discard(rt, &part);
                 return Err(write_stop(error));
             }
         }
         ended
     }
+}
 
-    // Puts the file beside it at its path, if it has a history. Whether it is to stay.
-    fn take_place<W: Write>(&self, rt: &R, out: &mut W) -> io::Result<bool> {
-        match &self.part {
-            Some(part) if self.file.metadata()?.len() > 0 => {
-                out.flush()?;
-                fs::rename(rt, part, self.path)?;
-                Ok(true)
-            }
-            _ => Ok(false),
+// Writes the answers, and then puts the file beside a path there, if there is one. Whether it is to stay.
+fn take_place<R: Files, W: Write>(
+    rt: &R,
+    path: &str,
+    part: &Option<String>,
+    out: &mut W,
+) -> io::Result<bool> {
+    match part {
+        Some(part) => {
+            out.flush()?;
+            fs::rename(rt, part, path)?;
+            Ok(true)
         }
+        None => Ok(false),
     }
+}
 
-    // Removes the file beside it, if there is one.
-    fn discard(&self, rt: &R) {
-        if let Some(part) = &self.part {
-            let _ = fs::remove_file(rt, part);
-        }
+// Removes the file beside a path, if there is one.
+fn discard<R: Files>(rt: &R, part: &Option<String>) {
+    if let Some(part) = part {
+        let _ = fs::remove_file(rt, part);
     }
+}
+
+fn has_bytes<F: OpenFile>(file: &F) -> io::Result<bool> {
+    Ok(file.metadata()?.len() > 0)
 }
 
 fn write_stop(error: io::Error) -> RunStop
