@@ -13,7 +13,7 @@ A reset restarts all nodes of a network while they run: a request travels up a s
 tree to its leader, the leader opens a new session, and the session travels down the tree.
 
 Without a subcommand the program reads one text from standard input: a topology, a line
-that is `---`, and a script. `reset-service replay --help` tells what these are.";
+that is `---`, and a script. `reset-service replay --help` describes these.";
 
 pub const AFTER_HELP: &str = "\
 Examples:
@@ -180,7 +180,7 @@ The first line is `reset-history 3 M`, where sessions are counted modulo M, the 
 `modulus`. `reset-history 2 M` is read too, and `reset-history 1` as one with M = 4294967296; these
 two have neither `fault off` nor `fault on`. Each line after the first is one entry, a command of a
 script that `replay` answers with `applied`, `complete NUMBER` or `disturbed`, an action with the
-number of its case; `reset-service replay --help` tells the commands. There are no comments, no
+number of its case; `reset-service replay --help` lists the commands. There are no comments, no
 empty lines, no questions and no draws, and each line, the last one too, ends with a line feed.
 
 Example:
@@ -320,9 +320,9 @@ pub const SHAPE_SEED_HELP: &str =
 pub const APP_HELP: &str = "idle, token, mutex or routes; idle where this is left out";
 
 pub const EXPLAIN_HELP: Help = Help {
-    about: "Tells what a word that the program prints or reads means, and what to do",
+    about: "Explains a word that the program prints or reads, and says what to do",
     long_about: "\
-Tells what a word that the program prints or reads means, and what to do: a refusal, a fault of a
+Explains a word that the program prints or reads, and says what to do: a refusal, a fault of a
 topology or of a history, or a command of a script.",
     after_help: "\
 Example:

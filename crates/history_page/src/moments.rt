@@ -1,6 +1,6 @@
-// What stands after the data on all pages, first part: the script that reads it and tells what holds at a moment.
+// What stands after the data on all pages, first part: the script that reads it and computes what holds at a moment.
 
-/// What stands after the data on all pages, first part: the script that reads it and tells what holds at a moment.
+/// What stands after the data on all pages, first part: the script that reads it and computes what holds at a moment.
 pub const MOMENTS: &[u8] = br#"</script>
 <script>
 'use strict';
