@@ -1,7 +1,7 @@
 # Needs `rt`, the command of the Rattle kit, make and python3, which rt needs too: nothing else, but for
 # `make bench`.
 
-.PHONY: run try build install examples test test-page mutants gate-times reading-list bench fuzz soak
+.PHONY: run try build install examples test test-page docs mutants gate-times reading-list bench fuzz soak
 
 # Replays one whole reset on the line of nodes 1, 2, 3: by the proved program where `make build` has left it, else
 # by the program before its proof, within one to two and a half minutes.
@@ -35,6 +35,10 @@ test:
 test-page: build
 	@tests/page-browser build/reset-service
 
+# Writes the pictures and pages of docs/ anew: those that the guide's commands leave, and those of one reset.
+docs: build
+	@tests/guide build/reset-service --write
+
 # Tries the wrong bodies that the gate leaves out, of one crate or of all: make mutants CRATE=topology
 mutants:
 	@bash tools/mutants $(CRATE)
@@ -51,10 +55,12 @@ reading-list:
 	@mv build/trust.md docs/trust.md
 
 # Compares the program with a plain Rust program of the same replay, bench/baseline. Needs rustc,
-# valgrind and GNU time beside.
+# valgrind and GNU time beside. Then what pages cost, in Chromium too where there is one.
 bench: build
 	@bash bench/run build/reset-service
 	@bash bench/run-book
+	@bash bench/run-explore build/reset-service
+	@bench/run-page build/reset-service
 
 # Compares the program with a second one, written in Python, on random texts: make fuzz N=100000 SEED=s JOBS=2
 fuzz: build

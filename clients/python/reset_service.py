@@ -180,6 +180,10 @@ class Session:
         """The rows that fail: of all nodes, or of one."""
         return Check([_violation(line) for line in self.ask(_about("check", node)) if line.startswith("link ")])
 
+    def explain(self, word: str) -> str:
+        """What a word of an answer means, such as the reason of a refusal."""
+        return "".join(line + "\n" for line in self.ask(f"explain {word}"))
+
     def snapshot(self) -> str:
         """The configuration as a text that `--from` reads back."""
         return "".join(line + "\n" for line in self.ask("snapshot"))

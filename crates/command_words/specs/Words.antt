@@ -16,11 +16,12 @@ use Rattle.clap.specs.declared.error.Error.{Error}
 use Rattle.clap.specs.declared.error.ErrorKind.TheVariants.{OutOfMemory}
 use Rattle.command_words.specs.declared.words.Job.{Job}
 use Rattle.command_words.specs.declared.words.Job.TheVariants.{Joined, Replay, Check, Verify, Picture, Record, Threads}
-use Rattle.command_words.specs.declared.words.Job.TheVariants.{Drive, Plan, Session, Page, Shape, Explain, Tables}
+use Rattle.command_words.specs.declared.words.Job.TheVariants.{Drive, Plan, Explore, Session, Page, Shape, Explain, Tables}
 use Rattle.command_words.specs.declared.words.LineFault.{LineFault}
 use Rattle.command_words.specs.declared.words.Paths.{Paths}
 use Rattle.command_words.specs.declared.words.LineFault.TheVariants.{BadWords, NoMemory}
 use Rattle.command_words.specs.declared.drive_words.DriveWords.{DriveWords}
+use Rattle.command_words.specs.declared.explore_words.ExploreWords.{ExploreWords}
 use Rattle.command_words.specs.declared.page_words.PageWords.{PageWords}
 use Rattle.command_words.specs.declared.plan_words.PlanWords.{PlanWords}
 use Rattle.command_words.specs.declared.record_words.RecordWords.{RecordWords}
@@ -69,6 +70,15 @@ plan_command =
     with_rule
     (with_rule (with_rule (new_app (codes "plan")) (path (codes "TOPOLOGY"))) (optional (path (codes "SCRIPT"))))
     from_option
+
+-- `explore TOPOLOGY [SCRIPT] [--from SNAPSHOT] [--acts] [--most N]`
+unfoldable pub explore_command : App
+explore_command =
+    with_rule
+    (with_rule
+    (with_rule
+    (with_rule (with_rule (new_app (codes "explore")) (path (codes "TOPOLOGY"))) (optional (path (codes "SCRIPT"))))
+    from_option) (flag (codes "acts"))) (optional (number_option (codes "most") 1 100000000))
 
 -- `session TOPOLOGY [--from SNAPSHOT] [--history FILE] [--no-sync]`
 unfoldable pub session_command : App
@@ -138,8 +148,9 @@ abbrev pub scripts_program : App
 scripts_program =
     with_subcommand
     (with_subcommand
+    (with_subcommand
     (with_subcommand (with_subcommand new_program (texts_command (codes "replay") (codes "SCRIPT")).top)
-    (texts_command (codes "check") (codes "SCRIPT")).top) plan_command.top) session_command.top
+    (texts_command (codes "check") (codes "SCRIPT")).top) plan_command.top) explore_command.top) session_command.top
 
 -- with those that read a history
 abbrev pub texts_program : App
@@ -154,7 +165,7 @@ histories_program =
     with_subcommand
     (with_subcommand (with_subcommand texts_program record_command.top) threads_command.top) drive_command.top
 
--- the program with its thirteen subcommands
+-- the program with its fourteen subcommands
 unfoldable pub program : App
 program =
     with_subcommand
@@ -203,6 +214,15 @@ HasPlanWords found words = (name_in found ≡ Some (codes "plan"))
 abbrev pub is_on : Option Text → Bool
 is_on None = false
 is_on (Some value) = bytes_eq value (codes "true")
+
+-- it is the subcommand `explore` with these values: at most 1,000,000 configurations are visited where no number is given
+abbrev pub HasExploreWords : Found → ExploreWords → Type 0
+HasExploreWords found words = (name_in found ≡ Some (codes "explore"))
+    × (value_in found (codes "TOPOLOGY") ≡ Some words.topology.now)
+    × (value_in found (codes "SCRIPT") ≡ option_map (λ script. script.now) words.script)
+    × (value_in found (codes "from") ≡ option_map (λ from. from.now) words.from)
+    × (words.acts ≡ is_on (value_in found (codes "acts")))
+    × IsNumberOr 1000000 1 100000000 (value_in found (codes "most")) words.most
 
 -- it is the subcommand `session` with these values, and the history is synced unless the words say that it isn't
 abbrev pub HasSessionWords : Found → SessionWords → Type 0
@@ -265,6 +285,7 @@ AskedBy found Joined = found ≡ None
 AskedBy found (Replay paths) = HasPaths found (codes "replay") (codes "SCRIPT") paths
 AskedBy found (Check paths) = HasPaths found (codes "check") (codes "SCRIPT") paths
 AskedBy found (Plan words) = HasPlanWords found words
+AskedBy found (Explore words) = HasExploreWords found words
 AskedBy found (Session words) = HasSessionWords found words
 AskedBy found (Verify paths) = HasPaths found (codes "verify") (codes "HISTORY") paths
 AskedBy found (Picture paths) = HasPaths found (codes "picture") (codes "HISTORY") paths
@@ -326,6 +347,11 @@ HasFlag name rows = IfSome (first_of name rows) (λ value. (value ≡ codes "tru
 abbrev pub HasSession : List Row → Type 0
 HasSession rows = IsSome (first_of (codes "TOPOLOGY") rows) × HasFlag (codes "no-sync") rows
 
+-- what `explore` needs was found
+abbrev pub HasExplore : List Row → Type 0
+HasExplore rows = IsSome (first_of (codes "TOPOLOGY") rows) × HasFlag (codes "acts") rows
+    × MayHaveNumber (codes "most") 1 100000000 rows
+
 -- what `record` needs was found
 abbrev pub HasRecord : List Row → Type 0
 HasRecord rows = HasTexts (codes "SCRIPT") rows × IsSome (first_of (codes "history") rows)
@@ -365,7 +391,8 @@ HasJob (Some s) = (IsOfScript s.0 × HasTexts (codes "SCRIPT") s.1)
     ⊎ ((s.0 ≡ codes "tables")
     ⊎ (((s.0 ≡ codes "plan") × HasPlan s.1)
     ⊎ (((s.0 ≡ codes "session") × HasSession s.1)
-    ⊎ ((s.0 ≡ codes "page") × HasTexts (codes "HISTORY") s.1))))))))))
+    ⊎ (((s.0 ≡ codes "explore") × HasExplore s.1)
+    ⊎ ((s.0 ≡ codes "page") × HasTexts (codes "HISTORY") s.1)))))))))))
 
 -- clap's error as a fault
 abbrev pub StandsFor : Error → LineFault → Type 0

@@ -2,7 +2,8 @@
 
 ghost use Rattle.std.specs.Prelude.{◌≡◌, IfOk, codes};
 ghost use Rattle.clap.specs.Words.{App, Rule, app_of, new_app, with_rule, with_subcommand};
-ghost use Rattle.command_words.specs.Words.{IsCommand, IsWord, drive_command, explain_command, file_option};
+ghost use Rattle.command_words.specs.Words.{IsCommand, IsWord, drive_command, explain_command};
+ghost use Rattle.command_words.specs.Words.{explore_command, file_option};
 ghost use Rattle.command_words.specs.Words.{flag, from_option};
 ghost use Rattle.command_words.specs.Words.{histories_program, new_program, number_option, optional, path, program};
 ghost use Rattle.command_words.specs.Words.{page_command, plan_command, record_command, scripts_program};
@@ -10,12 +11,13 @@ ghost use Rattle.command_words.specs.Words.{session_command, tables_command, tex
 ghost use Rattle.command_words.specs.Words.{threads_command, topology_command, within};
 
 use crate::help::{
-    ABOUT, AFTER_HELP, APP_HELP, CHECK_HELP, DRIVE_HELP, DRIVE_SEED_HELP, EXPLAIN_HELP,
-    FAULTS_HELP, FEW_NODES_HELP, FROM_HELP, HISTORY_FILE_HELP, HISTORY_HELP, Help, LONG_ABOUT,
-    NO_SYNC_HELP, NODES_HELP, PAGE_HELP, PICTURE_HELP, PLAN_HELP, PLAN_SCRIPT_HELP, RECORD_HELP,
-    REPLAY_HELP, SCRIPT_HELP, SESSION_HELP, SESSION_HISTORY_HELP, SHAPE_HELP, SHAPE_NAME_HELP,
-    SHAPE_SEED_HELP, STEPS_HELP, TABLES_ABOUT, TABLES_LONG_ABOUT, THREADS_HELP, TITLE_HELP,
-    TOPOLOGY_HELP, TURNS_HELP, VERIFY_HELP, VERSION, WORD_HELP,
+    ABOUT, ACTS_HELP, AFTER_HELP, APP_HELP, CHECK_HELP, DRIVE_HELP, DRIVE_SEED_HELP, EXPLAIN_HELP,
+    EXPLORE_HELP, EXPLORE_SCRIPT_HELP, FAULTS_HELP, FEW_NODES_HELP, FROM_HELP, HISTORY_FILE_HELP,
+    HISTORY_HELP, Help, LONG_ABOUT, MOST_HELP, NO_SYNC_HELP, NODES_HELP, PAGE_HELP, PICTURE_HELP,
+    PLAN_HELP, PLAN_SCRIPT_HELP, RECORD_HELP, REPLAY_HELP, SCRIPT_HELP, SESSION_HELP,
+    SESSION_HISTORY_HELP, SHAPE_HELP, SHAPE_NAME_HELP, SHAPE_SEED_HELP, STEPS_HELP, TABLES_ABOUT,
+    TABLES_LONG_ABOUT, THREADS_HELP, TITLE_HELP, TOPOLOGY_HELP, TURNS_HELP, VERIFY_HELP, VERSION,
+    WORD_HELP,
 };
 use clap::builder::ValueParser;
 use clap::{Arg, ArgAction, Command};
@@ -59,6 +61,7 @@ fn scripts_line<'a>(alloc: Global) -> Result<Command<'a>, AllocError>
     let line = with_command(Ok(program_words(alloc)), replay);
     let line = with_command(line, check);
     let line = with_command(line, plan_words(alloc));
+    let line = with_command(line, explore_words(alloc));
     with_command(line, session_words(alloc))
 }
 
@@ -95,8 +98,21 @@ fn plan_words<'a>(alloc: Global) -> Result<Command<'a>, AllocError>
 {
     let line = Ok(bare_words(alloc, "plan", &PLAN_HELP));
     let line = with_argument(line, path_word(alloc, "TOPOLOGY", TOPOLOGY_HELP));
-    let line = with_argument(line, script_word(alloc));
+    let line = with_argument(line, script_word(alloc, PLAN_SCRIPT_HELP));
     with_argument(line, from_word(alloc))
+}
+
+// The subcommand with the path of a topology and, where they are given, those of a script and of a snapshot, the flag of
+// the application's actions and a number of configurations.
+fn explore_words<'a>(alloc: Global) -> Result<Command<'a>, AllocError>
+    ensures { IfOk result (IsCommand explore_command) }
+{
+    let line = Ok(bare_words(alloc, "explore", &EXPLORE_HELP));
+    let line = with_argument(line, path_word(alloc, "TOPOLOGY", TOPOLOGY_HELP));
+    let line = with_argument(line, script_word(alloc, EXPLORE_SCRIPT_HELP));
+    let line = with_argument(line, from_word(alloc));
+    let line = with_argument(line, flag_word(alloc, "acts", ACTS_HELP));
+    with_argument(line, most_word(alloc))
 }
 
 // The subcommand with the path of a topology and, where they are given, those of a snapshot and of a file for the
@@ -252,6 +268,14 @@ fn faults_word<'a>(alloc: Global) -> Arg<'a>
     number_word(faults, 0, 1000)
 }
 
+// How many configurations are visited at most, which may be left out.
+fn most_word<'a>(alloc: Global) -> Arg<'a>
+    ensures { IsWord (optional (number_option (codes "most") 1 100000000)) result }
+{
+    let most = option_word(alloc, "most", "N", false, MOST_HELP);
+    number_word(most, 1, 100_000_000)
+}
+
 // How many nodes a shape has, which has to be given.
 fn nodes_word<'a>(alloc: Global) -> Arg<'a>
     ensures { IsWord (within 1 1024 (path (codes "N"))) result }
@@ -305,10 +329,10 @@ fn path_word<'a>(alloc: Global, name: &'a str, help: &'a str) -> Arg<'a>
 }
 
 // The path of a script, which may be left out.
-fn script_word<'a>(alloc: Global) -> Arg<'a>
+fn script_word<'a>(alloc: Global, help: &'a str) -> Arg<'a>
     ensures { IsWord (optional (path (codes "SCRIPT"))) result }
 {
-    Arg::new(alloc, "SCRIPT").help(PLAN_SCRIPT_HELP)
+    Arg::new(alloc, "SCRIPT").help(help)
 }
 
 // The path of a snapshot, which may be left out.

@@ -113,6 +113,35 @@ Example:
   reset-service replay examples/planned-repair/topology.toml script",
 };
 
+pub const EXPLORE_HELP: Help = Help {
+    about: "Visits every configuration that some order of the enabled events leads to",
+    long_about: "\
+Visits every configuration that some order of the enabled events leads to, and counts them.
+
+The script is run as `replay` runs it, but its answers aren't written. From the configuration that it
+leaves each enabled event is taken, and each that is enabled then, and so on: claims, follows, adopts,
+mends, joins, finishes, opens and relays, and with --acts the application's actions, but no requests.
+It prints `configurations N`, how many were reached; `steps N`, how many pairs of one of them and an
+event that is enabled there; `ends N`, in how many no event is enabled; `whole N`, in how many of these
+no row of tree and wave fails; and `longest N`, how many steps the longest order has, and
+`completions A to B`, how many resets an order that ends completes. Where some order never ends, it
+prints `endless` in place of the last two. Where there are more configurations than N of --most, it
+prints `more than N configurations` alone, and the exit status is 2.",
+    after_help: "\
+The exit status is 0 where every order ends and every end is whole, and else 1.
+
+Example:
+  reset-service explore examples/every-order/topology.toml examples/every-order/script",
+};
+
+pub const EXPLORE_SCRIPT_HELP: &str =
+    "A file with one command a line, which is run before; without it nothing is";
+
+pub const ACTS_HELP: &str = "Explores the application's actions too";
+
+pub const MOST_HELP: &str =
+    "How many configurations are visited at most, from 1 to 100000000; 1000000 where this is left out";
+
 pub const SESSION_HELP: Help = Help {
     about: "Answers commands as they come, and keeps what happened in a file",
     long_about: "\

@@ -3,6 +3,7 @@
 
 mod commands;
 mod drive_words;
+mod explore_words;
 mod help;
 mod page_words;
 mod plan_words;
@@ -13,6 +14,7 @@ mod thread_words;
 mod words;
 
 pub use drive_words::DriveWords;
+pub use explore_words::ExploreWords;
 pub use page_words::PageWords;
 pub use plan_words::PlanWords;
 pub use record_words::RecordWords;

@@ -3,12 +3,13 @@
 ghost use Rattle.std.specs.Prelude.{◌≡◌, [], codes, map, not, option_map, IfErr, IfOk, IsSome, Some};
 ghost use Rattle.clap.specs.Words.{first_of, found_of, rows_of, subcommand_rows_of};
 ghost use Rattle.command_words.specs.declared.words.LineFault.TheVariants.{NoMemory};
-ghost use Rattle.command_words.specs.Words.{faults_of, AskFor, AskedBy, HasDrive, HasJob, HasPlan, HasRecord, HasShape};
-ghost use Rattle.command_words.specs.Words.{HasSession, HasTexts, HasThreads, IsFaultOf, IsNumberOr};
+ghost use Rattle.command_words.specs.Words.{faults_of, AskFor, AskedBy, HasDrive, HasExplore, HasJob, HasPlan, HasRecord};
+ghost use Rattle.command_words.specs.Words.{HasSession, HasShape, HasTexts, HasThreads, IsFaultOf, IsNumberOr};
 ghost use Rattle.command_words.specs.Words.{IsNumberWithin, StandsFor, is_on, line_fault_text};
 
 use crate::commands::command_line;
 use crate::drive_words::DriveWords;
+use crate::explore_words::ExploreWords;
 use crate::page_words::PageWords;
 use crate::plan_words::PlanWords;
 use crate::record_words::RecordWords;
@@ -43,6 +44,8 @@ pub enum Job<'a> {
     Check(Paths<'a>),
     /// Plan for the network that a script leaves of a topology.
     Plan(PlanWords<'a>),
+    /// Explore all orders of the enabled events of the network that a script leaves of a topology.
+    Explore(ExploreWords<'a>),
     /// Answer the commands of the standard input as they come, and keep what happened in a file.
     Session(SessionWords<'a>),
     /// Verify the history of a file from the booted configuration of another's topology, or from a snapshot.
@@ -137,6 +140,7 @@ fn named_job<'a>(name: &str, values: &ArgMatches<'a>) -> Job<'a>
         "replay" => Job::Replay(paths_of(values, "SCRIPT")),
         "check" => Job::Check(paths_of(values, "SCRIPT")),
         "plan" => Job::Plan(plan_words_of(values)),
+        "explore" => Job::Explore(explore_words_of(values)),
         "session" => Job::Session(session_words_of(values)),
         "verify" => Job::Verify(paths_of(values, "HISTORY")),
         "picture" => Job::Picture(paths_of(values, "HISTORY")),
@@ -179,6 +183,32 @@ fn plan_words_of<'a>(values: &ArgMatches<'a>) -> PlanWords<'a>
         topology,
         script,
         from,
+    }
+}
+
+// The words of matches that have a topology, and may have a script, a snapshot, the flag of the application's actions
+// and a number of configurations.
+fn explore_words_of<'a>(values: &ArgMatches<'a>) -> ExploreWords<'a>
+    requires { HasExplore (rows_of (found_of values.now)) }
+    ensures topology { first_of (codes "TOPOLOGY") (rows_of (found_of values.now)) ≡ Some result.topology.now }
+    ensures script { first_of (codes "SCRIPT") (rows_of (found_of values.now))
+        ≡ option_map (λ script. script.now) result.script }
+    ensures from { first_of (codes "from") (rows_of (found_of values.now)) ≡ option_map (λ from. from.now) result.from }
+    ensures acts { result.acts ≡ is_on (first_of (codes "acts") (rows_of (found_of values.now))) }
+    ensures most { IsNumberOr 1000000 1 100000000 (first_of (codes "most") (rows_of (found_of values.now)))
+        result.most }
+{
+    let topology = values.get_str("TOPOLOGY").unwrap();
+    let script = values.get_str("SCRIPT");
+    let from = values.get_str("from");
+    let acts = values.get_flag("acts");
+    let most = values.get_one::<u32>("most").unwrap_or(1_000_000);
+    ExploreWords {
+        topology,
+        script,
+        from,
+        acts,
+        most,
     }
 }
 

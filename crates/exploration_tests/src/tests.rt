@@ -11,6 +11,7 @@ fn grid_is_counted(rt: HostRuntime) -> Result<(), Fail> {
         steps,
         ends,
         length,
+        ..
     } = found;
     assert_eq!(rt; states.len(), 441);
     assert_eq!(rt; steps, 840);
@@ -30,6 +31,7 @@ fn counter_goes_round(rt: HostRuntime) -> Result<(), Fail> {
         steps,
         ends,
         length,
+        ..
     } = found;
     assert_eq!(rt; states.len(), 100);
     assert_eq!(rt; steps, 200);
@@ -78,6 +80,7 @@ fn diamond_is_counted(rt: HostRuntime) -> Result<(), Fail> {
         steps,
         ends,
         length,
+        ..
     } = found;
     assert_eq!(rt; states.len(), 5);
     assert_eq!(rt; steps, 5);
@@ -110,6 +113,7 @@ fn lasso_goes_round(rt: HostRuntime) -> Result<(), Fail> {
         steps,
         ends,
         length,
+        ..
     } = found;
     assert_eq!(rt; states.len(), 5);
     assert_eq!(rt; steps, 6);

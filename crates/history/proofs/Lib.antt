@@ -3,7 +3,7 @@ mod Pieces
 mod Replays
 mod Checkpoints
 mod SegmentTexts
-mod Plays
+pub mod Plays
 mod Books
 pub mod HistoryLines
 mod FirstLines

@@ -20,6 +20,7 @@ mod verifier;
 
 pub use book::{Book, MAX_ENTRIES};
 pub use entry::{Entry, Receipt, Report, Summary, VerifyFault};
+pub use line::{lemma_fault_has_line, lemma_step_has_line};
 pub use lines::MAX_LINE;
 pub use read::{BookText, is_graphic, is_printable, read_book};
 pub use refusal::{ApplyRefusal, AtFault, BookRefusal, DisturbRefusal};

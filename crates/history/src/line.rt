@@ -14,8 +14,8 @@ use reset_machine::Event;
 use tree_layer::TreeRegs;
 use wave_layer::WaveRegs;
 
-// A history may have the line of any event, since its numbers have 32 bits, and that of a case has 8.
-pub(crate) fn lemma_step_has_line(event: Event)
+/// A history may have the line of any event, since its numbers have 32 bits, and that of a case has 8.
+pub fn lemma_step_has_line(event: Event)
     ensures { HasLine (Step event) }
 {
     match event {
@@ -42,9 +42,9 @@ fn lemma_act_has_line(at: u32, case: u8, with: Option<u32>)
     }
 }
 
-// A history may have the line of any fault that is done. The text of a local state, which could spoil a
-// line, is then one printable word of at most 200 bytes.
-pub(crate) fn lemma_fault_has_line<P: Application>(fault: &Fault)
+/// A history may have the line of any fault that is done. The text of a local state, which could spoil a
+/// line, is then one printable word of at most 200 bytes.
+pub fn lemma_fault_has_line<P: Application>(fault: &Fault)
     ensures { (c left : Configuration P.Local) → injected P.app P.from_text c fault.now ≡ Ok left
         → HasLine (Disturbed fault.now) }
 {

@@ -5,3 +5,4 @@ pub mod PutEntries
 pub mod Sequences
 pub mod Neighbours
 pub mod Plain
+pub mod Elsewhere

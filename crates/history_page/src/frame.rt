@@ -6,8 +6,8 @@ pub const HEAD: &[u8] = br#"<!doctype html>
 <meta charset="utf-8">
 <meta name="viewport" content="width=device-width">
 <meta http-equiv="Content-Security-Policy" content="default-src 'none';
-style-src 'sha256-LMa0aam6iN8ZqrBKgbO+zvMHqnNYeF44AOfge0eATP4=';
-script-src 'sha256-OKWl+ajMJE7oy1zVrdMuLMFOrwYwwfwCG1Qn85h/s6U='">
+style-src 'sha256-RsprVWmOrDMWTI+1eUQuFliBUooHtlmKezRHs0J7Uas=';
+script-src 'sha256-iTr4xsimFpgkuck6zuMVwPmF9DPMdqLVMj+ZzoxzHig='">
 <title>Reset history</title>
 <style>
 :root{color-scheme:light dark;--ground:light-dark(#fff,#14171c);--panel:light-dark(#f4f6f8,#20262e);
@@ -21,7 +21,8 @@ script-src 'sha256-OKWl+ajMJE7oy1zVrdMuLMFOrwYwwfwCG1Qn85h/s6U='">
 --s4:light-dark(#f3d3e4,#552c47);--s5:light-dark(#f3efb0,#4b4915)}
 *{box-sizing:border-box;margin:0}
 body{height:100vh;display:grid;gap:1px;background:var(--link);color:var(--ink);font:14px/1.4 system-ui,sans-serif;
-grid:"top top" auto "map event" 12rem "map side" minmax(0,1fr) "bar side" auto "lanes side" auto/minmax(0,1fr) 28rem}
+grid:"top top" auto "map event" 12rem "map side" minmax(0,1fr) "bar side" auto "lanes side" auto/minmax(0,1fr)
+clamp(29rem,32vw,42rem)}
 header,section{background:var(--ground);min-width:0;padding:.4rem .8rem}
 header,.row,label{display:flex;flex-wrap:wrap;gap:.3rem .8rem;align-items:center}
 header{grid-area:top}h1{font-size:1rem}#sum{flex:1}#sum,#place,thead,#list b,#fails.none{color:var(--soft)}
@@ -35,7 +36,8 @@ i:empty{border:0}.Q,.L{border-color:var(--i);border-radius:3px}.O,.J{border-colo
 #map{grid-area:map}#map,#lanes,#track,#roll>*{position:relative}svg,canvas,#roll,#scrub{position:absolute;inset:0;
 width:100%;height:100%}
 line{stroke:var(--line);stroke-width:clamp(.5px,var(--size)/16,1.2px)}.gone{stroke-dasharray:2 5}.hide{display:none}
-line.bad{stroke:var(--bad);stroke-dasharray:2 4}line.bad,.halo{stroke-width:clamp(1.5px,var(--size)/6,3px)}
+line.bad{stroke:var(--bad);stroke-width:clamp(2px,var(--size)/5,5px);stroke-dasharray:2 4}
+.halo{stroke-width:clamp(1.5px,var(--size)/6,3px)}
 .father,.way,#flow{stroke:var(--n);stroke-width:clamp(.8px,var(--size)/9,2px);marker-end:url(#head)}
 .way{stroke:var(--mend)}#head{fill:var(--n);fill:context-stroke}
 #flow{stroke-width:clamp(2px,var(--size)/5,5px)}.node{cursor:pointer}.dim{opacity:.25}circle{r:var(--size)}
@@ -56,7 +58,7 @@ text{fill:var(--ink);text-anchor:middle;dominant-baseline:central;font-weight:70
 .small .name{font-size:calc(12px/var(--zoom));translate:0 calc(var(--size) + 8px/var(--zoom));paint-order:stroke;
 stroke:var(--ground);stroke-width:calc(3px/var(--zoom))}
 #lanes{grid-area:lanes;height:min(15.5rem,36px + var(--rows)*22px)}#roll{overflow:auto}#roll #cursor{position:absolute;
-inset:0 auto;border:solid;border-width:0 1.5px;background:#f0e44230;pointer-events:none}
+inset:0 auto;border:solid;border-width:0 1.5px;background:#f0e44214;pointer-events:none}
 #bar{grid-area:bar}.row{margin-bottom:.3rem}.row span,label{white-space:nowrap}#track{height:32px}
 button,input,select{font:inherit;color:inherit;background:var(--panel);border:1px solid var(--link);border-radius:5px;
 padding:.1rem .5rem;min-height:1.75rem}
@@ -69,20 +71,26 @@ background:var(--ink)}
 border-bottom:1px solid var(--link)}#side label,#whole{padding:.4rem .8rem}#filter{flex:1}
 #rows,#list,#whole{overflow:auto}#rows{max-height:56%}#whole{max-height:7rem;overflow-wrap:anywhere}#side #list{flex:1}
 #whole,#list a{font:.95em ui-monospace,monospace}
-table{border-collapse:collapse;width:100%;min-width:27rem;table-layout:fixed;font-size:13px}
+table{border-collapse:collapse;width:100%;min-width:29rem;table-layout:fixed;font-size:13px}
 th,td{height:24px;padding:0 2px;text-align:right;white-space:nowrap;overflow:hidden;text-overflow:ellipsis}
-th{width:10.6%}th:nth-child(1){width:13.5%}th:nth-child(4){width:7.5%}th:nth-child(5){width:12.8%}
-th:nth-child(6){width:11.8%}th:nth-child(n+7){width:16.6%}
+th{width:3rem}th:nth-child(1){width:3.8rem}th:nth-child(4){width:2rem}th:nth-child(5){width:4rem}
+th:nth-child(6){width:3.3rem}th:nth-child(7){width:5rem}th:nth-child(8){width:auto}
 thead th{position:sticky;top:0;background:var(--panel);font-weight:400}
-:is(th,td):is(:nth-child(5),:nth-child(n+7)){text-align:left;padding-left:9px}td a{color:inherit;font-weight:600;
+:is(th,td):is(:nth-child(5),:nth-child(n+7)){text-align:left;padding-left:9px}td:last-child{font-size:12px}
+td a{color:inherit;font-weight:600;
 text-decoration:none}
 tr.here,#list .here{background:var(--here)}tr.picked{outline:2px solid var(--r);outline-offset:-2px}
 #list a{display:flex;gap:.6rem;height:24px;align-items:center;color:inherit;text-decoration:none;white-space:nowrap}
 #list b{font-weight:400;width:4.5em;text-align:right;flex:none}
 dialog{margin:auto;max-width:46rem;border:1px solid;background:var(--ground);color:inherit}dialog p{margin-bottom:.6rem}
-@media(max-width:60rem){body{display:flex;flex-direction:column;height:auto}#map{height:21rem}#bar{position:sticky;
-top:0;bottom:0;z-index:2}
-#event{order:-1;height:10rem}header{order:-2}#sum{flex:100%;order:1}#rows,#side #list{max-height:24rem;flex:none}}
+@media(max-width:60rem){body{display:flex;flex-direction:column;height:auto}#map{height:min(60vh,42vw + 8rem)}
+#bar{position:sticky;top:0;bottom:0;z-index:2}#event{order:-1;height:8rem}header{order:-2}
+#sum{flex:100%;order:1}#rows,#side #list{max-height:24rem;flex:none}}
+@media(max-width:30rem){header,section,#side label,#whole{padding:.3rem .5rem}#sum{font-size:12px}
+.row{gap:.25rem .5rem}.row :is(button,input,select){padding:.1rem .35rem}#play{width:3.4rem}#entry{width:4.6rem}
+body{font-size:13px}table{font-size:12px;min-width:23rem}th{font-size:11px;width:2.5rem}th:nth-child(1){width:3rem}
+th:nth-child(4){width:1.8rem}th:nth-child(5){width:3.4rem}th:nth-child(6){width:2.8rem}th:nth-child(7){width:3.8rem}}
+@media(max-height:34rem){#bar{position:static}}
 </style>
 <header><h1 id="title">Reset history</h1><p id="sum"></p><span><button data-do="theme">Theme</button> <button
 data-do="help" data-key="?">Help</button></span></header>
@@ -128,7 +136,7 @@ fails. A lane is a node: its ground the session, its bar the phase, red below it
 completed reset.
 <p><b>Keys.</b> Space plays; arrows, Page Up, Page Down, Home, End go. F, O, C, X, M: next fault, opening, completion,
 change of what fails, match of the filter or else entry of the chosen node; with Shift the one before. + &minus; speed,
-G entry, / filter, Escape no node.
+G entry, / filter, and out of both by Enter or Escape; Escape no node.
 <p>The address names the moment: #entry=17&amp;node=3<form method="dialog"><button>Close</button></form></dialog>
 <noscript>This page plays its history by JavaScript; its source has the history as plain text.</noscript>
 <script type="text/plain" id="history">

@@ -17,7 +17,7 @@ mod page;
 mod views;
 
 pub use frame::HEAD;
-pub use laws::data_is_harmless;
+pub use laws::{data_is_harmless, failing_elsewhere_stays};
 pub use moments::MOMENTS;
 pub use page::{PageStop, put_page};
 pub use views::VIEWS;

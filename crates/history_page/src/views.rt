@@ -3,9 +3,9 @@
 /// What stands after the data on all pages, second part: the script that shows a moment and goes to others.
 pub const VIEWS: &[u8] = br#"// ---- The network
 // size: of a node; scale, high: of an entry in the lanes
-let now = 0, chosen = null, speed = 0, since = 0, size = 9, scale = 0, high = 3;
+let now = 0, chosen = null, speed = 0, since = 0, size = 9, scale = 0, whole = 0, high = 3;
 // what the filter leaves: nodes, entries, and both in order
-let wanted = null, found = null, tabled = nodes, lanes = [];
+let wanted = null, found = null, tabled = nodes, lanes = [], motion = null;
 const still = matchMedia('(prefers-reduced-motion:reduce)'), net = $('net'), roll = $('roll'),
   view = { k: 1, x: 0, y: 0 };
 const set = (e, values) => { for (const key in values) e.setAttribute(key, values[key]); };
@@ -35,7 +35,7 @@ const fit = () => { // turns and stretches the arrangement to its room, and push
     const dx = max(...x) - min(...x), dy = max(...y) - min(...y);
     const fx = (w - 90) / max(dx, 0.1), fy = (h - 90) / max(dy, 0.1), least = min(fx, fy, 150);
     const spread = (list, to, by, from = (min(...list) + max(...list)) / 2) => list.map((x) =>
-      to + (x - from) * min(by, least * 1.7));
+      to + (x - from) * min(by, least * 2.2));
     return { least, area: dx * dy, x: spread(x, w / 2, fx), y: spread(y, h / 2 + 8, fy) };
   };
   const turns = Array.from({ length: path ? 1 : 180 }, turned),
@@ -79,21 +79,24 @@ const drawNet = (smooth) => {
     mark(v.arrow, u && !both(v, u) ? 'father' : 'hide');
     if (way && v.way.to !== way) tie(v.way, v, v.way.to = way, 0.55 * hypot(v.x - way.x, v.y - way.y));
     mark(v.way, way && joined(v, way, p) ? 'way' : 'hide');
-    mark(v.e, ['node', up ? w[0] : 'off', get(v.fails, p).length && 'bad', lead.get(v) === v && 'lead', has && 'has',
-      v === chosen && 'picked', v === at && 'here', wanted && !wanted.has(v) && 'dim'].filter(Boolean).join(' '));
-    const fill = up ? `var(--s${w.slice(1) % 6})` : '';
-    if (v.fill !== fill) v.body.style.fill = v.fill = fill;
-    write(v.lower, up ? `s${w.slice(1).replace(/^\d+(?=\d{4}$)/, '\u2026')}` : 'down');
-    if (!up || app !== 'token') continue;
+    mark(v.e, `node ${up ? w[0] : 'off'}${get(v.fails, p).length ? ' bad' : ''}${lead.get(v) === v ? ' lead' : ''}${
+      has ? ' has' : ''}${v === chosen ? ' picked' : ''}${v === at ? ' here' : ''}${
+      wanted && !wanted.has(v) ? ' dim' : ''}`);
+    if (v.wears !== (up && w)) { // what a session gives is set where it changes
+      v.wears = up && w;
+      v.body.style.fill = up ? `var(--s${w.slice(1) % 6})` : '';
+      write(v.lower, up ? `s${w.slice(1).replace(/^\d+(?=\d{4}$)/, '\u2026')}` : 'down');
+    }
+    if (!up || app !== 'token' || state(v, p).endsWith('/-/-')) continue;
     const [, given, taken] = state(v, p).split('/');
     for (const id of given.split(',')) flip(v.id, id);
     for (const id of taken.split(',')) flip(id, v.id);
   }
-  $('coins').replaceChildren();
-  for (const pair of flights) {
-    const [v, u] = pair.split(' ').map((id) => byId.get(id));
-    if (v && u && joined(v, u, p)) set(copy('coin', 'coins'), { cx: v.x * 0.4 + u.x * 0.6, cy: v.y * 0.4 + u.y * 0.6 });
-  }
+  const under = [...flights].map((pair) => pair.split(' ').map((id) => byId.get(id)))
+    .filter(([v, u]) => v && u && joined(v, u, p));
+  while ($('coins').children.length > under.length) $('coins').lastChild.remove();
+  while ($('coins').children.length < under.length) copy('coin', 'coins');
+  under.forEach(([v, u], k) => set($('coins').children[k], { cx: v.x * 0.4 + u.x * 0.6, cy: v.y * 0.4 + u.y * 0.6 }));
   for (const [id, v] of [['pick', chosen], ['ring', at]]) {
     mark($(id), v ? '' : 'hide');
     if (v) { set($(id), { cx: v.x, cy: v.y }); $('nodes').append(v.e); } // no other node covers its name
@@ -102,7 +105,8 @@ const drawNet = (smooth) => {
   for (const id of ['flow', 'ring', 'dot']) $(id).style.stroke = `var(--${INK[letter(p)]})`;
   $('dot').style.fill = $('event').style.borderColor = $('dot').style.stroke;
   if (carry) tie($('flow'), ...carry, size + 3);
-  if (carry && smooth && !still.matches) $('dot').animate(carry.map((v) =>
+  if (motion) motion.cancel();
+  motion = carry && smooth && !still.matches && $('dot').animate(carry.map((v) =>
     ({ transform: `translate(${v.x}px,${v.y}px)`, opacity: 1 })), 400);
   set(net, { 'aria-label': `${N} nodes at entry ${p}, ${bad[p]} rows fail; the table has all registers` });
 };
@@ -192,6 +196,7 @@ const drawMarks = () => {
 };
 
 // ---- Table and list, of which only the rows that are seen are there, and the other texts
+const hint = (e, t) => { if (e.title !== t) e.title = t; };
 const rowsOf = (id, rows, total, fresh, fill) => {
   const { top, tall, firstElementChild: inner } = $(id), first = clamp(0, floor(top / 24) - 2, max(0, total - 1));
   const count = min(total - first, ceil(tall / 24) + 4);
@@ -207,6 +212,7 @@ const drawTable = () => rowsOf('rows', $('body'), tabled.length, freshRow, (row,
   const cells = up ? [...get(v.tree, now), PHASE[w[0]], w.slice(1), state(v, now), fails] : ['', '', '', 'down', '',
     '', ''];
   cells.forEach((cell, j) => write(row.children[j + 1], cell));
+  for (const j of [6, 7]) hint(row.children[j], cells[j - 1].slice(0, 400)); // there may be no room for all of it
   write(row.firstChild.firstChild, (leaders(now).get(v) === v ? '\u265b ' : '') + v.id);
   row.firstChild.firstChild.href = `#node=${v.id}`;
   mark(row, (v === where[now] ? 'here ' : '') + (v === chosen ? 'picked' : ''));
@@ -258,8 +264,10 @@ const go = (to) => {
   now = p;
   if (x < 0 || x > gap - 12) roll.scrollLeft += x - gap * (speed ? 0.1 : 0.5);
   if (speed < 60) bring($('list'), (found ? find(found, p) : p) * 24, 24);
-  if (speed < 6 && tabled.includes(v)) { bring($('rows'), tabled.indexOf(v) * 24, 48);
-    bring(roll, lanes.indexOf(v) * high, 2 * high); }
+  if (speed < 6 && tabled.includes(v)) {
+    bring($('rows'), tabled.indexOf(v) * 24, 48);
+    if (high > 7) bring(roll, lanes.indexOf(v) * high, 2 * high); // thin lanes are an overview, which stays in place
+  }
   drawText(); drawTable(); drawList(); drawNet(smooth);
   clearTimeout(noted);
   noted = setTimeout(() => {
@@ -278,7 +286,8 @@ const measure = () => { for (const box of [roll, $('rows'), $('list')]) { box.to
   box.tall = box.clientHeight; } };
 const choose = (v) => { chosen = v === chosen ? null : v; drawText(); measure(); leap(now); };
 const stretch = (by) => { // of the lanes
-  const gap = roll.clientWidth - LEFT - 4, whole = gap / (E + 1), x = clamp(0, now * scale - roll.scrollLeft, gap);
+  const gap = roll.clientWidth - LEFT - 4, x = clamp(0, now * scale - roll.scrollLeft, gap);
+  whole = gap / (E + 1);
   scale = clamp(min(whole, 48), by ? scale * by : whole < 5 && N < 40 ? 10 : whole, 48);
   high = clamp(3, floor((roll.clientHeight - TOP - 4) / lanes.length), 22);
   Object.assign(roll.firstElementChild.style, { width: `${LEFT + (E + 1) * scale}px`,
@@ -343,6 +352,7 @@ on(document, 'click', (e) => {
 on(document, 'keydown', (e) => {
   const field = e.target.closest('input:not(#scrub),select,dialog'),
     b = document.querySelector(`[data-key="${CSS.escape(e.key)}"]`), act = KEYS[e.key];
+  if (field && field.matches('input') && /^(Enter|Escape)$/.test(e.key)) field.blur();
   if (field || e.ctrlKey || e.metaKey || e.altKey || !(act || b) || (e.key === ' ' &&
     e.target.closest('button'))) return;
   e.preventDefault();
@@ -379,7 +389,10 @@ const hash = () => {
   $('filter').value = words.get('filter') || $('filter').value;
   sift();
 };
-on(window, 'hashchange', hash); on(window, 'resize', () => { fit(); repaint(); });
+on(window, 'hashchange', hash); on(window, 'resize', () => { // what was shown whole is shown whole
+  const by = scale > whole ? 1 : 1e-9;
+  fit(); repaint(); stretch(by);
+});
   on(matchMedia('(prefers-color-scheme:dark)'), 'change', repaint);
 document.body.style.setProperty('--rows', N);
 fit(); drawMarks(); hash();

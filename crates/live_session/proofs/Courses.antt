@@ -1,16 +1,16 @@
 -- The course of a session, line by line.
-use Rattle.std.proofs.Common.{◌≡◌, ◌≢◌, ℕ, ◌+◌, ◌≤◌, ◌<◌, Bool, true, false, if◌then◌else◌, List, [], ◌∷◌, ◌++◌, refl}
-use Rattle.std.proofs.Common.{sym, ap, ap₂, ◌∙◌, subst, append-nil, append_assoc, length, take, codes, arith, Option}
+use Rattle.std.proofs.Common.{◌≡◌, ℕ, ◌+◌, ◌≤◌, ◌<◌, Bool, true, false, if◌then◌else◌, List, [], ◌∷◌, ◌++◌, refl}
+use Rattle.std.proofs.Common.{sym, ap, ◌∙◌, append-nil, length, take, codes, arith, Option}
 use Rattle.std.proofs.Common.{Some, None, ◌⊎◌, inl, inr, ◌-◌, min, Result, Ok, Err, OnOk, is_ok}
 use Rattle.std.specs.Prelude.{nat_lt}
-use Rattle.std.specs.List.{flat_map}
-use Rattle.std.specs.Str.{bytes_eq}
 use Rattle.std.proofs.lemmas.Bool.Decides.{nat_tests}
 use Rattle.std.proofs.lemmas.Grind.{flat_map-append}
 use Rattle.std.proofs.lemmas.Bool.{cases_lt}
 use Rattle.std.proofs.lemmas.List.{length-take-le, take_all, take-append-le}
 use Rattle.std.proofs.lemmas.Slice.Eq.{bytes_eq-Decides}
 use Rattle.std.proofs.Math.Seq.{take-append-add}
+use Rattle.explanations.specs.Help.{helped}
+use Rattle.explanations.proofs.Asked.{long_asks_nothing}
 use Rattle.reset_model.specs.Configuration.{Configuration}
 use Rattle.reset_model.specs.EventText.{event_line}
 use Rattle.reset_model.specs.declared.event.Event.{Event}
@@ -22,7 +22,7 @@ use Rattle.script_replay.specs.Meaning.{Meaning}
 use Rattle.script_replay.specs.Script.{line_of}
 use Rattle.script_replay.specs.declared.script.Line.TheVariants.{Bad}
 use Rattle.live_session.specs.Course.{Course, Exchange, answers_text, config_after, course_of, entries_of, exchange}
-use Rattle.live_session.specs.Course.{is_exit, kept_lines, kept_text, led_by, rested, room_after}
+use Rattle.live_session.specs.Course.{is_exit, kept_text, led_by, rested, room_after}
 use Rattle.live_session.specs.Progress.{IsFront}
 
 -- ---- the next line
@@ -35,7 +35,7 @@ module _ {L : Type 0} (m : Meaning L) (room : Option ℕ) (c : Configuration L) 
   -- the course after a line that doesn't end the session
   abbrev next : List ℕ → List (List ℕ) → Course L
   next line lines =
-      let e = exchange m room c n (line_of m.names line) in led_by (e ∷ [])
+      let e = exchange m room c n line (line_of m.names line) in led_by (e ∷ [])
       (course_of m (room_after room e.entries) (config_after m room c n (line_of m.names line)) (n + 1) lines)
 
   abbrev next_if : Bool → List ℕ → List (List ℕ) → Course L
@@ -141,6 +141,15 @@ module _ (names : ℕ → Option (List ℕ)) where
       go (inr long) =
           too_long (take 257 line) (omega (arith, length-take-le 257 line long))
           ∙ sym (too_long line (omega (arith, long)))
+
+pub front_helped : (kept line : List ℕ) → IsFront kept line → helped kept ≡ helped line
+front_helped kept line is = rw is (go (cases_lt (length line) 257))
+  where
+    go : (length line < 257) ⊎ (257 ≤ length line) → helped (take 257 line) ≡ helped line
+    go (inl short) = ap helped (take_all 257 line (omega (arith, short)))
+    go (inr long) =
+        long_asks_nothing (take 257 line) (omega (arith, length-take-le 257 line long))
+        ∙ sym (long_asks_nothing line (omega (arith, long)))
 
 not_exit : (line : List ℕ) → 4 < length line → is_exit line ≡ false
 not_exit line long = go (is_exit line) refl

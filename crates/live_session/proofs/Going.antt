@@ -1,15 +1,13 @@
 -- A session that goes on: from line to line, from commit to commit, and where it is cut short.
-use Rattle.std.proofs.Common.{◌≡◌, ℕ, ◌+◌, Bool, true, false, List, [], ◌∷◌, ◌++◌, refl, sym, ap, ap₂, ◌∙◌, subst}
-use Rattle.std.proofs.Common.{append-nil, append_assoc, Option, Some, None, Result, Ok, Err, IfOk, OnOk, OnErr}
-use Rattle.std.specs.Io.KnownBytes.{Appends, Keeps}
-use Rattle.std.proofs.KnownBytes.{Appends-nil, Appends-trans, Appends-kept}
-use Rattle.action_tables.specs.Written.{AppendsPrefix}
+use Rattle.std.proofs.Common.{◌≡◌, ℕ, ◌+◌, true, false, List, [], ◌∷◌, ◌++◌, refl, sym, ap, ap₂, ◌∙◌, subst}
+use Rattle.std.proofs.Common.{append-nil, append_assoc, Option, Some, None}
+use Rattle.std.specs.Io.KnownBytes.{Appends}
+use Rattle.std.proofs.KnownBytes.{Appends-trans, Appends-kept}
 use Rattle.reset_model.specs.Configuration.{Configuration}
 use Rattle.history.specs.declared.entry.Entry.{Entry}
-use Rattle.script_replay.specs.Lines.{lines_of}
 use Rattle.script_replay.specs.Meaning.{Meaning}
 use Rattle.script_replay.specs.Script.{line_of}
-use Rattle.live_session.specs.Course.{Course, Exchange, IsCutShort, IsDone, answers_text, config_after, course, course_of}
+use Rattle.live_session.specs.Course.{Course, Exchange, IsCutShort, answers_text, config_after, course, course_of}
 use Rattle.live_session.specs.Course.{exchange, is_exit, kept_lines, kept_text, led_by, rested, room_after}
 use Rattle.live_session.specs.Progress.{Goes, HasDone, after, IsAnswered, IsUncommitted, Start}
 use Rattle.live_session.specs.Progress.IsUncommitted.{entries_failed, answers_failed}
@@ -64,11 +62,11 @@ module _ {L : Type 0} (m : Meaning L) (s : Start L) where
   pub goes_on_by : {F : Type 0} (text : F → List ℕ) (line : List ℕ) (room left : Option ℕ) (c c' : Configuration L) (n : ℕ)
       (lines : F → List (List ℕ)) (old new : Batch) (log out : Option (List ℕ)) → is_exit line ≡ false
       → ((entries : List Entry) → kept_lines room entries ≡ kept_lines s.room entries)
-      → IsAnswered m room c n (line_of m.names line) left c' old new
+      → IsAnswered m room c n line (line_of m.names line) left c' old new
       → Goes m s text (λ more. course_of m room c n (line ∷ lines more)) old log out
       → Goes m s text (λ more. course_of m left c' (n + 1) (lines more)) new log out
   goes_on_by {F = F} text line room left c c' n lines old new log out stays alike done goes =
-      let e : Exchange = exchange m room c n (line_of m.names line) in
+      let e : Exchange = exchange m room c n line (line_of m.names line) in
       let next : F → Course L =
       λ more. course_of m (room_after room e.entries) (config_after m room c n (line_of m.names line)) (n + 1)
       (lines more) in

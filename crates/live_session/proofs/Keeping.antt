@@ -1,9 +1,8 @@
 -- Sessions with a new history, and with one that goes on.
-use Rattle.std.proofs.Common.{◌≡◌, ℕ, ◌-◌, List, [], ◌++◌, refl, sym, ap, ◌∙◌, subst, length, Option, Some, None}
+use Rattle.std.proofs.Common.{◌≡◌, ℕ, ◌-◌, List, subst, length, Option, Some, None}
 use Rattle.std.proofs.Common.{Result, Ok, Err, IfOk, OnErr}
 use Rattle.std.specs.Io.KnownBytes.{Appends, Keeps}
 use Rattle.std.proofs.KnownBytes.{Appends-trans}
-use Rattle.action_tables.specs.Written.{AppendsPrefix}
 use Rattle.reset_model.specs.Configuration.{Configuration}
 use Rattle.history.specs.HistoryText.{IsReadWhole, ended, entries_text, first_line}
 use Rattle.history.specs.Reports.{reports_of}

@@ -1,8 +1,9 @@
 -- Lines that aren't refused, and lines of which the first bytes are kept.
-use Rattle.std.proofs.Common.{◌≡◌, ℕ, Bool, true, false, ◌&&◌, if◌then◌else◌, List, [], ◌++◌, refl, sym, ap, ◌∙◌, subst, Option}
+use Rattle.std.proofs.Common.{◌≡◌, ℕ, Bool, true, false, ◌&&◌, if◌then◌else◌, List, [], ◌++◌, refl, sym, ap, ◌∙◌, subst, Option, unwrap_or}
+use Rattle.explanations.specs.Help.{helped}
 use Rattle.reset_model.specs.Configuration.{Configuration}
 use Rattle.script_replay.specs.Meaning.{Meaning}
-use Rattle.script_replay.specs.Output.{answer_to, answered}
+use Rattle.script_replay.specs.Output.{answer_to, answered, bad_line_text}
 use Rattle.script_replay.specs.Recorded.{line_entries}
 use Rattle.script_replay.specs.Script.{line_of}
 use Rattle.script_replay.specs.declared.script.Command.{Command}
@@ -10,36 +11,67 @@ use Rattle.script_replay.specs.declared.script.Command.TheVariants.{Step, Inject
 use Rattle.script_replay.specs.declared.script.Command.TheVariants.{Ready, Check, CheckNode, Alarm, Watch, Moves}
 use Rattle.script_replay.specs.declared.script.Command.TheVariants.{MovesOf, Snapshot}
 use Rattle.script_replay.specs.declared.script.Line.{Line}
-use Rattle.script_replay.specs.declared.script.Line.TheVariants.{Asks}
-use Rattle.live_session.specs.Course.{Exchange, asks_for_change, full_text, is_full, is_refused}
+use Rattle.script_replay.specs.declared.script.Line.TheVariants.{Asks, Bad, Silent}
+use Rattle.live_session.specs.Course.{Exchange, asks_for_change, full_text, is_full, is_refused, reply_text}
+use Rattle.live_session.specs.Course.{unread_text}
 use Rattle.live_session.specs.Progress.{HasActed, HasTaken, IsAnswered, IsFront}
 use Rattle.live_session.specs.declared.batch.Batch.{Batch}
 use Rattle.live_session.specs.declared.session.Session.{Session}
-use Rattle.live_session.proofs.Courses.{front_exit, front_line}
+use Rattle.live_session.proofs.Courses.{front_exit, front_helped, front_line}
 use Rattle.live_session.proofs.Watched.{acted_none}
 
 and_false : (b : Bool) → (b && false) ≡ false
 and_false true = refl
 and_false false = refl
 
-module _ {L : Type 0} (m : Meaning L) (room : Option ℕ) (c : Configuration L) (n : ℕ) (line : Line) where
+module _ {L : Type 0} (m : Meaning L) (room : Option ℕ) (c : Configuration L) (n : ℕ) (text : List ℕ) (line : Line) where
   abbrev exchange_if : Bool → Exchange
   exchange_if b =
       if b then record { answer = full_text; entries = [] }
-      else record { answer = (answer_to m c n line).text; entries = line_entries m c line }
+      else record { answer = reply_text m c n text line; entries = line_entries m c line }
 
   abbrev config_if : Bool → Configuration L
   config_if b = if b then c else (answer_to m c n line).config
 
   pub unrefused : (left : Option ℕ) (c' : Configuration L) (old new : Batch) → is_refused room line ≡ false
       → c' ≡ (answer_to m c n line).config
-      → HasActed room (answer_to m c n line).text (line_entries m c line) left old new
-      → IsAnswered m room c n line left c' old new
+      → HasActed room (reply_text m c n text line) (line_entries m c line) left old new
+      → IsAnswered m room c n text line left c' old new
   unrefused left c' old new free same acted = record {
     config_is = same ∙ ap config_if (sym free);
     acted =
         subst (λ b. HasActed room (exchange_if b).answer (exchange_if b).entries left old new) (sym free) acted;
   }
+
+-- two texts that ask for the same help are answered alike where they are read as the same line
+module _ {L : Type 0} (m : Meaning L) (room : Option ℕ) (c : Configuration L) (n : ℕ) (text text' : List ℕ) where
+  same_reply : helped text ≡ helped text' → (line : Line) → reply_text m c n text line ≡ reply_text m c n text' line
+  same_reply same Silent = refl
+  same_reply same (Asks command) = refl
+  same_reply same Bad = ap (λ help. unwrap_or help (bad_line_text n)) same
+
+  abbrev exchange_as : Line → List ℕ → Exchange
+  exchange_as line reply =
+      if is_refused room line then record { answer = full_text; entries = [] }
+      else record { answer = reply; entries = line_entries m c line }
+
+  pub same_answered : (line : Line) (left : Option ℕ) (c' : Configuration L) (old new : Batch) → helped text ≡ helped text'
+      → IsAnswered m room c n text line left c' old new → IsAnswered m room c n text' line left c' old new
+  same_answered line left c' old new same done = record {
+    config_is = done.config_is;
+    acted =
+        subst (λ reply. HasActed room (exchange_as line reply).answer (exchange_as line reply).entries left old new)
+        (same_reply same line) done.acted;
+  }
+
+-- a line that is no line of a script
+module _ {L : Type 0} (m : Meaning L) (room : Option ℕ) (c : Configuration L) (n : ℕ) (text : List ℕ) where
+  pub unread_answered : (c' : Configuration L) (old new : Batch) → c' ≡ c
+      → new.answers.items ≡ old.answers.items ++ unread_text n text → new.entries.items ≡ old.entries.items
+      → IsAnswered m room c n text Bad room c' old new
+  unread_answered c' old new same wrote kept =
+      unrefused m room c n text Bad room c' old new (and_false (is_full room)) same
+      (acted_none room (unread_text n text) [] old new refl wrote kept)
 
 module _ {L : Type 0} (m : Meaning L) (c : Configuration L) where
   question_entries : (command : Command) → asks_for_change (Asks command) ≡ false
@@ -60,12 +92,12 @@ module _ {L : Type 0} (m : Meaning L) (c : Configuration L) where
   question_entries (MovesOf i) is = refl
   question_entries Snapshot is = refl
 
-  pub question_answered : (room : Option ℕ) (n : ℕ) (command : Command) (c' : Configuration L) (old new : Batch)
+  pub question_answered : (room : Option ℕ) (n : ℕ) (text : List ℕ) (command : Command) (c' : Configuration L) (old new : Batch)
       → asks_for_change (Asks command) ≡ false → c' ≡ (answered m c command).0
       → new.answers.items ≡ old.answers.items ++ (answered m c command).1 → new.entries.items ≡ old.entries.items
-      → IsAnswered m room c n (Asks command) room c' old new
-  question_answered room n command c' old new asks same wrote kept =
-      unrefused m room c n (Asks command) room c' old new
+      → IsAnswered m room c n text (Asks command) room c' old new
+  question_answered room n text command c' old new asks same wrote kept =
+      unrefused m room c n text (Asks command) room c' old new
       (ap (λ b. is_full room && b) asks ∙ and_false (is_full room)) same
       (acted_none room (answered m c command).1 (line_entries m c (Asks command)) old new
       (question_entries command asks) wrote kept)
@@ -89,8 +121,10 @@ module _ {P L : Type 0} (m : Meaning L) where
         same_batch = with.same_batch;
         number_is = with.number_is;
         answered = λ stays.
-            subst (λ l. IsAnswered m old.room old.config old.number l new.room new.config old.batch new.batch)
-            (front_line m.names kept line front) (with.answered stays);
+            same_answered m old.room old.config old.number kept line (line_of m.names line) new.room new.config old.batch
+            new.batch (front_helped kept line front)
+            (subst (λ l. IsAnswered m old.room old.config old.number kept l new.room new.config old.batch new.batch)
+            (front_line m.names kept line front) (with.answered stays));
       }
 
   pub same_taken : (line : List ℕ) (ends : Bool) (old mid new : Session P L)

@@ -1,9 +1,8 @@
 -- The entries of a session lead to what it leaves.
-use Rattle.std.proofs.Common.{◌≡◌, ℕ, ◌+◌, Bool, true, false, if◌then◌else◌, List, [], ◌∷◌, ◌++◌, refl, sym, ap, ap₂}
+use Rattle.std.proofs.Common.{◌≡◌, ℕ, ◌+◌, Bool, true, false, if◌then◌else◌, List, [], ◌∷◌, ◌++◌, refl, sym, ap}
 use Rattle.std.proofs.Common.{◌∙◌, append-nil, Option, Some, None, Result, Ok, Err}
 use Rattle.std.specs.List.{flat_map}
 use Rattle.std.specs.Option.{option_and_then}
-use Rattle.std.proofs.lemmas.Grind.{flat_map-append}
 use Rattle.app_interface.specs.Application.{App}
 use Rattle.topology.specs.Graph.{IsNode, is_node}
 use Rattle.fault_inject.specs.Effects.{injected}
@@ -22,7 +21,6 @@ use Rattle.script_replay.specs.Meaning.{Meaning}
 use Rattle.script_replay.specs.Output.{answer_to, answered, disturbed, drawn, stepped}
 use Rattle.script_replay.specs.Recorded.{event_entries, event_entry, fault_entry, line_entries}
 use Rattle.script_replay.specs.Script.{line_of}
-use Rattle.script_replay.specs.Stretches.{watch_events}
 use Rattle.script_replay.specs.declared.script.Command.{Command}
 use Rattle.script_replay.specs.declared.script.Command.TheVariants.{Step, Inject, Draw, Show, ShowNode, Newest, Enabled}
 use Rattle.script_replay.specs.declared.script.Command.TheVariants.{Ready, Check, CheckNode, Alarm, Watch, Moves}
@@ -32,7 +30,7 @@ use Rattle.script_replay.specs.declared.script.Line.TheVariants.{Silent, Asks, B
 use Rattle.script_replay.proofs.Nodes.{node_of, node_there}
 use Rattle.script_replay.proofs.Noting.{alarm_events, alarm_left, no_alarm_events, no_alarm_left}
 use Rattle.live_session.specs.Course.{Exchange, config_after, course_of, entries_of, exchange, is_exit}
-use Rattle.live_session.specs.Course.{full_text, is_refused, room_after}
+use Rattle.live_session.specs.Course.{full_text, is_refused, reply_text, room_after}
 use Rattle.live_session.proofs.Courses.{course_exit, course_more, course_none}
 
 module _ {L : Type 0} (app : App L) (from_text : List ℕ → Option L) where
@@ -123,21 +121,22 @@ module _ {L : Type 0} (m : Meaning L) (c : Configuration L) where
   line_replayed n (Asks command) = command_replayed command
   line_replayed n Bad = replayed-none m.app m.from_text c
 
-  abbrev exchange_if : Bool → ℕ → Line → Exchange
-  exchange_if refused n line =
+  abbrev exchange_if : Bool → ℕ → List ℕ → Line → Exchange
+  exchange_if refused n text line =
       if refused then record { answer = full_text; entries = [] }
-      else record { answer = (answer_to m c n line).text; entries = line_entries m c line }
+      else record { answer = reply_text m c n text line; entries = line_entries m c line }
 
   abbrev config_if : Bool → ℕ → Line → Configuration L
   config_if refused n line = if refused then c else (answer_to m c n line).config
 
-  replayed_if : (b : Bool) (n : ℕ) (line : Line) → left_by (exchange_if b n line).entries ≡ Some (config_if b n line)
-  replayed_if true n line = replayed-none m.app m.from_text c
-  replayed_if false n line = line_replayed n line
+  replayed_if : (b : Bool) (n : ℕ) (text : List ℕ) (line : Line)
+      → left_by (exchange_if b n text line).entries ≡ Some (config_if b n line)
+  replayed_if true n text line = replayed-none m.app m.from_text c
+  replayed_if false n text line = line_replayed n line
 
-  exchange_replayed : (room : Option ℕ) (n : ℕ) (line : Line)
-      → left_by (exchange m room c n line).entries ≡ Some (config_after m room c n line)
-  exchange_replayed room n line = replayed_if (is_refused room line) n line
+  exchange_replayed : (room : Option ℕ) (n : ℕ) (text : List ℕ) (line : Line)
+      → left_by (exchange m room c n text line).entries ≡ Some (config_after m room c n line)
+  exchange_replayed room n text line = replayed_if (is_refused room line) n text line
 
 module _ {L : Type 0} (m : Meaning L) where
   pub course_replayed : (room : Option ℕ) (c : Configuration L) (n : ℕ) (lines : List (List ℕ))
@@ -157,10 +156,10 @@ module _ {L : Type 0} (m : Meaning L) where
           let is = course_exit m room c n line lines ends in rw is (replayed-none m.app m.from_text c)
       go false stays more =
           let is = course_more m room c n line lines stays in
-          let e : Exchange = exchange m room c n (line_of m.names line) in
+          let e : Exchange = exchange m room c n line (line_of m.names line) in
           let after : Configuration L = config_after m room c n (line_of m.names line) in
           rw is
           (replayed_on m.app m.from_text c after e.entries
           (entries_of (course_of m (room_after room e.entries) after (n + 1) lines).exchanges)
-          (exchange_replayed m c room n (line_of m.names line))
+          (exchange_replayed m c room n line (line_of m.names line))
           ∙ more (room_after room e.entries) after)

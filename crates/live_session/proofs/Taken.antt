@@ -4,13 +4,12 @@ use Rattle.std.proofs.Common.{append_assoc, Option, Some, None}
 use Rattle.std.specs.Io.KnownBytes.{Appends}
 use Rattle.std.proofs.KnownBytes.{Appends-nil}
 use Rattle.action_tables.specs.Cuts.{HasNo}
-use Rattle.reset_model.specs.Configuration.{Configuration}
 use Rattle.history.specs.HistoryText.{ended}
 use Rattle.history.specs.declared.entry.Entry.{Entry}
 use Rattle.script_replay.specs.Lines.{lines_of}
 use Rattle.script_replay.specs.Meaning.{Meaning}
 use Rattle.script_replay.specs.Script.{line_of}
-use Rattle.live_session.specs.Course.{Course, Exchange, course, course_of, exchange, kept_lines, kept_text, led_by}
+use Rattle.live_session.specs.Course.{course, course_of, exchange, kept_lines, kept_text, led_by}
 use Rattle.live_session.specs.Course.{rested, room_after}
 use Rattle.live_session.specs.Progress.{Comes, Goes, HasEnded, HasEndedWith, HasTaken, IsAt, IsCut, IsFront, IsUncommitted}
 use Rattle.live_session.specs.Progress.{IsWithin, Start, after}
@@ -64,7 +63,7 @@ module _ {P L : Type 0} (m : Meaning L) (s : Start L) (log out : Option (List �
   alike_on : (line : List ℕ) (ends : Bool) (old new : Session P L) → HasTaken m line ends old new → ends ≡ false
       → Alike old → Alike new
   alike_on line ends old new taken stays alike xs =
-      still_alike old.room new.room (exchange m old.room old.config old.number (line_of m.names line)).entries
+      still_alike old.room new.room (exchange m old.room old.config old.number line (line_of m.names line)).entries
       (taken.answered stays).acted.room_is xs
       ∙ alike xs
 

@@ -1,8 +1,8 @@
 -- What a node that watches is answered and leaves.
-use Rattle.std.proofs.Common.{◌≡◌, ℕ, ◌-◌, Bool, true, false, if◌then◌else◌, List, [], ◌∷◌, ◌++◌, refl, sym, ap, ap₂, ◌∙◌}
-use Rattle.std.proofs.Common.{append-nil, append_assoc, arith, Option, Some, None, Result, Ok, Err, IfOk, OnOk, rules}
+use Rattle.std.proofs.Common.{◌≡◌, ℕ, ◌-◌, Bool, false, List, [], ◌∷◌, ◌++◌, refl, sym, ap, ap₂, ◌∙◌}
+use Rattle.std.proofs.Common.{append-nil, arith, Option, Some, None, Result, Ok, Err, IfOk, OnOk}
 use Rattle.std.specs.List.{flat_map}
-use Rattle.topology.specs.Graph.{IsNode, is_node}
+use Rattle.topology.specs.Graph.{IsNode}
 use Rattle.history.specs.declared.entry.Entry.{Entry}
 use Rattle.link_predicates.specs.Faults.{alarm_of}
 use Rattle.link_predicates.specs.declared.fault.LinkFault.{LinkFault}

@@ -1,21 +1,22 @@
 -- What the lines of a session are answered, and which entries they leave in its history.
 use Rattle.std.specs.Prelude.{◌≡◌, ℕ, ◌+◌, ◌-◌, ◌==◌, Bool, true, false, ◌&&◌, if◌then◌else◌, List, [], ◌∷◌, ◌++◌, codes}
-use Rattle.std.specs.Prelude.{length, Option, Some, None}
+use Rattle.std.specs.Prelude.{length, Option, Some, None, unwrap_or}
 use Rattle.std.specs.List.{flat_map}
 use Rattle.std.specs.Str.{bytes_eq}
 use Rattle.std.specs.Io.KnownBytes.{Appends}
 use Rattle.action_tables.specs.Written.{AppendsPrefix}
+use Rattle.explanations.specs.Help.{helped}
 use Rattle.reset_model.specs.Configuration.{Configuration}
 use Rattle.history.specs.HistoryText.{ended, entries_text}
 use Rattle.history.specs.declared.entry.Entry.{Entry}
 use Rattle.script_replay.specs.Lines.{lines_of}
 use Rattle.script_replay.specs.Meaning.{Meaning}
-use Rattle.script_replay.specs.Output.{answer_to}
+use Rattle.script_replay.specs.Output.{answer_to, bad_line_text}
 use Rattle.script_replay.specs.Recorded.{line_entries}
 use Rattle.script_replay.specs.Script.{line_of}
 use Rattle.script_replay.specs.declared.script.Command.TheVariants.{Step, Inject, Draw, Watch}
 use Rattle.script_replay.specs.declared.script.Line.{Line}
-use Rattle.script_replay.specs.declared.script.Line.TheVariants.{Asks}
+use Rattle.script_replay.specs.declared.script.Line.TheVariants.{Asks, Bad}
 
 -- ---- one line
 
@@ -49,11 +50,20 @@ is_refused room line = is_full room && asks_for_change line
 abbrev pub full_text : List ℕ
 full_text = ended (codes "refused BookFull")
 
+-- what the n-th line is answered that is no line of a script: the help that it asks for, or that it is bad
+abbrev pub unread_text : ℕ → List ℕ → List ℕ
+unread_text n text = unwrap_or (helped text) (bad_line_text n)
+
+-- what the n-th line is answered, which has this text
+abbrev pub reply_text : {L : Type 0} → Meaning L → Configuration L → ℕ → List ℕ → Line → List ℕ
+reply_text m c n text Bad = unread_text n text
+reply_text m c n text line = (answer_to m c n line).text
+
 -- what the n-th line is answered and leaves: what a script answers to it, unless the history is full
-abbrev pub exchange : {L : Type 0} → Meaning L → Option ℕ → Configuration L → ℕ → Line → Exchange
-exchange m room c n line =
+abbrev pub exchange : {L : Type 0} → Meaning L → Option ℕ → Configuration L → ℕ → List ℕ → Line → Exchange
+exchange m room c n text line =
     if is_refused room line then record { answer = full_text; entries = [] }
-    else record { answer = (answer_to m c n line).text; entries = line_entries m c line }
+    else record { answer = reply_text m c n text line; entries = line_entries m c line }
 
 abbrev pub config_after : {L : Type 0} → Meaning L → Option ℕ → Configuration L → ℕ → Line → Configuration L
 config_after m room c n line = if is_refused room line then c else (answer_to m c n line).config
@@ -76,13 +86,13 @@ rested c = record { exchanges = []; config = c }
 abbrev pub led_by : {L : Type 0} → List Exchange → Course L → Course L
 led_by exchanges course = record { exchanges = exchanges ++ course.exchanges; config = course.config }
 
--- the course of a session over lines, of which the first has the number n: a bad line is answered and changes nothing,
--- and `exit` ends it
+-- the course of a session over lines, of which the first has the number n: a line that a script doesn't have is answered
+-- and changes nothing, and `exit` ends it
 unfoldable pub course_of : {L : Type 0} → Meaning L → Option ℕ → Configuration L → ℕ → List (List ℕ) → Course L
 course_of m room c n [] = rested c
 course_of m room c n (line ∷ lines) =
     if is_exit line then rested c
-    else (let e = exchange m room c n (line_of m.names line) in led_by (e ∷ [])
+    else (let e = exchange m room c n line (line_of m.names line) in led_by (e ∷ [])
     (course_of m (room_after room e.entries) (config_after m room c n (line_of m.names line)) (n + 1) lines))
 
 -- the course of a session over the lines of a text

@@ -30,11 +30,11 @@ pub record HasActed (room : Option ℕ) (answer : List ℕ) (entries : List Entr
 abbrev pub entry_if : Bool → Event → List Entry
 entry_if applied e = if applied then entry.Step e ∷ [] else []
 
--- the n-th line was answered
-pub record IsAnswered {L : Type 0} (m : Meaning L) (room : Option ℕ) (c : Configuration L) (n : ℕ) (line : Line)
-    (left : Option ℕ) (c' : Configuration L) (old new : Batch) : Type 0 where
+-- the n-th line was answered, which has this text
+pub record IsAnswered {L : Type 0} (m : Meaning L) (room : Option ℕ) (c : Configuration L) (n : ℕ) (text : List ℕ)
+    (line : Line) (left : Option ℕ) (c' : Configuration L) (old new : Batch) : Type 0 where
   pub config_is : c' ≡ config_after m room c n line
-  pub acted : HasActed room (exchange m room c n line).answer (exchange m room c n line).entries left old new
+  pub acted : HasActed room (exchange m room c n text line).answer (exchange m room c n text line).entries left old new
 
 -- the first bytes of a line are kept: all of them, or more than a good line has
 abbrev pub IsFront : List ℕ → List ℕ → Type 0
@@ -47,7 +47,7 @@ pub record HasTaken {P L : Type 0} (m : Meaning L) (text : List ℕ) (ends : Boo
   pub same_batch : ends ≡ true → new.batch ≡ old.batch
   pub number_is : ends ≡ false → new.number ≡ old.number + 1
   pub answered : ends ≡ false
-      → IsAnswered m old.room old.config old.number (line_of m.names text) new.room new.config old.batch new.batch
+      → IsAnswered m old.room old.config old.number text (line_of m.names text) new.room new.config old.batch new.batch
 
 -- ---- what is held back
 

@@ -1,18 +1,19 @@
 // The answer to one line.
 
-ghost use Rattle.std.specs.Prelude.{◌≡◌, ◌++◌, ℕ, IfOk, OnOk};
+ghost use Rattle.std.specs.Prelude.{◌≡◌, ◌++◌, ℕ, List, IfOk, OnOk};
 ghost use Rattle.script_replay.specs.Meaning.{meaning_of};
 ghost use Rattle.script_replay.specs.Output.{answered};
 ghost use Rattle.script_replay.specs.Script.{line_of};
 ghost use Rattle.script_replay.specs.declared.script.Command.TheVariants.{Step};
 ghost use Rattle.script_replay.specs.declared.script.Line.TheVariants.{Asks};
-ghost use Rattle.live_session.specs.Course.{asks_for_change, full_text, is_full};
+ghost use Rattle.live_session.specs.Course.{asks_for_change, full_text, is_full, unread_text};
 ghost use Rattle.live_session.specs.Progress.{IsAnswered};
 
 use crate::acting::{act_draw, act_event, act_fault, act_watch, gathered};
 use crate::batch::Batch;
 use action_tables::put_bytes;
 use app_interface::Application;
+use explanations::help_for;
 use reset_machine::{Config, Event};
 use script_replay::{Command, Line, RunStop, answer_command, put_bad_line, read_line};
 use std::alloc::{AllocError, Global};
@@ -27,15 +28,27 @@ pub fn answer_text<P: Application>(
     batch: &mut Batch,
 ) -> Result<Option<u64>, AllocError>
     ensures { IfOk result (λ left. IsAnswered (meaning_of P.app P.text P.from_text P.names) room config.old number
-        (line_of P.names line.now) left config.new batch.old batch.new) }
+        line.now (line_of P.names line.now) left config.new batch.old batch.new) }
 {
     match read_line::<P>(alloc, line)? {
         Line::Silent => Ok(room),
         Line::Bad => {
-            gathered(put_bad_line(&mut batch.answers, number))?;
+            answer_unread(number, line, batch)?;
             Ok(room)
         }
         Line::Asks(command) => answer_asked(alloc, config, room, command, batch),
+    }
+}
+
+// Answers a line that is no line of a script: by the help that it asks for, or by its number.
+fn answer_unread(number: u64, line: &[u8], batch: &mut Batch) -> Result<(), AllocError>
+    ensures answers { OnOk result
+        (batch.new.answers.items ≡ batch.old.answers.items ++ unread_text number line.now) }
+    ensures entries { OnOk result (batch.new.entries.items ≡ batch.old.entries.items) }
+{
+    match help_for(line) {
+        Some(help) => gathered(put_bytes(&mut batch.answers, help.as_bytes())),
+        None => gathered(put_bad_line(&mut batch.answers, number)),
     }
 }
 
@@ -48,8 +61,8 @@ pub fn answer_event<P: Application>(
     event: Event,
     batch: &mut Batch,
 ) -> Result<Option<u64>, AllocError>
-    ensures { IfOk result (λ left. (n : ℕ) → IsAnswered (meaning_of P.app P.text P.from_text P.names) room config.old n
-        (Asks (Step event)) left config.new batch.old batch.new) }
+    ensures { IfOk result (λ left. (n : ℕ) (text : List ℕ) → IsAnswered (meaning_of P.app P.text P.from_text P.names) room
+        config.old n text (Asks (Step event)) left config.new batch.old batch.new) }
 {
     if room == Some(0) {
         refuse_full(batch)?;
@@ -66,8 +79,8 @@ fn answer_asked<P: Application>(
     command: Command,
     batch: &mut Batch,
 ) -> Result<Option<u64>, AllocError>
-    ensures { IfOk result (λ left. (n : ℕ) → IsAnswered (meaning_of P.app P.text P.from_text P.names) room config.old n
-        (Asks command) left config.new batch.old batch.new) }
+    ensures { IfOk result (λ left. (n : ℕ) (text : List ℕ) → IsAnswered (meaning_of P.app P.text P.from_text P.names) room
+        config.old n text (Asks command) left config.new batch.old batch.new) }
 {
     if !asks_for_change(&command) {
         answer_question(alloc, config, command, batch)?;

@@ -1,6 +1,6 @@
 -- What is left to try of a node's choices, where the first of them aren't allowed.
 use Rattle.std.proofs.Common.{◌≡◌, ℕ, ◌==◌, List, [], ◌∷◌, ◌++◌, Option, None, filter, find, map}
-use Rattle.std.proofs.Common.{append_assoc, sym, ap, ap₂, ◌∙◌}
+use Rattle.std.proofs.Common.{append_assoc, sym, ap, ◌∙◌}
 use Rattle.std.specs.List.{flat_map}
 use Rattle.action_tables.specs.Numbers.{all_cases}
 use Rattle.app_interface.specs.Application.{App}
@@ -38,12 +38,6 @@ module _ {L : Type 0} (app : App L) (v : NodeView L) where
   pub tried_own : (F : ℕ → List Event) (found r : Option Event) (i : ℕ) → found ≡ tried (F i) → i ≡ v.id → found ≡ r
       → tried (F v.id) ≡ r
   tried_own F found r i tells same is = sym (tells ∙ ap (λ k. tried (F k)) same) ∙ is
-
-  pub tried_near : (F : ℕ → List (Neighbour L) → List Event) (found r : Option Event) (events : List Event) (i : ℕ)
-      (near : List (Neighbour L)) → found ≡ tried events → events ≡ F i near → i ≡ v.id → near ≡ v.near → found ≡ r
-      → tried (F v.id v.near) ≡ r
-  tried_near F found r events i near tells are same all is =
-      sym (tells ∙ ap tried (are ∙ ap₂ F same all)) ∙ is
 
   pub from_own : tried (own_first v.id ++ (adoptions v.id v.near ++ (own_next v.id ++ (relays v.id v.near ++ actions))))
       ≡ next_of app v

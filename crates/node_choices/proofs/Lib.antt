@@ -1,2 +1,4 @@
 pub mod Trying
+mod Allowing
 mod Choices
+mod Fitting

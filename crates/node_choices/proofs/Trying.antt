@@ -1,6 +1,6 @@
 -- Trying the elements of a list in turn, where what is left to try gives what all give.
 use Rattle.std.proofs.Common.{◌≡◌, ℕ, suc, ◌+◌, ◌-◌, ◌<◌, ◌≤◌, Bool, true, false, cond, List, [], ◌∷◌, ◌++◌}
-use Rattle.std.proofs.Common.{Option, Some, None, Result, Ok, Err, IfOk, filter, find, length, drop}
+use Rattle.std.proofs.Common.{Option, Some, None, Result, Ok, Err, IfOk, filter, find, length, drop, map}
 use Rattle.std.proofs.Common.{drop-cons, get_or, add-one, append_assoc, append-nil, sym, ap, ◌∙◌, arith}
 use Rattle.std.specs.List.{flat_map, range_with_len}
 use Rattle.std.specs.Option.{option_or}
@@ -25,6 +25,18 @@ tried_true false x rest all is so_far = absurd (cc)
 pub tried_false : {Y : Type 0} (b : Bool) (x rest all : Y) → b ≡ false → cond b x rest ≡ all → rest ≡ all
 tried_false true x rest all is so_far = absurd (cc)
 tried_false false x rest all is so_far = so_far
+
+-- one that is taken of a list gives what passes
+pub passed_found : {X Y : Type 0} (p : Y → Bool) (f : X → Y) (q : X → Bool) (xs : List X) (i : ℕ) (x : X)
+    (all : Option Y) → i < length xs → x ≡ get_or xs i x → q x ≡ true → p (f x) ≡ true
+    → find p (map f (filter q (drop i xs))) ≡ all → Some (f x) ≡ all
+passed_found p f q xs i x all short at taken passes so_far =
+    let rest = drop (i + 1) xs in
+    let left = filter q rest in
+    sym (ap (λ y. find p (map f (filter q (y ∷ rest)))) (sym at)
+    ∙ ap (λ b. find p (map f (cond b (x ∷ left) left))) taken
+    ∙ ap (λ b. cond b (Some (f x)) (find p (map f left))) passes)
+    ∙ left_next (λ ns. find p (map f (filter q ns))) xs i x all short so_far
 
 -- ---- lists one after the other
 

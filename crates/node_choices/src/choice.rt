@@ -1,14 +1,16 @@
 // What a node does by itself, and all that may happen at it.
 
-ghost use Rattle.std.specs.Prelude.{◌≡◌, ◌++◌, IfOk, OnOk, filter, find};
+ghost use Rattle.std.specs.Prelude.{◌≡◌, ◌==◌, ◌++◌, ◌∷◌, [], IfOk, OnOk, None, Some, filter, find, map};
 ghost use Rattle.std.specs.List.{flat_map};
 ghost use Rattle.action_tables.specs.Numbers.{all_cases};
 ghost use Rattle.node_choices.specs.Choice.{allowed_events, case_events, is_allowed, next_of};
+ghost use Rattle.reset_model.specs.View.{children_of};
+ghost use Rattle.reset_model.specs.declared.event.Event.TheVariants.{Act, Adopt, Relay};
 
-use crate::events::{adoptions, case_events, relays};
+use crate::sight::{Sight, child_waves, near_trees};
 use action_tables::MOST_CASES;
-use app_interface::Application;
-use reset_machine::{Event, StepRefusal, View};
+use app_interface::{Application, Reads};
+use reset_machine::{Event, View};
 use std::alloc::{AllocError, Global};
 
 /// The first event that the view allows, of `Claim`, `Follow`, `Adopt` (neighbours ascending), `Mend`, `Join`,
@@ -20,27 +22,9 @@ pub fn next_event<P: Application>(
 ) -> Result<Option<Event>, AllocError>
     ensures { IfOk result (λ event. event ≡ next_of P.app view.now) }
 {
-    let at = view.id();
-    let own_first = [Event::Claim { at }, Event::Follow { at }];
-    if let Some(event) = first_allowed(alloc, view, &own_first)? {
-        return Ok(Some(event));
-    }
-    if let Some(event) = first_allowed(alloc, view, &adoptions(alloc, at, view.neighbours())?)? {
-        return Ok(Some(event));
-    }
-    let own_next = [
-        Event::Mend { at },
-        Event::Join { at },
-        Event::Finish { at },
-        Event::Open { at },
-    ];
-    if let Some(event) = first_allowed(alloc, view, &own_next)? {
-        return Ok(Some(event));
-    }
-    if let Some(event) = first_allowed(alloc, view, &relays(alloc, at, view.neighbours())?)? {
-        return Ok(Some(event));
-    }
-    action(alloc, view)
+    let trees = near_trees(alloc, view.neighbours())?;
+    let children = child_waves(alloc, view.neighbours(), view.id())?;
+    next_in(alloc, &Sight::new(view, &trees, &children))
 }
 
 /// All events that the view allows, in the order of [`next_event`], with the request after `Open`. It takes no lock.
@@ -50,12 +34,47 @@ pub fn allowed_events<P: Application>(
 ) -> Result<Vec<Event>, AllocError>
     ensures { IfOk result (λ events. events.items ≡ allowed_events P.app view.now) }
 {
-    let at = view.id();
-    let near = view.neighbours();
+    let trees = near_trees(alloc, view.neighbours())?;
+    let children = child_waves(alloc, view.neighbours(), view.id())?;
+    allowed_in(alloc, &Sight::new(view, &trees, &children))
+}
+
+// The first event that is allowed.
+fn next_in<P: Application>(alloc: Global, sight: &Sight<'_, P>) -> Result<Option<Event>, AllocError>
+    ensures { IfOk result (λ event. event ≡ next_of P.app sight.now) }
+{
+    let at = sight.id();
+    let own_first = [Event::Claim { at }, Event::Follow { at }];
+    if let Some(event) = first_allowed(alloc, sight, &own_first)? {
+        return Ok(Some(event));
+    }
+    if let Some(event) = first_adoption(alloc, sight)? {
+        return Ok(Some(event));
+    }
+    let own_next = [
+        Event::Mend { at },
+        Event::Join { at },
+        Event::Finish { at },
+        Event::Open { at },
+    ];
+    if let Some(event) = first_allowed(alloc, sight, &own_next)? {
+        return Ok(Some(event));
+    }
+    if let Some(event) = first_relay(alloc, sight)? {
+        return Ok(Some(event));
+    }
+    action(alloc, sight)
+}
+
+// All events that are allowed.
+fn allowed_in<P: Application>(alloc: Global, sight: &Sight<'_, P>) -> Result<Vec<Event>, AllocError>
+    ensures { IfOk result (λ events. events.items ≡ allowed_events P.app sight.now) }
+{
+    let at = sight.id();
     let mut allowed = Vec::new(alloc);
     let own_first = [Event::Claim { at }, Event::Follow { at }];
-    add_allowed(alloc, view, &own_first, &mut allowed)?;
-    add_allowed(alloc, view, &adoptions(alloc, at, near)?, &mut allowed)?;
+    add_allowed(alloc, sight, &own_first, &mut allowed)?;
+    add_adoptions(alloc, sight, &mut allowed)?;
     let own_next = [
         Event::Mend { at },
         Event::Join { at },
@@ -63,69 +82,205 @@ pub fn allowed_events<P: Application>(
         Event::Open { at },
         Event::Request { at },
     ];
-    add_allowed(alloc, view, &own_next, &mut allowed)?;
-    add_allowed(alloc, view, &relays(alloc, at, near)?, &mut allowed)?;
-    add_actions(alloc, view, &mut allowed)?;
+    add_allowed(alloc, sight, &own_next, &mut allowed)?;
+    add_relays(alloc, sight, &mut allowed)?;
+    add_actions(alloc, sight, &mut allowed)?;
     Ok(allowed)
 }
 
-// Whether the view allows the event.
-fn is_allowed<P: Application>(
-    alloc: Global,
-    view: &View<P>,
-    event: Event,
-) -> Result<bool, AllocError>
-    ensures { IfOk result (λ is. is ≡ is_allowed P.app view.now event) }
-{
-    match view.plan(alloc, event) {
-        Ok(_) => Ok(true),
-        Err(StepRefusal::NoMemory) => Err(AllocError),
-        Err(_) => Ok(false),
-    }
-}
-
-// The first of the events that the view allows.
+// The first of the events that is allowed.
 fn first_allowed<P: Application>(
     alloc: Global,
-    view: &View<P>,
+    sight: &Sight<'_, P>,
     events: &[Event],
 ) -> Result<Option<Event>, AllocError>
-    ensures { IfOk result (λ event. event ≡ find (is_allowed P.app view.now) events.now) }
+    ensures { IfOk result (λ event. event ≡ find (is_allowed P.app sight.now) events.now) }
 {
     for event in events {
-        if is_allowed(alloc, view, *event)? {
+        if sight.allows(alloc, *event)? {
             return Ok(Some(*event));
         }
     }
     Ok(None)
 }
 
-// Adds those of the events that the view allows.
+// The first adoption of a neighbour that is allowed.
+fn first_adoption<P: Application>(
+    alloc: Global,
+    sight: &Sight<'_, P>,
+) -> Result<Option<Event>, AllocError>
+    ensures { IfOk result (λ event. event
+        ≡ find (is_allowed P.app sight.now) (map (λ n. Adopt sight.now.id n.id) sight.now.near)) }
+{
+    let at = sight.id();
+    for other in sight.neighbours() {
+        let event = Event::Adopt { at, from: other.id };
+        if sight.allows(alloc, event)? {
+            return Ok(Some(event));
+        }
+    }
+    Ok(None)
+}
+
+// The first relay of a child's request that is allowed.
+fn first_relay<P: Application>(
+    alloc: Global,
+    sight: &Sight<'_, P>,
+) -> Result<Option<Event>, AllocError>
+    ensures { IfOk result (λ event. event
+        ≡ find (is_allowed P.app sight.now) (map (λ n. Relay sight.now.id n.id) (children_of sight.now))) }
+{
+    let at = sight.id();
+    for other in sight.neighbours() {
+        if other.tree.father == at {
+            let event = Event::Relay {
+                at,
+                child: other.id,
+            };
+            if sight.allows(alloc, event)? {
+                return Ok(Some(event));
+            }
+        }
+    }
+    Ok(None)
+}
+
+// Adds those of the events that are allowed.
 fn add_allowed<P: Application>(
     alloc: Global,
-    view: &View<P>,
+    sight: &Sight<'_, P>,
     events: &[Event],
     allowed: &mut Vec<Event>,
 ) -> Result<(), AllocError>
     ensures { OnOk result
-        (allowed.new.items ≡ allowed.old.items ++ filter (is_allowed P.app view.now) events.now) }
+        (allowed.new.items ≡ allowed.old.items ++ filter (is_allowed P.app sight.now) events.now) }
 {
     for event in events {
-        if is_allowed(alloc, view, *event)? {
-            allowed.push(*event)?;
+        add_if_allowed(alloc, sight, *event, allowed)?;
+    }
+    Ok(())
+}
+
+// Adds the event, if it is allowed.
+fn add_if_allowed<P: Application>(
+    alloc: Global,
+    sight: &Sight<'_, P>,
+    event: Event,
+    allowed: &mut Vec<Event>,
+) -> Result<(), AllocError>
+    ensures { OnOk result
+        (allowed.new.items ≡ allowed.old.items ++ filter (is_allowed P.app sight.now) (event ∷ [])) }
+{
+    if sight.allows(alloc, event)? {
+        allowed.push(event)?;
+    }
+    Ok(())
+}
+
+// Adds the adoptions of neighbours that are allowed.
+fn add_adoptions<P: Application>(
+    alloc: Global,
+    sight: &Sight<'_, P>,
+    allowed: &mut Vec<Event>,
+) -> Result<(), AllocError>
+    ensures { OnOk result (allowed.new.items ≡ allowed.old.items
+        ++ filter (is_allowed P.app sight.now) (map (λ n. Adopt sight.now.id n.id) sight.now.near)) }
+{
+    let at = sight.id();
+    for other in sight.neighbours() {
+        let event = Event::Adopt { at, from: other.id };
+        add_if_allowed(alloc, sight, event, allowed)?;
+    }
+    Ok(())
+}
+
+// Adds the relays of the children's requests that are allowed.
+fn add_relays<P: Application>(
+    alloc: Global,
+    sight: &Sight<'_, P>,
+    allowed: &mut Vec<Event>,
+) -> Result<(), AllocError>
+    ensures { OnOk result (allowed.new.items ≡ allowed.old.items
+        ++ filter (is_allowed P.app sight.now) (map (λ n. Relay sight.now.id n.id) (children_of sight.now))) }
+{
+    let at = sight.id();
+    for other in sight.neighbours() {
+        if other.tree.father == at {
+            let event = Event::Relay {
+                at,
+                child: other.id,
+            };
+            add_if_allowed(alloc, sight, event, allowed)?;
         }
     }
     Ok(())
 }
 
 // The first way in which the node may take a case of the application.
-fn action<P: Application>(alloc: Global, view: &View<P>) -> Result<Option<Event>, AllocError>
+fn action<P: Application>(alloc: Global, sight: &Sight<'_, P>) -> Result<Option<Event>, AllocError>
     ensures { IfOk result (λ event. event
-        ≡ find (is_allowed P.app view.now) (flat_map (case_events view.now) all_cases)) }
+        ≡ find (is_allowed P.app sight.now) (flat_map (case_events sight.now) all_cases)) }
 {
     for case in 1..=MOST_CASES {
-        let events = case_events(alloc, view.id(), case, view.neighbours())?;
-        if let Some(event) = first_allowed(alloc, view, &events)? {
+        if let Some(event) = first_of_case(alloc, sight, case)? {
+            return Ok(Some(event));
+        }
+    }
+    Ok(None)
+}
+
+// The first way in which the node may take this case. Only the choices of a neighbour that fit what the case reads are
+// tried.
+fn first_of_case<P: Application>(
+    alloc: Global,
+    sight: &Sight<'_, P>,
+    case: u8,
+) -> Result<Option<Event>, AllocError>
+    ensures { IfOk result (λ event. event ≡ find (is_allowed P.app sight.now) (case_events sight.now case)) }
+{
+    match P::reads(case) {
+        None => Ok(None),
+        Some(Reads::Alone) => first_alone(alloc, sight, case),
+        Some(Reads::All) => first_alone(alloc, sight, case),
+        Some(Reads::Toward) => first_toward(alloc, sight, case),
+        Some(Reads::One) => first_toward(alloc, sight, case),
+    }
+}
+
+// The case by itself, where the node may take it so.
+fn first_alone<P: Application>(
+    alloc: Global,
+    sight: &Sight<'_, P>,
+    case: u8,
+) -> Result<Option<Event>, AllocError>
+    ensures { IfOk result (λ event. event ≡ find (is_allowed P.app sight.now) (Act sight.now.id case None ∷ [])) }
+{
+    let event = Event::Act {
+        at: sight.id(),
+        case,
+        with: None,
+    };
+    if sight.allows(alloc, event)? {
+        Ok(Some(event))
+    } else {
+        Ok(None)
+    }
+}
+
+// The first neighbour toward which the node may take this case.
+fn first_toward<P: Application>(
+    alloc: Global,
+    sight: &Sight<'_, P>,
+    case: u8,
+) -> Result<Option<Event>, AllocError>
+    ensures { IfOk result (λ event. event
+        ≡ find (is_allowed P.app sight.now) (map (λ n. Act sight.now.id case (Some n.id)) sight.now.near)) }
+{
+    let at = sight.id();
+    for other in sight.neighbours() {
+        let with = Some(other.id);
+        let event = Event::Act { at, case, with };
+        if sight.allows(alloc, event)? {
             return Ok(Some(event));
         }
     }
@@ -135,15 +290,69 @@ fn action<P: Application>(alloc: Global, view: &View<P>) -> Result<Option<Event>
 // Adds the ways in which the node may take a case of the application.
 fn add_actions<P: Application>(
     alloc: Global,
-    view: &View<P>,
+    sight: &Sight<'_, P>,
     allowed: &mut Vec<Event>,
 ) -> Result<(), AllocError>
     ensures { OnOk result (allowed.new.items
-        ≡ allowed.old.items ++ filter (is_allowed P.app view.now) (flat_map (case_events view.now) all_cases)) }
+        ≡ allowed.old.items ++ filter (is_allowed P.app sight.now) (flat_map (case_events sight.now) all_cases)) }
 {
     for case in 1..=MOST_CASES {
-        let events = case_events(alloc, view.id(), case, view.neighbours())?;
-        add_allowed(alloc, view, &events, allowed)?;
+        add_case(alloc, sight, case, allowed)?;
+    }
+    Ok(())
+}
+
+// Adds the ways in which the node may take this case, of those whose choice of a neighbour fits what the case reads.
+fn add_case<P: Application>(
+    alloc: Global,
+    sight: &Sight<'_, P>,
+    case: u8,
+    allowed: &mut Vec<Event>,
+) -> Result<(), AllocError>
+    ensures { OnOk result (allowed.new.items
+        ≡ allowed.old.items ++ filter (is_allowed P.app sight.now) (case_events sight.now case)) }
+{
+    match P::reads(case) {
+        None => Ok(()),
+        Some(Reads::Alone) => add_alone(alloc, sight, case, allowed),
+        Some(Reads::All) => add_alone(alloc, sight, case, allowed),
+        Some(Reads::Toward) => add_toward(alloc, sight, case, allowed),
+        Some(Reads::One) => add_toward(alloc, sight, case, allowed),
+    }
+}
+
+// Adds the case by itself, where the node may take it so.
+fn add_alone<P: Application>(
+    alloc: Global,
+    sight: &Sight<'_, P>,
+    case: u8,
+    allowed: &mut Vec<Event>,
+) -> Result<(), AllocError>
+    ensures { OnOk result (allowed.new.items
+        ≡ allowed.old.items ++ filter (is_allowed P.app sight.now) (Act sight.now.id case None ∷ [])) }
+{
+    let event = Event::Act {
+        at: sight.id(),
+        case,
+        with: None,
+    };
+    add_if_allowed(alloc, sight, event, allowed)
+}
+
+// Adds the ways in which the node may take this case toward a neighbour.
+fn add_toward<P: Application>(
+    alloc: Global,
+    sight: &Sight<'_, P>,
+    case: u8,
+    allowed: &mut Vec<Event>,
+) -> Result<(), AllocError>
+    ensures { OnOk result (allowed.new.items ≡ allowed.old.items
+        ++ filter (is_allowed P.app sight.now) (map (λ n. Act sight.now.id case (Some n.id)) sight.now.near)) }
+{
+    let at = sight.id();
+    for other in sight.neighbours() {
+        let with = Some(other.id);
+        add_if_allowed(alloc, sight, Event::Act { at, case, with }, allowed)?;
     }
     Ok(())
 }

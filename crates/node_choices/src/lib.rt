@@ -2,7 +2,8 @@
 //! sees allows. Node threads take the first, a scheduler draws among all.
 #![tactic(auto)]
 
+mod case;
 mod choice;
-mod events;
+mod sight;
 
 pub use choice::{allowed_events, next_event};

@@ -13,6 +13,8 @@ use Rattle.history.specs.Entries.{replayed}
 use Rattle.history.specs.HistoryText.{IsReadAs, history_text}
 use Rattle.history.specs.Reports.{reports_of}
 use Rattle.scheduler.specs.Driven.{driven}
+use Rattle.scheduler.specs.Told.{IsTold}
+use Rattle.scheduler.specs.declared.history_text.DrivenHistory.{DrivenHistory}
 use Rattle.reset_service.specs.Drove.{IsDrove, IsDroveFrom, IsDroveOf, IsDroveText, drove_line, new_book}
 use Rattle.script_replay.specs.Meaning.{Meaning, idle_meaning, token_meaning, mutex_meaning, routes_meaning}
 use Rattle.script_replay.specs.Output.{Describes, IsJudged, bad_topology_text}
@@ -33,7 +35,7 @@ Output = List ℕ × Status
 module _ (steps seed faults : ℕ) where
   -- ---- what a book that was driven tells
 
-  pub drove : {L : Type 0} (m : Meaning L) (c : Configuration L) (b : BookView L) (history : List ℕ)
+  drove : {L : Type 0} (m : Meaning L) (c : Configuration L) (b : BookView L) (history : List ℕ)
       → b ≡ driven m.app m.from_text steps seed faults (new_book c) → b.opening ≡ c → IsBook m.app m.from_text b
       → history ≡ history_text b.config.modulus b.entries → IsReadAs history (Ok (b.config.modulus, b.entries))
       → (entries reports : ℕ) → entries ≡ length b.entries
@@ -53,6 +55,19 @@ module _ (steps seed faults : ℕ) where
             ∙ ap (λ n. (drove_line (length b.entries) n, Good))
             (r ∙ ap (λ d. length (reports_of m.app m.from_text d b.entries)) opening);
       }
+
+  pub told_drove : {L : Type 0} (m : Meaning L) (c : Configuration L) (b : BookView L) (h : DrivenHistory)
+      → b ≡ driven m.app m.from_text steps seed faults (new_book c) → b.opening ≡ c → IsTold m.app m.from_text b h
+      → IsReadAs (history_text b.config.modulus b.entries) (Ok (b.config.modulus, b.entries))
+      → IsDrove m c steps seed faults h.text.items (drove_line h.entries h.reports, Good)
+  told_drove m c b h is opening told read =
+      let modulus : b.config.modulus ≡ b.opening.modulus =
+      replayed_modulus m.app m.from_text b.entries b.opening b.config told.book.replay in
+      let text : h.text.items ≡ history_text b.config.modulus b.entries =
+      told.text ∙ ap (λ n. history_text n b.entries) (sym modulus) in
+      drove m c b h.text.items is opening told.book text
+      (subst (λ t. IsReadAs t (Ok (b.config.modulus, b.entries))) (sym text) read) h.entries h.reports told.entries
+      told.reports
 
   -- ---- a topology is judged first
 

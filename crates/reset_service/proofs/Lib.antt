@@ -11,3 +11,4 @@ pub mod SteppedHistories
 pub mod Starting
 pub mod Beginning
 pub mod Paging
+pub mod Holding

@@ -11,3 +11,5 @@ pub mod Planned
 pub mod Started
 pub mod Page
 pub mod Begun
+pub mod Explorations
+pub mod Held

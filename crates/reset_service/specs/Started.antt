@@ -1,9 +1,10 @@
 -- Runs that start from a snapshot in place of the booted configuration.
-use Rattle.std.specs.Prelude.{◌≡◌, ◌<◌, ◌≤◌, ℕ, List, codes, length}
+use Rattle.std.specs.Prelude.{◌≡◌, ◌<◌, ◌≤◌, ℕ, List, codes, length, Option, Some, None}
 use Rattle.topology.specs.Graph.{Graph}
 use Rattle.topology.specs.declared.text.AppName.{AppName}
 use Rattle.topology.specs.declared.text.AppName.TheVariants.{Idle, Token, Mutex, Routes}
 use Rattle.reset_model.specs.Configuration.{Configuration}
+use Rattle.reset_model.specs.Outcome.{IsBoot}
 use Rattle.history.specs.HistoryText.{ended}
 use Rattle.script_replay.specs.Meaning.{Meaning, idle_meaning, token_meaning, mutex_meaning, routes_meaning}
 use Rattle.script_replay.specs.Output.{IsJudged, script_output}
@@ -31,6 +32,16 @@ abbrev pub IsStartFault : {L : Type 0} → Meaning L → Graph → List ℕ → 
 IsStartFault m g snapshot TooLong = 67108864 < length snapshot
 IsStartFault m g snapshot (Bad f) = (length snapshot ≤ 67108864) × IsFirstFault m g snapshot f
 IsStartFault m g snapshot NoMemory = ⊥
+
+-- a run starts from this configuration: the booted one, or the one that a snapshot names
+abbrev pub IsOpening : {L : Type 0} → Meaning L → Graph → ℕ → Option (List ℕ) → Configuration L → Type 0
+IsOpening m g modulus None c = IsBoot m.app g modulus c
+IsOpening m g modulus (Some snapshot) c = (length snapshot ≤ 67108864) × IsSnapshotOf m g modulus snapshot c
+
+-- no run starts from the snapshot for this reason
+abbrev pub IsOpeningFault : {L : Type 0} → Meaning L → Graph → Option (List ℕ) → StartFault → Type 0
+IsOpeningFault m g None f = ⊥
+IsOpeningFault m g (Some snapshot) f = IsStartFault m g snapshot f
 
 -- what is written where the snapshot is judged before what follows it
 pub data IsStartedFrom {L : Type 0} (m : Meaning L) (g : Graph) (modulus : ℕ) (snapshot : List ℕ)

@@ -137,7 +137,7 @@ TellsRunOf Routes = TellsRun routes_meaning HasRoutes
 
 abbrev pub told_history : Told → List ℕ
 told_history (Kept k) = k.history.items
-told_history (Driven d) = d.history.items
+told_history (Driven d) = d.text.items
 told_history told = []
 
 abbrev pub told_output : Told → List ℕ × Status

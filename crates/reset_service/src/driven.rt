@@ -8,15 +8,15 @@ ghost use Rattle.script_replay.specs.Stops.{IsRunStop};
 ghost use Rattle.reset_service.specs.Threaded.{LeavesBoth, told_history, told_output};
 
 use crate::started::{StartFault, start};
-use crate::told::{Driven, Told, put_history, put_told, status_of};
+use crate::told::{Told, put_history, put_told, status_of};
 use app_interface::{Application, Idle};
 use app_mutex::EdgeReversal;
 use app_routes::Routes;
 use app_token::Token;
-use history::{Book, MAX_ENTRIES};
+use history::books_read_back;
 use reset_machine::Config;
-use scheduler::drive;
-use script_replay::{Network, RunStop, Status, read_network, text_of};
+use scheduler::driven_history;
+use script_replay::{Network, RunStop, Status, read_network};
 use std::alloc::{AllocError, Global};
 use std::io::Write;
 use topology::{AppName, ReadFault};
@@ -190,23 +190,9 @@ fn drive_opened<P: Application>(
     ensures undriven { IfOk result (λ told. (told_output told).1 ≡ Status.BadInput → told_history told ≡ []) }
     ensures stop { IfErr result IsRunStop }
 {
-    let mut book = Book::open_book(alloc, opening, MAX_ENTRIES);
-    match drive(alloc, &mut book, run.steps, run.seed, run.faults) {
-        Ok(()) => {}
-        Err(AllocError) => {
-            drop(book);
-            return Err(RunStop::NoMemory);
-        }
+    books_read_back::<P>();
+    match driven_history(alloc, opening, run.steps, run.seed, run.faults) {
+        Ok(history) => Ok(Told::Driven(history)),
+        Err(AllocError) => Err(RunStop::NoMemory),
     }
-    book.lemma_is_book();
-    let text = text_of(alloc, &book);
-    let entries = book.len();
-    let reports = book.reports().len();
-    drop(book);
-    let history = text?;
-    Ok(Told::Driven(Driven {
-        history,
-        entries,
-        reports,
-    }))
 }

@@ -10,13 +10,13 @@
 mod counts;
 mod driven;
 mod explained;
+mod explored;
 mod laws;
 mod line;
 mod page;
 mod pictured;
 mod planned;
 mod recorded;
-mod refusal_explanations;
 mod session;
 mod shaped;
 mod started;
@@ -24,14 +24,14 @@ mod tables;
 mod threaded;
 mod told;
 mod verified;
-mod word_explanations;
 
 pub use command_words::{
-    DriveWords, Job, LineFault, PageWords, Paths, PlanWords, RecordWords, SessionWords, ShapeWords,
-    ThreadWords, read_words,
+    DriveWords, ExploreWords, Job, LineFault, PageWords, Paths, PlanWords, RecordWords,
+    SessionWords, ShapeWords, ThreadWords, read_words,
 };
 pub use driven::{Drive, drive_from, drive_text};
-pub use explained::{Explanation, explain};
+pub use explained::explain;
+pub use explored::{Exploring, explore_text};
 pub use laws::{
     booted_invariants_hold, driven_runs_are_verified, kept_histories_are_runs, one_driven_run,
     one_verification, recordings_are_verified, threads_are_verified, threads_keep_a_run,

@@ -181,7 +181,7 @@ fn plan_after<P: Application, W: Write>(
 }
 
 // Answers a script with a bad line by its number.
-fn refuse_line<W: Write>(number: u64, out: &mut W) -> Result<Status, RunStop>
+pub fn refuse_line<W: Write>(number: u64, out: &mut W) -> Result<Status, RunStop>
     ensures leaves { Leaves (λ output. output ≡ (bad_line_text number, Status.BadInput)) (W.contents out.old)
         (W.contents out.new) result }
     ensures stop { IfErr result IsOutputStop }

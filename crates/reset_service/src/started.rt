@@ -1,6 +1,6 @@
 // Where a run starts from a snapshot.
 
-ghost use Rattle.std.specs.Prelude.{◌≡◌, ◌≢◌, ◌≤◌, ℕ, List, IfErr, IfOk, length, OnErr, OnOk};
+ghost use Rattle.std.specs.Prelude.{◌≡◌, ◌≢◌, ◌≤◌, ℕ, List, IfErr, IfOk, length, option_map, OnErr, OnOk};
 ghost use Rattle.std.specs.Io.KnownBytes.{Appends};
 ghost use Rattle.action_tables.specs.Written.{AppendsPrefix};
 ghost use Rattle.topology.specs.TopologyText.{IsReadFault};
@@ -10,7 +10,8 @@ ghost use Rattle.script_replay.specs.Output.{Leaves};
 ghost use Rattle.script_replay.specs.Stops.{IsOutputStop};
 ghost use Rattle.script_replay.specs.declared.status.Purpose.{Purpose};
 ghost use Rattle.snapshots.specs.Named.{IsSnapshotOf};
-ghost use Rattle.reset_service.specs.Started.{Answers, IsStartFault, IsStartedFrom, IsStartedOf, IsStartedText};
+ghost use Rattle.reset_service.specs.Started.{Answers, IsOpening, IsOpeningFault, IsStartFault, IsStartedFrom};
+ghost use Rattle.reset_service.specs.Started.{IsStartedOf, IsStartedText};
 ghost use Rattle.reset_service.specs.Started.{start_fault_text};
 
 use action_tables::{WriteFault, put_bytes};
@@ -80,6 +81,28 @@ fn start_on<P: Application>(
         Ok(config) => Ok(config),
         Err(SnapshotFault::NoMemory) => Err(StartFault::NoMemory),
         Err(fault) => Err(StartFault::Bad(fault)),
+    }
+}
+
+// The configuration that a run starts from: the booted one, or the one that a snapshot names.
+pub fn open_network<P: Application>(
+    alloc: Global,
+    network: Network,
+    snapshot: Option<&[u8]>,
+) -> Result<Config<P>, StartFault>
+    requires { network.topology.nodes ≡ network.topology.ids }
+    ensures ok { IfOk result (IsOpening (meaning_of P.app P.text P.from_text P.names) network.topology network.modulus
+        (option_map (λ s. s.now) snapshot.entry)) }
+    ensures err { IfErr result (λ f. f ≢ StartFault.NoMemory
+        → IsOpeningFault (meaning_of P.app P.text P.from_text P.names) network.topology
+        (option_map (λ s. s.now) snapshot.entry) f) }
+{
+    match snapshot {
+        Some(snapshot) => start(alloc, network, snapshot),
+        None => match Config::boot(alloc, network.topology, network.modulus) {
+            Ok(config) => Ok(config),
+            Err(_) => Err(StartFault::NoMemory),
+        },
     }
 }
 

@@ -8,6 +8,7 @@ ghost use Rattle.reset_service.specs.Threaded.{threads_line, told_history, told_
 use crate::counts::put_counts;
 use crate::started::{StartFault, put_start_fault};
 use action_tables::{Part, WriteFault, put_bytes, put_parts};
+use scheduler::DrivenHistory;
 use script_replay::{Status, put_topology_fault};
 use std::io::Write;
 use topology::ReadFault;
@@ -19,7 +20,7 @@ pub enum Told {
     BadSnapshot(StartFault),
     TooManyNodes,
     Kept(Kept),
-    Driven(Driven),
+    Driven(DrivenHistory),
 }
 
 // The history that node threads kept, as a text, and what it has.
@@ -27,14 +28,6 @@ pub enum Told {
 pub struct Kept {
     pub history: Vec<u8>,
     pub nodes: usize,
-    pub entries: usize,
-    pub reports: usize,
-}
-
-// The history of what a scheduler did, as a text, and what it has.
-#[derive(Drop)]
-pub struct Driven {
-    pub history: Vec<u8>,
     pub entries: usize,
     pub reports: usize,
 }
@@ -47,7 +40,7 @@ pub fn put_history<H: Write>(history: &mut H, told: &Told) -> Result<(), WriteFa
 {
     match told {
         Told::Kept(kept) => put_bytes(history, &kept.history),
-        Told::Driven(driven) => put_bytes(history, &driven.history),
+        Told::Driven(driven) => put_bytes(history, &driven.text),
         Told::BadTopology(_) | Told::BadSnapshot(_) | Told::TooManyNodes => put_bytes(history, b""),
     }
 }

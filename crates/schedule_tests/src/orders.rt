@@ -3,7 +3,7 @@
 use app_interface::{Application, Idle};
 use app_mutex::EdgeReversal;
 use reset_machine::{Config, Event};
-use schedules::{ExploreFault, Runs, Schedules, explore};
+use schedules::{ExploreFault, Runs, Schedules, Totals, explore};
 use std::alloc::Global;
 use std::process::Abort;
 use test_networks::{greatest_modulus, line};
@@ -20,6 +20,17 @@ fn is_explored<P: Application, R: Abort>(
 ) {
     let found = explore(alloc, config, acts, 1000).expect(rt, "an exploration");
     assert!(rt; found == expected);
+}
+
+// Every order ends, the longest after so many steps, with so many completions.
+fn ending(longest: usize, count: usize) -> Runs {
+    Runs::Ending {
+        longest,
+        completions: Totals {
+            least: count,
+            most: count,
+        },
+    }
 }
 
 // The booted ring of the nodes 1 to 6.
@@ -39,7 +50,8 @@ fn a_reset_of_a_ring_has_one_end(rt: HostRuntime) {
         configurations: 37,
         steps: 60,
         ends: 1,
-        runs: Runs::Longest(12),
+        whole: 1,
+        runs: ending(12, 1),
     };
     is_explored(&rt, rt.alloc(), &config, false, expected);
     drop(config);
@@ -55,7 +67,8 @@ fn one_more_than_the_limit_is_too_many(rt: HostRuntime) {
         configurations: 8,
         steps: 7,
         ends: 1,
-        runs: Runs::Longest(7),
+        whole: 1,
+        runs: ending(7, 1),
     };
     is_explored(&rt, rt.alloc(), &config, false, expected);
     assert!(rt; explore(rt.alloc(), &config, false, 8).is_ok());
@@ -83,7 +96,8 @@ fn damaged_registers_are_repaired(rt: HostRuntime) {
         configurations: 11,
         steps: 13,
         ends: 1,
-        runs: Runs::Longest(7),
+        whole: 1,
+        runs: ending(7, 1),
     };
     is_explored(&rt, rt.alloc(), &config, false, expected);
     drop(config);
@@ -96,13 +110,15 @@ fn actions_go_on_for_ever(rt: HostRuntime) {
         configurations: 1,
         steps: 0,
         ends: 1,
-        runs: Runs::Longest(0),
+        whole: 1,
+        runs: ending(0, 0),
     };
     is_explored(&rt, rt.alloc(), &config, false, rest);
     let expected = Schedules {
         configurations: 20,
         steps: 28,
         ends: 0,
+        whole: 0,
         runs: Runs::Endless,
     };
     is_explored(&rt, rt.alloc(), &config, true, expected);

@@ -1,2 +1,3 @@
 mod EnabledEvents
-mod Steps
+pub mod Steps
+mod Telling

@@ -1,6 +1,6 @@
 -- What the steps of a drawn run leave.
 use Rattle.std.proofs.Common.{◌≡◌, ℕ, zero, suc, ◌+◌, ◌%◌, Bool, true, false, cond, nat_lt, add-one, refl, sym, ap, ap₂}
-use Rattle.std.proofs.Common.{◌∙◌, List, Option, Some, None, Result, Ok, Err, OnOk}
+use Rattle.std.proofs.Common.{◌∙◌, List, Option, Some, None, Result, Ok, Err, IfOk, OnOk}
 use Rattle.std.specs.Option.{option_and_then}
 use Rattle.rand_pcg.specs.Lcg.{Lcg}
 use Rattle.rand_pcg.specs.Pcg.{pcg32}
@@ -34,32 +34,36 @@ module _ {L : Type 0} (app : App L) (from_text : List ℕ → Option L) (b : Boo
       is ∙ ap (λ (k : Configuration L). drawn_fault k.graph.ids (next_words g).0) same in
       ap₂ (λ (l : BookView L) (a : Lcg). (l, a)) (done ∙ ap (after_fault app from_text b) drawn) next
 
--- the event that two words draw, by the node that the first of them draws, if any
-module _ {L : Type 0} (app : App L) (c now : Configuration L) (for_node for_event : ℕ) (ready : List ℕ)
-    (node : Option ℕ) (same : now ≡ c) (busy : ready ≡ ready_of app c)
-    (draws : node ≡ drawn_of (or_all now.graph.nodes ready) for_node) where
-  of_node : Option ℕ → Option Event
-  of_node o = option_and_then (λ at. drawn_of (enabled_events app c at) for_event) o
+-- the event that two words draw, by the nodes that are ready
+module _ {L : Type 0} (app : App L) (c : Configuration L) (ready : List ℕ) (for_node for_event : ℕ) where
+  abbrev pub of_node : Option ℕ → Option Event
+  of_node o = option_and_then (λ node. drawn_of (enabled_events app c node) for_event) o
 
-  by_node : of_node node ≡ drawn_by app c for_node for_event
-  unfolding drawn_by of_node
-  by_node =
-      ap of_node
-      (draws
-      ∙ ap₂ (λ (k : Configuration L) (ids : List ℕ). drawn_of (or_all k.graph.nodes ids) for_node) same busy)
+  abbrev pub node_of : Option ℕ
+  node_of = drawn_of (or_all c.graph.nodes ready) for_node
 
-  pub event_found : (at : ℕ) (events : List Event) (drawn : Option Event) → node ≡ Some at
-      → events ≡ enabled_events app now at → drawn ≡ drawn_of events for_event
-      → drawn ≡ drawn_by app c for_node for_event
-  unfolding of_node
-  event_found at events drawn there enabled is =
+  pub event_found : (found : Option ℕ) (at : ℕ) (events : List Event) (drawn : Option Event) → found ≡ node_of
+      → found ≡ Some at → events ≡ enabled_events app c at → drawn ≡ drawn_of events for_event → drawn ≡ of_node node_of
+  event_found found at events drawn draws there enabled is =
+      is ∙ ap (λ es. drawn_of es for_event) enabled ∙ ap of_node (sym there ∙ draws)
+
+  pub no_event_found : (found : Option ℕ) → found ≡ node_of → found ≡ None → None ≡ of_node node_of
+  no_event_found found draws none = ap of_node (sym none ∙ draws)
+
+  drawn_by_ready : (d : Configuration L) (drawn : Option Event) → c ≡ d → ready ≡ ready_of app d
+      → drawn ≡ of_node node_of → drawn ≡ drawn_by app d for_node for_event
+  unfolding drawn_by
+  drawn_by_ready d drawn same busy is =
       is
-      ∙ ap (λ es. drawn_of es for_event) (enabled ∙ ap (λ (k : Configuration L). enabled_events app k at) same)
-      ∙ ap of_node (sym there) ∙ by_node
+      ∙ ap₂ (λ (k : Configuration L) (ids : List ℕ).
+      option_and_then (λ node. drawn_of (enabled_events app k node) for_event)
+      (drawn_of (or_all k.graph.nodes ids) for_node)) same busy
 
-  pub no_event_found : node ≡ None → None ≡ drawn_by app c for_node for_event
-  unfolding of_node
-  no_event_found none = ap of_node (sym none) ∙ by_node
+  pub if_drawn_by_ready : {E : Type 0} (d : Configuration L) (r : Result (Option Event) E) → c ≡ d
+      → ready ≡ ready_of app d → IfOk r (λ drawn. drawn ≡ of_node node_of)
+      → IfOk r (λ drawn. drawn ≡ drawn_by app d for_node for_event)
+  if_drawn_by_ready d (Ok drawn) same busy is = drawn_by_ready d drawn same busy is
+  if_drawn_by_ready d (Err f) same busy is = tt
 
 module _ {L : Type 0} (app : App L) (b : BookView L) (g : Lcg) where
   pub event_drawn : (for_node for_event : ℕ) (first second : Lcg) (before left : BookView L) (drawn : Option Event)
@@ -75,7 +79,7 @@ module _ {L : Type 0} (app : App L) (b : BookView L) (g : Lcg) where
       ∙ ap (λ (p : ℕ × Lcg). let q = pcg32 p.1 in (after_event app b (drawn_by app b.config p.0 q.0), q.1)) one
 
 module _ {L : Type 0} (app : App L) (from_text : List ℕ → Option L) (faults : ℕ) (b : BookView L) (g : Lcg) where
-  kind_drawn : (kind : ℕ) (next : Lcg) (is_fault : Bool) → (kind, next) ≡ pcg32 g
+  pub kind_drawn : (kind : ℕ) (next : Lcg) (is_fault : Bool) → (kind, next) ≡ pcg32 g
       → nat_lt (kind % 1000) faults ≡ is_fault
       → cond is_fault (fault_step app from_text b next) (event_step app b next) ≡ drawn_step app from_text faults b g
   unfolding drawn_step

@@ -1,1 +1,3 @@
 pub mod Driven
+pub mod Completions
+pub mod Told

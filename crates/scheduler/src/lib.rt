@@ -2,9 +2,15 @@
 //! from random words that a number seeds.
 #![tactic(auto)]
 
+mod drawn;
 mod events;
+mod history_text;
 mod run;
 mod step;
+mod text_run;
+mod text_step;
 
 pub use events::enabled_events;
+pub use history_text::DrivenHistory;
 pub use run::drive;
+pub use text_run::driven_history;

@@ -1,10 +1,9 @@
 // A step of a drawn run.
 
-ghost use Rattle.std.specs.Prelude.{◌≡◌, ◌<◌, IfOk, OnErr, OnOk, length};
-ghost use Rattle.scheduler.specs.Driven.{after_event, after_fault, drawn_by, drawn_of, drawn_step, event_step};
-ghost use Rattle.scheduler.specs.Driven.{fault_step, or_all};
+ghost use Rattle.std.specs.Prelude.{◌≡◌, ◌<◌, IfOk, OnErr, OnOk};
+ghost use Rattle.scheduler.specs.Driven.{after_event, after_fault, drawn_by, drawn_step, event_step, fault_step};
 
-use crate::events::enabled_events;
+use crate::drawn::drawn_event;
 use app_interface::Application;
 use fault_inject::{Fault, draw_fault};
 use history::{Book, BookRefusal, DisturbRefusal};
@@ -12,7 +11,6 @@ use rand_core::utils::NextWord;
 use rand_pcg::Lcg64Xsh32;
 use reset_machine::Event;
 use std::alloc::{AllocError, Global};
-use topology::Topology;
 
 /// Draws a fault in so many of a thousand cases, and else an event, and does it. What is refused changes nothing.
 /// Where memory is wanting the book stays as it was.
@@ -102,33 +100,5 @@ fn drawn_by<P: Application>(
     ensures kept { book.new ≡ book.old }
 {
     let ready = book.ready(alloc)?;
-    let config = book.config();
-    match drawn_node(config.topology(), &ready, for_node) {
-        Some(at) => {
-            let events = enabled_events(alloc, config, at)?;
-            Ok(drawn_of(&events, for_event))
-        }
-        None => Ok(None),
-    }
-}
-
-// The node that a word draws: of those that are ready, or of all that are up where none is, if any is.
-fn drawn_node(topology: &Topology, ready: &[u32], word: u32) -> Option<u32>
-    ensures { result ≡ drawn_of (or_all topology.now.nodes ready.now) word }
-{
-    if ready.is_empty() {
-        drawn_of(topology.nodes(), word)
-    } else {
-        drawn_of(ready, word)
-    }
-}
-
-// What a word draws of a list, if there is anything in it.
-fn drawn_of<T: Copy>(items: &[T], word: u32) -> Option<T>
-    ensures { result ≡ drawn_of items.now word }
-{
-    if items.is_empty() {
-        return None;
-    }
-    Some(items[word as usize % items.len()])
+    drawn_event(alloc, book.config(), &ready, for_node, for_event)
 }

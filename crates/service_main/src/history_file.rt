@@ -3,71 +3,99 @@
 ghost use Rattle.std.specs.Prelude.{◌≡◌, Err, IfErr, IfOk};
 ghost use Rattle.script_replay.specs.Stops.{IsOutputStop};
 
+use crate::places::{end_of_links, names, open_folder, sync_folder};
+use crate::streams::{HeldDescriptors, hold_descriptors};
 use reset_service::{RunStop, Status};
 use std::fs::{File, Metadata, OpenFile, OpenOptions, Permissions};
 use std::io::Write;
-use std::os::unix::fs::MetadataExt;
+use std::path::PathBuf;
 use std::rt::Files;
 use std::{fs, io};
 
 /// The file of a history.
 #[derive(Drop)]
-pub struct HistoryFile<'a, R: Files> {
-    path: &'a str,
-    // The path of the file beside it, or None where the history is written to what is at the path.
+pub struct HistoryFile<R: Files> {
+    place: PathBuf,
+    // The path of the file beside it, or None where the history is written to what is at the place.
     part: Option<String>,
+    // The folder of both, if it can be opened. At the end no memory may be wanted for it, as the answers are whole then.
+    folder: Option<R::File>,
     /// What the history is written to.
     pub file: R::File,
+    // So the file has no descriptor of a standard stream.
+    held: HeldDescriptors<R::File>,
 }
 
-/// Opens a file for a history. Where a regular file or nothing is at the path, that is `PATH.part`, which must not be
-/// there yet, so that no file is written over. A device, a pipe or a link is written to itself.
-pub fn create_history<'a, R: Files + Eprint + AllocGlobal>(
+/// Opens a file for a history. Where a regular file or nothing is where the path leads, over any links, that is a
+/// file `PLACE.part` beside it, which must not be there yet, so that no file is written over. A device or a pipe is written to
+/// itself, and so is a file that has no path.
+pub fn create_history<R: Files + Eprint + AllocGlobal>(
     rt: &R,
-    path: &'a str,
-) -> Result<HistoryFile<'a, R>, RunStop>
+    path: &str,
+) -> Result<HistoryFile<R>, RunStop>
     ensures { IfErr result IsOutputStop }
 {
-    match fs::symlink_metadata(rt, path) {
-        Ok(there) if there.is_file() => create_beside(rt, path, Some(there)),
-        Err(error) if error.kind() == io::ErrorKind::NotFound && !path.is_empty() => {
-            create_beside(rt, path, None)
+    let held = hold_descriptors(rt)?;
+    let place = match end_of_links(rt, path) {
+        Ok(place) => place,
+        Err(error) => return Err(write_stop(error)),
+    };
+    match fs::metadata(rt, path) {
+        Ok(there) if there.is_file() && names(rt, place.as_str(), &there) => {
+            create_beside(rt, held, place, Some(there))
         }
-        _ => create_directly(rt, path),
+        Err(error) if error.kind() == io::ErrorKind::NotFound && !path.is_empty() => {
+            create_beside(rt, held, place, None)
+        }
+        _ => create_directly(rt, held, path),
     }
 }
 
 // Opens what is at the path itself.
-fn create_directly<'a, R: Files>(rt: &R, path: &'a str) -> Result<HistoryFile<'a, R>, RunStop>
+fn create_directly<R: Files + AllocGlobal>(
+    rt: &R,
+    held: HeldDescriptors<R::File>,
+    path: &str,
+) -> Result<HistoryFile<R>, RunStop>
     ensures { IfErr result IsOutputStop }
 {
+    let place = PathBuf::from_str(rt.alloc(), path)?;
     match fs::create(rt, path) {
         Ok(file) => Ok(HistoryFile {
-            path,
+            place,
             part: None,
+            folder: None,
             file,
+            held,
         }),
         Err(error) => Err(write_stop(error)),
     }
 }
 
-// Opens the file beside a path at which this file is, if one is. The new one gets its permissions.
-fn create_beside<'a, R: Files + Eprint + AllocGlobal>(
+// Opens the file beside a place at which this file is, if one is. The new one gets its permissions.
+fn create_beside<R: Files + Eprint + AllocGlobal>(
     rt: &R,
-    path: &'a str,
+    held: HeldDescriptors<R::File>,
+    place: PathBuf,
     there: Option<Metadata>,
-) -> Result<HistoryFile<'a, R>, RunStop>
+) -> Result<HistoryFile<R>, RunStop>
     ensures { IfErr result IsOutputStop }
 {
     if there.is_some() {
-        see_that_it_opens(rt, path)?;
+        see_that_it_opens(rt, place.as_str())?;
     }
-    let part = format!(in rt.alloc(); "{path}.part")?;
+    let part = format!(in rt.alloc(); "{}.part", place.as_str())?;
+    let folder = match open_folder(rt, place.as_str()) {
+        Ok(folder) => folder,
+        Err(error) => return Err(write_stop(error)),
+    };
     let file = create_part(rt, &part)?;
     let history = HistoryFile {
-        path,
+        place,
         part: Some(part),
+        folder,
         file,
+        held,
     };
     match there {
         Some(there) => history.with_permissions(rt, there.permissions()),
@@ -104,13 +132,9 @@ fn create_part<R: Files + Eprint>(rt: &R, part: &str) -> Result<R::File, RunStop
     }
 }
 
-impl<'a, R: Files> HistoryFile<'a, R> {
+impl<R: Files + AllocGlobal> HistoryFile<R> {
     // The file with these permissions.
-    fn with_permissions(
-        self,
-        rt: &R,
-        permissions: Permissions,
-    ) -> Result<HistoryFile<'a, R>, RunStop>
+    fn with_permissions(self, rt: &R, permissions: Permissions) -> Result<HistoryFile<R>, RunStop>
         ensures { IfErr result IsOutputStop }
     {
         match self.file.set_permissions(permissions) {
@@ -133,17 +157,25 @@ impl<'a, R: Files> HistoryFile<'a, R> {
         ensures stopped { IfErr ended (λ stop. result ≡ Err stop) }
         ensures ok { IfOk result (λ _. result ≡ ended) }
     {
-        let HistoryFile { path, part, file } = self;
+        let HistoryFile {
+            place,
+            part,
+            folder,
+            file,
+            held,
+        } = self;
         let left = match ended {
-            Ok(_) => has_bytes(&file),
+            Ok(_) => is_left(&file, &part),
             Err(_) => Ok(false),
         };
-        // Where standard output is closed, the file may have its descriptor, and isn't to get the answers.
         drop(file);
         let taken = match left {
-            Ok(true) => take_place(rt, path, &part, out),
+            Ok(true) => take_place(rt, place.as_str(), &part, &folder, out),
             left => left,
         };
+        drop(place);
+        drop(folder);
+        drop(held);
         match taken {
             Ok(true) => {}
             Ok(false) => discard(rt, &part),
@@ -156,17 +188,19 @@ impl<'a, R: Files> HistoryFile<'a, R> {
     }
 }
 
-// Writes the answers, and then puts the file beside a path there, if there is one. Whether it is to stay.
+// Writes the answers, and then puts the file beside a place there, if there is one. Whether it is to stay.
 fn take_place<R: Files, W: Write>(
     rt: &R,
-    path: &str,
+    place: &str,
     part: &Option<String>,
+    folder: &Option<R::File>,
     out: &mut W,
 ) -> io::Result<bool> {
     match part {
         Some(part) => {
             out.flush()?;
-            fs::rename(rt, part, path)?;
+            fs::rename(rt, part, place)?;
+            sync_folder(folder)?;
             Ok(true)
         }
         None => Ok(false),
@@ -180,8 +214,13 @@ fn discard<R: Files>(rt: &R, part: &Option<String>) {
     }
 }
 
-fn has_bytes<F: OpenFile>(file: &F) -> io::Result<bool> {
-    Ok(file.metadata()?.len() > 0)
+// Whether a file has something that is to stay. One that is to take the place of another is synced first.
+fn is_left<F: OpenFile>(file: &F, part: &Option<String>) -> io::Result<bool> {
+    let has_bytes = file.metadata()?.len() > 0;
+    if has_bytes && part.is_some() {
+        file.sync_data()?;
+    }
+    Ok(has_bytes)
 }
 
 fn write_stop(error: io::Error) -> RunStop
@@ -190,38 +229,5 @@ fn write_stop(error: io::Error) -> RunStop
     match error.kind() {
         io::ErrorKind::OutOfMemory => RunStop::NoMemory,
         _ => RunStop::WriteFailed,
-    }
-}
-
-/// Whether the path of a history names a regular file that one of the inputs is too.
-pub fn is_input<R: Files>(rt: &R, path: &str, inputs: &[Option<&str>]) -> bool {
-    match fs::metadata(rt, path) {
-        Ok(file) => file.is_file() && names_one(rt, &file, inputs),
-        Err(_) => false,
-    }
-}
-
-/// Says that the file of a history is an input too, before it is opened.
-pub fn refuse_history<R: Eprint>(rt: &R) -> Result<Status, RunStop> {
-    let _ = eprintln!(rt; "history is an input");
-    Ok(Status::BadInput)
-}
-
-// Whether one of the paths names this file.
-fn names_one<R: Files>(rt: &R, file: &Metadata, paths: &[Option<&str>]) -> bool {
-    for path in paths {
-        if let Some(path) = path {
-            if names(rt, path, file) {
-                return true;
-            }
-        }
-    }
-    false
-}
-
-fn names<R: Files>(rt: &R, path: &str, file: &Metadata) -> bool {
-    match fs::metadata(rt, path) {
-        Ok(other) => other.dev() == file.dev() && other.ino() == file.ino(),
-        Err(_) => false,
     }
 }

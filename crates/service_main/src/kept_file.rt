@@ -2,6 +2,7 @@
 
 ghost use Rattle.std.specs.Prelude.{◌<◌, ◌≤◌, IfOk, IfSome, length};
 
+use crate::places::{end_of_links, open_folder, sync_folder};
 use action_tables::put_bytes;
 use reset_service::RunStop;
 use std::fs::{OpenFile, OpenOptions};
@@ -14,14 +15,15 @@ const TAIL: usize = 4096;
 
 const CUT_OFF: &[u8] = b"history: the last line had no end and was cut off\n";
 
-/// A file that is opened to go on after its last whole line. What stands after that, which only a crash leaves, is cut
-/// off before the first write or flush.
+/// A file that a history is appended to. It is created by the first write or flush, and one that is there goes on after
+/// its last whole line: what stands after that, which only a crash leaves, is cut off by the first write or flush.
 #[derive(Drop)]
-pub struct KeptFile<F: Write + Seek + OpenFile + Drop> {
-    file: F,
-    // How many bytes the whole lines have, and how many stand after them.
-    whole: u64,
-    torn: u64,
+pub struct KeptFile<'a, R: Files + AllocGlobal> {
+    rt: &'a R,
+    path: &'a str,
+    // None until it is created.
+    file: Option<R::File>,
+    ends: Ends,
     // Whether the next write goes after the whole lines.
     is_placed: bool,
     // Whether a flush makes safe on the disk what was written.
@@ -30,89 +32,135 @@ pub struct KeptFile<F: Write + Seek + OpenFile + Drop> {
     errors: Stderr,
 }
 
-impl<F: Read + Write + Seek + OpenFile + Drop> KeptFile<F> {
+// How many bytes the whole lines of a file have, and how many stand after them.
+#[derive(Clone, Copy)]
+struct Ends {
+    whole: u64,
+    torn: u64,
+}
+
+impl<'a, R: Files + AllocGlobal> KeptFile<'a, R> {
     /// How many bytes its whole lines have.
     pub fn whole(&self) -> u64 {
-        self.whole
+        self.ends.whole
     }
 
-    // Cuts off what stands after the whole lines, says so, and goes there.
+    // Creates the file, or cuts off what stands after its whole lines, and goes there.
     fn place(&mut self) -> io::Result<()> {
-        if self.is_placed {
-            return Ok(());
+        match &mut self.file {
+            Some(file) => cut_off(file, self.ends, &mut self.errors)?,
+            None => self.file = Some(create_kept(self.rt, self.path, self.syncs)?),
         }
-        if self.torn > 0 {
-            self.file.set_len(self.whole)?;
-            let _ = put_bytes(&mut self.errors, CUT_OFF);
-        }
-        self.file.seek(SeekFrom::Start(self.whole))?;
         self.is_placed = true;
         Ok(())
     }
 }
 
-impl<F: Read + Write + Seek + OpenFile + Drop> Write for KeptFile<F> {
+impl<R: Files + AllocGlobal> Write for KeptFile<'_, R> {
     fn write(&mut self, buf: &[u8]) -> io::Result<usize> {
-        self.place()?;
-        self.file.write(buf)
+        if !self.is_placed {
+            self.place()?;
+        }
+        match &mut self.file {
+            Some(file) => file.write(buf),
+            None => Err(io::Error::from(ErrorKind::NotFound)),
+        }
     }
 
     fn flush(&mut self) -> io::Result<()> {
-        self.place()?;
-        if self.syncs {
-            return self.file.sync_data();
+        if !self.is_placed {
+            self.place()?;
         }
-        Ok(())
+        match &self.file {
+            Some(file) if self.syncs => file.sync_data(),
+            _ => Ok(()),
+        }
     }
 }
 
-/// Opens the file, or creates it. With `syncs` a flush makes safe on the disk what was written. What is no regular file,
-/// as a terminal or a pipe, is written as it is.
-pub fn open_kept<R: Files>(
-    rt: &R,
-    path: &str,
-    syncs: bool,
-    errors: Stderr,
-) -> Result<KeptFile<R::File>, RunStop> {
+// Cuts off what stands after the whole lines of a file, says so, and goes there.
+fn cut_off<F: Seek + OpenFile>(file: &mut F, ends: Ends, errors: &mut Stderr) -> io::Result<()> {
+    if ends.torn > 0 {
+        file.set_len(ends.whole)?;
+        let _ = put_bytes(errors, CUT_OFF);
+    }
+    file.seek(SeekFrom::Start(ends.whole))?;
+    Ok(())
+}
+
+// Creates the file to which a path leads. One that has come there meanwhile is left as it is.
+fn create_kept<R: Files + AllocGlobal>(rt: &R, path: &str, syncs: bool) -> io::Result<R::File> {
+    let place = end_of_links(rt, path)?;
     let mut options = OpenOptions::new();
-    options.read(true).write(true).create(true);
-    match options.open(rt, path) {
-        Ok(file) => kept(file, syncs, errors),
-        Err(error) if error.kind() == ErrorKind::OutOfMemory => Err(RunStop::NoMemory),
-        Err(_) => Err(RunStop::WriteFailed),
+    options.write(true).create_new(true);
+    let file = options.open(rt, place.as_str())?;
+    if syncs {
+        sync_folder(&open_folder(rt, place.as_str())?)?;
     }
+    Ok(file)
 }
 
-fn kept<F: Read + Write + Seek + OpenFile + Drop>(
-    mut file: F,
+/// Looks for the file of a history. With `syncs` a flush makes safe on the disk what was written. What is no regular
+/// file, as a terminal or a pipe, is written as it is.
+pub fn open_kept<'a, R: Files + AllocGlobal>(
+    rt: &'a R,
+    path: &'a str,
     syncs: bool,
     errors: Stderr,
-) -> Result<KeptFile<F>, RunStop> {
-    let is_regular = match file.metadata() {
-        Ok(found) => found.is_file(),
-        Err(_) => return Err(RunStop::ReadFailed),
-    };
-    let (whole, torn) = if is_regular {
-        match whole_lines(&mut file) {
-            Ok(counts) => counts,
-            Err(_) => return Err(RunStop::ReadFailed),
-        }
-    } else {
-        (0, 0)
+) -> Result<KeptFile<'a, R>, RunStop> {
+    let mut options = OpenOptions::new();
+    options.read(true).write(true);
+    let found = match options.open(rt, path) {
+        Ok(file) => found_file(file)?,
+        Err(error) if error.kind() == ErrorKind::NotFound => Found {
+            file: None,
+            ends: Ends { whole: 0, torn: 0 },
+            is_regular: true,
+        },
+        Err(error) if error.kind() == ErrorKind::OutOfMemory => return Err(RunStop::NoMemory),
+        Err(_) => return Err(RunStop::WriteFailed),
     };
     Ok(KeptFile {
-        file,
-        whole,
-        torn,
-        is_placed: !is_regular,
-        syncs: syncs && is_regular,
+        rt,
+        path,
+        file: found.file,
+        ends: found.ends,
+        is_placed: !found.is_regular,
+        syncs: syncs && found.is_regular,
         errors,
     })
 }
 
-// How many bytes the whole lines of a file have, and how many stand after them. A long file without a line feed in its
-// last bytes is whole: it is no history.
-fn whole_lines<F: Read + Seek>(file: &mut F) -> io::Result<(u64, u64)> {
+// What is at the path of a history.
+#[derive(Drop)]
+struct Found<F: Drop> {
+    file: Option<F>,
+    ends: Ends,
+    is_regular: bool,
+}
+
+fn found_file<F: Read + Seek + OpenFile + Drop>(mut file: F) -> Result<Found<F>, RunStop> {
+    let is_regular = match file.metadata() {
+        Ok(found) => found.is_file(),
+        Err(_) => return Err(RunStop::ReadFailed),
+    };
+    let ends = if is_regular {
+        match ends_of(&mut file) {
+            Ok(ends) => ends,
+            Err(_) => return Err(RunStop::ReadFailed),
+        }
+    } else {
+        Ends { whole: 0, torn: 0 }
+    };
+    Ok(Found {
+        file: Some(file),
+        ends,
+        is_regular,
+    })
+}
+
+// Where the lines of a file end. A long file without a line feed in its last bytes is whole: it is no history.
+fn ends_of<F: Read + Seek>(file: &mut F) -> io::Result<Ends> {
     let length = file.seek(SeekFrom::End(0))?;
     let start = length.saturating_sub(TAIL as u64);
     file.seek(SeekFrom::Start(start))?;
@@ -121,10 +169,19 @@ fn whole_lines<F: Read + Seek>(file: &mut F) -> io::Result<(u64, u64)> {
     match last_line_feed(&tail[..count]) {
         Some(at) => {
             let torn = (count - at - 1) as u64;
-            Ok((length.saturating_sub(torn), torn))
+            Ok(Ends {
+                whole: length.saturating_sub(torn),
+                torn,
+            })
         }
-        None if start == 0 => Ok((0, length)),
-        None => Ok((length, 0)),
+        None if start == 0 => Ok(Ends {
+            whole: 0,
+            torn: length,
+        }),
+        None => Ok(Ends {
+            whole: length,
+            torn: 0,
+        }),
     }
 }
 

@@ -1,79 +1,76 @@
 // The subcommand `session`: its input is the standard input, and its history a file that it appends to.
 
 use crate::files::{open_file, read_file, read_snapshot};
-use crate::history_file::{is_input, refuse_history};
 use crate::kept_file::{KeptFile, open_kept};
+use crate::places::{history_fault, refuse_history};
+use crate::streams::{HintedInput, Streams, hold_descriptors};
 use reset_service::{Past, RunStop, SessionWords, Status, session_text};
 use std::io;
-use std::io::{Read, Stderr, Write};
+use std::io::{Read, Write};
 use std::rt::Files;
 
 /// Holds a session on standard input.
 pub fn run_session<R: Files + Input + Eprint + AllocGlobal, W: Write>(
     rt: &R,
-    errors: Stderr,
+    streams: Streams,
     words: SessionWords<'_>,
     out: &mut W,
 ) -> Result<Status, RunStop> {
     let topology = read_file(rt, words.topology)?;
     let snapshot = read_snapshot(rt, words.from)?;
-    match words.history {
-        None => hold_session(rt, &topology, snapshot, out),
-        Some(path) if is_input(rt, path, &[Some(words.topology), words.from]) => refuse_history(rt),
-        Some(path) => {
-            let mut log = open_kept(rt, path, words.sync, errors)?;
-            keep_session(rt, &topology, snapshot, path, &mut log, out)
-        }
+    let mut input = HintedInput::new(rt.reader(), streams);
+    let Some(path) = words.history else {
+        return hold_session(rt, &topology, text_of(&snapshot), &mut input, out);
+    };
+    if let Some(fault) = history_fault(rt, path, &[Some(words.topology), words.from]) {
+        return Ok(refuse_history(rt, fault));
     }
-}
-
-// A session without a history.
-fn hold_session<R: Input + AllocGlobal, W: Write>(
-    rt: &R,
-    topology: &[u8],
-    snapshot: Option<Vec<u8>>,
-    out: &mut W,
-) -> Result<Status, RunStop> {
-    let mut input = rt.reader();
-    let mut log = io::sink();
-    let past: Past<'_, &[u8]> = Past::Unkept;
-    let snapshot = text_of(&snapshot);
-    session_text(
-        rt.alloc(),
-        topology,
-        snapshot,
-        past,
+    let held = hold_descriptors(rt)?;
+    let mut log = open_kept(rt, path, words.sync, streams.errors)?;
+    let ended = keep_session(
+        rt,
+        &topology,
+        text_of(&snapshot),
+        path,
         &mut input,
         &mut log,
         out,
-    )
+    );
+    drop(log);
+    drop(held);
+    ended
+}
+
+// A session without a history.
+fn hold_session<R: AllocGlobal, I: Read, W: Write>(
+    rt: &R,
+    topology: &[u8],
+    snapshot: Option<&[u8]>,
+    input: &mut I,
+    out: &mut W,
+) -> Result<Status, RunStop> {
+    let mut log = io::sink();
+    let past: Past<&[u8]> = Past::Unkept;
+    session_text(rt.alloc(), topology, snapshot, past, input, &mut log, out)
 }
 
 // A session with a history in the file of this path: a new one, or one that goes on.
-fn keep_session<R: Files + Input + AllocGlobal, W: Write>(
+fn keep_session<R: Files + AllocGlobal, I: Read, W: Write>(
     rt: &R,
     topology: &[u8],
-    snapshot: Option<Vec<u8>>,
+    snapshot: Option<&[u8]>,
     path: &str,
-    log: &mut KeptFile<R::File>,
+    input: &mut I,
+    log: &mut KeptFile<'_, R>,
     out: &mut W,
 ) -> Result<Status, RunStop> {
-    let mut input = rt.reader();
-    let snapshot = text_of(&snapshot);
     if log.whole() == 0 {
-        let past: Past<'_, &[u8]> = Past::New;
-        return session_text(rt.alloc(), topology, snapshot, past, &mut input, log, out);
+        let past: Past<&[u8]> = Past::New;
+        return session_text(rt.alloc(), topology, snapshot, past, input, log, out);
     }
-    let mut kept = open_file(rt, path)?.take(log.whole());
-    session_text(
-        rt.alloc(),
-        topology,
-        snapshot,
-        Past::Kept(&mut kept),
-        &mut input,
-        log,
-        out,
-    )
+    let kept = open_file(rt, path)?.take(log.whole());
+    let past = Past::Kept(kept);
+    session_text(rt.alloc(), topology, snapshot, past, input, log, out)
 }
 
 fn text_of(text: &Option<Vec<u8>>) -> Option<&[u8]> {

@@ -9,24 +9,28 @@ mod files;
 mod history_file;
 mod kept_file;
 mod live;
+mod places;
 mod progress;
 mod status;
+mod streams;
 
 use crate::files::{open_file, read_file, read_snapshot};
-use crate::history_file::{create_history, is_input, refuse_history};
+use crate::history_file::create_history;
 use crate::live::run_session;
+use crate::places::{history_fault, refuse_history};
 use crate::progress::{BelowLine, ProgressLine};
 use crate::status::exit_code;
+use crate::streams::Streams;
 use action_tables::put_bytes;
 use reset_service::{
-    BufferedOutput, Drive, DriveWords, Job, LineFault, PageWords, Paths, PlanWords, RecordWords,
-    RunStop, ShapeWords, Status, ThreadWords, check_from, check_text, drive_from, drive_text,
-    explain, page_from, page_text, picture_from, picture_text, plan_from, plan_text, print_tables,
-    read_words, record_from, record_text, replay, replay_from, replay_joined, threads_from,
-    threads_text, verify_from, verify_text, write_shape,
+    BufferedOutput, Drive, DriveWords, ExploreWords, Exploring, Job, LineFault, PageWords, Paths,
+    PlanWords, RecordWords, RunStop, ShapeWords, Status, ThreadWords, check_from, check_text,
+    drive_from, drive_text, explain, explore_text, page_from, page_text, picture_from,
+    picture_text, plan_from, plan_text, print_tables, read_words, record_from, record_text, replay,
+    replay_from, replay_joined, threads_from, threads_text, verify_from, verify_text, write_shape,
 };
 use std::env::Env;
-use std::io::{Read, Stderr, Write};
+use std::io::{IsTerminal, Read, Write};
 use std::process::ExitCode;
 use std::rt::Files;
 use std::sync::Wait;
@@ -43,7 +47,11 @@ Usage: reset-service [COMMAND]\n\
 For more information, try '--help'.\n";
 
 fn main(rt: HostRuntime) -> ExitCode {
-    let ended = run(&rt, rt.stderr());
+    let streams = Streams {
+        input: rt.stdin(),
+        errors: rt.stderr(),
+    };
+    let ended = run(&rt, streams);
     if let Err(stop) = ended {
         let _ = eprintln!(rt; "{stop}");
     }
@@ -53,14 +61,21 @@ fn main(rt: HostRuntime) -> ExitCode {
 // Threads can be had only of the runtime that `main` is given, so what is called of it is said here.
 fn run<R: Clock + Env + Files + Input + Print + Eprint + AllocGlobal + Threads + Wait + Sync>(
     rt: &R,
-    terminal: Stderr,
+    streams: Streams,
 ) -> Result<Status, RunStop> {
-    let Some(words) = given_words(rt)? else {
+    let Some(mut words) = given_words(rt)? else {
         let _ = eprint!(rt; "{NOT_TEXT}");
         return Ok(Status::BadInput);
     };
+    // Nobody types a topology and a script in one piece.
+    if words.len() == 1 && streams.input.is_terminal() {
+        let short_help = String::from_str(rt.alloc(), "-h")?;
+        if words.push(short_help).is_err() {
+            return Err(RunStop::NoMemory);
+        }
+    }
     match read_words(rt.alloc(), words.as_slice()) {
-        Ok(job) => do_job(rt, terminal, job),
+        Ok(job) => do_job(rt, streams, job),
         Err(fault) => answer_fault(rt, fault),
     }
 }
@@ -96,19 +111,19 @@ fn answer_fault<R: Print + Eprint + AllocGlobal>(
 
 fn do_job<R: Clock + Files + Input + Print + Eprint + AllocGlobal + Threads + Wait + Sync>(
     rt: &R,
-    terminal: Stderr,
+    streams: Streams,
     job: Job<'_>,
 ) -> Result<Status, RunStop> {
-    let line = ProgressLine::new(terminal);
+    let line = ProgressLine::new(streams.errors);
     let writer = BelowLine::new(rt, line.as_ref(), io::writer(rt));
     let mut out = BufferedOutput::new(rt.alloc(), writer)?;
     let ended = match (long_name(&job), &line) {
         (Some(name), Some(line)) => line.during(
             rt,
             name,
-            || job_output(rt, terminal, job, &mut out),
+            || job_output(rt, streams, job, &mut out),
         ),
-        _ => job_output(rt, terminal, job, &mut out),
+        _ => job_output(rt, streams, job, &mut out),
     };
     out.end(ended)
 }
@@ -120,13 +135,14 @@ fn long_name(job: &Job<'_>) -> Option<&'static str> {
         Job::Threads(_) => Some("threads"),
         Job::Drive(_) => Some("drive"),
         Job::Page(_) => Some("page"),
+        Job::Explore(_) => Some("explore"),
         _ => None,
     }
 }
 
 fn job_output<R: Files + Input + Eprint + AllocGlobal + Threads + Wait + Sync, W: Write>(
     rt: &R,
-    terminal: Stderr,
+    streams: Streams,
     job: Job<'_>,
     out: &mut W,
 ) -> Result<Status, RunStop> {
@@ -135,7 +151,8 @@ fn job_output<R: Files + Input + Eprint + AllocGlobal + Threads + Wait + Sync, W
         Job::Replay(paths) => run_replay(rt, paths, out),
         Job::Check(paths) => run_check(rt, paths, out),
         Job::Plan(words) => run_plan(rt, words, out),
-        Job::Session(words) => run_session(rt, terminal, words, out),
+        Job::Explore(words) => run_explore(rt, words, out),
+        Job::Session(words) => run_session(rt, streams, words, out),
         Job::Verify(paths) => run_verify(rt, paths, out),
         Job::Picture(paths) => run_picture(rt, paths, out),
         Job::Page(words) => run_page(rt, words, out),
@@ -203,6 +220,44 @@ fn put_plan<R: AllocGlobal, S: Read, W: Write>(
     }
 }
 
+// Where no script is given, the exploration is of what a run starts from.
+fn run_explore<R: Files + AllocGlobal, W: Write>(
+    rt: &R,
+    words: ExploreWords<'_>,
+    out: &mut W,
+) -> Result<Status, RunStop> {
+    let topology = read_file(rt, words.topology)?;
+    let snapshot = read_snapshot(rt, words.from)?;
+    let run = Exploring {
+        acts: words.acts,
+        most: words.most,
+    };
+    match words.script {
+        Some(path) => {
+            let mut script = open_file(rt, path)?;
+            explore_text(
+                rt.alloc(),
+                &topology,
+                snapshot.as_deref(),
+                &mut script,
+                run,
+                out,
+            )
+        }
+        None => {
+            let mut script = b"".as_slice();
+            explore_text(
+                rt.alloc(),
+                &topology,
+                snapshot.as_deref(),
+                &mut script,
+                run,
+                out,
+            )
+        }
+    }
+}
+
 fn run_verify<R: Files + AllocGlobal, W: Write>(
     rt: &R,
     paths: Paths<'_>,
@@ -253,8 +308,8 @@ fn run_record<R: Files + Eprint + AllocGlobal, W: Write>(
     out: &mut W,
 ) -> Result<Status, RunStop> {
     let inputs = [Some(words.topology), Some(words.script), words.from];
-    if is_input(rt, words.history, &inputs) {
-        return refuse_history(rt);
+    if let Some(fault) = history_fault(rt, words.history, &inputs) {
+        return Ok(refuse_history(rt, fault));
     }
     let topology = read_file(rt, words.topology)?;
     let snapshot = read_snapshot(rt, words.from)?;
@@ -273,8 +328,8 @@ fn run_threads<R: Files + Eprint + AllocGlobal + Threads + Wait + Sync, W: Write
     words: ThreadWords<'_>,
     out: &mut W,
 ) -> Result<Status, RunStop> {
-    if is_input(rt, words.history, &[Some(words.topology), words.from]) {
-        return refuse_history(rt);
+    if let Some(fault) = history_fault(rt, words.history, &[Some(words.topology), words.from]) {
+        return Ok(refuse_history(rt, fault));
     }
     let topology = read_file(rt, words.topology)?;
     let snapshot = read_snapshot(rt, words.from)?;
@@ -293,8 +348,8 @@ fn run_drive<R: Files + Eprint + AllocGlobal, W: Write>(
     words: DriveWords<'_>,
     out: &mut W,
 ) -> Result<Status, RunStop> {
-    if is_input(rt, words.history, &[Some(words.topology), words.from]) {
-        return refuse_history(rt);
+    if let Some(fault) = history_fault(rt, words.history, &[Some(words.topology), words.from]) {
+        return Ok(refuse_history(rt, fault));
     }
     let topology = read_file(rt, words.topology)?;
     let snapshot = read_snapshot(rt, words.from)?;

@@ -1,4 +1,4 @@
-use Rattle.std.proofs.Common.{◌≡◌, ◌-◌, ◌∙◌, length, subst, IfOk, OnErr}
+use Rattle.std.proofs.Common.{◌≡◌, ◌∙◌, length, subst, IfOk, OnErr}
 use Rattle.std.specs.Io.KnownBytes.{Appends}
 use Rattle.action_tables.specs.Written.{AppendsPrefix}
 use Rattle.script_replay.specs.Meaning.{meaning_of}

@@ -8,6 +8,6 @@ use Rattle.node_choices.proofs.choice.action.Given as goal
 
 abbrev pub invariant-loop-case : goal.invariant-loop-case
 invariant-loop-case g l =
-    let test = is_allowed g.P.Application.app l.view in
-    find test (flat_map (case_events l.view) (cases_from l.case))
-    ≡ find test (flat_map (case_events l.view) all_cases)
+    let test = is_allowed g.P.Application.app l.sight in
+    find test (flat_map (case_events l.sight) (cases_from l.case))
+    ≡ find test (flat_map (case_events l.sight) all_cases)

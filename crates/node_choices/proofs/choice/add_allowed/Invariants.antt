@@ -6,4 +6,4 @@ use Rattle.node_choices.proofs.choice.add_allowed.Given as goal
 abbrev pub invariant-loop-event : goal.invariant-loop-event
 invariant-loop-event g l =
     l.allowed.items
-    ≡ l.initial.allowed.items ++ filter (is_allowed g.P.Application.app l.view) (take l.event-index l.events)
+    ≡ l.initial.allowed.items ++ filter (is_allowed g.P.Application.app l.sight) (take l.event-index l.events)

@@ -5,5 +5,5 @@ use Rattle.node_choices.proofs.choice.first_allowed.Given as goal
 
 abbrev pub invariant-loop-event : goal.invariant-loop-event
 invariant-loop-event g l =
-    let test = is_allowed g.P.Application.app l.view in
+    let test = is_allowed g.P.Application.app l.sight in
     find test (drop l.event-index l.events) ≡ find test l.events

@@ -1,15 +1,18 @@
-use Rattle.std.proofs.Common.{◌∙◌, ap, length}
+use Rattle.std.proofs.Common.{refl}
+use Rattle.fault_inject.specs.Drawn.{seeded}
 use Rattle.scheduler.specs.Driven.{driven}
+use Rattle.scheduler.specs.Told.{new_book}
+use Rattle.scheduler.proofs.Steps.{steps_keep}
 use Rattle.script_replay.specs.Meaning.{meaning_of}
-use Rattle.reset_service.proofs.Driving.{drove}
+use Rattle.reset_service.proofs.Driving.{told_drove}
 use Rattle.reset_service.proofs.driven.drive_opened.Goals as goal
 
-pub returns-clause-ok : goal.returns-clause-ok
-returns-clause-ok g c =
+pub returns-in-Ok-clause-ok : goal.returns-in-Ok-clause-ok
+returns-in-Ok-clause-ok g c =
     let m = meaning_of g.P.Application.app g.P.Application.text g.P.Application.from_text g.P.Application.names in
     let run = c.args.run in
-    drove run.steps run.seed run.faults m c.args.opening c.drive.new.book c.in_ok-history.history.items
-    (c.in-Ok.ensures.ok ∙ ap (λ b. driven m.app m.from_text run.steps run.seed run.faults b) c.open_book-book.ensures)
-    (c.drive.ensures.opening ∙ ap (λ b. b.opening) c.open_book-book.ensures) c.lemma_is_book.ensures
-    c.in_ok-history.ensures.text c.in_ok-history.ensures.read c.len-entries.result
-    (length c.reports-reports.result.now) c.len-entries.ensures (ap length c.reports-reports.ensures)
+    let book = new_book c.args.opening in
+    told_drove run.steps run.seed run.faults m c.args.opening
+    (driven m.app m.from_text run.steps run.seed run.faults book) c.in-Ok.history refl
+    (steps_keep m.app m.from_text run.faults run.steps book (seeded run.seed)).opening c.in-Ok.ensures
+    (c.books_read_back.ensures _ c.in-Ok.ensures.book)

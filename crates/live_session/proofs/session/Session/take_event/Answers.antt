@@ -17,7 +17,7 @@ returns-clause-taken g c =
       same_batch = λ ends. absurd (cc);
       number_is = λ stays. refl;
       answered = λ stays.
-          subst (λ line. IsAnswered m old.room old.config old.number line c.in_ok-self.field-0 c.answer_event.new.config
+          subst (λ line. IsAnswered m old.room old.config old.number (event_line e) line c.in_ok-self.field-0 c.answer_event.new.config
           old.batch c.answer_event.new.batch) (sym (event_asked m.names (event_line e) e c.requires.fits refl))
-          (c.in_ok-self.ensures old.number);
+          (c.in_ok-self.ensures old.number (event_line e));
     }

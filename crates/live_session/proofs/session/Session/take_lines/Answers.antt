@@ -1,4 +1,4 @@
-use Rattle.std.proofs.Common.{◌≡◌, ◌<◌, [], ◌++◌, ◌∙◌, ap, arith, length, refl, sym}
+use Rattle.std.proofs.Common.{[], ◌++◌, ◌∙◌, ap, arith, refl}
 use Rattle.history.specs.HistoryText.{ended}
 use Rattle.script_replay.specs.Meaning.{meaning_of}
 use Rattle.script_replay.specs.Parts.{next_text}

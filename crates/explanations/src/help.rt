@@ -1,0 +1,84 @@
+// The help that a line of a session asks for.
+
+ghost use Rattle.std.specs.Prelude.{◌≡◌, codes, option_map};
+ghost use Rattle.std.specs.Str.{bytes_eq};
+ghost use Rattle.explanations.specs.Help.{asked_word, explanation_text, helped};
+
+use crate::explained::{NO_SUCH_WORD, explanation_of};
+
+// The commands of a session, a line each.
+pub const COMMANDS_HELP: &str = "\
+request I                      node I asks for a reset
+relay I C                      node I passes on the request of its child C
+open I                         the root I opens the next session, and restarts
+join I                         node I joins its father's session, and restarts
+finish I                       node I is done with the reset, and so are its children
+claim I                        node I takes itself for the root
+follow I                       node I takes over its father's root and distance
+adopt I J                      node I takes its neighbour J as father
+mend I                         node I takes over its father's phase and session
+act I CASE [J]                 node I takes an action of the application
+show [I]                       the registers of all nodes, or of node I
+newest                         the local states in the newest sessions
+enabled I                      the rows of the tables that node I may take
+ready                          the nodes that have something to do
+moves [I]                      the commands that are allowed now
+check [I]                      the rows of the tables that fail
+alarm I                        the first fault of the application that node I sees
+watch I                        the same, and node I asks for a reset where it sees one
+snapshot                       the whole configuration
+fault tree I ROOT FATHER DIST  sets the tree registers of node I
+fault wave I PHASE SESSION     sets the wave registers of node I
+fault local I TEXT             sets the local state of node I
+fault down A B                 takes a link down
+fault up A B                   brings a link up
+fault off I                    takes node I down
+fault on I                     brings node I up
+draw SEED                      a random fault
+explain WORD                   what a word of an answer or a command means
+help                           these lines
+exit                           ends the session
+";
+
+// The longest line that isn't bad for its length alone.
+const MAX_LINE: usize = 256;
+
+/// The help that a line asks for, in lines: `help` for the commands, `explain WORD` for what a word means, or that it isn't
+/// known. None for any other line, and for one of over 256 bytes.
+pub fn help_for(line: &[u8]) -> Option<&'static str>
+    ensures { option_map (λ text. text.now) result ≡ helped line.now }
+{
+    if asks_for_commands(line) {
+        return Some(COMMANDS_HELP);
+    }
+    match asked_word(line) {
+        Some(word) => Some(meaning_of(word)),
+        None => None,
+    }
+}
+
+fn asks_for_commands(line: &[u8]) -> bool
+    ensures { result ≡ bytes_eq line.now (codes "help") }
+{
+    line == b"help".as_slice()
+}
+
+// The word of which a line asks what it means.
+fn asked_word(line: &[u8]) -> Option<&[u8]>
+    ensures { option_map (λ word. word.now) result ≡ asked_word line.now }
+{
+    if line.len() > MAX_LINE {
+        return None;
+    }
+    line.strip_prefix(b"explain ".as_slice())
+}
+
+// What a word means, or that it isn't known.
+fn meaning_of(word: &[u8]) -> &'static str
+    ensures { result.now ≡ explanation_text word.now }
+{
+    match explanation_of(word) {
+        Some(text) => text,
+        None => NO_SUCH_WORD,
+    }
+}

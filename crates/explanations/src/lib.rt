@@ -1,0 +1,10 @@
+//! What the words mean that the program prints and reads, and the help that a line of a session asks for.
+#![tactic(auto)]
+
+mod explained;
+mod help;
+mod refusals;
+mod words;
+
+pub use explained::{NO_SUCH_WORD, explanation_of};
+pub use help::help_for;

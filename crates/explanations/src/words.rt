@@ -1,0 +1,336 @@
+// What the other words mean that the program prints and reads, and what to do: words, each with its text.
+
+pub const WORDS: [(&str, &str); 59] = [
+    // Answers to commands.
+    (
+        "bad",
+        "\
+`bad topology`, `bad script`, `bad history` and `bad line`: the text isn't one that the program
+takes. The word behind it says why: `explain` it. Status 2.\n",
+    ),
+    (
+        "node",
+        "\
+`node I tree ROOT FATHER DIST wave PHASE SESSION local TEXT`: the registers of node I, and its
+local state.\n",
+    ),
+    (
+        "session",
+        "\
+The number of a reset. Processes communicate only where theirs are equal; the newest of a part of
+the network is that of the part's leader, the greatest of the nodes that links lead to. Resets are
+counted modulo M, the topology's `modulus`: after session M - 1 comes 0.\n",
+    ),
+    (
+        "threads",
+        "\
+`threads N nodes E entries R reports`: what node threads did, the entries of the history that they
+keep, and the resets that were completed.\n",
+    ),
+    (
+        "applied",
+        "\
+The command was allowed, and was done.\n",
+    ),
+    (
+        "complete",
+        "\
+The reset with this session number is complete: every node that links lead to from the one that\n\
+finished has joined its session. After a fault that is sure again of resets that open where\n\
+`check` tells no row of tree or wave.\n",
+    ),
+    (
+        "refused",
+        "\
+The command was not allowed where it stood, and changed nothing. The word behind it says why:\n\
+`explain` it.\n",
+    ),
+    (
+        "disturbed",
+        "\
+The fault was done.\n",
+    ),
+    (
+        "drawn",
+        "\
+The fault that the seed draws, as a command; it is done as that command is.\n",
+    ),
+    (
+        "move",
+        "\
+`move COMMAND`: the command is allowed now. `moves` prints these lines.\n",
+    ),
+    (
+        "quiet",
+        "\
+The node sees no fault of the application at its links.\n",
+    ),
+    (
+        "unjoined",
+        "\
+The node hasn't joined the newest session of its part of the network, so its local state counts as\n\
+just started.\n",
+    ),
+    (
+        "link",
+        "\
+`link AT OTHER FAMILY ROW`: at node AT the row of the table that FAMILY names fails, toward\n\
+OTHER, or of AT itself. `reset-service tables` prints the rows; the repairs are `claim`,\n\
+`follow`, `adopt` and `mend`.\n",
+    ),
+    (
+        "faults",
+        "\
+How many rows fail, node by node and link by link. With 0, tree and wave are whole. Of the\n\
+application each link is looked at by itself: two tokens far apart are no fault, nor is none.\n",
+    ),
+    (
+        "verified",
+        "\
+The history could happen from the booted configuration: so many entries, of which so many\n\
+complete a reset.\n",
+    ),
+    (
+        "report",
+        "\
+A reset that was completed: its session number, and the entries that opened and finished it (`-`\n\
+where it wasn't opened since the last fault). What is sure after a fault: see `complete`.\n",
+    ),
+    (
+        "drove",
+        "\
+What a seeded scheduler did: the entries of the history that it wrote, and the resets that were\n\
+completed.\n",
+    ),
+    (
+        "resumed",
+        "\
+`resumed E entries R reports`: the session goes on after a history with so many entries, of which so\n\
+many complete a reset.\n",
+    ),
+    // Commands of scripts.
+    (
+        "claim",
+        "\
+`claim I`: node I takes itself for the root of the tree. Allowed where its registers can't be\n\
+right (tree rows 1 to 4).\n",
+    ),
+    (
+        "follow",
+        "\
+`follow I`: node I takes over its father's root and distance (tree rows 5 and 6).\n",
+    ),
+    (
+        "adopt",
+        "\
+`adopt I J`: node I takes its neighbour J as father, which knows a greater root or a shorter way\n\
+(tree rows 7 and 8).\n",
+    ),
+    (
+        "request",
+        "\
+`request I`: node I asks for a reset (wave row 1).\n",
+    ),
+    (
+        "relay",
+        "\
+`relay I C`: node I passes on the request of its child C (wave row 2).\n",
+    ),
+    (
+        "open",
+        "\
+`open I`: the root I opens the next session and restarts its application (wave row 3).\n",
+    ),
+    (
+        "join",
+        "\
+`join I`: node I joins its father's session and restarts its application (wave rows 4 and 5).\n",
+    ),
+    (
+        "finish",
+        "\
+`finish I`: node I and all its children have joined, and it goes on as normal; at the root, the\n\
+reset is complete (wave rows 6 and 7).\n",
+    ),
+    (
+        "mend",
+        "\
+`mend I`: node I takes over its father's phase and session, which a fault has set apart (wave\n\
+rows 8 to 11).\n",
+    ),
+    (
+        "act",
+        "\
+`act I CASE` or `act I CASE J`: node I takes an action of the application, by its name or\n\
+number, toward the neighbour J where it is about one.\n",
+    ),
+    (
+        "fault",
+        "\
+`fault tree`, `fault wave` and `fault local` set the registers or the local state of a node,\n\
+`fault down` and `fault up` take a link down or bring one up, `fault off` and `fault on` a node.\n\
+`reset-service replay --help` has their words.\n",
+    ),
+    (
+        "draw",
+        "\
+`draw SEED`: a random fault, the same for the same seed.\n",
+    ),
+    (
+        "show",
+        "\
+`show` or `show I`: the registers and the local state of all nodes that are up, or of node I.\n",
+    ),
+    (
+        "newest",
+        "\
+`newest`: the local states in the newest session of each part of the network, `unjoined` where a\n\
+node has yet to join it.\n",
+    ),
+    (
+        "enabled",
+        "\
+`enabled I`: the numbers of the rows of each table that node I may take now.\n",
+    ),
+    (
+        "ready",
+        "\
+`ready`: the nodes that have something to do beside asking for a reset.\n",
+    ),
+    (
+        "check",
+        "\
+`check` or `check I`: the rows that fail at all nodes, or at node I. The subcommand `check` does\n\
+so at the end of a script, with status 1 where some row fails.\n",
+    ),
+    (
+        "alarm",
+        "\
+`alarm I`: the first fault of the application that node I sees at its links, or `quiet`. As an\n\
+answer: at this node, toward that neighbour, this row of the application's link table fails.\n",
+    ),
+    (
+        "watch",
+        "\
+`watch I`: as `alarm I`, and after an alarm node I asks for a reset.\n",
+    ),
+    (
+        "moves",
+        "\
+`moves` or `moves I`: the commands that are allowed now, at each node or at node I, one a line as\n\
+`move COMMAND`.\n",
+    ),
+    (
+        "snapshot",
+        "\
+`snapshot`: writes the whole configuration, the lines of `show` and a line `link A B` for each link. Put\n\
+these into a file, and `--from FILE` starts `replay`, `check`, `plan`, `verify` or `picture` there.\n",
+    ),
+    (
+        "plan",
+        "\
+`reset-service plan TOPOLOGY [SCRIPT]`: writes a script that repairs the network that SCRIPT leaves,\n\
+after `# R repairs`, and then restarts each part of it, after `# S steps of a reset`. Run it by\n\
+`replay` after SCRIPT: each of its commands is applied. With `--from SNAPSHOT` it starts there.\n",
+    ),
+    (
+        "help",
+        "\
+`help`: the commands of a session, a line each. Scripts don't have it.\n",
+    ),
+    (
+        "explain",
+        "\
+`explain WORD`: what a word means that an answer or a command has. In a session a command, and else\n\
+a subcommand.\n",
+    ),
+    (
+        "exit",
+        "\
+`exit`: ends the session, as the end of the input does. Scripts don't have it.\n",
+    ),
+    // Registers, phases and families of faults.
+    (
+        "normal",
+        "\
+The phase of a node that takes part in no reset.\n",
+    ),
+    (
+        "initiate",
+        "\
+The phase of a node that has asked for a reset, or passed a request on.\n",
+    ),
+    (
+        "reset",
+        "\
+The phase of a node that has joined a session whose reset hasn't ended below it.\n",
+    ),
+    (
+        "tree",
+        "\
+The tree registers of a node: root, father, distance. As a family of faults: a row of the tree\n\
+table.\n",
+    ),
+    (
+        "wave",
+        "\
+The wave registers of a node: phase and session. As a family of faults: a row of the wave table.\n",
+    ),
+    (
+        "app",
+        "\
+As a family of faults: a row of the application's link table.\n",
+    ),
+    (
+        "local",
+        "\
+The local state of the application at a node, as a text.\n",
+    ),
+    // Applications and their actions.
+    (
+        "idle",
+        "\
+The application that has nothing to do.\n",
+    ),
+    (
+        "token",
+        "\
+The application in which one node at a time holds a token, in each part of the network one:\n\
+`pass J` and `take J`.\n",
+    ),
+    (
+        "mutex",
+        "\
+The application in which no two neighbours are in at once: `enter` and `leave`.\n",
+    ),
+    (
+        "routes",
+        "\
+The application in which each node learns ways to the others that it can reach: `pull J`.\n",
+    ),
+    (
+        "pass",
+        "\
+`act I pass J` (token): node I, which holds the token, hands it to its neighbour J.\n",
+    ),
+    (
+        "take",
+        "\
+`act I take J` (token): node I takes the token that its neighbour J has handed over.\n",
+    ),
+    (
+        "enter",
+        "\
+`act I enter` (mutex): node I goes in, where it has the turn of each of its links.\n",
+    ),
+    (
+        "leave",
+        "\
+`act I leave` (mutex): node I goes out, and hands the turn of each link over.\n",
+    ),
+    (
+        "pull",
+        "\
+`act I pull J` (routes): node I takes its neighbour J's better ways.\n",
+    ),
+];

@@ -1,0 +1,12 @@
+-- The relays of the children before the index were added, where they are allowed.
+use Rattle.std.proofs.Common.{◌≡◌, ◌==◌, ◌++◌, filter, map, take}
+use Rattle.reset_model.specs.declared.event.Event.TheVariants.{Relay}
+use Rattle.node_choices.specs.Choice.{is_allowed}
+use Rattle.node_choices.proofs.choice.add_relays.Given as goal
+
+abbrev pub invariant-loop-other : goal.invariant-loop-other
+invariant-loop-other g l =
+    l.allowed.items
+    ≡ l.initial.allowed.items
+    ++ filter (is_allowed g.P.Application.app l.sight)
+    (map (λ n. Relay l.sight.id n.id) (filter (λ n. n.tree.father == l.sight.id) (take l.other-index l.other-items)))

@@ -1,0 +1,98 @@
+-- What an exploration of all orders of the events is written as.
+use Rattle.std.specs.Prelude.{◌≡◌, ◌==◌, ◌<◌, ◌≤◌, ℕ, Bool, if◌then◌else◌, List, [], ◌∷◌, ◌++◌, length, codes, Option, Some, None}
+use Rattle.std.specs.Fmt.{decimal}
+use Rattle.std.specs.List.{concat}
+use Rattle.app_interface.specs.Application.{App}
+use Rattle.topology.specs.Graph.{Graph}
+use Rattle.topology.specs.declared.text.AppName.{AppName}
+use Rattle.topology.specs.declared.text.AppName.TheVariants.{Idle, Token, Mutex, Routes}
+use Rattle.reset_model.specs.Configuration.{Configuration}
+use Rattle.history.specs.HistoryText.{ended}
+use Rattle.schedules.specs.Explored.{HasMoreThan, IsExplored}
+use Rattle.schedules.specs.declared.schedules.Runs.{Runs}
+use Rattle.schedules.specs.declared.schedules.Runs.TheVariants.{Ending, Endless}
+use Rattle.schedules.specs.declared.schedules.Schedules.{Schedules}
+use Rattle.script_replay.specs.Left.{bad_line_of, left_by}
+use Rattle.script_replay.specs.Meaning.{Meaning, idle_meaning, token_meaning, mutex_meaning, routes_meaning}
+use Rattle.script_replay.specs.Output.{IsJudged, bad_line_text, too_long_text}
+use Rattle.script_replay.specs.declared.status.Status.{Status}
+use Rattle.script_replay.specs.declared.status.Status.TheVariants.{Good, FaultsFound, BadInput}
+use Rattle.reset_service.specs.Started.{FollowUp, IsOpening, IsOpeningFault, start_fault_text}
+use Rattle.reset_service.specs.declared.explored.Exploring.{Exploring}
+use Rattle.reset_service.specs.declared.started.StartFault.{StartFault}
+
+-- ---- the text
+
+-- a text that begins a line after another one
+abbrev pub on_next_line : List ℕ → List ℕ
+on_next_line text = 10 ∷ text
+
+-- how far the orders go
+abbrev pub runs_text : Runs → List ℕ
+runs_text (Ending longest count) =
+    concat (on_next_line (codes "longest ") ∷ decimal longest ∷ on_next_line (codes "completions ") ∷ decimal count.least
+    ∷ codes " to " ∷ decimal count.most ∷ ended [] ∷ [])
+runs_text Endless = on_next_line (ended (codes "endless"))
+
+abbrev pub counts_text : Schedules → List ℕ
+counts_text found =
+    concat (codes "configurations " ∷ decimal found.configurations ∷ on_next_line (codes "steps ") ∷ decimal found.steps
+    ∷ on_next_line (codes "ends ") ∷ decimal found.ends ∷ on_next_line (codes "whole ") ∷ decimal found.whole ∷ [])
+
+abbrev pub schedules_text : Schedules → List ℕ
+schedules_text found = counts_text found ++ runs_text found.runs
+
+-- good where every order ends, and each end is whole
+abbrev pub status_by : Bool → Runs → Status
+status_by whole (Ending longest count) = if whole then Good else FaultsFound
+status_by whole Endless = FaultsFound
+
+abbrev pub status_of : Schedules → Status
+status_of found = status_by (found.whole == found.ends) found.runs
+
+abbrev pub too_many_text : ℕ → List ℕ
+too_many_text most = concat (codes "more than " ∷ decimal most ∷ ended (codes " configurations") ∷ [])
+
+-- ---- what is written
+
+-- what an exploration finds from this configuration
+pub data IsFound {L : Type 0} (app : App L) (run : Exploring) (c : Configuration L) (output : List ℕ × Status) : Type 0 where
+  too_many : HasMoreThan app run.acts c run.most → output ≡ (too_many_text run.most, BadInput) → IsFound app run c output
+  explored : (found : Schedules) → IsExplored app run.acts c found → found.configurations ≤ run.most
+      → output ≡ (schedules_text found, status_of found) → IsFound app run c output
+
+-- what is written for a script on a configuration, and the status: what an exploration finds from the configuration that
+-- its lines leave, where all of them are good
+pub data IsExploration {L : Type 0} (m : Meaning L) (run : Exploring) (c : Configuration L) (script : List ℕ)
+    (output : List ℕ × Status) : Type 0 where
+  too_long : 1048576 < length script → output ≡ (too_long_text, BadInput) → IsExploration m run c script output
+  bad_line : (n : ℕ) → length script ≤ 1048576 → bad_line_of m.names script ≡ Some n
+      → output ≡ (bad_line_text n, BadInput) → IsExploration m run c script output
+  explored : length script ≤ 1048576 → bad_line_of m.names script ≡ None → IsFound m.app run (left_by m c script) output
+      → IsExploration m run c script output
+
+abbrev pub Explores : Exploring → List ℕ → FollowUp
+Explores run script L m c output = IsExploration m run c script output
+
+-- ---- where a run starts
+
+-- what is written where the snapshot, if one is given, is judged before what follows
+pub data IsOpenedFrom {L : Type 0} (m : Meaning L) (g : Graph) (modulus : ℕ) (snapshot : Option (List ℕ))
+    (Follows : Configuration L → List ℕ × Status → Type 0) (output : List ℕ × Status) : Type 0 where
+  bad_snapshot : (f : StartFault) → IsOpeningFault m g snapshot f → output ≡ (start_fault_text f, BadInput)
+      → IsOpenedFrom m g modulus snapshot Follows output
+  opened : (c : Configuration L) → IsOpening m g modulus snapshot c → Follows c output
+      → IsOpenedFrom m g modulus snapshot Follows output
+
+-- the same for the application of a name
+abbrev pub IsOpenedOf : FollowUp → AppName → Graph → ℕ → Option (List ℕ) → List ℕ × Status → Type 0
+IsOpenedOf Follows Idle g modulus snapshot = IsOpenedFrom idle_meaning g modulus snapshot (Follows _ idle_meaning)
+IsOpenedOf Follows Token g modulus snapshot = IsOpenedFrom token_meaning g modulus snapshot (Follows _ token_meaning)
+IsOpenedOf Follows Mutex g modulus snapshot = IsOpenedFrom mutex_meaning g modulus snapshot (Follows _ mutex_meaning)
+IsOpenedOf Follows Routes g modulus snapshot =
+    IsOpenedFrom routes_meaning g modulus snapshot (Follows _ routes_meaning)
+
+-- what is written for the text of a topology, and of a snapshot where one is given: the topology is judged first
+abbrev pub IsOpenedText : FollowUp → List ℕ → Option (List ℕ) → List ℕ × Status → Type 0
+IsOpenedText Follows topology snapshot =
+    IsJudged (λ app g modulus. IsOpenedOf Follows app g modulus snapshot) topology
