@@ -9,7 +9,8 @@ import datetime
 import re
 import tomllib
 
-from model import APPLICATIONS, MOST, MOST_ID, MOST_LINKS, PHASES, SESSIONS, Network, graph_of, number
+from applications import APPLICATIONS, MOST, MOST_ID, number
+from model import MOST_LINKS, PHASES, SESSIONS, Network, graph_of
 
 LIMIT = 1_048_576
 MOST_NODES = 1024

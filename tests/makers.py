@@ -5,7 +5,8 @@ that were damaged on the way.
 import itertools
 
 from answers import LIMIT, Fault, Unsure, booted, entry_of_line
-from model import APPLICATIONS, MOST, PHASES, SESSIONS, Network, graph_of
+from applications import APPLICATIONS, MOST
+from model import PHASES, SESSIONS, Network, graph_of
 
 NUMBERS = ["0", "1", "2", "3", "7", "8", "255", "256", "65535", "65536", "70000", str(MOST), str(SESSIONS),
            str(SESSIONS + 1), "01", "00", "08", "+1", "-1", "-0", "1_0", "0x1", "1.0", "", "99999999999999999999",
