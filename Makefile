@@ -17,10 +17,13 @@ try:
 build:
 	@tools/build
 
-# Puts the proved program into PREFIX/bin: make install PREFIX=$HOME/.local
+# Puts the proved program into PREFIX/bin, with its manual page and what bash completes: make install PREFIX=$HOME/.local
 PREFIX ?= /usr/local
 install: build
+	@tools/manual build/reset-service build/manual
 	install -D -m 755 build/reset-service "$(DESTDIR)$(PREFIX)/bin/reset-service"
+	install -D -m 644 build/manual/reset-service.1 "$(DESTDIR)$(PREFIX)/share/man/man1/reset-service.1"
+	install -D -m 644 build/manual/reset-service "$(DESTDIR)$(PREFIX)/share/bash-completion/completions/reset-service"
 
 # Runs the examples alone on the built program, in seconds.
 examples: build
