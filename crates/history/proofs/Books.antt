@@ -20,7 +20,7 @@ module _ {P L : Type 0} (app : App L) (from_text : List ℕ → Option L) (playe
       → IsKept app from_text player' log' limit
   kept_with_room player' log' opening same is played =
       let opens : log'.opening.value ≡ log.opening.value = ap (λ o. o.value) opening in
-      (rw (same, opens) played, rw same kept.1, kept.2, rw same kept.3, is)
+      (rw (same, opens) played, rw same kept.1, kept.2, rw same kept.3, is, rw opens kept.5, rw opens kept.6)
 
   -- a log of an entry more, and a player of it
   pub kept_with_entry : (player' : Player P L) (log' : Log P L) (entry : Entry) → log'.opening ≡ log.opening
@@ -36,4 +36,6 @@ module _ {P L : Type 0} (app : App L) (from_text : List ℕ → Option L) (playe
         kept.2,
         rw more (All-push HasLine es entry kept.3 line),
         is,
+        rw opens kept.5,
+        rw opens kept.6,
       )

@@ -4,10 +4,10 @@ use Rattle.std.specs.Prelude.{◌∷◌, ◌++◌, All, length, Option, Some, No
 use Rattle.action_tables.specs.Modulus.{IsModulus}
 use Rattle.app_interface.specs.Application.{App}
 use Rattle.reset_model.specs.declared.event.Event.{Event}
-use Rattle.reset_model.specs.Configuration.{Configuration}
+use Rattle.reset_model.specs.Configuration.{Configuration, IsShaped}
 use Rattle.reset_model.specs.Planned.{Outcome, outcome_of}
 use Rattle.reset_model.specs.View.{IsSeen, NodeView, view_of}
-use Rattle.topology.specs.Graph.{IsNode}
+use Rattle.topology.specs.Graph.{IsGraph, IsNode}
 use Rattle.fault_inject.specs.Effects.{injected}
 use Rattle.fault_inject.specs.declared.fault.Fault.{Fault}
 use Rattle.fault_inject.specs.declared.refusal.FaultRefusal.{FaultRefusal}
@@ -34,9 +34,11 @@ pub record BookView (L : Type 0) : Type 0 where
   pub config : Configuration L
   pub limit : ℕ
 
--- the configuration is what the entries leave, which are within the limit, and which a history may have; and its
--- modulus is one
+-- it opened with a graph, whose nodes have each its registers and its local state; the configuration is what the entries
+-- leave, which are within the limit, and which a history may have; and its modulus is one
 pub record IsBook {L : Type 0} (app : App L) (from_text : List ℕ → Option L) (b : BookView L) : Type 0 where
+  pub graph : IsGraph b.opening.graph
+  pub shaped : IsShaped b.opening
   pub replay : replayed app from_text b.opening b.entries ≡ Some b.config
   pub room : length b.entries ≤ b.limit
   pub small : b.limit ≤ 1000000
@@ -44,12 +46,13 @@ pub record IsBook {L : Type 0} (app : App L) (from_text : List ℕ → Option L)
   pub modulus : IsModulus b.config.modulus
 
 -- what a player, a log and a limit are that keep a book: the player's is what the entries of the log leave from its
--- opening, which are within the limit, and which a history may have
+-- opening, which are within the limit, and which a history may have; and the opening is of a graph, and shaped
 abbrev pub IsKept : {P L : Type 0} → App L → (List ℕ → Option L) → Player P L → Log P L → ℕ → Type 0
 IsKept app from_text player log limit =
     HasPlayed app from_text log.opening.value (entries_of log.segments) player
     × (length (entries_of log.segments) ≤ limit) × (limit ≤ 1000000)
     × All HasLine (entries_of log.segments) × IsLog app from_text log
+    × IsGraph log.opening.value.graph × IsShaped log.opening.value
 
 -- the book with an entry more, which left this
 abbrev pub with_entry : {L : Type 0} → BookView L → Entry → Configuration L → BookView L

@@ -66,6 +66,7 @@ impl<P: Application> Book<P> {
         requires { limit ≤ 1000000 }
         ensures { result ≡ record { opening = config; entries = []; config = config; limit = limit } }
     {
+        config.lemma_is_graph();
         Book {
             log: Log::new(alloc, &config),
             player: Player::new(alloc, config),
@@ -219,8 +220,8 @@ impl<P: Application> Book<P> {
         }
     }
 
-    /// Its configuration is what its entries leave from its opening, which are within its limit, and which a
-    /// history may have; and its modulus is one.
+    /// It opened with a graph, whose nodes have each its registers and its local state; its configuration is what its
+    /// entries leave from its opening, which are within its limit, and which a history may have; and its modulus is one.
     pub fn lemma_is_book(&self)
         ensures { IsBook P.app P.from_text self.now }
     {

@@ -26,8 +26,8 @@ pub use read::{BookText, is_graphic, is_printable, read_book};
 pub use refusal::{ApplyRefusal, AtFault, BookRefusal, DisturbRefusal};
 pub use replay::play;
 pub use stretches::{
-    replays_stay_shaped, reports_are_completions, reports_are_true, stretches_are_steps,
-    undisturbed_parts_are_stretches,
+    books_tell_steps, replays_stay_shaped, reports_are_completions, reports_are_true,
+    stretches_are_steps, undisturbed_parts_are_stretches,
 };
 pub use text::{BookFault, books_read_back, one_reading_a_text, put_first_line, write_book};
 pub use verification::{

@@ -10,6 +10,7 @@ ghost use Rattle.reset_model.specs.BySteps.{IsBySteps};
 ghost use Rattle.reset_model.specs.Sound.{IsSound};
 ghost use Rattle.history.specs.declared.entry.Entry.{Entry};
 ghost use Rattle.history.specs.declared.entry.Report.{Report};
+ghost use Rattle.history.specs.Book.{BookView, IsBook};
 ghost use Rattle.history.specs.Entries.{replayed};
 ghost use Rattle.history.specs.Reports.{reports_of};
 ghost use Rattle.history.specs.Stretches.{IsApplied, IsIn, IsReport, IsStretch, IsTrueReport};
@@ -69,3 +70,18 @@ pub fn reports_are_true<P: Application>()
         → All (λ r. IsIn s r.finished → IsTrueReport P.app P.from_text opening es s r)
         (reports_of P.app P.from_text opening es) }
 {}
+
+/// What a book tells of each undisturbed stretch of its entries that begins in sound registers: it is steps, of which the
+/// headline holds and whose waves end, and each report of it is true.
+pub fn books_tell_steps<P: Application>()
+    ensures steps { (b : BookView P.Local) (s : Stretch P.Local) → IsBook P.app P.from_text b
+        → IsStretch P.app P.from_text b.opening b.entries s → IsSound s.here
+        → IsBySteps P.app P.Inv s.here s.events s.left }
+    ensures reports { (b : BookView P.Local) (s : Stretch P.Local) → IsBook P.app P.from_text b
+        → IsStretch P.app P.from_text b.opening b.entries s → IsSound s.here
+        → All (λ r. IsIn s r.finished → IsTrueReport P.app P.from_text b.opening b.entries s r)
+        (reports_of P.app P.from_text b.opening b.entries) }
+{
+    stretches_are_steps::<P>();
+    reports_are_true::<P>();
+}

@@ -11,7 +11,7 @@ use Rattle.app_interface.specs.Application.{App}
 use Rattle.reset_model.specs.declared.event.Event.{Event}
 use Rattle.reset_model.specs.declared.step.Reply.{Reply}
 use Rattle.reset_model.specs.declared.step.Reply.TheVariants.{Applied, Complete}
-use Rattle.reset_model.specs.Configuration.{Configuration}
+use Rattle.reset_model.specs.Configuration.{Configuration, IsShaped}
 use Rattle.reset_model.specs.Planned.{Outcome, outcome_of}
 use Rattle.reset_model.specs.declared.step.StepRefusal.{StepRefusal}
 use Rattle.reset_model.specs.Steps.{event_node}
@@ -71,6 +71,8 @@ module _ {L : Type 0} (app : App L) (from_text : List ℕ → Option L) (b : Boo
               (report_of app b.config (recent [] es) entry))
               ∙ ap length (sym more);
           book = record {
+            graph = told.book.graph;
+            shaped = told.book.shaped;
             replay = replayed_snoc app from_text b.opening b.config c' es entry told.book.replay here;
             room = omega (arith, room, kept.limit, told.entries, length_push es entry);
             small = told.book.small;
@@ -203,9 +205,9 @@ module _ {L : Type 0} (app : App L) (from_text : List ℕ → Option L) (faults 
 -- ---- a run
 
 pub nothing_kept : {L : Type 0} (app : App L) (from_text : List ℕ → Option L) (c : Configuration L) (h : DrivenHistory)
-    → IsModulus c.modulus → h.text.items ≡ ended (first_line c.modulus) → h.entries ≡ 0 → h.reports ≡ 0
+    → IsGraph c.graph → IsShaped c → h.text.items ≡ ended (first_line c.modulus) → h.entries ≡ 0 → h.reports ≡ 0
     → IsKept app from_text (new_book c) c h
-nothing_kept app from_text c h modulus text entries reports = record {
+nothing_kept app from_text c h graph shaped text entries reports = record {
   config = refl;
   limit = refl;
   told = record {
@@ -213,11 +215,13 @@ nothing_kept app from_text c h modulus text entries reports = record {
     entries = entries;
     reports = reports ∙ sym (ap length (reports_nil app from_text c []));
     book = record {
+      graph = graph;
+      shaped = shaped;
       replay = replayed_nil app from_text c;
       room = omega arith;
       small = omega arith;
       lines = λ k d short. absurd (omega arith);
-      modulus = modulus;
+      modulus = shaped.modulus;
     };
   };
 }

@@ -13,7 +13,8 @@ returns g c =
     let from_text = g.P.Application.from_text in
     let opening = c.args.opening in
     let started : c.seed_from_u64-random.result ≡ seeded c.args.seed = search rules in
-    let kept = nothing_kept app from_text opening c.in_ok-told.told c.lemma_is_graph.ensures.shaped.modulus
+    let kept = nothing_kept app from_text opening c.in_ok-told.told c.lemma_is_graph.ensures.graph
+    c.lemma_is_graph.ensures.shaped
     (c.in_ok-told.ensures.text ∙ ap (λ n. ended (first_line n)) (c.get.ensures.number ∙ c.modulus.ensures))
     c.in_ok-told.ensures.entries c.in_ok-told.ensures.reports in
     subst (λ (r : Lcg). IsTold app from_text (drawn_steps app from_text c.args.faults c.args.steps (new_book opening) r).0
