@@ -15,8 +15,8 @@ use Rattle.reset_model.proofs.FirstFound.{find-none}
 use Rattle.app_interface.specs.Application.{App}
 use Rattle.history.specs.declared.entry.Receipt.{Receipt}
 use Rattle.history.specs.Book.{BookView}
-use Rattle.node_threads.specs.Closed.{AreSeatLists, IsCloseFault, IsClosed, IsFirstDiffering, IsUnclosed, NodeList}
-use Rattle.node_threads.specs.Closed.{first_missing, is_seated, list_of}
+use Rattle.node_threads.specs.Closed.{AreSeatLists, IsCloseFault, IsClosed, IsCounted, IsFaultOf, IsFirstDiffering}
+use Rattle.node_threads.specs.Closed.{IsUnclosed, NodeList, first_missing, is_seated, list_of, receipt_count}
 use Rattle.node_threads.specs.declared.closing.CloseFault.{CloseFault}
 use Rattle.node_threads.specs.declared.closing.CloseFault.TheVariants.{SeatMissing, ListsDiffer, NoMemory}
 use Rattle.node_threads.specs.Locked.{IsContinued}
@@ -119,23 +119,30 @@ decides app from_text b mark told seats (Err (ListsDiffer i)) is none all differ
     (tt, (none, subst (λ t. IsFirstDiffering t seats i) is (differs i refl)))
 decides app from_text b mark told seats (Err NoMemory) is none all differs other = (tt, none)
 
--- a fault of the seats by a continuation of the book that was shared
-pub close_fault : {L : Type 0} (app : App L) (from_text : List ℕ → Option L) (first b : BookView L) (mark : ℕ)
-    (nodes : List ℕ) (seats : List SeatView) (f : CloseFault) → IsContinued app from_text first b
-    → mark ≡ length first.entries → b.config.graph.nodes ≡ nodes → IsUnclosed app from_text b mark seats f
+-- a fault of the seats by the book that was unlocked
+pub close_fault : {L : Type 0} (app : App L) (from_text : List ℕ → Option L) (first b : BookView L) (nodes : List ℕ)
+    (seats : List SeatView) (f : CloseFault) → b.config.graph.nodes ≡ nodes → IsFaultOf app from_text first b seats f
     → IsCloseFault app from_text first nodes seats f
-close_fault app from_text first b mark nodes seats (SeatMissing i) continued at there is =
-    subst (λ ns. first_missing ns seats ≡ Some i) there is
-close_fault app from_text first b mark nodes seats (ListsDiffer i) continued at there is = (
-  subst (λ ns. first_missing ns seats ≡ None) there is.0,
-  record {
-    book = b;
-    continued = continued;
-    such = subst (λ m. IsFirstDiffering (receipts_after app from_text b m) seats i) at is.1;
-  },
+close_fault app from_text first b nodes seats (SeatMissing i) there is =
+    subst (λ ns. first_missing ns seats ≡ Some i) there is.fault
+close_fault app from_text first b nodes seats (ListsDiffer i) there is = (
+  subst (λ ns. first_missing ns seats ≡ None) there is.fault.0,
+  record { book = b; continued = is.continued; such = (is.counted is.fault.0, is.fault.1) },
 )
-close_fault app from_text first b mark nodes seats NoMemory continued at there is =
-    subst (λ ns. first_missing ns seats ≡ None) there is
+close_fault app from_text first b nodes seats NoMemory there is =
+    subst (λ ns. first_missing ns seats ≡ None) there is.fault
+
+-- as many receipts as entries, where all parts of the ledger were put together
+pub counts : {L : Type 0} (first b : BookView L) (nodes : List ℕ) (total parts all_parts : ℕ) (seats : List SeatView)
+    → b.config.graph.nodes ≡ nodes → length first.entries + total ≡ length b.entries
+    → IsStrictlyIncreasing b.config.graph.nodes → parts ≡ 1 → parts + length seats ≤ all_parts
+    → all_parts ≡ length nodes + 1 → (parts + length seats ≡ all_parts → receipt_count seats ≡ total)
+    → first_missing b.config.graph.nodes seats ≡ None → IsCounted first b seats
+counts first b nodes total parts all_parts seats there after up one within cut whole none =
+    let many : length b.config.graph.nodes ≤ length seats =
+    as_many b.config.graph.nodes seats up (everyone b.config.graph.nodes seats none) in
+    let sum : receipt_count seats ≡ total = whole (omega (arith, many, ap length there, one, within, cut)) in
+    ap (λ k. length first.entries + k) sum ∙ after
 
 -- what is found is there, and passes
 found_there : (q : ℕ → Bool) (xs : List ℕ) (j : ℕ) → find q xs ≡ Some j → Contains xs j × (q j ≡ true)

@@ -5,6 +5,8 @@ mod Few
 mod Once
 mod Collecting
 mod Crossing
+mod Stepping
+mod PutBack
 mod Turning
 mod Waiting
 pub mod Refusing

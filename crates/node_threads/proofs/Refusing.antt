@@ -10,7 +10,7 @@ use Rattle.reset_model.specs.Steps.{event_node}
 use Rattle.reset_model.specs.View.{NodeView}
 use Rattle.history.specs.Book.{BookView, IsBook}
 use Rattle.history.specs.declared.entry.Receipt.{Receipt}
-use Rattle.node_threads.specs.Closed.{HasCloseFault, IsCloseFault}
+use Rattle.node_threads.specs.Closed.{HasCloseFault, IsFaultOf}
 use Rattle.node_threads.specs.Seats.{SeatView}
 use Rattle.node_threads.specs.declared.closing.CloseFault.{CloseFault}
 use Rattle.node_threads.specs.declared.closing.CloseFault.TheVariants as close
@@ -75,18 +75,16 @@ told_close (close.ListsDiffer i) cause memory other f is =
     let by : cause ≡ run.Close (close.ListsDiffer i) = other (λ e. absurd (cc)) in
     let same : close.ListsDiffer i ≡ f = cc in (same, λ e. absurd (cc))
 
-module _ {L : Type 0} (app : App L) (from_text : List ℕ → Option L) where
-  pub has_close_fault : (first book : BookView L) (nodes : List ℕ) (seats : List SeatView) (fault f : CloseFault)
-      → book ≡ first → book.config.graph.nodes ≡ nodes → IsCloseFault app from_text first nodes seats fault
-      → (fault ≡ f) × (f ≢ close.NoMemory) → HasCloseFault app from_text book f
-  has_close_fault first book nodes seats fault f is there why (same, other) =
-      let here = subst (λ b. IsCloseFault app from_text b nodes seats fault) (sym is) why in
-      let own = subst (λ ns. IsCloseFault app from_text book ns seats fault) (sym there) here in
-      record {
-        seats = seats;
-        fault = subst (λ g. IsCloseFault app from_text book book.config.graph.nodes seats g) same own;
-        other = other;
-      }
+-- what a run tells of the seats that don't close
+pub has_close_fault : {L : Type 0} (app : App L) (from_text : List ℕ → Option L) (first b back : BookView L)
+    (seats : List SeatView) (fault f : CloseFault) → back ≡ b → IsFaultOf app from_text first b seats fault
+    → (fault ≡ f) × (f ≢ close.NoMemory) → HasCloseFault app from_text first back f
+has_close_fault app from_text first b back seats fault f is why (same, other) = record {
+  seats = seats;
+  fault = subst (λ k. IsFaultOf app from_text first k seats f) (sym is)
+      (subst (IsFaultOf app from_text first b seats) same why);
+  other = other;
+}
 
 -- a selected node isn't both there and strange
 pub not_both : (selected : Option ℕ) (P : ℕ → Type 0) → MatchOption selected ⊥ (λ i. P i → ⊥) → IfSome selected P → ⊥

@@ -68,21 +68,37 @@ IsUnclosed app from_text b mark seats (ListsDiffer i) =
     × IsFirstDiffering (receipts_after app from_text b mark) seats i
 IsUnclosed app from_text b mark seats NoMemory = first_missing b.config.graph.nodes seats ≡ None
 
+-- how many receipts the seats have
+abbrev pub receipt_count : List SeatView → ℕ
+receipt_count seats = sum_by (λ s. length s.receipts) seats
+
+-- the book has as many entries after those of the first one as the seats have receipts
+abbrev pub IsCounted : {L : Type 0} → BookView L → BookView L → List SeatView → Type 0
+IsCounted first b seats = length first.entries + receipt_count seats ≡ length b.entries
+
+-- the first fault of the seats in a sharing of the first book, by the book that was unlocked, which is a continuation of
+-- it; and unless a seat is missing the entries since are as many as the receipts
+pub record IsFaultOf {L : Type 0} (app : App L) (from_text : List ℕ → Option L) (first b : BookView L)
+    (seats : List SeatView) (f : CloseFault) : Type 0 where
+  pub continued : IsContinued app from_text first b
+  pub fault : IsUnclosed app from_text b (length first.entries) seats f
+  pub counted : first_missing b.config.graph.nodes seats ≡ None → IsCounted first b seats
+
 -- the first fault of the seats in a sharing of the first book among these nodes: that a list differs is so in a
--- continuation of it. Want of memory may stand in place of that
+-- continuation of it with as many entries since as they have receipts. Want of memory may stand in place of that
 abbrev pub IsCloseFault : {L : Type 0} → App L → (List ℕ → Option L) → BookView L → List ℕ → List SeatView → CloseFault
     → Type 0
 IsCloseFault app from_text first nodes seats (SeatMissing i) = first_missing nodes seats ≡ Some i
 IsCloseFault app from_text first nodes seats (ListsDiffer i) =
     (first_missing nodes seats ≡ None)
     × HasContinuation app from_text first
-    (λ b. IsFirstDiffering (receipts_after app from_text b (length first.entries)) seats i)
+    (λ b. IsCounted first b seats × IsFirstDiffering (receipts_after app from_text b (length first.entries)) seats i)
 IsCloseFault app from_text first nodes seats NoMemory = first_missing nodes seats ≡ None
 
 -- what a run of the first book tells of seats that don't close its sharing: some seats have this fault, which isn't want
--- of memory
-pub record HasCloseFault {L : Type 0} (app : App L) (from_text : List ℕ → Option L) (first : BookView L)
+-- of memory, by the book that comes back
+pub record HasCloseFault {L : Type 0} (app : App L) (from_text : List ℕ → Option L) (first b : BookView L)
     (f : CloseFault) : Type 0 where
   pub seats : List SeatView
-  pub fault : IsCloseFault app from_text first first.config.graph.nodes seats f
+  pub fault : IsFaultOf app from_text first b seats f
   pub other : f ≢ NoMemory

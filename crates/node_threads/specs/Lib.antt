@@ -4,4 +4,5 @@ pub mod Locked
 pub mod Turns
 pub mod Told
 pub mod Closed
+pub mod Stepped
 pub mod Waiting

@@ -4,23 +4,23 @@ ghost use Rattle.std.specs.Prelude.{◌≡◌, ◌≢◌, ◌≤◌, ◌++◌, �
 ghost use Rattle.std.specs.Prelude.{drop, filter, length, map, nat_lt, ℕ};
 ghost use Rattle.std.specs.Vec.{vec_capacity};
 ghost use Rattle.reset_model.specs.Steps.{event_node};
-ghost use Rattle.node_threads.specs.Closed.{AreSeatLists, IsCloseFault, IsClosed, IsFirstDiffering, IsUnclosed};
+ghost use Rattle.node_threads.specs.Closed.{AreSeatLists, IsCloseFault, IsClosed, IsFaultOf, IsFirstDiffering};
+ghost use Rattle.node_threads.specs.Closed.{IsUnclosed};
 ghost use Rattle.node_threads.specs.Closed.{first_missing};
 ghost use Rattle.node_threads.specs.Closed.{is_seated, list_of};
 ghost use Rattle.node_threads.specs.Seats.{of_node, receipts_after};
 ghost use Rattle.node_threads.specs.Told.{left_after, reply_told, step_at};
 
-use crate::guarded::Guarded;
 use crate::locked::Locked;
 use crate::round::{Cut, Round, Sharing};
 use crate::seat::Seat;
 use crate::sharing::Shared;
+use crate::unlocked::Unlocked;
 use app_interface::Application;
 use history::{Book, Entry, Receipt, Report};
 use reset_machine::{Event, Reply};
 use std::alloc::{AllocError, Global};
 use std::marker::Model;
-use std::sync::Mutex;
 use std::sync::ledger::Share;
 
 /// A node, with what its seat was told, in turn.
@@ -56,8 +56,8 @@ pub enum CloseFault {
     NoMemory,
 }
 
-/// Closes a sharing: Ok exactly where all seats are there and each was told exactly its node's entries since
-/// the mark. Or what is shared and the seats come back with the first fault.
+/// Closes a sharing: of the book that it unlocks, Ok exactly where all seats are there and each was told exactly its node's
+/// entries since the mark. Or what is shared and the seats come back with the first fault.
 pub fn close<L: Sharing<P::Local>, P: Application>(
     alloc: Global,
     shared: Shared<L, P>,
@@ -68,48 +68,57 @@ pub fn close<L: Sharing<P::Local>, P: Application>(
     ensures err { IfErr result (λ e. IsCloseFault P.app P.from_text L.book L.nodes seats.items e.0) }
     ensures returned { IfErr result (λ e. e.2 ≡ seats) }
 {
-    let Shared {
-        guarded,
-        topology,
-        wakeups,
-        last,
-        cut,
-    } = shared;
-    let Guarded { locked, attendance } = guarded.into_inner();
-    locked.lemma_is_locked();
-    match locked.close_in(alloc, &seats) {
-        Ok(()) => {}
+    match close_unlocked(alloc, Unlocked::new(shared), seats) {
+        Ok(outcome) => Ok(outcome),
+        Err((fault, unlocked, seats)) => Err((fault, unlocked.lock(), seats)),
+    }
+}
+
+// Closes what was unlocked. Or it comes back with the same book, and the seats, with the first fault.
+pub(crate) fn close_unlocked<L: Sharing<P::Local>, P: Application>(
+    alloc: Global,
+    mut unlocked: Unlocked<L, P>,
+    mut seats: Vec<Seat<L>>,
+) -> Result<Outcome<P>, (CloseFault, Unlocked<L, P>, Vec<Seat<L>>)>
+    ensures closed { IfOk result (λ o. IsClosed P.app P.from_text L.book o.book o.seats.items) }
+    ensures lists { IfOk result (λ o. o.seats.items ≡ map list_of seats.items) }
+    ensures err { IfErr result (λ e. IsFaultOf P.app P.from_text L.book e.1.locked.book seats.items e.0) }
+    ensures returned { IfErr result (λ e. e.2 ≡ seats) }
+{
+    unlocked.locked.lemma_is_locked();
+    match decide(alloc, &unlocked.locked, &seats) {
+        Ok(lists) => {
+            let Unlocked {
+                locked,
+                attendance: _,
+                topology: _,
+                wakeups: _,
+                last,
+                cut,
+            } = unlocked;
+            Ok(outcome_of_seats(locked, last, cut, seats, lists))
+        }
         Err(fault) => {
-            let guarded = Mutex::new(Guarded { locked, attendance });
-            return Err((
-                fault,
-                Shared {
-                    guarded,
-                    topology,
-                    wakeups,
-                    last,
-                    cut,
-                },
-                seats,
-            ));
+            unlocked.audit(&mut seats);
+            Err((fault, unlocked, seats))
         }
     }
+}
+
+// Room for the lists of the seats, where they close the book, or the first fault.
+fn decide<L: Sharing<P::Local>, P: Application>(
+    alloc: Global,
+    locked: &Locked<L, P>,
+    seats: &[Seat<L>],
+) -> Result<Vec<SeatList>, CloseFault>
+    ensures seats { OnOk result (AreSeatLists P.app P.from_text locked.now.book locked.now.mark (map list_of seats.now)) }
+    ensures room { IfOk result (λ lists. (lists.items ≡ []) × (length seats.now ≤ vec_capacity lists)) }
+    ensures err { IfErr result (IsUnclosed P.app P.from_text locked.now.book locked.now.mark seats.now) }
+{
+    locked.close_in(alloc, seats)?;
     match Vec::with_capacity(alloc, seats.len()) {
-        Ok(lists) => Ok(outcome_of_seats(locked, last, cut, seats, lists)),
-        Err(AllocError) => {
-            let guarded = Mutex::new(Guarded { locked, attendance });
-            Err((
-                CloseFault::NoMemory,
-                Shared {
-                    guarded,
-                    topology,
-                    wakeups,
-                    last,
-                    cut,
-                },
-                seats,
-            ))
-        }
+        Ok(lists) => Ok(lists),
+        Err(AllocError) => Err(CloseFault::NoMemory),
     }
 }
 

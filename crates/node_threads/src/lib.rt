@@ -5,6 +5,7 @@
 mod attendance;
 mod closing;
 mod guarded;
+mod laws;
 mod locked;
 mod refusal;
 mod round;
@@ -12,8 +13,10 @@ mod run;
 mod seat;
 mod sharing;
 mod turns;
+mod unlocked;
 
 pub use closing::{CloseFault, Outcome, SeatList, close};
+pub use laws::threads_take_steps;
 pub use locked::Locked;
 pub use node_choices::next_event;
 pub use refusal::{CommitRefusal, LookRefusal, SeatRefusal, ShareFault};

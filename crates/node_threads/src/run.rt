@@ -9,12 +9,13 @@ ghost use Rattle.node_threads.specs.Closed.{HasCloseFault, IsClosed};
 ghost use Rattle.node_threads.specs.Locked.{IsContinued};
 ghost use Rattle.node_threads.specs.contracts.sharing.Shared.{the_row};
 
-use crate::closing::{CloseFault, Outcome, close};
+use crate::closing::{CloseFault, Outcome, close_unlocked};
 use crate::refusal::{SeatRefusal, ShareFault};
 use crate::round::{Round, Sharing};
 use crate::seat::Seat;
 use crate::sharing::{MAX_SEATS, Shared, select, share};
 use crate::turns::{Gate, TurnsEnd, take_turns};
+use crate::unlocked::Unlocked;
 use app_interface::Application;
 use history::{Book, BookRefusal};
 use std::alloc::Global;
@@ -85,7 +86,7 @@ pub fn run_nodes<P: Application, G: Gate + Sync, R: Threads + Wait + Sync>(
         × (IfSome selected (λ i. IsNode book.config.graph i) → 64 < length book.config.graph.nodes
         → e.cause ≡ RunCause.TooManyForThreads)) }
     ensures close { IfErr result (λ e. (f : CloseFault) → e.cause ≡ RunCause.Close f
-        → HasCloseFault P.app P.from_text book f) }
+        → HasCloseFault P.app P.from_text book e.book f) }
     ensures back { IfErr result (λ e. (e.cause ≡ RunCause.StrangeNode → e.book ≡ book)
         × (e.cause ≡ RunCause.TooManyForThreads → e.book ≡ book)) }
     ensures stands { IfErr result (λ e. IsContinued P.app P.from_text book e.book) }
@@ -140,7 +141,7 @@ fn run_round<
     ensures many { IfErr result (λ e. e.cause ≡ RunCause.TooManyForThreads → 64 < length L.nodes) }
     ensures back { IfErr result (λ e. e.cause ≡ RunCause.TooManyForThreads → e.book ≡ book) }
     ensures close { IfErr result (λ e. (f : CloseFault) → e.cause ≡ RunCause.Close f
-        → HasCloseFault P.app P.from_text book f) }
+        → HasCloseFault P.app P.from_text L.book e.book f) }
     ensures stands { IfErr result (λ e. IsContinued P.app P.from_text L.book e.book) }
 {
     let (shared, seats) = match share::<L, P>(alloc, blank, book) {
@@ -168,12 +169,12 @@ fn run_round<
         let book = shared.into_book();
         return Err(RunFault { cause, book });
     }
-    match close(alloc, shared, seats) {
+    match close_unlocked(alloc, Unlocked::new(shared), seats) {
         Ok(outcome) => Ok(outcome),
-        Err((fault, shared, seats)) => {
+        Err((fault, unlocked, seats)) => {
             drop(seats);
             let cause = cause_of_closing(fault);
-            let book = shared.into_book();
+            let book = unlocked.into_book();
             Err(RunFault { cause, book })
         }
     }

@@ -15,6 +15,7 @@ use crate::locked::Locked;
 use crate::refusal::{CommitRefusal, LookRefusal, SeatRefusal, ShareFault};
 use crate::round::{Cut, Round, Sharing};
 use crate::seat::Seat;
+use crate::unlocked::Unlocked;
 use app_interface::Application;
 use history::{ApplyRefusal, Book, Receipt};
 use reset_machine::{Event, Plan, View};
@@ -126,24 +127,7 @@ impl<L: Sharing<P::Local>, P: Application> Shared<L, P> {
     pub(crate) fn into_book(self) -> Book<P>
         ensures { IsContinued P.app P.from_text L.book result }
     {
-        let Shared {
-            guarded,
-            topology: _,
-            wakeups: _,
-            last: _,
-            cut: _,
-        } = self;
-        let Guarded {
-            locked,
-            attendance: _,
-        } = guarded.into_inner();
-        locked.lemma_is_locked();
-        let Locked {
-            book,
-            mark: _,
-            tally: _,
-        } = locked;
-        book
+        Unlocked::new(self).into_book()
     }
 
     /// What the seat's node sees at some moment of the call. It takes the lock.

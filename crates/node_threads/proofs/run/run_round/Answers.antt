@@ -15,17 +15,18 @@ returns-then-refused-clause-stands g c = c.into_book-book.ensures
 pub returns-then-out_of_memory-clause-stands : goal.returns-then-out_of_memory-clause-stands
 returns-then-out_of_memory-clause-stands g c = c.into_book-book-then-out_of_memory.ensures
 
-pub returns-in-Err-close-clause-stands : goal.returns-in-Err-close-clause-stands
-returns-in-Err-close-clause-stands g c = c.into_book-book-in-Err-close.ensures
+pub returns-in-Err-close_unlocked-clause-stands : goal.returns-in-Err-close_unlocked-clause-stands
+returns-in-Err-close_unlocked-clause-stands g c = c.into_book-book-in-Err-close_unlocked.ensures.continued
 
-pub returns-in-Ok-close-clause-closed : goal.returns-in-Ok-close-clause-closed
-returns-in-Ok-close-clause-closed g c = c.in-Ok-close.ensures.closed
+pub returns-in-Ok-close_unlocked-clause-closed : goal.returns-in-Ok-close_unlocked-clause-closed
+returns-in-Ok-close_unlocked-clause-closed g c = c.in-Ok-close_unlocked.ensures.closed
 
 pub returns-in-Err-clause-close : goal.returns-in-Err-clause-close
 returns-in-Err-clause-close g c = λ f is. absurd (c.cause_of-cause.ensures.close f is)
 
-pub returns-in-Err-close-clause-close : goal.returns-in-Err-close-clause-close
-returns-in-Err-close-clause-close g c = λ f is.
-    has_close_fault g.P.Application.app g.P.Application.from_text g.L.Sharing.book c.args.book g.L.Round.nodes _ _ f
-    c.requires.book c.requires.nodes c.in-Err-close.ensures.err (told_close _ _ c.cause_of_closing-cause.ensures.memory
+pub returns-in-Err-close_unlocked-clause-close : goal.returns-in-Err-close_unlocked-clause-close
+returns-in-Err-close_unlocked-clause-close g c = λ f is.
+    has_close_fault g.P.Application.app g.P.Application.from_text g.L.Sharing.book
+    c.in-Err-close_unlocked.unlocked.locked.book _ _ _ f c.into_book-book-in-Err-close_unlocked.ensures.same
+    c.in-Err-close_unlocked.ensures.err (told_close _ _ c.cause_of_closing-cause.ensures.memory
     c.cause_of_closing-cause.ensures.close f is)
