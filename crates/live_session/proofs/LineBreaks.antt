@@ -1,8 +1,9 @@
 -- The lines of a text of which more comes.
 use Rattle.std.proofs.Common.{◌≡◌, ℕ, ◌==◌, Bool, true, false, List, [], ◌∷◌, ◌++◌, refl, sym, ap, ◌∙◌, append_assoc}
-use Rattle.std.proofs.Common.{subst, append-nil, ne_eqb, arith, length, ◌<◌}
+use Rattle.std.proofs.Common.{subst, append-nil, ne_eqb, arith, length, length-append, take, ◌<◌, ◌-◌}
 use Rattle.std.specs.List.{onto_first}
 use Rattle.std.proofs.lemmas.List.Splits.{length-slice_split, slice_split-cons_no, slice_split-cons_yes}
+use Rattle.std.proofs.Math.Seq.{take-append_seam}
 use Rattle.action_tables.specs.Cuts.{HasNo}
 use Rattle.history.specs.HistoryText.{ended}
 use Rattle.script_replay.specs.Lines.{is_line_feed, lines_of}
@@ -42,6 +43,15 @@ line_unbroken text line after is =
     let whole : text ≡ line ++ (10 ∷ after) =
     first_line text line after is ∙ append_assoc line (10 ∷ []) after in
     first_unbroken line (10 ∷ after) (lines_of after, ap lines_of (sym whole) ∙ is)
+
+-- the first line of a text with its line feed
+pub line_with_feed : (text line after : List ℕ) → lines_of text ≡ line ∷ lines_of after
+    → take (length text - length after) text ≡ ended line
+line_with_feed text line after is =
+    let whole : text ≡ ended line ++ after = first_line text line after is in
+    let count : length text - length after ≡ length (ended line) =
+    omega (arith, ap length whole, length-append (ended line) after) in
+    ap (λ n. take n text) count ∙ ap (take (length (ended line))) whole ∙ take-append_seam (ended line) after
 
 pub rest_unbroken : (text : List ℕ) → lines_of text ≡ text ∷ [] → HasNo 10 text
 rest_unbroken text is = first_unbroken text [] (subst (λ t. BeginsWithLine (lines_of t) text) (sym (append-nil text)) ([], is))

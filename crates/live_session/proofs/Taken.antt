@@ -4,21 +4,46 @@ use Rattle.std.proofs.Common.{append_assoc, Option, Some, None}
 use Rattle.std.specs.Io.KnownBytes.{Appends}
 use Rattle.std.proofs.KnownBytes.{Appends-nil}
 use Rattle.action_tables.specs.Cuts.{HasNo}
+use Rattle.reset_model.specs.EventText.{Fits, event_line}
+use Rattle.reset_model.specs.declared.event.Event.{Event}
 use Rattle.history.specs.HistoryText.{ended}
 use Rattle.history.specs.declared.entry.Entry.{Entry}
 use Rattle.script_replay.specs.Lines.{lines_of}
 use Rattle.script_replay.specs.Meaning.{Meaning}
 use Rattle.script_replay.specs.Script.{line_of}
+use Rattle.script_replay.specs.declared.script.Command.TheVariants.{Step}
+use Rattle.script_replay.specs.declared.script.Line.TheVariants.{Asks}
 use Rattle.live_session.specs.Course.{course, course_of, exchange, kept_lines, kept_text, led_by}
 use Rattle.live_session.specs.Course.{rested, room_after}
 use Rattle.live_session.specs.Progress.{Comes, Goes, HasEnded, HasEndedWith, HasTaken, IsAt, IsCut, IsFront, IsUncommitted}
-use Rattle.live_session.specs.Progress.{IsWithin, Start, after}
+use Rattle.live_session.specs.Progress.{IsAnswered, IsWithin, Start, after}
 use Rattle.live_session.specs.declared.batch.Batch.{Batch}
 use Rattle.live_session.specs.declared.session.Session.{Session}
+use Rattle.script_replay.proofs.CommandOf.{event_asked}
 use Rattle.script_replay.proofs.TextLines.{first_line}
-use Rattle.live_session.proofs.Courses.{course_none, front_none}
+use Rattle.live_session.proofs.Courses.{course_none, event_stays, front_none}
 use Rattle.live_session.proofs.Going.{cut_here, cut_writing, goes_as, goes_given, goes_on_by, goes_out, goes_written}
 use Rattle.live_session.proofs.LineBreaks.{line_ends, line_unbroken, rest_unbroken, unbroken_on, whole_line}
+
+-- the line of an event that was answered where the history had this room, and then that
+pub event_taken : {P L : Type 0} (m : Meaning L) (e : Event) (room left : Option ℕ) (old new : Session P L) → Fits e
+    → new.number ≡ old.number + 1 → old.room ≡ room → new.room ≡ left
+    → ((n : ℕ) (text : List ℕ) → IsAnswered m room old.config n text (Asks (Step e)) left new.config old.batch new.batch)
+    → HasTaken m (event_line e) false old new
+event_taken m e room left old new fits number had has answered = record {
+  exits = sym (event_stays e);
+  same_config = λ ends. absurd (cc);
+  same_batch = λ ends. absurd (cc);
+  number_is = λ stays. number;
+  answered = λ stays.
+      let line = event_line e in
+      subst (λ r. IsAnswered m r old.config old.number line (line_of m.names line) new.room new.config old.batch new.batch)
+      (sym had)
+      (subst (λ r. IsAnswered m room old.config old.number line (line_of m.names line) r new.config old.batch new.batch)
+      (sym has)
+      (subst (λ l. IsAnswered m room old.config old.number line l left new.config old.batch new.batch)
+      (sym (event_asked m.names line e fits refl)) (answered old.number line)));
+}
 
 still_alike : (room room' : Option ℕ) (es : List Entry) → room' ≡ room_after room es → (xs : List Entry)
     → kept_lines room' xs ≡ kept_lines room xs

@@ -1,8 +1,10 @@
 // The answers to commands that change the network, with the entries that they leave.
 
-ghost use Rattle.std.specs.Prelude.{◌≡◌, ◌++◌, ◌∷◌, [], false, IfOk, Ok, OnOk};
+ghost use Rattle.std.specs.Prelude.{◌≡◌, ◌<◌, ◌++◌, ◌∷◌, [], false, IfOk, None, Ok, OnOk, Some};
+ghost use Rattle.reset_model.specs.EventText.{event_line};
 ghost use Rattle.reset_model.specs.Planned.{outcome_of};
 ghost use Rattle.fault_inject.specs.Effects.{injected};
+ghost use Rattle.history.specs.HistoryText.{ended};
 ghost use Rattle.history.specs.declared.entry.Entry.TheVariants.{Step, Disturbed};
 ghost use Rattle.script_replay.specs.Meaning.{meaning_of};
 ghost use Rattle.script_replay.specs.Output.{answered, disturbed, drawn, drawn_text, stepped};
@@ -26,7 +28,6 @@ use std::alloc::{AllocError, Global};
 
 /// Does what the event says, and holds its answer and, where it was applied, its entry. The answer is the room that is
 /// left.
-#[inline(always)]
 pub fn act_event<P: Application>(
     alloc: Global,
     config: &mut Config<P>,
@@ -39,16 +40,77 @@ pub fn act_event<P: Application>(
     ensures acted { IfOk result (λ left. HasActed room (stepped config.old (outcome_of P.app config.old event)).1
         (event_entry event (outcome_of P.app config.old event)) left batch.old batch.new) }
 {
+    if answer_event(alloc, config, event, &mut batch.answers)? {
+        keep_event(room, event, &mut batch.entries)
+    } else {
+        Ok(room)
+    }
+}
+
+/// Does what the event says, and holds its answer, where the session keeps no history.
+#[inline(always)]
+pub fn act_unkept<P: Application>(
+    alloc: Global,
+    config: &mut Config<P>,
+    event: Event,
+    batch: &mut Batch,
+) -> Result<(), AllocError>
+    ensures config { OnOk result (config.new ≡ (stepped config.old (outcome_of P.app config.old event)).0) }
+    ensures acted { OnOk result (HasActed None (stepped config.old (outcome_of P.app config.old event)).1
+        (event_entry event (outcome_of P.app config.old event)) None batch.old batch.new) }
+{
+    answer_event(alloc, config, event, &mut batch.answers)?;
+    Ok(())
+}
+
+/// Does what the event says, and holds its answer and, where it was applied, its entry, whose line was read: it is
+/// copied, and not written anew. The answer is the room that is left.
+#[inline(always)]
+pub fn act_kept<P: Application>(
+    alloc: Global,
+    config: &mut Config<P>,
+    room: u64,
+    event: Event,
+    line: &[u8],
+    batch: &mut Batch,
+) -> Result<u64, AllocError>
+    requires room { 0 < room }
+    requires line { line.now ≡ ended (event_line event) }
+    ensures config { OnOk result (config.new ≡ (stepped config.old (outcome_of P.app config.old event)).0) }
+    ensures acted { IfOk result (λ left. HasActed (Some room)
+        (stepped config.old (outcome_of P.app config.old event)).1
+        (event_entry event (outcome_of P.app config.old event)) (Some left) batch.old batch.new) }
+{
+    if !answer_event(alloc, config, event, &mut batch.answers)? {
+        return Ok(room);
+    }
+    batch.entries.extend_from_slice(line)?;
+    Ok(room - 1)
+}
+
+// Does what the event says, and writes its answer. Whether it was applied.
+#[inline(always)]
+fn answer_event<P: Application>(
+    alloc: Global,
+    config: &mut Config<P>,
+    event: Event,
+    answers: &mut Vec<u8>,
+) -> Result<bool, AllocError>
+    ensures config { OnOk result (config.new ≡ (stepped config.old (outcome_of P.app config.old event)).0) }
+    ensures answers { OnOk result (answers.new.items
+        ≡ answers.old.items ++ (stepped config.old (outcome_of P.app config.old event)).1) }
+    ensures entry { IfOk result (λ applied. event_entry event (outcome_of P.app config.old event)
+        ≡ entry_if applied event) }
+{
     match config.step(alloc, event) {
         Ok(reply) => {
-            let left = keep_event(room, event, &mut batch.entries)?;
-            gathered(put_reply(&mut batch.answers, reply))?;
-            Ok(left)
+            gathered(put_reply(answers, reply))?;
+            Ok(true)
         }
         Err(StepRefusal::NoMemory) => Err(AllocError),
         Err(refusal) => {
-            gathered(put_refusal(&mut batch.answers, refusal))?;
-            Ok(room)
+            gathered(put_refusal(answers, refusal))?;
+            Ok(false)
         }
     }
 }

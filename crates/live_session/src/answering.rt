@@ -1,6 +1,8 @@
 // The answer to one line.
 
-ghost use Rattle.std.specs.Prelude.{◌≡◌, ◌++◌, ℕ, List, IfOk, OnOk};
+ghost use Rattle.std.specs.Prelude.{◌≡◌, ◌++◌, ℕ, List, IfOk, None, OnOk, Some};
+ghost use Rattle.reset_model.specs.EventText.{event_line};
+ghost use Rattle.history.specs.HistoryText.{ended};
 ghost use Rattle.script_replay.specs.Meaning.{meaning_of};
 ghost use Rattle.script_replay.specs.Output.{answered};
 ghost use Rattle.script_replay.specs.Script.{line_of};
@@ -9,7 +11,7 @@ ghost use Rattle.script_replay.specs.declared.script.Line.TheVariants.{Asks};
 ghost use Rattle.live_session.specs.Course.{asks_for_change, full_text, is_full, unread_text};
 ghost use Rattle.live_session.specs.Progress.{IsAnswered};
 
-use crate::acting::{act_draw, act_event, act_fault, act_watch, gathered};
+use crate::acting::{act_draw, act_event, act_fault, act_kept, act_unkept, act_watch, gathered};
 use crate::batch::Batch;
 use action_tables::put_bytes;
 use app_interface::Application;
@@ -52,23 +54,40 @@ fn answer_unread(number: u64, line: &[u8], batch: &mut Batch) -> Result<(), Allo
     }
 }
 
-/// Answers the line of an event. The answer is the room that the history has left.
+/// Answers the line of an event where the session keeps no history.
 #[inline(always)]
-pub fn answer_event<P: Application>(
+pub fn answer_unkept<P: Application>(
     alloc: Global,
     config: &mut Config<P>,
-    room: Option<u64>,
     event: Event,
     batch: &mut Batch,
-) -> Result<Option<u64>, AllocError>
-    ensures { IfOk result (λ left. (n : ℕ) (text : List ℕ) → IsAnswered (meaning_of P.app P.text P.from_text P.names) room
-        config.old n text (Asks (Step event)) left config.new batch.old batch.new) }
+) -> Result<(), AllocError>
+    ensures { OnOk result ((n : ℕ) (text : List ℕ) → IsAnswered (meaning_of P.app P.text P.from_text P.names) None
+        config.old n text (Asks (Step event)) None config.new batch.old batch.new) }
 {
-    if room == Some(0) {
+    act_unkept(alloc, config, event, batch)
+}
+
+/// Answers the line of an event, which has this text with its line feed. The answer is the room that the history has
+/// left.
+#[inline(always)]
+pub fn answer_kept<P: Application>(
+    alloc: Global,
+    config: &mut Config<P>,
+    room: u64,
+    event: Event,
+    line: &[u8],
+    batch: &mut Batch,
+) -> Result<u64, AllocError>
+    requires { line.now ≡ ended (event_line event) }
+    ensures { IfOk result (λ left. (n : ℕ) (text : List ℕ) → IsAnswered (meaning_of P.app P.text P.from_text P.names)
+        (Some room) config.old n text (Asks (Step event)) (Some left) config.new batch.old batch.new) }
+{
+    if room == 0 {
         refuse_full(batch)?;
-        return Ok(room);
+        return Ok(0);
     }
-    act_event(alloc, config, room, event, batch)
+    act_kept(alloc, config, room, event, line, batch)
 }
 
 // Answers a command.

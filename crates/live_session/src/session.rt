@@ -1,13 +1,14 @@
 // Sessions.
 
-ghost use Rattle.std.specs.Prelude.{◌≡◌, ◌+◌, ◌<◌, ◌≤◌, ◌^◌, ◌++◌, [], false, ℕ, List, length, IfOk, OnErr, OnOk};
-ghost use Rattle.history.specs.HistoryText.{IsReadWhole};
+ghost use Rattle.std.specs.Prelude.{◌≡◌, ◌+◌, ◌<◌, ◌≤◌, ◌^◌, ◌++◌, [], false, ℕ, List, length, IfOk, None, OnErr, OnOk};
+ghost use Rattle.std.specs.Prelude.{Some};
+ghost use Rattle.history.specs.HistoryText.{IsReadWhole, ended};
 ghost use Rattle.script_replay.specs.Parts.{HasFitting, next_text};
 ghost use Rattle.script_replay.specs.Meaning.{meaning_of};
 ghost use Rattle.reset_model.specs.EventText.{Fits, event_line};
 ghost use Rattle.live_session.specs.Course.{IsCutShort, IsDone, course, is_exit};
 
-use crate::answering::{answer_event, answer_text};
+use crate::answering::{answer_kept, answer_text, answer_unkept};
 use crate::batch::Batch;
 use crate::partial::go_on;
 use action_tables::WriteFault;
@@ -256,7 +257,7 @@ impl<P: Application> Session<P> {
     {
         let mut rest = bytes;
         while let Some((line, after)) = first_line_of(rest) {
-            match self.take_line(alloc, line) {
+            match self.take_line(alloc, line, &rest[..rest.len() - after.len()]) {
                 Ok(false) => {}
                 Ok(true) => return Ok(true),
                 Err(AllocError) => return Err(RunStop::NoMemory),
@@ -275,10 +276,16 @@ impl<P: Application> Session<P> {
         }
     }
 
-    // Answers a line. Whether it ends the session.
+    // Answers a line, which has this text with its line feed. Whether it ends the session.
     #[inline(always)]
-    fn take_line(&mut self, alloc: Global, line: NextLine<'_>) -> Result<bool, AllocError>
+    fn take_line(
+        &mut self,
+        alloc: Global,
+        line: NextLine<'_>,
+        whole: &[u8],
+    ) -> Result<bool, AllocError>
         requires fits { HasFitting line }
+        requires whole { whole.now ≡ ended (next_text line) }
         requires few { self.old.number + 1 < 2 ^ 64 }
         ensures taken { IfOk result (λ ends. HasTaken (meaning_of P.app P.text P.from_text P.names)
             (next_text line.entry) ends self.old self.new) }
@@ -286,23 +293,63 @@ impl<P: Application> Session<P> {
     {
         match line {
             NextLine::Event(event) => {
-                self.take_event(alloc, event)?;
+                self.take_event(alloc, event, whole)?;
                 Ok(false)
             }
             NextLine::Text(text) => self.take_text(alloc, text),
         }
     }
 
-    // Answers the line of an event.
+    // Answers the line of an event, which has this text with its line feed.
     #[inline(always)]
-    fn take_event(&mut self, alloc: Global, event: Event) -> Result<(), AllocError>
+    fn take_event(&mut self, alloc: Global, event: Event, line: &[u8]) -> Result<(), AllocError>
         requires fits { Fits event }
+        requires line { line.now ≡ ended (event_line event) }
         requires few { self.old.number + 1 < 2 ^ 64 }
         ensures taken { OnOk result (HasTaken (meaning_of P.app P.text P.from_text P.names) (event_line event) false
             self.old self.new) }
         ensures partial { self.new.partial ≡ self.old.partial }
     {
-        self.room = answer_event(alloc, &mut self.config, self.room, event, &mut self.batch)?;
+        match self.room {
+            None => self.take_unkept(alloc, event),
+            Some(room) => self.take_kept(alloc, room, event, line),
+        }
+    }
+
+    // The same where the session keeps no history: nothing of its room is read or written.
+    #[inline(always)]
+    fn take_unkept(&mut self, alloc: Global, event: Event) -> Result<(), AllocError>
+        requires fits { Fits event }
+        requires room { self.old.room ≡ None }
+        requires few { self.old.number + 1 < 2 ^ 64 }
+        ensures taken { OnOk result (HasTaken (meaning_of P.app P.text P.from_text P.names) (event_line event) false
+            self.old self.new) }
+        ensures partial { self.new.partial ≡ self.old.partial }
+    {
+        answer_unkept(alloc, &mut self.config, event, &mut self.batch)?;
+        self.number += 1;
+        Ok(())
+    }
+
+    // The same where its history has this room.
+    #[inline(always)]
+    fn take_kept(
+        &mut self,
+        alloc: Global,
+        room: u64,
+        event: Event,
+        line: &[u8],
+    ) -> Result<(), AllocError>
+        requires fits { Fits event }
+        requires line { line.now ≡ ended (event_line event) }
+        requires room { self.old.room ≡ Some room }
+        requires few { self.old.number + 1 < 2 ^ 64 }
+        ensures taken { OnOk result (HasTaken (meaning_of P.app P.text P.from_text P.names) (event_line event) false
+            self.old self.new) }
+        ensures partial { self.new.partial ≡ self.old.partial }
+    {
+        let left = answer_kept(alloc, &mut self.config, room, event, line, &mut self.batch)?;
+        self.room = Some(left);
         self.number += 1;
         Ok(())
     }

@@ -2,6 +2,7 @@ use Rattle.std.proofs.Common.{[], ◌++◌, ◌∙◌, ap, arith, refl}
 use Rattle.history.specs.HistoryText.{ended}
 use Rattle.script_replay.specs.Meaning.{meaning_of}
 use Rattle.script_replay.specs.Parts.{next_text}
+use Rattle.live_session.proofs.LineBreaks.{line_with_feed}
 use Rattle.live_session.proofs.Taken.{lines_begin, lines_cut_commit, lines_cut_short, lines_end, lines_go_on, lines_rest}
 use Rattle.live_session.proofs.Taken.{split_on, written_within}
 use Rattle.live_session.proofs.session.Session.take_lines.Goals as goal
@@ -15,6 +16,10 @@ take_line-requires-clause-few g c κs within =
     let shorter = c.in-Some.ensures.shorter in
     let few = c.requires.few in
     omega (arith, bound, shorter, few)
+
+pub take_line-requires-clause-whole : goal.take_line-requires-clause-whole
+take_line-requires-clause-whole g c κs within =
+    line_with_feed c.loop-line.rest.now (next_text c.in-Some.line) c.in-Some.after.now c.in-Some.ensures.found
 
 pub returns-in-Ok-true-clause-ok : goal.returns-in-Ok-true-clause-ok
 returns-in-Ok-true-clause-ok g c s given at =
