@@ -137,8 +137,8 @@ that stops, or that leaves no history, leaves FILE as it was.",
 The exit status is 0 where every order ends and every end is whole, and else 1.
 
 Example:
-  reset-service explore examples/every-order/topology.toml examples/every-order/script
-  reset-service explore examples/mends-go-round/topology.toml --history history",
+  reset-service explore examples/every-order/topology.toml examples/every-order/script --history history
+  reset-service verify examples/every-order/topology.toml history",
 };
 
 pub const EXPLORE_SCRIPT_HELP: &str =
