@@ -34,7 +34,10 @@ explore_fit = (
       inl (refl, refl, refl, refl),
       (
         inr (inr (refl, refl, refl, refl)),
-        (inl (refl, refl, refl, refl), (inr (inl (refl, refl)), tt)),
+        (
+          inl (refl, refl, refl, refl),
+          (inl (refl, refl, refl, refl), (inr (inl (refl, refl)), tt)),
+        ),
       ),
     ),
   ),

@@ -71,14 +71,16 @@ plan_command =
     (with_rule (with_rule (new_app (codes "plan")) (path (codes "TOPOLOGY"))) (optional (path (codes "SCRIPT"))))
     from_option
 
--- `explore TOPOLOGY [SCRIPT] [--from SNAPSHOT] [--acts] [--most N]`
+-- `explore TOPOLOGY [SCRIPT] [--from SNAPSHOT] [--acts] [--most N] [--history FILE]`
 unfoldable pub explore_command : App
 explore_command =
     with_rule
     (with_rule
     (with_rule
+    (with_rule
     (with_rule (with_rule (new_app (codes "explore")) (path (codes "TOPOLOGY"))) (optional (path (codes "SCRIPT"))))
-    from_option) (flag (codes "acts"))) (optional (number_option (codes "most") 1 100000000))
+    from_option) (flag (codes "acts"))) (optional (number_option (codes "most") 1 100000000)))
+    (optional (file_option (codes "history")))
 
 -- `session TOPOLOGY [--from SNAPSHOT] [--history FILE] [--no-sync]`
 unfoldable pub session_command : App
@@ -223,6 +225,7 @@ HasExploreWords found words = (name_in found ≡ Some (codes "explore"))
     × (value_in found (codes "from") ≡ option_map (λ from. from.now) words.from)
     × (words.acts ≡ is_on (value_in found (codes "acts")))
     × IsNumberOr 1000000 1 100000000 (value_in found (codes "most")) words.most
+    × (value_in found (codes "history") ≡ option_map (λ history. history.now) words.history)
 
 -- it is the subcommand `session` with these values, and the history is synced unless the words say that it isn't
 abbrev pub HasSessionWords : Found → SessionWords → Type 0

@@ -15,9 +15,9 @@ use crate::help::{
     EXPLORE_HELP, EXPLORE_SCRIPT_HELP, FAULTS_HELP, FEW_NODES_HELP, FROM_HELP, HISTORY_FILE_HELP,
     HISTORY_HELP, Help, LONG_ABOUT, MOST_HELP, NO_SYNC_HELP, NODES_HELP, PAGE_HELP, PICTURE_HELP,
     PLAN_HELP, PLAN_SCRIPT_HELP, RECORD_HELP, REPLAY_HELP, SCRIPT_HELP, SESSION_HELP,
-    SESSION_HISTORY_HELP, SHAPE_HELP, SHAPE_NAME_HELP, SHAPE_SEED_HELP, STEPS_HELP, TABLES_ABOUT,
-    TABLES_LONG_ABOUT, THREADS_HELP, TITLE_HELP, TOPOLOGY_HELP, TURNS_HELP, VERIFY_HELP, VERSION,
-    WORD_HELP,
+    SESSION_HISTORY_HELP, SHAPE_HELP, SHAPE_NAME_HELP, SHAPE_SEED_HELP, SHOWN_HISTORY_HELP,
+    STEPS_HELP, TABLES_ABOUT, TABLES_LONG_ABOUT, THREADS_HELP, TITLE_HELP, TOPOLOGY_HELP,
+    TURNS_HELP, VERIFY_HELP, VERSION, WORD_HELP,
 };
 use clap::builder::ValueParser;
 use clap::{Arg, ArgAction, Command};
@@ -103,7 +103,7 @@ fn plan_words<'a>(alloc: Global) -> Result<Command<'a>, AllocError>
 }
 
 // The subcommand with the path of a topology and, where they are given, those of a script and of a snapshot, the flag of
-// the application's actions and a number of configurations.
+// the application's actions, a number of configurations and the path of a file for the history.
 fn explore_words<'a>(alloc: Global) -> Result<Command<'a>, AllocError>
     ensures { IfOk result (IsCommand explore_command) }
 {
@@ -112,7 +112,8 @@ fn explore_words<'a>(alloc: Global) -> Result<Command<'a>, AllocError>
     let line = with_argument(line, script_word(alloc, EXPLORE_SCRIPT_HELP));
     let line = with_argument(line, from_word(alloc));
     let line = with_argument(line, flag_word(alloc, "acts", ACTS_HELP));
-    with_argument(line, most_word(alloc))
+    let line = with_argument(line, most_word(alloc));
+    with_argument(line, shown_history_word(alloc))
 }
 
 // The subcommand with the path of a topology and, where they are given, those of a snapshot and of a file for the
@@ -288,6 +289,13 @@ fn app_word<'a>(alloc: Global) -> Arg<'a>
     ensures { IsWord (optional (file_option (codes "app"))) result }
 {
     option_word(alloc, "app", "A", false, APP_HELP)
+}
+
+// The path of the file for the history that shows what was found.
+fn shown_history_word<'a>(alloc: Global) -> Arg<'a>
+    ensures { IsWord (optional (file_option (codes "history"))) result }
+{
+    option_word(alloc, "history", "FILE", false, SHOWN_HISTORY_HELP)
 }
 
 // The path of the file for the history, which has to be given.

@@ -126,12 +126,19 @@ event that is enabled there; `ends N`, in how many no event is enabled; `whole N
 no row of tree and wave fails; and `longest N`, how many steps the longest order has, and
 `completions A to B`, how many resets an order that ends completes. Where some order never ends, it
 prints `endless` in place of the last two. Where there are more configurations than N of --most, it
-prints `more than N configurations` alone, and the exit status is 2.",
+prints `more than N configurations` alone, and the exit status is 2.
+
+With --history a history that shows this is written to FILE, from the opening on: the entries of the
+script, and then those of a longest order, or of one that goes round. Then `endless` is printed as
+`endless from P to Q`: after P entries and after Q the configuration is the same. `verify`, `picture`
+and `page` accept FILE. It is written to FILE.part, which takes the place of FILE at the end: a run
+that stops, or that leaves no history, leaves FILE as it was.",
     after_help: "\
 The exit status is 0 where every order ends and every end is whole, and else 1.
 
 Example:
-  reset-service explore examples/every-order/topology.toml examples/every-order/script",
+  reset-service explore examples/every-order/topology.toml examples/every-order/script --history history
+  reset-service verify examples/every-order/topology.toml history",
 };
 
 pub const EXPLORE_SCRIPT_HELP: &str =
@@ -141,6 +148,10 @@ pub const ACTS_HELP: &str = "Explores the application's actions too";
 
 pub const MOST_HELP: &str =
     "How many configurations are visited at most, from 1 to 100000000; 1000000 where this is left out";
+
+pub const SHOWN_HISTORY_HELP: &str =
+    "The file that a history which shows the result is written to, \
+in place of what it has; it can't be an input";
 
 pub const SESSION_HELP: Help = Help {
     about: "Answers commands as they come, and keeps what happened in a file",

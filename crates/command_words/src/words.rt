@@ -186,8 +186,8 @@ fn plan_words_of<'a>(values: &ArgMatches<'a>) -> PlanWords<'a>
     }
 }
 
-// The words of matches that have a topology, and may have a script, a snapshot, the flag of the application's actions
-// and a number of configurations.
+// The words of matches that have a topology, and may have a script, a snapshot, the flag of the application's actions,
+// a number of configurations and a file for the history.
 fn explore_words_of<'a>(values: &ArgMatches<'a>) -> ExploreWords<'a>
     requires { HasExplore (rows_of (found_of values.now)) }
     ensures topology { first_of (codes "TOPOLOGY") (rows_of (found_of values.now)) ≡ Some result.topology.now }
@@ -197,18 +197,22 @@ fn explore_words_of<'a>(values: &ArgMatches<'a>) -> ExploreWords<'a>
     ensures acts { result.acts ≡ is_on (first_of (codes "acts") (rows_of (found_of values.now))) }
     ensures most { IsNumberOr 1000000 1 100000000 (first_of (codes "most") (rows_of (found_of values.now)))
         result.most }
+    ensures history { first_of (codes "history") (rows_of (found_of values.now))
+        ≡ option_map (λ history. history.now) result.history }
 {
     let topology = values.get_str("TOPOLOGY").unwrap();
     let script = values.get_str("SCRIPT");
     let from = values.get_str("from");
     let acts = values.get_flag("acts");
     let most = values.get_one::<u32>("most").unwrap_or(1_000_000);
+    let history = values.get_str("history");
     ExploreWords {
         topology,
         script,
         from,
         acts,
         most,
+        history,
     }
 }
 

@@ -12,4 +12,5 @@ pub mod Started
 pub mod Page
 pub mod Begun
 pub mod Explorations
+pub mod Shown
 pub mod Held

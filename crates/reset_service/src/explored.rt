@@ -169,7 +169,7 @@ fn answer_schedules<W: Write>(found: Schedules, out: &mut W) -> Result<Status, R
 }
 
 // The status of what was found: good where every order ends, and each end is whole.
-fn status_of(found: Schedules) -> Status
+pub fn status_of(found: Schedules) -> Status
     ensures { result ≡ status_of found }
 {
     match found.runs {
@@ -179,7 +179,7 @@ fn status_of(found: Schedules) -> Status
 }
 
 // Answers that there are more configurations than the limit.
-fn answer_too_many<W: Write>(most: u32, out: &mut W) -> Result<Status, RunStop>
+pub fn answer_too_many<W: Write>(most: u32, out: &mut W) -> Result<Status, RunStop>
     ensures leaves { Leaves (λ output. output ≡ (too_many_text most, Status.BadInput))
         (W.contents out.old) (W.contents out.new) result }
     ensures stop { IfErr result IsOutputStop }
@@ -200,6 +200,15 @@ fn put_schedules<W: Write>(out: &mut W, found: Schedules) -> Result<(), WriteFau
     ensures ok { OnOk result (Appends (W.contents out.old) (W.contents out.new) (schedules_text found)) }
     ensures err { OnErr result (AppendsPrefix (W.contents out.old) (W.contents out.new) (schedules_text found)) }
 {
+    put_found_counts(out, found)?;
+    put_runs(out, found.runs)
+}
+
+// Writes how many configurations, steps and ends there are, and how many of these are whole.
+pub fn put_found_counts<W: Write>(out: &mut W, found: Schedules) -> Result<(), WriteFault>
+    ensures ok { OnOk result (Appends (W.contents out.old) (W.contents out.new) (counts_text found)) }
+    ensures err { OnErr result (AppendsPrefix (W.contents out.old) (W.contents out.new) (counts_text found)) }
+{
     put_parts(
         out,
         &[
@@ -212,12 +221,11 @@ fn put_schedules<W: Write>(out: &mut W, found: Schedules) -> Result<(), WriteFau
             Part::Text(b"\nwhole "),
             Part::Number(found.whole as u64),
         ],
-    )?;
-    put_runs(out, found.runs)
+    )
 }
 
 // Writes how far the orders go.
-fn put_runs<W: Write>(out: &mut W, runs: Runs) -> Result<(), WriteFault>
+pub fn put_runs<W: Write>(out: &mut W, runs: Runs) -> Result<(), WriteFault>
     ensures ok { OnOk result (Appends (W.contents out.old) (W.contents out.new) (runs_text runs)) }
     ensures err { OnErr result (AppendsPrefix (W.contents out.old) (W.contents out.new) (runs_text runs)) }
 {

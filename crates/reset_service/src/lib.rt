@@ -19,6 +19,7 @@ mod planned;
 mod recorded;
 mod session;
 mod shaped;
+mod shown;
 mod started;
 mod tables;
 mod threaded;
@@ -48,6 +49,7 @@ pub use script_replay::{
 };
 pub use session::{Past, session_text};
 pub use shaped::write_shape;
+pub use shown::explore_history;
 pub use started::{MAX_SNAPSHOT, check_from, replay_from};
 pub use tables::print_tables;
 pub use threaded::{threads_from, threads_text};

@@ -25,9 +25,10 @@ use action_tables::put_bytes;
 use reset_service::{
     BufferedOutput, Drive, DriveWords, ExploreWords, Exploring, Job, LineFault, PageWords, Paths,
     PlanWords, RecordWords, RunStop, ShapeWords, Status, ThreadWords, check_from, check_text,
-    drive_from, drive_text, explain, explore_text, page_from, page_text, picture_from,
-    picture_text, plan_from, plan_text, print_tables, read_words, record_from, record_text, replay,
-    replay_from, replay_joined, threads_from, threads_text, verify_from, verify_text, write_shape,
+    drive_from, drive_text, explain, explore_history, explore_text, page_from, page_text,
+    picture_from, picture_text, plan_from, plan_text, print_tables, read_words, record_from,
+    record_text, replay, replay_from, replay_joined, threads_from, threads_text, verify_from,
+    verify_text, write_shape,
 };
 use std::env::Env;
 use std::io::{IsTerminal, Read, Write};
@@ -221,41 +222,52 @@ fn put_plan<R: AllocGlobal, S: Read, W: Write>(
 }
 
 // Where no script is given, the exploration is of what a run starts from.
-fn run_explore<R: Files + AllocGlobal, W: Write>(
+fn run_explore<R: Files + Eprint + AllocGlobal, W: Write>(
     rt: &R,
     words: ExploreWords<'_>,
     out: &mut W,
 ) -> Result<Status, RunStop> {
+    if let Some(path) = words.history {
+        let inputs = [Some(words.topology), words.script, words.from];
+        if let Some(fault) = history_fault(rt, path, &inputs) {
+            return Ok(refuse_history(rt, fault));
+        }
+    }
     let topology = read_file(rt, words.topology)?;
     let snapshot = read_snapshot(rt, words.from)?;
+    let snapshot = snapshot.as_deref();
+    match words.script {
+        Some(path) => put_explored(
+            rt,
+            words,
+            &topology,
+            snapshot,
+            &mut open_file(rt, path)?,
+            out,
+        ),
+        None => put_explored(rt, words, &topology, snapshot, &mut b"".as_slice(), out),
+    }
+}
+
+fn put_explored<R: Files + Eprint + AllocGlobal, S: Read, W: Write>(
+    rt: &R,
+    words: ExploreWords<'_>,
+    topology: &[u8],
+    snapshot: Option<&[u8]>,
+    script: &mut S,
+    out: &mut W,
+) -> Result<Status, RunStop> {
     let run = Exploring {
         acts: words.acts,
         most: words.most,
     };
-    match words.script {
-        Some(path) => {
-            let mut script = open_file(rt, path)?;
-            explore_text(
-                rt.alloc(),
-                &topology,
-                snapshot.as_deref(),
-                &mut script,
-                run,
-                out,
-            )
-        }
-        None => {
-            let mut script = b"".as_slice();
-            explore_text(
-                rt.alloc(),
-                &topology,
-                snapshot.as_deref(),
-                &mut script,
-                run,
-                out,
-            )
-        }
-    }
+    let Some(path) = words.history else {
+        return explore_text(rt.alloc(), topology, snapshot, script, run, out);
+    };
+    let mut kept = create_history(rt, path)?;
+    let history = &mut kept.file;
+    let ended = explore_history(rt.alloc(), topology, snapshot, script, run, history, out);
+    kept.end(rt, out, ended)
 }
 
 fn run_verify<R: Files + AllocGlobal, W: Write>(

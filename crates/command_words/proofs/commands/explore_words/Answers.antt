@@ -8,4 +8,5 @@ returns c =
     let two = c.with_argument-line-2.ensures _ _ one c.script_word.ensures in
     let three = c.with_argument-line-3.ensures _ _ two c.from_word.ensures in
     let four = c.with_argument-line-4.ensures _ _ three c.flag_word.ensures in
-    c.with_argument.ensures _ _ four c.most_word.ensures
+    let five = c.with_argument-line-5.ensures _ _ four c.most_word.ensures in
+    c.with_argument.ensures _ _ five c.shown_history_word.ensures

@@ -38,3 +38,7 @@ returns-clause-most c =
     (λ bs r. ParsesUnsigned 32 10 bs r × ExplainsUnsignedError 10 bs r × HasUnsignedDigitsIfOk bs r) (λ t x g. g.0)
     (codes "most") 1 100000000 (omega arith) (found_of c.args.values.now) c.get_one.result c.get_one.ensures.value 1000000
     c.get_one.ensures.none c.requires.2)
+
+pub returns-clause-history : goal.returns-clause-history
+returns-clause-history c =
+    sym (first_value-rows (found_of c.args.values.now) (codes "history")) ∙ sym c.get_str-history.ensures
