@@ -8,6 +8,7 @@ use Rattle.rand_pcg.specs.Lcg.{Lcg}
 use Rattle.rand_pcg.specs.Pcg.{pcg32}
 use Rattle.action_tables.specs.Modulus.{IsModulus}
 use Rattle.app_interface.specs.Application.{App}
+use Rattle.topology.specs.Graph.{IsGraph}
 use Rattle.reset_model.specs.declared.event.Event.{Event}
 use Rattle.reset_model.specs.declared.step.Reply.{Reply}
 use Rattle.reset_model.specs.declared.step.Reply.TheVariants.{Applied, Complete}
