@@ -1,5 +1,5 @@
 -- What steps alone made of a book is one undisturbed stretch of its entries.
-use Rattle.std.proofs.Common.{◌≡◌, ◌∙◌, ℕ, true, List, [], ◌∷◌, ◌++◌, append-nil, length, drop, take, Option, Some, None, subst}
+use Rattle.std.proofs.Common.{◌≡◌, ◌∙◌, ℕ, true, List, [], ◌∷◌, ◌++◌, append-nil, length, drop, Option, Some, None, subst}
 use Rattle.std.proofs.Common.{ap, ap₂, refl, sym}
 use Rattle.std.proofs.lemmas.List.{take-append-drop}
 use Rattle.std.specs.List.{list_all}
