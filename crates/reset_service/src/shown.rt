@@ -28,7 +28,7 @@ use app_interface::{Application, Idle};
 use app_mutex::EdgeReversal;
 use app_routes::Routes;
 use app_token::Token;
-use history::{MAX_ENTRIES, read_book};
+use history::{MAX_ENTRIES, one_reading_a_text, read_book};
 use reset_machine::{Config, Event, write_event};
 use schedules::{ExploreFault, Runs, Schedules, Witness, explore_witnessed};
 use script_replay::{
@@ -243,9 +243,10 @@ fn entry_count(alloc: Global, text: &[u8]) -> Result<usize, AllocError>
     ensures { IfOk result (λ count. (m : ℕ) (entries : List Entry) → IsReadAs text.now (Ok (m, entries))
         → count ≡ length entries) }
 {
+    one_reading_a_text();
     let mut reader = text;
     match read_book(alloc, &mut reader) {
-        Ok(book) => Ok(book.entries.len()),
+        Ok(book) => Ok(book.entries.as_slice().len()),
         Err(_) => Err(AllocError),
     }
 }

@@ -1,9 +1,11 @@
-use Rattle.std.proofs.Common.{◌≡◌, ◌<◌, ◌≤◌, ◌∙◌, [], None, Some, length, refl, rules, subst, sym}
-use Rattle.script_replay.specs.Left.{bad_line_of}
+use Rattle.std.proofs.Common.{◌≡◌, ap, ℕ, List, ◌<◌, ◌≤◌, ◌∙◌, [], None, Some, length, refl, rules, subst, sym}
+use Rattle.reset_model.specs.Configuration.{Configuration}
+use Rattle.script_replay.specs.Left.{bad_line_of, left_by}
 use Rattle.script_replay.specs.Lines.{lines_of}
 use Rattle.script_replay.specs.Meaning.{meaning_of}
 use Rattle.script_replay.specs.Output.{bad_line_text, too_long_text}
 use Rattle.script_replay.specs.Recorded.{entries_of_lines}
+use Rattle.script_replay.specs.declared.status.Status.{Status}
 use Rattle.script_replay.specs.declared.status.Status.TheVariants.{BadInput}
 use Rattle.script_replay.proofs.LeftRecords.{record_alone, record_weaker}
 use Rattle.reset_service.specs.Shown.{IsFoundBy, IsShown}
@@ -27,10 +29,13 @@ returns-in-Ok-None g c =
     let opening = c.args.opening.now in
     let short : length script ≤ 1048576 = search rules in
     let good : bad_line_of m.names script ≡ None = sym c.in-Ok-None.ensures.bad ∙ c.in-Ok-None.field-0-is in
-    let Left = λ left h o. IsFoundBy m c.args.run opening.modulus (entries_of_lines m opening 1 (lines_of script)) left h o in
+    let after : c.leave_script.new.config ≡ left_by m opening script =
+    c.in-Ok-None.ensures.left ∙ ap (λ d. left_by m d script) c.in_ok-left.ensures in
+    let Left : Configuration g.row.P-Local.Denot → List ℕ → List ℕ × Status → Type 0 =
+    λ left h o. IsFoundBy m c.args.run opening.modulus (entries_of_lines m opening 1 (lines_of script)) left h o in
     record_weaker (λ h o. Left c.leave_script.new.config h o × (o.1 ≡ BadInput → h ≡ []))
     (λ h o. IsShown m c.args.run opening script h o × (o.1 ≡ BadInput → h ≡ [])) _ _ _ _ c.show_here.result
-    (λ h o is. (explored short good (subst (λ left. Left left h o) c.in-Ok-None.ensures.left is.0), is.1))
+    (λ h o is. (explored short good (subst (λ left. Left left h o) after is.0), is.1))
     c.show_here.ensures
 
 pub returns-in-Ok-Some : goal.returns-in-Ok-Some
