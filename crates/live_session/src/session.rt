@@ -331,8 +331,9 @@ impl<P: Application> Session<P> {
         Ok(())
     }
 
-    // The same where its history has this room.
-    #[inline(always)]
+    // The same where its history has this room. A function of its own, so that a session without a history has all that it
+    // needs in its loop.
+    #[inline(never)]
     fn take_kept(
         &mut self,
         alloc: Global,
