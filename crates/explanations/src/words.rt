@@ -1,6 +1,6 @@
 // What the other words mean that the program prints and reads, and what to do: words, each with its text.
 
-pub const WORDS: [(&str, &str); 59] = [
+pub const WORDS: [(&str, &str); 71] = [
     // Answers to commands.
     (
         "bad",
@@ -37,7 +37,7 @@ The command was allowed, and was done.\n",
         "\
 The reset with this session number is complete: every node that links lead to from the one that\n\
 finished has joined its session. After a fault that is sure again of resets that open where\n\
-`check` tells no row of tree or wave.\n",
+`check` prints no row of tree or wave.\n",
     ),
     (
         "refused",
@@ -249,7 +249,75 @@ a subcommand.\n",
         "\
 `exit`: ends the session, as the end of the input does. Scripts don't have it.\n",
     ),
+    // Explorations and plans.
+    (
+        "configurations",
+        "\
+`configurations N`: how many configurations are reached by some order of the enabled events, the\n\
+first one among them. `more than N configurations` stands alone where `--most` is too small.\n",
+    ),
+    (
+        "steps",
+        "\
+`steps N`: how many pairs there are of a configuration that is reached and an event that is enabled\n\
+there. In a plan `# S steps of a reset` comes before the commands of a reset.\n",
+    ),
+    (
+        "ends",
+        "\
+`ends N`: in how many of the configurations no event is enabled.\n",
+    ),
+    (
+        "whole",
+        "\
+`whole N`: in how many of the ends no row of the tree or of the wave fails. Where there are more ends\n\
+than these, some order of the events leaves a network that needs repair.\n",
+    ),
+    (
+        "longest",
+        "\
+`longest N`: every order ends, and the longest one has N steps.\n",
+    ),
+    (
+        "completions",
+        "\
+`completions A to B`: how many resets an order that ends completes, at least A and at most B.\n",
+    ),
+    (
+        "endless",
+        "\
+`endless`: some order never ends. `endless from P to Q`: it is in the history, and the configuration\n\
+after P entries is the one after Q. `plan` writes repairs that end.\n",
+    ),
+    (
+        "repairs",
+        "\
+`# R repairs`: what a plan does before the reset, by `claim`, `follow`, `adopt` and `mend`. To repair\n\
+what `check` prints first, again and again, may never end.\n",
+    ),
     // Registers, phases and families of faults.
+    (
+        "root",
+        "\
+The first of the tree registers: the node that this one takes for its leader. In a sound network it is\n\
+the greatest node that links lead to.\n",
+    ),
+    (
+        "father",
+        "\
+The second of the tree registers: the next node on the way to the root, or the node itself.\n",
+    ),
+    (
+        "distance",
+        "\
+The third of the tree registers: how many links the root is off.\n",
+    ),
+    (
+        "K",
+        "\
+The number of all nodes of the topology, those that are down included. A distance of K or more is too\n\
+far to be true.\n",
+    ),
     (
         "normal",
         "\
