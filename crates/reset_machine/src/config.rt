@@ -1,12 +1,12 @@
-// Configurations, and what they tell.
+// Configurations, and what they do.
 
 mod puts;
+mod registers;
 
-ghost use Rattle.std.specs.Prelude.{◌≡◌, ◌≢◌, ◌↔◌, IsTrue, ℕ, ◌<◌, true, ◌==◌, position, Some, IfOk, IfErr, IfSome, false};
+ghost use Rattle.std.specs.Prelude.{◌≡◌, ◌≢◌, ◌↔◌, IsTrue, ◌<◌, true, ◌==◌, position, Some, IfOk, IfErr, IfSome, false};
 ghost use Rattle.std.specs.Prelude.{length, slice_index, ◌∷◌, []};
 ghost use Rattle.std.specs.Prelude.{IfNone, OnOk, OnErr, MatchResult, Ok, Err};
-ghost use Rattle.topology.specs.Components.{leader};
-ghost use Rattle.topology.specs.Graph.{IsGraph, IsNode, node_bound};
+ghost use Rattle.topology.specs.Graph.{IsGraph, IsNode};
 ghost use Rattle.reset_model.specs.Configuration.{IsShaped};
 ghost use Rattle.reset_model.specs.Outcome.{after_fired, fired_reply};
 ghost use Rattle.reset_model.specs.declared.plan.Fired.TheVariants.{Wave};
@@ -62,7 +62,7 @@ impl<P: Application> Model for Config<P> {
 }
 
 impl<P: Application> Config<P> {
-    ghost use Rattle.reset_model.specs.Configuration.{local_of, tree_of, wave_of};
+    ghost use Rattle.reset_model.specs.Configuration.{tree_of, wave_of};
     ghost use Rattle.reset_model.specs.Configuration.{with_local, with_tree};
     ghost use Rattle.reset_machine.specs.Commands.{IsFired};
     ghost use Rattle.reset_machine.specs.Enabled.{enabled_rows, ready_of};
@@ -75,7 +75,7 @@ impl<P: Application> Config<P> {
     ghost use Rattle.reset_model.specs.Sound.{IsSound};
     ghost use Rattle.reset_model.specs.Completion.{applied};
     ghost use Rattle.reset_model.specs.BySteps.{IsBySteps};
-    ghost use Rattle.reset_model.specs.WavePicture.{HasJoined, WavePicture};
+    ghost use Rattle.reset_model.specs.WavePicture.{WavePicture};
     ghost use Rattle.tree_layer.specs.TreePicture.{TreePicture};
 
     /// The configuration in which each node has its place in the tree of shortest ways to the
@@ -308,8 +308,8 @@ impl<P: Application> Config<P> {
         self.nodes.lemma_is_graph();
     }
 
-    /// Does what the events say, in turn, and tells what came of each. A refused event changes nothing,
-    /// and the next one follows it. Where there is no memory to tell it nothing is done.
+    /// Does what the events say, in turn, and returns what came of each. A refused event changes nothing,
+    /// and the next one follows it. Where there is no memory for that nothing is done.
     pub fn run(&mut self, alloc: Global, events: &[Event]) -> Result<Vec<Done>, AllocError>
         ensures ok { IfOk result (λ done. IsRun P.app self.old events.now done.items self.new) }
         ensures kept { OnErr result (self.new ≡ self.old) }
@@ -337,7 +337,7 @@ impl<P: Application> Config<P> {
         Ok(done)
     }
 
-    // Does what the event says, and tells what came of it.
+    // Does what the event says, and returns what came of it.
     fn attempt(&mut self, alloc: Global, event: Event) -> Done
         ensures done { IsDone P.app self.old event result self.new }
         ensures sound { IsSound self.old → IsSound self.new }
@@ -453,122 +453,5 @@ impl<P: Application> Config<P> {
         settle_all(alloc, &self.nodes, known)?;
         known.lemma_is_standing();
         ready_ids(alloc, self.nodes.topology(), known.ready())
-    }
-
-    /// The topology.
-    pub fn topology(&self) -> &Topology
-        ensures { result.now ≡ self.now.graph }
-    {
-        self.nodes.topology()
-    }
-
-    /// The number modulo which sessions are counted. A configuration keeps the one that it was booted with.
-    pub fn modulus(&self) -> Modulus
-        ensures { result ≡ self.now.modulus }
-    {
-        self.nodes.modulus()
-    }
-
-    /// The tree registers of all identifiers, in their order; of one that is down those that it had.
-    pub fn trees(&self) -> &[TreeRegs]
-        ensures value { result.now ≡ self.now.trees }
-        ensures shaped { IsShaped self.now }
-    {
-        self.nodes.trees()
-    }
-
-    /// The wave registers of all identifiers, in their order; of one that is down those that it had.
-    pub fn waves(&self) -> &[WaveRegs]
-        ensures value { result.now ≡ self.now.waves }
-        ensures shaped { IsShaped self.now }
-    {
-        self.nodes.waves()
-    }
-
-    /// The local states of all identifiers, in their order; of one that is down the one that it had.
-    pub fn locals(&self) -> &[P::Local]
-        ensures value { result.now ≡ self.now.locals }
-        ensures shaped { IsShaped self.now }
-    {
-        self.nodes.locals()
-    }
-
-    /// The tree registers of the node with this identifier. None where there is no such node.
-    pub fn tree_at(&self, id: u32) -> Option<TreeRegs>
-        ensures found { IfSome result (λ regs. IsNode self.now.graph id × (regs ≡ tree_of self.now id)) }
-        ensures none { IfNone result (IsNode self.now.graph id → ⊥) }
-    {
-        self.nodes.lemma_is_graph();
-        let trees = self.nodes.trees();
-        match self.nodes.topology().node_at(id) {
-            Some(ix) => Some(trees[ix]),
-            None => None,
-        }
-    }
-
-    /// The wave registers of the node with this identifier. None where there is no such node.
-    pub fn wave_at(&self, id: u32) -> Option<WaveRegs>
-        ensures found { IfSome result (λ regs. IsNode self.now.graph id × (regs ≡ wave_of self.now id)) }
-        ensures none { IfNone result (IsNode self.now.graph id → ⊥) }
-    {
-        self.nodes.lemma_is_graph();
-        let waves = self.nodes.waves();
-        match self.nodes.topology().node_at(id) {
-            Some(ix) => Some(waves[ix]),
-            None => None,
-        }
-    }
-
-    /// The local state of the node with this identifier. None where there is no such node.
-    pub fn local_at(&self, id: u32) -> Option<&P::Local>
-        ensures found { IfSome result (λ local. IsNode self.now.graph id × (local.now ≡ local_of P.app self.now id)) }
-        ensures none { IfNone result (IsNode self.now.graph id → ⊥) }
-    {
-        self.nodes.lemma_is_graph();
-        let locals = self.nodes.locals();
-        match self.nodes.topology().node_at(id) {
-            Some(ix) => Some(&locals[ix]),
-            None => None,
-        }
-    }
-
-    /// The local state of the node with this identifier, where it has joined the newest session of its
-    /// component. None elsewhere, and where there is no such node.
-    pub fn newest_local(&self, id: u32) -> Option<&P::Local>
-        ensures found { IfSome result
-            (λ local. IsNode self.now.graph id × HasJoined self.now.graph (wave_of self.now) id
-            × (local.now ≡ local_of P.app self.now id)) }
-        ensures none { IfNone result (IsNode self.now.graph id → HasJoined self.now.graph (wave_of self.now) id → ⊥) }
-    {
-        let regs = self.wave_at(id)?;
-        let newest = self.newest_session(id)?;
-        if regs.session == newest {
-            self.local_at(id)
-        } else {
-            None
-        }
-    }
-
-    /// The newest session of the component of the node with this identifier: that of its leader. None where
-    /// there is no such node.
-    pub fn newest_session(&self, id: u32) -> Option<u32>
-        ensures found { IfSome result (λ session. IsNode self.now.graph id
-            × (session ≡ (wave_of self.now (leader self.now.graph id)).session)) }
-        ensures none { IfNone result (IsNode self.now.graph id → ⊥) }
-    {
-        self.nodes.lemma_is_graph();
-        let topology = self.nodes.topology();
-        match topology.node_at(id) {
-            Some(index) => Some(self.session_at(topology.greatest_of(index).get())),
-            None => None,
-        }
-    }
-
-    // The session of a node.
-    fn session_at(&self, id: u32) -> u32
-        requires { IsNode self.now.graph id }
-        ensures { result ≡ (wave_of self.now id).session }
-    {
-        self.wave_at(id).unwrap().session
     }
 }
