@@ -29,6 +29,7 @@ pub mod AbstractInvariants
 pub mod JoinCounts
 pub mod Headlines
 pub mod GoingOn
+pub mod Sums
 pub mod Measures
 pub mod Answering
 pub mod WavesEnding
