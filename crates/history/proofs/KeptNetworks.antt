@@ -1,18 +1,18 @@
 -- Entries leave a network where there was one: a graph, whose nodes have their registers and local states.
-use Rattle.std.proofs.Common.{◌≡◌, ◌≢◌, ℕ, ◌==◌, ◌&&◌, ◌||◌, not, Bool, true, false, cond, List, [], ◌∷◌}
+use Rattle.std.proofs.Common.{◌≡◌, ◌≢◌, ℕ, ◌==◌, ◌&&◌, ◌||◌, not, false, List, [], ◌∷◌}
 use Rattle.std.proofs.Common.{Option, Some, None, Result, Ok, Err, ◌⊎◌, inl, inr, ⊎_elim}
 use Rattle.std.proofs.Common.{refl, sym, ap₂, subst, ◌∙◌}
-use Rattle.std.specs.List.{AllByRecursion}
 use Rattle.std.specs.Option.{option_and_then}
-use Rattle.std.proofs.lemmas.Bool.{and_parts, both_ways, eq-eqb, or_cases}
+use Rattle.std.proofs.lemmas.Bool.{and_parts, both_ways, eq-eqb, not-false, or_cases}
 use Rattle.app_interface.specs.Application.{App}
 use Rattle.topology.specs.Building.{joins}
-use Rattle.topology.specs.Changing.{Reason, first_of, with_link, with_node, without_link, without_node}
+use Rattle.topology.specs.Changing.{first_of, with_link, with_node, without_link, without_node}
 use Rattle.topology.specs.Graph.{AreLinked, Graph, IsGraph, IsNode, are_linked, is_node}
 use Rattle.topology.proofs.Changed.{has_fewer, has_more}
 use Rattle.topology.proofs.Inserting.{joins_back, joins_ends}
 use Rattle.topology.proofs.Membership.{Contains-has}
 use Rattle.topology.proofs.NodeChanges.{graph_with, graph_without}
+use Rattle.topology.proofs.Reasons.{none_holds}
 use Rattle.reset_model.specs.Configuration.{Configuration, IsShaped}
 use Rattle.reset_model.specs.Planned.{Outcome, outcome_of}
 use Rattle.reset_model.specs.Topologies.{with_topology}
@@ -91,21 +91,6 @@ module _ (g : Graph) (a b : ℕ) where
 -- ---- faults
 
 -- where the first reason that holds is none, none of them holds
-none_holds : {F : Type 0} (reasons : List (Reason F)) → first_of reasons ≡ None
-    → AllByRecursion (λ reason. reason.holds ≡ false) reasons
-none_holds [] none = tt
-none_holds {F} (reason ∷ reasons) none = by_test (none_holds reasons) reason.holds none
-  where
-    by_test : (first_of reasons ≡ None → AllByRecursion (λ reason. reason.holds ≡ false) reasons) → (b : Bool)
-        → cond b (Some reason.told) (first_of reasons) ≡ None
-        → (b ≡ false) × AllByRecursion (λ reason. reason.holds ≡ false) reasons
-    by_test more true is = absurd (cc)
-    by_test more false is = (refl, more is)
-
-not_false : (b : Bool) → not b ≡ false → b ≡ true
-not_false true e = refl
-not_false false e = sym e
-
 module _ {L : Type 0} (app : App L) (from_text : List ℕ → Option L) (c : Configuration L) (network : IsNetwork c) where
   abbrev graph : IsGraph c.graph
   graph = network.graph
@@ -130,7 +115,7 @@ module _ {L : Type 0} (app : App L) (from_text : List ℕ → Option L) (c : Con
   other_graph g same are = record { graph = are; shaped = shaped-with_topology app c g same shaped }
 
   is_there : (i : ℕ) → not (is_node c.graph i) ≡ false → IsNode c.graph i
-  is_there i e = Contains-has c.graph.nodes i (not_false (is_node c.graph i) e)
+  is_there i e = Contains-has c.graph.nodes i (not-false (is_node c.graph i) e)
 
   damaged_network : (f : Fault) → first_of (refusals from_text c f) ≡ None → IsNetwork (damaged app from_text c f)
   damaged_network (SetTree at regs) none = record {

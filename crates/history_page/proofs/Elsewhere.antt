@@ -1,17 +1,20 @@
 -- An entry changes what fails at the nodes alone that it concerns.
 use Rattle.std.proofs.Common.{◌≡◌, ◌≢◌, ℕ, ◌==◌, Bool, true, false, not, ◌&&◌, ◌||◌, cond, List, [], ◌∷◌, ◌++◌, filter}
-use Rattle.std.proofs.Common.{map, length, Contains, Option, Some, None, Result, Ok, Err, refl, sym, ap, ap₂, subst, ◌∙◌}
-use Rattle.std.specs.List.{AllByRecursion, flat_map}
-use Rattle.std.proofs.lemmas.Bool.{eq-eqb, eqb-true, false≢true, ne_eqb}
+use Rattle.std.proofs.Common.{map, length, Contains, Option, Some, None, Result, Ok, Err, refl, sym, ap, ap₂, subst}
+use Rattle.std.proofs.Common.{◌∙◌}
+use Rattle.std.specs.List.{flat_map}
+use Rattle.std.proofs.Math.Bool.{and-false, and-true, or-false}
+use Rattle.std.proofs.lemmas.Bool.{eq-eqb, eqb-true, false≢true, ne_eqb, not-false, or_parts}
 use Rattle.std.proofs.lemmas.List.Elements.{filter_agree}
 use Rattle.action_tables.specs.Table.{enabled_of}
 use Rattle.app_interface.specs.Application.{App}
 use Rattle.topology.specs.Building.{joins}
-use Rattle.topology.specs.Changing.{Reason, first_of, with_link, with_node, without_link, without_node}
+use Rattle.topology.specs.Changing.{first_of, with_link, with_node, without_link, without_node}
 use Rattle.topology.specs.Graph.{Graph, IsGraph, are_linked, has, is_node, neighbours_of, node_bound}
 use Rattle.topology.proofs.Changed.{has_fewer, has_more}
 use Rattle.topology.proofs.Membership.{Contains-has, has-Contains, has-filter}
 use Rattle.topology.proofs.NodeChanges.{linked_left, node_joined, node_left}
+use Rattle.topology.proofs.Reasons.{none_holds}
 use Rattle.tree_layer.specs.TreeRows.{claimed}
 use Rattle.tree_layer.specs.TreeTable as tree
 use Rattle.tree_layer.specs.TreeTable.{tree_table}
@@ -45,28 +48,6 @@ use Rattle.history.specs.Entries.{entered, left_by_fault, left_by_step}
 use Rattle.history_page.specs.Entries.{concerned}
 use Rattle.history_page.specs.Failing.{failing}
 
--- ---- tests
-
-and_nothing : (b : Bool) → (b && false) ≡ false
-and_nothing true = refl
-and_nothing false = refl
-
-and_all : (b : Bool) → (b && true) ≡ b
-and_all true = refl
-and_all false = refl
-
-or_nothing : (b : Bool) → (b || false) ≡ b
-or_nothing true = refl
-or_nothing false = refl
-
-or_none : (s t : Bool) → (s || t) ≡ false → (s ≡ false) × (t ≡ false)
-or_none true t e = absurd (false≢true (sym e))
-or_none false t e = (refl, e)
-
-not_false : (b : Bool) → not b ≡ false → b ≡ true
-not_false true e = refl
-not_false false e = sym e
-
 -- ---- lists
 
 has_append : (xs ys : List ℕ) (x : ℕ) → has (xs ++ ys) x ≡ (has xs x || has ys x)
@@ -78,17 +59,6 @@ has_append (z ∷ zs) ys x = ap (λ b. (z == x) || b) (has_append zs ys x) ∙ g
     grouped false t u = refl
 
 -- where the first reason that holds is none, none of them holds
-none_holds : {F : Type 0} (reasons : List (Reason F)) → first_of reasons ≡ None
-    → AllByRecursion (λ reason. reason.holds ≡ false) reasons
-none_holds [] none = tt
-none_holds {F} (reason ∷ reasons) none = by_test (none_holds reasons) reason.holds none
-  where
-    by_test : (first_of reasons ≡ None → AllByRecursion (λ reason. reason.holds ≡ false) reasons) → (b : Bool)
-        → cond b (Some reason.told) (first_of reasons) ≡ None
-        → (b ≡ false) × AllByRecursion (λ reason. reason.holds ≡ false) reasons
-    by_test more true is = absurd (cc)
-    by_test more false is = (refl, more is)
-
 -- two maps that agree where the test passes make the same of what passes
 map_agree : {X : Type 0} (f f' : ℕ → X) (p : ℕ → Bool) (xs : List ℕ) → ((k : ℕ) → p k ≡ true → f k ≡ f' k)
     → map f (filter p xs) ≡ map f' (filter p xs)
@@ -226,7 +196,7 @@ module _ {L : Type 0} (app : App L) where
       near_stays k up =
           let there : Contains c.graph.ids k = graph.within k (Contains-has c.graph.nodes k up) in
           let kept : comes_up c.graph g k ≡ false =
-          ap (λ b. is_node g k && not b) up ∙ and_nothing (is_node g k) in
+          ap (λ b. is_node g k && not b) up ∙ and-false (is_node g k) in
           same_neighbour k k _ _ _ _ _ _ refl
           (tree_there app c g same shaped k there ∙ ap (λ b. cond b (claimed k) (tree_of c k)) kept)
           (wave_there app c g same shaped k there
@@ -249,19 +219,19 @@ module _ {L : Type 0} (app : App L) where
 
     module _ (a b j : ℕ) (away : (a == j) ≡ false) (apart : (b == j) ≡ false) where
       unjoined : (k : ℕ) → joins j k (a, b) ≡ false
-      unjoined k = ap₂ (λ s t. (s && (b == k)) || ((a == k) && t)) away apart ∙ and_nothing (a == k)
+      unjoined k = ap₂ (λ s t. (s && (b == k)) || ((a == k) && t)) away apart ∙ and-false (a == k)
 
       pub down_elsewhere : failing app (with_topology app c (without_link c.graph a b)) j ≡ failing app c j
       down_elsewhere =
           graph_elsewhere (without_link c.graph a b) refl j refl
           (λ k. has_fewer c.graph.links a b (j, k) ∙ ap (λ t. are_linked c.graph j k && not t) (unjoined k)
-          ∙ and_all (are_linked c.graph j k))
+          ∙ and-true (are_linked c.graph j k))
 
       pub up_elsewhere : failing app (with_topology app c (with_link c.graph a b)) j ≡ failing app c j
       up_elsewhere =
           graph_elsewhere (with_link c.graph a b) refl j refl
           (λ k. has_more c.graph.links a b (j, k) ∙ ap (λ t. are_linked c.graph j k || t) (unjoined k)
-          ∙ or_nothing (are_linked c.graph j k))
+          ∙ or-false (are_linked c.graph j k))
 
     module _ (i j : ℕ) (other : (j == i) ≡ false) where
       pub off_elsewhere : are_linked c.graph j i ≡ false
@@ -276,8 +246,8 @@ module _ {L : Type 0} (app : App L) where
           at : (k : ℕ) (b : Bool) → (k == i) ≡ b → (are_linked c.graph j k && not b) ≡ are_linked c.graph j k
           at k true is =
               let linked : are_linked c.graph j k ≡ false = ap (are_linked c.graph j) (eqb-true k i is) ∙ stranger in
-              and_nothing (are_linked c.graph j k) ∙ sym linked
-          at k false is = and_all (are_linked c.graph j k)
+              and-false (are_linked c.graph j k) ∙ sym linked
+          at k false is = and-true (are_linked c.graph j k)
 
       pub on_elsewhere : failing app (with_topology app c (with_node c.graph i)) j ≡ failing app c j
       on_elsewhere =
@@ -310,8 +280,8 @@ module _ {L : Type 0} (app : App L) where
 
       elsewhere : (i : ℕ) (new : List ℕ) → has (i ∷ (neighbours_of c.graph i ++ new)) j ≡ false → IsElsewhere i new
       elsewhere i new e =
-          let first = or_none (i == j) (has (neighbours_of c.graph i ++ new) j) e in
-          let rest = or_none (has (neighbours_of c.graph i) j) (has new j)
+          let first = or_parts (i == j) (has (neighbours_of c.graph i ++ new) j) e in
+          let rest = or_parts (has (neighbours_of c.graph i) j) (has new j)
           (sym (has_append (neighbours_of c.graph i) new j) ∙ first.1) in
           record { node = first.0; linked = sym (among_linked i) ∙ rest.0; none = rest.1 }
 
@@ -343,12 +313,12 @@ module _ {L : Type 0} (app : App L) where
       damaged_elsewhere (LinkDown a b) none e =
           let away = elsewhere a [] e in
           let linked : are_linked c.graph a b ≡ true =
-          not_false (are_linked c.graph a b) (none_holds (refusals from_text c (LinkDown a b)) none).1.1.0 in
+          not-false (are_linked c.graph a b) (none_holds (refusals from_text c (LinkDown a b)) none).1.1.0 in
           let apart : b ≢ j = λ same. false≢true (sym away.linked ∙ ap (are_linked c.graph a) (sym same) ∙ linked) in
           down_elsewhere c graph shaped a b j away.node (ne_eqb b j apart)
       damaged_elsewhere (LinkUp a b) none e =
           let away = elsewhere a (b ∷ []) e in
-          up_elsewhere c graph shaped a b j away.node (or_none (b == j) false away.none).0
+          up_elsewhere c graph shaped a b j away.node (or_parts (b == j) false away.none).0
       damaged_elsewhere (NodeDown at) none e =
           let away = elsewhere at [] e in
           off_elsewhere c graph shaped at j (other_test at [] away) (stranger at [] away)

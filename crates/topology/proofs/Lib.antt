@@ -13,6 +13,8 @@ pub mod Reaching
 pub mod Assembling
 pub mod Counting
 pub mod Changed
+pub mod LentRows
+pub mod Reasons
 pub mod Isolating
 pub mod NodeChanges
 pub mod Membership

@@ -1,6 +1,6 @@
 -- What two lists describe is one: one graph, or one first fault.
 use Rattle.std.proofs.Common.{◌≡◌, ℕ, zero, suc, ◌+◌, ◌<◌, ◌⊎◌, List, [], ◌∷◌, ◌++◌, length, get_or, take, drop}
-use Rattle.std.proofs.Common.{Bool, true, ◌&&◌, filter, Contains, refl, sym, ap, ap₂, subst, ◌∙◌, arith, inl, inr, ⊎_elim, length-append}
+use Rattle.std.proofs.Common.{true, ◌&&◌, filter, Contains, refl, sym, ap, ap₂, subst, ◌∙◌, arith, inl, inr, ⊎_elim, length-append}
 use Rattle.std.specs.List.Sorted.{IsStrictlyIncreasing}
 use Rattle.std.specs.FinSet as set
 use Rattle.std.specs.Cmp.{both_ways as same_tests}

@@ -3,7 +3,8 @@ use Rattle.std.specs.Vec.{with_items}
 use Rattle.topology.specs.Changing.{without_link}
 use Rattle.topology.specs.Graph.{are_linked}
 use Rattle.topology.specs.Rows.{graph_of}
-use Rattle.topology.proofs.Changed.{Made, lent_rows, some_link, without_link_made}
+use Rattle.topology.proofs.Changed.{Made}
+use Rattle.topology.proofs.LentRows.{lent_rows, some_link, without_link_made}
 use Rattle.topology.proofs.Inserting.{rows_of}
 use Rattle.topology.proofs.topology.Topology.without_link.Goals as goal
 use Rattle.topology.proofs.topology.Topology.without_link.Goals.{In_ok-copy}

@@ -3,7 +3,8 @@ use Rattle.std.specs.Vec.{with_items}
 use Rattle.topology.specs.Changing.{without_node}
 use Rattle.topology.specs.Graph.{is_node, node_at}
 use Rattle.topology.specs.Rows.{graph_of}
-use Rattle.topology.proofs.Changed.{Made, lent_rows, row_links, searched_rows, without_node_made}
+use Rattle.topology.proofs.Changed.{Made}
+use Rattle.topology.proofs.LentRows.{lent_rows, row_links, searched_rows, without_node_made}
 use Rattle.topology.proofs.Inserting.{rows_of}
 use Rattle.topology.proofs.RowLemmas.{index_found, no_node_index}
 use Rattle.topology.proofs.topology.Topology.without_node.Goals as goal
