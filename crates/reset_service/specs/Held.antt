@@ -39,6 +39,10 @@ pub record SessionRun : Type 0 where
   pub out' : Option (List ℕ)
   pub ended : Result Status RunStop
 
+abbrev pub session_run : (known log log' out out' : Option (List ℕ)) → Result Status RunStop → SessionRun
+session_run known log log' out out' ended =
+    record { known = known; log = log; log' = log'; out = out; out' = out'; ended = ended }
+
 -- ---- from a configuration on
 
 -- one without a history: all lines were answered, or it was cut short

@@ -5,7 +5,7 @@ ghost use Rattle.script_replay.specs.Meaning.{meaning_of};
 ghost use Rattle.script_replay.specs.Output.{Leaves};
 ghost use Rattle.topology.specs.TopologyText.{IsReadFault};
 ghost use Rattle.reset_service.specs.Held.{HoldsFrom, HoldsKept, HoldsNew, HoldsOf, HoldsOn, HoldsText, HoldsUnkept};
-ghost use Rattle.reset_service.specs.Held.{IsPastOutput, status_of};
+ghost use Rattle.reset_service.specs.Held.{IsPastOutput, session_run, status_of};
 
 use crate::started::{refuse_start, start};
 use crate::verified::{refuse_entry, refuse_history, refuse_modulus};
@@ -44,14 +44,9 @@ pub fn session_text<F: Read + Drop, R: Read, H: Write, W: Write>(
     log: &mut H,
     out: &mut W,
 ) -> Result<Status, RunStop>
-    ensures holds { HoldsText topology.now (HoldsOf F.remaining past (option_map (λ text. text.now) snapshot.entry)) (record {
-      known = R.remaining input.old;
-      log = H.contents log.old;
-      log' = H.contents log.new;
-      out = W.contents out.old;
-      out' = W.contents out.new;
-      ended = result;
-    }) }
+    ensures holds { HoldsText topology.now (HoldsOf F.remaining past (option_map (λ text. text.now) snapshot.entry))
+        (session_run (R.remaining input.old) (H.contents log.old) (H.contents log.new) (W.contents out.old)
+        (W.contents out.new) result) }
     ensures untouched { (f : ReadFault) → IsReadFault topology.now f → input.new ≡ input.old }
 {
     match read_network(alloc, topology) {
@@ -71,14 +66,9 @@ fn session_app<F: Read + Drop, R: Read, H: Write, W: Write>(
     out: &mut W,
 ) -> Result<Status, RunStop>
     requires { network.topology.nodes ≡ network.topology.ids }
-    ensures { HoldsOf F.remaining past (option_map (λ text. text.now) snapshot.entry) network.app network.topology network.modulus (record {
-      known = R.remaining input.old;
-      log = H.contents log.old;
-      log' = H.contents log.new;
-      out = W.contents out.old;
-      out' = W.contents out.new;
-      ended = result;
-    }) }
+    ensures { HoldsOf F.remaining past (option_map (λ text. text.now) snapshot.entry) network.app network.topology network.modulus
+        (session_run (R.remaining input.old) (H.contents log.old) (H.contents log.new) (W.contents out.old)
+        (W.contents out.new) result) }
 {
     match network.app {
         AppName::Idle => {
@@ -107,14 +97,9 @@ fn session_on<P: Application, F: Read + Drop, R: Read, H: Write, W: Write>(
 ) -> Result<Status, RunStop>
     requires { network.topology.nodes ≡ network.topology.ids }
     ensures { HoldsOn (meaning_of P.app P.text P.from_text P.names) network.topology network.modulus (option_map (λ text. text.now) snapshot.entry)
-        (HoldsFrom F.remaining past (meaning_of P.app P.text P.from_text P.names)) (record {
-          known = R.remaining input.old;
-          log = H.contents log.old;
-          log' = H.contents log.new;
-          out = W.contents out.old;
-          out' = W.contents out.new;
-          ended = result;
-        }) }
+        (HoldsFrom F.remaining past (meaning_of P.app P.text P.from_text P.names))
+        (session_run (R.remaining input.old) (H.contents log.old) (H.contents log.new) (W.contents out.old)
+        (W.contents out.new) result) }
 {
     match snapshot {
         None => session_booted::<P, F, R, H, W>(alloc, network, past, input, log, out),
@@ -134,14 +119,9 @@ fn session_booted<P: Application, F: Read + Drop, R: Read, H: Write, W: Write>(
     out: &mut W,
 ) -> Result<Status, RunStop>
     ensures { HoldsOn (meaning_of P.app P.text P.from_text P.names) network.topology network.modulus None
-        (HoldsFrom F.remaining past (meaning_of P.app P.text P.from_text P.names)) (record {
-          known = R.remaining input.old;
-          log = H.contents log.old;
-          log' = H.contents log.new;
-          out = W.contents out.old;
-          out' = W.contents out.new;
-          ended = result;
-        }) }
+        (HoldsFrom F.remaining past (meaning_of P.app P.text P.from_text P.names))
+        (session_run (R.remaining input.old) (H.contents log.old) (H.contents log.new) (W.contents out.old)
+        (W.contents out.new) result) }
 {
     match Config::<P>::boot(alloc, network.topology, network.modulus) {
         Ok(opening) => session_from(alloc, opening, past, input, log, out),
@@ -161,14 +141,9 @@ fn session_started<P: Application, F: Read + Drop, R: Read, H: Write, W: Write>(
 ) -> Result<Status, RunStop>
     requires { network.topology.nodes ≡ network.topology.ids }
     ensures { HoldsOn (meaning_of P.app P.text P.from_text P.names) network.topology network.modulus (Some snapshot.now)
-        (HoldsFrom F.remaining past (meaning_of P.app P.text P.from_text P.names)) (record {
-          known = R.remaining input.old;
-          log = H.contents log.old;
-          log' = H.contents log.new;
-          out = W.contents out.old;
-          out' = W.contents out.new;
-          ended = result;
-        }) }
+        (HoldsFrom F.remaining past (meaning_of P.app P.text P.from_text P.names))
+        (session_run (R.remaining input.old) (H.contents log.old) (H.contents log.new) (W.contents out.old)
+        (W.contents out.new) result) }
 {
     match start::<P>(alloc, network, snapshot) {
         Ok(opening) => session_from(alloc, opening, past, input, log, out),
@@ -185,14 +160,9 @@ fn session_from<P: Application, F: Read + Drop, R: Read, H: Write, W: Write>(
     log: &mut H,
     out: &mut W,
 ) -> Result<Status, RunStop>
-    ensures { HoldsFrom F.remaining past (meaning_of P.app P.text P.from_text P.names) opening (record {
-      known = R.remaining input.old;
-      log = H.contents log.old;
-      log' = H.contents log.new;
-      out = W.contents out.old;
-      out' = W.contents out.new;
-      ended = result;
-    }) }
+    ensures { HoldsFrom F.remaining past (meaning_of P.app P.text P.from_text P.names) opening
+        (session_run (R.remaining input.old) (H.contents log.old) (H.contents log.new) (W.contents out.old)
+        (W.contents out.new) result) }
 {
     match past {
         Past::Unkept => hold(alloc, opening, input, log, out),
@@ -209,14 +179,9 @@ fn hold<P: Application, R: Read, H: Write, W: Write>(
     log: &mut H,
     out: &mut W,
 ) -> Result<Status, RunStop>
-    ensures { HoldsUnkept (meaning_of P.app P.text P.from_text P.names) opening (record {
-      known = R.remaining input.old;
-      log = H.contents log.old;
-      log' = H.contents log.new;
-      out = W.contents out.old;
-      out' = W.contents out.new;
-      ended = result;
-    }) }
+    ensures { HoldsUnkept (meaning_of P.app P.text P.from_text P.names) opening
+        (session_run (R.remaining input.old) (H.contents log.old) (H.contents log.new) (W.contents out.old)
+        (W.contents out.new) result) }
 {
     end_session(run_session(alloc, opening, None, input, log, out))
 }
@@ -229,14 +194,9 @@ fn begin<P: Application, R: Read, H: Write, W: Write>(
     log: &mut H,
     out: &mut W,
 ) -> Result<Status, RunStop>
-    ensures { HoldsNew (meaning_of P.app P.text P.from_text P.names) opening (record {
-      known = R.remaining input.old;
-      log = H.contents log.old;
-      log' = H.contents log.new;
-      out = W.contents out.old;
-      out' = W.contents out.new;
-      ended = result;
-    }) }
+    ensures { HoldsNew (meaning_of P.app P.text P.from_text P.names) opening
+        (session_run (R.remaining input.old) (H.contents log.old) (H.contents log.new) (W.contents out.old)
+        (W.contents out.new) result) }
 {
     end_session(begin_history(alloc, opening, input, log, out))
 }
@@ -250,14 +210,9 @@ fn resume<P: Application, F: Read, R: Read, H: Write, W: Write>(
     log: &mut H,
     out: &mut W,
 ) -> Result<Status, RunStop>
-    ensures { HoldsKept (meaning_of P.app P.text P.from_text P.names) opening (F.remaining past.old) (record {
-      known = R.remaining input.old;
-      log = H.contents log.old;
-      log' = H.contents log.new;
-      out = W.contents out.old;
-      out' = W.contents out.new;
-      ended = result;
-    }) }
+    ensures { HoldsKept (meaning_of P.app P.text P.from_text P.names) opening (F.remaining past.old)
+        (session_run (R.remaining input.old) (H.contents log.old) (H.contents log.new) (W.contents out.old)
+        (W.contents out.new) result) }
 {
     match resume_history(alloc, opening, past, input, log, out) {
         Ok(left) => {
