@@ -1,7 +1,7 @@
 // Sets of cases.
 ghost use Rattle.std.specs.Prelude.{◌≡◌, ◌≤◌, ◌==◌, [], length, slice_get};
 ghost use Rattle.std.specs.List.{filter};
-ghost use Rattle.action_tables.specs.Numbers.{all_cases, has_bit, is_among, with_number, with_number_if};
+ghost use Rattle.action_tables.specs.Numbers.{all_cases, is_among, with_number, with_number_if};
 
 use std::marker::Model;
 

@@ -3,7 +3,7 @@ ghost use Rattle.std.specs.Prelude.{◌≡◌, ℕ, ◌+◌, ◌*◌, ◌<◌, �
 ghost use Rattle.std.specs.Prelude.{slice_index, List, ◌∷◌, ◌++◌};
 ghost use Rattle.std.specs.Char.{digit_char, digit_value};
 ghost use Rattle.std.specs.Fmt.{decimal};
-ghost use Rattle.action_tables.specs.Cuts.{AreLeadingDigits, BeginsWithNoDigit};
+ghost use Rattle.action_tables.specs.Cuts.{AreLeadingDigits};
 
 /// The number that a word spells: decimal digits, without leading zeros, at most 4294967295.
 pub fn read_number(word: &[u8]) -> Option<u32>

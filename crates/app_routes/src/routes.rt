@@ -21,7 +21,7 @@ use topology::Topology;
 const CASES: u8 = 1;
 
 /// Routing tables. At the start each node knows the way to itself. Whatever the actions, each entry
-/// tells the links of a walk to its destination, and names a neighbour that is nearer.
+/// counts the links of a walk to its destination, and names a neighbour that is nearer.
 pub struct Routes;
 
 impl Application for Routes {

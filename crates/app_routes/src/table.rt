@@ -1,5 +1,5 @@
 // The routes' table: the one row, and what the cases do.
-ghost use Rattle.std.specs.Prelude.{◌≡◌, ◌≢◌, ◌↔◌, ℕ, List, None, Some, Err, IfOk, IsTrue, is_some, map, option_map};
+ghost use Rattle.std.specs.Prelude.{◌≡◌, ◌≢◌, ◌↔◌, ℕ, List, None, Some, Err, IfOk, is_some, map, option_map};
 ghost use Rattle.std.specs.Result.{result_ok};
 ghost use Rattle.action_tables.specs.RowText.{as_printed};
 ghost use Rattle.action_tables.specs.Table.{fired_of, printed};

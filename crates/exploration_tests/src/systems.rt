@@ -1,6 +1,6 @@
 // Small systems.
 
-ghost use Rattle.std.specs.Prelude.{◌≡◌, ◌<◌, ◌++◌, ◌∷◌, [], OnOk, length, map};
+ghost use Rattle.std.specs.Prelude.{◌≡◌, ◌<◌, ◌++◌, ◌∷◌, [], OnOk, map};
 ghost use Rattle.exploration_tests.specs.Systems.{only_if};
 
 use exploration::{Lists, System};

@@ -1,6 +1,6 @@
 // Books: configurations with the entries that led to them.
 
-ghost use Rattle.std.specs.Prelude.{◌≡◌, ◌≢◌, ℕ, ◌+◌, ◌≤◌, [], length, option_map, Ok, Err, OnErr, OnOk, IfOk, IfErr};
+ghost use Rattle.std.specs.Prelude.{◌≡◌, ◌≢◌, ◌+◌, ◌≤◌, [], length, option_map, Ok, Err, OnErr, OnOk, IfOk, IfErr};
 ghost use Rattle.std.specs.Prelude.{◌<◌, ◌∷◌, ◌↔◌, take, Some, MatchResult};
 
 use crate::entry::{Entry, Receipt, Report};
@@ -54,7 +54,6 @@ impl<P: Application> Book<P> {
     ghost use Rattle.reset_model.specs.Sound.{IsSound};
     ghost use Rattle.reset_model.specs.BySteps.{IsBySteps};
     ghost use Rattle.fault_inject.specs.Effects.{injected};
-    ghost use Rattle.reset_model.specs.Planned.{outcome_of};
     ghost use Rattle.reset_machine.specs.Enabled.{ready_of};
     ghost use Rattle.history.specs.Book.{IsBook, IsUnapplied, booked, disturbed_book, entry_at};
     ghost use Rattle.history.specs.Entries.{replayed};
@@ -116,7 +115,7 @@ impl<P: Application> Book<P> {
     }
 
     /// Does the fault, and enters it, or names the first refusal and hands the fault back. A refused fault
-    /// changes nothing. It tells the position of the entry.
+    /// changes nothing. It returns the position of the entry.
     pub fn disturb(&mut self, alloc: Global, fault: Fault) -> Result<usize, (DisturbRefusal, Fault)>
         ensures outcome { MatchResult result (λ position.
             disturbed_book P.app P.from_text self.old fault ≡ Ok (self.new, position))
@@ -304,7 +303,7 @@ impl<P: Application> Book<P> {
         self.log.config_before(alloc, count)
     }
 
-    /// The completions that its entries tell, in turn.
+    /// The completions that its entries report, in turn.
     pub fn reports(&self) -> &[Report]
         ensures { result.now ≡ reports_of P.app P.from_text self.now.opening self.now.entries }
     {

@@ -1,4 +1,4 @@
-// What a history tells.
+// What a history consists of, and what it comes to.
 
 use fault_inject::Fault;
 use reset_machine::{Event, Reply};
@@ -20,7 +20,7 @@ pub struct Receipt {
     pub reply: Reply,
 }
 
-/// That the reset of a session was told complete.
+/// That the reset of a session was reported complete.
 #[derive(Clone, Copy, Debug, PartialEq, Eq)]
 pub struct Report {
     /// The number of the session.

@@ -57,7 +57,7 @@ impl Reading {
         }
     }
 
-    // Reads what the reader gives at once, and tells whether it gave anything. The room for it is the caller's, so
+    // Reads what the reader gives at once, and returns whether it gave anything. The room for it is the caller's, so
     // that it is made once.
     #[inline(always)]
     pub fn read_on<R: Read>(

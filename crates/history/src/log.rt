@@ -21,7 +21,7 @@ use std::snapshot::Snapshot;
 pub struct Log<P: Application> {
     pub segments: Segments,
     checkpoints: Vec<Config<P>>,
-    // Contracts tell the opening. It takes no memory.
+    // Contracts name the opening. It takes no memory.
     pub opening: Snapshot<Config<P>>,
 }
 
@@ -83,7 +83,7 @@ impl<P: Application> Log<P> {
         self.segments.push(entry);
     }
 
-    // Adds the entry of a step, for which there is room, and tells it.
+    // Adds the entry of a step, for which there is room, and returns its receipt.
     pub fn enter(&mut self, position: usize, event: Event, reply: Reply) -> Receipt
         requires log { IsLog P.app P.from_text self.old }
         requires room { HasPlace self.old }

@@ -41,7 +41,7 @@ pub enum ApplyRefusal<P: Application> {
     NoMemory,
 }
 
-/// Why a book doesn't tell the configuration at a position, in the order in which refusals are given.
+/// Why a book doesn't give the configuration at a position, in the order in which refusals are given.
 #[derive(Clone, Copy, Debug, PartialEq, Eq)]
 pub enum AtFault {
     /// The book has fewer entries. Positions go from 0, the opening, to [`len`](crate::Book::len).
@@ -50,7 +50,7 @@ pub enum AtFault {
     NoMemory,
 }
 
-// A refused step as a book tells it.
+// A refused step as a book reports it.
 pub(crate) fn step_refused(refusal: StepRefusal) -> BookRefusal
     ensures memory { refusal ≡ StepRefusal.NoMemory → result ≡ BookRefusal.NoMemory }
     ensures refused { refusal ≢ StepRefusal.NoMemory → result ≡ BookRefusal.Refused refusal }
@@ -61,7 +61,7 @@ pub(crate) fn step_refused(refusal: StepRefusal) -> BookRefusal
     }
 }
 
-// A refused fault as a book tells it.
+// A refused fault as a book reports it.
 pub(crate) fn fault_refused(refusal: FaultRefusal) -> DisturbRefusal
     ensures memory { refusal ≡ FaultRefusal.NoMemory → result ≡ DisturbRefusal.NoMemory }
     ensures refused { refusal ≢ FaultRefusal.NoMemory → result ≡ DisturbRefusal.Refused refusal }

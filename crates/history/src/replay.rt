@@ -25,7 +25,7 @@ pub fn replay<P: Application>(
     Ok(left)
 }
 
-/// Does what the entry tells, which is allowed where it stands.
+/// Does what the entry says, which is allowed where it stands.
 pub fn play<P: Application>(
     alloc: Global,
     config: &mut Config<P>,

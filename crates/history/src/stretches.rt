@@ -1,4 +1,4 @@
-// What a history tells where no fault was done.
+// What a history says where no fault was done.
 
 ghost use Rattle.std.specs.Prelude.{◌≡◌, ◌↔◌, ◌++◌, ℕ, List, All, Contains, IsSome, Some, map};
 ghost use Rattle.std.specs.List.Sorted.{IsStrictlyIncreasing};
@@ -19,7 +19,7 @@ ghost use Rattle.history.specs.Stretches.{Stretch, steps};
 use app_interface::Application;
 use reset_model::{ProgramOf, headline, waves_end};
 
-/// The reports of entries are exactly the completions that they tell, in the order in which they came,
+/// The reports of entries are exactly the completions in them, in the order in which they came,
 /// each with its position and that of the latest opening at the same node that no fault came after.
 pub fn reports_are_completions<P: Application>()
     ensures exactly { (opening : Configuration P.Local) (es : List Entry) (r : Report)
@@ -71,7 +71,7 @@ pub fn reports_are_true<P: Application>()
         (reports_of P.app P.from_text opening es) }
 {}
 
-/// What a book tells of each undisturbed stretch of its entries that begins in sound registers: it is steps, of which the
+/// What a book says of each undisturbed stretch of its entries that begins in sound registers: it is steps, of which the
 /// headline holds and whose waves end, and each report of it is true.
 pub fn books_tell_steps<P: Application>()
     ensures steps { (b : BookView P.Local) (s : Stretch P.Local) → IsBook P.app P.from_text b

@@ -43,7 +43,7 @@ pub enum ReaderFault {
     Entries(VerifyFault),
 }
 
-/// Whoever reads a text from an opening, and however often: no two answers tell different things.
+/// Whoever reads a text from an opening, and however often: no two answers differ in what they say of it.
 pub fn one_verdict_a_text<P: Application>()
     ensures { (c : Configuration P.Local) (text : List ℕ) (r s : Result Summary ReaderFault)
         (v w : Result (ℕ × List Report) ReaderFault)
@@ -51,7 +51,7 @@ pub fn one_verdict_a_text<P: Application>()
         → verdict_of r ≡ Some v → verdict_of s ≡ Some w → v ≡ w }
 {}
 
-/// Reads a history to its end, plays its entries as they are read, from the opening on, and tells what they come
+/// Reads a history to its end, plays its entries as they are read, from the opening on, and returns what they come
 /// to. A fault of the text comes before another modulus than the opening's, and that before an entry that isn't
 /// allowed, wherever they stand: so after such an entry it reads on, and plays no more. It keeps the entries of one read at a time, of at most 4,096 bytes.
 pub fn verify_reader<P: Application, R: Read>(
@@ -134,7 +134,7 @@ fn verdict<P: Application>(
     }
 }
 
-/// Plays the entries from the opening, and tells what they come to, or names the first that isn't
+/// Plays the entries from the opening, and returns what they come to, or names the first that isn't
 /// allowed where it stands. An entry for which memory is wanting is `NoMemory`.
 pub fn verify<P: Application>(
     alloc: Global,

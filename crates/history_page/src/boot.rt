@@ -5,7 +5,6 @@ ghost use Rattle.std.specs.Fmt.{decimal};
 ghost use Rattle.std.specs.List.{flat_map};
 ghost use Rattle.std.specs.Io.KnownBytes.{Appends};
 ghost use Rattle.action_tables.specs.Written.{AppendsPrefix};
-ghost use Rattle.topology.specs.Graph.{neighbours_of};
 ghost use Rattle.action_tables.specs.RowText.{part_text};
 ghost use Rattle.history_page.specs.Lines.{line_text, lines_text};
 ghost use Rattle.history_page.specs.Opening.{boot_data, boot_line, down_text, first_lines, link_from, links_from};

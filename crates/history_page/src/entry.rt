@@ -151,7 +151,7 @@ fn fault_fields(fault: &Fault) -> &'static [Field]
     }
 }
 
-// Adds that sessions were told complete.
+// Adds that sessions were reported complete.
 fn add_reports(line: &mut Vec<u8>, reports: &[Report]) -> Result<(), AllocError>
     ensures { OnOk result (line.new.items ≡ line.old.items ++ flat_map report_text reports.now) }
 {
@@ -161,7 +161,7 @@ fn add_reports(line: &mut Vec<u8>, reports: &[Report]) -> Result<(), AllocError>
     Ok(())
 }
 
-// Adds that a session was told complete, and where it was opened.
+// Adds that a session was reported complete, and where it was opened.
 fn add_report(line: &mut Vec<u8>, report: Report) -> Result<(), AllocError>
     ensures { OnOk result (line.new.items ≡ line.old.items ++ report_text report) }
 {

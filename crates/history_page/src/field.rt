@@ -1,4 +1,4 @@
-// The fields of a line that tell what a node has.
+// The fields of a line that say what a node has.
 
 ghost use Rattle.std.specs.Prelude.{◌≡◌, ◌++◌, IfNone, IfSome, OnOk, codes};
 ghost use Rattle.std.specs.List.{flat_map};
@@ -14,7 +14,7 @@ use std::alloc::AllocError;
 use tree_layer::TreeRegs;
 use wave_layer::{Phase, WaveRegs};
 
-// What a field tells of a node.
+// What a field says of a node.
 #[derive(Clone, Copy)]
 pub enum Field {
     Tree,

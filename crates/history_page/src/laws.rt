@@ -20,7 +20,7 @@ pub fn data_is_harmless<P: Application>()
 {}
 
 /// An entry changes what fails at the nodes alone that it concerns: its own, the neighbours that this has, and the one
-/// that it gets. So the fields of a page tell all that fails, at all nodes and after each entry.
+/// that it gets. So the fields of a page name all that fails, at all nodes and after each entry.
 pub fn failing_elsewhere_stays<P: Application>()
     ensures { (c after : Configuration P.Local) (e : Entry) (j : ℕ) → IsGraph c.graph → IsShaped c
         → entered P.app P.from_text c e ≡ Some after → has (concerned c.graph e) j ≡ false

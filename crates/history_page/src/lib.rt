@@ -1,6 +1,6 @@
 //! Pages that play histories: one HTML page, by itself, that plays the entries of a history forward and back.
 //!
-//! What is the same on all pages stands before and after the data, which tells line by line the opening, the entries,
+//! What is the same on all pages stands before and after the data, which gives line by line the opening, the entries,
 //! what each wrote and what fails since.
 #![tactic(auto)]
 

@@ -1,4 +1,4 @@
-// What the checker tells.
+// What the checker reports.
 
 ghost use Rattle.std.specs.Prelude.{◌≡◌};
 ghost use Rattle.link_predicates.specs.Faults.{family_name};

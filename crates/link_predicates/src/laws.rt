@@ -19,13 +19,13 @@ use app_interface::Application;
 use reset_machine::{runs_are_steps, runs_stay_sound, wave_pictures};
 use tree_layer::tree_pictures;
 
-/// No fault of the tree or of the wave is told exactly where every link passes the predicates of both
+/// No fault of the tree or of the wave is reported exactly where every link passes the predicates of both
 /// layers.
 pub fn faultless_is_sound<P: Application>()
     ensures { (c : Configuration P.Local) → IsGraph c.graph → (AreOfApp (faults P.app c) ↔ IsSound c) }
 {}
 
-/// No fault of the tree or of the wave is told exactly where both pictures hold.
+/// No fault of the tree or of the wave is reported exactly where both pictures hold.
 pub fn faultless_is_pictured<P: Application>()
     ensures { (c : Configuration P.Local) → IsGraph c.graph
         → (AreOfApp (faults P.app c)

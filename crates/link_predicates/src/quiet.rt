@@ -1,5 +1,5 @@
 // The quick tests at a node's end of a link, and at a node. They ask the registers themselves; which row
-// fails, where one does, the tables tell.
+// fails, where one does, the tables say.
 
 ghost use Rattle.std.specs.Prelude.{◌≡◌, ◌+◌, ◌<◌, ◌≤◌, [], ◌∷◌, None, IsTrue};
 ghost use Rattle.action_tables.specs.Table.{enabled_of};

@@ -8,7 +8,7 @@ ghost use Rattle.script_replay.specs.Output.{answered};
 ghost use Rattle.script_replay.specs.Script.{line_of};
 ghost use Rattle.script_replay.specs.declared.script.Command.TheVariants.{Step};
 ghost use Rattle.script_replay.specs.declared.script.Line.TheVariants.{Asks};
-ghost use Rattle.live_session.specs.Course.{asks_for_change, full_text, is_full, unread_text};
+ghost use Rattle.live_session.specs.Course.{asks_for_change, full_text, unread_text};
 ghost use Rattle.live_session.specs.Progress.{IsAnswered};
 
 use crate::acting::{act_draw, act_event, act_fault, act_kept, act_unkept, act_watch, gathered};

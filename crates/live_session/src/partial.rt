@@ -1,6 +1,6 @@
 // A line that goes on in the next read.
 
-ghost use Rattle.std.specs.Prelude.{◌≡◌, ◌++◌, [], ℕ, List, take, OnOk};
+ghost use Rattle.std.specs.Prelude.{◌++◌, ℕ, List, OnOk};
 ghost use Rattle.live_session.specs.Progress.{IsFront};
 
 use history::MAX_LINE;

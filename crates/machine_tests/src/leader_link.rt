@@ -1,6 +1,6 @@
 // An application whose start states tell the links, for tests.
 
-ghost use Rattle.std.specs.Prelude.{None, ◌∷◌, [], if◌then◌else◌, refl};
+ghost use Rattle.std.specs.Prelude.{None, refl};
 ghost use Rattle.app_interface.specs.LawsOfIdle.{idle_cases};
 ghost use Rattle.machine_tests.specs.BitText.{bit_from_text, bit_text, bit_word, one_bit_text};
 ghost use Rattle.machine_tests.specs.LeaderStarts.{leader_starts};

@@ -4,7 +4,7 @@ ghost use Rattle.std.specs.Prelude.{◌≡◌, ◌≤◌, ◌+◌, ◌*◌, IfOk
 ghost use Rattle.topology.specs.Graph.{node_bound};
 ghost use Rattle.reset_model.specs.Sound.{IsSound};
 ghost use Rattle.recovery.specs.FalseNodes.{IsTarget};
-ghost use Rattle.recovery.specs.Outward.{AllPlaced, IsOutward};
+ghost use Rattle.recovery.specs.Outward.{IsOutward};
 ghost use Rattle.recovery.specs.Recovered.{Heals, Recovers, Renews};
 
 use crate::draft::{Draft, Repairs, Resets};

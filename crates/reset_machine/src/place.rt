@@ -1,6 +1,6 @@
 // A node of a configuration, as what happens at the node reads it.
 
-ghost use Rattle.std.specs.Prelude.{◌≡◌, ◌<◌, ◌==◌, All, IfErr, IfNone, IfOk, IfSome, OnErr, OnOk, Some};
+ghost use Rattle.std.specs.Prelude.{◌≡◌, ◌<◌, ◌==◌, All, IfErr, IfNone, IfSome, OnErr, OnOk, Some};
 ghost use Rattle.std.specs.Prelude.{false, length, map, position, slice_index, true};
 ghost use Rattle.topology.specs.Graph.{IsGraph, IsNode, are_linked, node_bound};
 ghost use Rattle.reset_model.specs.Configuration.{IsShaped, local_of, tree_of, wave_of};

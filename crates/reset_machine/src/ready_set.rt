@@ -1,6 +1,6 @@
 // Which nodes have something to do, as far as it is known.
 
-ghost use Rattle.std.specs.Prelude.{◌≡◌, ◌<◌, ◌≤◌, IfNone, IfOk, IfSome, length, take};
+ghost use Rattle.std.specs.Prelude.{◌≡◌, ◌<◌, IfNone, IfOk, IfSome, length, take};
 ghost use Rattle.reset_machine.specs.ReadySet.{DoubtsAnyAround};
 
 use indexmap::IndexSet;

@@ -1,6 +1,6 @@
 // Laws of the definitions.
 
-ghost use Rattle.std.specs.Prelude.{◌≡◌, ◌↔◌, ◌≤◌, ℕ, true, false, length, Contains, MatchResult};
+ghost use Rattle.std.specs.Prelude.{◌≡◌, ◌↔◌, ℕ, true, false, Contains, MatchResult};
 ghost use Rattle.topology.specs.Graph.{Graph, IsGraph, IsNode, IsReached};
 ghost use Rattle.tree_layer.specs.declared.regs.TreeRegs.{TreeRegs};
 ghost use Rattle.tree_layer.specs.TreePicture.{TreePicture};

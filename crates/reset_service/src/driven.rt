@@ -1,6 +1,6 @@
 // Runs of the seeded scheduler, from a booted configuration or a snapshot.
 
-ghost use Rattle.std.specs.Prelude.{◌≡◌, ◌≤◌, [], IfErr, IfOk};
+ghost use Rattle.std.specs.Prelude.{◌≡◌, [], IfErr, IfOk};
 ghost use Rattle.reset_service.specs.Begun.{Drives, IsBegunFrom, IsBegunOf, IsBegunText};
 ghost use Rattle.reset_service.specs.Drove.{IsDrove, IsDroveFrom, IsDroveOf, IsDroveText};
 ghost use Rattle.script_replay.specs.Meaning.{meaning_of};

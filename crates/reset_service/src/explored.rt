@@ -1,10 +1,9 @@
 // Explorations of all orders of the events, as texts.
 
-ghost use Rattle.std.specs.Prelude.{◌≡◌, ◌≤◌, ℕ, List, length, option_map, IfErr, OnErr, OnOk};
+ghost use Rattle.std.specs.Prelude.{◌≡◌, ℕ, List, option_map, IfErr, OnErr, OnOk};
 ghost use Rattle.std.specs.Io.KnownBytes.{Appends};
 ghost use Rattle.topology.specs.TopologyText.{IsReadFault};
 ghost use Rattle.action_tables.specs.Written.{AppendsPrefix};
-ghost use Rattle.schedules.specs.Explored.{HasMoreThan, IsExplored};
 ghost use Rattle.schedules.specs.declared.schedules.Schedules.{Schedules};
 ghost use Rattle.script_replay.specs.Lines.{GaveText, IsReadFrom};
 ghost use Rattle.script_replay.specs.Meaning.{meaning_of};

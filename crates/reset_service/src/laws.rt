@@ -45,7 +45,7 @@ pub fn verified_reports_are_true()
     reports_are_true::<Routes>();
 }
 
-/// The history of a verification that ends well tells steps: it is that of entries each of which is allowed where it
+/// The history of a verification that ends well consists of steps: it is that of entries each of which is allowed where it
 /// stands, from the booted configuration on, and each undisturbed stretch of it that begins in sound registers is steps
 /// that were taken in turn, of which the headline holds, and their waves end. The booted registers are sound.
 pub fn verified_histories_tell_steps()
@@ -65,7 +65,7 @@ pub fn booted_invariants_hold<P: Application>()
         → (i : ℕ) → IsNode c.graph i → HoldsAt P.app P.Inv c i }
 {}
 
-/// What node threads keep from the booted configuration of a graph, where it is told, is a run.
+/// What node threads keep from the booted configuration of a graph, where it is written, is a run.
 pub fn kept_histories_are_runs<P: Application>()
     ensures { (g : Graph) (modulus : ℕ) (history line : List ℕ) → IsGraph g
         → IsKeptFrom (meaning_of P.app P.text P.from_text P.names) g modulus history (line, Status.Good)

@@ -1,22 +1,19 @@
 // Explorations of all orders of the events that leave a history, which shows what was found.
 
-ghost use Rattle.std.specs.Prelude.{◌≡◌, ◌<◌, ◌≤◌, ◌+◌, ◌++◌, ℕ, List, [], length, option_map, IfErr, IfOk, OnErr, OnOk, Ok};
+ghost use Rattle.std.specs.Prelude.{◌≡◌, ◌<◌, ◌≤◌, ◌+◌, ℕ, List, [], length, option_map, IfErr, IfOk, OnErr, OnOk, Ok};
 ghost use Rattle.std.specs.Io.KnownBytes.{Appends};
 ghost use Rattle.topology.specs.TopologyText.{IsReadFault};
 ghost use Rattle.action_tables.specs.Written.{AppendsPrefix};
-ghost use Rattle.history.specs.HistoryText.{IsReadAs, ended, entries_text, history_text};
+ghost use Rattle.history.specs.HistoryText.{IsReadAs, ended, entries_text};
 ghost use Rattle.history.specs.Stretches.{steps};
 ghost use Rattle.history.specs.declared.entry.Entry.{Entry};
 ghost use Rattle.reset_model.specs.EventText.{event_line};
-ghost use Rattle.script_replay.specs.Left.{left_by};
 ghost use Rattle.script_replay.specs.Lines.{GaveText, IsReadFrom, lines_of};
 ghost use Rattle.script_replay.specs.Meaning.{meaning_of};
 ghost use Rattle.script_replay.specs.Output.{Leaves};
 ghost use Rattle.script_replay.specs.Recorded.{IsHistory, LeavesRecord, entries_of_lines};
 ghost use Rattle.script_replay.specs.Stops.{IsOutputStop};
-ghost use Rattle.schedules.specs.Explored.{IsExplored};
-ghost use Rattle.schedules.specs.Witnessed.{IsShownBy};
-ghost use Rattle.reset_service.specs.Explorations.{IsOpenedFrom, IsOpenedOf, counts_text, status_of};
+ghost use Rattle.reset_service.specs.Explorations.{IsOpenedFrom, IsOpenedOf, status_of};
 ghost use Rattle.reset_service.specs.Shown.{IsFoundBy, IsHistoryOf, IsShown, IsShownText, Shows, long_history_text};
 ghost use Rattle.reset_service.specs.Shown.{IsWithin, round_text, shown_events, shown_runs_text, shown_text};
 

@@ -1,8 +1,6 @@
 // Runs of node threads, from a booted configuration or a snapshot.
 
-ghost use Rattle.std.specs.Prelude.{◌≡◌, ◌≤◌, [], length, IfErr, IfOk, IsTrue};
-ghost use Rattle.std.specs.List.{list_all};
-ghost use Rattle.node_threads.specs.Locked.{is_step};
+ghost use Rattle.std.specs.Prelude.{◌≡◌, ◌≤◌, [], IfErr, IfOk};
 ghost use Rattle.script_replay.specs.Meaning.{meaning_of};
 ghost use Rattle.reset_service.specs.Begun.{IsBegunFrom, IsBegunOf, IsBegunText, RunsThreads};
 ghost use Rattle.reset_service.specs.Threaded.{IsKept, IsKeptFrom, IsKeptOf, IsThreaded};
@@ -40,7 +38,7 @@ impl Gate for NoGate {
 /// identifier asks for a reset, and then each takes so many turns. Writes the history that they keep to one
 /// writer, and then to the other how many nodes there are, and how many entries and reports the history has.
 ///
-/// The history is told only where a verification from the booted configuration takes it too. Nothing is
+/// The history is written only where a verification from the booted configuration takes it too. Nothing is
 /// written before the threads have ended. A run ends where the history has a million entries.
 pub fn threads_text<R: Threads + Wait + Sync, H: Write, W: Write>(
     rt: &R,
@@ -247,7 +245,7 @@ fn stopped_by(cause: RunCause) -> Result<Told, RunStop>
     }
 }
 
-// Judges the history that was kept from an opening on, which is told where its verification takes it.
+// Judges the history that was kept from an opening on, which is written where its verification takes it.
 fn judge<P: Application>(alloc: Global, opening: Config<P>, book: &Book<P>) -> Result<Told, RunStop>
     requires few { length opening.graph.nodes ≤ 64 }
     requires steps { IsTrue (list_all is_step book.now.entries) }

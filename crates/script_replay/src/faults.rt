@@ -1,6 +1,6 @@
-// The answers that tell faults and alarms.
+// The answers that list faults and alarms.
 
-ghost use Rattle.std.specs.Prelude.{◌≡◌, ◌++◌, codes, length, Err, Some, IfErr, IfOk, OnErr, OnOk};
+ghost use Rattle.std.specs.Prelude.{◌≡◌, ◌++◌, Err, Some, IfErr, IfOk, OnErr, OnOk};
 ghost use Rattle.std.specs.List.{flat_map};
 ghost use Rattle.std.specs.Io.KnownBytes.{Appends, Keeps};
 ghost use Rattle.topology.specs.Graph.{IsNode};

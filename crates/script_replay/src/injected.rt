@@ -1,6 +1,6 @@
 // The answers to faults.
 
-ghost use Rattle.std.specs.Prelude.{◌≡◌, ◌++◌, codes, Err, IfErr, IfOk, OnErr, OnOk};
+ghost use Rattle.std.specs.Prelude.{◌≡◌, Err, IfErr, IfOk, OnErr, OnOk};
 ghost use Rattle.std.specs.Io.KnownBytes.{Appends, Keeps};
 ghost use Rattle.action_tables.specs.Written.{AppendsPrefix};
 ghost use Rattle.fault_inject.specs.Effects.{injected};
@@ -68,7 +68,7 @@ pub fn answer_draw<P: Application, W: Write>(
     written(put_bytes(out, line))
 }
 
-// Does the fault, and answers the line that tells that it was done or the refusal.
+// Does the fault, and answers the line that says that it was done or the refusal.
 fn disturb<P: Application>(
     alloc: Global,
     config: &mut Config<P>,

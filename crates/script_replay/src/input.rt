@@ -1,7 +1,7 @@
 // Reading texts up to their limit, and cutting them.
 
-ghost use Rattle.std.specs.Prelude.{◌≡◌, ℕ, ◌+◌, ◌<◌, ◌≤◌, [], ◌∷◌, length, IfOk, IfErr, IfSome, IfNone, IsTrue};
-ghost use Rattle.std.specs.Prelude.{◌↔◌, vec_len};
+ghost use Rattle.std.specs.Prelude.{◌≡◌, ◌+◌, ◌<◌, ◌≤◌, [], ◌∷◌, length, IfOk, IfErr, IfSome, IfNone, IsTrue};
+ghost use Rattle.std.specs.Prelude.{◌↔◌};
 ghost use Rattle.std.specs.List.{position};
 ghost use Rattle.std.specs.Io.KnownBytes.{Consumes, IsAtEnd};
 ghost use Rattle.script_replay.specs.Lines.{is_line_feed, lines_of, separator, IsCut, IsReadFrom};

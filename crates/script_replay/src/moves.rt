@@ -1,4 +1,4 @@
-// The answers that tell moves: the events that are allowed.
+// The answers that list moves: the events that are allowed.
 
 ghost use Rattle.std.specs.Prelude.{◌≡◌, ◌++◌, Err, IfErr, IfOk, OnErr, OnOk};
 ghost use Rattle.std.specs.List.{flat_map};

@@ -1,6 +1,6 @@
 // The answers that name enabled rows, and the nodes that have some.
 
-ghost use Rattle.std.specs.Prelude.{◌≡◌, ◌++◌, codes, Err, IfErr, OnOk, OnErr};
+ghost use Rattle.std.specs.Prelude.{◌≡◌, Err, IfErr, OnOk, OnErr};
 ghost use Rattle.std.specs.List.{flat_map};
 ghost use Rattle.std.specs.Io.KnownBytes.{Appends, Keeps};
 ghost use Rattle.action_tables.specs.Written.{AppendsPrefix};

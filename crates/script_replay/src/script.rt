@@ -1,10 +1,9 @@
 // The lines of a script.
 
-ghost use Rattle.std.specs.Prelude.{◌≡◌, ◌≢◌, ℕ, ◌<◌, ◌^◌, ◌⊎◌, [], ◌∷◌, List, Option, codes, option_map, IsTrue, IfOk};
+ghost use Rattle.std.specs.Prelude.{◌≡◌, ◌≢◌, ℕ, ◌<◌, ◌^◌, [], ◌∷◌, List, Option, codes, option_map, IsTrue, IfOk};
 ghost use Rattle.std.specs.Prelude.{IfNone, IfSome, OnErr};
-ghost use Rattle.std.specs.Fmt.{decimal};
 ghost use Rattle.std.specs.List.{join_with_byte};
-ghost use Rattle.reset_model.specs.EventText.{Fits, neighbour_words};
+ghost use Rattle.reset_model.specs.EventText.{Fits};
 ghost use Rattle.reset_model.specs.Words.{words_of};
 ghost use Rattle.reset_model.specs.declared.event.Event.TheVariants.{Act};
 ghost use Rattle.fault_inject.specs.FaultText.{IsLocalFault, fault_line};
@@ -34,29 +33,29 @@ pub enum Command {
     Inject(Fault),
     /// That it have the fault that a generator with this seed draws.
     Draw(u32),
-    /// That all nodes be shown.
+    /// What all nodes have.
     Show,
-    /// That this node be shown.
+    /// What this node has.
     ShowNode(u32),
-    /// That the local states of the newest session be told.
+    /// The local states of the newest session.
     Newest,
-    /// That the enabled rows of this node be named.
+    /// The enabled rows of this node.
     Enabled(u32),
-    /// That the nodes with something to do be named.
+    /// The nodes with something to do.
     Ready,
-    /// That the faults of all nodes be told.
+    /// The faults of all nodes.
     Check,
-    /// That the faults of this node be told.
+    /// The faults of this node.
     CheckNode(u32),
-    /// That the alarm of this node be told.
+    /// The alarm of this node.
     Alarm(u32),
-    /// The same, and that the node ask for a reset where it has an alarm.
+    /// The same, and the node asks for a reset where it has an alarm.
     Watch(u32),
-    /// That the moves of all nodes be told: the events that are allowed.
+    /// The moves of all nodes: the events that are allowed.
     Moves,
-    /// That the moves of this node be told.
+    /// The moves of this node.
     MovesOf(u32),
-    /// That the configuration be written as a text that can be read back.
+    /// The configuration, as a text that can be read back.
     Snapshot,
 }
 
@@ -210,7 +209,7 @@ fn by_one_word(word: &[u8]) -> Option<Command>
     }
 }
 
-// The command of one word that tells what the nodes hold.
+// The command of one word that shows what the nodes hold.
 fn by_word_of_state(word: &[u8]) -> Option<Command>
     ensures found { IfSome result (λ command. word.now ∷ [] ≡ command_words command) }
     ensures fits { IfSome result IsPlain }
@@ -225,7 +224,7 @@ fn by_word_of_state(word: &[u8]) -> Option<Command>
     }
 }
 
-// The command of one word that tells what the tables say of that.
+// The command of one word that asks what the tables say of that.
 fn by_word_of_rules(word: &[u8]) -> Option<Command>
     ensures found { IfSome result (λ command. word.now ∷ [] ≡ command_words command) }
     ensures fits { IfSome result IsPlain }

@@ -42,7 +42,7 @@ pub enum RunStop {
     NoMemory,
     /// A thread could not be started. Nothing was written.
     ThreadFailed,
-    /// What node threads kept isn't a history of what their seats were told. Nothing was written.
+    /// What node threads kept isn't a history of what their seats were answered. Nothing was written.
     NotClosed,
 }
 

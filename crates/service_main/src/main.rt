@@ -39,7 +39,7 @@ use std::thread::Threads;
 use std::time::Clock;
 use std::{env, io};
 
-// What is told of words of which one isn't text, in the form in which clap tells what is wrong with the others.
+// The message for words of which one isn't text, in the form in which clap says what is wrong with the others.
 const NOT_TEXT: &str = "\
 error: a word of the command line is not UTF-8\n\
 \n\

@@ -1,4 +1,4 @@
-// A line on a terminal that tells for how long a run has been working.
+// A line on a terminal that says for how long a run has been working.
 
 ghost use Rattle.std.specs.Prelude.{◌≡◌, OnErr, OnOk};
 ghost use Rattle.std.specs.Io.KnownBytes.{Appends};

@@ -1,4 +1,4 @@
-// The lines that tell the faults of snapshots.
+// The lines that name the faults of snapshots.
 
 ghost use Rattle.std.specs.Prelude.{OnErr, OnOk};
 ghost use Rattle.std.specs.Io.KnownBytes.{Appends};

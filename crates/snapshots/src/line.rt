@@ -1,12 +1,12 @@
 // The lines of a snapshot.
 
-ghost use Rattle.std.specs.Prelude.{◌≡◌, ◌≢◌, ℕ, ◌∷◌, Option, Some, IfErr, IfNone, IfOk, IfSome, codes};
+ghost use Rattle.std.specs.Prelude.{◌≡◌, ◌≢◌, ◌∷◌, Option, Some, IfErr, IfNone, IfOk, IfSome, codes};
 ghost use Rattle.reset_model.specs.Words.{words_of};
 ghost use Rattle.script_replay.specs.Meaning.{meaning_of};
 ghost use Rattle.script_replay.specs.Script.{is_silent};
 ghost use Rattle.snapshots.specs.Items.{Spells};
 ghost use Rattle.snapshots.specs.Reading.{Says};
-ghost use Rattle.snapshots.specs.Words.{AreWordsOf, IsReadOf};
+ghost use Rattle.snapshots.specs.Words.{IsReadOf};
 ghost use Rattle.snapshots.specs.declared.item.Item.{Item};
 
 use crate::fault::SnapshotFault;

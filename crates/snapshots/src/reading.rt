@@ -1,7 +1,7 @@
 // What the lines of a snapshot have said so far.
 
-ghost use Rattle.std.specs.Prelude.{◌≡◌, ◌≢◌, ℕ, ◌==◌, List, [], ◌∷◌, ◌++◌, Option, None, Some, IfErr, IfOk, OnOk};
-ghost use Rattle.std.specs.List.{find, list_any};
+ghost use Rattle.std.specs.Prelude.{◌≡◌, ◌≢◌, ◌==◌, List, [], ◌∷◌, ◌++◌, Option, None, Some, IfErr, OnOk};
+ghost use Rattle.std.specs.List.{list_any};
 ghost use Rattle.topology.specs.Building.{joins};
 ghost use Rattle.topology.specs.Changing.{first_of};
 ghost use Rattle.topology.specs.Graph.{has};

@@ -20,7 +20,7 @@ use std::alloc::{AllocError, Global};
 use std::io::Write;
 use wave_layer::WaveRegs;
 
-// A band: where it is on the page, and what it tells. It reaches to below the last entry, and a later band of its node
+// A band: where it is on the page, and what it shows. It reaches to below the last entry, and a later band of its node
 // is painted over it.
 #[derive(Clone, Copy)]
 pub struct Band {

@@ -1,6 +1,6 @@
 // The lines of completions.
 
-ghost use Rattle.std.specs.Prelude.{◌≡◌, ◌≤◌, ◌++◌, All, OnErr, OnOk};
+ghost use Rattle.std.specs.Prelude.{◌≤◌, ◌++◌, All, OnErr, OnOk};
 ghost use Rattle.std.specs.Io.KnownBytes.{Appends};
 ghost use Rattle.action_tables.specs.Written.{AppendsPrefix};
 ghost use Rattle.space_time_diagram.specs.Completions.{completion, completion_line, completion_tag, completion_words};
@@ -29,7 +29,7 @@ pub fn put_completions<W: Write>(
     Ok(())
 }
 
-// Writes where a session was told complete.
+// Writes where a session was reported complete.
 fn put_completion<W: Write>(out: &mut W, lanes: usize, report: Report) -> Result<(), WriteFault>
     requires lanes { lanes ≤ MAX_LANES }
     requires within { report.finished ≤ MAX_MARKS }

@@ -1,4 +1,4 @@
-ghost use Rattle.std.specs.Prelude.{◌≡◌, ◌≢◌, ℕ, ◌+◌, ◌<◌, ◌≤◌, [], All, IfOk, length, map, replicate};
+ghost use Rattle.std.specs.Prelude.{◌≡◌, ◌≢◌, ◌+◌, ◌<◌, ◌≤◌, [], All, IfOk, length, map, replicate};
 ghost use Rattle.std.specs.Vec.{vec_capacity};
 ghost use Rattle.topology.specs.Rows.{AreRows};
 ghost use Rattle.topology.specs.Searching.{AreDistances, MarksRow, QueuesMarked, unmarked};

@@ -1,4 +1,4 @@
-//! Topology texts: TOML documents with a list of nodes, a list of links, an application's name and, if they tell one,
+//! Topology texts: TOML documents with a list of nodes, a list of links, an application's name and, if they name one,
 //! the number modulo which sessions are counted.
 ghost use Rattle.action_tables.specs.Modulus.{IsModulus};
 ghost use Rattle.std.specs.Prelude.{◌≡◌, ◌≢◌, ◌≤◌, IfOk, IfErr, Some, length, vec_items};

@@ -1,6 +1,6 @@
 // The booted spanning tree.
 
-ghost use Rattle.std.specs.Prelude.{◌≡◌, ℕ, ◌<◌, ◌==◌, ◌&&◌, true, All, length, replicate, slice_index, IfOk, MatchOption};
+ghost use Rattle.std.specs.Prelude.{◌≡◌, ◌<◌, ◌==◌, ◌&&◌, true, All, length, replicate, slice_index, IfOk, MatchOption};
 ghost use Rattle.std.specs.Prelude.{OnOk};
 ghost use Rattle.topology.specs.Components.{leader};
 ghost use Rattle.topology.specs.Graph.{is_node};

@@ -1,6 +1,6 @@
 // The effects of the tree table.
 
-ghost use Rattle.std.specs.Prelude.{◌≡◌, ◌<◌};
+ghost use Rattle.std.specs.Prelude.{◌≡◌};
 ghost use Rattle.tree_layer.specs.TreeRows.{claimed, followed};
 ghost use Rattle.tree_layer.specs.TreeTable.{adopts, AreBelow, father_regs};
 
