@@ -1,23 +1,13 @@
 -- Trying the elements of a list in turn, where what is left to try gives what all give.
-use Rattle.std.proofs.Common.{◌≡◌, ℕ, ◌+◌, ◌<◌, ◌≤◌, Bool, true, false, cond, List, [], ◌∷◌, ◌++◌, Option, Some, None}
-use Rattle.std.proofs.Common.{filter, find, length, drop, map, get_or, append_assoc, append-nil, sym, ap, ◌∙◌}
+use Rattle.std.proofs.Common.{◌≡◌, ℕ, ◌+◌, ◌<◌, ◌≤◌, Bool, true, cond, List, [], ◌∷◌, ◌++◌, Option, Some, None, filter}
+use Rattle.std.proofs.Common.{find, length, drop, map, get_or, append_assoc, append-nil, sym, ap, ◌∙◌}
 use Rattle.std.specs.List.{flat_map}
 use Rattle.std.specs.Option.{option_or}
-use Rattle.std.proofs.lemmas.Bool.{cond-false}
 use Rattle.std.proofs.lemmas.List.{at_drop_more}
 use Rattle.std.proofs.lemmas.List.Concat.{flat_map-cons}
 use Rattle.std.proofs.lemmas.List.Elements.{filter-append}
 use Rattle.std.proofs.lemmas.List.Folds.{find-append}
 use Rattle.reset_machine.proofs.CaseArguments.{cases_end, cases_from, cases_next}
-
--- the next one, and what is left after it
-pub left_next : {X Y : Type 0} (F : List X → Y) (xs : List X) (i : ℕ) (d : X) (all : Y) → i < length xs
-    → F (drop i xs) ≡ all → F (get_or xs i d ∷ drop (i + 1) xs) ≡ all
-left_next F xs i d all short so_far = sym (at_drop_more F xs i d short) ∙ so_far
-
--- it doesn't pass
-pub tried_false : {Y : Type 0} (b : Bool) (x rest all : Y) → b ≡ false → cond b x rest ≡ all → rest ≡ all
-tried_false b x rest all is so_far = sym (cond-false b x rest is) ∙ so_far
 
 -- one that is taken of a list gives what passes
 pub passed_found : {X Y : Type 0} (p : Y → Bool) (f : X → Y) (q : X → Bool) (xs : List X) (i : ℕ) (x : X)
