@@ -1,4 +1,4 @@
-pub mod Trying
+mod Trying
 mod Allowing
 mod Choices
 mod Fitting

@@ -1,30 +1,13 @@
 -- Trying the elements of a list in turn, where what is left to try gives what all give.
-use Rattle.std.proofs.Common.{◌≡◌, ℕ, suc, ◌+◌, ◌-◌, ◌<◌, ◌≤◌, Bool, true, false, cond, List, [], ◌∷◌, ◌++◌}
-use Rattle.std.proofs.Common.{Option, Some, None, Result, Ok, Err, IfOk, filter, find, length, drop, map}
-use Rattle.std.proofs.Common.{drop-cons, get_or, add-one, append_assoc, append-nil, sym, ap, ◌∙◌, arith}
-use Rattle.std.specs.List.{flat_map, range_with_len}
+use Rattle.std.proofs.Common.{◌≡◌, ℕ, ◌+◌, ◌<◌, ◌≤◌, Bool, true, cond, List, [], ◌∷◌, ◌++◌, Option, Some, None, filter}
+use Rattle.std.proofs.Common.{find, length, drop, map, get_or, append_assoc, append-nil, sym, ap, ◌∙◌}
+use Rattle.std.specs.List.{flat_map}
 use Rattle.std.specs.Option.{option_or}
+use Rattle.std.proofs.lemmas.List.{at_drop_more}
 use Rattle.std.proofs.lemmas.List.Concat.{flat_map-cons}
 use Rattle.std.proofs.lemmas.List.Elements.{filter-append}
 use Rattle.std.proofs.lemmas.List.Folds.{find-append}
-use Rattle.reset_machine.proofs.CaseArguments.{cases_end, cases_from}
-
--- the next one, and what is left after it
-pub left_next : {X Y : Type 0} (F : List X → Y) (xs : List X) (i : ℕ) (d : X) (all : Y) → i < length xs
-    → F (drop i xs) ≡ all → F (get_or xs i d ∷ drop (i + 1) xs) ≡ all
-left_next F xs i d all short so_far =
-    let split : drop i xs ≡ get_or xs i d ∷ drop (i + 1) xs =
-    drop-cons xs i d short ∙ ap (λ k. get_or xs i d ∷ drop k xs) (sym (add-one i)) in
-    sym (ap F split) ∙ so_far
-
--- it passes, or it doesn't
-pub tried_true : {Y : Type 0} (b : Bool) (x rest all : Y) → b ≡ true → cond b x rest ≡ all → x ≡ all
-tried_true true x rest all is so_far = so_far
-tried_true false x rest all is so_far = absurd (cc)
-
-pub tried_false : {Y : Type 0} (b : Bool) (x rest all : Y) → b ≡ false → cond b x rest ≡ all → rest ≡ all
-tried_false true x rest all is so_far = absurd (cc)
-tried_false false x rest all is so_far = so_far
+use Rattle.reset_machine.proofs.CaseArguments.{cases_end, cases_from, cases_next}
 
 -- one that is taken of a list gives what passes
 pub passed_found : {X Y : Type 0} (p : Y → Bool) (f : X → Y) (q : X → Bool) (xs : List X) (i : ℕ) (x : X)
@@ -36,7 +19,7 @@ passed_found p f q xs i x all short at taken passes so_far =
     sym (ap (λ y. find p (map f (filter q (y ∷ rest)))) (sym at)
     ∙ ap (λ b. find p (map f (cond b (x ∷ left) left))) taken
     ∙ ap (λ b. cond b (Some (f x)) (find p (map f left))) passes)
-    ∙ left_next (λ ns. find p (map f (filter q ns))) xs i x all short so_far
+    ∙ sym (at_drop_more (λ ns. find p (map f (filter q ns))) xs i x short) ∙ so_far
 
 -- ---- lists one after the other
 
@@ -54,12 +37,6 @@ pub two_lists : {Y : Type 0} (p : Y → Bool) (xs ys : List Y) (all : Option Y) 
 two_lists p xs ys all so_far = sym (find-append p xs ys) ∙ so_far
 
 -- ---- the cases from n on
-
-cases_next : (n : ℕ) → n ≤ 16 → cases_from n ≡ n ∷ cases_from (n + 1)
-unfolding cases_from
-cases_next n low =
-    let more : 17 - n ≡ suc (17 - (n + 1)) = omega arith in
-    ap (λ k. range_with_len n k) more
 
 flat_cases : {Y : Type 0} (f : ℕ → List Y) (n : ℕ) → n ≤ 16
     → flat_map f (cases_from n) ≡ f n ++ flat_map f (cases_from (n + 1))
@@ -104,8 +81,3 @@ all_added p a b c d e none r1 r2 r3 r4 all empty first second third fourth fifth
     let four : r4 ≡ filter p (a ++ b ++ c ++ d) =
     fourth ∙ ap (λ l. l ++ filter p d) three ∙ sym (filter-append p (a ++ b ++ c) d) in
     fifth ∙ ap (λ l. l ++ filter p e) four ∙ sym (filter-append p (a ++ b ++ c ++ d) e)
-
--- and what was done tells more
-pub if_ok : {X E : Type 0} (r : Result X E) (P Q : X → Type 0) → ((x : X) → P x → Q x) → IfOk r P → IfOk r Q
-if_ok (Ok x) P Q tells is = tells x is
-if_ok (Err f) P Q tells is = tt

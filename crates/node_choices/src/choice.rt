@@ -7,10 +7,11 @@ ghost use Rattle.node_choices.specs.Choice.{allowed_events, case_events, is_allo
 ghost use Rattle.reset_model.specs.View.{children_of};
 ghost use Rattle.reset_model.specs.declared.event.Event.TheVariants.{Act, Adopt, Relay};
 
-use crate::sight::{Sight, child_waves, near_trees};
+use crate::sight::Sight;
 use action_tables::MOST_CASES;
 use app_interface::{Application, Reads};
 use reset_machine::{Event, View};
+use reset_model::neighbourhood::{child_waves, near_trees};
 use std::alloc::{AllocError, Global};
 
 /// The first event that the view allows, of `Claim`, `Follow`, `Adopt` (neighbours ascending), `Mend`, `Join`,

@@ -3,11 +3,10 @@ use Rattle.std.proofs.Common.{◌≡◌, ℕ, ◌+◌, ◌<◌, ◌≤◌, ◌==
 use Rattle.std.proofs.Common.{Some, None, Ok, Err, if◌then◌else◌, drop, filter, get_or, refl, ap, ap₂, sym, ◌∙◌, arith}
 use Rattle.std.proofs.Common.{append_assoc, append-nil, nat_lt, slice_get, ◌≢◌, ◌-◌, ◌⊎◌, inl, inr}
 use Rattle.std.proofs.lemmas.List.Elements.{filter-append}
-use Rattle.node_choices.proofs.Trying.{left_next}
 use Rattle.std.specs.Option.{option_and_then, option_map_or}
 use Rattle.std.proofs.lemmas.Bool.{eq-eqb}
 use Rattle.std.proofs.lemmas.Bool.Decides.{eqb_tells}
-use Rattle.std.proofs.lemmas.List.{drop_all}
+use Rattle.std.proofs.lemmas.List.{at_drop_more, drop_all}
 use Rattle.std.proofs.lemmas.Option.{slice_get-get_or}
 use Rattle.app_interface.specs.Application.{App}
 use Rattle.reset_model.specs.Configuration.{Configuration}
@@ -136,7 +135,7 @@ told_more q items rs es i d all short so_far =
     let rest = receipts_told (left_by rs (i + 1) x) (i + 1) (drop (i + 1) es) in
     append_assoc items (filter q here) (filter q rest)
     ∙ ap (λ ys. items ++ ys) (sym (filter-append q here rest))
-    ∙ left_next (λ xs. items ++ filter q (receipts_told rs i xs)) es i d all short so_far
+    ∙ sym (at_drop_more (λ xs. items ++ filter q (receipts_told rs i xs)) es i d short) ∙ so_far
 
 pub step_is : (rs : List Report) (position : ℕ) (x : Entry) (e : Event) → step_of x ≡ Some e
     → (receipt_told rs position x ≡ record { position = position; event = e; reply = reply_told rs position } ∷ [])

@@ -19,7 +19,7 @@ pub all_from_1 : cases_from 1 ≡ all_cases
 unfolding cases_from all_cases
 all_from_1 = refl
 
-cases_next : (n : ℕ) → n ≤ 16 → cases_from n ≡ n ∷ cases_from (n + 1)
+pub cases_next : (n : ℕ) → n ≤ 16 → cases_from n ≡ n ∷ cases_from (n + 1)
 unfolding cases_from
 cases_next n low =
     let more : 17 - n ≡ suc (17 - (n + 1)) = omega arith in

@@ -1,8 +1,8 @@
 -- What is decided from the parts of a view is what the view says.
-use Rattle.std.proofs.Common.{◌≡◌, ◌≢◌, ◌↔◌, IfSome, IfNone, ℕ, ◌+◌, ◌<◌, ◌==◌, ◌||◌, not, Bool, true, false, cond}
+use Rattle.std.proofs.Common.{◌≡◌, ◌≢◌, ◌↔◌, IfSome, IfNone, ℕ, ◌+◌, ◌<◌, ◌==◌, not, Bool, true, false, cond}
 use Rattle.std.proofs.Common.{List, [], ◌∷◌, map, filter, length, nat_eq, Contains, ◌⊎◌, inl, inr, Option, Some, None}
 use Rattle.std.proofs.Common.{Result, Ok, Err, refl, sym, ap, ap₂, ◌∙◌, subst, arith}
-use Rattle.std.specs.List.{AllPairs, find, list_any}
+use Rattle.std.specs.List.{AllPairs, find}
 use Rattle.std.specs.List.Sorted.{IsStrictlyIncreasing}
 use Rattle.std.specs.Map.{lookup}
 use Rattle.std.specs.Option.{is_some, option_map, option_map_or}
@@ -33,16 +33,6 @@ use Rattle.reset_model.specs.View.{IsSeen, Neighbour, NodeView, children_of, fat
 use Rattle.reset_model.specs.View.{wave_view}
 
 -- ---- a neighbour that is looked for
-
-pub is_some-find : {X : Type 0} (p : X → Bool) (xs : List X) → is_some (find p xs) ≡ list_any p xs
-is_some-find p [] = refl
-is_some-find p (x ∷ xs) =
-    elim (p x) as (λ b. is_some (cond b (Some x) (find p xs)) ≡ (b || list_any p xs))
-    [ true ↦ refl | false ↦ is_some-find p xs ]
-
-pub is_some-map : {X Y : Type 0} (f : X → Y) (o : Option X) → is_some (option_map f o) ≡ is_some o
-is_some-map f None = refl
-is_some-map f (Some x) = refl
 
 lookup-waves : {L : Type 0} (near : List (Neighbour L)) (j : ℕ)
     → lookup (λ k. k == j) (near_waves near) ≡ option_map (λ n. n.wave) (find (λ n. n.id == j) near)

@@ -7,6 +7,7 @@ mod decide;
 mod event;
 mod event_kind;
 mod laws;
+pub mod neighbourhood;
 mod node_view;
 pub mod plan;
 mod program;

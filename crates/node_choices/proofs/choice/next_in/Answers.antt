@@ -1,8 +1,9 @@
 use Rattle.std.proofs.Common.{◌≡◌, ◌++◌, None, ◌∙◌, sym}
+use Rattle.std.proofs.lemmas.Result.{IfOk-weaker}
 use Rattle.node_choices.specs.Choice.{is_allowed, next_of}
 use Rattle.node_choices.proofs.Choices.{actions, adoptions, own_first, own_next, relays, tried, tried_own}
 use Rattle.node_choices.proofs.Choices.{from_actions, from_adoptions, from_own_next, from_relays}
-use Rattle.node_choices.proofs.Trying.{first_some, if_ok, two_lists}
+use Rattle.node_choices.proofs.Trying.{first_some, two_lists}
 use Rattle.node_choices.proofs.choice.next_in.Goals as goal
 
 pub returns-in-Some-2 : goal.returns-in-Some-2
@@ -48,4 +49,4 @@ returns g c =
     let next : tried app v (own_next v.id) ≡ None =
     tried_own app v own_next _ _ _ c.in_ok-event-3.ensures c.id-at.ensures c.in_default-3.is in
     let relay : tried app v (relays v.id v.near) ≡ None = sym c.in_ok-event-4.ensures ∙ c.in_default-4.is in
-    if_ok c.action.result _ _ (λ event is. is ∙ from_actions app v own adopts next relay) c.action.ensures
+    IfOk-weaker c.action.result _ _ (λ event is. is ∙ from_actions app v own adopts next relay) c.action.ensures

@@ -1,7 +1,7 @@
 use Rattle.std.proofs.Common.{Some, None, ap, ◌∙◌}
 use Rattle.wave_layer.specs.declared.regs.FatherSeen.TheVariants.{Is}
 use Rattle.reset_model.proofs.Deciding.{father-found}
-use Rattle.reset_model.proofs.decide.father.Goals as goal
+use Rattle.reset_model.proofs.neighbourhood.father.Goals as goal
 
 pub returns-in-Some : goal.returns-in-Some
 returns-in-Some g c =

@@ -4,7 +4,7 @@ use Rattle.wave_layer.specs.declared.regs.WaveRegs.{WaveRegs}
 use Rattle.reset_model.specs.declared.plan.Seen.TheVariants.{Wave}
 use Rattle.reset_model.proofs.Deciding.{kept_ascend, wave_view-parts}
 use Rattle.reset_model.proofs.Positions.{none_is_no_some}
-use Rattle.node_choices.proofs.sight.wave_seen.Goals as goal
+use Rattle.reset_model.proofs.neighbourhood.wave_seen.Goals as goal
 
 pub unreachable-requires : goal.unreachable-requires
 unreachable-requires g c =

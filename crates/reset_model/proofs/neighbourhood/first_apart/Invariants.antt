@@ -1,7 +1,7 @@
 use Rattle.std.proofs.Common.{◌≡◌, ◌==◌, not, drop, filter}
 use Rattle.std.specs.List.{find}
 use Rattle.reset_model.specs.Actions.{reads_near}
-use Rattle.reset_model.proofs.decide.first_apart.Given as goal
+use Rattle.reset_model.proofs.neighbourhood.first_apart.Given as goal
 
 -- the first of those that are left is the first of all
 abbrev pub invariant-loop-other : goal.invariant-loop-other

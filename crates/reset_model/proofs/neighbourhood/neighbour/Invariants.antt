@@ -1,6 +1,6 @@
 use Rattle.std.proofs.Common.{◌≡◌, ◌==◌, drop}
 use Rattle.std.specs.List.{find}
-use Rattle.node_choices.proofs.sight.neighbour.Given as goal
+use Rattle.reset_model.proofs.neighbourhood.neighbour.Given as goal
 
 -- the first that is left is the first of all
 abbrev pub invariant-loop-other : goal.invariant-loop-other
