@@ -270,8 +270,8 @@ there. In a plan `# S steps of a reset` comes before the commands of a reset.\n"
     (
         "whole",
         "\
-`whole N`: in how many of the ends no row of the tree or of the wave fails. Where there are more ends\n\
-than these, some order of the events leaves a network that needs repair.\n",
+`whole N`: in how many of the ends no row of the tree or of the wave fails: in all of them. An order\n\
+that ends leaves a network that needs no repair.\n",
     ),
     (
         "longest",
