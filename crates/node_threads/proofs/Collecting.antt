@@ -7,7 +7,7 @@ use Rattle.std.proofs.lemmas.List.{length-append}
 use Rattle.std.proofs.lemmas.List.Sums.{sum_by-append}
 use Rattle.std.specs.List.{find}
 use Rattle.std.specs.List.Sorted.{IsStrictlyIncreasing}
-use Rattle.std.proofs.lemmas.Bool.{false≢true}
+use Rattle.std.proofs.lemmas.Bool.{false≢true, not-false}
 use Rattle.std.proofs.lemmas.List.Elements.{All-map}
 use Rattle.topology.specs.Graph.{has}
 use Rattle.topology.proofs.Membership.{Contains-has, has-Contains}
@@ -24,10 +24,6 @@ use Rattle.node_threads.specs.Seats.{SeatView, of_node, receipts_after, seat_lis
 use Rattle.node_threads.proofs.Few.{few}
 use Rattle.node_threads.proofs.Once.{closed_once}
 
-not_not : (b : Bool) → not b ≡ false → b ≡ true
-not_not true is = refl
-not_not false is = absurd (cc)
-
 -- the nodes of the lists are those that are seated
 seated_has : (seats : List SeatView) (i : ℕ) → has (map (λ l. l.0) (map list_of seats)) i ≡ is_seated seats i
 seated_has [] i = refl
@@ -37,7 +33,7 @@ pub everyone : (ids : List ℕ) (seats : List SeatView) → first_missing ids se
     → Contains (map (λ l. l.0) (map list_of seats)) i
 everyone ids seats none i there =
     let off = find-none (λ k. not (is_seated seats k)) ids i none (has-Contains ids i there) in
-    Contains-has (map (λ l. l.0) (map list_of seats)) i (seated_has seats i ∙ not_not (is_seated seats i) off)
+    Contains-has (map (λ l. l.0) (map list_of seats)) i (seated_has seats i ∙ not-false (is_seated seats i) off)
 
 -- seats that were told what the book has
 pub seat_lists : {L : Type 0} (app : App L) (from_text : List ℕ → Option L) (b : BookView L) (mark : ℕ)
