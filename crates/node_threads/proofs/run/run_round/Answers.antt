@@ -9,11 +9,8 @@ returns-in-Err-clause-stands g c =
     (λ book. IsContinued g.P.Application.app g.P.Application.from_text g.L.Sharing.book book)
     (sym c.in-Err.ensures.returned.1) c.requires.stands
 
-pub returns-then-refused-clause-stands : goal.returns-then-refused-clause-stands
-returns-then-refused-clause-stands g c = c.into_book-book.ensures
-
-pub returns-then-out_of_memory-clause-stands : goal.returns-then-out_of_memory-clause-stands
-returns-then-out_of_memory-clause-stands g c = c.into_book-book-then-out_of_memory.ensures
+pub returns-in-Err-in_threads-clause-stands : goal.returns-in-Err-in_threads-clause-stands
+returns-in-Err-in_threads-clause-stands g c = c.into_book-book.ensures
 
 pub returns-in-Err-close_unlocked-clause-stands : goal.returns-in-Err-close_unlocked-clause-stands
 returns-in-Err-close_unlocked-clause-stands g c = c.into_book-book-in-Err-close_unlocked.ensures.continued
