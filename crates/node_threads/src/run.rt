@@ -1,7 +1,7 @@
 // Runs: a thread for each node of a book.
 
 ghost use Rattle.std.specs.Prelude.{◌≡◌, ◌≢◌, ◌+◌, ◌<◌, ◌≤◌, IfErr, IfOk, IfSome, IsTrue, MatchOption, OnOk, false};
-ghost use Rattle.std.specs.Prelude.{length};
+ghost use Rattle.std.specs.Prelude.{length, map, ℕ};
 ghost use Rattle.topology.specs.Graph.{IsNode};
 ghost use Rattle.node_threads.specs.Closed.{HasCloseFault, IsClosed};
 ghost use Rattle.node_threads.specs.Locked.{IsContinued};
@@ -56,6 +56,7 @@ pub fn run_nodes<P: Application, G: Gate + Sync, R: Threads + Wait + Sync>(
 ) -> Result<Outcome<P>, RunFault<P>>
     requires { turns ≤ 100000 }
     ensures closed { IfOk result (λ o. IsClosed P.app P.from_text book o.book o.seats.items) }
+    ensures order { IfOk result (λ o. map (λ l. l.0) o.seats.items ≡ book.config.graph.nodes) }
     ensures few { OnOk result (length book.config.graph.nodes ≤ 64) }
     ensures there { OnOk result (IfSome selected (λ i. IsNode book.config.graph i)) }
     ensures strange { IfErr result (λ e. e.cause ≡ RunCause.StrangeNode
@@ -67,6 +68,7 @@ pub fn run_nodes<P: Application, G: Gate + Sync, R: Threads + Wait + Sync>(
         → e.cause ≡ RunCause.TooManyForThreads)) }
     ensures close { IfErr result (λ e. (f : CloseFault) → e.cause ≡ RunCause.Close f
         → HasCloseFault P.app P.from_text book e.book f) }
+    ensures seats { IfErr result (λ e. (i : ℕ) → e.cause ≢ RunCause.Close (CloseFault.SeatMissing i)) }
     ensures back { IfErr result (λ e. (e.cause ≡ RunCause.StrangeNode → e.book ≡ book)
         × (e.cause ≡ RunCause.TooManyForThreads → e.book ≡ book)) }
     ensures stands { IfErr result (λ e. IsContinued P.app P.from_text book e.book) }
@@ -117,11 +119,13 @@ fn run_round<
     requires book { book ≡ L.book }
     requires stands { IsContinued P.app P.from_text L.book book }
     ensures closed { IfOk result (λ o. IsClosed P.app P.from_text L.book o.book o.seats.items) }
+    ensures order { IfOk result (λ o. map (λ l. l.0) o.seats.items ≡ L.nodes) }
     ensures strange { IfErr result (λ e. e.cause ≢ RunCause.StrangeNode) }
     ensures many { IfErr result (λ e. e.cause ≡ RunCause.TooManyForThreads → 64 < length L.nodes) }
     ensures back { IfErr result (λ e. e.cause ≡ RunCause.TooManyForThreads → e.book ≡ book) }
     ensures close { IfErr result (λ e. (f : CloseFault) → e.cause ≡ RunCause.Close f
         → HasCloseFault P.app P.from_text L.book e.book f) }
+    ensures seats { IfErr result (λ e. (i : ℕ) → e.cause ≢ RunCause.Close (CloseFault.SeatMissing i)) }
     ensures stands { IfErr result (λ e. IsContinued P.app P.from_text L.book e.book) }
 {
     let (shared, seats) = match share::<L, P>(alloc, blank, book) {
