@@ -7,7 +7,7 @@ use Rattle.std.proofs.lemmas.List.{length-append}
 use Rattle.std.proofs.lemmas.List.Sums.{sum_by-append}
 use Rattle.std.specs.List.{find}
 use Rattle.std.specs.List.Sorted.{IsStrictlyIncreasing}
-use Rattle.std.proofs.lemmas.Bool.{false≢true}
+use Rattle.std.proofs.lemmas.Bool.{false≢true, not-false}
 use Rattle.std.proofs.lemmas.List.Elements.{All-map}
 use Rattle.topology.specs.Graph.{has}
 use Rattle.topology.proofs.Membership.{Contains-has, has-Contains}
@@ -20,13 +20,24 @@ use Rattle.node_threads.specs.Closed.{IsUnclosed, NodeList, first_missing, is_se
 use Rattle.node_threads.specs.declared.closing.CloseFault.{CloseFault}
 use Rattle.node_threads.specs.declared.closing.CloseFault.TheVariants.{SeatMissing, ListsDiffer, NoMemory}
 use Rattle.node_threads.specs.Locked.{IsContinued}
-use Rattle.node_threads.specs.Seats.{SeatView, of_node, receipts_after, seat_list}
+use Rattle.node_threads.specs.Seats.{SeatView, empty_seat, nodes_of, of_node, receipts_after, seat_list}
 use Rattle.node_threads.proofs.Few.{few}
 use Rattle.node_threads.proofs.Once.{closed_once}
 
-not_not : (b : Bool) → not b ≡ false → b ≡ true
-not_not true is = refl
-not_not false is = absurd (cc)
+-- the lists of seats are of their nodes
+pub lists_nodes : (seats : List SeatView) → map (λ l. l.0) (map list_of seats) ≡ nodes_of seats
+lists_nodes [] = refl
+lists_nodes (s ∷ ss) = ap (λ ns. s.node ∷ ns) (lists_nodes ss)
+
+-- empty seats are of the nodes that they are made for
+empty_nodes : (ids : List ℕ) → nodes_of (map empty_seat ids) ≡ ids
+empty_nodes [] = refl
+empty_nodes (i ∷ is) = ap (λ ns. i ∷ ns) (empty_nodes is)
+
+-- and so are those that come back for them
+pub all_given : (ids : List ℕ) (seats back : List SeatView) → seats ≡ map empty_seat ids → nodes_of back ≡ nodes_of seats
+    → nodes_of back ≡ ids
+all_given ids seats back empty own = own ∙ (ap nodes_of empty ∙ empty_nodes ids)
 
 -- the nodes of the lists are those that are seated
 seated_has : (seats : List SeatView) (i : ℕ) → has (map (λ l. l.0) (map list_of seats)) i ≡ is_seated seats i
@@ -37,7 +48,7 @@ pub everyone : (ids : List ℕ) (seats : List SeatView) → first_missing ids se
     → Contains (map (λ l. l.0) (map list_of seats)) i
 everyone ids seats none i there =
     let off = find-none (λ k. not (is_seated seats k)) ids i none (has-Contains ids i there) in
-    Contains-has (map (λ l. l.0) (map list_of seats)) i (seated_has seats i ∙ not_not (is_seated seats i) off)
+    Contains-has (map (λ l. l.0) (map list_of seats)) i (seated_has seats i ∙ not-false (is_seated seats i) off)
 
 -- seats that were told what the book has
 pub seat_lists : {L : Type 0} (app : App L) (from_text : List ℕ → Option L) (b : BookView L) (mark : ℕ)
@@ -157,15 +168,27 @@ found_there q (x ∷ xs) j is = at (q x) refl (found_there q xs j)
     at false fails rest =
         let more = rest (rw fails at is) in ((suc more.0.0, omega (arith, more.0.1), more.0.2), more.1)
 
+-- where each node has a list, none is missing
+not_missing : (ids : List ℕ) (seats : List SeatView) (i : ℕ) → first_missing ids seats ≡ Some i
+    → ((k : ℕ) → Contains ids k → Contains (map (λ l. l.0) (map list_of seats)) k) → ⊥
+not_missing ids seats i is all =
+    let found = found_there (λ k. not (is_seated seats k)) ids i is in
+    let seated : is_seated seats i ≡ true =
+    sym (seated_has seats i) ∙ has-Contains (map (λ l. l.0) (map list_of seats)) i (all i found.0) in
+    false≢true (sym (ap not seated) ∙ found.1)
+
+-- where each node has a seat, none is missing
+pub none_missing : (ids : List ℕ) (seats : List SeatView) → nodes_of seats ≡ ids → (i : ℕ)
+    → first_missing ids seats ≡ Some i → ⊥
+none_missing ids seats own i is =
+    not_missing ids seats i is (λ k there. subst (λ ns. Contains ns k) (sym (lists_nodes seats ∙ own)) there)
+
 -- seats that have a fault other than want of memory don't have the lists of the nodes
 pub unclosed : {L : Type 0} (app : App L) (from_text : List ℕ → Option L) (b : BookView L) (mark : ℕ)
     (seats : List SeatView) (f : CloseFault) → IsUnclosed app from_text b mark seats f → f ≢ NoMemory
     → AreSeatLists app from_text b mark (map list_of seats) → ⊥
 unclosed app from_text b mark seats (SeatMissing i) is other lists =
-    let found = found_there (λ k. not (is_seated seats k)) b.config.graph.nodes i is in
-    let seated : is_seated seats i ≡ true =
-    sym (seated_has seats i) ∙ has-Contains (map (λ l. l.0) (map list_of seats)) i (lists.all i found.0) in
-    false≢true (sym (ap not seated) ∙ found.1)
+    not_missing b.config.graph.nodes seats i is lists.all
 unclosed app from_text b mark seats (ListsDiffer i) (none, is) other lists =
     is.differs (told_there seats is.before is.seat is.rest is.split lists.told)
   where

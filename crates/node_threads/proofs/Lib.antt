@@ -9,4 +9,5 @@ mod Stepping
 mod PutBack
 mod Turning
 mod Waiting
+mod Promising
 pub mod Refusing

@@ -11,13 +11,14 @@ use Rattle.reset_model.specs.View.{NodeView}
 use Rattle.history.specs.Book.{BookView, IsBook}
 use Rattle.history.specs.declared.entry.Receipt.{Receipt}
 use Rattle.node_threads.specs.Closed.{HasCloseFault, IsFaultOf}
-use Rattle.node_threads.specs.Seats.{SeatView}
+use Rattle.node_threads.specs.Seats.{SeatView, nodes_of}
 use Rattle.node_threads.specs.declared.closing.CloseFault.{CloseFault}
 use Rattle.node_threads.specs.declared.closing.CloseFault.TheVariants as close
 use Rattle.node_threads.specs.declared.run.RunCause.{RunCause}
 use Rattle.node_threads.specs.declared.run.RunCause.TheVariants as run
 use Rattle.history.specs.declared.refusal.ApplyRefusal.TheVariants.{StrangeNode, Stale, BookFull, NoMemory}
 use Rattle.node_threads.specs.Locked.{IsFull, IsPlanOf, IsUncommitted, IsUndone}
+use Rattle.node_threads.proofs.Collecting.{none_missing}
 use Rattle.node_threads.specs.declared.refusal.CommitRefusal.{CommitRefusal}
 use Rattle.node_threads.specs.declared.refusal.CommitRefusal.TheVariants as commit
 use Rattle.node_threads.specs.declared.refusal.SeatRefusal.{SeatRefusal}
@@ -77,14 +78,22 @@ told_close (close.ListsDiffer i) cause memory other f is =
 
 -- what a run tells of the seats that don't close
 pub has_close_fault : {L : Type 0} (app : App L) (from_text : List ℕ → Option L) (first b back : BookView L)
-    (seats : List SeatView) (fault f : CloseFault) → back ≡ b → IsFaultOf app from_text first b seats fault
-    → (fault ≡ f) × (f ≢ close.NoMemory) → HasCloseFault app from_text first back f
-has_close_fault app from_text first b back seats fault f is why (same, other) = record {
+    (seats : List SeatView) (fault f : CloseFault) → nodes_of seats ≡ first.config.graph.nodes → back ≡ b
+    → IsFaultOf app from_text first b seats fault → (fault ≡ f) × (f ≢ close.NoMemory)
+    → HasCloseFault app from_text first back f
+has_close_fault app from_text first b back seats fault f own is why (same, other) = record {
   seats = seats;
+  own = own;
   fault = subst (λ k. IsFaultOf app from_text first k seats f) (sym is)
       (subst (IsFaultOf app from_text first b seats) same why);
   other = other;
 }
+
+-- no seat is missing where each node has one
+pub has_all_seats : {L : Type 0} (app : App L) (from_text : List ℕ → Option L) (first back : BookView L) (i : ℕ)
+    → HasCloseFault app from_text first back (close.SeatMissing i) → ⊥
+has_all_seats app from_text first back i has =
+    none_missing back.config.graph.nodes has.seats (has.own ∙ sym has.fault.continued.nodes) i has.fault.fault
 
 -- a selected node isn't both there and strange
 pub not_both : (selected : Option ℕ) (P : ℕ → Type 0) → MatchOption selected ⊥ (λ i. P i → ⊥) → IfSome selected P → ⊥

@@ -10,7 +10,7 @@ use Rattle.history.specs.Book.{BookView}
 use Rattle.node_threads.specs.declared.closing.CloseFault.{CloseFault}
 use Rattle.node_threads.specs.declared.closing.CloseFault.TheVariants.{SeatMissing, ListsDiffer, NoMemory}
 use Rattle.node_threads.specs.Locked.{HasContinuation, IsContinued}
-use Rattle.node_threads.specs.Seats.{SeatView, of_node, receipts_after, seat_list}
+use Rattle.node_threads.specs.Seats.{SeatView, nodes_of, of_node, receipts_after, seat_list}
 
 -- a node, with what its seat was told
 abbrev pub NodeList : Type 0
@@ -95,10 +95,11 @@ IsCloseFault app from_text first nodes seats (ListsDiffer i) =
     (λ b. IsCounted first b seats × IsFirstDiffering (receipts_after app from_text b (length first.entries)) seats i)
 IsCloseFault app from_text first nodes seats NoMemory = first_missing nodes seats ≡ None
 
--- what a run of the first book tells of seats that don't close its sharing: some seats have this fault, which isn't want
--- of memory, by the book that comes back
+-- what a run of the first book tells of seats that don't close its sharing: seats of which each node has one, in the
+-- nodes' order, have this fault, which isn't want of memory, by the book that comes back
 pub record HasCloseFault {L : Type 0} (app : App L) (from_text : List ℕ → Option L) (first b : BookView L)
     (f : CloseFault) : Type 0 where
   pub seats : List SeatView
+  pub own : nodes_of seats ≡ first.config.graph.nodes
   pub fault : IsFaultOf app from_text first b seats f
   pub other : f ≢ NoMemory

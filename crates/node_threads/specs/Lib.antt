@@ -6,3 +6,4 @@ pub mod Told
 pub mod Closed
 pub mod Stepped
 pub mod Waiting
+pub mod Threads

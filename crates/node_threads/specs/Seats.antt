@@ -1,5 +1,5 @@
 -- Seat lists: what the entries of one node after a mark tell, and what its seat was told.
-use Rattle.std.specs.Prelude.{ℕ, ◌+◌, ◌==◌, nat_lt, List, [], ◌∷◌, ◌++◌, filter, Option, Ok, Err}
+use Rattle.std.specs.Prelude.{ℕ, ◌+◌, ◌==◌, nat_lt, List, [], ◌∷◌, ◌++◌, filter, map, Option, Ok, Err}
 use Rattle.std.specs.Option.{option_map_or}
 use Rattle.app_interface.specs.Application.{App}
 use Rattle.reset_model.specs.declared.event.Event.{Event}
@@ -17,6 +17,10 @@ pub record SeatView : Type 0 where
   pub node : ℕ
   pub receipts : List Receipt
   pub amount : ℕ
+
+-- the nodes of seats, in turn
+abbrev pub nodes_of : List SeatView → List ℕ
+nodes_of seats = map (λ s. s.node) seats
 
 -- the seat of a node that was told nothing yet
 abbrev pub empty_seat : ℕ → SeatView

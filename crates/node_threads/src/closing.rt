@@ -3,7 +3,6 @@
 ghost use Rattle.std.specs.Prelude.{◌≡◌, ◌≢◌, ◌≤◌, ◌++◌, ◌∷◌, ◌↔◌, [], All, IfErr, IfOk, IsTrue, OnOk};
 ghost use Rattle.std.specs.Prelude.{drop, filter, length, map, nat_lt, ℕ};
 ghost use Rattle.std.specs.Vec.{vec_capacity};
-ghost use Rattle.reset_model.specs.Steps.{event_node};
 ghost use Rattle.node_threads.specs.Closed.{AreSeatLists, IsCloseFault, IsClosed, IsFaultOf, IsFirstDiffering};
 ghost use Rattle.node_threads.specs.Closed.{IsUnclosed};
 ghost use Rattle.node_threads.specs.Closed.{first_missing};

@@ -12,6 +12,7 @@ mod round;
 mod run;
 mod seat;
 mod sharing;
+mod threads;
 mod turns;
 mod unlocked;
 

@@ -1,6 +1,6 @@
 // What lies under the lock.
 
-ghost use Rattle.std.specs.Prelude.{◌≡◌, ◌≢◌, ◌+◌, Ok, IfOk, IfErr, OnOk, OnErr, true, drop, length, take};
+ghost use Rattle.std.specs.Prelude.{◌≡◌, ◌+◌, Ok, IfOk, IfErr, OnOk, OnErr, true, drop, length, take};
 ghost use Rattle.std.specs.List.{list_all};
 ghost use Rattle.std.specs.Coded.{codes};
 ghost use Rattle.topology.specs.Graph.{graph_code};

@@ -1,28 +1,24 @@
-// A thread for each node.
+// Runs: a thread for each node of a book.
 
 ghost use Rattle.std.specs.Prelude.{◌≡◌, ◌≢◌, ◌+◌, ◌<◌, ◌≤◌, IfErr, IfOk, IfSome, IsTrue, MatchOption, OnOk, false};
-ghost use Rattle.std.specs.Prelude.{length};
-ghost use denote.Param.{param};
-ghost use denote.Param.Send.{IsSync};
+ghost use Rattle.std.specs.Prelude.{length, map, ℕ};
 ghost use Rattle.topology.specs.Graph.{IsNode};
 ghost use Rattle.node_threads.specs.Closed.{HasCloseFault, IsClosed};
 ghost use Rattle.node_threads.specs.Locked.{IsContinued};
-ghost use Rattle.node_threads.specs.contracts.sharing.Shared.{the_row};
 
 use crate::closing::{CloseFault, Outcome, close_unlocked};
-use crate::refusal::{SeatRefusal, ShareFault};
-use crate::round::{Round, Sharing};
-use crate::seat::Seat;
-use crate::sharing::{MAX_SEATS, Shared, select, share};
-use crate::turns::{Gate, TurnsEnd, take_turns};
+use crate::refusal::ShareFault;
+use crate::round::Sharing;
+use crate::sharing::{MAX_SEATS, share};
+use crate::threads::{Task, in_threads};
+use crate::turns::Gate;
 use crate::unlocked::Unlocked;
 use app_interface::Application;
-use history::{Book, BookRefusal};
+use history::Book;
 use std::alloc::Global;
 use std::marker::Brand;
 use std::sync::Wait;
 use std::sync::ledger::Blank;
-use std::thread;
 use std::thread::Threads;
 
 /// Why a run of node threads gives no outcome, in the order in which faults are given.
@@ -47,22 +43,6 @@ pub struct RunFault<P: Application> {
     pub book: Book<P>,
 }
 
-// What a run does at each seat: the selected node asks for a reset, and then each takes so many turns.
-#[derive(Clone, Copy)]
-struct Task {
-    turns: u32,
-    selected: Option<u32>,
-    ghost few: { turns ≤ 100000 },
-}
-
-// What the threads gave back, whether one couldn't be started, and whether memory was wanting.
-#[derive(Drop)]
-struct Joined<L: Round> {
-    seats: Vec<Seat<L>>,
-    refused: bool,
-    out_of_memory: bool,
-}
-
 /// Runs each node in a thread of its own: the selected node asks for a reset, and then each takes so many
 /// turns. A book that is full ends a node's turns and is no fault. A node whose memory is wanting doesn't stop
 /// the others.
@@ -76,6 +56,7 @@ pub fn run_nodes<P: Application, G: Gate + Sync, R: Threads + Wait + Sync>(
 ) -> Result<Outcome<P>, RunFault<P>>
     requires { turns ≤ 100000 }
     ensures closed { IfOk result (λ o. IsClosed P.app P.from_text book o.book o.seats.items) }
+    ensures order { IfOk result (λ o. map (λ l. l.0) o.seats.items ≡ book.config.graph.nodes) }
     ensures few { OnOk result (length book.config.graph.nodes ≤ 64) }
     ensures there { OnOk result (IfSome selected (λ i. IsNode book.config.graph i)) }
     ensures strange { IfErr result (λ e. e.cause ≡ RunCause.StrangeNode
@@ -87,6 +68,7 @@ pub fn run_nodes<P: Application, G: Gate + Sync, R: Threads + Wait + Sync>(
         → e.cause ≡ RunCause.TooManyForThreads)) }
     ensures close { IfErr result (λ e. (f : CloseFault) → e.cause ≡ RunCause.Close f
         → HasCloseFault P.app P.from_text book e.book f) }
+    ensures seats { IfErr result (λ e. (i : ℕ) → e.cause ≢ RunCause.Close (CloseFault.SeatMissing i)) }
     ensures back { IfErr result (λ e. (e.cause ≡ RunCause.StrangeNode → e.book ≡ book)
         × (e.cause ≡ RunCause.TooManyForThreads → e.book ≡ book)) }
     ensures stands { IfErr result (λ e. IsContinued P.app P.from_text book e.book) }
@@ -137,11 +119,13 @@ fn run_round<
     requires book { book ≡ L.book }
     requires stands { IsContinued P.app P.from_text L.book book }
     ensures closed { IfOk result (λ o. IsClosed P.app P.from_text L.book o.book o.seats.items) }
+    ensures order { IfOk result (λ o. map (λ l. l.0) o.seats.items ≡ L.nodes) }
     ensures strange { IfErr result (λ e. e.cause ≢ RunCause.StrangeNode) }
     ensures many { IfErr result (λ e. e.cause ≡ RunCause.TooManyForThreads → 64 < length L.nodes) }
     ensures back { IfErr result (λ e. e.cause ≡ RunCause.TooManyForThreads → e.book ≡ book) }
     ensures close { IfErr result (λ e. (f : CloseFault) → e.cause ≡ RunCause.Close f
         → HasCloseFault P.app P.from_text L.book e.book f) }
+    ensures seats { IfErr result (λ e. (i : ℕ) → e.cause ≢ RunCause.Close (CloseFault.SeatMissing i)) }
     ensures stands { IfErr result (λ e. IsContinued P.app P.from_text L.book e.book) }
 {
     let (shared, seats) = match share::<L, P>(alloc, blank, book) {
@@ -151,24 +135,13 @@ fn run_round<
             return Err(RunFault { cause, book });
         }
     };
-    let joined = in_threads(rt, alloc, gate, &shared, seats, task);
-    let Joined {
-        seats,
-        refused,
-        out_of_memory,
-    } = joined;
-    if refused {
-        drop(seats);
-        let cause = RunCause::NoThread;
-        let book = shared.into_book();
-        return Err(RunFault { cause, book });
-    }
-    if out_of_memory {
-        drop(seats);
-        let cause = RunCause::NoMemory;
-        let book = shared.into_book();
-        return Err(RunFault { cause, book });
-    }
+    let seats = match in_threads(rt, alloc, gate, &shared, seats, task) {
+        Ok(seats) => seats,
+        Err(cause) => {
+            let book = shared.into_book();
+            return Err(RunFault { cause, book });
+        }
+    };
     match close_unlocked(alloc, Unlocked::new(shared), seats) {
         Ok(outcome) => Ok(outcome),
         Err((fault, unlocked, seats)) => {
@@ -208,104 +181,4 @@ fn cause_of_closing(fault: CloseFault) -> RunCause
         CloseFault::NoMemory => RunCause::NoMemory,
         fault => RunCause::Close(fault),
     }
-}
-
-// What a thread does at a seat, which is counted among those that take turns.
-fn run_seat<L: Sharing<P::Local>, P: Application, G: Gate, R: Wait>(
-    rt: &R,
-    alloc: Global,
-    gate: &G,
-    shared: &Shared<L, P>,
-    mut seat: Seat<L>,
-    task: Task,
-) -> (Seat<L>, TurnsEnd) {
-    let end = do_task(rt, alloc, gate, shared, &mut seat, task);
-    shared.depart(rt, seat.node());
-    (seat, end)
-}
-
-// The task at a seat.
-fn do_task<L: Sharing<P::Local>, P: Application, G: Gate, R: Wait>(
-    rt: &R,
-    alloc: Global,
-    gate: &G,
-    shared: &Shared<L, P>,
-    seat: &mut Seat<L>,
-    task: Task,
-) -> TurnsEnd {
-    if task.selected == Some(seat.node()) {
-        match select(rt, alloc, shared, seat) {
-            Err(SeatRefusal::Refused(BookRefusal::NoMemory)) => return TurnsEnd::NoMemory,
-            _ => {}
-        }
-    }
-    take_turns(rt, alloc, gate, shared, seat, task.turns)
-}
-
-// What is shared may be seen by every thread.
-fn lemma_is_sync<L: Sharing<P::Local> + Send + Sync, P: Application>(shared: &Shared<L, P>)
-    ensures { IsSync (the_row (param 0 L.row) (param 1 P.row) (param 4 P.Local.row) L.Sharing.own L.Round.own L.Ledger.own
-        P.Application.own) }
-{
-    let _ = shared;
-}
-
-// One thread for each seat, all joined. All seats are counted before the first is started, so that none finds that all wait
-// before the last has begun. Room for the handles and the seats is made before the first is started, so that
-// no thread is left to end by itself for want of a place for its handle.
-fn in_threads<
-    L: Sharing<P::Local> + Send + Sync,
-    P: Application,
-    G: Gate + Sync,
-    R: Threads + Wait + Sync,
->(
-    rt: &R,
-    alloc: Global,
-    gate: &G,
-    shared: &Shared<L, P>,
-    seats: Vec<Seat<L>>,
-    task: Task,
-) -> Joined<L> {
-    thread::scope(thread::scope_env(), rt, |scope| -> Joined<L> {
-        shared.arrive(rt, seats.len());
-        lemma_is_sync(shared);
-        let mut handles = Vec::new(alloc);
-        let mut back = Vec::new(alloc);
-        if handles.reserve(seats.len()).is_err() || back.reserve(seats.len()).is_err() {
-            drop(seats);
-            drop(handles);
-            return Joined {
-                seats: back,
-                refused: false,
-                out_of_memory: true,
-            };
-        }
-        let mut refused = false;
-        let mut out_of_memory = false;
-        for seat in seats {
-            let node = seat.node();
-            match scope.spawn(move || run_seat(rt, alloc, gate, shared, seat, task)) {
-                Ok(handle) => {
-                    if handles.push(handle).is_err() {
-                        out_of_memory = true;
-                    }
-                }
-                Err(_) => {
-                    shared.depart(rt, node);
-                    refused = true;
-                }
-            }
-        }
-        for handle in handles {
-            let (seat, end) = handle.join(rt);
-            if end == TurnsEnd::NoMemory || back.push(seat).is_err() {
-                out_of_memory = true;
-            }
-        }
-        Joined {
-            seats: back,
-            refused,
-            out_of_memory,
-        }
-    })
 }

@@ -52,10 +52,10 @@ enum Turn<P: Application> {
 }
 
 /// Takes turns at the seat. A turn looks, chooses by [`next_event`], plans without the lock, and commits; the
-/// gate is told of a plan and of its commitment. Where there is nothing to do, the turn waits until a neighbour has
-/// changed and looks again. After a stale plan the next turn goes by the view that came with the refusal, without a
-/// look. The turns end early where the book is full or memory is wanting, and where no node that takes turns has
-/// anything to do: so a node that takes turns alone never waits.
+/// gate is called with each plan before it is committed, and after. Where there is nothing to do, the turn waits
+/// until a neighbour has changed and looks again. After a stale plan the next turn goes by the view that came with
+/// the refusal, without a look. The turns end early where the book is full or memory is wanting, and where no node
+/// that takes turns has anything to do: so a node that takes turns alone never waits.
 pub fn node_turns<L: Sharing<P::Local>, P: Application, G: Gate, R: Wait>(
     rt: &R,
     alloc: Global,
