@@ -1,6 +1,9 @@
 // The faults of a configuration.
 
+ghost use Rattle.std.specs.Prelude.{◌≡◌, IfOk};
+
 use crate::local_text::LocalText;
+use std::alloc::{AllocError, Global};
 use tree_layer::TreeRegs;
 use wave_layer::WaveRegs;
 
@@ -22,4 +25,31 @@ pub enum Fault {
     NodeDown { at: u32 },
     /// The node comes up, and begins anew, without links.
     NodeUp { at: u32 },
+}
+
+impl Fault {
+    /// The same fault.
+    pub fn copy(&self, alloc: Global) -> Result<Fault, AllocError>
+        ensures { IfOk result (λ copy. copy ≡ self.now) }
+    {
+        let copy = match self {
+            Fault::SetTree { at, regs } => Fault::SetTree {
+                at: *at,
+                regs: *regs,
+            },
+            Fault::SetWave { at, regs } => Fault::SetWave {
+                at: *at,
+                regs: *regs,
+            },
+            Fault::SetLocal { at, text } => Fault::SetLocal {
+                at: *at,
+                text: text.copy(alloc)?,
+            },
+            Fault::LinkDown { a, b } => Fault::LinkDown { a: *a, b: *b },
+            Fault::LinkUp { a, b } => Fault::LinkUp { a: *a, b: *b },
+            Fault::NodeDown { at } => Fault::NodeDown { at: *at },
+            Fault::NodeUp { at } => Fault::NodeUp { at: *at },
+        };
+        Ok(copy)
+    }
 }

@@ -1,10 +1,11 @@
 // The text that a fault has for a local state.
 
-ghost use Rattle.std.specs.Prelude.{◌≡◌};
+ghost use Rattle.std.specs.Prelude.{◌≡◌, IfOk};
 ghost use Rattle.std.specs.Str.{bytes_eq};
 ghost use Rattle.std.specs.Cmp as order;
 ghost use Rattle.std.specs.Cmp.Lexicographic.{nat_list_eq_equiv};
 
+use std::alloc::{AllocError, Global};
 use std::marker::Model;
 
 /// The text of a local state. Contracts see the list of its bytes.
@@ -27,6 +28,14 @@ impl LocalText {
         ensures { result ≡ bytes.items }
     {
         LocalText { bytes }
+    }
+
+    /// The same text.
+    pub fn copy(&self, alloc: Global) -> Result<LocalText, AllocError>
+        ensures { IfOk result (λ copy. copy ≡ self.now) }
+    {
+        let bytes = self.bytes.to_vec(alloc)?;
+        Ok(LocalText::new(bytes))
     }
 
     /// Its bytes.
