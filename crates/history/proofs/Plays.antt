@@ -2,6 +2,7 @@
 use Rattle.std.proofs.Common.{◌≡◌, ℕ, suc, ◌+◌, ◌≤◌, ◌<◌, ◌==◌, true, false, not, if◌then◌else◌, List, [], ◌∷◌, ◌++◌}
 use Rattle.std.proofs.Common.{length, position, Option, Some, None, Ok, Err, is_some, refl, ap, subst, sym, ◌∙◌, arith}
 use Rattle.std.proofs.Common.{append_assoc, append-nil, take, drop, slice_index_or, add-one, ◌≢◌}
+use Rattle.std.specs.Borrow.{Bor}
 use Rattle.std.proofs.Math.Seq.{split_at, take-suc}
 use Rattle.std.proofs.lemmas.List.{length-append, length-take}
 use Rattle.std.specs.Option.{option_and_then, option_map_or}
@@ -25,10 +26,11 @@ use Rattle.history.specs.declared.entry.Entry.{Entry}
 use Rattle.history.specs.declared.entry.Entry.TheVariants.{Step, Disturbed}
 use Rattle.history.specs.declared.entry.Report.{Report}
 use Rattle.history.specs.declared.openings.Openings.{Openings}
-use Rattle.history.specs.declared.entry.VerifyFault.{VerifyFault}
-use Rattle.history.specs.declared.entry.VerifyFault.TheVariants.{NotEnabledAt, NoMemory}
-use Rattle.history.specs.Entries.{IsFirstRefused, entered, replayed}
-use Rattle.history.specs.Played.{IsPlayed, IsWithin, opened_by, recent, told, told_of}
+use Rattle.history.specs.declared.entry.VerifyFault.TheVariants.{NotEnabledAt}
+use Rattle.history.specs.declared.player.PlayFault.{PlayFault}
+use Rattle.history.specs.declared.player.PlayFault.TheVariants.{Refused, NoMemory}
+use Rattle.history.specs.Entries.{IsFirstRefused, IsRefusal, entered, replayed}
+use Rattle.history.specs.Played.{IsPlayed, IsStoppedBy, IsWithin, opened_by, recent, told, told_of, verify_fault_of}
 use Rattle.history.specs.Reports.{latest_opening, report_of, reported, reports_from}
 
 pub recent_snoc : (before es : List Entry) (e : Entry) → recent before (es ++ e ∷ []) ≡ e ∷ recent before es
@@ -198,36 +200,41 @@ module _ {L : Type 0} (app : App L) (from_text : List ℕ → Option L) where
       rw taken played
 
   -- an entry of a list that is refused after those before it
-  pub first_refused : (c left : Configuration L) (before es : List Entry) (i : ℕ) (x : Entry) (f : VerifyFault)
-      (place_of at : ℕ) → i < length es → x ≡ slice_index_or es i x
-      → replayed app from_text c (before ++ take i es) ≡ Some left → (f ≢ NoMemory → (f ≡ NotEnabledAt place_of)
-      × (entered app from_text left x ≡ None)) → place_of ≡ length before + i + 1
-      → f ≡ NotEnabledAt at → IsFirstRefused app from_text c (before ++ es) at
-  first_refused c left before es i x f place_of at short is played refused here fault =
-      let why = refused (λ none. apart at (sym fault ∙ none)) in
-      record {
-        before = before ++ take i es;
-        entry = x;
-        rest = drop (suc i) es;
-        left = left;
-        split =
-            ap (λ l. before ++ l) (split_at es i x short ∙ ap (λ e. take i es ++ e ∷ drop (suc i) es) (sym is))
-            ∙ sym (append_assoc before (take i es) (x ∷ drop (suc i) es));
-        allowed = played;
-        refused = why.1;
-        place =
-            omega (
-              arith,
-              here,
-              one at place_of (sym fault ∙ why.0),
-              length-take i es,
-              length-append before (take i es),
-              short,
-            );
-      }
-    where
-      apart : (n : ℕ) → NotEnabledAt n ≡ NoMemory → ⊥
-      apart n e = cc
+  first_refused : (c left : Configuration L) (before es : List Entry) (i at : ℕ) (x : Entry)
+      → i < length es → x ≡ slice_index_or es i x
+      → replayed app from_text c (before ++ take i es) ≡ Some left → entered app from_text left x ≡ None
+      → at ≡ length before + i + 1 → IsRefusal app from_text c (before ++ es) at x left
+  first_refused c left before es i at x short is played refused here = record {
+    first = record {
+      before = before ++ take i es;
+      entry = x;
+      rest = drop (suc i) es;
+      left = left;
+      split =
+          ap (λ l. before ++ l) (split_at es i x short ∙ ap (λ e. take i es ++ e ∷ drop (suc i) es) (sym is))
+          ∙ sym (append_assoc before (take i es) (x ∷ drop (suc i) es));
+      allowed = played;
+      refused = refused;
+      place = omega (arith, here, length-take i es, length-append before (take i es), short);
+    };
+    entry_is = refl;
+    left_is = refl;
+  }
 
-      one : (n m : ℕ) → NotEnabledAt n ≡ NotEnabledAt m → n ≡ m
-      one n m e = cc
+  pub stopped : (c left : Configuration L) (before es : List Entry) (i at : ℕ) (x : Bor Entry) (f : PlayFault)
+      → i < length es → x.now ≡ slice_index_or es i x.now
+      → replayed app from_text c (before ++ take i es) ≡ Some left
+      → (f ≢ NoMemory → (f ≡ Refused at x) × (entered app from_text left x.now ≡ None))
+      → at ≡ length before + i + 1 → IsStoppedBy app from_text c (before ++ es) left f
+  stopped c left before es i at x (Refused place entry) short is played refused here =
+      let why = refused (λ e. cc) in
+      subst (IsStoppedBy app from_text c (before ++ es) left) (sym why.0)
+      (first_refused c left before es i at x.now short is played why.1 here)
+  stopped c left before es i at x NoMemory short is played refused here = tt
+
+  -- an entry at which they stopped is the first that is refused
+  pub named : (c left : Configuration L) (es : List Entry) (at : ℕ) (f : PlayFault) → verify_fault_of f ≡ NotEnabledAt at
+      → IsStoppedBy app from_text c es left f → IsFirstRefused app from_text c es at
+  named c left es at (Refused position x) is refusal =
+      let same : position ≡ at = cc in subst (IsFirstRefused app from_text c es) same refusal.first
+  named c left es at NoMemory is refusal = absurd (cc)

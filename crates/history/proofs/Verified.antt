@@ -1,37 +1,48 @@
 -- Entries that are played up to the first that isn't allowed where it stands.
-use Rattle.std.proofs.Common.{◌≡◌, ◌≢◌, ℕ, false, true≢false, List, ◌∷◌, ◌++◌, Option, None}
+use Rattle.std.proofs.Common.{◌≡◌, ◌≢◌, ℕ, true, false, true≢false, sym, List, ◌∷◌, ◌++◌, Option, None}
 use Rattle.std.proofs.Common.{Some, refl, ap, ◌∙◌, append_assoc, Result, Ok, Err, OnOk, IfErr}
 use Rattle.std.specs.Option.{is_none}
 use Rattle.std.specs.Result.{result_err}
 use Rattle.app_interface.specs.Application.{App}
 use Rattle.reset_model.specs.Configuration.{Configuration}
 use Rattle.history.specs.declared.entry.Entry.{Entry}
-use Rattle.history.specs.declared.entry.VerifyFault.{VerifyFault}
-use Rattle.history.specs.declared.entry.VerifyFault.TheVariants.{NotEnabledAt, NoMemory}
+use Rattle.history.specs.declared.player.PlayFault.{PlayFault}
+use Rattle.history.specs.declared.player.PlayFault.TheVariants.{Refused, NoMemory}
 use Rattle.history.specs.declared.player.Player.{Player}
-use Rattle.history.specs.Entries.{IsFirstRefused}
+use Rattle.history.specs.declared.verifier.Stop.{Stop}
+use Rattle.history.specs.declared.verifier.Stop.TheVariants as stop
+use Rattle.history.specs.declared.verification.JudgeFault.{JudgeFault}
+use Rattle.history.specs.declared.verification.JudgeFault.TheVariants as judge
+use Rattle.history.specs.declared.verification.Resumed.{Resumed}
+use Rattle.history.specs.Entries.{IsRefusal}
 use Rattle.history.specs.declared.text.BookFault.{BookFault}
 use Rattle.history.specs.declared.text.BookFault.TheVariants as book
 use Rattle.history.specs.declared.verification.ReaderFault.TheVariants as reader
 use Rattle.history.specs.HistoryText.{IsReadAs, IsReadWhole}
-use Rattle.history.specs.Played.{HasPlayed, IsPlayedTo}
-use Rattle.history.specs.Verdict.{IsVerdict}
+use Rattle.history.specs.Played.{HasPlayed, IsKept, IsPlayedTo, IsStoppedBy}
+use Rattle.history.specs.Verdict.{IsEnd, IsJudgement, IsVerdict, reader_fault_of}
 use Rattle.history.proofs.ReadLines.{some_whole}
 
 module _ {L : Type 0} (app : App L) (from_text : List ℕ → Option L) (c : Configuration L) where
   -- what follows the first refused entry changes nothing
-  pub refused_on : (es more : List Entry) (position : ℕ) → IsFirstRefused app from_text c es position
-      → IsFirstRefused app from_text c (es ++ more) position
-  refused_on es more position first = record {
-    before = first.before;
-    entry = first.entry;
-    rest = first.rest ++ more;
-    left = first.left;
-    split = ap (λ l. l ++ more) first.split ∙ append_assoc first.before (first.entry ∷ first.rest) more;
-    allowed = first.allowed;
-    refused = first.refused;
-    place = first.place;
-  }
+  refused_on : (es more : List Entry) (position : ℕ) (entry : Entry) (left : Configuration L)
+      → IsRefusal app from_text c es position entry left → IsRefusal app from_text c (es ++ more) position entry left
+  refused_on es more position entry left refusal =
+      let first = refusal.first in
+      record {
+        first = record {
+          before = first.before;
+          entry = first.entry;
+          rest = first.rest ++ more;
+          left = first.left;
+          split = ap (λ l. l ++ more) first.split ∙ append_assoc first.before (first.entry ∷ first.rest) more;
+          allowed = first.allowed;
+          refused = first.refused;
+          place = first.place;
+        };
+        entry_is = refusal.entry_is;
+        left_is = refusal.left_is;
+      }
 
 module _ {L : Type 0} (app : App L) (from_text : List ℕ → Option L) (c : Configuration L) where
   abbrev IsTold : Option (List ℕ) → BookFault → Type 0
@@ -56,22 +67,44 @@ module _ {L : Type 0} (app : App L) (from_text : List ℕ → Option L) (c : Con
 
 module _ {P L : Type 0} (app : App L) (from_text : List ℕ → Option L) (c : Configuration L) where
   -- after a fault no entry is played
-  played_past : (es more : List Entry) (p : Player P L) (fault : VerifyFault)
-      → IsPlayedTo app from_text c es p (Some fault) → IsPlayedTo app from_text c (es ++ more) p (Some fault)
-  played_past es more p (NotEnabledAt position) first = refused_on app from_text c es more position first
-  played_past es more p NoMemory played = tt
+  played_past : (es more : List Entry) (p : Player P L) (s : Stop)
+      → IsPlayedTo app from_text c es p (Some s) → IsPlayedTo app from_text c (es ++ more) p (Some s)
+  played_past es more p (stop.Refused position entry) refusal =
+      refused_on app from_text c es more position entry p.config refusal
+  played_past es more p stop.NoMemory played = tt
 
-  pub played_on : (es more : List Entry) (p : Player P L) (fault : Option VerifyFault) → is_none fault ≡ false
-      → IsPlayedTo app from_text c es p fault → IsPlayedTo app from_text c (es ++ more) p fault
+  pub played_on : (es more : List Entry) (p : Player P L) (s : Option Stop) → is_none s ≡ false
+      → IsPlayedTo app from_text c es p s → IsPlayedTo app from_text c (es ++ more) p s
   played_on es more p None some played = absurd (true≢false some)
-  played_on es more p (Some fault) some played = played_past es more p fault played
+  played_on es more p (Some s) some played = played_past es more p s played
 
-  -- what a player keeps after more entries, of which one may be refused
-  pub played_to : (es more : List Entry) (p new : Player P L) (r : Result (Unit {0}) VerifyFault)
-      → OnOk r (HasPlayed app from_text c (es ++ more) new)
-      → IfErr r (λ f. (position : ℕ) → f ≡ NotEnabledAt position
-      → IsFirstRefused app from_text c (es ++ more) position)
-      → IsPlayedTo app from_text c (es ++ more) new (result_err r)
-  played_to es more p new (Ok done) played refused = played
-  played_to es more p new (Err (NotEnabledAt position)) played refused = refused position refl
-  played_to es more p new (Err NoMemory) played refused = tt
+  -- where nothing stopped it, all were played
+  pub all_played : (es : List Entry) (p : Player P L) (s : Option Stop) → is_none s ≡ true
+      → IsPlayedTo app from_text c es p s → HasPlayed app from_text c es p
+  all_played es p None none played = played
+  all_played es p (Some s) none played = absurd (true≢false (sym none))
+
+  -- what a verifier keeps of entries of which one is refused
+  pub stopped_at : (es : List Entry) (new : Player P L) (f : PlayFault) (s : Stop)
+      → IsStoppedBy app from_text c es new.config f → IsKept f s → IsPlayedTo app from_text c es new (Some s)
+  stopped_at es new (Refused position entry) (stop.Refused at own) refusal kept =
+      rw kept.0 (rw kept.1 refusal)
+  stopped_at es new NoMemory (stop.Refused at own) refusal kept = absurd kept
+  stopped_at es new f stop.NoMemory refusal kept = tt
+
+  -- a judgement without what its fault has of an entry
+  pub resumption : (text : List ℕ) (f : JudgeFault P L) → IsJudgement app from_text c text (Err f)
+      → IsVerdict app from_text c text (Err (reader_fault_of f))
+  resumption text (judge.Text f) is = is
+  resumption text (judge.OtherModulus m) is = is
+  resumption text (judge.Refused r) (es, read, refusal) = (es, read, refusal.first)
+  resumption text judge.NoMemory is = tt
+
+  -- what entries come to, where a text reads so
+  pub judgement : (es : List Entry) (text : List ℕ) (r : Result (Resumed P L) (JudgeFault P L))
+      → IsReadAs text (Ok (c.modulus, es)) → IsEnd app from_text c es r → IsJudgement app from_text c text r
+  judgement es text (Ok r) read end = (es, read, end)
+  judgement es text (Err (judge.Refused r)) read end = (es, read, end)
+  judgement es text (Err judge.NoMemory) read end = tt
+  judgement es text (Err (judge.Text f)) read end = absurd end
+  judgement es text (Err (judge.OtherModulus m)) read end = absurd end

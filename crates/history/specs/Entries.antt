@@ -42,3 +42,10 @@ pub record IsFirstRefused {L : Type 0} (app : App L) (from_text : List ℕ → O
   pub allowed : replayed app from_text c before ≡ Some left
   pub refused : entered app from_text left entry ≡ None
   pub place : position ≡ length before + 1
+
+-- and it is this entry, before which the entries leave this configuration
+pub record IsRefusal {L : Type 0} (app : App L) (from_text : List ℕ → Option L) (c : Configuration L)
+    (es : List Entry) (position : ℕ) (entry : Entry) (left : Configuration L) : Type 0 where
+  pub first : IsFirstRefused app from_text c es position
+  pub entry_is : first.entry ≡ entry
+  pub left_is : first.left ≡ left

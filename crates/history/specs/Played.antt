@@ -10,10 +10,15 @@ use Rattle.history.specs.declared.entry.Entry.{Entry}
 use Rattle.history.specs.declared.entry.Report.{Report}
 use Rattle.history.specs.declared.openings.Openings.{Openings}
 use Rattle.history.specs.declared.entry.VerifyFault.{VerifyFault}
-use Rattle.history.specs.declared.entry.VerifyFault.TheVariants.{NotEnabledAt, NoMemory}
+use Rattle.history.specs.declared.entry.VerifyFault.TheVariants.{NotEnabledAt}
+use Rattle.history.specs.declared.entry.VerifyFault.TheVariants as verify
+use Rattle.history.specs.declared.player.PlayFault.{PlayFault}
+use Rattle.history.specs.declared.player.PlayFault.TheVariants.{Refused, NoMemory}
 use Rattle.history.specs.declared.player.Player.{Player}
+use Rattle.history.specs.declared.verifier.Stop.{Stop}
+use Rattle.history.specs.declared.verifier.Stop.TheVariants as stop
 use Rattle.history.specs.declared.verifier.Verifier.{Verifier}
-use Rattle.history.specs.Entries.{IsFirstRefused, replayed}
+use Rattle.history.specs.Entries.{IsRefusal, replayed}
 use Rattle.history.specs.Reports.{latest_opening, reports_of}
 
 -- the position that a table has at the index, 0 past its end
@@ -61,14 +66,32 @@ abbrev pub HasPlayed : {P L : Type 0} → App L → (List ℕ → Option L) → 
     → Type 0
 HasPlayed app from_text c es p = IsPlayed app from_text c es p.config p.openings p.reports.items
 
--- what a verifier keeps is that of these entries, up to the first fault: what its player keeps, or which of them is the
+-- why the entries are played no further, where those that were played leave this configuration
+abbrev pub IsStoppedBy : {L : Type 0} → App L → (List ℕ → Option L) → Configuration L → List Entry → Configuration L
+    → PlayFault → Type 0
+IsStoppedBy app from_text c es left (Refused position entry) = IsRefusal app from_text c es position entry.now left
+IsStoppedBy app from_text c es left NoMemory = ⊤
+
+-- the fault, without the entry
+abbrev pub verify_fault_of : PlayFault → VerifyFault
+verify_fault_of (Refused position entry) = NotEnabledAt position
+verify_fault_of NoMemory = verify.NoMemory
+
+-- what is kept of it: the same, or that there was no memory for the entry
+abbrev pub IsKept : PlayFault → Stop → Type 0
+IsKept (Refused position entry) (stop.Refused at kept) = (at ≡ position) × (kept ≡ entry.now)
+IsKept NoMemory (stop.Refused at kept) = ⊥
+IsKept fault stop.NoMemory = ⊤
+
+-- what a verifier keeps is that of these entries, up to the first fault: what its player keeps, and which of them is the
 -- first that isn't allowed where it stands
 abbrev pub IsPlayedTo : {P L : Type 0} → App L → (List ℕ → Option L) → Configuration L → List Entry → Player P L
-    → Option VerifyFault → Type 0
+    → Option Stop → Type 0
 IsPlayedTo app from_text c es p None = HasPlayed app from_text c es p
-IsPlayedTo app from_text c es p (Some (NotEnabledAt position)) = IsFirstRefused app from_text c es position
-IsPlayedTo app from_text c es p (Some NoMemory) = ⊤
+IsPlayedTo app from_text c es p (Some (stop.Refused position entry)) =
+    IsRefusal app from_text c es position entry p.config
+IsPlayedTo app from_text c es p (Some stop.NoMemory) = ⊤
 
 abbrev pub HasVerified : {P L : Type 0} → App L → (List ℕ → Option L) → Configuration L → List Entry → Verifier P L
     → Type 0
-HasVerified app from_text c es v = IsPlayedTo app from_text c es v.player v.fault
+HasVerified app from_text c es v = IsPlayedTo app from_text c es v.player v.stop

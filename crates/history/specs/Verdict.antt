@@ -9,9 +9,11 @@ use Rattle.history.specs.declared.entry.VerifyFault.TheVariants.{NotEnabledAt}
 use Rattle.history.specs.declared.entry.VerifyFault.TheVariants as verify
 use Rattle.history.specs.declared.text.BookFault.TheVariants as book
 use Rattle.history.specs.declared.verification.ReaderFault.{ReaderFault}
+use Rattle.history.specs.declared.verification.JudgeFault.{JudgeFault}
+use Rattle.history.specs.declared.verification.JudgeFault.TheVariants as judge
 use Rattle.history.specs.declared.verification.Resumed.{Resumed}
 use Rattle.history.specs.declared.verification.ReaderFault.TheVariants as reader
-use Rattle.history.specs.Entries.{IsFirstRefused, replayed}
+use Rattle.history.specs.Entries.{IsFirstRefused, IsRefusal, replayed}
 use Rattle.history.specs.HistoryText.{IsReadAs}
 use Rattle.history.specs.Reports.{reports_of}
 
@@ -51,6 +53,32 @@ abbrev pub IsResumption : {P L : Type 0} → App L → (List ℕ → Option L) �
 IsResumption app from_text c text (Ok r) =
     (es : List Entry) × IsReadAs text (Ok (c.modulus, es)) × IsResumed app from_text c es r.config r.summary
 IsResumption app from_text c text (Err f) = IsVerdict app from_text c text (Err f)
+
+-- what entries come to that open so: what they leave, or which of them isn't allowed where it stands
+abbrev pub IsEnd : {P L : Type 0} → App L → (List ℕ → Option L) → Configuration L → List Entry
+    → Result (Resumed P L) (JudgeFault P L) → Type 0
+IsEnd app from_text c es (Ok r) = IsResumed app from_text c es r.config r.summary
+IsEnd app from_text c es (Err (judge.Refused r)) = IsRefusal app from_text c es r.position r.entry r.config
+IsEnd app from_text c es (Err judge.NoMemory) = ⊤
+IsEnd app from_text c es (Err (judge.Text f)) = ⊥
+IsEnd app from_text c es (Err (judge.OtherModulus m)) = ⊥
+
+-- the fault without the configuration that an entry is refused in
+abbrev pub reader_fault_of : {P L : Type 0} → JudgeFault P L → ReaderFault
+reader_fault_of (judge.Text f) = reader.Text f
+reader_fault_of (judge.OtherModulus m) = reader.OtherModulus m
+reader_fault_of (judge.Refused r) = reader.Entries (NotEnabledAt r.position)
+reader_fault_of judge.NoMemory = reader.Entries verify.NoMemory
+
+-- the verdict, with the configuration that the entries leave, or with the entry that isn't allowed and the configuration
+-- there
+abbrev pub IsJudgement : {P L : Type 0} → App L → (List ℕ → Option L) → Configuration L → List ℕ
+    → Result (Resumed P L) (JudgeFault P L) → Type 0
+IsJudgement app from_text c text (Ok r) = IsResumption app from_text c text (Ok r)
+IsJudgement app from_text c text (Err (judge.Refused r)) =
+    (es : List Entry) × IsReadAs text (Ok (c.modulus, es))
+    × IsRefusal app from_text c es r.position r.entry r.config
+IsJudgement app from_text c text (Err f) = IsVerdict app from_text c text (Err (reader_fault_of f))
 
 -- what an answer tells: how many entries there are, and their reports, or the fault. Want of memory, and a reader
 -- that failed, tell nothing of a text

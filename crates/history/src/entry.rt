@@ -1,7 +1,10 @@
 // What a history consists of, and what it comes to.
 
+ghost use Rattle.std.specs.Prelude.{◌≡◌, IfOk};
+
 use fault_inject::Fault;
 use reset_machine::{Event, Reply};
+use std::alloc::{AllocError, Global};
 
 /// What happened to a configuration.
 #[derive(Debug, PartialEq, Eq, Drop)]
@@ -10,6 +13,18 @@ pub enum Entry {
     Step(Event),
     /// The fault was done.
     Disturbed(Fault),
+}
+
+impl Entry {
+    /// The same entry.
+    pub fn copy(&self, alloc: Global) -> Result<Entry, AllocError>
+        ensures { IfOk result (λ copy. copy ≡ self.now) }
+    {
+        match self {
+            Entry::Step(event) => Ok(Entry::Step(*event)),
+            Entry::Disturbed(fault) => Ok(Entry::Disturbed(fault.copy(alloc)?)),
+        }
+    }
 }
 
 /// That an event was applied, and how its node replied. Positions count from 1.

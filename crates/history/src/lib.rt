@@ -29,7 +29,10 @@ pub use stretches::{
     books_tell_steps, replays_stay_shaped, reports_are_completions, reports_are_true,
     stretches_are_steps, undisturbed_parts_are_stretches,
 };
-pub use text::{BookFault, books_read_back, one_reading_a_text, put_first_line, write_book};
+pub use text::{
+    BookFault, books_read_back, one_reading_a_text, put_entry, put_first_line, write_book,
+};
 pub use verification::{
-    ReaderFault, Resumed, one_verdict_a_text, resume_reader, verify, verify_reader,
+    JudgeFault, ReaderFault, Refused, Resumed, judge_reader, one_verdict_a_text, resume_reader,
+    verify, verify_reader,
 };

@@ -12,12 +12,12 @@ ghost use Rattle.reset_model.specs.Sound.{IsSound};
 ghost use Rattle.reset_model.specs.BySteps.{IsBySteps};
 ghost use Rattle.history.specs.declared.entry.Entry.{Entry};
 ghost use Rattle.history.specs.declared.entry.Entry.TheVariants.{Step, Disturbed};
-ghost use Rattle.history.specs.Entries.{IsFirstRefused, entered};
-ghost use Rattle.history.specs.Played.{HasPlayed, IsWithin, opened_by, told, told_of};
+ghost use Rattle.history.specs.Entries.{entered};
+ghost use Rattle.history.specs.Played.{HasPlayed, IsStoppedBy, IsWithin, opened_by, told, told_of};
 ghost use Rattle.history.specs.Reports.{reported};
 ghost use Rattle.reset_model.specs.Steps.{event_node};
 
-use crate::entry::{Entry, Report, VerifyFault};
+use crate::entry::{Entry, Report};
 use crate::openings::Openings;
 use app_interface::Application;
 use fault_inject::{Fault, FaultRefusal, inject};
@@ -30,6 +30,14 @@ pub struct Player<P: Application> {
     pub config: Config<P>,
     pub openings: Openings,
     pub reports: Vec<Report>,
+}
+
+// Why entries are played no further.
+#[derive(Clone, Copy)]
+pub enum PlayFault<'e> {
+    // This one isn't allowed where it stands, at this position.
+    Refused { position: usize, entry: &'e Entry },
+    NoMemory,
 }
 
 impl<P: Application> Player<P> {
@@ -126,41 +134,47 @@ impl<P: Application> Player<P> {
 
     // Plays an entry, which has this position.
     #[inline(always)]
-    fn enter(&mut self, alloc: Global, position: usize, entry: &Entry) -> Result<(), VerifyFault>
+    fn enter<'e>(
+        &mut self,
+        alloc: Global,
+        position: usize,
+        entry: &'e Entry,
+    ) -> Result<(), PlayFault<'e>>
         ensures played { OnOk result ((c : Configuration P.Local) (es : List Entry)
             → HasPlayed P.app P.from_text c es self.old
             → position ≡ length es + 1 → HasPlayed P.app P.from_text c (es ++ entry.now ∷ []) self.new) }
-        ensures err { IfErr result (λ f. f ≢ VerifyFault.NoMemory → (f ≡ VerifyFault.NotEnabledAt position)
+        ensures err { IfErr result (λ f. f ≢ PlayFault.NoMemory → (f ≡ PlayFault.Refused position entry.entry)
             × (entered P.app P.from_text self.old.config entry.now ≡ None)) }
+        ensures kept { OnErr result (self.new.config ≡ self.old.config) }
     {
         match entry {
             Entry::Step(event) => match self.enter_step(alloc, position, *event) {
                 Ok(_) => Ok(()),
-                Err(StepRefusal::NoMemory) => Err(VerifyFault::NoMemory),
-                Err(_) => Err(VerifyFault::NotEnabledAt(position)),
+                Err(StepRefusal::NoMemory) => Err(PlayFault::NoMemory),
+                Err(_) => Err(PlayFault::Refused { position, entry }),
             },
             Entry::Disturbed(fault) => match self.enter_fault(alloc, position, fault) {
                 Ok(()) => Ok(()),
-                Err(FaultRefusal::NoMemory) => Err(VerifyFault::NoMemory),
-                Err(_) => Err(VerifyFault::NotEnabledAt(position)),
+                Err(FaultRefusal::NoMemory) => Err(PlayFault::NoMemory),
+                Err(_) => Err(PlayFault::Refused { position, entry }),
             },
         }
     }
 
     // Plays the entries in turn, after so many others, up to the first that isn't allowed where it stands.
-    pub fn play(
+    pub fn play<'e>(
         &mut self,
         alloc: Global,
         before: usize,
-        entries: &[Entry],
-    ) -> Result<(), VerifyFault>
+        entries: &'e [Entry],
+    ) -> Result<(), PlayFault<'e>>
         requires { before + length entries.now < 2 ^ 64 }
         ensures played { OnOk result ((c : Configuration P.Local) (es : List Entry)
             → HasPlayed P.app P.from_text c es self.old
             → before ≡ length es → HasPlayed P.app P.from_text c (es ++ entries.now) self.new) }
-        ensures err { IfErr result (λ f. (c : Configuration P.Local) (es : List Entry) (position : ℕ)
-            → HasPlayed P.app P.from_text c es self.old → before ≡ length es → f ≡ VerifyFault.NotEnabledAt position
-            → IsFirstRefused P.app P.from_text c (es ++ entries.now) position) }
+        ensures err { IfErr result (λ f. (c : Configuration P.Local) (es : List Entry)
+            → HasPlayed P.app P.from_text c es self.old → before ≡ length es
+            → IsStoppedBy P.app P.from_text c (es ++ entries.now) self.new.config f) }
     {
         let mut position = before;
         for entry in entries {

@@ -110,8 +110,8 @@ fn put_entries<W: Write>(out: &mut W, entries: &[Entry]) -> Result<(), WriteFaul
     Ok(())
 }
 
-// Writes the line of an entry, with its line feed.
-fn put_entry<W: Write>(out: &mut W, entry: &Entry) -> Result<(), WriteFault>
+/// Writes the line of an entry, with its line feed.
+pub fn put_entry<W: Write>(out: &mut W, entry: &Entry) -> Result<(), WriteFault>
     ensures ok { OnOk result (Appends (W.contents out.old) (W.contents out.new) (ended (entry_line entry.now))) }
     ensures err { OnErr result
         (AppendsPrefix (W.contents out.old) (W.contents out.new) (ended (entry_line entry.now))) }

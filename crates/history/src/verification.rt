@@ -9,14 +9,14 @@ ghost use Rattle.history.specs.declared.verification.ReaderFault.{ReaderFault};
 ghost use Rattle.history.specs.declared.entry.Entry.{Entry};
 ghost use Rattle.history.specs.Entries.{IsFirstRefused, replayed};
 ghost use Rattle.history.specs.HistoryText.{IsReadWhole};
-ghost use Rattle.history.specs.Played.{HasVerified};
+ghost use Rattle.history.specs.Played.{HasVerified, verify_fault_of};
 ghost use Rattle.history.specs.Reading.{HasRead};
 ghost use Rattle.history.specs.Reports.{reports_of};
-ghost use Rattle.history.specs.Verdict.{IsResumption, IsVerdict, verdict_of};
+ghost use Rattle.history.specs.Verdict.{IsJudgement, IsResumption, IsVerdict, reader_fault_of, verdict_of};
 
 use crate::entry::{Entry, Summary, VerifyFault};
 use crate::lines::{CHUNK, Reading};
-use crate::player::Player;
+use crate::player::{PlayFault, Player};
 use crate::text::BookFault;
 use crate::verifier::Verifier;
 use app_interface::Application;
@@ -30,6 +30,29 @@ pub struct Resumed<P: Application> {
     /// The configuration after the last entry.
     pub config: Config<P>,
     pub summary: Summary,
+}
+
+/// The first entry of a history that isn't allowed where it stands.
+#[derive(Drop)]
+pub struct Refused<P: Application> {
+    /// Its position. Positions count from 1.
+    pub position: usize,
+    pub entry: Entry,
+    /// The configuration that the entries before it leave.
+    pub config: Config<P>,
+}
+
+/// As [`ReaderFault`], with the entry that isn't allowed.
+#[derive(Drop)]
+pub enum JudgeFault<P: Application> {
+    /// The text is none, or can't be read.
+    Text(BookFault),
+    /// The text has this modulus, and the opening another one.
+    OtherModulus(u64),
+    /// An entry isn't allowed where it stands.
+    Refused(Refused<P>),
+    /// Memory is wanting.
+    NoMemory,
 }
 
 /// Why what a reader gives isn't a history.
@@ -88,6 +111,39 @@ pub fn resume_reader<P: Application, R: Read>(
         × IsResumption P.app P.from_text opening text result }
     ensures end { OnOk result (IsAtEnd (R.remaining reader.new)) }
 {
+    match judge_reader(alloc, opening, reader) {
+        Ok(resumed) => Ok(resumed),
+        Err(fault) => Err(reader_fault(fault)),
+    }
+}
+
+// The fault without the configuration that an entry is refused in.
+fn reader_fault<P: Application>(fault: JudgeFault<P>) -> ReaderFault
+    ensures { result ≡ reader_fault_of fault }
+{
+    match fault {
+        JudgeFault::Text(fault) => ReaderFault::Text(fault),
+        JudgeFault::OtherModulus(modulus) => ReaderFault::OtherModulus(modulus),
+        JudgeFault::Refused(refused) => {
+            let position = refused.position;
+            drop(refused);
+            ReaderFault::Entries(VerifyFault::NotEnabledAt(position))
+        }
+        JudgeFault::NoMemory => ReaderFault::Entries(VerifyFault::NoMemory),
+    }
+}
+
+/// As `resume_reader`, and where an entry isn't allowed, with that entry and the configuration there, for whoever asks
+/// why.
+pub fn judge_reader<P: Application, R: Read>(
+    alloc: Global,
+    opening: Config<P>,
+    reader: &mut R,
+) -> Result<Resumed<P>, JudgeFault<P>>
+    ensures told { (text : List ℕ) × IsReadWhole (R.remaining reader.old) text
+        × IsJudgement P.app P.from_text opening text result }
+    ensures end { OnOk result (IsAtEnd (R.remaining reader.new)) }
+{
     let modulus = opening.modulus().get();
     let mut verifier = Verifier::new(alloc, opening);
     let mut reading = Reading::new(alloc);
@@ -98,13 +154,13 @@ pub fn resume_reader<P: Application, R: Read>(
         match reading.read_on(alloc, reader, &mut room) {
             Ok(true) => {}
             Ok(false) => return verdict(modulus, verifier, &reading),
-            Err(fault) => return Err(ReaderFault::Text(fault)),
+            Err(fault) => return Err(JudgeFault::Text(fault)),
         }
         verifier.take(alloc, count, reading.entries());
         count = reading.count();
         reading.forget();
     }
-    Err(ReaderFault::Text(BookFault::ReadFailed))
+    Err(JudgeFault::Text(BookFault::ReadFailed))
 }
 
 // What the text comes to that ends here, all of whose entries were taken, where the opening has this modulus.
@@ -112,24 +168,21 @@ fn verdict<P: Application>(
     modulus: u64,
     verifier: Verifier<P>,
     reading: &Reading,
-) -> Result<Resumed<P>, ReaderFault>
+) -> Result<Resumed<P>, JudgeFault<P>>
     requires { reading.now.lines.entries.items ≡ [] }
     ensures { (c : Configuration P.Local) (es : List Entry) (text : List ℕ) → c.modulus ≡ modulus
         → HasVerified P.app P.from_text c es verifier → HasRead reading.now es text
-        → IsResumption P.app P.from_text c text result }
+        → IsJudgement P.app P.from_text c text result }
 {
     match reading.end() {
-        Ok((other, count)) if other == modulus => match verifier.resumed(count) {
-            Ok(resumed) => Ok(resumed),
-            Err(fault) => Err(ReaderFault::Entries(fault)),
-        },
+        Ok((other, count)) if other == modulus => verifier.judged(count),
         Ok((other, _)) => {
             drop(verifier);
-            Err(ReaderFault::OtherModulus(other))
+            Err(JudgeFault::OtherModulus(other))
         }
         Err(fault) => {
             drop(verifier);
-            Err(ReaderFault::Text(fault))
+            Err(JudgeFault::Text(fault))
         }
     }
 }
@@ -155,6 +208,16 @@ pub fn verify<P: Application>(
             entries: entries.len(),
             reports,
         }),
-        Err(fault) => Err(fault),
+        Err(fault) => Err(verify_fault(fault)),
+    }
+}
+
+// The fault without the entry.
+fn verify_fault(fault: PlayFault<'_>) -> VerifyFault
+    ensures { result ≡ verify_fault_of fault.entry }
+{
+    match fault {
+        PlayFault::Refused { position, .. } => VerifyFault::NotEnabledAt(position),
+        PlayFault::NoMemory => VerifyFault::NoMemory,
     }
 }

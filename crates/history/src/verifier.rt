@@ -1,27 +1,35 @@
 // Entries that are played as they are read.
 
-ghost use Rattle.std.specs.Prelude.{◌≡◌, ℕ, ◌+◌, ◌<◌, ◌^◌, ◌++◌, [], List, length, IfErr, IfOk};
+ghost use Rattle.std.specs.Prelude.{◌≡◌, ℕ, ◌+◌, ◌<◌, ◌^◌, ◌++◌, [], List, length};
 ghost use Rattle.reset_model.specs.Configuration.{Configuration};
 ghost use Rattle.history.specs.declared.entry.Entry.{Entry};
+ghost use Rattle.history.specs.Played.{IsKept};
 
-use crate::entry::{Entry, Summary, VerifyFault};
-use crate::player::Player;
-use crate::verification::Resumed;
+use crate::entry::{Entry, Summary};
+use crate::player::{PlayFault, Player};
+use crate::verification::{JudgeFault, Refused, Resumed};
 use app_interface::Application;
 use reset_machine::Config;
 use std::alloc::Global;
 
-// A player that plays entries up to the first fault, which it keeps. Of the entries it keeps none.
+// Why a verifier plays no further.
+#[derive(Drop)]
+pub enum Stop {
+    // This entry isn't allowed where it stands, at this position.
+    Refused { position: usize, entry: Entry },
+    NoMemory,
+}
+
+// A player that plays entries up to the first fault, which it keeps. Of the other entries it keeps none.
 #[derive(Drop)]
 pub struct Verifier<P: Application> {
     player: Player<P>,
-    fault: Option<VerifyFault>,
+    stop: Option<Stop>,
 }
 
 impl<P: Application> Verifier<P> {
-    ghost use Rattle.history.specs.Entries.{IsFirstRefused};
     ghost use Rattle.history.specs.Played.{HasVerified};
-    ghost use Rattle.history.specs.Verdict.{IsResumed};
+    ghost use Rattle.history.specs.Verdict.{IsEnd};
 
     // Before the first entry.
     pub fn new(alloc: Global, opening: Config<P>) -> Verifier<P>
@@ -29,7 +37,7 @@ impl<P: Application> Verifier<P> {
     {
         Verifier {
             player: Player::new(alloc, opening),
-            fault: None,
+            stop: None,
         }
     }
 
@@ -39,23 +47,21 @@ impl<P: Application> Verifier<P> {
         ensures { (c : Configuration P.Local) (es : List Entry) → HasVerified P.app P.from_text c es self.old
             → before ≡ length es → HasVerified P.app P.from_text c (es ++ entries.now) self.new }
     {
-        if self.fault.is_none() {
-            self.fault = self.player.play(alloc, before, entries).err();
+        if self.stop.is_none() {
+            if let Err(fault) = self.player.play(alloc, before, entries) {
+                self.stop = Some(kept(alloc, fault));
+            }
         }
     }
 
-    // What the entries leave and come to, which are so many.
-    pub fn resumed(self, count: usize) -> Result<Resumed<P>, VerifyFault>
-        ensures ok { IfOk result (λ r. (c : Configuration P.Local) (es : List Entry)
-            → HasVerified P.app P.from_text c es self → count ≡ length es
-            → IsResumed P.app P.from_text c es r.config r.summary) }
-        ensures err { IfErr result (λ f. (c : Configuration P.Local) (es : List Entry) (position : ℕ)
-            → HasVerified P.app P.from_text c es self → f ≡ VerifyFault.NotEnabledAt position
-            → IsFirstRefused P.app P.from_text c es position) }
+    // What the entries leave and come to, which are so many, or which of them is refused.
+    pub fn judged(self, count: usize) -> Result<Resumed<P>, JudgeFault<P>>
+        ensures { (c : Configuration P.Local) (es : List Entry) → HasVerified P.app P.from_text c es self
+            → count ≡ length es → IsEnd P.app P.from_text c es result }
     {
-        let Verifier { player, fault } = self;
+        let Verifier { player, stop } = self;
         let (config, reports) = player.into_parts();
-        match fault {
+        match stop {
             None => Ok(Resumed {
                 config,
                 summary: Summary {
@@ -63,10 +69,28 @@ impl<P: Application> Verifier<P> {
                     reports,
                 },
             }),
-            Some(fault) => {
+            Some(Stop::Refused { position, entry }) => Err(JudgeFault::Refused(Refused {
+                position,
+                entry,
+                config,
+            })),
+            Some(Stop::NoMemory) => {
                 drop(config);
-                Err(fault)
+                Err(JudgeFault::NoMemory)
             }
         }
+    }
+}
+
+// Why entries are played no further, with an entry of its own.
+fn kept(alloc: Global, fault: PlayFault<'_>) -> Stop
+    ensures { IsKept fault.entry result }
+{
+    match fault {
+        PlayFault::Refused { position, entry } => match entry.copy(alloc) {
+            Ok(entry) => Stop::Refused { position, entry },
+            Err(_) => Stop::NoMemory,
+        },
+        PlayFault::NoMemory => Stop::NoMemory,
     }
 }

@@ -1,15 +1,16 @@
 use Rattle.std.proofs.Common.{arith, length, take, ◌≡◌, ◌+◌, ◌++◌}
 use Rattle.std.proofs.lemmas.List.{length-append, length-take}
-use Rattle.history.proofs.Plays.{first_refused, played_more}
+use Rattle.history.proofs.Plays.{played_more, stopped}
 use Rattle.history.proofs.player.Player.play.Goals as goal
 
 pub returns-in-Err-clause-err : goal.returns-in-Err-clause-err
-returns-in-Err-clause-err g c start es at played here fault =
+returns-in-Err-clause-err g c start es played here =
     let loop = c.loop-entry in
-    first_refused g.P.Application.app g.P.Application.from_text start loop.self.config es c.args.entries.now
-    loop.entry-index _ c.in-Err.fault (loop.position + 1) at
+    rw c.in-Err.ensures.kept
+    (stopped g.P.Application.app g.P.Application.from_text start loop.self.config es c.args.entries.now
+    loop.entry-index (loop.position + 1) _ c.in-Err.fault
     c.loop-entry-test.true c.entry-item.is (loop.invariant.0 start es played here).replay c.in-Err.ensures.err
-    (omega (arith, loop.invariant.1, here)) fault
+    (omega (arith, loop.invariant.1, here)))
 
 pub loop-entry-preserved : goal.loop-entry-preserved
 loop-entry-preserved g c =

@@ -4,7 +4,7 @@ use Rattle.std.specs.Io.KnownBytes.{Consumes}
 use Rattle.history.specs.declared.entry.Entry.{Entry}
 use Rattle.history.specs.Played.{HasVerified}
 use Rattle.history.specs.Reading.{HasRead}
-use Rattle.history.proofs.verification.resume_reader.Given as goal
+use Rattle.history.proofs.verification.judge_reader.Given as goal
 
 abbrev pub invariant-loop : goal.invariant-loop
 invariant-loop g l =
