@@ -5,4 +5,5 @@ pub mod NoHelp
 pub mod Values
 pub mod Exploring
 pub mod SessionAndPage
+pub mod Verification
 pub mod Subcommands

@@ -28,6 +28,7 @@ use Rattle.command_words.specs.declared.record_words.RecordWords.{RecordWords}
 use Rattle.command_words.specs.declared.session_words.SessionWords.{SessionWords}
 use Rattle.command_words.specs.declared.shape_words.ShapeWords.{ShapeWords}
 use Rattle.command_words.specs.declared.thread_words.ThreadWords.{ThreadWords}
+use Rattle.command_words.specs.declared.verify_words.VerifyWords.{VerifyWords}
 
 -- ---- the command line
 
@@ -89,6 +90,10 @@ session_command =
     (with_rule
     (with_rule (with_rule (new_app (codes "session")) (path (codes "TOPOLOGY"))) from_option)
     (optional (file_option (codes "history")))) (flag (codes "no-sync"))
+
+-- `verify TOPOLOGY HISTORY [--from SNAPSHOT] [--why]`
+unfoldable pub verify_command : App
+verify_command = with_rule (texts_command (codes "verify") (codes "HISTORY")) (flag (codes "why"))
 
 -- `page TOPOLOGY HISTORY [--from SNAPSHOT] [--title TEXT]`
 unfoldable pub page_command : App
@@ -158,7 +163,7 @@ scripts_program =
 abbrev pub texts_program : App
 texts_program =
     with_subcommand
-    (with_subcommand (with_subcommand scripts_program (texts_command (codes "verify") (codes "HISTORY")).top)
+    (with_subcommand (with_subcommand scripts_program verify_command.top)
     (texts_command (codes "picture") (codes "HISTORY")).top) page_command.top
 
 -- with those that write a history
@@ -235,6 +240,14 @@ HasSessionWords found words = (name_in found ≡ Some (codes "session"))
     × (value_in found (codes "history") ≡ option_map (λ history. history.now) words.history)
     × (words.sync ≡ not (is_on (value_in found (codes "no-sync"))))
 
+-- it is the subcommand `verify` with these values
+abbrev pub HasVerifyWords : Found → VerifyWords → Type 0
+HasVerifyWords found words = (name_in found ≡ Some (codes "verify"))
+    × (value_in found (codes "TOPOLOGY") ≡ Some words.topology.now)
+    × (value_in found (codes "HISTORY") ≡ Some words.history.now)
+    × (value_in found (codes "from") ≡ option_map (λ from. from.now) words.from)
+    × (words.why ≡ is_on (value_in found (codes "why")))
+
 -- it is the subcommand `page` with these values
 abbrev pub HasPageWords : Found → PageWords → Type 0
 HasPageWords found words = (name_in found ≡ Some (codes "page"))
@@ -290,7 +303,7 @@ AskedBy found (Check paths) = HasPaths found (codes "check") (codes "SCRIPT") pa
 AskedBy found (Plan words) = HasPlanWords found words
 AskedBy found (Explore words) = HasExploreWords found words
 AskedBy found (Session words) = HasSessionWords found words
-AskedBy found (Verify paths) = HasPaths found (codes "verify") (codes "HISTORY") paths
+AskedBy found (Verify words) = HasVerifyWords found words
 AskedBy found (Picture paths) = HasPaths found (codes "picture") (codes "HISTORY") paths
 AskedBy found (Page words) = HasPageWords found words
 AskedBy found (Record words) = HasRecordWords found words
@@ -350,6 +363,10 @@ HasFlag name rows = IfSome (first_of name rows) (λ value. (value ≡ codes "tru
 abbrev pub HasSession : List Row → Type 0
 HasSession rows = IsSome (first_of (codes "TOPOLOGY") rows) × HasFlag (codes "no-sync") rows
 
+-- what `verify` needs was found
+abbrev pub HasVerify : List Row → Type 0
+HasVerify rows = HasTexts (codes "HISTORY") rows × HasFlag (codes "why") rows
+
 -- what `explore` needs was found
 abbrev pub HasExplore : List Row → Type 0
 HasExplore rows = IsSome (first_of (codes "TOPOLOGY") rows) × HasFlag (codes "acts") rows
@@ -377,15 +394,11 @@ HasShape rows = IsSome (first_of (codes "SHAPE") rows) × HasNumber (codes "N") 
 abbrev pub IsOfScript : Text → Type 0
 IsOfScript name = (name ≡ codes "replay") ⊎ (name ≡ codes "check")
 
--- it is the name of a subcommand that reads a history
-abbrev pub IsOfHistory : Text → Type 0
-IsOfHistory name = (name ≡ codes "verify") ⊎ (name ≡ codes "picture")
-
 -- a subcommand of the program with the values that it needs, or none
 abbrev pub HasJob : Found → Type 0
 HasJob None = ⊤
 HasJob (Some s) = (IsOfScript s.0 × HasTexts (codes "SCRIPT") s.1)
-    ⊎ ((IsOfHistory s.0 × HasTexts (codes "HISTORY") s.1)
+    ⊎ (((s.0 ≡ codes "picture") × HasTexts (codes "HISTORY") s.1)
     ⊎ (((s.0 ≡ codes "record") × HasRecord s.1)
     ⊎ (((s.0 ≡ codes "threads") × HasThreads s.1)
     ⊎ (((s.0 ≡ codes "drive") × HasDrive s.1)
@@ -395,7 +408,8 @@ HasJob (Some s) = (IsOfScript s.0 × HasTexts (codes "SCRIPT") s.1)
     ⊎ (((s.0 ≡ codes "plan") × HasPlan s.1)
     ⊎ (((s.0 ≡ codes "session") × HasSession s.1)
     ⊎ (((s.0 ≡ codes "explore") × HasExplore s.1)
-    ⊎ ((s.0 ≡ codes "page") × HasTexts (codes "HISTORY") s.1)))))))))))
+    ⊎ (((s.0 ≡ codes "page") × HasTexts (codes "HISTORY") s.1)
+    ⊎ ((s.0 ≡ codes "verify") × HasVerify s.1))))))))))))
 
 -- clap's error as a fault
 abbrev pub StandsFor : Error → LineFault → Type 0

@@ -8,7 +8,7 @@ ghost use Rattle.command_words.specs.Words.{flag, from_option};
 ghost use Rattle.command_words.specs.Words.{histories_program, new_program, number_option, optional, path, program};
 ghost use Rattle.command_words.specs.Words.{page_command, plan_command, record_command, scripts_program};
 ghost use Rattle.command_words.specs.Words.{session_command, tables_command, texts_command, texts_program};
-ghost use Rattle.command_words.specs.Words.{threads_command, topology_command, within};
+ghost use Rattle.command_words.specs.Words.{threads_command, topology_command, verify_command, within};
 
 use crate::help::{
     ABOUT, ACTS_HELP, AFTER_HELP, APP_HELP, CHECK_HELP, DRIVE_HELP, DRIVE_SEED_HELP, EXPLAIN_HELP,
@@ -17,7 +17,7 @@ use crate::help::{
     PLAN_HELP, PLAN_SCRIPT_HELP, RECORD_HELP, REPLAY_HELP, SCRIPT_HELP, SESSION_HELP,
     SESSION_HISTORY_HELP, SHAPE_HELP, SHAPE_NAME_HELP, SHAPE_SEED_HELP, SHOWN_HISTORY_HELP,
     STEPS_HELP, TABLES_ABOUT, TABLES_LONG_ABOUT, THREADS_HELP, TITLE_HELP, TOPOLOGY_HELP,
-    TURNS_HELP, VERIFY_HELP, VERSION, WORD_HELP,
+    TURNS_HELP, VERIFY_HELP, VERSION, WHY_HELP, WORD_HELP,
 };
 use clap::builder::ValueParser;
 use clap::{Arg, ArgAction, Command};
@@ -45,9 +45,8 @@ fn histories_line<'a>(alloc: Global) -> Result<Command<'a>, AllocError>
 fn texts_line<'a>(alloc: Global) -> Result<Command<'a>, AllocError>
     ensures { IfOk result (IsCommand texts_program) }
 {
-    let verify = texts_words(alloc, "verify", "HISTORY", HISTORY_HELP, &VERIFY_HELP);
     let picture = texts_words(alloc, "picture", "HISTORY", HISTORY_HELP, &PICTURE_HELP);
-    let line = with_command(scripts_line(alloc), verify);
+    let line = with_command(scripts_line(alloc), verify_words(alloc));
     let line = with_command(line, picture);
     with_command(line, page_words(alloc))
 }
@@ -126,6 +125,15 @@ fn session_words<'a>(alloc: Global) -> Result<Command<'a>, AllocError>
     let line = with_argument(line, from_word(alloc));
     let line = with_argument(line, kept_history_word(alloc));
     with_argument(line, flag_word(alloc, "no-sync", NO_SYNC_HELP))
+}
+
+// The subcommand with the paths of a topology and of a history and, where they are given, that of a snapshot and the flag
+// that asks why.
+fn verify_words<'a>(alloc: Global) -> Result<Command<'a>, AllocError>
+    ensures { IfOk result (IsCommand verify_command) }
+{
+    let line = texts_words(alloc, "verify", "HISTORY", HISTORY_HELP, &VERIFY_HELP);
+    with_argument(line, flag_word(alloc, "why", WHY_HELP))
 }
 
 // The subcommand with the paths of a topology and of a history and, where they are given, that of a snapshot and a

@@ -194,6 +194,8 @@ pub const FROM_HELP: &str =
 pub const PLAN_SCRIPT_HELP: &str =
     "A file with one command a line, which is run before; none where this is left out";
 
+pub const WHY_HELP: &str = "Says, where an entry isn't allowed, why it isn't";
+
 pub const VERIFY_HELP: Help = Help {
     about: "Checks that a history is possible, and prints which resets it completed",
     long_about: "\
@@ -207,10 +209,11 @@ and finished it, counted from 1 (`-` where it wasn't opened since the last fault
 first fault, and after a fault of a reset that opens where `check` tells no row of tree or wave.
 
 Where an entry isn't allowed where it stands, the answer is `not enabled at POSITION` of the first
-such entry, and the exit status is 1; in the file it is one line further down. A file that isn't a
-history is answered by `bad history` and its first bad line, and one that counts sessions modulo
-another number than the topology by `bad history OtherModulus` and that number, both with exit
-status 2.",
+such entry, and the exit status is 1; in the file it is one line further down. With `--why` there
+follow `entry COMMAND`, the line with which a script answers that command there, and the lines of
+the entry's node and of its neighbours there, as `show` prints them. A file that isn't a history is
+answered by `bad history` and its first bad line, and one that counts sessions modulo another number
+than the topology by `bad history OtherModulus` and that number, both with exit status 2.",
     after_help: "\
 A history:
   reset-history 3 8

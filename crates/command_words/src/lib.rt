@@ -11,6 +11,7 @@ mod record_words;
 mod session_words;
 mod shape_words;
 mod thread_words;
+mod verify_words;
 mod words;
 
 pub use drive_words::DriveWords;
@@ -21,4 +22,5 @@ pub use record_words::RecordWords;
 pub use session_words::SessionWords;
 pub use shape_words::ShapeWords;
 pub use thread_words::ThreadWords;
+pub use verify_words::VerifyWords;
 pub use words::{Job, LineFault, Paths, read_words};

@@ -4,8 +4,8 @@ ghost use Rattle.std.specs.Prelude.{◌≡◌, [], codes, map, not, option_map, 
 ghost use Rattle.clap.specs.Words.{first_of, found_of, rows_of, subcommand_rows_of};
 ghost use Rattle.command_words.specs.declared.words.LineFault.TheVariants.{NoMemory};
 ghost use Rattle.command_words.specs.Words.{faults_of, AskFor, AskedBy, HasDrive, HasExplore, HasJob, HasPlan, HasRecord};
-ghost use Rattle.command_words.specs.Words.{HasSession, HasShape, HasTexts, HasThreads, IsFaultOf, IsNumberOr};
-ghost use Rattle.command_words.specs.Words.{IsNumberWithin, StandsFor, is_on, line_fault_text};
+ghost use Rattle.command_words.specs.Words.{HasSession, HasShape, HasTexts, HasThreads, HasVerify, IsFaultOf};
+ghost use Rattle.command_words.specs.Words.{IsNumberOr, IsNumberWithin, StandsFor, is_on, line_fault_text};
 
 use crate::commands::command_line;
 use crate::drive_words::DriveWords;
@@ -16,6 +16,7 @@ use crate::record_words::RecordWords;
 use crate::session_words::SessionWords;
 use crate::shape_words::ShapeWords;
 use crate::thread_words::ThreadWords;
+use crate::verify_words::VerifyWords;
 use clap::error::ErrorKind;
 use clap::{ArgMatches, Error};
 use std::alloc::{AllocError, Global};
@@ -49,7 +50,7 @@ pub enum Job<'a> {
     /// Answer the commands of the standard input as they come, and keep what happened in a file.
     Session(SessionWords<'a>),
     /// Verify the history of a file from the booted configuration of another's topology, or from a snapshot.
-    Verify(Paths<'a>),
+    Verify(VerifyWords<'a>),
     /// Draw the history of a file from the booted configuration of another's topology, or from a snapshot.
     Picture(Paths<'a>),
     /// Write a page that plays the history of a file forward and back.
@@ -142,7 +143,7 @@ fn named_job<'a>(name: &str, values: &ArgMatches<'a>) -> Job<'a>
         "plan" => Job::Plan(plan_words_of(values)),
         "explore" => Job::Explore(explore_words_of(values)),
         "session" => Job::Session(session_words_of(values)),
-        "verify" => Job::Verify(paths_of(values, "HISTORY")),
+        "verify" => Job::Verify(verify_words_of(values)),
         "picture" => Job::Picture(paths_of(values, "HISTORY")),
         "page" => Job::Page(page_words_of(values)),
         "record" => Job::Record(record_words_of(values)),
@@ -235,6 +236,24 @@ fn session_words_of<'a>(values: &ArgMatches<'a>) -> SessionWords<'a>
         from,
         history,
         sync,
+    }
+}
+
+// The words of matches that have a topology and a history, and may have a snapshot and the flag that asks why.
+fn verify_words_of<'a>(values: &ArgMatches<'a>) -> VerifyWords<'a>
+    requires { HasVerify (rows_of (found_of values.now)) }
+    ensures topology { first_of (codes "TOPOLOGY") (rows_of (found_of values.now)) ≡ Some result.topology.now }
+    ensures history { first_of (codes "HISTORY") (rows_of (found_of values.now)) ≡ Some result.history.now }
+    ensures from { first_of (codes "from") (rows_of (found_of values.now)) ≡ option_map (λ from. from.now) result.from }
+    ensures why { result.why ≡ is_on (first_of (codes "why") (rows_of (found_of values.now))) }
+{
+    let paths = paths_of(values, "HISTORY");
+    let why = values.get_flag("why");
+    VerifyWords {
+        topology: paths.topology,
+        history: paths.input,
+        from: paths.from,
+        why,
     }
 }
 
