@@ -9,7 +9,7 @@ use history::Entry;
 use std::alloc::{AllocError, Global};
 use topology::Topology;
 
-// The node of an entry.
+/// The node of an entry: that of its event, or the first that its fault names.
 pub fn entry_node(entry: &Entry) -> u32
     ensures { result ≡ entry_node entry.now }
 {
@@ -51,7 +51,7 @@ fn add_newcomers(ids: &mut Vec<u32>, entry: &Entry) -> Result<(), AllocError>
     Ok(())
 }
 
-// Adds the neighbours of a node, ascending. What is down has none.
+/// Adds the neighbours of a node, ascending. What is down has none.
 pub fn add_neighbours(ids: &mut Vec<u32>, topology: &Topology, at: u32) -> Result<(), AllocError>
     ensures { OnOk result (ids.new.items ≡ ids.old.items ++ neighbours_of topology.now at) }
 {

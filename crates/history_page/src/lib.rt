@@ -16,6 +16,7 @@ mod moments;
 mod page;
 mod views;
 
+pub use concerned::{add_neighbours, entry_node};
 pub use frame::HEAD;
 pub use laws::{data_is_harmless, failing_elsewhere_stays};
 pub use moments::MOMENTS;

@@ -2,6 +2,7 @@ pub mod Driving
 pub mod Picturing
 pub mod TableRuns
 pub mod Verifying
+pub mod Reasoning
 pub mod ReadModuli
 pub mod VerifiedReports
 pub mod Threading

@@ -1,5 +1,6 @@
 pub mod Counts
 pub mod Verified
+pub mod Reasons
 pub mod Drove
 pub mod Threaded
 pub mod Pictured

@@ -2,8 +2,8 @@
 //! replays scripts of reset events on the booted configuration of a topology and writes an answer to
 //! each line, checks the network that a script leaves, plans how it recovers, records what a script did as a history,
 //! verifies histories, runs a thread for each node or a seeded scheduler and writes the history that they keep, draws
-//! histories, writes pages that play them, holds sessions, writes topologies, prints the tables that the nodes act by, explains the words of its answers,
-//! and reads those of its command line.
+//! histories, writes pages that play them, holds sessions, writes topologies, prints the tables that the nodes act by,
+//! explains the words of its answers, and reads those of its command line.
 //! Scripts are replayed by the crate `script_replay`, and the command line is read by `command_words`.
 #![tactic(auto)]
 
@@ -16,6 +16,7 @@ mod line;
 mod page;
 mod pictured;
 mod planned;
+mod reasons;
 mod recorded;
 mod session;
 mod shaped;
@@ -28,7 +29,7 @@ mod verified;
 
 pub use command_words::{
     DriveWords, ExploreWords, Job, LineFault, PageWords, Paths, PlanWords, RecordWords,
-    SessionWords, ShapeWords, ThreadWords, read_words,
+    SessionWords, ShapeWords, ThreadWords, VerifyWords, read_words,
 };
 pub use driven::{Drive, drive_from, drive_text};
 pub use explained::explain;
@@ -41,6 +42,7 @@ pub use laws::{
 pub use page::{MAX_PLAYED, page_from, page_text};
 pub use pictured::{picture_from, picture_text};
 pub use planned::{plan_from, plan_text};
+pub use reasons::verify_reasoned;
 pub use recorded::record_from;
 pub use script_replay::{
     BufferedOutput, READ_LIMIT, RunStop, Status, check_text, one_joined_output, one_output,

@@ -1,6 +1,8 @@
 // Runs of node threads, from a booted configuration or a snapshot.
 
-ghost use Rattle.std.specs.Prelude.{◌≡◌, ◌≤◌, [], IfErr, IfOk};
+ghost use Rattle.std.specs.Prelude.{◌≡◌, ◌≤◌, [], length, IfErr, IfOk, IsTrue};
+ghost use Rattle.std.specs.List.{list_all};
+ghost use Rattle.node_threads.specs.Locked.{is_step};
 ghost use Rattle.script_replay.specs.Meaning.{meaning_of};
 ghost use Rattle.reset_service.specs.Begun.{IsBegunFrom, IsBegunOf, IsBegunText, RunsThreads};
 ghost use Rattle.reset_service.specs.Threaded.{IsKept, IsKeptFrom, IsKeptOf, IsThreaded};

@@ -201,7 +201,7 @@ pub fn refuse_entry<W: Write>(position: usize, out: &mut W) -> Result<Status, Ru
 }
 
 // Answers a history by what it comes to.
-fn answer_summary<W: Write>(summary: &Summary, out: &mut W) -> Result<Status, RunStop>
+pub fn answer_summary<W: Write>(summary: &Summary, out: &mut W) -> Result<Status, RunStop>
     ensures leaves { Leaves
         (λ output. output ≡ (verified_text summary.now.entries summary.now.reports.items, Status.Good))
         (W.contents out.old) (W.contents out.new) result }
@@ -234,7 +234,7 @@ fn put_other_modulus<W: Write>(out: &mut W, modulus: u64) -> Result<(), WriteFau
 }
 
 // Writes what a history is answered with whose first refused entry has this position.
-fn put_not_enabled<W: Write>(out: &mut W, position: usize) -> Result<(), WriteFault>
+pub fn put_not_enabled<W: Write>(out: &mut W, position: usize) -> Result<(), WriteFault>
     ensures ok { OnOk result (Appends (W.contents out.old) (W.contents out.new) (not_enabled_text position)) }
     ensures err { OnErr result (AppendsPrefix (W.contents out.old) (W.contents out.new) (not_enabled_text position)) }
 {

@@ -42,4 +42,5 @@ pub use replays::{
     check_text, refuse_input, refuse_topology, replay, replay_joined, replay_text, run_script,
 };
 pub use script::{Command, Line, read_line};
+pub use show::show_node;
 pub use status::{Purpose, RunStop, Status};

@@ -24,11 +24,11 @@ use crate::streams::Streams;
 use action_tables::put_bytes;
 use reset_service::{
     BufferedOutput, Drive, DriveWords, ExploreWords, Exploring, Job, LineFault, PageWords, Paths,
-    PlanWords, RecordWords, RunStop, ShapeWords, Status, ThreadWords, check_from, check_text,
-    drive_from, drive_text, explain, explore_history, explore_text, page_from, page_text,
-    picture_from, picture_text, plan_from, plan_text, print_tables, read_words, record_from,
-    record_text, replay, replay_from, replay_joined, threads_from, threads_text, verify_from,
-    verify_text, write_shape,
+    PlanWords, RecordWords, RunStop, ShapeWords, Status, ThreadWords, VerifyWords, check_from,
+    check_text, drive_from, drive_text, explain, explore_history, explore_text, page_from,
+    page_text, picture_from, picture_text, plan_from, plan_text, print_tables, read_words,
+    record_from, record_text, replay, replay_from, replay_joined, threads_from, threads_text,
+    verify_from, verify_reasoned, verify_text, write_shape,
 };
 use std::env::Env;
 use std::io::{IsTerminal, Read, Write};
@@ -154,7 +154,7 @@ fn job_output<R: Files + Input + Eprint + AllocGlobal + Threads + Wait + Sync, W
         Job::Plan(words) => run_plan(rt, words, out),
         Job::Explore(words) => run_explore(rt, words, out),
         Job::Session(words) => run_session(rt, streams, words, out),
-        Job::Verify(paths) => run_verify(rt, paths, out),
+        Job::Verify(words) => run_verify(rt, words, out),
         Job::Picture(paths) => run_picture(rt, paths, out),
         Job::Page(words) => run_page(rt, words, out),
         Job::Record(words) => run_record(rt, words, out),
@@ -272,12 +272,16 @@ fn put_explored<R: Files + Eprint + AllocGlobal, S: Read, W: Write>(
 
 fn run_verify<R: Files + AllocGlobal, W: Write>(
     rt: &R,
-    paths: Paths<'_>,
+    words: VerifyWords<'_>,
     out: &mut W,
 ) -> Result<Status, RunStop> {
-    let topology = read_file(rt, paths.topology)?;
-    let snapshot = read_snapshot(rt, paths.from)?;
-    let mut history = open_file(rt, paths.input)?;
+    let topology = read_file(rt, words.topology)?;
+    let snapshot = read_snapshot(rt, words.from)?;
+    let mut history = open_file(rt, words.history)?;
+    if words.why {
+        let snapshot = snapshot.as_deref();
+        return verify_reasoned(rt.alloc(), &topology, snapshot, &mut history, out);
+    }
     match snapshot {
         None => verify_text(rt.alloc(), &topology, &mut history, out),
         Some(snapshot) => verify_from(rt.alloc(), &topology, &snapshot, &mut history, out),
