@@ -1,6 +1,6 @@
 // What the other words mean that the program prints and reads, and what to do: words, each with its text.
 
-pub const WORDS: [(&str, &str); 71] = [
+pub const WORDS: [(&str, &str); 72] = [
     // Answers to commands.
     (
         "bad",
@@ -89,6 +89,12 @@ application each link is looked at by itself: two tokens far apart are no fault,
         "\
 The history could happen from the booted configuration: so many entries, of which so many\n\
 complete a reset.\n",
+    ),
+    (
+        "entry",
+        "\
+`entry COMMAND`: the first entry of a history that isn't allowed where it stands, of `verify --why`.\n\
+Below it are the refusal of COMMAND there, and what its node and the neighbours have there.\n",
     ),
     (
         "report",
