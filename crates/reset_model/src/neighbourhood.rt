@@ -38,6 +38,7 @@ pub fn tree_seen<'a, P: Application>(view: &View<P>, trees: &'a [(u32, TreeRegs)
     requires { trees.now ≡ near_trees view.now.near }
     ensures { result ≡ Tree (tree_view view.now) }
 {
+    // The call has that the neighbours ascend.
     let _near = view.neighbours();
     match TreeView::new(view.id(), view.k(), view.tree(), trees) {
         Some(tree) => Seen::Tree(tree),
@@ -50,6 +51,7 @@ pub fn wave_seen<'a, P: Application>(view: &View<P>, children: &'a [(u32, WaveRe
     requires { children.now ≡ near_waves (children_of view.now) }
     ensures { result ≡ Wave (wave_view view.now) }
 {
+    // The call has that the neighbours ascend.
     let _near = view.neighbours();
     match WaveView::new(view.wave(), father(view), children, view.modulus()) {
         Some(wave) => Seen::Wave(wave),
