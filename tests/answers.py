@@ -309,12 +309,19 @@ def history_of(text):
     return modulus, entries
 
 
-def verified(network, entries):
+def nodes_near(network, words):
+    """The first node that the words of an entry name, if it is up, and its neighbours."""
+    at = int(words[2] if words[0] == "fault" else words[1])
+    return [at, *network.graph[at]] if at in network.graph else []
+
+
+def verified(network, entries, why=False):
     opened, told = {}, []
     for at, words in enumerate(entries, 1):
         answer, = network.answer(words)
         if answer.startswith("refused"):
-            return output([f"not enabled at {at}"], 1)
+            reason = [f"entry {' '.join(words)}", answer, *map(network.show, nodes_near(network, words))]
+            return output([f"not enabled at {at}", *(reason if why else [])], 1)
         if words[0] == "fault":
             opened.clear()
         if words[0] == "open":
@@ -324,7 +331,7 @@ def verified(network, entries):
     return output([*told, f"verified {len(entries)} entries {len(told)} reports"], 0)
 
 
-def verify(topology, history):
+def verify(topology, history, why=False):
     try:
         network = booted(topology)
     except Fault as fault:
@@ -335,4 +342,4 @@ def verify(topology, history):
             raise Fault(f"OtherModulus {modulus}")
     except Fault as fault:
         return output([f"bad history {fault}"], 2)
-    return verified(network, entries)
+    return verified(network, entries, why)
