@@ -51,7 +51,7 @@ pub enum JudgeFault<P: Application> {
     OtherModulus(u64),
     /// An entry isn't allowed where it stands.
     Refused(Refused<P>),
-    /// Memory is wanting.
+    /// An allocation failed.
     NoMemory,
 }
 
@@ -62,7 +62,7 @@ pub enum ReaderFault {
     Text(BookFault),
     /// The text has this modulus, and the opening another one.
     OtherModulus(u64),
-    /// An entry isn't allowed where it stands, or memory is wanting.
+    /// An entry isn't allowed where it stands, or an allocation failed.
     Entries(VerifyFault),
 }
 
@@ -188,7 +188,7 @@ fn verdict<P: Application>(
 }
 
 /// Plays the entries from the opening, and returns what they come to, or names the first that isn't
-/// allowed where it stands. An entry for which memory is wanting is `NoMemory`.
+/// allowed where it stands. An entry for which an allocation fails is `NoMemory`.
 pub fn verify<P: Application>(
     alloc: Global,
     opening: Config<P>,

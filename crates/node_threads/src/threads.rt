@@ -51,7 +51,7 @@ struct Started<L: Round> {
 }
 
 // One thread for each seat, all joined: the seats as they come back, in the same order. Or one couldn't be started, or
-// else memory was wanting.
+// else an allocation failed.
 pub(crate) fn in_threads<
     L: Sharing<P::Local> + Send + Sync,
     P: Application,
@@ -142,7 +142,7 @@ fn start_all<
     })
 }
 
-// Joins the threads: their seats, in turn. Or one couldn't be started, or else memory was wanting in one.
+// Joins the threads: their seats, in turn. Or one couldn't be started, or else an allocation failed in one.
 fn join_all<L: Round, R: Threads>(rt: &R, started: Started<L>) -> Result<Vec<Seat<L>>, RunCause>
     requires none { started.room.items ≡ [] }
     requires room { length started.threads.items ≤ vec_capacity started.room }

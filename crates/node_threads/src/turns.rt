@@ -36,7 +36,7 @@ pub enum TurnsEnd {
     Done,
     /// The book had as many entries as it may have.
     BookFull,
-    /// Memory was wanting.
+    /// An allocation failed.
     NoMemory,
 }
 
@@ -54,7 +54,7 @@ enum Turn<P: Application> {
 /// Takes turns at the seat. A turn looks, chooses by [`next_event`], plans without the lock, and commits; the
 /// gate is called with each plan before it is committed, and after. Where there is nothing to do, the turn waits
 /// until a neighbour has changed and looks again. After a stale plan the next turn goes by the view that came with
-/// the refusal, without a look. The turns end early where the book is full or memory is wanting, and where no node
+/// the refusal, without a look. The turns end early where the book is full or an allocation fails, and where no node
 /// that takes turns has anything to do: so a node that takes turns alone never waits.
 pub fn node_turns<L: Sharing<P::Local>, P: Application, G: Gate, R: Wait>(
     rt: &R,
