@@ -5,11 +5,13 @@ ghost use Rattle.std.specs.Prelude.{length, map, ℕ};
 ghost use Rattle.topology.specs.Graph.{IsNode};
 ghost use Rattle.node_threads.specs.Closed.{HasCloseFault, IsClosed};
 ghost use Rattle.node_threads.specs.Locked.{IsContinued};
+ghost use Rattle.node_threads.specs.Seats.{nodes_of};
 
 use crate::closing::{CloseFault, Outcome, close_unlocked};
 use crate::refusal::ShareFault;
 use crate::round::Sharing;
-use crate::sharing::{MAX_SEATS, share};
+use crate::seat::Seat;
+use crate::sharing::{MAX_SEATS, Shared, share};
 use crate::threads::{Task, in_threads};
 use crate::turns::Gate;
 use crate::unlocked::Unlocked;
@@ -142,6 +144,25 @@ fn run_round<
             return Err(RunFault { cause, book });
         }
     };
+    close_run(alloc, shared, seats)
+}
+
+// Closes a run whose threads gave back the seat of each node, in order.
+fn close_run<L: Sharing<P::Local>, P: Application>(
+    alloc: Global,
+    shared: Shared<L, P>,
+    seats: Vec<Seat<L>>,
+) -> Result<Outcome<P>, RunFault<P>>
+    requires nodes { L.book.config.graph.nodes ≡ L.nodes }
+    requires own { nodes_of seats.items ≡ L.nodes }
+    ensures closed { IfOk result (λ o. IsClosed P.app P.from_text L.book o.book o.seats.items) }
+    ensures order { IfOk result (λ o. map (λ l. l.0) o.seats.items ≡ L.nodes) }
+    ensures cause { IfErr result (λ e. (e.cause ≢ RunCause.StrangeNode) × (e.cause ≢ RunCause.TooManyForThreads)) }
+    ensures close { IfErr result (λ e. (f : CloseFault) → e.cause ≡ RunCause.Close f
+        → HasCloseFault P.app P.from_text L.book e.book f) }
+    ensures seats { IfErr result (λ e. (i : ℕ) → e.cause ≢ RunCause.Close (CloseFault.SeatMissing i)) }
+    ensures stands { IfErr result (λ e. IsContinued P.app P.from_text L.book e.book) }
+{
     match close_unlocked(alloc, Unlocked::new(shared), seats) {
         Ok(outcome) => Ok(outcome),
         Err((fault, unlocked, seats)) => {
