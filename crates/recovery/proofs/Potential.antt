@@ -1,6 +1,6 @@
 -- Each step at a false node of least distance lowers the potential.
-use Rattle.std.proofs.Common.{◌≡◌, ◌≢◌, ℕ, zero, suc, ◌+◌, ◌-◌, ◌*◌, ◌<◌, ◌≤◌, ◌⊎◌, Bool, true, false, cond}
-use Rattle.std.proofs.Common.{List, [], ◌∷◌, length, Contains, refl, sym, ap, subst, ◌∙◌, ⊎_elim, arith, true≢false}
+use Rattle.std.proofs.Common.{◌≡◌, ◌≢◌, ℕ, suc, ◌+◌, ◌-◌, ◌*◌, ◌<◌, ◌≤◌, ◌⊎◌, Bool, true, false, cond}
+use Rattle.std.proofs.Common.{List, [], ◌∷◌, length, refl, sym, ap, subst, ◌∙◌, ⊎_elim, arith, true≢false}
 use Rattle.std.specs.List.{sum_by}
 use Rattle.std.proofs.lemmas.Bool.{cases_lt, cases_eq, cases_Bool}
 use Rattle.std.proofs.lemmas.List.Sums.{sum_by-cons}
@@ -10,37 +10,9 @@ use Rattle.tree_layer.specs.TreeRows.{Claims, Follows, claimed, followed}
 use Rattle.tree_layer.specs.TreePicture.{TreePicture}
 use Rattle.tree_layer.proofs.TreePictures.{rests_where_picture}
 use Rattle.tree_layer.specs.TreeRows.{claim_far}
+use Rattle.reset_model.proofs.Sums.{sum_less}
 use Rattle.recovery.specs.FalseNodes.{AreLed, IsFalse, is_claimed, is_false, near, over, potential, unled, weight}
 use Rattle.recovery.proofs.Forgotten.{claim_ends, follow_grows, goes_on, others_true, same_regs}
-
--- ---- sums
-
-first : (x : ℕ) (xs : List ℕ) → Contains (x ∷ xs) x
-first x xs = (0, omega arith, refl)
-
-later : (x : ℕ) (xs : List ℕ) (k : ℕ) → Contains xs k → Contains (x ∷ xs) k
-later x xs k there = (suc there.0, omega (arith, there.1), there.2)
-
-module _ (f h : ℕ → ℕ) where
-  sum_le : (xs : List ℕ) → ((k : ℕ) → Contains xs k → h k ≤ f k) → sum_by h xs ≤ sum_by f xs
-  sum_le [] le = omega arith
-  sum_le (x ∷ xs) le =
-      omega (arith, sum_by-cons h x xs, sum_by-cons f x xs, le x (first x xs), sum_le xs (λ k there. le k (later x xs k there)))
-
-  sum_less : (xs : List ℕ) → ((k : ℕ) → Contains xs k → h k ≤ f k) → (k : ℕ) → Contains xs k → h k < f k
-      → sum_by h xs < sum_by f xs
-  sum_less [] le k there less = absurd (omega (arith, there.1))
-  sum_less (x ∷ xs) le k (zero, low, is) less =
-      let here : h x < f x = subst (λ n. h n < f n) (sym is) less in
-      omega (arith, sum_by-cons h x xs, sum_by-cons f x xs, here, sum_le xs (λ n there. le n (later x xs n there)))
-  sum_less (x ∷ xs) le k (suc n, low, is) less =
-      omega (
-        arith,
-        sum_by-cons h x xs,
-        sum_by-cons f x xs,
-        le x (first x xs),
-        sum_less xs (λ j there. le j (later x xs j there)) k (n, omega (arith, low), is) less,
-      )
 
 -- ---- the test
 
