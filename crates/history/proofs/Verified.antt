@@ -1,6 +1,7 @@
 -- Entries that are played up to the first that isn't allowed where it stands.
-use Rattle.std.proofs.Common.{◌≡◌, ◌≢◌, ℕ, true, false, true≢false, sym, List, ◌∷◌, ◌++◌, Option, None}
-use Rattle.std.proofs.Common.{Some, refl, ap, ◌∙◌, append_assoc, Result, Ok, Err, OnOk, IfErr}
+use Rattle.std.proofs.Common.{◌≡◌, ◌≢◌, ℕ, zero, suc, ◌-◌, true, false, true≢false, sym, List, [], ◌∷◌, ◌++◌, Option, None}
+use Rattle.std.proofs.Common.{Some, refl, ap, ◌∙◌, append_assoc, arith, length, take, Result, Ok, Err, OnOk, IfErr}
+use Rattle.std.proofs.lemmas.List.{take_all}
 use Rattle.std.specs.Option.{is_none}
 use Rattle.std.specs.Result.{result_err}
 use Rattle.app_interface.specs.Application.{App}
@@ -18,10 +19,27 @@ use Rattle.history.specs.Entries.{IsRefusal}
 use Rattle.history.specs.declared.text.BookFault.{BookFault}
 use Rattle.history.specs.declared.text.BookFault.TheVariants as book
 use Rattle.history.specs.declared.verification.ReaderFault.TheVariants as reader
-use Rattle.history.specs.HistoryText.{IsReadAs, IsReadWhole}
+use Rattle.history.specs.HistoryText.{IsReadAs, IsReadWhole, history}
 use Rattle.history.specs.Played.{HasPlayed, IsKept, IsPlayedTo, IsStoppedBy}
-use Rattle.history.specs.Verdict.{IsEnd, IsJudgement, IsVerdict, reader_fault_of}
+use Rattle.history.specs.Verdict.{IsEnd, IsJudgement, IsJudgementOf, IsJudgementOfFirst, IsVerdict, reader_fault_of}
 use Rattle.history.proofs.ReadLines.{some_whole}
+
+-- the first of a list that goes on, of which the first were taken already
+pub take_more : {X : Type 0} (n : ℕ) (xs more : List X)
+    → take n (xs ++ more) ≡ take n xs ++ take (n - length (take n xs)) more
+take_more zero xs more = refl
+take_more {X} (suc n) [] more =
+    let nothing : List X = [] in
+    let none : take (suc n) nothing ≡ nothing = take_all (suc n) nothing (omega arith) in
+    let whole : suc n ≡ suc n - 0 = omega arith in
+    ap (λ k. take k more) whole ∙ ap (λ (l : List X). l ++ take (suc n - length l) more) (sym none)
+take_more (suc n) (x ∷ xs) more =
+    let same : n - length (take n xs) ≡ suc n - suc (length (take n xs)) = omega arith in
+    ap (λ l. x ∷ l) (take_more n xs more) ∙ ap (λ k. x ∷ (take n xs ++ take k more)) same
+
+-- a history has few entries
+all_first : (text : List ℕ) (m : ℕ) (es : List Entry) → IsReadAs text (Ok (m, es)) → take 1000000 es ≡ es
+all_first text m es (history v k ds begins) = take_all 1000000 es begins.few
 
 module _ {L : Type 0} (app : App L) (from_text : List ℕ → Option L) (c : Configuration L) where
   -- what follows the first refused entry changes nothing
@@ -100,9 +118,21 @@ module _ {P L : Type 0} (app : App L) (from_text : List ℕ → Option L) (c : C
   resumption text (judge.Refused r) (es, read, refusal) = (es, read, refusal.first)
   resumption text judge.NoMemory is = tt
 
-  -- what entries come to, where a text reads so
+  -- the first entries, as many as a history may have, are all
+  pub of_all : (text : List ℕ) (r : Result (Resumed P L) (JudgeFault P L))
+      → IsJudgementOfFirst 1000000 app from_text c text r → IsJudgement app from_text c text r
+  of_all text (Ok r) (es, read, is) = (es, read, rw (all_first text c.modulus es read) at is)
+  of_all text (Err (judge.Refused r)) (es, read, is) = (es, read, rw (all_first text c.modulus es read) at is)
+  of_all text (Err (judge.Text f)) is = is
+  of_all text (Err (judge.OtherModulus m)) is = is
+  of_all text (Err judge.NoMemory) is = is
+
+module _ {P L : Type 0} (part : List Entry → List Entry) (app : App L) (from_text : List ℕ → Option L)
+    (c : Configuration L) where
+  -- what a part of the entries comes to, where a text reads so
   pub judgement : (es : List Entry) (text : List ℕ) (r : Result (Resumed P L) (JudgeFault P L))
-      → IsReadAs text (Ok (c.modulus, es)) → IsEnd app from_text c es r → IsJudgement app from_text c text r
+      → IsReadAs text (Ok (c.modulus, es)) → IsEnd app from_text c (part es) r
+      → IsJudgementOf part app from_text c text r
   judgement es text (Ok r) read end = (es, read, end)
   judgement es text (Err (judge.Refused r)) read end = (es, read, end)
   judgement es text (Err judge.NoMemory) read end = tt

@@ -1,5 +1,5 @@
 -- What a history's text comes to: what its entries tell, or why it is none.
-use Rattle.std.specs.Prelude.{◌≡◌, ◌≢◌, ℕ, ⊤, List, length, IsSome, Option, Some, None, Result, Ok, Err}
+use Rattle.std.specs.Prelude.{◌≡◌, ◌≢◌, ℕ, ⊤, List, length, take, IsSome, Option, Some, None, Result, Ok, Err}
 use Rattle.app_interface.specs.Application.{App}
 use Rattle.reset_model.specs.Configuration.{Configuration}
 use Rattle.history.specs.declared.entry.Entry.{Entry}
@@ -70,15 +70,26 @@ reader_fault_of (judge.OtherModulus m) = reader.OtherModulus m
 reader_fault_of (judge.Refused r) = reader.Entries (NotEnabledAt r.position)
 reader_fault_of judge.NoMemory = reader.Entries verify.NoMemory
 
--- the verdict, with the configuration that the entries leave, or with the entry that isn't allowed and the configuration
--- there
+-- the verdict on this part of the entries, with the configuration that they leave, or with the entry that isn't allowed
+-- and the configuration there
+abbrev pub IsJudgementOf : {P L : Type 0} → (List Entry → List Entry) → App L → (List ℕ → Option L) → Configuration L
+    → List ℕ → Result (Resumed P L) (JudgeFault P L) → Type 0
+IsJudgementOf part app from_text c text (Ok r) =
+    (es : List Entry) × IsReadAs text (Ok (c.modulus, es)) × IsResumed app from_text c (part es) r.config r.summary
+IsJudgementOf part app from_text c text (Err (judge.Refused r)) =
+    (es : List Entry) × IsReadAs text (Ok (c.modulus, es))
+    × IsRefusal app from_text c (part es) r.position r.entry r.config
+IsJudgementOf part app from_text c text (Err f) = IsVerdict app from_text c text (Err (reader_fault_of f))
+
+-- that on all entries
 abbrev pub IsJudgement : {P L : Type 0} → App L → (List ℕ → Option L) → Configuration L → List ℕ
     → Result (Resumed P L) (JudgeFault P L) → Type 0
-IsJudgement app from_text c text (Ok r) = IsResumption app from_text c text (Ok r)
-IsJudgement app from_text c text (Err (judge.Refused r)) =
-    (es : List Entry) × IsReadAs text (Ok (c.modulus, es))
-    × IsRefusal app from_text c es r.position r.entry r.config
-IsJudgement app from_text c text (Err f) = IsVerdict app from_text c text (Err (reader_fault_of f))
+IsJudgement = IsJudgementOf (λ es. es)
+
+-- that on the first n of them: the others are read, and not judged
+abbrev pub IsJudgementOfFirst : {P L : Type 0} → ℕ → App L → (List ℕ → Option L) → Configuration L → List ℕ
+    → Result (Resumed P L) (JudgeFault P L) → Type 0
+IsJudgementOfFirst n = IsJudgementOf (take n)
 
 -- what an answer tells: how many entries there are, and their reports, or the fault. Want of memory, and a reader
 -- that failed, tell nothing of a text

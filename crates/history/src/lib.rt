@@ -33,6 +33,6 @@ pub use text::{
     BookFault, books_read_back, one_reading_a_text, put_entry, put_first_line, write_book,
 };
 pub use verification::{
-    JudgeFault, ReaderFault, Refused, Resumed, judge_reader, one_verdict_a_text, resume_reader,
-    verify, verify_reader,
+    JudgeFault, ReaderFault, Refused, Resumed, judge_first, judge_reader, one_verdict_a_text,
+    resume_reader, verify, verify_reader,
 };

@@ -1,7 +1,7 @@
 // The lines of a history, as they come.
 
 ghost use Rattle.std.specs.Prelude.{◌≡◌, ◌≢◌, ◌++◌, ◌∷◌, [], ℕ, ◌+◌, ◌≤◌, List, length, IfErr, IfOk};
-ghost use Rattle.std.specs.Prelude.{OnOk, Ok, Err, IfNone, IfSome, Some, None, false};
+ghost use Rattle.std.specs.Prelude.{OnOk, Ok, Err, IfNone, IfSome, Some, None, false, true};
 ghost use Rattle.std.specs.Io.KnownBytes.{Consumes, IsAtEnd};
 ghost use Rattle.history.specs.declared.entry.Entry.{Entry};
 ghost use Rattle.action_tables.specs.Cuts.{HasNo};
@@ -66,7 +66,7 @@ impl Reading {
         reader: &mut R,
         room: &mut [u8; CHUNK],
     ) -> Result<bool, BookFault>
-        ensures ok { IfOk result (λ _. (given : List ℕ)
+        ensures ok { IfOk result (λ more. (given : List ℕ) × (more ≡ true → given ≢ [])
             × Consumes (R.remaining reader.old) (R.remaining reader.new) given
             × ((before : List Entry) (text : List ℕ) → HasRead self.old before text
             → HasRead self.new before (text ++ given))) }
@@ -143,11 +143,10 @@ impl Reading {
         }
     }
 
-    // The modulus of the text that ends here, and how many entries it has.
-    pub fn end(&self) -> Result<(u64, usize), BookFault>
-        ensures ok { IfOk result (λ ends. (before : List Entry) (text : List ℕ) → HasRead self.now before text
-            → IsReadAs text (Ok (ends.0, before ++ self.now.lines.entries.items))
-            × (ends.1 ≡ length (before ++ self.now.lines.entries.items))) }
+    // The modulus of the text that ends here.
+    pub fn end(&self) -> Result<u64, BookFault>
+        ensures ok { IfOk result (λ modulus. (before : List Entry) (text : List ℕ) → HasRead self.now before text
+            → IsReadAs text (Ok (modulus, before ++ self.now.lines.entries.items))) }
         ensures err { IfErr result (λ f. (before : List Entry) (text : List ℕ) → HasRead self.now before text
             → IsReadAs text (Err f)) }
     {
@@ -155,16 +154,9 @@ impl Reading {
             return Err(self.lines.bad_line());
         }
         match self.lines.header {
-            Some(header) => Ok((header.modulus, self.lines.count)),
+            Some(header) => Ok(header.modulus),
             None => Err(self.lines.bad_line()),
         }
-    }
-
-    // How many entries there were.
-    pub fn count(&self) -> usize
-        ensures { result ≡ self.now.lines.count }
-    {
-        self.lines.count
     }
 
     // The entries that are kept.
@@ -190,7 +182,7 @@ impl Reading {
         ensures err { IfErr result (λ f. (text : List ℕ) → HasRead self [] text → IsReadAs text (Err f)) }
     {
         match self.end() {
-            Ok((modulus, _)) => Ok(BookText {
+            Ok(modulus) => Ok(BookText {
                 modulus,
                 entries: self.lines.entries,
             }),

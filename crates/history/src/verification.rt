@@ -1,6 +1,6 @@
 // Whether entries are a history.
 
-ghost use Rattle.std.specs.Prelude.{◌≡◌, [], length, IfOk, IfErr, IsSome, List, OnOk, Some, Result, ℕ};
+ghost use Rattle.std.specs.Prelude.{◌≡◌, ◌≤◌, [], length, take, IfOk, IfErr, IsSome, List, OnOk, Some, Result, ℕ};
 ghost use Rattle.std.specs.Io.KnownBytes.{IsAtEnd};
 ghost use Rattle.reset_model.specs.Configuration.{Configuration};
 ghost use Rattle.history.specs.declared.entry.Report.{Report};
@@ -12,8 +12,10 @@ ghost use Rattle.history.specs.HistoryText.{IsReadWhole};
 ghost use Rattle.history.specs.Played.{HasVerified, verify_fault_of};
 ghost use Rattle.history.specs.Reading.{HasRead};
 ghost use Rattle.history.specs.Reports.{reports_of};
-ghost use Rattle.history.specs.Verdict.{IsJudgement, IsResumption, IsVerdict, reader_fault_of, verdict_of};
+ghost use Rattle.history.specs.Verdict.{IsJudgement, IsJudgementOfFirst, IsResumption, IsVerdict, reader_fault_of};
+ghost use Rattle.history.specs.Verdict.{verdict_of};
 
+use crate::book::MAX_ENTRIES;
 use crate::entry::{Entry, Summary, VerifyFault};
 use crate::lines::{CHUNK, Reading};
 use crate::player::{PlayFault, Player};
@@ -144,39 +146,66 @@ pub fn judge_reader<P: Application, R: Read>(
         × IsJudgement P.app P.from_text opening text result }
     ensures end { OnOk result (IsAtEnd (R.remaining reader.new)) }
 {
+    judge_first(alloc, opening, MAX_ENTRIES, reader)
+}
+
+/// As `judge_reader`, of the first entries, at most so many: the others are read, and not played.
+pub fn judge_first<P: Application, R: Read>(
+    alloc: Global,
+    opening: Config<P>,
+    most: usize,
+    reader: &mut R,
+) -> Result<Resumed<P>, JudgeFault<P>>
+    ensures told { (text : List ℕ) × IsReadWhole (R.remaining reader.old) text
+        × IsJudgementOfFirst most P.app P.from_text opening text result }
+    ensures end { OnOk result (IsAtEnd (R.remaining reader.new)) }
+{
     let modulus = opening.modulus().get();
     let mut verifier = Verifier::new(alloc, opening);
     let mut reading = Reading::new(alloc);
-    let mut count = 0;
+    let mut played = 0;
     let mut room = [0; CHUNK];
     // No reader gives so much: a bound, so that the reading is seen to end.
     for _ in 0..u64::MAX {
         match reading.read_on(alloc, reader, &mut room) {
             Ok(true) => {}
-            Ok(false) => return verdict(modulus, verifier, &reading),
+            Ok(false) => return verdict(modulus, verifier, played, &reading),
             Err(fault) => return Err(JudgeFault::Text(fault)),
         }
-        verifier.take(alloc, count, reading.entries());
-        count = reading.count();
+        let first = first_entries(reading.entries(), most - played);
+        verifier.take(alloc, played, first);
+        played += first.len();
         reading.forget();
     }
     Err(JudgeFault::Text(BookFault::ReadFailed))
 }
 
-// What the text comes to that ends here, all of whose entries were taken, where the opening has this modulus.
+// The first of these entries, at most so many.
+fn first_entries(entries: &[Entry], most: usize) -> &[Entry]
+    ensures first { result.now ≡ take most entries.now }
+    ensures few { length result.now ≤ most }
+{
+    if entries.len() <= most {
+        return entries;
+    }
+    &entries[..most]
+}
+
+// What the text comes to that ends here, whose first entries were taken, so many, where the opening has this modulus.
 fn verdict<P: Application>(
     modulus: u64,
     verifier: Verifier<P>,
+    played: usize,
     reading: &Reading,
 ) -> Result<Resumed<P>, JudgeFault<P>>
     requires { reading.now.lines.entries.items ≡ [] }
-    ensures { (c : Configuration P.Local) (es : List Entry) (text : List ℕ) → c.modulus ≡ modulus
-        → HasVerified P.app P.from_text c es verifier → HasRead reading.now es text
-        → IsJudgement P.app P.from_text c text result }
+    ensures { (c : Configuration P.Local) (n : ℕ) (es : List Entry) (text : List ℕ) → c.modulus ≡ modulus
+        → HasVerified P.app P.from_text c (take n es) verifier → played ≡ length (take n es)
+        → HasRead reading.now es text → IsJudgementOfFirst n P.app P.from_text c text result }
 {
     match reading.end() {
-        Ok((other, count)) if other == modulus => verifier.judged(count),
-        Ok((other, _)) => {
+        Ok(other) if other == modulus => verifier.judged(played),
+        Ok(other) => {
             drop(verifier);
             Err(JudgeFault::OtherModulus(other))
         }

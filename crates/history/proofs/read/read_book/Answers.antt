@@ -6,7 +6,7 @@ use Rattle.history.proofs.read.read_book.Goals as goal
 pub returns-in-Ok-false-clause-ok : goal.returns-in-Ok-false-clause-ok
 returns-in-Ok-false-clause-ok g c =
     let (given, consumed, read) = c.loop.invariant in
-    let (last, gave, on) = c.in-Ok-false.ensures.ok in
+    let (last, some, gave, on) = c.in-Ok-false.ensures.ok in
     let start = g.R.Read.remaining c.args.reader.now in
     let now = g.R.Read.remaining c.read_on.new.reader in
     kept_ok start now (given ++ last) c.read_on.new.self c.into_book.result
@@ -16,7 +16,7 @@ returns-in-Ok-false-clause-ok g c =
 pub returns-in-Ok-false-clause-err : goal.returns-in-Ok-false-clause-err
 returns-in-Ok-false-clause-err g c =
     let (given, consumed, read) = c.loop.invariant in
-    let (last, gave, on) = c.in-Ok-false.ensures.ok in
+    let (last, some, gave, on) = c.in-Ok-false.ensures.ok in
     let start = g.R.Read.remaining c.args.reader.now in
     let now = g.R.Read.remaining c.read_on.new.reader in
     kept_err start now (given ++ last) c.read_on.new.self c.into_book.result
@@ -35,7 +35,7 @@ returns-in-Err-clause-err g c memory device =
 pub loop-preserved : goal.loop-preserved
 loop-preserved g c =
     let (given, consumed, read) = c.loop.invariant in
-    let (last, gave, on) = c.in-Ok-true.ensures.ok in (
+    let (last, some, gave, on) = c.in-Ok-true.ensures.ok in (
       given ++ last,
       Consumes-trans (g.R.Read.remaining c.args.reader.now) (g.R.Read.remaining c.loop.reader)
           (g.R.Read.remaining c.read_on.new.reader) given last consumed gave,

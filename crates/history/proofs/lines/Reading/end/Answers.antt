@@ -14,12 +14,10 @@ returns-then-not-is_empty-clause-err c before text read =
 pub returns-in-Some-clause-ok : goal.returns-in-Some-clause-ok
 returns-in-Some-clause-ok c before text read =
     let self = c.args.self.now in
-    let es = before ++ self.lines.entries.items in (
-      good_end c.in-Some.header es self.line.items text
-          (subst (λ o. IsSoFar o es self.line.items text) c.in-Some.is read.lines.so_far)
-          (grind (arith, nat_tests, c.if-not-is_empty.ensures)),
-      read.lines.counted,
-    )
+    let es = before ++ self.lines.entries.items in
+    good_end c.in-Some.header es self.line.items text
+    (subst (λ o. IsSoFar o es self.line.items text) c.in-Some.is read.lines.so_far)
+    (grind (arith, nat_tests, c.if-not-is_empty.ensures))
 
 pub returns-in-None-clause-err : goal.returns-in-None-clause-err
 returns-in-None-clause-err c before text read =
