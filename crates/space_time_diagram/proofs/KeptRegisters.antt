@@ -1,10 +1,11 @@
--- An entry leaves the wave registers of all identifiers as they are, but for those of its own.
+-- An entry leaves the wave registers of all identifiers as they are, and whether they are up, but for its own.
 use Rattle.std.proofs.Common.{◌≡◌, ◌≢◌, ℕ, Bool, true, false, cond, not, ◌&&◌, ◌||◌, ◌==◌, Contains, List, Option, Some}
 use Rattle.std.proofs.Common.{None, Result, Ok, Err, refl, ap, subst, ◌∙◌}
 use Rattle.std.proofs.lemmas.Bool.{ne_eqb}
 use Rattle.app_interface.specs.Application.{App}
 use Rattle.topology.specs.Changing.{first_of, with_link, with_node, without_link, without_node}
 use Rattle.topology.specs.Graph.{Graph, has, is_node}
+use Rattle.topology.proofs.Membership.{has-Contains}
 use Rattle.topology.proofs.NodeChanges.{node_joined, node_left}
 use Rattle.wave_layer.specs.declared.regs.WaveRegs.{WaveRegs}
 use Rattle.wave_layer.specs.declared.regs.Phase.TheVariants.{Normal}
@@ -27,12 +28,20 @@ use Rattle.fault_inject.specs.declared.refusal.FaultRefusal.{FaultRefusal}
 use Rattle.history.specs.declared.entry.Entry.{Entry}
 use Rattle.history.specs.declared.entry.Entry.TheVariants.{Step, Disturbed}
 use Rattle.history.specs.Entries.{entered, left_by_fault, left_by_step}
-use Rattle.space_time_diagram.specs.Bands.{entry_node, fault_node}
+use Rattle.space_time_diagram.specs.Bands.{entry_node, fault_node, shown_of}
 
--- the identifiers stay, and so do the wave registers of those other than this one
+-- the identifiers stay, and of those other than this one so do the wave registers, and whether they are up
 pub record KeepsOthers {L : Type 0} (c : Configuration L) (at : ℕ) (after : Configuration L) : Type 0 where
   pub ids : after.graph.ids ≡ c.graph.ids
   pub others : (i : ℕ) → Contains c.graph.ids i → i ≢ at → wave_of after i ≡ wave_of c i
+  pub up : (i : ℕ) → Contains c.graph.ids i → i ≢ at → is_node after.graph i ≡ is_node c.graph i
+
+-- and so does what is shown of them
+pub shown_kept : {L : Type 0} (c : Configuration L) (at : ℕ) (after : Configuration L) → KeepsOthers c at after
+    → (i : ℕ) → Contains c.graph.ids i → i ≢ at → shown_of after i ≡ shown_of c i
+shown_kept c at after keeps i there other =
+    ap (λ b. cond b (Some (wave_of after i)) None) (keeps.up i there other)
+    ∙ ap (λ regs. cond (is_node c.graph i) (Some regs) None) (keeps.others i there other)
 
 -- the same of what is left, if anything is
 abbrev KeepsIfLeft : {L : Type 0} → Configuration L → ℕ → Option (Configuration L) → Type 0
@@ -68,6 +77,22 @@ up_up g at i other =
     ∙ ap (λ b. ((is_node g i || b) && has g.ids i) && not (is_node g i)) (ne_eqb i at other)
     ∙ joined_up (is_node g i) (has g.ids i)
 
+-- who is up: whoever was, but for the node itself
+
+joined_still : (b h : Bool) → h ≡ true → (b || false) && h ≡ b
+joined_still true true there = refl
+joined_still false true there = refl
+joined_still b false there = absurd (cc)
+
+up_without : (g : Graph) (at i : ℕ) → i ≢ at → is_node (without_node g at) i ≡ is_node g i
+up_without g at i other = node_left g at i ∙ ap (λ b. not b && is_node g i) (ne_eqb i at other)
+
+up_with : (g : Graph) (at i : ℕ) → Contains g.ids i → i ≢ at → is_node (with_node g at) i ≡ is_node g i
+up_with g at i there other =
+    node_joined g at i
+    ∙ ap (λ b. (is_node g i || b) && has g.ids i) (ne_eqb i at other)
+    ∙ joined_still (is_node g i) (has g.ids i) (has-Contains g.ids i there)
+
 module _ {L : Type 0} (app : App L) (from_text : List ℕ → Option L) where
   -- ---- a step
 
@@ -79,14 +104,15 @@ module _ {L : Type 0} (app : App L) (from_text : List ℕ → Option L) where
         ap (λ (g : Graph). value_at none g.ids after.waves i) graph
         ∙ ap (λ ws. value_at none c.graph.ids ws i) waves
         ∙ value_at-put_at_other none c.graph.ids c.waves at i regs other;
+    up = λ i there other. ap (λ (g : Graph). is_node g i) graph;
   }
 
   effect_keeps : (c : Configuration L) (at : ℕ) (does : Effect L) → KeepsOthers c at (after_effect c at does)
-  effect_keeps c at (Tree regs) = record { ids = refl; others = λ i there other. refl }
+  effect_keeps c at (Tree regs) = record { ids = refl; others = λ i there other. refl; up = λ i there other. refl }
   effect_keeps c at (Wave regs None) = put_keeps c at regs (after_effect c at (Wave regs None)) refl refl
   effect_keeps c at (Wave regs (Some local)) =
       put_keeps c at regs (after_effect c at (Wave regs (Some local))) refl refl
-  effect_keeps c at (Local local) = record { ids = refl; others = λ i there other. refl }
+  effect_keeps c at (Local local) = record { ids = refl; others = λ i there other. refl; up = λ i there other. refl }
 
   step_keeps : (c : Configuration L) (e : Event) → KeepsIfLeft c (event_node e) (left_by_step (outcome_of app c e))
   step_keeps c e =
@@ -101,30 +127,38 @@ module _ {L : Type 0} (app : App L) (from_text : List ℕ → Option L) where
   -- ---- a fault
 
   read_keeps : (c : Configuration L) (at : ℕ) (o : Option L) → KeepsOthers c at (with_read c at o)
-  read_keeps c at (Some local) = record { ids = refl; others = λ i there other. refl }
-  read_keeps c at None = record { ids = refl; others = λ i there other. refl }
+  read_keeps c at (Some local) = record { ids = refl; others = λ i there other. refl; up = λ i there other. refl }
+  read_keeps c at None = record { ids = refl; others = λ i there other. refl; up = λ i there other. refl }
 
   topology_keeps : (c : Configuration L) → IsShaped c → (at : ℕ) (g : Graph) → g.ids ≡ c.graph.ids
-      → ((i : ℕ) → i ≢ at → comes_up c.graph g i ≡ false) → KeepsOthers c at (with_topology app c g)
-  topology_keeps c shaped at g same down = record {
+      → ((i : ℕ) → i ≢ at → comes_up c.graph g i ≡ false)
+      → ((i : ℕ) → Contains c.graph.ids i → i ≢ at → is_node g i ≡ is_node c.graph i)
+      → KeepsOthers c at (with_topology app c g)
+  topology_keeps c shaped at g same down up = record {
     ids = same;
     others = λ i there other.
         wave_there app c g same shaped i there ∙ ap (λ b. cond b none (wave_of c i)) (down i other);
+    up = up;
   }
 
   damaged_keeps : (c : Configuration L) → IsShaped c → (f : Fault)
       → KeepsOthers c (fault_node f) (damaged app from_text c f)
-  damaged_keeps c shaped (SetTree at regs) = record { ids = refl; others = λ i there other. refl }
+  damaged_keeps c shaped (SetTree at regs) =
+      record { ids = refl; others = λ i there other. refl; up = λ i there other. refl }
   damaged_keeps c shaped (SetWave at regs) = put_keeps c at regs (with_wave c at regs) refl refl
   damaged_keeps c shaped (SetLocal at text) = read_keeps c at (from_text text)
   damaged_keeps c shaped (LinkDown a b) =
       topology_keeps c shaped a (without_link c.graph a b) refl (λ i other. same_up (is_node c.graph i))
+      (λ i there other. refl)
   damaged_keeps c shaped (LinkUp a b) =
       topology_keeps c shaped a (with_link c.graph a b) refl (λ i other. same_up (is_node c.graph i))
+      (λ i there other. refl)
   damaged_keeps c shaped (NodeDown at) =
       topology_keeps c shaped at (without_node c.graph at) refl (λ i other. down_up c.graph at i)
+      (λ i there other. up_without c.graph at i other)
   damaged_keeps c shaped (NodeUp at) =
       topology_keeps c shaped at (with_node c.graph at) refl (λ i other. up_up c.graph at i other)
+      (λ i there other. up_with c.graph at i there other)
 
   fault_keeps : (c : Configuration L) → IsShaped c → (f : Fault)
       → KeepsIfLeft c (fault_node f) (left_by_fault (injected app from_text c f))

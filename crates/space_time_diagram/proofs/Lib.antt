@@ -1,5 +1,11 @@
 mod Strangers
+mod Standing
 mod PlayedBands
+mod Replays
+mod ComponentMembers
+mod ToldNodes
+mod Rows
+mod Repeated
 mod MarkTexts
 mod ReportRows
 mod Sequences

@@ -3,11 +3,11 @@ use Rattle.std.proofs.Common.{◌≡◌, ℕ, suc, ◌+◌, ◌<◌, List, [], �
 use Rattle.std.proofs.Common.{sym, slice_index_or, refl, ap, subst, ◌∙◌, add-one, drop-cons, append_assoc}
 use Rattle.std.specs.Option.{option_and_then, option_map_or}
 use Rattle.app_interface.specs.Application.{App}
-use Rattle.reset_model.specs.Configuration.{Configuration, wave_of}
+use Rattle.reset_model.specs.Configuration.{Configuration}
 use Rattle.history.specs.declared.entry.Entry.{Entry}
 use Rattle.history.specs.Entries.{entered, replayed}
 use Rattle.space_time_diagram.specs.declared.band.Band.{Band}
-use Rattle.space_time_diagram.specs.Bands.{band, bands_from, entry_node}
+use Rattle.space_time_diagram.specs.Bands.{band, bands_from, entry_node, shown_of}
 
 -- the entry at an index, and those after it
 entry_and_rest : (es : List Entry) (i : ℕ) (x : Entry) → i < length es → x ≡ slice_index_or es i x
@@ -16,7 +16,7 @@ entry_and_rest es i x short is =
     drop-cons es i x short ∙ ap (λ e. e ∷ drop (suc i) es) (sym is) ∙ ap (λ k. x ∷ drop k es) (sym (add-one i))
 
 module _ {L : Type 0} (app : App L) (from_text : List ℕ → Option L) where
-  replayed_next : (c : Configuration L) (es : List Entry) (i : ℕ) (x : Entry) → i < length es
+  pub replayed_next : (c : Configuration L) (es : List Entry) (i : ℕ) (x : Entry) → i < length es
       → x ≡ slice_index_or es i x → replayed app from_text c (drop i es)
       ≡ option_and_then (λ after. replayed app from_text after (drop (i + 1) es)) (entered app from_text c x)
   unfolding replayed
@@ -42,18 +42,18 @@ module _ {L : Type 0} (app : App L) (from_text : List ℕ → Option L) where
   bands_next : (lane : ℕ → ℕ) (count place : ℕ) (c d : Configuration L) (es : List Entry) (i : ℕ) (x : Entry)
       → i < length es → x ≡ slice_index_or es i x → entered app from_text c x ≡ Some d
       → bands_from app from_text lane count c place (drop i es)
-      ≡ band lane count place (entry_node x) (wave_of d (entry_node x))
+      ≡ band lane count place (entry_node x) (shown_of d (entry_node x))
       ∷ bands_from app from_text lane count d (place + 1) (drop (i + 1) es)
   unfolding bands_from
   bands_next lane count place c d es i x short is here =
       ap (bands_from app from_text lane count c place) (entry_and_rest es i x short is)
-      ∙ ap (λ o. option_map_or (λ after. band lane count place (entry_node x) (wave_of after (entry_node x))
+      ∙ ap (λ o. option_map_or (λ after. band lane count place (entry_node x) (shown_of after (entry_node x))
       ∷ bands_from app from_text lane count after (place + 1) (drop (i + 1) es)) o []) here
 
   -- one band more
   pub bands_more : (lane : ℕ → ℕ) (count place : ℕ) (c d : Configuration L) (es : List Entry) (i : ℕ) (x : Entry)
       (before : List Band) → i < length es → x ≡ slice_index_or es i x → entered app from_text c x ≡ Some d
-      → (before ++ band lane count place (entry_node x) (wave_of d (entry_node x)) ∷ [])
+      → (before ++ band lane count place (entry_node x) (shown_of d (entry_node x)) ∷ [])
       ++ bands_from app from_text lane count d (place + 1) (drop (i + 1) es)
       ≡ before ++ bands_from app from_text lane count c place (drop i es)
   bands_more lane count place c d es i x before short is here =

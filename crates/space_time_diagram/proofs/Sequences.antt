@@ -5,7 +5,7 @@ use Rattle.std.proofs.KnownBytes.{Appends-trans}
 use Rattle.action_tables.specs.Written.{AppendsPrefix}
 use Rattle.action_tables.proofs.Prefixes.{AppendsPrefix-first, AppendsPrefix-then}
 
-nothing_yet : (a : Option (List ℕ)) → Appends a a []
+pub nothing_yet : (a : Option (List ℕ)) → Appends a a []
 nothing_yet None = tt
 nothing_yet (Some xs) = sym (append-nil xs)
 

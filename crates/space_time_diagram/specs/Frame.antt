@@ -1,8 +1,8 @@
--- What stands round the lanes.
-use Rattle.std.specs.Prelude.{ℕ, List, [], ◌∷◌, ◌++◌, length, codes}
+-- What stands above the lanes.
+use Rattle.std.specs.Prelude.{ℕ, List, [], ◌∷◌, codes}
 use Rattle.std.specs.Fmt.{decimal}
-use Rattle.std.specs.List.{concat, flat_map}
-use Rattle.space_time_diagram.specs.Page.{lane_x, legend_y, page_height, page_width}
+use Rattle.std.specs.List.{concat}
+use Rattle.space_time_diagram.specs.Page.{page_height, page_width}
 
 -- the first tag, with the size of the page, its ground, and what is on it in words
 unfoldable pub first_tag_text : ℕ → ℕ → ℕ → ℕ → List ℕ
@@ -16,25 +16,13 @@ first_tag_text width height lanes count = concat (codes "<svg xmlns='http://www.
 abbrev pub first_tag : ℕ → ℕ → List ℕ
 first_tag lanes count = first_tag_text (page_width lanes) (page_height count) lanes count
 
--- the identifier of a node above its lane, whose middle is at x
-unfoldable pub heading_text : ℕ → ℕ → List ℕ
-heading_text x i = concat (codes "<text class='lane' x='" ∷ decimal x ∷ codes "' y='52'>" ∷ decimal i
-    ∷ codes "</text>\n" ∷ [])
-
--- the identifier of a node above its lane
-abbrev pub lane_heading : (ℕ → ℕ) → ℕ → List ℕ
-lane_heading lane i = heading_text (lane_x (lane i)) i
-
--- those of all nodes
-abbrev pub lane_headings : (ℕ → ℕ) → List ℕ → List ℕ
-lane_headings lane ids = flat_map (lane_heading lane) ids
-
 -- the colours, for light and for dark
 unfoldable pub style : List ℕ
 style =
     concat (codes "<style>\n"
     ∷ codes "svg{color:#1f2328;font:11px system-ui,sans-serif}text{fill:currentColor}.ground{fill:#fff}\n"
     ∷ codes ".title{font-size:13px;font-weight:600}.lane{font-size:10px;font-weight:600;text-anchor:middle}\n"
+    ∷ codes ".lane{stroke:#fff;stroke-width:4px;paint-order:stroke}\n"
     ∷ codes ".place{font-size:9px;text-anchor:end}.session{font-size:8px;text-anchor:end}\n"
     ∷ codes ".s0{fill:#e9ecef}.s1{fill:#cfe5f5}.s2{fill:#fae3b4}\n"
     ∷ codes ".s3{fill:#c9ebdd}.s4{fill:#f3d3e4}.s5{fill:#f3efb0}\n"
@@ -42,12 +30,13 @@ style =
     ∷ codes ".form{stroke:#1f2328}.letter{font-size:9px;font-weight:700;text-anchor:middle;fill:#1f2328}\n"
     ∷ codes ".ask{fill:#e69f00}.wave{fill:#56b4e9}.done{fill:#009e73}\n"
     ∷ codes ".mended{fill:#cc79a7}.bad{fill:#d55e00}.plain{fill:#fff}\n"
-    ∷ codes ".completion path{stroke:#009e73;stroke-width:2;stroke-dasharray:6 3}\n"
+    ∷ codes ".down{fill:url(#hatch)}.stripe{stroke:#8b949e;stroke-width:2}.link path{stroke:#d55e00;stroke-width:1.5}\n"
+    ∷ codes ".completion path{stroke:#009e73;stroke-width:2;stroke-dasharray:5 3}\n"
     ∷ codes ".completion text{font-weight:600}\n"
     ∷ codes "@media(prefers-color-scheme:dark){svg{color:#e6edf3}.ground{fill:#14171c}\n"
     ∷ codes ".s0{fill:#262b33}.s1{fill:#14344f}.s2{fill:#4a3a12}\n"
     ∷ codes ".s3{fill:#124030}.s4{fill:#49293e}.s5{fill:#42401a}\n"
-    ∷ codes ".normal{fill:#6e7681}.form{stroke:#e6edf3}}\n"
+    ∷ codes ".normal{fill:#6e7681}.form{stroke:#e6edf3}.lane{stroke:#14171c}}\n"
     ∷ codes "</style>\n" ∷ [])
 
 -- the forms of the marks, by their kinds
@@ -72,21 +61,15 @@ shapes =
     ∷ codes "<text class='letter' y='3'>A</text></g>\n"
     ∷ codes "<g id='fault'><path d='M0-9L9 0L0 9L-9 0Z' class='form bad'/>\n"
     ∷ codes "<text class='letter' y='3'>!</text></g>\n"
+    ∷ codes "<pattern id='hatch' width='8' height='8' patternUnits='userSpaceOnUse'>\n"
+    ∷ codes "<rect class='ground' width='8' height='8'/><path d='M-2 2L2-2M0 8L8 0M6 10L10 6' class='stripe'/></pattern>\n"
     ∷ codes "</defs>\n" ∷ [])
 
--- what stands above the lanes of these nodes
-abbrev pub head_text : (ℕ → ℕ) → List ℕ → ℕ → List ℕ
-head_text lane ids count =
-    concat (first_tag (length ids) count ∷ style ∷ shapes ∷ lane_headings lane ids ∷ [])
-
--- the tag of the legend, which begins at y
-unfoldable pub legend_tag : ℕ → List ℕ
-legend_tag y = concat (codes "<g class='legend' transform='translate(16 " ∷ decimal y ∷ codes ")'>\n" ∷ [])
-
--- what the bands and the marks stand for, and the last tags
-unfoldable pub legend_items : List ℕ
-legend_items =
-    concat (codes "<rect class='normal' x='3' y='-8' width='10' height='16'/>\n"
+-- what the bands and the marks stand for, above the lanes
+unfoldable pub legend : List ℕ
+legend =
+    concat (codes "<g class='legend' transform='translate(16 48)'>\n"
+    ∷ codes "<rect class='normal' x='3' y='-8' width='10' height='16'/>\n"
     ∷ codes "<text x='26' y='4'>normal: knows of no reset</text>\n"
     ∷ codes "<rect class='initiate' x='3' y='12' width='10' height='16'/>\n"
     ∷ codes "<text x='26' y='24'>initiate: has asked for a reset</text>\n"
@@ -94,20 +77,24 @@ legend_items =
     ∷ codes "<text x='26' y='44'>reset: waits for its children</text>\n"
     ∷ codes "<rect class='s0' y='52' width='8' height='16'/>\n"
     ∷ codes "<rect class='s1' x='8' y='52' width='8' height='16'/>\n"
-    ∷ codes "<text x='26' y='64'>behind it the session, by its number and a colour</text>\n"
-    ∷ codes "<use href='#request' x='8' y='80'/><text x='26' y='84'>request</text>\n"
-    ∷ codes "<use href='#relay' x='8' y='100'/><text x='26' y='104'>relay of a request</text>\n"
-    ∷ codes "<use href='#open' x='8' y='120'/><text x='26' y='124'>open a session</text>\n"
-    ∷ codes "<use href='#join' x='8' y='140'/><text x='26' y='144'>join a session</text>\n"
-    ∷ codes "<use href='#finish' x='8' y='160'/><text x='26' y='164'>finish</text>\n"
-    ∷ codes "<use href='#mend' x='8' y='180'/><text x='26' y='184'>mend the wave registers</text>\n"
-    ∷ codes "<use href='#tree' x='8' y='200'/><text x='26' y='204'>claim, follow or adopt</text>\n"
-    ∷ codes "<use href='#action' x='8' y='220'/><text x='26' y='224'>action of the application</text>\n"
-    ∷ codes "<use href='#fault' x='8' y='240'/><text x='26' y='244'>fault</text>\n"
-    ∷ codes "<g class='completion'><path d='M-4 260H20'/></g>\n"
-    ∷ codes "<text x='26' y='264'>a session is told complete</text>\n"
-    ∷ codes "</g>\n</svg>\n" ∷ [])
+    ∷ codes "<text x='26' y='64'>its session, a colour behind it</text>\n"
+    ∷ codes "<rect class='down' y='72' width='16' height='16'/>\n"
+    ∷ codes "<text x='26' y='84'>the node is down</text>\n"
+    ∷ codes "<g class='completion'><path d='M-4 100H20'/></g>\n"
+    ∷ codes "<text x='26' y='104'>a session is told complete</text>\n"
+    ∷ codes "<g class='link'><path d='M-4 120H18'/><circle class='form bad' cx='16' cy='120' r='4'/></g>\n"
+    ∷ codes "<text x='26' y='124'>other end of a link's fault</text>\n"
+    ∷ codes "<use href='#request' x='228' y='0'/><text x='246' y='4'>request</text>\n"
+    ∷ codes "<use href='#relay' x='228' y='20'/><text x='246' y='24'>relay of a request</text>\n"
+    ∷ codes "<use href='#open' x='228' y='40'/><text x='246' y='44'>open a session</text>\n"
+    ∷ codes "<use href='#join' x='228' y='60'/><text x='246' y='64'>join a session</text>\n"
+    ∷ codes "<use href='#finish' x='228' y='80'/><text x='246' y='84'>finish</text>\n"
+    ∷ codes "<use href='#mend' x='228' y='100'/><text x='246' y='104'>mend the wave registers</text>\n"
+    ∷ codes "<use href='#tree' x='228' y='120'/><text x='246' y='124'>claim, follow or adopt</text>\n"
+    ∷ codes "<use href='#action' x='228' y='140'/><text x='246' y='144'>action of the application</text>\n"
+    ∷ codes "<use href='#fault' x='228' y='160'/><text x='246' y='164'>fault</text>\n"
+    ∷ codes "</g>\n" ∷ [])
 
--- the legend below the rows of so many entries, and the last tags
-abbrev pub legend : ℕ → List ℕ
-legend count = legend_tag (legend_y count) ++ legend_items
+-- what stands above so many lanes
+abbrev pub head_text : ℕ → ℕ → List ℕ
+head_text lanes count = concat (first_tag lanes count ∷ style ∷ shapes ∷ legend ∷ [])

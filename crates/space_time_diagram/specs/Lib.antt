@@ -3,6 +3,8 @@ pub mod Lanes
 pub mod Bands
 pub mod Marks
 pub mod Completions
+pub mod Members
 pub mod Frame
+pub mod Headings
 pub mod Diagram
 pub mod Shown

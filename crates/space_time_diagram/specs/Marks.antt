@@ -1,10 +1,14 @@
 -- The marks of entries.
-use Rattle.std.specs.Prelude.{ℕ, ◌+◌, ◌==◌, if◌then◌else◌, List, [], ◌∷◌, ◌++◌, codes}
+use Rattle.std.specs.Prelude.{ℕ, ◌+◌, ◌==◌, if◌then◌else◌, List, [], ◌∷◌, ◌++◌, codes, Option, Some, None}
 use Rattle.std.specs.Fmt.{decimal}
 use Rattle.std.specs.List.{concat, flat_map}
+use Rattle.std.specs.Option.{option_map_or}
 use Rattle.reset_model.specs.declared.event.Event.{Event}
 use Rattle.reset_model.specs.declared.event.Event.TheVariants.{Claim, Follow, Adopt, Request, Relay, Open, Join}
 use Rattle.reset_model.specs.declared.event.Event.TheVariants.{Finish, Mend, Act}
+use Rattle.fault_inject.specs.declared.fault.Fault.{Fault}
+use Rattle.fault_inject.specs.declared.fault.Fault.TheVariants.{SetTree, SetWave, SetLocal, LinkDown, LinkUp}
+use Rattle.fault_inject.specs.declared.fault.Fault.TheVariants.{NodeDown, NodeUp}
 use Rattle.history.specs.HistoryText.{entry_line}
 use Rattle.history.specs.declared.entry.Entry.{Entry}
 use Rattle.history.specs.declared.entry.Entry.TheVariants.{Step, Disturbed}
@@ -46,10 +50,38 @@ mark_text kind x y place line = concat (codes "<g class='mark " ∷ kind ∷ cod
     ∷ kind ∷ codes "'/></g>\n<text class='place' x='36' dy='3' y='" ∷ decimal y ∷ codes "'>" ∷ decimal place
     ∷ codes "</text>\n" ∷ [])
 
+-- the other end of the link of a fault: the one that it names last
+abbrev pub fault_end : Fault → Option ℕ
+fault_end (SetTree at regs) = None
+fault_end (SetWave at regs) = None
+fault_end (SetLocal at text) = None
+fault_end (LinkDown a b) = Some b
+fault_end (LinkUp a b) = Some b
+fault_end (NodeDown at) = None
+fault_end (NodeUp at) = None
+
+-- that of an entry
+abbrev pub entry_end : Entry → Option ℕ
+entry_end (Step e) = None
+entry_end (Disturbed f) = fault_end f
+
+-- a thin line at y from x to the other end, where it has a small mark, with the line of its entry to be read there
+unfoldable pub link_text : ℕ → ℕ → ℕ → ℕ → List ℕ → List ℕ
+link_text x end y place line = concat (codes "<g class='link'><title>" ∷ decimal place ∷ codes ": " ∷ line
+    ∷ codes "</title><path d='M" ∷ decimal x ∷ codes " " ∷ decimal y ∷ codes "H" ∷ decimal end
+    ∷ codes "'/><circle class='form bad' cx='" ∷ decimal end ∷ codes "' cy='" ∷ decimal y
+    ∷ codes "' r='4'/></g>\n" ∷ [])
+
+-- the mark at x of the entry at a position. Where it takes a link out or puts one in, a line leads to the lane of its
+-- other end
+abbrev pub mark_at : (ℕ → ℕ) → ℕ → ℕ → Entry → List ℕ
+mark_at lane x place e =
+    option_map_or (λ j. link_text x (lane_x (lane j)) (row_y place) place (escaped (entry_line e))) (entry_end e) []
+    ++ mark_text (entry_kind e) x (row_y place) place (escaped (entry_line e))
+
 -- the mark of the entry at a position, on the lane of its node
 abbrev pub mark : (ℕ → ℕ) → ℕ → Entry → List ℕ
-mark lane place e =
-    mark_text (entry_kind e) (lane_x (lane (entry_node e))) (row_y place) place (escaped (entry_line e))
+mark lane place e = mark_at lane (lane_x (lane (entry_node e))) place e
 
 -- the marks of entries, the first of which has this position
 unfoldable pub marks_from : (ℕ → ℕ) → ℕ → List Entry → List ℕ

@@ -1,15 +1,15 @@
-// The bands: what the wave registers of a node are, from the entry that left them on.
+// The bands: what the wave registers of a node are, from the entry that left them on, or that it is down.
 
 ghost use Rattle.std.specs.Prelude.{◌≡◌, ◌++◌, ◌≤◌, IfOk, IsSome, OnErr, OnOk, length, map};
 ghost use Rattle.std.specs.Io.KnownBytes.{Appends};
 ghost use Rattle.action_tables.specs.Written.{AppendsPrefix};
-ghost use Rattle.reset_model.specs.Configuration.{wave_of};
 ghost use Rattle.history.specs.Entries.{replayed};
 ghost use Rattle.space_time_diagram.specs.Bands.{band, band_text, bands_from, bands_of, bands_text};
-ghost use Rattle.space_time_diagram.specs.Bands.{entry_node, fault_node, opening_band, phase_band_text};
+ghost use Rattle.space_time_diagram.specs.Bands.{down_text, entry_node, fault_node, opening_band, phase_band_text};
+ghost use Rattle.space_time_diagram.specs.Bands.{shown_of};
 ghost use Rattle.space_time_diagram.specs.Lanes.{lane_of};
 
-use crate::lane::{lane_of, wave_at};
+use crate::lane::lane_of;
 use crate::page::{MAX_LANES, MAX_MARKS, height_below, lane_x, row_y};
 use action_tables::{Part, WriteFault, put_parts};
 use app_interface::Application;
@@ -20,15 +20,15 @@ use std::alloc::{AllocError, Global};
 use std::io::Write;
 use wave_layer::WaveRegs;
 
-// A band: where it is on the page, and what it shows. It reaches to below the last entry, and a later band of its node
-// is painted over it.
+// A band: where it is on the page, and what it shows, which is nothing of a node that is down. It reaches to below the
+// last entry, and a later band of its node is painted over it.
 #[derive(Clone, Copy)]
 pub struct Band {
     pub x: u64,
     pub y: u64,
     pub height: u64,
     pub node: u32,
-    pub regs: WaveRegs,
+    pub shown: Option<WaveRegs>,
 }
 
 // The node on whose lane an entry stands.
@@ -112,7 +112,7 @@ fn opening_bands<P: Application>(
     Ok(bands)
 }
 
-// The band of a node from the row of a position on, with the registers that it has in this configuration.
+// The band of a node from the row of a position on, with what it shows in this configuration.
 fn band_at<P: Application>(
     opening: &Config<P>,
     config: &Config<P>,
@@ -123,15 +123,22 @@ fn band_at<P: Application>(
     requires lanes { length opening.now.graph.ids ≤ MAX_LANES }
     requires marks { count ≤ MAX_MARKS }
     requires within { place ≤ count }
-    ensures { result ≡ band (lane_of opening.now) count place node (wave_of config.now node) }
+    ensures { result ≡ band (lane_of opening.now) count place node (shown_of config.now node) }
 {
     Band {
         x: lane_x(lane_of(opening, node)),
         y: row_y(place),
         height: height_below(count, place),
         node,
-        regs: wave_at(config, node),
+        shown: shown_of(config, node),
     }
+}
+
+// The wave registers of a node, and None while it is down.
+fn shown_of<P: Application>(config: &Config<P>, node: u32) -> Option<WaveRegs>
+    ensures { result ≡ shown_of config.now node }
+{
+    config.wave_at(node)
 }
 
 // Writes the bands.
@@ -150,17 +157,26 @@ fn put_band<W: Write>(out: &mut W, band: Band) -> Result<(), WriteFault>
     ensures ok { OnOk result (Appends (W.contents out.old) (W.contents out.new) (band_text band)) }
     ensures err { OnErr result (AppendsPrefix (W.contents out.old) (W.contents out.new) (band_text band)) }
 {
-    put_band_of_phase(out, band, band.regs.phase.name().as_bytes())
+    match band.shown {
+        Some(regs) => put_band_of_phase(out, band, regs, regs.phase.name().as_bytes()),
+        None => put_band_of_down(out, band),
+    }
 }
 
-// Writes a band, whose phase has this name.
+// Writes a band of these registers, whose phase has this name.
 #[tactic(auto, unfolding(crate::specs::Bands::phase_band_text))]
-fn put_band_of_phase<W: Write>(out: &mut W, band: Band, phase: &[u8]) -> Result<(), WriteFault>
-    ensures ok { OnOk result (Appends (W.contents out.old) (W.contents out.new) (phase_band_text band phase.now)) }
+fn put_band_of_phase<W: Write>(
+    out: &mut W,
+    band: Band,
+    regs: WaveRegs,
+    phase: &[u8],
+) -> Result<(), WriteFault>
+    ensures ok { OnOk result
+        (Appends (W.contents out.old) (W.contents out.new) (phase_band_text band regs phase.now)) }
     ensures err { OnErr result
-        (AppendsPrefix (W.contents out.old) (W.contents out.new) (phase_band_text band phase.now)) }
+        (AppendsPrefix (W.contents out.old) (W.contents out.new) (phase_band_text band regs phase.now)) }
 {
-    let session = band.regs.session as u64;
+    let session = regs.session as u64;
     put_parts(
         out,
         &[
@@ -185,6 +201,28 @@ fn put_band_of_phase<W: Write>(out: &mut W, band: Band, phase: &[u8]) -> Result<
             Part::Text(b"'/><text class='session' x='24' y='8'>"),
             Part::Number(session),
             Part::Text(b"</text></g>\n"),
+        ],
+    )
+}
+
+// Writes a band of a node that is down.
+#[tactic(auto, unfolding(crate::specs::Bands::down_text))]
+fn put_band_of_down<W: Write>(out: &mut W, band: Band) -> Result<(), WriteFault>
+    ensures ok { OnOk result (Appends (W.contents out.old) (W.contents out.new) (down_text band)) }
+    ensures err { OnErr result (AppendsPrefix (W.contents out.old) (W.contents out.new) (down_text band)) }
+{
+    put_parts(
+        out,
+        &[
+            Part::Text(b"<g transform='translate("),
+            Part::Number(band.x),
+            Part::Text(b" "),
+            Part::Number(band.y),
+            Part::Text(b")'><title>node "),
+            Part::Number(band.node as u64),
+            Part::Text(b": down</title><rect class='down' x='-26' width='52' height='"),
+            Part::Number(band.height),
+            Part::Text(b"'/></g>\n"),
         ],
     )
 }

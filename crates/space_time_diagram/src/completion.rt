@@ -1,43 +1,145 @@
 // The lines of completions.
 
-ghost use Rattle.std.specs.Prelude.{◌≤◌, ◌++◌, All, OnErr, OnOk};
+ghost use Rattle.std.specs.Prelude.{◌≡◌, ◌<◌, ◌≤◌, IsSome, OnErr, OnOk, Some, length, take};
 ghost use Rattle.std.specs.Io.KnownBytes.{Appends};
 ghost use Rattle.action_tables.specs.Written.{AppendsPrefix};
-ghost use Rattle.space_time_diagram.specs.Completions.{completion, completion_line, completion_tag, completion_words};
-ghost use Rattle.space_time_diagram.specs.Completions.{completions};
+ghost use Rattle.topology.specs.Components.{component};
+ghost use Rattle.history.specs.Entries.{replayed};
+ghost use Rattle.space_time_diagram.specs.Completions.{AreInTurn, completion, completion_end, completion_tag};
+ghost use Rattle.space_time_diagram.specs.Completions.{completion_words, completions, told_completion};
+ghost use Rattle.space_time_diagram.specs.Lanes.{lane_of};
 
+use crate::band::entry_node;
+use crate::component::put_pieces;
+use crate::diagram::DiagramStop;
 use crate::page::{MAX_LANES, MAX_MARKS, right_end, row_y};
 use action_tables::{Part, WriteFault, put_parts};
-use history::Report;
+use app_interface::Application;
+use history::{Entry, Report, play};
+use reset_machine::Config;
+use std::alloc::{AllocError, Global};
 use std::io::Write;
+use topology::Topology;
 
-// Writes a line across so many lanes for each of the reports.
-pub fn put_completions<W: Write>(
-    out: &mut W,
-    lanes: usize,
+// Writes a line for each of the reports, across the lanes of the component that completed its session.
+pub fn put_completions<P: Application, W: Write>(
+    alloc: Global,
+    opening: &Config<P>,
+    entries: &[Entry],
     reports: &[Report],
-) -> Result<(), WriteFault>
-    requires lanes { lanes ≤ MAX_LANES }
-    requires within { All (λ r. r.finished ≤ MAX_MARKS) reports.now }
-    ensures ok { OnOk result (Appends (W.contents out.old) (W.contents out.new) (completions lanes reports.now)) }
-    ensures err { OnErr result
-        (AppendsPrefix (W.contents out.old) (W.contents out.new) (completions lanes reports.now)) }
+    out: &mut W,
+) -> Result<(), DiagramStop>
+    requires lanes { length opening.now.graph.ids ≤ MAX_LANES }
+    requires marks { length entries.now ≤ MAX_MARKS }
+    requires run { IsSome (replayed P.app P.from_text opening.now entries.now) }
+    requires in_turn { AreInTurn 0 (length entries.now) reports.now }
+    ensures ok { OnOk result (Appends (W.contents out.old) (W.contents out.new)
+        (completions P.app P.from_text opening.now entries.now reports.now)) }
+    ensures err { OnErr result (AppendsPrefix (W.contents out.old) (W.contents out.new)
+        (completions P.app P.from_text opening.now entries.now reports.now)) }
 {
+    let mut config = opening.copy(alloc)?;
+    let put = put_each(alloc, opening, entries, reports, &mut config, out);
+    drop(config);
+    put
+}
+
+// Plays the entries from this configuration on, which is the opening, and writes the lines on the way.
+fn put_each<P: Application, W: Write>(
+    alloc: Global,
+    opening: &Config<P>,
+    entries: &[Entry],
+    reports: &[Report],
+    config: &mut Config<P>,
+    out: &mut W,
+) -> Result<(), DiagramStop>
+    requires opening { config.old ≡ opening.now }
+    requires lanes { length opening.now.graph.ids ≤ MAX_LANES }
+    requires marks { length entries.now ≤ MAX_MARKS }
+    requires run { IsSome (replayed P.app P.from_text opening.now entries.now) }
+    requires in_turn { AreInTurn 0 (length entries.now) reports.now }
+    ensures ok { OnOk result (Appends (W.contents out.old) (W.contents out.new)
+        (completions P.app P.from_text opening.now entries.now reports.now)) }
+    ensures err { OnErr result (AppendsPrefix (W.contents out.old) (W.contents out.new)
+        (completions P.app P.from_text opening.now entries.now reports.now)) }
+{
+    let mut played = 0;
     for report in reports {
-        put_completion(out, lanes, *report)?;
+        put_next(alloc, opening, entries, played, *report, config, out)?;
+        played = report.finished;
     }
     Ok(())
 }
 
-// Writes where a session was reported complete.
-fn put_completion<W: Write>(out: &mut W, lanes: usize, report: Report) -> Result<(), WriteFault>
-    requires lanes { lanes ≤ MAX_LANES }
-    requires within { report.finished ≤ MAX_MARKS }
-    ensures ok { OnOk result (Appends (W.contents out.old) (W.contents out.new) (completion lanes report)) }
-    ensures err { OnErr result (AppendsPrefix (W.contents out.old) (W.contents out.new) (completion lanes report)) }
+// Plays the entries from so many on to that of the report, and writes its line.
+fn put_next<P: Application, W: Write>(
+    alloc: Global,
+    opening: &Config<P>,
+    entries: &[Entry],
+    played: usize,
+    report: Report,
+    config: &mut Config<P>,
+    out: &mut W,
+) -> Result<(), DiagramStop>
+    requires lanes { length opening.now.graph.ids ≤ MAX_LANES }
+    requires marks { length entries.now ≤ MAX_MARKS }
+    requires run { IsSome (replayed P.app P.from_text opening.now entries.now) }
+    requires here { replayed P.app P.from_text opening.now (take played entries.now) ≡ Some config.old }
+    requires later { played < report.finished }
+    requires within { report.finished ≤ length entries.now }
+    ensures played { OnOk result
+        (replayed P.app P.from_text opening.now (take report.finished entries.now) ≡ Some config.new) }
+    ensures ok { OnOk result (Appends (W.contents out.old) (W.contents out.new)
+        (told_completion P.app P.from_text opening.now entries.now report)) }
+    ensures err { OnErr result (AppendsPrefix (W.contents out.old) (W.contents out.new)
+        (told_completion P.app P.from_text opening.now entries.now report)) }
 {
+    play_all(alloc, config, &entries[played..report.finished])?;
+    let node = entry_node(&entries[report.finished - 1]);
+    put_completion(out, opening, config.topology(), node, report)?;
+    Ok(())
+}
+
+// Plays the entries.
+fn play_all<P: Application>(
+    alloc: Global,
+    config: &mut Config<P>,
+    entries: &[Entry],
+) -> Result<(), AllocError>
+    requires { IsSome (replayed P.app P.from_text config.old entries.now) }
+    ensures { OnOk result (replayed P.app P.from_text config.old entries.now ≡ Some config.new) }
+{
+    for entry in entries {
+        play(alloc, config, entry)?;
+    }
+    Ok(())
+}
+
+// Writes where the session of a report was told complete, by this node in this topology.
+fn put_completion<P: Application, W: Write>(
+    out: &mut W,
+    opening: &Config<P>,
+    topology: &Topology,
+    node: u32,
+    report: Report,
+) -> Result<(), WriteFault>
+    requires lanes { length opening.now.graph.ids ≤ MAX_LANES }
+    requires within { report.finished ≤ MAX_MARKS }
+    ensures ok { OnOk result (Appends (W.contents out.old) (W.contents out.new)
+        (completion (lane_of opening.now) (length opening.now.graph.ids) (component topology.now node).nodes report)) }
+    ensures err { OnErr result (AppendsPrefix (W.contents out.old) (W.contents out.new)
+        (completion (lane_of opening.now) (length opening.now.graph.ids) (component topology.now node).nodes report)) }
+{
+    let lanes = opening.topology().len();
     put_tag(out, row_y(report.finished))?;
-    put_words_and_line(out, right_end(lanes), report)
+    put_words(
+        out,
+        report.number as u64,
+        report.opened,
+        report.finished as u64,
+    )?;
+    put_pieces(out, opening, topology, node)?;
+    put_end(out, right_end(lanes), report.number as u64)
 }
 
 // Writes the tag of a completion, whose row is at y.
@@ -54,22 +156,6 @@ fn put_tag<W: Write>(out: &mut W, y: u64) -> Result<(), WriteFault>
             Part::Text(b")'>"),
         ],
     )
-}
-
-// Writes the words of a completion and its line to x.
-fn put_words_and_line<W: Write>(out: &mut W, x: u64, report: Report) -> Result<(), WriteFault>
-    ensures ok { OnOk result (Appends (W.contents out.old) (W.contents out.new)
-        (completion_words report.number report.opened report.finished ++ completion_line x report.number)) }
-    ensures err { OnErr result (AppendsPrefix (W.contents out.old) (W.contents out.new)
-        (completion_words report.number report.opened report.finished ++ completion_line x report.number)) }
-{
-    put_words(
-        out,
-        report.number as u64,
-        report.opened,
-        report.finished as u64,
-    )?;
-    put_line(out, x, report.number as u64)
 }
 
 // Writes the words of a completion, to be read at its line.
@@ -111,18 +197,16 @@ fn put_words<W: Write>(
     }
 }
 
-// Writes the line of a completion to x, below its row, with its session at the right end.
-#[tactic(auto, unfolding(crate::specs::Completions::completion_line))]
-fn put_line<W: Write>(out: &mut W, x: u64, session: u64) -> Result<(), WriteFault>
-    ensures ok { OnOk result (Appends (W.contents out.old) (W.contents out.new) (completion_line x session)) }
-    ensures err { OnErr result (AppendsPrefix (W.contents out.old) (W.contents out.new) (completion_line x session)) }
+// Writes the session of a completion, right of all lanes, which end at x.
+#[tactic(auto, unfolding(crate::specs::Completions::completion_end))]
+fn put_end<W: Write>(out: &mut W, x: u64, session: u64) -> Result<(), WriteFault>
+    ensures ok { OnOk result (Appends (W.contents out.old) (W.contents out.new) (completion_end x session)) }
+    ensures err { OnErr result (AppendsPrefix (W.contents out.old) (W.contents out.new) (completion_end x session)) }
 {
     put_parts(
         out,
         &[
-            Part::Text(b"<path d='M44 11H"),
-            Part::Number(x),
-            Part::Text(b"'/><text dx='6' y='15' x='"),
+            Part::Text(b"<text dx='6' y='15' x='"),
             Part::Number(x),
             Part::Text(b"'>session "),
             Part::Number(session),

@@ -1,17 +1,19 @@
 // Space-time diagrams of histories.
 
-ghost use Rattle.std.specs.Prelude.{◌≡◌, ◌≤◌, All, IsSome, OnErr, OnOk, length};
+ghost use Rattle.std.specs.Prelude.{◌≡◌, ◌≤◌, IsSome, OnErr, OnOk, length};
 ghost use Rattle.std.specs.Io.KnownBytes.{Appends};
 ghost use Rattle.action_tables.specs.Written.{AppendsPrefix};
 ghost use Rattle.history.specs.Entries.{replayed};
 ghost use Rattle.history.specs.Reports.{reports_of};
+ghost use Rattle.space_time_diagram.specs.Completions.{AreInTurn, completions};
 ghost use Rattle.space_time_diagram.specs.Diagram.{diagram_text, page_text};
 ghost use Rattle.space_time_diagram.specs.Lanes.{lane_of};
 ghost use Rattle.space_time_diagram.specs.declared.diagram.DiagramStop.TheVariants.{NoMemory, WriteFailed};
 
 use crate::band::{Band, bands_of, put_bands};
 use crate::completion::put_completions;
-use crate::frame::{put_head, put_legend};
+use crate::frame::put_head;
+use crate::heading::put_foot;
 use crate::mark::put_marks;
 use crate::page::{MAX_LANES, MAX_MARKS};
 use action_tables::WriteFault;
@@ -49,8 +51,8 @@ impl From<AllocError> for DiagramStop {
 /// Writes the picture of entries that are a run from the opening, and of what they report: an SVG by itself, without
 /// scripts and without references to anything outside of it.
 ///
-/// It is of at most `MAX_LANES` nodes and `MAX_MARKS` entries. What it holds at a time is a band an entry, and no text
-/// but the line of one entry.
+/// It is of at most `MAX_LANES` nodes and `MAX_MARKS` entries. What it holds at a time is a band an entry, a copy of the
+/// opening, and no text but the line of one entry.
 pub fn put_diagram<P: Application, W: Write>(
     alloc: Global,
     opening: &Config<P>,
@@ -87,18 +89,21 @@ fn put_page<P: Application, W: Write>(
     requires graph { length opening.now.graph.ids ≤ MAX_LANES }
     requires lanes { length ids.now ≤ MAX_LANES }
     requires marks { length entries.now ≤ MAX_MARKS }
-    requires within { All (λ r. r.finished ≤ MAX_MARKS) reports.now }
+    requires run { IsSome (replayed P.app P.from_text opening.now entries.now) }
+    requires in_turn { AreInTurn 0 (length entries.now) reports.now }
     ensures ok { OnOk result
         (Appends (W.contents out.old) (W.contents out.new)
-        (page_text (lane_of opening.now) ids.now bands.now entries.now reports.now)) }
+        (page_text (lane_of opening.now) ids.now bands.now entries.now
+        (completions P.app P.from_text opening.now entries.now reports.now))) }
     ensures err { OnErr result
         (AppendsPrefix (W.contents out.old) (W.contents out.new)
-        (page_text (lane_of opening.now) ids.now bands.now entries.now reports.now)) }
+        (page_text (lane_of opening.now) ids.now bands.now entries.now
+        (completions P.app P.from_text opening.now entries.now reports.now))) }
 {
-    put_head(out, opening, ids, entries.len())?;
+    put_head(out, ids.len(), entries.len())?;
     put_bands(out, bands)?;
     put_marks(alloc, opening, entries, out)?;
-    put_completions(out, ids.len(), reports)?;
-    put_legend(out, entries.len())?;
+    put_completions(alloc, opening, entries, reports, out)?;
+    put_foot(out, opening, ids, entries.len())?;
     Ok(())
 }

@@ -1,17 +1,12 @@
-// What stands round the lanes.
+// What stands above the lanes.
 
-ghost use Rattle.std.specs.Prelude.{◌≤◌, OnErr, OnOk, length};
+ghost use Rattle.std.specs.Prelude.{◌≤◌, OnErr, OnOk};
 ghost use Rattle.std.specs.Io.KnownBytes.{Appends};
 ghost use Rattle.action_tables.specs.Written.{AppendsPrefix};
-ghost use Rattle.space_time_diagram.specs.Frame.{first_tag, first_tag_text, head_text, heading_text, lane_heading};
-ghost use Rattle.space_time_diagram.specs.Frame.{lane_headings, legend, legend_items, legend_tag, shapes, style};
-ghost use Rattle.space_time_diagram.specs.Lanes.{lane_of};
+ghost use Rattle.space_time_diagram.specs.Frame.{first_tag, first_tag_text, head_text, legend, shapes, style};
 
-use crate::lane::lane_of;
-use crate::page::{MAX_LANES, MAX_MARKS, lane_x, legend_y, page_height, page_width};
+use crate::page::{MAX_LANES, MAX_MARKS, page_height, page_width};
 use action_tables::{Part, WriteFault, put_bytes, put_parts};
-use app_interface::Application;
-use reset_machine::Config;
 use std::io::Write;
 
 // The colours, for light and for dark.
@@ -19,6 +14,7 @@ const STYLE: &[u8] = b"\
     <style>\n\
     svg{color:#1f2328;font:11px system-ui,sans-serif}text{fill:currentColor}.ground{fill:#fff}\n\
     .title{font-size:13px;font-weight:600}.lane{font-size:10px;font-weight:600;text-anchor:middle}\n\
+    .lane{stroke:#fff;stroke-width:4px;paint-order:stroke}\n\
     .place{font-size:9px;text-anchor:end}.session{font-size:8px;text-anchor:end}\n\
     .s0{fill:#e9ecef}.s1{fill:#cfe5f5}.s2{fill:#fae3b4}\n\
     .s3{fill:#c9ebdd}.s4{fill:#f3d3e4}.s5{fill:#f3efb0}\n\
@@ -26,12 +22,13 @@ const STYLE: &[u8] = b"\
     .form{stroke:#1f2328}.letter{font-size:9px;font-weight:700;text-anchor:middle;fill:#1f2328}\n\
     .ask{fill:#e69f00}.wave{fill:#56b4e9}.done{fill:#009e73}\n\
     .mended{fill:#cc79a7}.bad{fill:#d55e00}.plain{fill:#fff}\n\
-    .completion path{stroke:#009e73;stroke-width:2;stroke-dasharray:6 3}\n\
+    .down{fill:url(#hatch)}.stripe{stroke:#8b949e;stroke-width:2}.link path{stroke:#d55e00;stroke-width:1.5}\n\
+    .completion path{stroke:#009e73;stroke-width:2;stroke-dasharray:5 3}\n\
     .completion text{font-weight:600}\n\
     @media(prefers-color-scheme:dark){svg{color:#e6edf3}.ground{fill:#14171c}\n\
     .s0{fill:#262b33}.s1{fill:#14344f}.s2{fill:#4a3a12}\n\
     .s3{fill:#124030}.s4{fill:#49293e}.s5{fill:#42401a}\n\
-    .normal{fill:#6e7681}.form{stroke:#e6edf3}}\n\
+    .normal{fill:#6e7681}.form{stroke:#e6edf3}.lane{stroke:#14171c}}\n\
     </style>\n\
 ";
 
@@ -56,11 +53,14 @@ const SHAPES: &[u8] = b"\
     <text class='letter' y='3'>A</text></g>\n\
     <g id='fault'><path d='M0-9L9 0L0 9L-9 0Z' class='form bad'/>\n\
     <text class='letter' y='3'>!</text></g>\n\
+    <pattern id='hatch' width='8' height='8' patternUnits='userSpaceOnUse'>\n\
+    <rect class='ground' width='8' height='8'/><path d='M-2 2L2-2M0 8L8 0M6 10L10 6' class='stripe'/></pattern>\n\
     </defs>\n\
 ";
 
-// What the bands and the marks stand for, and the last tags.
-const LEGEND_ITEMS: &[u8] = b"\
+// What the bands and the marks stand for, above the lanes.
+const LEGEND: &[u8] = b"\
+    <g class='legend' transform='translate(16 48)'>\n\
     <rect class='normal' x='3' y='-8' width='10' height='16'/>\n\
     <text x='26' y='4'>normal: knows of no reset</text>\n\
     <rect class='initiate' x='3' y='12' width='10' height='16'/>\n\
@@ -69,40 +69,36 @@ const LEGEND_ITEMS: &[u8] = b"\
     <text x='26' y='44'>reset: waits for its children</text>\n\
     <rect class='s0' y='52' width='8' height='16'/>\n\
     <rect class='s1' x='8' y='52' width='8' height='16'/>\n\
-    <text x='26' y='64'>behind it the session, by its number and a colour</text>\n\
-    <use href='#request' x='8' y='80'/><text x='26' y='84'>request</text>\n\
-    <use href='#relay' x='8' y='100'/><text x='26' y='104'>relay of a request</text>\n\
-    <use href='#open' x='8' y='120'/><text x='26' y='124'>open a session</text>\n\
-    <use href='#join' x='8' y='140'/><text x='26' y='144'>join a session</text>\n\
-    <use href='#finish' x='8' y='160'/><text x='26' y='164'>finish</text>\n\
-    <use href='#mend' x='8' y='180'/><text x='26' y='184'>mend the wave registers</text>\n\
-    <use href='#tree' x='8' y='200'/><text x='26' y='204'>claim, follow or adopt</text>\n\
-    <use href='#action' x='8' y='220'/><text x='26' y='224'>action of the application</text>\n\
-    <use href='#fault' x='8' y='240'/><text x='26' y='244'>fault</text>\n\
-    <g class='completion'><path d='M-4 260H20'/></g>\n\
-    <text x='26' y='264'>a session is told complete</text>\n\
-    </g>\n</svg>\n\
+    <text x='26' y='64'>its session, a colour behind it</text>\n\
+    <rect class='down' y='72' width='16' height='16'/>\n\
+    <text x='26' y='84'>the node is down</text>\n\
+    <g class='completion'><path d='M-4 100H20'/></g>\n\
+    <text x='26' y='104'>a session is told complete</text>\n\
+    <g class='link'><path d='M-4 120H18'/><circle class='form bad' cx='16' cy='120' r='4'/></g>\n\
+    <text x='26' y='124'>other end of a link's fault</text>\n\
+    <use href='#request' x='228' y='0'/><text x='246' y='4'>request</text>\n\
+    <use href='#relay' x='228' y='20'/><text x='246' y='24'>relay of a request</text>\n\
+    <use href='#open' x='228' y='40'/><text x='246' y='44'>open a session</text>\n\
+    <use href='#join' x='228' y='60'/><text x='246' y='64'>join a session</text>\n\
+    <use href='#finish' x='228' y='80'/><text x='246' y='84'>finish</text>\n\
+    <use href='#mend' x='228' y='100'/><text x='246' y='104'>mend the wave registers</text>\n\
+    <use href='#tree' x='228' y='120'/><text x='246' y='124'>claim, follow or adopt</text>\n\
+    <use href='#action' x='228' y='140'/><text x='246' y='144'>action of the application</text>\n\
+    <use href='#fault' x='228' y='160'/><text x='246' y='164'>fault</text>\n\
+    </g>\n\
 ";
 
-// Writes what stands above the lanes of these nodes.
-pub fn put_head<P: Application, W: Write>(
-    out: &mut W,
-    opening: &Config<P>,
-    ids: &[u32],
-    count: usize,
-) -> Result<(), WriteFault>
-    requires graph { length opening.now.graph.ids ≤ MAX_LANES }
-    requires lanes { length ids.now ≤ MAX_LANES }
+// Writes what stands above so many lanes.
+pub fn put_head<W: Write>(out: &mut W, lanes: usize, count: usize) -> Result<(), WriteFault>
+    requires lanes { lanes ≤ MAX_LANES }
     requires marks { count ≤ MAX_MARKS }
-    ensures ok { OnOk result
-        (Appends (W.contents out.old) (W.contents out.new) (head_text (lane_of opening.now) ids.now count)) }
-    ensures err { OnErr result
-        (AppendsPrefix (W.contents out.old) (W.contents out.new) (head_text (lane_of opening.now) ids.now count)) }
+    ensures ok { OnOk result (Appends (W.contents out.old) (W.contents out.new) (head_text lanes count)) }
+    ensures err { OnErr result (AppendsPrefix (W.contents out.old) (W.contents out.new) (head_text lanes count)) }
 {
-    put_first_tag(out, ids.len(), count)?;
+    put_first_tag(out, lanes, count)?;
     put_style(out)?;
     put_shapes(out)?;
-    put_headings(out, opening, ids)
+    put_legend(out)
 }
 
 // Writes the first tag, with the size of the page of so many lanes and entries.
@@ -176,88 +172,11 @@ fn put_shapes<W: Write>(out: &mut W) -> Result<(), WriteFault>
     put_bytes(out, SHAPES)
 }
 
-// Writes the identifiers of the nodes above their lanes.
-fn put_headings<P: Application, W: Write>(
-    out: &mut W,
-    opening: &Config<P>,
-    ids: &[u32],
-) -> Result<(), WriteFault>
-    requires { length opening.now.graph.ids ≤ MAX_LANES }
-    ensures ok { OnOk result
-        (Appends (W.contents out.old) (W.contents out.new) (lane_headings (lane_of opening.now) ids.now)) }
-    ensures err { OnErr result
-        (AppendsPrefix (W.contents out.old) (W.contents out.new) (lane_headings (lane_of opening.now) ids.now)) }
+// Writes what the bands and the marks stand for.
+#[tactic(auto, unfolding(crate::specs::Frame::legend))]
+fn put_legend<W: Write>(out: &mut W) -> Result<(), WriteFault>
+    ensures ok { OnOk result (Appends (W.contents out.old) (W.contents out.new) legend) }
+    ensures err { OnErr result (AppendsPrefix (W.contents out.old) (W.contents out.new) legend) }
 {
-    for id in ids {
-        put_lane_heading(out, opening, *id)?;
-    }
-    Ok(())
-}
-
-// Writes the identifier of a node above its lane.
-fn put_lane_heading<P: Application, W: Write>(
-    out: &mut W,
-    opening: &Config<P>,
-    id: u32,
-) -> Result<(), WriteFault>
-    requires { length opening.now.graph.ids ≤ MAX_LANES }
-    ensures ok { OnOk result
-        (Appends (W.contents out.old) (W.contents out.new) (lane_heading (lane_of opening.now) id)) }
-    ensures err { OnErr result
-        (AppendsPrefix (W.contents out.old) (W.contents out.new) (lane_heading (lane_of opening.now) id)) }
-{
-    put_heading(out, lane_x(lane_of(opening, id)), id as u64)
-}
-
-// Writes the identifier of a node above its lane, whose middle is at x.
-#[tactic(auto, unfolding(crate::specs::Frame::heading_text))]
-fn put_heading<W: Write>(out: &mut W, x: u64, id: u64) -> Result<(), WriteFault>
-    ensures ok { OnOk result (Appends (W.contents out.old) (W.contents out.new) (heading_text x id)) }
-    ensures err { OnErr result (AppendsPrefix (W.contents out.old) (W.contents out.new) (heading_text x id)) }
-{
-    put_parts(
-        out,
-        &[
-            Part::Text(b"<text class='lane' x='"),
-            Part::Number(x),
-            Part::Text(b"' y='52'>"),
-            Part::Number(id),
-            Part::Text(b"</text>\n"),
-        ],
-    )
-}
-
-// Writes the legend below the rows of so many entries, and the last tag.
-pub fn put_legend<W: Write>(out: &mut W, count: usize) -> Result<(), WriteFault>
-    requires { count ≤ MAX_MARKS }
-    ensures ok { OnOk result (Appends (W.contents out.old) (W.contents out.new) (legend count)) }
-    ensures err { OnErr result (AppendsPrefix (W.contents out.old) (W.contents out.new) (legend count)) }
-{
-    put_legend_tag(out, legend_y(count))?;
-    put_legend_items(out)
-}
-
-// Writes the tag of the legend, which begins at y.
-#[tactic(auto, unfolding(crate::specs::Frame::legend_tag))]
-fn put_legend_tag<W: Write>(out: &mut W, y: u64) -> Result<(), WriteFault>
-    ensures ok { OnOk result (Appends (W.contents out.old) (W.contents out.new) (legend_tag y)) }
-    ensures err { OnErr result (AppendsPrefix (W.contents out.old) (W.contents out.new) (legend_tag y)) }
-{
-    put_parts(
-        out,
-        &[
-            Part::Text(b"<g class='legend' transform='translate(16 "),
-            Part::Number(y),
-            Part::Text(b")'>\n"),
-        ],
-    )
-}
-
-// Writes what the marks and the bands stand for, and the last tags.
-#[tactic(auto, unfolding(crate::specs::Frame::legend_items))]
-fn put_legend_items<W: Write>(out: &mut W) -> Result<(), WriteFault>
-    ensures ok { OnOk result (Appends (W.contents out.old) (W.contents out.new) legend_items) }
-    ensures err { OnErr result (AppendsPrefix (W.contents out.old) (W.contents out.new) legend_items) }
-{
-    put_bytes(out, LEGEND_ITEMS)
+    put_bytes(out, LEGEND)
 }

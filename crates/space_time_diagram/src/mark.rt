@@ -1,10 +1,13 @@
 // The marks of entries.
 
-ghost use Rattle.std.specs.Prelude.{◌≡◌, ◌≤◌, OnErr, OnOk, length};
+ghost use Rattle.std.specs.Prelude.{◌≡◌, ◌≤◌, [], OnErr, OnOk, length};
 ghost use Rattle.std.specs.Io.KnownBytes.{Appends};
+ghost use Rattle.std.specs.Option.{option_map_or};
 ghost use Rattle.action_tables.specs.Written.{AppendsPrefix};
 ghost use Rattle.space_time_diagram.specs.Lanes.{lane_of};
-ghost use Rattle.space_time_diagram.specs.Marks.{entry_kind, event_kind, mark, mark_text, marks_from};
+ghost use Rattle.space_time_diagram.specs.Marks.{entry_end, entry_kind, event_kind, fault_end, link_text, mark};
+ghost use Rattle.space_time_diagram.specs.Marks.{mark_text, marks_from};
+ghost use Rattle.space_time_diagram.specs.Page.{lane_x};
 
 use crate::band::entry_node;
 use crate::diagram::DiagramStop;
@@ -13,6 +16,7 @@ use crate::lane::lane_of;
 use crate::page::{MAX_LANES, MAX_MARKS, lane_x, row_y};
 use action_tables::{Part, WriteFault, put_parts};
 use app_interface::Application;
+use fault_inject::Fault;
 use history::Entry;
 use reset_machine::{Config, Event};
 use std::alloc::Global;
@@ -57,15 +61,88 @@ fn put_mark<P: Application, W: Write>(
 {
     let line = escaped_line(alloc, entry)?;
     let x = lane_x(lane_of(opening, entry_node(entry)));
-    put_mark_text(
-        out,
-        entry_kind(entry).as_bytes(),
-        x,
-        row_y(place),
-        place as u64,
-        &line,
-    )?;
+    let y = row_y(place);
+    put_link(out, opening, entry_end(entry), x, y, place as u64, &line)?;
+    put_mark_text(out, entry_kind(entry).as_bytes(), x, y, place as u64, &line)?;
     Ok(())
+}
+
+// Writes a line at y from x to the lane of the other end of a link, if there is one, with the line of its entry.
+fn put_link<'t, P: Application, W: Write>(
+    out: &mut W,
+    opening: &Config<P>,
+    end: Option<u32>,
+    x: u64,
+    y: u64,
+    place: u64,
+    line: &'t [u8],
+) -> Result<(), WriteFault>
+    requires { length opening.now.graph.ids ≤ MAX_LANES }
+    ensures ok { OnOk result (Appends (W.contents out.old) (W.contents out.new)
+        (option_map_or (λ j. link_text x (lane_x (lane_of opening.now j)) y place line.now) end [])) }
+    ensures err { OnErr result (AppendsPrefix (W.contents out.old) (W.contents out.new)
+        (option_map_or (λ j. link_text x (lane_x (lane_of opening.now j)) y place line.now) end [])) }
+{
+    match end {
+        Some(end) => put_link_text(out, x, lane_x(lane_of(opening, end)), y, place, line),
+        None => Ok(()),
+    }
+}
+
+// Writes a line at y from x to the other end, where it has a small mark.
+#[tactic(auto, unfolding(crate::specs::Marks::link_text))]
+fn put_link_text<'t, W: Write>(
+    out: &mut W,
+    x: u64,
+    end: u64,
+    y: u64,
+    place: u64,
+    line: &'t [u8],
+) -> Result<(), WriteFault>
+    ensures ok { OnOk result (Appends (W.contents out.old) (W.contents out.new) (link_text x end y place line.now)) }
+    ensures err { OnErr result
+        (AppendsPrefix (W.contents out.old) (W.contents out.new) (link_text x end y place line.now)) }
+{
+    put_parts(
+        out,
+        &[
+            Part::Text(b"<g class='link'><title>"),
+            Part::Number(place),
+            Part::Text(b": "),
+            Part::Text(line),
+            Part::Text(b"</title><path d='M"),
+            Part::Number(x),
+            Part::Text(b" "),
+            Part::Number(y),
+            Part::Text(b"H"),
+            Part::Number(end),
+            Part::Text(b"'/><circle class='form bad' cx='"),
+            Part::Number(end),
+            Part::Text(b"' cy='"),
+            Part::Number(y),
+            Part::Text(b"' r='4'/></g>\n"),
+        ],
+    )
+}
+
+// The other end of the link that an entry takes out or puts in.
+fn entry_end(entry: &Entry) -> Option<u32>
+    ensures { result ≡ entry_end entry.now }
+{
+    match entry {
+        Entry::Step(_) => None,
+        Entry::Disturbed(fault) => fault_end(fault),
+    }
+}
+
+// The other end of the link of a fault: the one that it names last.
+fn fault_end(fault: &Fault) -> Option<u32>
+    ensures { result ≡ fault_end fault.now }
+{
+    match fault {
+        Fault::LinkDown { b, .. } | Fault::LinkUp { b, .. } => Some(*b),
+        _ => None,
+    }
 }
 
 // Writes a mark at x and y, of this kind, with the line of its entry.

@@ -2,7 +2,8 @@ use Rattle.std.proofs.Common.{length, [], ◌++◌}
 use Rattle.action_tables.proofs.Prefixes.{AppendsPrefix-first, OnErr-always}
 use Rattle.space_time_diagram.specs.Bands.{bands_text}
 use Rattle.space_time_diagram.specs.Completions.{completions}
-use Rattle.space_time_diagram.specs.Frame.{head_text, legend}
+use Rattle.space_time_diagram.specs.Frame.{head_text}
+use Rattle.space_time_diagram.specs.Headings.{foot_text}
 use Rattle.space_time_diagram.specs.Lanes.{lane_of}
 use Rattle.space_time_diagram.specs.Marks.{marks_from}
 use Rattle.space_time_diagram.proofs.Sequences.{fifth_failed, five_written, fourth_failed}
@@ -14,11 +15,12 @@ returns-in_err-put_head-clause-err g c =
     let lane = lane_of c.args.opening.now in
     let ids = c.args.ids.now in
     let es = c.args.entries.now in
-    let head = head_text lane ids (length es) in
+    let head = head_text (length ids) (length es) in
     let bands = bands_text c.args.bands.now in
     let marks = marks_from lane 1 es in
-    let lines = completions (length ids) c.args.reports.now in
-    let last = legend (length es) in
+    let lines =
+    completions g.P.Application.app g.P.Application.from_text c.args.opening.now es c.args.reports.now in
+    let last = foot_text lane ids (length es) in
     OnErr-always _ _ (AppendsPrefix-first _ _ head (bands ++ (marks ++ (lines ++ (last ++ []))))
     c.in_err-put_head.ensures.err)
 
@@ -27,11 +29,12 @@ returns-in_err-put_bands-clause-err g c =
     let lane = lane_of c.args.opening.now in
     let ids = c.args.ids.now in
     let es = c.args.entries.now in
-    let head = head_text lane ids (length es) in
+    let head = head_text (length ids) (length es) in
     let bands = bands_text c.args.bands.now in
     let marks = marks_from lane 1 es in
-    let lines = completions (length ids) c.args.reports.now in
-    let last = legend (length es) in
+    let lines =
+    completions g.P.Application.app g.P.Application.from_text c.args.opening.now es c.args.reports.now in
+    let last = foot_text lane ids (length es) in
     OnErr-always _ _ (second_failed _ _ _ head bands (marks ++ (lines ++ (last ++ [])))
     c.in_ok-put_head.ensures.ok c.in_err-put_bands.ensures.err)
 
@@ -40,11 +43,12 @@ returns-in_err-put_marks-clause-err g c =
     let lane = lane_of c.args.opening.now in
     let ids = c.args.ids.now in
     let es = c.args.entries.now in
-    let head = head_text lane ids (length es) in
+    let head = head_text (length ids) (length es) in
     let bands = bands_text c.args.bands.now in
     let marks = marks_from lane 1 es in
-    let lines = completions (length ids) c.args.reports.now in
-    let last = legend (length es) in
+    let lines =
+    completions g.P.Application.app g.P.Application.from_text c.args.opening.now es c.args.reports.now in
+    let last = foot_text lane ids (length es) in
     OnErr-always _ _ (third_failed _ _ _ _ head bands marks (lines ++ (last ++ [])) c.in_ok-put_head.ensures.ok
     c.in_ok-put_bands.ensures.ok c.in_err-put_marks.ensures.err)
 
@@ -53,38 +57,41 @@ returns-in_err-put_completions-clause-err g c =
     let lane = lane_of c.args.opening.now in
     let ids = c.args.ids.now in
     let es = c.args.entries.now in
-    let head = head_text lane ids (length es) in
+    let head = head_text (length ids) (length es) in
     let bands = bands_text c.args.bands.now in
     let marks = marks_from lane 1 es in
-    let lines = completions (length ids) c.args.reports.now in
-    let last = legend (length es) in
+    let lines =
+    completions g.P.Application.app g.P.Application.from_text c.args.opening.now es c.args.reports.now in
+    let last = foot_text lane ids (length es) in
     OnErr-always _ _ (fourth_failed _ _ _ _ _ head bands marks lines (last ++ []) c.in_ok-put_head.ensures.ok
     c.in_ok-put_bands.ensures.ok c.in_ok-put_marks.ensures.ok c.in_err-put_completions.ensures.err)
 
-pub returns-in_err-put_legend-clause-err : goal.returns-in_err-put_legend-clause-err
-returns-in_err-put_legend-clause-err g c =
+pub returns-in_err-put_foot-clause-err : goal.returns-in_err-put_foot-clause-err
+returns-in_err-put_foot-clause-err g c =
     let lane = lane_of c.args.opening.now in
     let ids = c.args.ids.now in
     let es = c.args.entries.now in
-    let head = head_text lane ids (length es) in
+    let head = head_text (length ids) (length es) in
     let bands = bands_text c.args.bands.now in
     let marks = marks_from lane 1 es in
-    let lines = completions (length ids) c.args.reports.now in
-    let last = legend (length es) in
+    let lines =
+    completions g.P.Application.app g.P.Application.from_text c.args.opening.now es c.args.reports.now in
+    let last = foot_text lane ids (length es) in
     OnErr-always _ _ (fifth_failed _ _ _ _ _ _ head bands marks lines last [] c.in_ok-put_head.ensures.ok
     c.in_ok-put_bands.ensures.ok c.in_ok-put_marks.ensures.ok c.in_ok-put_completions.ensures.ok
-    c.in_err-put_legend.ensures.err)
+    c.in_err-put_foot.ensures.err)
 
 pub returns-clause-ok : goal.returns-clause-ok
 returns-clause-ok g c =
     let lane = lane_of c.args.opening.now in
     let ids = c.args.ids.now in
     let es = c.args.entries.now in
-    let head = head_text lane ids (length es) in
+    let head = head_text (length ids) (length es) in
     let bands = bands_text c.args.bands.now in
     let marks = marks_from lane 1 es in
-    let lines = completions (length ids) c.args.reports.now in
-    let last = legend (length es) in
+    let lines =
+    completions g.P.Application.app g.P.Application.from_text c.args.opening.now es c.args.reports.now in
+    let last = foot_text lane ids (length es) in
     five_written _ _ _ _ _ _ head bands marks lines last c.in_ok-put_head.ensures.ok
     c.in_ok-put_bands.ensures.ok c.in_ok-put_marks.ensures.ok c.in_ok-put_completions.ensures.ok
-    c.in_ok-put_legend.ensures.ok
+    c.in_ok-put_foot.ensures.ok

@@ -1,0 +1,27 @@
+-- The node that told a completion, and the reports that are left.
+use Rattle.std.proofs.Common.{◌≡◌, ℕ, ◌-◌, ◌<◌, ◌≤◌, List, [], length, take, Option, Some, refl}
+use Rattle.std.proofs.Common.{ap, ◌∙◌, slice_index_or, slice_get, arith}
+use Rattle.std.proofs.lemmas.Option.{slice_get_read}
+use Rattle.std.specs.Option.{option_map_or}
+use Rattle.topology.specs.Components.{component}
+use Rattle.app_interface.specs.Application.{App}
+use Rattle.reset_model.specs.Configuration.{Configuration}
+use Rattle.history.specs.declared.entry.Entry.{Entry}
+use Rattle.history.specs.Entries.{replayed}
+use Rattle.space_time_diagram.specs.Bands.{entry_node}
+use Rattle.space_time_diagram.specs.Completions.{told_nodes}
+
+-- what the entries down to a position leave, and the entry there
+pub told_by : {L : Type 0} (app : App L) (from_text : List ℕ → Option L) (c d : Configuration L) (es : List Entry)
+    (place : ℕ) (x : Entry) → 0 < place → place ≤ length es → x ≡ slice_index_or es (place - 1) x
+    → replayed app from_text c (take place es) ≡ Some d
+    → told_nodes app from_text c es place ≡ (component d.graph (entry_node x)).nodes
+told_by app from_text c d es place x first within is here =
+    let at : slice_get es (place - 1) ≡ Some x = slice_get_read es (length es) (place - 1) x refl (omega (
+      arith,
+      first,
+      within,
+    )) is in
+    ap (λ o. option_map_or (λ (after : Configuration _). (component after.graph (option_map_or entry_node o 0)).nodes)
+    (replayed app from_text c (take place es)) []) at
+    ∙ ap (λ o. option_map_or (λ (after : Configuration _). (component after.graph (entry_node x)).nodes) o []) here
