@@ -4,7 +4,7 @@ use Rattle.std.proofs.Common.{subst, sym, true≢false}
 use Rattle.reset_model.specs.Configuration.{Configuration}
 use Rattle.script_replay.specs.Left.{first_bad, unless_bad}
 use Rattle.script_replay.specs.Meaning.{Meaning}
-use Rattle.script_replay.specs.Output.{Answer, answer_to, answers, if_good, told_after}
+use Rattle.script_replay.specs.Output.{Answer, answer_to, answers, answers_by, if_good, line_answer, told_after}
 use Rattle.script_replay.specs.Parts.{IsPassed}
 use Rattle.script_replay.specs.Script.{line_of}
 use Rattle.script_replay.specs.declared.script.Line.{Line}
@@ -43,7 +43,7 @@ bad_status m c n Bad bad = λ good. cc
 
 one_left : {L : Type 0} (m : Meaning L) (c : Configuration L) (n : ℕ) (line : List ℕ)
     → (answers m c n (line ∷ [])).config ≡ (answer_to m c n (line_of m.names line)).config
-unfolding answers
+unfolding answers_by
 one_left {L = L} m c n line = go (answer_to m c n (line_of m.names line)).status
   where
     a : Answer L
@@ -81,7 +81,7 @@ module _ {L : Type 0} (m : Meaning L) (all : Answer L) (bad : Option ℕ) (c c' 
   passed_on good =
       let status = good_status m c n (line_of m.names line) (sym good ∙ passed.good) in (
         leads.0 ++ (answer_to m c n (line_of m.names line)).text,
-        left_good m all leads.0 c c' n lines later line leads.1 cut status (passed.config n),
+        left_good (line_answer m) all leads.0 c c' n lines later line leads.1 cut status (passed.config n),
       )
 
   pub passed_bad : is_good ≡ true → bad ≡ first_bad m.names (n + 1) later
@@ -94,7 +94,7 @@ module _ {L : Type 0} (m : Meaning L) (all : Answer L) (bad : Option ℕ) (c c' 
       let status = bad_status m c n (line_of m.names line) (sym bad_line ∙ passed.good) in
       passed.config n
       ∙ sym
-      (ap (λ (a : Answer L). a.config) (left_bad m all leads.0 c n lines later line leads.1 cut status))
+      (ap (λ (a : Answer L). a.config) (left_bad (line_answer m) all leads.0 c n lines later line leads.1 cut status))
 
   pub stopped_bad : is_good ≡ false → bad ≡ Some n
   stopped_bad bad_line =

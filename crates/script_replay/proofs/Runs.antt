@@ -10,9 +10,8 @@ use Rattle.action_tables.proofs.Prefixes.{AppendsPrefix-first, AppendsPrefix-the
 use Rattle.reset_model.specs.Configuration.{Configuration}
 use Rattle.script_replay.specs.Lines.{lines_of}
 use Rattle.script_replay.specs.Meaning.{Meaning}
-use Rattle.script_replay.specs.Script.{line_of}
-use Rattle.script_replay.specs.Output.{answer_to, answers, ending, if_good, output_for, script_output, told_after}
-use Rattle.script_replay.specs.Output.{too_long_text, Answer, Leaves, HasPrefix}
+use Rattle.script_replay.specs.Output.{answers, answers_by, ending, if_good, output_for, script_output, told_after}
+use Rattle.script_replay.specs.Output.{too_long_text, Answer, Answering, Leaves, HasPrefix}
 use Rattle.script_replay.specs.declared.status.Status.{Status}
 use Rattle.script_replay.specs.declared.status.Status.TheVariants.{Good, FaultsFound, NotEnabled, BadInput}
 use Rattle.script_replay.specs.declared.status.Purpose.{Purpose}
@@ -31,22 +30,22 @@ output_of a = (a.text, a.status)
 -- ---- one line
 
 -- the answer to a line, and those to the lines after it
-abbrev more : {L : Type 0} → Meaning L → Configuration L → ℕ → List ℕ → List (List ℕ) → Answer L
-more m c n line lines =
-    let a = answer_to m c n (line_of m.names line) in if_good a.status
-    (told_after a.text (answers m a.config (n + 1) lines)) a
+abbrev more : {L : Type 0} → Answering L → Configuration L → ℕ → List ℕ → List (List ℕ) → Answer L
+more f c n line lines =
+    let a = f c n line in if_good a.status
+    (told_after a.text (answers_by f a.config (n + 1) lines)) a
 
-answers-more : {L : Type 0} (m : Meaning L) (c : Configuration L) (n : ℕ) (line : List ℕ) (lines : List (List ℕ))
-    → answers m c n (line ∷ lines) ≡ more m c n line lines
-unfolding answers
-answers-more {L = L} m c n line lines = refl
+answers-more : {L : Type 0} (f : Answering L) (c : Configuration L) (n : ℕ) (line : List ℕ) (lines : List (List ℕ))
+    → answers_by f c n (line ∷ lines) ≡ more f c n line lines
+unfolding answers_by
+answers-more {L = L} f c n line lines = refl
 
 abbrev nothing : {L : Type 0} → Configuration L → Answer L
 nothing c = record { config = c; text = []; status = Good }
 
-answers-none : {L : Type 0} (m : Meaning L) (c : Configuration L) (n : ℕ) → answers m c n [] ≡ nothing c
-unfolding answers
-answers-none {L = L} m c n = refl
+answers-none : {L : Type 0} (f : Answering L) (c : Configuration L) (n : ℕ) → answers_by f c n [] ≡ nothing c
+unfolding answers_by
+answers-none {L = L} f c n = refl
 
 told_twice : {L : Type 0} (done text : List ℕ) (a : Answer L)
     → told_after done (told_after text a) ≡ told_after (done ++ text) a
@@ -81,41 +80,41 @@ prefix_of done a rest BadInput = ([], sym (append-nil (done ++ a.text)))
 
 -- ---- the lines that are left, after `done` was written
 
-one_more : {L : Type 0} (m : Meaning L) (all : Answer L) (done : List ℕ) (c : Configuration L) (n : ℕ)
+one_more : {L : Type 0} (f : Answering L) (all : Answer L) (done : List ℕ) (c : Configuration L) (n : ℕ)
     (lines later : List (List ℕ)) (line : List ℕ)
-    → all ≡ told_after done (answers m c n lines) → lines ≡ line ∷ later → all ≡ told_after done (more m c n line later)
-one_more {L = L} m all done c n lines later line p q =
-    p ∙ ap (λ ls. told_after done (answers m c n ls)) q ∙ ap (told_after done) (answers-more m c n line later)
+    → all ≡ told_after done (answers_by f c n lines) → lines ≡ line ∷ later → all ≡ told_after done (more f c n line later)
+one_more {L = L} f all done c n lines later line p q =
+    p ∙ ap (λ ls. told_after done (answers_by f c n ls)) q ∙ ap (told_after done) (answers-more f c n line later)
 
-pub left_good : {L : Type 0} (m : Meaning L) (all : Answer L) (done : List ℕ) (c after : Configuration L) (n : ℕ)
+pub left_good : {L : Type 0} (f : Answering L) (all : Answer L) (done : List ℕ) (c after : Configuration L) (n : ℕ)
     (lines later : List (List ℕ)) (line : List ℕ)
-    → all ≡ told_after done (answers m c n lines) → lines ≡ line ∷ later
-    → (answer_to m c n (line_of m.names line)).status ≡ Good → after ≡ (answer_to m c n (line_of m.names line)).config
-    → all ≡ told_after (done ++ (answer_to m c n (line_of m.names line)).text) (answers m after (n + 1) later)
-left_good {L = L} m all done c after n lines later line p q good same =
-    let a = answer_to m c n (line_of m.names line) in
-    let rest : Answer L = answers m a.config (n + 1) later in
-    one_more m all done c n lines later line p q ∙ ap (λ s. told_after done (if_good s (told_after a.text rest) a)) good
-    ∙ told_twice done a.text rest ∙ ap (λ x. told_after (done ++ a.text) (answers m x (n + 1) later)) (sym same)
+    → all ≡ told_after done (answers_by f c n lines) → lines ≡ line ∷ later
+    → (f c n line).status ≡ Good → after ≡ (f c n line).config
+    → all ≡ told_after (done ++ (f c n line).text) (answers_by f after (n + 1) later)
+left_good {L = L} f all done c after n lines later line p q good same =
+    let a = f c n line in
+    let rest : Answer L = answers_by f a.config (n + 1) later in
+    one_more f all done c n lines later line p q ∙ ap (λ s. told_after done (if_good s (told_after a.text rest) a)) good
+    ∙ told_twice done a.text rest ∙ ap (λ x. told_after (done ++ a.text) (answers_by f x (n + 1) later)) (sym same)
 
-pub left_bad : {L : Type 0} (m : Meaning L) (all : Answer L) (done : List ℕ) (c : Configuration L) (n : ℕ)
+pub left_bad : {L : Type 0} (f : Answering L) (all : Answer L) (done : List ℕ) (c : Configuration L) (n : ℕ)
     (lines later : List (List ℕ)) (line : List ℕ)
-    → all ≡ told_after done (answers m c n lines) → lines ≡ line ∷ later
-    → (answer_to m c n (line_of m.names line)).status ≢ Good
-    → all ≡ told_after done (answer_to m c n (line_of m.names line))
-left_bad {L = L} m all done c n lines later line p q bad =
-    let a = answer_to m c n (line_of m.names line) in
-    one_more m all done c n lines later line p q
-    ∙ ap (told_after done) (if_bad a.status (told_after a.text (answers m a.config (n + 1) later)) a bad)
+    → all ≡ told_after done (answers_by f c n lines) → lines ≡ line ∷ later
+    → (f c n line).status ≢ Good
+    → all ≡ told_after done (f c n line)
+left_bad {L = L} f all done c n lines later line p q bad =
+    let a = f c n line in
+    one_more f all done c n lines later line p q
+    ∙ ap (told_after done) (if_bad a.status (told_after a.text (answers_by f a.config (n + 1) later)) a bad)
 
-left_last : {L : Type 0} (m : Meaning L) (all : Answer L) (done : List ℕ) (c : Configuration L) (n : ℕ)
+left_last : {L : Type 0} (f : Answering L) (all : Answer L) (done : List ℕ) (c : Configuration L) (n : ℕ)
     (lines : List (List ℕ)) (line : List ℕ)
-    → all ≡ told_after done (answers m c n lines) → lines ≡ line ∷ []
-    → all ≡ told_after done (answer_to m c n (line_of m.names line))
-left_last {L = L} m all done c n lines line p q =
-    let a = answer_to m c n (line_of m.names line) in
-    one_more m all done c n lines [] line p q
-    ∙ ap (λ o. told_after done (if_good a.status (told_after a.text o) a)) (answers-none m a.config (n + 1))
+    → all ≡ told_after done (answers_by f c n lines) → lines ≡ line ∷ []
+    → all ≡ told_after done (f c n line)
+left_last {L = L} f all done c n lines line p q =
+    let a = f c n line in
+    one_more f all done c n lines [] line p q
+    ∙ ap (λ o. told_after done (if_good a.status (told_after a.text o) a)) (answers-none f a.config (n + 1))
     ∙ ap (told_after done) (last_answer a.config a.text a.status a refl)
 
 -- ---- what is left by a stop
@@ -135,19 +134,19 @@ prefix_whole all a b d done text tail e p q =
     let P : List ℕ → Type 0 = λ l. AppendsPrefix a d l in
     subst P (sym e) (AppendsPrefix-first a d (done ++ text) tail (AppendsPrefix-then a b d done text p q))
 
-pub left_stop : {L : Type 0} (m : Meaning L) (all : Answer L) (a b d : Option (List ℕ)) (done : List ℕ)
+pub left_stop : {L : Type 0} (f : Answering L) (all : Answer L) (a b d : Option (List ℕ)) (done : List ℕ)
     (c : Configuration L) (n : ℕ) (lines later : List (List ℕ)) (line : List ℕ) (s : RunStop)
-    → all ≡ told_after done (answers m c n lines) → lines ≡ line ∷ later → Appends a b done
-    → AppendsPrefix b d (answer_to m c n (line_of m.names line)).text → IsOutputStop s
+    → all ≡ told_after done (answers_by f c n lines) → lines ≡ line ∷ later → Appends a b done
+    → AppendsPrefix b d (f c n line).text → IsOutputStop s
     → Leaves (λ o. o ≡ output_of all) a d (Err s)
-left_stop {L = L} m all a b d done c n lines later line s p q before here other =
-    let x = answer_to m c n (line_of m.names line) in
-    let tail = prefix_of done x (answers m x.config (n + 1) later) x.status in
+left_stop {L = L} f all a b d done c n lines later line s p q before here other =
+    let x = f c n line in
+    let tail = prefix_of done x (answers_by f x.config (n + 1) later) x.status in
     leaves_stop (λ o. o ≡ output_of all) a d s other (
       output_of all,
       refl,
       prefix_whole (output_of all) a b d done x.text tail.0
-          (ap (λ (y : Answer L). y.text) (one_more m all done c n lines later line p q) ∙ tail.1) before here,
+          (ap (λ (y : Answer L). y.text) (one_more f all done c n lines later line p q) ∙ tail.1) before here,
     )
 
 -- an answer ended the lines
@@ -161,33 +160,33 @@ left_ended {L = L} all x a b d done s is status before here = (
   Appends-trans a b d done x.text before here,
 )
 
-pub left_result : {L : Type 0} (m : Meaning L) (all : Answer L) (a b d : Option (List ℕ)) (done : List ℕ)
+pub left_result : {L : Type 0} (f : Answering L) (all : Answer L) (a b d : Option (List ℕ)) (done : List ℕ)
     (c c' : Configuration L) (n : ℕ) (lines : List (List ℕ)) (line : List ℕ) (r : Result Status RunStop)
-    → all ≡ told_after done (answers m c n lines) → lines ≡ line ∷ [] → Appends a b done
+    → all ≡ told_after done (answers_by f c n lines) → lines ≡ line ∷ [] → Appends a b done
     → IfOk r
-    (λ s. (s ≡ (answer_to m c n (line_of m.names line)).status)
-    × (c' ≡ (answer_to m c n (line_of m.names line)).config)
-    × Appends b d (answer_to m c n (line_of m.names line)).text)
-    → OnErr r (AppendsPrefix b d (answer_to m c n (line_of m.names line)).text) → IfErr r IsOutputStop
+    (λ s. (s ≡ (f c n line).status)
+    × (c' ≡ (f c n line).config)
+    × Appends b d (f c n line).text)
+    → OnErr r (AppendsPrefix b d (f c n line).text) → IfErr r IsOutputStop
     → Leaves (λ o. o ≡ output_of all) a d r
-left_result {L = L} m all a b d done c c' n lines line (Ok s) p q before ok err other =
-    left_ended all (answer_to m c n (line_of m.names line)) a b d done s (left_last m all done c n lines line p q) ok.0
+left_result {L = L} f all a b d done c c' n lines line (Ok s) p q before ok err other =
+    left_ended all (f c n line) a b d done s (left_last f all done c n lines line p q) ok.0
     before ok.2
-left_result {L = L} m all a b d done c c' n lines line (Err s) p q before ok err other =
-    left_stop m all a b d done c n lines [] line s p q before err other
+left_result {L = L} f all a b d done c c' n lines line (Err s) p q before ok err other =
+    left_stop f all a b d done c n lines [] line s p q before err other
 
 -- the configuration that the last line leaves
-pub last_config : {L : Type 0} (m : Meaning L) (all : Answer L) (b d : Option (List ℕ)) (done : List ℕ)
+pub last_config : {L : Type 0} (f : Answering L) (all : Answer L) (b d : Option (List ℕ)) (done : List ℕ)
     (c c' : Configuration L) (n : ℕ) (lines : List (List ℕ)) (line : List ℕ) (r : Result Status RunStop)
-    → all ≡ told_after done (answers m c n lines) → lines ≡ line ∷ []
+    → all ≡ told_after done (answers_by f c n lines) → lines ≡ line ∷ []
     → IfOk r
-    (λ s. (s ≡ (answer_to m c n (line_of m.names line)).status)
-    × (c' ≡ (answer_to m c n (line_of m.names line)).config)
-    × Appends b d (answer_to m c n (line_of m.names line)).text)
+    (λ s. (s ≡ (f c n line).status)
+    × (c' ≡ (f c n line).config)
+    × Appends b d (f c n line).text)
     → OnOk r (c' ≡ all.config)
-last_config {L = L} m all b d done c c' n lines line (Ok s) p q ok =
-    ok.1 ∙ sym (ap (λ (x : Answer L). x.config) (left_last m all done c n lines line p q))
-last_config {L = L} m all b d done c c' n lines line (Err s) p q ok = tt
+last_config {L = L} f all b d done c c' n lines line (Ok s) p q ok =
+    ok.1 ∙ sym (ap (λ (x : Answer L). x.config) (left_last f all done c n lines line p q))
+last_config {L = L} f all b d done c c' n lines line (Err s) p q ok = tt
 
 -- ---- what follows the last line
 

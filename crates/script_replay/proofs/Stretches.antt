@@ -16,8 +16,8 @@ use Rattle.reset_model.proofs.RunShadows.{step_graph}
 use Rattle.reset_model.proofs.RunSteps.{applied_done, refused_done}
 use Rattle.reset_model.proofs.Shapes.{outcome_shaped}
 use Rattle.script_replay.specs.Meaning.{Meaning}
-use Rattle.script_replay.specs.Output.{after_alarm, answer_to, answered, answers, if_good, refusal_text, stepped}
-use Rattle.script_replay.specs.Output.{told_after, watched, Answer}
+use Rattle.script_replay.specs.Output.{after_alarm, answer_to, answered, answers, answers_by, if_good, refusal_text}
+use Rattle.script_replay.specs.Output.{stepped, told_after, watched, Answer}
 use Rattle.script_replay.specs.Script.{line_of}
 use Rattle.script_replay.specs.Stretches.{AreUndisturbed, IsUndisturbed, MakeRun, event_answer, event_answers}
 use Rattle.script_replay.specs.Stretches.{events_of_lines, line_events, after_alarm_events, watch_events}
@@ -123,13 +123,13 @@ module _ {L : Type 0} (m : Meaning L) where
   line_left c n Bad lines calm rest = refl
 
   none_left : (n : ℕ) → Leave n []
-  unfolding answers events_of_lines
+  unfolding answers_by events_of_lines
   none_left n c = refl
 
   some_left : (c : Configuration L) (n : ℕ) (line : List ℕ) (lines : List (List ℕ))
       → IsUndisturbed (line_of m.names line) → Leave (n + 1) lines
       → (answers m c n (line ∷ lines)).config ≡ left c (events_of_lines m c n (line ∷ lines))
-  unfolding answers events_of_lines
+  unfolding answers_by events_of_lines
   some_left c n line lines calm rest = line_left c n (line_of m.names line) lines calm rest
 
   lines_left : (lines : List (List ℕ)) (n : ℕ) → AreUndisturbed m.names lines → Leave n lines

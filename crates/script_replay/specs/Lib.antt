@@ -9,3 +9,4 @@ pub mod Stops
 pub mod Stretches
 pub mod Recorded
 pub mod Left
+pub mod Marked

@@ -301,12 +301,20 @@ if_good _ next last = last
 abbrev pub told_after : {L : Type 0} → List ℕ → Answer L → Answer L
 told_after text a = record { config = a.config; text = text ++ a.text; status = a.status }
 
--- the answers to lines, of which the first has the number n: the first bad one is the last
-unfoldable pub answers : {L : Type 0} → Meaning L → Configuration L → ℕ → List (List ℕ) → Answer L
-answers m c n [] = record { config = c; text = []; status = Good }
-answers m c n (line ∷ lines) =
-    let a = line_answer m c n line in if_good a.status
-    (told_after a.text (answers m a.config (n + 1) lines)) a
+-- what answers a line, by its number and its text
+abbrev pub Answering : Type 0 → Type 0
+Answering L = Configuration L → ℕ → List ℕ → Answer L
+
+-- what answers lines in turn, of which the first has the number n: the first answer that isn't good is the last
+unfoldable pub answers_by : {L : Type 0} → Answering L → Configuration L → ℕ → List (List ℕ) → Answer L
+answers_by f c n [] = record { config = c; text = []; status = Good }
+answers_by f c n (line ∷ lines) =
+    let a = f c n line in if_good a.status
+    (told_after a.text (answers_by f a.config (n + 1) lines)) a
+
+-- the answers to lines, of which the first bad one is the last
+abbrev pub answers : {L : Type 0} → Meaning L → Configuration L → ℕ → List (List ℕ) → Answer L
+answers m = answers_by (line_answer m)
 
 -- what follows lines that ended so, and the status of the run: a check of what good lines left, or nothing
 abbrev pub ending : {L : Type 0} → Meaning L → Purpose → Configuration L → Status → List ℕ × Status

@@ -9,6 +9,7 @@ mod injected;
 mod input;
 mod laws;
 mod left;
+mod marked;
 mod moves;
 mod network;
 mod next_line;
@@ -34,6 +35,7 @@ pub use laws::{
     stretches_are_runs,
 };
 pub use left::leave_script;
+pub use marked::{Marks, run_marked};
 pub use network::{Network, read_network};
 pub use next_line::{NextLine, next_line as first_line_of};
 pub use recorded::{record_script, record_text};

@@ -187,7 +187,7 @@ pub fn refuse_topology<W: Write>(fault: ReadFault, out: &mut W) -> Result<Status
 }
 
 // Answers a script that is too long.
-fn refuse_script<W: Write>(out: &mut W) -> Result<Status, RunStop>
+pub fn refuse_script<W: Write>(out: &mut W) -> Result<Status, RunStop>
     ensures leaves { Leaves (λ output. output ≡ (too_long_text, Status.BadInput)) (W.contents out.old)
         (W.contents out.new) result }
     ensures stop { IfErr result IsOutputStop }
@@ -308,7 +308,7 @@ fn answer_next<P: Application, W: Write>(
 
 // Answers the line with this number and text.
 #[inline(never)]
-fn answer_line<P: Application, W: Write>(
+pub fn answer_line<P: Application, W: Write>(
     alloc: Global,
     config: &mut Config<P>,
     number: u64,

@@ -1,0 +1,66 @@
+use Rattle.std.proofs.Common.{◌≢◌, ◌++◌, sym, ◌∙◌, rules, arith}
+use Rattle.std.proofs.KnownBytes.{Appends-trans}
+use Rattle.script_replay.specs.Lines.{lines_of}
+use Rattle.script_replay.specs.Marked.{marked_answer, marked_answers}
+use Rattle.script_replay.specs.Meaning.{meaning_of}
+use Rattle.script_replay.specs.declared.status.Status.TheVariants.{Good}
+use Rattle.script_replay.proofs.Runs.{left_bad, left_ended, left_good, left_result, left_stop}
+use Rattle.script_replay.proofs.marked.answer_marked_lines.Goals as goal
+
+pub returns-in-Ok : goal.returns-in-Ok
+returns-in-Ok g c =
+    let m = meaning_of g.P.Application.app g.P.Application.text g.P.Application.from_text g.P.Application.names in
+    let (done, left, wrote, bound) = c.loop-line.invariant in
+    let all = marked_answers m c.args.marks c.args.config.now c.args.script.now in
+    let a = marked_answer m c.args.marks c.loop-line.config c.loop-line.number c.in-Some.line.now in
+    let ok = c.in-Ok.ensures.ok in
+    let stopped : c.in-Ok.ended ≢ Good = search rules in
+    let bad : a.status ≢ Good = λ good. stopped (ok.0 ∙ good) in
+    let is =
+    left_bad (marked_answer m c.args.marks) all done c.loop-line.config c.loop-line.number (lines_of c.loop-line.rest.now)
+    (lines_of c.in-Some.after.now) c.in-Some.line.now
+    left c.in-Some.ensures.found bad in
+    record {
+      leaves = left_ended all a _ _ _ done c.in-Ok.ended is ok.0 wrote ok.2;
+      stop = tt;
+    }
+
+pub returns-in-Err-clause-leaves : goal.returns-in-Err-clause-leaves
+returns-in-Err-clause-leaves g c =
+    let m = meaning_of g.P.Application.app g.P.Application.text g.P.Application.from_text g.P.Application.names in
+    let (done, left, wrote, bound) = c.loop-line.invariant in
+    left_stop (marked_answer m c.args.marks) (marked_answers m c.args.marks c.args.config.now c.args.script.now)
+    (g.W.Write.contents c.args.out.now)
+    (g.W.Write.contents c.loop-line.out) (g.W.Write.contents c.answer_marked.new.out) done c.loop-line.config
+    c.loop-line.number
+    (lines_of c.loop-line.rest.now) (lines_of c.in-Some.after.now) c.in-Some.line.now c.in-Err.stop
+    left c.in-Some.ensures.found wrote c.in-Err.ensures.err c.in-Err.ensures.stop
+
+pub loop-line-preserved : goal.loop-line-preserved
+loop-line-preserved g c =
+    let m = meaning_of g.P.Application.app g.P.Application.text g.P.Application.from_text g.P.Application.names in
+    let (done, left, wrote, bound) = c.loop-line.invariant in
+    let a = marked_answer m c.args.marks c.loop-line.config c.loop-line.number c.in-Some.line.now in
+    let ok = c.in-Ok-Good.ensures.ok in
+    let shorter = c.in-Some.ensures.shorter in (
+      done ++ a.text,
+      left_good (marked_answer m c.args.marks) (marked_answers m c.args.marks c.args.config.now c.args.script.now) done
+          c.loop-line.config
+          c.answer_marked.new.config
+          c.loop-line.number (lines_of c.loop-line.rest.now) (lines_of c.in-Some.after.now) c.in-Some.line.now
+          left c.in-Some.ensures.found (sym ok.0 ∙ c.in-Ok-Good.field-0-is) ok.1,
+      Appends-trans _ _ _ done a.text wrote ok.2,
+      omega (arith, bound, shorter),
+    )
+
+pub returns-clause-leaves : goal.returns-clause-leaves
+returns-clause-leaves g c =
+    let m = meaning_of g.P.Application.app g.P.Application.text g.P.Application.from_text g.P.Application.names in
+    let (done, left, wrote, bound) = c.loop-line.invariant in
+    left_result (marked_answer m c.args.marks) (marked_answers m c.args.marks c.args.config.now c.args.script.now)
+    (g.W.Write.contents c.args.out.now)
+    (g.W.Write.contents c.loop-line.out) (g.W.Write.contents c.answer_marked-2.new.out) done c.loop-line.config
+    c.answer_marked-2.new.config
+    c.loop-line.number (lines_of c.loop-line.rest.now) c.loop-line.rest.now c.answer_marked-2.result
+    left c.in_default.ensures.only wrote c.answer_marked-2.ensures.ok c.answer_marked-2.ensures.err
+    c.answer_marked-2.ensures.stop

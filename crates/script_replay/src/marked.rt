@@ -1,0 +1,172 @@
+// A replay that marks its answers.
+
+ghost use Rattle.std.specs.Prelude.{◌≡◌, ◌++◌, ◌≤◌, [], length, if◌then◌else◌, IfErr, IfOk, OnErr, OnOk};
+ghost use Rattle.std.specs.Io.KnownBytes.{Appends};
+ghost use Rattle.action_tables.specs.Written.{AppendsPrefix};
+ghost use Rattle.script_replay.specs.Marked.{is_refusal, is_refused, marked_answer, marked_answers, marked_output, number_text};
+ghost use Rattle.script_replay.specs.Meaning.{meaning_of};
+ghost use Rattle.script_replay.specs.Output.{Leaves, line_answer};
+ghost use Rattle.script_replay.specs.Stops.{IsOutputStop};
+
+use crate::input::split_line;
+use crate::replays::{answer_line, refuse_script};
+use crate::status::{RunStop, Status};
+use action_tables::{Part, WriteFault, put_bytes, put_parts};
+use app_interface::Application;
+use reset_machine::Config;
+use std::alloc::{AllocError, Global};
+use std::io::Write;
+use topology::MAX_TEXT;
+
+/// How a replay marks its answers.
+#[derive(Clone, Copy)]
+pub struct Marks {
+    /// Whether the number of its line stands before each answer: `12: refused NotEnabled`.
+    pub number: bool,
+    /// Whether the run ends with the first answer that is a refusal.
+    pub strict: bool,
+}
+
+/// Replays a script from this configuration on, with marks. A strict run that a refusal ends is `Status::NotEnabled`.
+pub fn run_marked<P: Application, W: Write>(
+    alloc: Global,
+    config: &mut Config<P>,
+    script: &[u8],
+    marks: Marks,
+    out: &mut W,
+) -> Result<Status, RunStop>
+    ensures leaves { Leaves
+        (λ output. output ≡ marked_output (meaning_of P.app P.text P.from_text P.names) marks config.old script.now)
+        (W.contents out.old) (W.contents out.new) result }
+    ensures stop { IfErr result IsOutputStop }
+{
+    if script.len() > MAX_TEXT {
+        return refuse_script(out);
+    }
+    answer_marked_lines(alloc, config, script, marks, out)
+}
+
+// Answers the lines of a script in order, up to the first answer that isn't good.
+fn answer_marked_lines<P: Application, W: Write>(
+    alloc: Global,
+    config: &mut Config<P>,
+    script: &[u8],
+    marks: Marks,
+    out: &mut W,
+) -> Result<Status, RunStop>
+    requires { length script.now ≤ MAX_TEXT }
+    ensures leaves { let a = marked_answers (meaning_of P.app P.text P.from_text P.names) marks config.old script.now in
+        Leaves (λ output. output ≡ (a.text, a.status)) (W.contents out.old) (W.contents out.new) result }
+    ensures stop { IfErr result IsOutputStop }
+{
+    let mut rest = script;
+    let mut number = 1;
+    while let Some((line, after)) = split_line(rest) {
+        match answer_marked(alloc, config, number, line, marks, out) {
+            Ok(Status::Good) => {}
+            Ok(ended) => return Ok(ended),
+            Err(stop) => return Err(stop),
+        }
+        rest = after;
+        number += 1;
+    }
+    answer_marked(alloc, config, number, rest, marks, out)
+}
+
+// Answers the line with this number and text, with marks.
+fn answer_marked<P: Application, W: Write>(
+    alloc: Global,
+    config: &mut Config<P>,
+    number: u64,
+    line: &[u8],
+    marks: Marks,
+    out: &mut W,
+) -> Result<Status, RunStop>
+    ensures ok { IfOk result
+        (λ status. let a = marked_answer (meaning_of P.app P.text P.from_text P.names) marks config.old number line.now in
+        (status ≡ a.status) × (config.new ≡ a.config) × Appends (W.contents out.old) (W.contents out.new) a.text) }
+    ensures err { OnErr result
+        (AppendsPrefix (W.contents out.old) (W.contents out.new)
+        (marked_answer (meaning_of P.app P.text P.from_text P.names) marks config.old number line.now).text) }
+    ensures stop { IfErr result IsOutputStop }
+{
+    let mut text = Vec::new(alloc);
+    let status = gather_answer(alloc, config, number, line, &mut text)?;
+    put_marked(number, &text, marks, out)?;
+    if marks.strict && is_refused(&text) {
+        return Ok(Status::NotEnabled);
+    }
+    Ok(status)
+}
+
+// Adds the answer to a line to a text in memory.
+fn gather_answer<P: Application>(
+    alloc: Global,
+    config: &mut Config<P>,
+    number: u64,
+    line: &[u8],
+    text: &mut Vec<u8>,
+) -> Result<Status, AllocError>
+    ensures { IfOk result
+        (λ status. let a = line_answer (meaning_of P.app P.text P.from_text P.names) config.old number line.now in
+        (status ≡ a.status) × (config.new ≡ a.config) × (text.new.items ≡ text.old.items ++ a.text)) }
+{
+    match answer_line(alloc, config, number, line, text) {
+        Ok(status) => Ok(status),
+        Err(_) => Err(AllocError),
+    }
+}
+
+// Writes an answer behind the number of its line, if that is asked.
+fn put_marked<W: Write>(
+    number: u64,
+    text: &[u8],
+    marks: Marks,
+    out: &mut W,
+) -> Result<(), WriteFault>
+    ensures ok { OnOk result
+        (Appends (W.contents out.old) (W.contents out.new) (number_text marks number text.now ++ text.now)) }
+    ensures err { OnErr result
+        (AppendsPrefix (W.contents out.old) (W.contents out.new) (number_text marks number text.now ++ text.now)) }
+{
+    put_line_number(number, text, marks, out)?;
+    put_bytes(out, text)
+}
+
+// Writes the number of a line before its answer, if that is asked and there is an answer.
+fn put_line_number<W: Write>(
+    number: u64,
+    text: &[u8],
+    marks: Marks,
+    out: &mut W,
+) -> Result<(), WriteFault>
+    ensures ok { OnOk result
+        (Appends (W.contents out.old) (W.contents out.new) (number_text marks number text.now)) }
+    ensures err { OnErr result
+        (AppendsPrefix (W.contents out.old) (W.contents out.new) (number_text marks number text.now)) }
+{
+    if marks.number && !text.is_empty() {
+        return put_parts(out, &[Part::Number(number), Part::Text(b": ")]);
+    }
+    Ok(())
+}
+
+// Whether a line of an answer is a refusal.
+fn is_refused(text: &[u8]) -> bool
+    ensures { result ≡ is_refused text.now }
+{
+    let mut rest = text;
+    while let Some((line, after)) = split_line(rest) {
+        if is_refusal(line) {
+            return true;
+        }
+        rest = after;
+    }
+    is_refusal(rest)
+}
+
+fn is_refusal(line: &[u8]) -> bool
+    ensures { result ≡ is_refusal line.now }
+{
+    line.starts_with(b"refused ")
+}
