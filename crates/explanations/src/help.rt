@@ -3,6 +3,7 @@
 ghost use Rattle.std.specs.Prelude.{◌≡◌, codes, option_map};
 ghost use Rattle.std.specs.Str.{bytes_eq};
 ghost use Rattle.explanations.specs.Help.{asked_word, explanation_text, helped};
+ghost use Rattle.explanations.specs.declared.help.TheConstants.{COMMANDS_HELP};
 
 use crate::explained::{NO_SUCH_WORD, explanation_of};
 
@@ -42,6 +43,13 @@ exit                           ends the session
 
 // The longest line that isn't bad for its length alone.
 const MAX_LINE: usize = 256;
+
+/// The commands of a session, a line each: what it is, and behind two spaces or more what it does.
+pub fn command_lines() -> &'static str
+    ensures { result.now ≡ COMMANDS_HELP.now }
+{
+    COMMANDS_HELP
+}
 
 /// The help that a line asks for, in lines: `help` for the commands, `explain WORD` for what a word means, or that it isn't
 /// known. None for any other line, and for one of over 256 bytes.

@@ -7,4 +7,4 @@ mod refusals;
 mod words;
 
 pub use explained::{NO_SUCH_WORD, explanation_of};
-pub use help::help_for;
+pub use help::{command_lines, help_for};

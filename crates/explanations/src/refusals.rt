@@ -1,6 +1,6 @@
 // What the refusals of events and of faults mean, and the faults of texts, and what to do: words, each with its text.
 
-pub const REFUSALS: [(&str, &str); 41] = [
+pub const REFUSALS: [(&str, &str); 42] = [
     // Refusals of events and of faults.
     (
         "StrangeNode",
@@ -209,7 +209,12 @@ the eye misses. Of a history see `BadLine`, as an answer of `check` see `link`.\
         "not",
         "\
 `not enabled at P`: entry P, which is line P + 1 of the file, isn't allowed where it stands. To see\n\
-why, replay the entries before it, `head -n P HISTORY | sed 1d`, and then `enabled I` and `show I`.\n",
+why, ask `verify --why`; `verify --at` prints the whole network as it was before it.\n",
+    ),
+    (
+        "EndsAfter",
+        "\
+`bad history EndsAfter N`: `verify --at P` was asked what P entries leave, and the history has N.\n",
     ),
     (
         "read",

@@ -1,6 +1,6 @@
 // What the other words mean that the program prints and reads, and what to do: words, each with its text.
 
-pub const WORDS: [(&str, &str); 72] = [
+pub const WORDS: [(&str, &str); 73] = [
     // Answers to commands.
     (
         "bad",
@@ -94,7 +94,14 @@ complete a reset.\n",
         "entry",
         "\
 `entry COMMAND`: the first entry of a history that isn't allowed where it stands, of `verify --why`.\n\
-Below it are the refusal of COMMAND there, and what its node and the neighbours have there.\n",
+Below it are the refusal of COMMAND there, what the rows of its event ask for, where none is\n\
+enabled, and what its node and the neighbours have there.\n",
+    ),
+    (
+        "row",
+        "\
+`row NUMBER NAME: GUARD`, of `verify --why`: a row by which the event of the entry may happen, and\n\
+what it asks for. None of these rows is enabled there. `tables` prints them all.\n",
     ),
     (
         "report",

@@ -1,0 +1,4 @@
+pub mod Nearing
+pub mod HelpLines
+pub mod BadLines
+pub mod Described

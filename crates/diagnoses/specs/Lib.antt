@@ -1,0 +1,4 @@
+pub mod Nearest
+pub mod Commands
+pub mod Places
+pub mod Scripts

@@ -1,0 +1,142 @@
+// What is wrong with a snapshot.
+
+ghost use Rattle.std.specs.Prelude.{◌≡◌};
+
+use crate::said::{Source, put_end, put_head, put_line_number, put_said};
+use action_tables::{Part, WriteFault, put_bytes, put_parts};
+use app_interface::{Application, Idle};
+use app_mutex::EdgeReversal;
+use app_routes::Routes;
+use app_token::Token;
+use script_replay::{Network, RunStop, read_network};
+use snapshots::{SnapshotFault, read_snapshot};
+use std::alloc::Global;
+use std::io::Write;
+use topology::{AppName, ReadFault};
+
+/// The most bytes of a snapshot.
+const MAX_SNAPSHOT: usize = 67_108_864;
+
+/// Writes what is wrong with a snapshot of a topology, and where; returns whether it wrote. Of a bad topology nothing is
+/// said here.
+pub fn put_snapshot_fault<W: Write>(
+    alloc: Global,
+    topology: &[u8],
+    snapshot: Source<'_>,
+    out: &mut W,
+) -> Result<bool, RunStop> {
+    match read_network(alloc, topology) {
+        Ok(network) => put_fault_on(alloc, network, snapshot, out),
+        Err(ReadFault::NoMemory) => Err(RunStop::NoMemory),
+        Err(_) => Ok(false),
+    }
+}
+
+// Writes what is wrong with a snapshot of a network.
+fn put_fault_on<W: Write>(
+    alloc: Global,
+    network: Network,
+    snapshot: Source<'_>,
+    out: &mut W,
+) -> Result<bool, RunStop>
+    requires { network.topology.nodes ≡ network.topology.ids }
+{
+    if snapshot.text.len() > MAX_SNAPSHOT {
+        put_said(out, snapshot.name, b"it has more than 67108864 bytes")?;
+        return Ok(true);
+    }
+    match fault_of(alloc, &network, snapshot.text) {
+        None => Ok(false),
+        Some(SnapshotFault::NoMemory) => Err(RunStop::NoMemory),
+        Some(fault) => {
+            put_bad_snapshot(snapshot.name, fault, out)?;
+            Ok(true)
+        }
+    }
+}
+
+fn put_bad_snapshot<W: Write>(
+    name: &str,
+    fault: SnapshotFault,
+    out: &mut W,
+) -> Result<(), WriteFault> {
+    put_head(out, name)?;
+    put_fault(fault, out)?;
+    put_end(out)
+}
+
+// Why a text is no snapshot of a network.
+fn fault_of(alloc: Global, network: &Network, text: &[u8]) -> Option<SnapshotFault>
+    requires { network.now.topology.nodes ≡ network.now.topology.ids }
+{
+    match network.app {
+        AppName::Idle => fault_on::<Idle>(alloc, network, text),
+        AppName::Token => fault_on::<Token>(alloc, network, text),
+        AppName::Mutex => fault_on::<EdgeReversal>(alloc, network, text),
+        AppName::Routes => fault_on::<Routes>(alloc, network, text),
+    }
+}
+
+fn fault_on<P: Application>(alloc: Global, network: &Network, text: &[u8]) -> Option<SnapshotFault>
+    requires { network.now.topology.nodes ≡ network.now.topology.ids }
+{
+    match read_snapshot::<P>(alloc, &network.topology, network.modulus, text) {
+        Ok(_) => None,
+        Err(fault) => Some(fault),
+    }
+}
+
+fn put_fault<W: Write>(fault: SnapshotFault, out: &mut W) -> Result<(), WriteFault> {
+    match fault {
+        SnapshotFault::BadLine(number) => {
+            put_line_number(out, number as u64)?;
+            put_bytes(out, b"no line of a snapshot")
+        }
+        SnapshotFault::BadVersion => put_bytes(out, b"line 1: the version of a snapshot is 1"),
+        SnapshotFault::StrangeNode(id) => put_node_fault(
+            out,
+            b"node ",
+            id,
+            b" isn't in the topology, or is the end of a link and down",
+        ),
+        SnapshotFault::TwiceNode(id) => put_node_fault(out, b"node ", id, b" has two lines"),
+        SnapshotFault::SelfLink(id) => put_node_fault(
+            out,
+            b"a link joins node ",
+            id,
+            b" with itself",
+        ),
+        SnapshotFault::TwiceLink(a, b) => put_twice_link(out, a, b),
+        SnapshotFault::TooManyLinks => put_bytes(out, b"it has more than 8192 links"),
+        SnapshotFault::NoMemory => Ok(()),
+    }
+}
+
+fn put_node_fault<'t, W: Write>(
+    out: &mut W,
+    before: &'t [u8],
+    id: u32,
+    after: &'t [u8],
+) -> Result<(), WriteFault> {
+    put_parts(
+        out,
+        &[
+            Part::Text(before),
+            Part::Number(u64::from(id)),
+            Part::Text(after),
+        ],
+    )
+}
+
+fn put_twice_link<W: Write>(out: &mut W, a: u32, b: u32) -> Result<(), WriteFault> {
+    put_parts(
+        out,
+        &[
+            Part::Text(b"the link of "),
+            Part::Number(u64::from(a)),
+            Part::Text(b" and "),
+            Part::Number(u64::from(b)),
+            Part::Text(b" has two lines"),
+        ],
+    )
+}
