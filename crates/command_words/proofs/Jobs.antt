@@ -10,7 +10,7 @@ use Rattle.clap.specs.Words.{HasKind, Text, IsAmong, ReadsOne, first_of, kind_of
 use Rattle.clap.specs.declared.error.Error.{Error}
 use Rattle.clap.specs.declared.parser.matches.Found.{Found}
 use Rattle.clap.proofs.WalkLemmas.{one_text-rows}
-use Rattle.command_words.specs.Words.{HasFlag, HasNumber, IsFaultOf, IsNumberOr, IsNumberWithin, MayHaveNumber}
+use Rattle.command_words.specs.Words.{HasFlag, HasNumber, IsFaultOf, IsNumberOr, IsNumberOrNone, IsNumberWithin, MayHaveNumber}
 use Rattle.command_words.specs.Words.{StandsFor, Writes, faults_of, is_on}
 use Rattle.command_words.specs.declared.words.Job.{Job}
 use Rattle.command_words.specs.declared.words.LineFault.{LineFault}
@@ -77,6 +77,19 @@ module _ (E : Type 0) (G : Text → Result ℕ E → Type 0)
       (given (first_of name (rows_of f)) h.1)
     where
       given : (o : Option Text) → IsNumberWithin least most o h.0 → IsNumberOr other least most o h.0
+      given None is = absurd is.0
+      given (Some t) is = is
+
+  -- where nothing may have been found, there is none
+  pub number_or_none : (one_text f name ≡ None → r ≡ None) → MayHaveNumber name least most (rows_of f)
+      → IsNumberOrNone least most (first_of name (rows_of f)) r
+  number_or_none none (inl nothing) =
+      subst (λ (o : Option Text). IsNumberOrNone least most o r) (sym nothing.0) (none (one_text-rows f name ∙ nothing.1))
+  number_or_none none (inr h) =
+      subst (λ (o : Option ℕ). IsNumberOrNone least most (first_of name (rows_of f)) o) (sym (number_read h))
+      (given (first_of name (rows_of f)) h.1)
+    where
+      given : (o : Option Text) → IsNumberWithin least most o h.0 → IsNumberOrNone least most o (Some h.0)
       given None is = absurd is.0
       given (Some t) is = is
 

@@ -1,9 +1,11 @@
 pub mod Builders
 pub mod Jobs
+pub mod JobValues
 pub mod PathRows
 pub mod NoHelp
 pub mod Values
 pub mod Exploring
 pub mod SessionAndPage
 pub mod Verification
+pub mod Replaying
 pub mod Subcommands

@@ -6,14 +6,15 @@ use Rattle.clap.specs.Simple.{rows_at}
 use Rattle.clap.specs.Takes.{is_given}
 use Rattle.clap.specs.ValueTests.{accepts}
 use Rattle.clap.specs.Faults.{values_fault}
-use Rattle.clap.specs.declared.builder.value_parser.ValueParser.TheVariants.{Bool as Flags}
+use Rattle.clap.specs.declared.builder.value_parser.ValueParser.TheVariants.{Bool as Flags, Unsigned}
 use Rattle.clap.specs.declared.error.ErrorKind.TheVariants.{MissingRequiredArgument}
 use Rattle.command_words.specs.Words.{HasVerify}
 use Rattle.command_words.specs.Words.{drive_command, explain_command, explore_command, page_command, plan_command}
 use Rattle.command_words.specs.Words.{program, record_command, session_command, tables_command, texts_command}
-use Rattle.command_words.specs.Words.{threads_command, topology_command, verify_command}
+use Rattle.command_words.specs.Words.{threads_command, topology_command, verify_command, replay_command}
 use Rattle.command_words.proofs.PathRows.{AllFit, TakesWords, checked, or_else-nil, rows_taken}
-use Rattle.command_words.proofs.Values.{IsOfFlags, both_given, flag_found, is_accepted, text_found}
+use Rattle.command_words.proofs.Values.{IsOfFlags, IsOfNumbers, both_given, flag_found, is_accepted, number_or_none}
+use Rattle.command_words.proofs.Values.{text_found}
 
 abbrev pub the_verify : Shape
 the_verify = slice_index_or (built program).subs 5 verify_command.top
@@ -24,14 +25,14 @@ rows_of_words s words = (rows_at s words).1
 
 verify_fit : AllFit the_verify.rules the_verify.rules
 unfolding program plan_command record_command threads_command drive_command topology_command explain_command texts_command
-    tables_command session_command page_command explore_command verify_command
+    tables_command session_command page_command explore_command verify_command replay_command
 verify_fit = (
   inl (refl, refl, refl, refl),
   (
     inl (refl, refl, refl, refl),
     (
       inl (refl, refl, refl, refl),
-      (inr (inr (refl, refl, refl, refl)), (inr (inl (refl, refl)), tt)),
+      (inr (inr (refl, refl, refl, refl)), (inl (refl, refl, refl, refl), (inr (inl (refl, refl)), tt))),
     ),
   ),
 )
@@ -41,16 +42,29 @@ the_why = slice_index_or the_verify.rules 3 (new_rule [])
 
 whys_are_flags : IsOfFlags the_why
 unfolding program plan_command record_command threads_command drive_command topology_command explain_command texts_command
-    tables_command session_command page_command explore_command verify_command
+    tables_command session_command page_command explore_command verify_command replay_command
 whys_are_flags = record {
   passes = λ v vs e. is_accepted (accepts false Flags v) _ (or_else-nil _ (values_fault the_why vs) e).0;
   reading = refl;
 }
 
--- where clap finds no fault in the words, they have a topology and a history, and what they say of the flag can be read
+abbrev the_at : Rule
+the_at = slice_index_or the_verify.rules 4 (new_rule [])
+
+places_are_numbers : IsOfNumbers 0 1000000 the_at
+unfolding program plan_command record_command threads_command drive_command topology_command explain_command texts_command
+    tables_command session_command page_command explore_command verify_command replay_command
+places_are_numbers = record {
+  passes =
+      λ v vs e. is_accepted (accepts false (Unsigned 0 1000000) v) _ (or_else-nil _ (values_fault the_at vs) e).0;
+  reading = refl;
+}
+
+-- where clap finds no fault in the words, they have a topology and a history, and what they say of the flag and the number
+-- can be read
 pub has_verify : (words : List Text) → TakesWords the_verify words → HasVerify (rows_of_words the_verify words)
 unfolding program plan_command record_command threads_command drive_command topology_command explain_command texts_command
-    tables_command session_command page_command explore_command verify_command
+    tables_command session_command page_command explore_command verify_command replay_command
 has_verify words e =
     let rows = rows_of_words the_verify words in
     let given =
@@ -62,4 +76,5 @@ has_verify words e =
         text_found the_verify.rules (codes "HISTORY") _ rows refl taken given.1,
       ),
       flag_found the_verify.rules (codes "why") the_why rows whys_are_flags refl taken,
+      number_or_none 0 1000000 the_verify.rules (codes "at") the_at rows places_are_numbers refl taken,
     )

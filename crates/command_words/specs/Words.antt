@@ -28,6 +28,7 @@ use Rattle.command_words.specs.declared.record_words.RecordWords.{RecordWords}
 use Rattle.command_words.specs.declared.session_words.SessionWords.{SessionWords}
 use Rattle.command_words.specs.declared.shape_words.ShapeWords.{ShapeWords}
 use Rattle.command_words.specs.declared.thread_words.ThreadWords.{ThreadWords}
+use Rattle.command_words.specs.declared.replay_words.ReplayWords.{ReplayWords}
 use Rattle.command_words.specs.declared.verify_words.VerifyWords.{VerifyWords}
 
 -- ---- the command line
@@ -65,6 +66,11 @@ unfoldable pub texts_command : Text → Text → App
 texts_command name input =
     with_rule (with_rule (with_rule (new_app name) (path (codes "TOPOLOGY"))) (path input)) from_option
 
+-- `replay TOPOLOGY SCRIPT [--from SNAPSHOT] [--number] [--strict]`
+unfoldable pub replay_command : App
+replay_command =
+    with_rule (with_rule (texts_command (codes "replay") (codes "SCRIPT")) (flag (codes "number"))) (flag (codes "strict"))
+
 -- `plan TOPOLOGY [SCRIPT] [--from SNAPSHOT]`
 unfoldable pub plan_command : App
 plan_command =
@@ -91,9 +97,11 @@ session_command =
     (with_rule (with_rule (new_app (codes "session")) (path (codes "TOPOLOGY"))) from_option)
     (optional (file_option (codes "history")))) (flag (codes "no-sync"))
 
--- `verify TOPOLOGY HISTORY [--from SNAPSHOT] [--why]`
+-- `verify TOPOLOGY HISTORY [--from SNAPSHOT] [--why] [--at P]`
 unfoldable pub verify_command : App
-verify_command = with_rule (texts_command (codes "verify") (codes "HISTORY")) (flag (codes "why"))
+verify_command =
+    with_rule (with_rule (texts_command (codes "verify") (codes "HISTORY")) (flag (codes "why")))
+    (optional (number_option (codes "at") 0 1000000))
 
 -- `page TOPOLOGY HISTORY [--from SNAPSHOT] [--title TEXT]`
 unfoldable pub page_command : App
@@ -156,7 +164,7 @@ scripts_program =
     with_subcommand
     (with_subcommand
     (with_subcommand
-    (with_subcommand (with_subcommand new_program (texts_command (codes "replay") (codes "SCRIPT")).top)
+    (with_subcommand (with_subcommand new_program replay_command.top)
     (texts_command (codes "check") (codes "SCRIPT")).top) plan_command.top) explore_command.top) session_command.top
 
 -- with those that read a history
@@ -210,17 +218,32 @@ abbrev pub IsNumberOr : ℕ → ℕ → ℕ → Option Text → ℕ → Type 0
 IsNumberOr other least most None number = number ≡ other
 IsNumberOr other least most (Some text) number = IsNumberWithin least most (Some text) number
 
+-- so it is, or there is neither a text nor a number
+abbrev pub IsNumberOrNone : ℕ → ℕ → Option Text → Option ℕ → Type 0
+IsNumberOrNone least most None number = number ≡ None
+IsNumberOrNone least most (Some text) None = ⊥
+IsNumberOrNone least most (Some text) (Some number) = IsNumberWithin least most (Some text) number
+
+-- the value of a flag says that it is given
+abbrev pub is_on : Option Text → Bool
+is_on None = false
+is_on (Some value) = bytes_eq value (codes "true")
+
+-- it is the subcommand `replay` with these values
+abbrev pub HasReplayWords : Found → ReplayWords → Type 0
+HasReplayWords found words = (name_in found ≡ Some (codes "replay"))
+    × (value_in found (codes "TOPOLOGY") ≡ Some words.topology.now)
+    × (value_in found (codes "SCRIPT") ≡ Some words.script.now)
+    × (value_in found (codes "from") ≡ option_map (λ from. from.now) words.from)
+    × (words.number ≡ is_on (value_in found (codes "number")))
+    × (words.strict ≡ is_on (value_in found (codes "strict")))
+
 -- it is the subcommand `plan` with these values
 abbrev pub HasPlanWords : Found → PlanWords → Type 0
 HasPlanWords found words = (name_in found ≡ Some (codes "plan"))
     × (value_in found (codes "TOPOLOGY") ≡ Some words.topology.now)
     × (value_in found (codes "SCRIPT") ≡ option_map (λ script. script.now) words.script)
     × (value_in found (codes "from") ≡ option_map (λ from. from.now) words.from)
-
--- the value of a flag says that it is given
-abbrev pub is_on : Option Text → Bool
-is_on None = false
-is_on (Some value) = bytes_eq value (codes "true")
 
 -- it is the subcommand `explore` with these values: at most 1,000,000 configurations are visited where no number is given
 abbrev pub HasExploreWords : Found → ExploreWords → Type 0
@@ -247,6 +270,7 @@ HasVerifyWords found words = (name_in found ≡ Some (codes "verify"))
     × (value_in found (codes "HISTORY") ≡ Some words.history.now)
     × (value_in found (codes "from") ≡ option_map (λ from. from.now) words.from)
     × (words.why ≡ is_on (value_in found (codes "why")))
+    × IsNumberOrNone 0 1000000 (value_in found (codes "at")) words.at
 
 -- it is the subcommand `page` with these values
 abbrev pub HasPageWords : Found → PageWords → Type 0
@@ -298,7 +322,7 @@ HasWord found word = (name_in found ≡ Some (codes "explain")) × (value_in fou
 -- the subcommand and its values are those of the job
 abbrev pub AskedBy : Found → Job → Type 0
 AskedBy found Joined = found ≡ None
-AskedBy found (Replay paths) = HasPaths found (codes "replay") (codes "SCRIPT") paths
+AskedBy found (Replay words) = HasReplayWords found words
 AskedBy found (Check paths) = HasPaths found (codes "check") (codes "SCRIPT") paths
 AskedBy found (Plan words) = HasPlanWords found words
 AskedBy found (Explore words) = HasExploreWords found words
@@ -359,13 +383,17 @@ abbrev pub HasFlag : Text → List Row → Type 0
 HasFlag name rows = IfSome (first_of name rows) (λ value. (value ≡ codes "true") ⊎ (value ≡ codes "false"))
     × (one_of name rows ≡ first_of name rows)
 
+-- what `replay` needs was found
+abbrev pub HasReplay : List Row → Type 0
+HasReplay rows = HasTexts (codes "SCRIPT") rows × HasFlag (codes "number") rows × HasFlag (codes "strict") rows
+
 -- what `session` needs was found
 abbrev pub HasSession : List Row → Type 0
 HasSession rows = IsSome (first_of (codes "TOPOLOGY") rows) × HasFlag (codes "no-sync") rows
 
 -- what `verify` needs was found
 abbrev pub HasVerify : List Row → Type 0
-HasVerify rows = HasTexts (codes "HISTORY") rows × HasFlag (codes "why") rows
+HasVerify rows = HasTexts (codes "HISTORY") rows × HasFlag (codes "why") rows × MayHaveNumber (codes "at") 0 1000000 rows
 
 -- what `explore` needs was found
 abbrev pub HasExplore : List Row → Type 0
@@ -390,14 +418,14 @@ abbrev pub HasShape : List Row → Type 0
 HasShape rows = IsSome (first_of (codes "SHAPE") rows) × HasNumber (codes "N") 1 1024 rows
     × MayHaveNumber (codes "seed") 0 4294967295 rows
 
--- it is the name of a subcommand that runs a script
-abbrev pub IsOfScript : Text → Type 0
-IsOfScript name = (name ≡ codes "replay") ⊎ (name ≡ codes "check")
+-- it is a subcommand that answers a script, with the values that it needs
+abbrev pub HasScriptJob : Text × List Row → Type 0
+HasScriptJob s = ((s.0 ≡ codes "replay") × HasReplay s.1) ⊎ ((s.0 ≡ codes "check") × HasTexts (codes "SCRIPT") s.1)
 
 -- a subcommand of the program with the values that it needs, or none
 abbrev pub HasJob : Found → Type 0
 HasJob None = ⊤
-HasJob (Some s) = (IsOfScript s.0 × HasTexts (codes "SCRIPT") s.1)
+HasJob (Some s) = HasScriptJob s
     ⊎ (((s.0 ≡ codes "picture") × HasTexts (codes "HISTORY") s.1)
     ⊎ (((s.0 ≡ codes "record") × HasRecord s.1)
     ⊎ (((s.0 ≡ codes "threads") × HasThreads s.1)

@@ -6,18 +6,18 @@ ghost use Rattle.command_words.specs.Words.{IsCommand, IsWord, drive_command, ex
 ghost use Rattle.command_words.specs.Words.{explore_command, file_option};
 ghost use Rattle.command_words.specs.Words.{flag, from_option};
 ghost use Rattle.command_words.specs.Words.{histories_program, new_program, number_option, optional, path, program};
-ghost use Rattle.command_words.specs.Words.{page_command, plan_command, record_command, scripts_program};
+ghost use Rattle.command_words.specs.Words.{page_command, plan_command, record_command, replay_command, scripts_program};
 ghost use Rattle.command_words.specs.Words.{session_command, tables_command, texts_command, texts_program};
 ghost use Rattle.command_words.specs.Words.{threads_command, topology_command, verify_command, within};
 
 use crate::help::{
-    ABOUT, ACTS_HELP, AFTER_HELP, APP_HELP, CHECK_HELP, DRIVE_HELP, DRIVE_SEED_HELP, EXPLAIN_HELP,
-    EXPLORE_HELP, EXPLORE_SCRIPT_HELP, FAULTS_HELP, FEW_NODES_HELP, FROM_HELP, HISTORY_FILE_HELP,
-    HISTORY_HELP, Help, LONG_ABOUT, MOST_HELP, NO_SYNC_HELP, NODES_HELP, PAGE_HELP, PICTURE_HELP,
-    PLAN_HELP, PLAN_SCRIPT_HELP, RECORD_HELP, REPLAY_HELP, SCRIPT_HELP, SESSION_HELP,
-    SESSION_HISTORY_HELP, SHAPE_HELP, SHAPE_NAME_HELP, SHAPE_SEED_HELP, SHOWN_HISTORY_HELP,
-    STEPS_HELP, TABLES_ABOUT, TABLES_LONG_ABOUT, THREADS_HELP, TITLE_HELP, TOPOLOGY_HELP,
-    TURNS_HELP, VERIFY_HELP, VERSION, WHY_HELP, WORD_HELP,
+    ABOUT, ACTS_HELP, AFTER_HELP, APP_HELP, AT_HELP, CHECK_HELP, DRIVE_HELP, DRIVE_SEED_HELP,
+    EXPLAIN_HELP, EXPLORE_HELP, EXPLORE_SCRIPT_HELP, FAULTS_HELP, FEW_NODES_HELP, FROM_HELP,
+    HISTORY_FILE_HELP, HISTORY_HELP, Help, LONG_ABOUT, MOST_HELP, NO_SYNC_HELP, NODES_HELP,
+    NUMBER_HELP, PAGE_HELP, PICTURE_HELP, PLAN_HELP, PLAN_SCRIPT_HELP, RECORD_HELP, REPLAY_HELP,
+    SCRIPT_HELP, SESSION_HELP, SESSION_HISTORY_HELP, SHAPE_HELP, SHAPE_NAME_HELP, SHAPE_SEED_HELP,
+    SHOWN_HISTORY_HELP, STEPS_HELP, STRICT_HELP, TABLES_ABOUT, TABLES_LONG_ABOUT, THREADS_HELP,
+    TITLE_HELP, TOPOLOGY_HELP, TURNS_HELP, VERIFY_HELP, VERSION, WHY_HELP, WORD_HELP,
 };
 use clap::builder::ValueParser;
 use clap::{Arg, ArgAction, Command};
@@ -55,9 +55,8 @@ fn texts_line<'a>(alloc: Global) -> Result<Command<'a>, AllocError>
 fn scripts_line<'a>(alloc: Global) -> Result<Command<'a>, AllocError>
     ensures { IfOk result (IsCommand scripts_program) }
 {
-    let replay = texts_words(alloc, "replay", "SCRIPT", SCRIPT_HELP, &REPLAY_HELP);
     let check = texts_words(alloc, "check", "SCRIPT", SCRIPT_HELP, &CHECK_HELP);
-    let line = with_command(Ok(program_words(alloc)), replay);
+    let line = with_command(Ok(program_words(alloc)), replay_words(alloc));
     let line = with_command(line, check);
     let line = with_command(line, plan_words(alloc));
     let line = with_command(line, explore_words(alloc));
@@ -89,6 +88,16 @@ fn texts_words<'a>(
     let line = with_argument(line, path_word(alloc, "TOPOLOGY", TOPOLOGY_HELP));
     let line = with_argument(line, path_word(alloc, input, input_help));
     with_argument(line, from_word(alloc))
+}
+
+// The subcommand with the paths of a topology and of a script and, where they are given, that of a snapshot and the flags
+// that mark answers.
+fn replay_words<'a>(alloc: Global) -> Result<Command<'a>, AllocError>
+    ensures { IfOk result (IsCommand replay_command) }
+{
+    let line = texts_words(alloc, "replay", "SCRIPT", SCRIPT_HELP, &REPLAY_HELP);
+    let line = with_argument(line, flag_word(alloc, "number", NUMBER_HELP));
+    with_argument(line, flag_word(alloc, "strict", STRICT_HELP))
 }
 
 // The subcommand with the path of a topology and, where they are given, those of a script and of a snapshot.
@@ -127,13 +136,14 @@ fn session_words<'a>(alloc: Global) -> Result<Command<'a>, AllocError>
     with_argument(line, flag_word(alloc, "no-sync", NO_SYNC_HELP))
 }
 
-// The subcommand with the paths of a topology and of a history and, where they are given, that of a snapshot and the flag
-// that asks why.
+// The subcommand with the paths of a topology and of a history and, where they are given, that of a snapshot, the flag
+// that asks why and a number of entries.
 fn verify_words<'a>(alloc: Global) -> Result<Command<'a>, AllocError>
     ensures { IfOk result (IsCommand verify_command) }
 {
     let line = texts_words(alloc, "verify", "HISTORY", HISTORY_HELP, &VERIFY_HELP);
-    with_argument(line, flag_word(alloc, "why", WHY_HELP))
+    let line = with_argument(line, flag_word(alloc, "why", WHY_HELP));
+    with_argument(line, at_word(alloc))
 }
 
 // The subcommand with the paths of a topology and of a history and, where they are given, that of a snapshot and a
@@ -275,6 +285,14 @@ fn faults_word<'a>(alloc: Global) -> Arg<'a>
 {
     let faults = option_word(alloc, "faults", "P", false, FAULTS_HELP);
     number_word(faults, 0, 1000)
+}
+
+// How many entries of a history are verified, which may be left out.
+fn at_word<'a>(alloc: Global) -> Arg<'a>
+    ensures { IsWord (optional (number_option (codes "at") 0 1000000)) result }
+{
+    let at = option_word(alloc, "at", "P", false, AT_HELP);
+    number_word(at, 0, 1_000_000)
 }
 
 // How many configurations are visited at most, which may be left out.

@@ -22,10 +22,14 @@ Examples:
 
 Exit status:
   0  good, refused commands included
-  1  the subcommand `check` found faults, or `verify` or `picture` an entry that isn't allowed
+  1  the subcommand `check` found faults, or `verify` or `picture` an entry that isn't allowed, or
+     `replay --strict` a refusal
   2  a bad topology, script, history or command line
   3  a file or a standard stream could not be read or written, or a thread could not be started
-  4  out of memory";
+  4  out of memory
+
+With --verbose among the words, or RESET_VERBOSE=1 in the environment, standard error says of a
+file that is bad where it is, and why.";
 
 pub const TOPOLOGY_HELP: &str =
     "A file in TOML that names the nodes, the links between them, and the application";
@@ -47,7 +51,10 @@ pub const REPLAY_HELP: Help = Help {
 Runs a script on a topology, from its booted configuration.
 
 Each command writes its answer to standard output. A command that is refused changes
-nothing, and the run goes on; a bad line ends it.",
+nothing, and the run goes on; a bad line ends it.
+
+With `--number` the number of its line stands before each answer: `12: refused NotEnabled`. With
+`--strict` the first refusal ends the run, with exit status 1.",
     after_help: "\
 A topology:
   nodes = [1, 2, 3]
@@ -191,10 +198,16 @@ pub const TITLE_HELP: &str = "The title of the page";
 pub const FROM_HELP: &str =
     "A file with a snapshot, which it starts from in place of the booted configuration";
 
+pub const NUMBER_HELP: &str = "Puts the number of its line before each answer";
+
+pub const STRICT_HELP: &str = "Ends at the first refusal, with exit status 1";
+
 pub const PLAN_SCRIPT_HELP: &str =
     "A file with one command a line, which is run before; none where this is left out";
 
 pub const WHY_HELP: &str = "Says, where an entry isn't allowed, why it isn't";
+
+pub const AT_HELP: &str = "Prints, as a snapshot, what the first P entries leave";
 
 pub const VERIFY_HELP: Help = Help {
     about: "Checks that a history is possible, and prints which resets it completed",
@@ -210,10 +223,14 @@ first fault, and after a fault of a reset that opens where `check` tells no row 
 
 Where an entry isn't allowed where it stands, the answer is `not enabled at POSITION` of the first
 such entry, and the exit status is 1; in the file it is one line further down. With `--why` there
-follow `entry COMMAND`, the line with which a script answers that command there, and the lines of
-the entry's node and of its neighbours there, as `show` prints them. A file that isn't a history is
-answered by `bad history` and its first bad line, and one that counts sessions modulo another number
-than the topology by `bad history OtherModulus` and that number, both with exit status 2.",
+follow `entry COMMAND`, the line with which a script answers that command there, what the rows of its
+event ask for where none is enabled, and the lines of the entry's node and of its neighbours there, as
+`show` prints them. A file that isn't a history is answered by `bad history` and its first bad line,
+and one that counts sessions modulo another number than the topology by `bad history OtherModulus`
+and that number, both with exit status 2.
+
+With `--at P` the answer is a snapshot: the configuration that the first P entries leave, those after
+them are read alone. A history of N entries, fewer than P, is answered by `bad history EndsAfter N`.",
     after_help: "\
 A history:
   reset-history 3 8
@@ -328,8 +345,9 @@ Draws a history as a space-time diagram, in SVG, on standard output.
 A node is a lane, the leader first, and time goes down the page: each entry is a mark on the lane of
 its node, with its line as a text that shows where the pointer rests. A lane has the colour of the
 node's phase, and behind it that of its session, so that a reset is seen to go down the tree and to
-end. A line across all lanes is a completed reset. At most 64 nodes and 2,000 entries are drawn. What
-can't be drawn is answered in place of a picture: the exit status tells.",
+end. A line across the lanes of a component is a completed reset; a node that is down is hatched. At
+most 64 nodes and 2,000 entries are drawn. What can't be drawn is answered in place of a picture: the
+exit status tells.",
     after_help: "\
 Example:
   reset-service picture examples/verified-wave/topology.toml examples/verified-wave/history > wave.svg",

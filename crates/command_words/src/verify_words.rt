@@ -11,4 +11,6 @@ pub struct VerifyWords<'a> {
     pub from: Option<&'a str>,
     /// Whether to say why an entry isn't allowed.
     pub why: bool,
+    /// How many entries are verified, at most 1,000,000, if it is asked what they leave.
+    pub at: Option<u32>,
 }

@@ -3,9 +3,9 @@
 ghost use Rattle.std.specs.Prelude.{◌≡◌, [], codes, map, not, option_map, IfErr, IfOk, IsSome, Some};
 ghost use Rattle.clap.specs.Words.{first_of, found_of, rows_of, subcommand_rows_of};
 ghost use Rattle.command_words.specs.declared.words.LineFault.TheVariants.{NoMemory};
-ghost use Rattle.command_words.specs.Words.{faults_of, AskFor, AskedBy, HasDrive, HasExplore, HasJob, HasPlan, HasRecord};
+ghost use Rattle.command_words.specs.Words.{faults_of, AskFor, AskedBy, HasDrive, HasExplore, HasJob, HasPlan, HasRecord, HasReplay};
 ghost use Rattle.command_words.specs.Words.{HasSession, HasShape, HasTexts, HasThreads, HasVerify, IsFaultOf};
-ghost use Rattle.command_words.specs.Words.{IsNumberOr, IsNumberWithin, StandsFor, is_on, line_fault_text};
+ghost use Rattle.command_words.specs.Words.{IsNumberOr, IsNumberOrNone, IsNumberWithin, StandsFor, is_on, line_fault_text};
 
 use crate::commands::command_line;
 use crate::drive_words::DriveWords;
@@ -13,6 +13,7 @@ use crate::explore_words::ExploreWords;
 use crate::page_words::PageWords;
 use crate::plan_words::PlanWords;
 use crate::record_words::RecordWords;
+use crate::replay_words::ReplayWords;
 use crate::session_words::SessionWords;
 use crate::shape_words::ShapeWords;
 use crate::thread_words::ThreadWords;
@@ -40,7 +41,7 @@ pub enum Job<'a> {
     /// Replay the joined text of the standard input.
     Joined,
     /// Replay the script of a file on the topology of another, from its booted configuration or a snapshot.
-    Replay(Paths<'a>),
+    Replay(ReplayWords<'a>),
     /// The same, and check the network that the script leaves.
     Check(Paths<'a>),
     /// Plan for the network that a script leaves of a topology.
@@ -138,7 +139,7 @@ fn named_job<'a>(name: &str, values: &ArgMatches<'a>) -> Job<'a>
     ensures { AskedBy (Some (name.now, rows_of (found_of values.now))) result }
 {
     match name {
-        "replay" => Job::Replay(paths_of(values, "SCRIPT")),
+        "replay" => Job::Replay(replay_words_of(values)),
         "check" => Job::Check(paths_of(values, "SCRIPT")),
         "plan" => Job::Plan(plan_words_of(values)),
         "explore" => Job::Explore(explore_words_of(values)),
@@ -166,6 +167,27 @@ fn paths_of<'a>(values: &ArgMatches<'a>, input: &str) -> Paths<'a>
         topology: values.get_str("TOPOLOGY").unwrap(),
         input: values.get_str(input).unwrap(),
         from: values.get_str("from"),
+    }
+}
+
+// The words of matches that have a topology and a script, and may have a snapshot and the flags that mark answers.
+fn replay_words_of<'a>(values: &ArgMatches<'a>) -> ReplayWords<'a>
+    requires { HasReplay (rows_of (found_of values.now)) }
+    ensures topology { first_of (codes "TOPOLOGY") (rows_of (found_of values.now)) ≡ Some result.topology.now }
+    ensures script { first_of (codes "SCRIPT") (rows_of (found_of values.now)) ≡ Some result.script.now }
+    ensures from { first_of (codes "from") (rows_of (found_of values.now)) ≡ option_map (λ from. from.now) result.from }
+    ensures number { result.number ≡ is_on (first_of (codes "number") (rows_of (found_of values.now))) }
+    ensures strict { result.strict ≡ is_on (first_of (codes "strict") (rows_of (found_of values.now))) }
+{
+    let paths = paths_of(values, "SCRIPT");
+    let number = values.get_flag("number");
+    let strict = values.get_flag("strict");
+    ReplayWords {
+        topology: paths.topology,
+        script: paths.input,
+        from: paths.from,
+        number,
+        strict,
     }
 }
 
@@ -239,21 +261,25 @@ fn session_words_of<'a>(values: &ArgMatches<'a>) -> SessionWords<'a>
     }
 }
 
-// The words of matches that have a topology and a history, and may have a snapshot and the flag that asks why.
+// The words of matches that have a topology and a history, and may have a snapshot, the flag that asks why and a number
+// of entries.
 fn verify_words_of<'a>(values: &ArgMatches<'a>) -> VerifyWords<'a>
     requires { HasVerify (rows_of (found_of values.now)) }
     ensures topology { first_of (codes "TOPOLOGY") (rows_of (found_of values.now)) ≡ Some result.topology.now }
     ensures history { first_of (codes "HISTORY") (rows_of (found_of values.now)) ≡ Some result.history.now }
     ensures from { first_of (codes "from") (rows_of (found_of values.now)) ≡ option_map (λ from. from.now) result.from }
     ensures why { result.why ≡ is_on (first_of (codes "why") (rows_of (found_of values.now))) }
+    ensures at { IsNumberOrNone 0 1000000 (first_of (codes "at") (rows_of (found_of values.now))) result.at }
 {
     let paths = paths_of(values, "HISTORY");
     let why = values.get_flag("why");
+    let at = values.get_one::<u32>("at");
     VerifyWords {
         topology: paths.topology,
         history: paths.input,
         from: paths.from,
         why,
+        at,
     }
 }
 

@@ -132,7 +132,7 @@ fn words_are_read(rt: HostRuntime) {
     let words = ["reset-service", "replay", "a", "b"];
     let job = again!(&rt; read_words(rt.alloc(), &words), LineFault::NoMemory, true);
     match job {
-        Ok(Job::Replay(paths)) => assert!(rt; paths.topology == "a" && paths.input == "b"),
+        Ok(Job::Replay(words)) => assert!(rt; words.topology == "a" && words.script == "b"),
         _ => panic!(rt; "a replay"),
     }
 }

@@ -3,6 +3,7 @@ pub mod Picturing
 pub mod TableRuns
 pub mod Verifying
 pub mod Reasoning
+pub mod Asking
 pub mod ReadModuli
 pub mod VerifiedReports
 pub mod Threading

@@ -1,6 +1,8 @@
 pub mod Counts
 pub mod Verified
 pub mod Reasons
+pub mod Asked
+pub mod Marked
 pub mod Drove
 pub mod Threaded
 pub mod Pictured

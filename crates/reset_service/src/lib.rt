@@ -7,12 +7,14 @@
 //! Scripts are replayed by the crate `script_replay`, and the command line is read by `command_words`.
 #![tactic(auto)]
 
+mod asked;
 mod counts;
 mod driven;
 mod explained;
 mod explored;
 mod laws;
 mod line;
+mod marked;
 mod page;
 mod pictured;
 mod planned;
@@ -27,9 +29,10 @@ mod threaded;
 mod told;
 mod verified;
 
+pub use asked::{Question, verify_asked};
 pub use command_words::{
     DriveWords, ExploreWords, Job, LineFault, PageWords, Paths, PlanWords, RecordWords,
-    SessionWords, ShapeWords, ThreadWords, VerifyWords, read_words,
+    ReplayWords, SessionWords, ShapeWords, ThreadWords, VerifyWords, read_words,
 };
 pub use driven::{Drive, drive_from, drive_text};
 pub use explained::explain;
@@ -39,13 +42,13 @@ pub use laws::{
     one_verification, recordings_are_verified, threads_are_verified, threads_keep_a_run,
     verified_histories_tell_steps, verified_reports_are_true,
 };
+pub use marked::replay_marked;
 pub use page::{MAX_PLAYED, page_from, page_text};
 pub use pictured::{picture_from, picture_text};
 pub use planned::{plan_from, plan_text};
-pub use reasons::verify_reasoned;
 pub use recorded::record_from;
 pub use script_replay::{
-    BufferedOutput, READ_LIMIT, RunStop, Status, check_text, one_joined_output, one_output,
+    BufferedOutput, Marks, READ_LIMIT, RunStop, Status, check_text, one_joined_output, one_output,
     one_record, read_text, record_text, recordings_are_replays, replay, replay_joined, replay_text,
     scripts_are_steps, stretches_are_runs,
 };

@@ -1,163 +1,57 @@
-// The verification of a history that says why an entry isn't allowed.
+// Why an entry of a history isn't allowed where it stands.
 
-ghost use Rattle.std.specs.Prelude.{◌≡◌, ◌++◌, IfErr, IfOk, None, OnErr, OnOk, option_map};
+ghost use Rattle.std.specs.Prelude.{◌≡◌, ◌++◌, if◌then◌else◌, IfErr, IfOk, None, OnErr, OnOk, map};
 ghost use Rattle.std.specs.Io.KnownBytes.{Appends};
 ghost use Rattle.std.specs.List.{flat_map};
+ghost use Rattle.action_tables.specs.RowText.{as_printed};
 ghost use Rattle.action_tables.specs.Written.{AppendsPrefix};
-ghost use Rattle.topology.specs.TopologyText.{IsReadFault};
+ghost use Rattle.tree_layer.specs.TreeTable.{LocalView as TreeView};
+ghost use Rattle.wave_layer.specs.WaveTable.{LocalView as WaveView};
+ghost use Rattle.reset_model.specs.Planned.{outcome_of};
+ghost use Rattle.reset_model.specs.Steps.{is_of_tree};
+ghost use Rattle.reset_model.specs.declared.plan.Seen.TheVariants.{Tree, Wave};
+ghost use Rattle.reset_model.specs.declared.step.StepRefusal.TheVariants.{NotEnabled};
 ghost use Rattle.history.specs.Entries.{entered};
+ghost use Rattle.history.specs.declared.entry.Entry.TheVariants.{Step};
 ghost use Rattle.script_replay.specs.Meaning.{meaning_of};
-ghost use Rattle.script_replay.specs.Output.{Leaves};
+ghost use Rattle.script_replay.specs.Output.{refusal_text};
 ghost use Rattle.script_replay.specs.Stops.{IsOutputStop};
-ghost use Rattle.reset_service.specs.Explorations.{IsOpenedFrom, IsOpenedOf, IsOpenedText};
-ghost use Rattle.reset_service.specs.Reasons.{IsReasoned, Reasons, answer_text, command_of, entry_text, line_there};
-ghost use Rattle.reset_service.specs.Reasons.{nodes_near, reason_text};
-ghost use Rattle.reset_service.specs.Verified.{LeavesOfReader, not_enabled_text, verified_text};
+ghost use Rattle.reset_service.specs.Asked.{asked_reason};
+ghost use Rattle.reset_service.specs.Reasons.{entry_text, guard_line, guards_of, line_there, near_text, nodes_near};
+ghost use Rattle.reset_service.specs.Reasons.{reason_text, refusal_lines, refused_text};
 
-use crate::started::{open_network, refuse_start};
-use crate::verified::{answer_summary, put_not_enabled, refuse_history, refuse_modulus};
-use action_tables::{WriteFault, put_bytes};
-use app_interface::{Application, Idle};
-use app_mutex::EdgeReversal;
-use app_routes::Routes;
-use app_token::Token;
-use history::{BookFault, Entry, JudgeFault, Refused, Resumed, judge_reader, put_entry};
+use action_tables::{CaseRow, Part, WriteFault, put_bytes, put_parts};
+use app_interface::Application;
+use history::{Entry, put_entry};
 use history_page::{add_neighbours, entry_node};
-use reset_machine::Config;
-use script_replay::{
-    Command, Network, RunStop, Status, answer_command, read_network, refuse_topology, show_node,
-};
+use reset_machine::{Config, Event, StepRefusal};
+use script_replay::{Command, RunStop, answer_command, put_refusal, show_node};
 use std::alloc::{AllocError, Global};
-use std::io::{Read, Write};
-use topology::{AppName, ReadFault, Topology};
+use std::io::Write;
+use topology::Topology;
+use tree_layer::tree_rows;
+use wave_layer::wave_rows;
 
-/// Verifies a history as `verify_text` or, where a snapshot is given, `verify_from` does, and where an entry isn't allowed
-/// where it stands, writes why: the entry, what a script would answer to its command there, and the lines of its node and
-/// of the neighbours.
-pub fn verify_reasoned<R: Read, W: Write>(
+// Writes why an entry isn't allowed here, where that is asked.
+pub fn put_asked_reason<P: Application, W: Write>(
     alloc: Global,
-    topology: &[u8],
-    snapshot: Option<&[u8]>,
-    history: &mut R,
+    why: bool,
+    config: &mut Config<P>,
+    entry: Entry,
     out: &mut W,
-) -> Result<Status, RunStop>
-    ensures leaves { LeavesOfReader (R.remaining history.old)
-        (λ text. IsOpenedText (Reasons text) topology.now (option_map (λ s. s.now) snapshot.entry))
-        (W.contents out.old) (W.contents out.new) result }
-    ensures untouched { (f : ReadFault) → IsReadFault topology.now f → history.new ≡ history.old }
+) -> Result<(), RunStop>
+    requires { entered P.app P.from_text config.old entry ≡ None }
+    ensures ok { OnOk result (Appends (W.contents out.old) (W.contents out.new)
+        (asked_reason why (meaning_of P.app P.text P.from_text P.names) config.old entry)) }
+    ensures err { OnErr result (AppendsPrefix (W.contents out.old) (W.contents out.new)
+        (asked_reason why (meaning_of P.app P.text P.from_text P.names) config.old entry)) }
+    ensures stop { IfErr result IsOutputStop }
 {
-    match read_network(alloc, topology) {
-        Ok(network) => judge_app(alloc, network, snapshot, history, out),
-        Err(fault) => refuse_topology(fault, out),
+    if why {
+        return put_reason(alloc, config, entry, out);
     }
-}
-
-// Judges a history on a network, with the application that it names.
-fn judge_app<R: Read, W: Write>(
-    alloc: Global,
-    network: Network,
-    snapshot: Option<&[u8]>,
-    history: &mut R,
-    out: &mut W,
-) -> Result<Status, RunStop>
-    requires { network.topology.nodes ≡ network.topology.ids }
-    ensures leaves { LeavesOfReader (R.remaining history.old)
-        (λ text. IsOpenedOf (Reasons text) network.app network.topology network.modulus
-        (option_map (λ s. s.now) snapshot.entry))
-        (W.contents out.old) (W.contents out.new) result }
-{
-    match network.app {
-        AppName::Idle => judge_opened::<Idle, R, W>(alloc, network, snapshot, history, out),
-        AppName::Token => judge_opened::<Token, R, W>(alloc, network, snapshot, history, out),
-        AppName::Mutex => {
-            judge_opened::<EdgeReversal, R, W>(alloc, network, snapshot, history, out)
-        }
-        AppName::Routes => judge_opened::<Routes, R, W>(alloc, network, snapshot, history, out),
-    }
-}
-
-fn judge_opened<P: Application, R: Read, W: Write>(
-    alloc: Global,
-    network: Network,
-    snapshot: Option<&[u8]>,
-    history: &mut R,
-    out: &mut W,
-) -> Result<Status, RunStop>
-    requires { network.topology.nodes ≡ network.topology.ids }
-    ensures leaves { LeavesOfReader (R.remaining history.old)
-        (λ text. IsOpenedFrom (meaning_of P.app P.text P.from_text P.names) network.topology network.modulus
-        (option_map (λ s. s.now) snapshot.entry)
-        (Reasons text P.Local (meaning_of P.app P.text P.from_text P.names)))
-        (W.contents out.old) (W.contents out.new) result }
-{
-    match open_network::<P>(alloc, network, snapshot) {
-        Ok(opening) => judge_from(alloc, opening, history, out),
-        Err(fault) => refuse_start(fault, out),
-    }
-}
-
-// Judges a history from this configuration on.
-fn judge_from<P: Application, R: Read, W: Write>(
-    alloc: Global,
-    opening: Config<P>,
-    history: &mut R,
-    out: &mut W,
-) -> Result<Status, RunStop>
-    ensures leaves { LeavesOfReader (R.remaining history.old)
-        (IsReasoned (meaning_of P.app P.text P.from_text P.names) opening) (W.contents out.old) (W.contents out.new) result }
-{
-    match judge_reader(alloc, opening, history) {
-        Ok(resumed) => answer_resumed(resumed, out),
-        Err(JudgeFault::Text(BookFault::NoMemory)) => Err(RunStop::NoMemory),
-        Err(JudgeFault::Text(BookFault::ReadFailed)) => Err(RunStop::ReadFailed),
-        Err(JudgeFault::Text(fault)) => refuse_history(fault, out),
-        Err(JudgeFault::OtherModulus(modulus)) => refuse_modulus(modulus, out),
-        Err(JudgeFault::Refused(refused)) => answer_refused(alloc, refused, out),
-        Err(JudgeFault::NoMemory) => Err(RunStop::NoMemory),
-    }
-}
-
-// Answers a history by what it comes to.
-fn answer_resumed<P: Application, W: Write>(
-    resumed: Resumed<P>,
-    out: &mut W,
-) -> Result<Status, RunStop>
-    ensures leaves { Leaves
-        (λ output. output ≡ (verified_text resumed.summary.entries resumed.summary.reports.items, Status.Good))
-        (W.contents out.old) (W.contents out.new) result }
-{
-    let Resumed { config, summary } = resumed;
-    drop(config);
-    answer_summary(&summary, out)
-}
-
-// Answers a history by its first entry that isn't allowed where it stands, and why it isn't.
-fn answer_refused<P: Application, W: Write>(
-    alloc: Global,
-    refused: Refused<P>,
-    out: &mut W,
-) -> Result<Status, RunStop>
-    requires { entered P.app P.from_text refused.config refused.entry ≡ None }
-    ensures leaves { Leaves
-        (λ output. output ≡ (
-          not_enabled_text refused.position
-              ++ reason_text (meaning_of P.app P.text P.from_text P.names) refused.config refused.entry,
-          Status.NotEnabled,
-        ))
-        (W.contents out.old) (W.contents out.new) result }
-{
-    let Refused {
-        position,
-        entry,
-        mut config,
-    } = refused;
-    put_not_enabled(out, position)?;
-    let written = put_reason(alloc, &mut config, entry, out);
-    drop(config);
-    match written {
-        Ok(()) => Ok(Status::NotEnabled),
-        Err(stop) => Err(stop),
-    }
+    drop(entry);
+    Ok(())
 }
 
 // Writes why an entry isn't allowed here.
@@ -176,7 +70,9 @@ fn put_reason<P: Application, W: Write>(
 {
     let ids = nodes_near(alloc, config.topology(), &entry)?;
     put_entry_text(out, &entry)?;
-    put_answer(alloc, config, entry, &ids, out)
+    put_refusal_lines(alloc, config, entry, out)?;
+    put_nodes(config, &ids, out)?;
+    Ok(())
 }
 
 // The node of an entry, and its neighbours.
@@ -198,35 +94,125 @@ fn put_entry_text<W: Write>(out: &mut W, entry: &Entry) -> Result<(), WriteFault
     put_entry(out, entry)
 }
 
-// Writes what a script answers to the command of an entry that isn't allowed, and the lines of these nodes.
-fn put_answer<P: Application, W: Write>(
+// Writes what a script answers to the command of an entry that isn't allowed, and what the rows of its event ask for.
+fn put_refusal_lines<P: Application, W: Write>(
     alloc: Global,
     config: &mut Config<P>,
     entry: Entry,
-    ids: &[u32],
     out: &mut W,
 ) -> Result<(), RunStop>
-    requires refused { entered P.app P.from_text config.old entry ≡ None }
-    requires near { ids.now ≡ nodes_near config.old.graph entry }
+    requires { entered P.app P.from_text config.old entry ≡ None }
+    ensures same { OnOk result (config.new ≡ config.old) }
     ensures ok { OnOk result (Appends (W.contents out.old) (W.contents out.new)
-        (answer_text (meaning_of P.app P.text P.from_text P.names) config.old entry)) }
+        (refusal_lines (meaning_of P.app P.text P.from_text P.names) config.old entry)) }
     ensures err { OnErr result (AppendsPrefix (W.contents out.old) (W.contents out.new)
-        (answer_text (meaning_of P.app P.text P.from_text P.names) config.old entry)) }
+        (refusal_lines (meaning_of P.app P.text P.from_text P.names) config.old entry)) }
     ensures stop { IfErr result IsOutputStop }
 {
-    answer_command(alloc, config, command_of(entry), out)?;
-    put_nodes(config, ids, out)?;
+    match entry {
+        Entry::Step(event) => put_refused(alloc, config, event, out),
+        Entry::Disturbed(fault) => answer_command(alloc, config, Command::Inject(fault), out),
+    }
+}
+
+// Writes the refusal of an event that isn't allowed and, where none of its rows is enabled, what they ask for.
+fn put_refused<P: Application, W: Write>(
+    alloc: Global,
+    config: &mut Config<P>,
+    event: Event,
+    out: &mut W,
+) -> Result<(), RunStop>
+    requires { entered P.app P.from_text config.old (Step event) ≡ None }
+    ensures same { OnOk result (config.new ≡ config.old) }
+    ensures ok { OnOk result (Appends (W.contents out.old) (W.contents out.new)
+        (refused_text config.old event (outcome_of P.app config.old event))) }
+    ensures err { OnErr result (AppendsPrefix (W.contents out.old) (W.contents out.new)
+        (refused_text config.old event (outcome_of P.app config.old event))) }
+    ensures stop { IfErr result IsOutputStop }
+{
+    match config.step(alloc, event) {
+        Err(StepRefusal::NoMemory) => Err(RunStop::NoMemory),
+        Err(StepRefusal::NotEnabled) => Ok(put_not_met(event, out)?),
+        Err(refusal) => Ok(put_refusal(out, refusal)?),
+        // Never: it isn't allowed.
+        Ok(_) => Ok(()),
+    }
+}
+
+// Writes that no row of an event is enabled, and what they ask for.
+fn put_not_met<W: Write>(event: Event, out: &mut W) -> Result<(), WriteFault>
+    ensures ok { OnOk result ((v : TreeView) (w : WaveView) → Appends (W.contents out.old) (W.contents out.new)
+        (refusal_text NotEnabled ++ guards_of (if is_of_tree event then Tree v else Wave w) event)) }
+    ensures err { OnErr result ((v : TreeView) (w : WaveView) → AppendsPrefix (W.contents out.old) (W.contents out.new)
+        (refusal_text NotEnabled ++ guards_of (if is_of_tree event then Tree v else Wave w) event)) }
+{
+    put_refusal(out, StepRefusal::NotEnabled)?;
+    put_guards(event, out)
+}
+
+// Writes what the rows of an event ask for: a row prints the same wherever it stands.
+fn put_guards<W: Write>(event: Event, out: &mut W) -> Result<(), WriteFault>
+    ensures ok { OnOk result ((v : TreeView) (w : WaveView) → Appends (W.contents out.old) (W.contents out.new)
+        (guards_of (if is_of_tree event then Tree v else Wave w) event)) }
+    ensures err { OnErr result ((v : TreeView) (w : WaveView) → AppendsPrefix (W.contents out.old) (W.contents out.new)
+        (guards_of (if is_of_tree event then Tree v else Wave w) event)) }
+{
+    if is_of_tree(event) {
+        put_guards_among(&tree_rows(), event.cases(), out)
+    } else {
+        put_guards_among(&wave_rows(), event.cases(), out)
+    }
+}
+
+// Whether an event's rows are those of the tree.
+fn is_of_tree(event: Event) -> bool
+    ensures { result ≡ is_of_tree event }
+{
+    matches!(
+        event,
+        Event::Claim { .. } | Event::Follow { .. } | Event::Adopt { .. }
+    )
+}
+
+// Writes what those of the rows ask for that have one of the numbers.
+fn put_guards_among<W: Write>(
+    rows: &[CaseRow<'_>],
+    numbers: &[u8],
+    out: &mut W,
+) -> Result<(), WriteFault>
+    ensures ok { OnOk result (Appends (W.contents out.old) (W.contents out.new)
+        (flat_map (guard_line numbers.now) (map as_printed rows.now))) }
+    ensures err { OnErr result (AppendsPrefix (W.contents out.old) (W.contents out.new)
+        (flat_map (guard_line numbers.now) (map as_printed rows.now))) }
+{
+    for row in rows {
+        put_guard(row, numbers, out)?;
+    }
     Ok(())
 }
 
-// The command of a script that makes an entry happen.
-fn command_of(entry: Entry) -> Command
-    ensures { result ≡ command_of entry }
+// Writes what a row asks for, if it has one of the numbers.
+#[tactic(auto, unfolding(crate::specs::Reasons::guard_line))]
+fn put_guard<W: Write>(row: &CaseRow<'_>, numbers: &[u8], out: &mut W) -> Result<(), WriteFault>
+    ensures ok { OnOk result (Appends (W.contents out.old) (W.contents out.new) (guard_line numbers.now (as_printed row.now))) }
+    ensures err { OnErr result
+        (AppendsPrefix (W.contents out.old) (W.contents out.new) (guard_line numbers.now (as_printed row.now))) }
 {
-    match entry {
-        Entry::Step(event) => Command::Step(event),
-        Entry::Disturbed(fault) => Command::Inject(fault),
+    if !numbers.contains(&row.number) {
+        return Ok(());
     }
+    put_parts(
+        out,
+        &[
+            Part::Text(b"row "),
+            Part::Number(u64::from(row.number)),
+            Part::Text(b" "),
+            Part::Text(row.name.as_bytes()),
+            Part::Text(b": "),
+            Part::Text(row.guard.as_bytes()),
+            Part::Text(b"\n"),
+        ],
+    )
 }
 
 // Writes the lines of those of these nodes that are up.

@@ -13,6 +13,7 @@ mod places;
 mod progress;
 mod status;
 mod streams;
+mod verbose;
 
 use crate::files::{open_file, read_file, read_snapshot};
 use crate::history_file::create_history;
@@ -21,14 +22,15 @@ use crate::places::{history_fault, refuse_history};
 use crate::progress::{BelowLine, ProgressLine};
 use crate::status::exit_code;
 use crate::streams::Streams;
+use crate::verbose::{is_set, say_why, says_always, without_verbose};
 use action_tables::put_bytes;
 use reset_service::{
-    BufferedOutput, Drive, DriveWords, ExploreWords, Exploring, Job, LineFault, PageWords, Paths,
-    PlanWords, RecordWords, RunStop, ShapeWords, Status, ThreadWords, VerifyWords, check_from,
-    check_text, drive_from, drive_text, explain, explore_history, explore_text, page_from,
-    page_text, picture_from, picture_text, plan_from, plan_text, print_tables, read_words,
-    record_from, record_text, replay, replay_from, replay_joined, threads_from, threads_text,
-    verify_from, verify_reasoned, verify_text, write_shape,
+    BufferedOutput, Drive, DriveWords, ExploreWords, Exploring, Job, LineFault, Marks, PageWords,
+    Paths, PlanWords, Question, RecordWords, ReplayWords, RunStop, ShapeWords, Status, ThreadWords,
+    VerifyWords, check_from, check_text, drive_from, drive_text, explain, explore_history,
+    explore_text, page_from, page_text, picture_from, picture_text, plan_from, plan_text,
+    print_tables, read_words, record_from, record_text, replay, replay_from, replay_joined,
+    replay_marked, threads_from, threads_text, verify_asked, verify_from, verify_text, write_shape,
 };
 use std::env::Env;
 use std::io::{IsTerminal, Read, Write};
@@ -52,22 +54,30 @@ fn main(rt: HostRuntime) -> ExitCode {
         input: rt.stdin(),
         errors: rt.stderr(),
     };
-    let ended = run(&rt, streams);
+    let mut said = Vec::new(rt.alloc());
+    let ended = run(&rt, streams, &mut said);
     if let Err(stop) = ended {
         let _ = eprintln!(rt; "{stop}");
     }
+    let mut errors = streams.errors;
+    let _ = put_bytes(&mut errors, &said);
     exit_code(ended)
 }
 
-// Threads can be had only of the runtime that `main` is given, so what is called of it is said here.
+// Threads can be had only of the runtime that `main` is given, so what is called of it is said here. What is to be said
+// of the files of the run, after how it ended, is written to `said`.
 fn run<R: Clock + Env + Files + Input + Print + Eprint + AllocGlobal + Threads + Wait + Sync>(
     rt: &R,
     streams: Streams,
+    said: &mut Vec<u8>,
 ) -> Result<Status, RunStop> {
-    let Some(mut words) = given_words(rt)? else {
+    let Some(words) = given_words(rt)? else {
         let _ = eprint!(rt; "{NOT_TEXT}");
         return Ok(Status::BadInput);
     };
+    let given = without_verbose(rt.alloc(), words)?;
+    let is_verbose = given.is_verbose || is_set(rt)?;
+    let mut words = given.words;
     // Nobody types a topology and a script in one piece.
     if words.len() == 1 && streams.input.is_terminal() {
         let short_help = String::from_str(rt.alloc(), "-h")?;
@@ -76,7 +86,13 @@ fn run<R: Clock + Env + Files + Input + Print + Eprint + AllocGlobal + Threads +
         }
     }
     match read_words(rt.alloc(), words.as_slice()) {
-        Ok(job) => do_job(rt, streams, job),
+        Ok(job) => {
+            let ended = do_job(rt, streams, job);
+            if is_verbose || says_always(job) {
+                return say_why(rt, streams, job, ended, said);
+            }
+            ended
+        }
         Err(fault) => answer_fault(rt, fault),
     }
 }
@@ -149,7 +165,7 @@ fn job_output<R: Files + Input + Eprint + AllocGlobal + Threads + Wait + Sync, W
 ) -> Result<Status, RunStop> {
     match job {
         Job::Joined => replay_joined(rt.alloc(), &mut rt.reader(), out),
-        Job::Replay(paths) => run_replay(rt, paths, out),
+        Job::Replay(words) => run_replay(rt, words, out),
         Job::Check(paths) => run_check(rt, paths, out),
         Job::Plan(words) => run_plan(rt, words, out),
         Job::Explore(words) => run_explore(rt, words, out),
@@ -168,12 +184,20 @@ fn job_output<R: Files + Input + Eprint + AllocGlobal + Threads + Wait + Sync, W
 
 fn run_replay<R: Files + AllocGlobal, W: Write>(
     rt: &R,
-    paths: Paths<'_>,
+    words: ReplayWords<'_>,
     out: &mut W,
 ) -> Result<Status, RunStop> {
-    let topology = read_file(rt, paths.topology)?;
-    let snapshot = read_snapshot(rt, paths.from)?;
-    let mut script = open_file(rt, paths.input)?;
+    let topology = read_file(rt, words.topology)?;
+    let snapshot = read_snapshot(rt, words.from)?;
+    let mut script = open_file(rt, words.script)?;
+    if words.number || words.strict {
+        let marks = Marks {
+            number: words.number,
+            strict: words.strict,
+        };
+        let snapshot = snapshot.as_deref();
+        return replay_marked(rt.alloc(), &topology, snapshot, &mut script, marks, out);
+    }
     match snapshot {
         None => replay(rt.alloc(), &topology, &mut script, out),
         Some(snapshot) => replay_from(rt.alloc(), &topology, &snapshot, &mut script, out),
@@ -278,9 +302,13 @@ fn run_verify<R: Files + AllocGlobal, W: Write>(
     let topology = read_file(rt, words.topology)?;
     let snapshot = read_snapshot(rt, words.from)?;
     let mut history = open_file(rt, words.history)?;
-    if words.why {
+    if words.why || words.at.is_some() {
         let snapshot = snapshot.as_deref();
-        return verify_reasoned(rt.alloc(), &topology, snapshot, &mut history, out);
+        let question = Question {
+            why: words.why,
+            at: words.at,
+        };
+        return verify_asked(rt.alloc(), &topology, snapshot, &mut history, question, out);
     }
     match snapshot {
         None => verify_text(rt.alloc(), &topology, &mut history, out),

@@ -6,9 +6,9 @@ use Rattle.script_replay.specs.declared.status.RunStop.TheVariants.{WriteFailed}
 use Rattle.script_replay.specs.declared.status.Status.{Status}
 use Rattle.script_replay.specs.declared.status.Status.TheVariants.{NotEnabled}
 use Rattle.script_replay.proofs.Runs.{leaves_stop}
-use Rattle.reset_service.specs.Reasons.{reason_text}
+use Rattle.reset_service.specs.Asked.{asked_reason}
 use Rattle.reset_service.specs.Verified.{not_enabled_text}
-use Rattle.reset_service.proofs.reasons.answer_refused.Goals as goal
+use Rattle.reset_service.proofs.asked.answer_refused.Goals as goal
 
 pub returns-in_err-put_not_enabled : goal.returns-in_err-put_not_enabled
 returns-in_err-put_not_enabled g c =
@@ -18,9 +18,9 @@ returns-in_err-put_not_enabled g c =
     let failed : residual.result ≡ Err WriteFailed = search (rules, residual.ensures) in
     record {
       leaves = rw failed (
-        (not_enabled_text r.position ++ reason_text m r.config r.entry, NotEnabled),
+        (not_enabled_text r.position ++ asked_reason c.args.why m r.config r.entry, NotEnabled),
         refl,
-        AppendsPrefix-first _ _ (not_enabled_text r.position) (reason_text m r.config r.entry)
+        AppendsPrefix-first _ _ (not_enabled_text r.position) (asked_reason c.args.why m r.config r.entry)
             c.in_err-put_not_enabled.ensures.err,
       );
     }
@@ -30,7 +30,7 @@ returns-in-Ok g c =
     let m = meaning_of g.P.Application.app g.P.Application.text g.P.Application.from_text g.P.Application.names in
     let r = c.args.refused in
     let place = not_enabled_text r.position in
-    let reason = reason_text m r.config r.entry in
+    let reason = asked_reason c.args.why m r.config r.entry in
     record {
       leaves = (
         place ++ reason,
@@ -44,7 +44,7 @@ returns-in-Err g c =
     let m = meaning_of g.P.Application.app g.P.Application.text g.P.Application.from_text g.P.Application.names in
     let r = c.args.refused in
     let place = not_enabled_text r.position in
-    let reason = reason_text m r.config r.entry in
+    let reason = asked_reason c.args.why m r.config r.entry in
     let all : List ℕ × Status = (place ++ reason, NotEnabled) in
     record {
       leaves = leaves_stop (λ o. o ≡ all) _ _ c.in-Err.stop c.in-Err.ensures.stop

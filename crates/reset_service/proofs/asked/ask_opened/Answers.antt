@@ -2,13 +2,13 @@ use Rattle.std.proofs.Common.{◌≡◌, ◌≢◌}
 use Rattle.std.specs.Prelude.{option_map}
 use Rattle.script_replay.specs.Meaning.{meaning_of}
 use Rattle.script_replay.specs.declared.status.Status.TheVariants.{BadInput}
+use Rattle.reset_service.specs.Asked.{AnswersTo}
 use Rattle.reset_service.specs.Explorations.{IsOpenedFrom}
 use Rattle.reset_service.specs.Explorations.IsOpenedFrom.{bad_snapshot, opened}
-use Rattle.reset_service.specs.Reasons.{Reasons}
 use Rattle.reset_service.specs.Started.{start_fault_text}
 use Rattle.reset_service.specs.declared.started.StartFault.TheVariants.{NoMemory}
 use Rattle.reset_service.proofs.Verifying.{read_anyway, read_weaker}
-use Rattle.reset_service.proofs.reasons.judge_opened.Goals as goal
+use Rattle.reset_service.proofs.asked.ask_opened.Goals as goal
 
 pub returns-in-Ok : goal.returns-in-Ok
 returns-in-Ok g c =
@@ -16,9 +16,9 @@ returns-in-Ok g c =
     let here =
     IsOpenedFrom m c.args.network.topology c.args.network.modulus (option_map (λ s. s.now) c.args.snapshot) in
     record {
-      leaves = read_weaker (g.R.Read.remaining c.args.history.now) (λ text. here (Reasons text _ m))
-          (λ text. Reasons text _ m c.in-Ok.opening) _ _ c.judge_from.result
-          (λ text o is. opened c.in-Ok.opening c.in-Ok.ensures.ok is) c.judge_from.ensures.leaves;
+      leaves = read_weaker (g.R.Read.remaining c.args.history.now) (λ text. here (AnswersTo c.args.question text _ m))
+          (λ text. AnswersTo c.args.question text _ m c.in-Ok.opening) _ _ c.ask_from.result
+          (λ text o is. opened c.in-Ok.opening c.in-Ok.ensures.ok is) c.ask_from.ensures.leaves;
     }
 
 pub returns-in-Err : goal.returns-in-Err
@@ -27,7 +27,7 @@ returns-in-Err g c =
     let here =
     IsOpenedFrom m c.args.network.topology c.args.network.modulus (option_map (λ s. s.now) c.args.snapshot) in
     record {
-      leaves = read_anyway (g.R.Read.remaining c.args.history.now) (λ text. here (Reasons text _ m))
+      leaves = read_anyway (g.R.Read.remaining c.args.history.now) (λ text. here (AnswersTo c.args.question text _ m))
           (λ o. (c.in-Err.fault ≢ NoMemory) × (o ≡ (start_fault_text c.in-Err.fault, BadInput))) _ _ c.refuse_start.result
           (λ text o is. bad_snapshot c.in-Err.fault (c.in-Err.ensures.err is.0) is.1) c.refuse_start.ensures.leaves;
     }

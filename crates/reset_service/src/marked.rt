@@ -1,0 +1,96 @@
+// Replays that mark their answers.
+
+ghost use Rattle.std.specs.Prelude.{◌≡◌, ℕ, List, option_map, IfErr, OnOk};
+ghost use Rattle.topology.specs.TopologyText.{IsReadFault};
+ghost use Rattle.script_replay.specs.Lines.{GaveText, IsReadFrom};
+ghost use Rattle.script_replay.specs.Marked.{marked_output};
+ghost use Rattle.script_replay.specs.Meaning.{meaning_of};
+ghost use Rattle.script_replay.specs.Output.{Leaves};
+ghost use Rattle.script_replay.specs.Stops.{IsOutputStop};
+ghost use Rattle.reset_service.specs.Explorations.{IsOpenedFrom, IsOpenedOf, IsOpenedText};
+ghost use Rattle.reset_service.specs.Marked.{MarkedReplay};
+
+use crate::started::{open_network, refuse_start};
+use app_interface::{Application, Idle};
+use app_mutex::EdgeReversal;
+use app_routes::Routes;
+use app_token::Token;
+use script_replay::{
+    Marks, Network, RunStop, Status, read_network, read_text, refuse_topology, run_marked,
+};
+use std::alloc::Global;
+use std::io::{Read, Write};
+use topology::{AppName, ReadFault};
+
+/// Replays the script of a reader as `replay` or, where a snapshot is given, `replay_from` does, with marks: the number of its
+/// line before each answer, or an end at the first refusal, which is `Status::NotEnabled`.
+pub fn replay_marked<R: Read, W: Write>(
+    alloc: Global,
+    topology: &[u8],
+    snapshot: Option<&[u8]>,
+    script: &mut R,
+    marks: Marks,
+    out: &mut W,
+) -> Result<Status, RunStop>
+    ensures leaves { (text : List ℕ) × IsReadFrom (R.remaining script.old) text
+        × Leaves (IsOpenedText (MarkedReplay marks text) topology.now (option_map (λ s. s.now) snapshot.entry))
+        (W.contents out.old) (W.contents out.new) result }
+    ensures taken { OnOk result (GaveText (R.remaining script.old) (R.remaining script.new)) }
+    ensures untouched { (f : ReadFault) → IsReadFault topology.now f → script.new ≡ script.old }
+{
+    match read_network(alloc, topology) {
+        Ok(network) => match read_text(alloc, script) {
+            Ok(text) => replay_app(alloc, network, snapshot, &text, marks, out),
+            Err(stop) => Err(stop),
+        },
+        Err(fault) => refuse_topology(fault, out),
+    }
+}
+
+// Replays a script on a network, with the application that it names.
+fn replay_app<W: Write>(
+    alloc: Global,
+    network: Network,
+    snapshot: Option<&[u8]>,
+    script: &[u8],
+    marks: Marks,
+    out: &mut W,
+) -> Result<Status, RunStop>
+    requires { network.topology.nodes ≡ network.topology.ids }
+    ensures leaves { Leaves
+        (IsOpenedOf (MarkedReplay marks script.now) network.app network.topology network.modulus
+        (option_map (λ s. s.now) snapshot.entry))
+        (W.contents out.old) (W.contents out.new) result }
+    ensures stop { IfErr result IsOutputStop }
+{
+    match network.app {
+        AppName::Idle => replay_opened::<Idle, W>(alloc, network, snapshot, script, marks, out),
+        AppName::Token => replay_opened::<Token, W>(alloc, network, snapshot, script, marks, out),
+        AppName::Mutex => {
+            replay_opened::<EdgeReversal, W>(alloc, network, snapshot, script, marks, out)
+        }
+        AppName::Routes => replay_opened::<Routes, W>(alloc, network, snapshot, script, marks, out),
+    }
+}
+
+fn replay_opened<P: Application, W: Write>(
+    alloc: Global,
+    network: Network,
+    snapshot: Option<&[u8]>,
+    script: &[u8],
+    marks: Marks,
+    out: &mut W,
+) -> Result<Status, RunStop>
+    requires { network.topology.nodes ≡ network.topology.ids }
+    ensures leaves { Leaves
+        (IsOpenedFrom (meaning_of P.app P.text P.from_text P.names) network.topology network.modulus
+        (option_map (λ s. s.now) snapshot.entry)
+        (MarkedReplay marks script.now P.Local (meaning_of P.app P.text P.from_text P.names)))
+        (W.contents out.old) (W.contents out.new) result }
+    ensures stop { IfErr result IsOutputStop }
+{
+    match open_network::<P>(alloc, network, snapshot) {
+        Ok(mut config) => run_marked(alloc, &mut config, script, marks, out),
+        Err(fault) => refuse_start(fault, out),
+    }
+}
