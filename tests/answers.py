@@ -6,6 +6,8 @@ is told apart where that is easy (`\\e` and `\\xHH`); where it isn't, and where 
 `Unsure` is raised, and the text is nobody's test.
 """
 import datetime
+import functools
+import os
 import re
 import tomllib
 
@@ -19,6 +21,12 @@ MOST_ENTRIES = 1_000_000
 DEEPEST = 80
 KEYS = ("nodes", "links", "app")
 MODULUS = "modulus"  # the key that may be left out
+FORMATS = os.path.join(os.path.dirname(os.path.abspath(__file__)), "../docs/formats.md")
+EVENT_ROWS = {  # the table of each event, and the first and the last of its rows
+    "claim": ("tree", 1, 4), "follow": ("tree", 5, 6), "adopt": ("tree", 7, 8), "request": ("wave", 1, 1),
+    "relay": ("wave", 2, 2), "open": ("wave", 3, 3), "join": ("wave", 4, 5), "finish": ("wave", 6, 7),
+    "mend": ("wave", 8, 11),
+}
 
 
 class Unsure(Exception):
@@ -225,18 +233,27 @@ def entry_of_line(line, version=WRITTEN):
 
 # ---- scripts
 
-def run_script(network, script):
-    """What a script writes, a list of lines, and whether its last one is a bad line."""
-    told = []
+def answers_to(network, script):
+    """Of each line of a script that has an answer, up to the first bad one, its number and the lines of the answer."""
     lines = script.split(b"\n")
     for n, line in enumerate(lines[:-1] if lines[-1] == b"" else lines, 1):
         if line == b"" or line[0] == ord("#") and len(line) <= LONGEST:
             continue
         words = words_of_line(line)
         if words is None:
-            return [*told, f"bad line {n}"], True
-        told += network.answer(words)
-    return told, False
+            yield n, [f"bad line {n}"]
+            return
+        yield n, network.answer(words)
+
+
+def is_bad_line(answer):
+    return answer[-1:] != [] and answer[-1].startswith("bad line ")
+
+
+def run_script(network, script):
+    """What a script writes, a list of lines, and whether its last one is a bad line."""
+    told = [line for _, answer in answers_to(network, script) for line in answer]
+    return told, is_bad_line(told)
 
 
 def output(lines, status):
@@ -259,6 +276,29 @@ def replay(topology, script, checked=False):
 
 def check(topology, script):
     return replay(topology, script, True)
+
+
+def numbered(n, answer):
+    """The lines of an answer, with a number before the first."""
+    return [f"{n}: {answer[0]}", *answer[1:]] if answer else []
+
+
+def replay_marked(topology, script, number, strict):
+    """The answer of a replay that numbers its answers, that ends at the first refusal, or both."""
+    try:
+        network = booted(topology)
+    except Fault as fault:
+        return output([f"bad topology {fault}"], 2)
+    if len(script) > LIMIT:
+        return output(["bad script TooLong"], 2)
+    told = []
+    for n, answer in answers_to(network, script):
+        told += numbered(n, answer) if number else answer
+        if is_bad_line(answer):
+            return output(told, 2)
+        if strict and any(line.startswith("refused ") for line in answer):
+            return output(told, 1)
+    return output(told, 0)
 
 
 def joined(text):
@@ -315,23 +355,58 @@ def nodes_near(network, words):
     return [at, *network.graph[at]] if at in network.graph else []
 
 
-def verified(network, entries, why=False):
+@functools.cache
+def tables():
+    """Of each table that the documents print, what a row asks for, by its number."""
+    found, table = {}, None
+    with open(FORMATS, encoding="utf-8") as file:
+        for line in file:
+            title = re.fullmatch(r"table (\S+)", line.rstrip())
+            row = re.fullmatch(r"(\d+) (\S+) \| (.*) \| .*", line.rstrip())
+            if title:
+                table = found.setdefault(title[1], {})
+            elif row and table is not None:
+                table[int(row[1])] = f"row {row[1]} {row[2]}: {row[3]}"
+            else:
+                table = None
+    return found
+
+
+def guards(words):
+    """What the rows ask for that stand behind an event of the tree or of the wave."""
+    if words[0] not in EVENT_ROWS:
+        return []
+    table, first, last = EVENT_ROWS[words[0]]
+    return [tables()[table][number] for number in range(first, last + 1)]
+
+
+def reasons(network, words, answer):
+    """Why an entry is refused, in lines."""
+    asked = guards(words) if answer == "refused NotEnabled" else []
+    return [f"entry {' '.join(words)}", answer, *asked, *map(network.show, nodes_near(network, words))]
+
+
+def verified(network, entries, why=False, most=None):
+    """What is answered of the entries or, where `most` says how many, of the first ones."""
     opened, told = {}, []
-    for at, words in enumerate(entries, 1):
+    for at, words in enumerate(entries[:most], 1):
         answer, = network.answer(words)
         if answer.startswith("refused"):
-            reason = [f"entry {' '.join(words)}", answer, *map(network.show, nodes_near(network, words))]
-            return output([f"not enabled at {at}", *(reason if why else [])], 1)
+            return output([f"not enabled at {at}", *(reasons(network, words, answer) if why else [])], 1)
         if words[0] == "fault":
             opened.clear()
         if words[0] == "open":
             opened[words[1]] = at
         if answer.startswith("complete"):
             told.append(f"report {answer.split(' ')[1]} opened {opened.get(words[1], '-')} finished {at}")
-    return output([*told, f"verified {len(entries)} entries {len(told)} reports"], 0)
+    if most is None:
+        return output([*told, f"verified {len(entries)} entries {len(told)} reports"], 0)
+    if len(entries) < most:
+        return output([f"bad history EndsAfter {len(entries)}"], 2)
+    return output(network.ask_snapshot(), 0)
 
 
-def verify(topology, history, why=False):
+def verify(topology, history, why=False, most=None):
     try:
         network = booted(topology)
     except Fault as fault:
@@ -342,4 +417,4 @@ def verify(topology, history, why=False):
             raise Fault(f"OtherModulus {modulus}")
     except Fault as fault:
         return output([f"bad history {fault}"], 2)
-    return verified(network, entries, why)
+    return verified(network, entries, why, most)
