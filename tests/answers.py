@@ -357,7 +357,7 @@ def nodes_near(network, words):
 
 @functools.cache
 def tables():
-    """Of each table that the documents print, what a row asks for, by its number."""
+    """Of each table in the documents, the line of each row's guard, by the row's number."""
     found, table = {}, None
     with open(FORMATS, encoding="utf-8") as file:
         for line in file:
@@ -373,7 +373,7 @@ def tables():
 
 
 def guards(words):
-    """What the rows ask for that stand behind an event of the tree or of the wave."""
+    """The guards of the rows of an event of the tree or of the wave, as lines."""
     if words[0] not in EVENT_ROWS:
         return []
     table, first, last = EVENT_ROWS[words[0]]

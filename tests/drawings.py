@@ -1,4 +1,4 @@
-"""The picture of a history, told apart from the program: where docs/formats.md has bands, marks, lines of completions and
+"""An independent model of the picture of a history: where docs/formats.md has bands, marks, lines of completions and
 the nodes' numbers, from a network of model.py and its entries. What is compared is read from the SVG of the program.
 """
 import re

@@ -89,7 +89,7 @@ fn sought_name(help: &[u8], sought: Sought) -> Option<&[u8]>
     }
 }
 
-// The first word of a line of the help, but for those that only a session has.
+// The first word of a line of the help, except for those that only a session has.
 fn script_word(help: &[u8]) -> Option<&[u8]>
     ensures { IfSome result (λ word. BeginsWithName help.now word.now) }
 {
@@ -129,16 +129,16 @@ fn is_named(line: &[u8], name: &[u8]) -> bool {
     matches!(line.strip_prefix(name), Some([] | [b' ', ..]))
 }
 
-// The words that the command of a line of the help takes, which stand behind its name and before two spaces.
+// The words that the command of a line of the help takes: they follow its name, up to two spaces.
 fn takes_of<'h>(help: &'h [u8], name: &[u8]) -> &'h [u8] {
-    let behind = after_name(help, name);
-    match behind.first() {
+    let arguments = after_name(help, name);
+    match arguments.first() {
         Some(b' ') | None => b"",
-        Some(_) => before_gap(behind),
+        Some(_) => before_gap(arguments),
     }
 }
 
-// What stands before the first two spaces of a text that stand together.
+// The text up to its first two spaces in a row.
 fn before_gap(text: &[u8]) -> &[u8] {
     match text.windows(2).position(|pair| pair == b"  ".as_slice()) {
         Some(at) => text.get(..at).unwrap_or(text),

@@ -5,7 +5,7 @@ use action_tables::{cut, read_number};
 // The greatest number of a case.
 const GREATEST_CASE: u32 = 255;
 
-/// What is wrong with the words behind the name of a command.
+/// What is wrong with the arguments of a command.
 #[derive(Clone, Copy)]
 pub enum Misuse<'l> {
     /// They are others than it takes.
@@ -47,7 +47,7 @@ fn count_optional(takes: &[u8]) -> usize {
     takes.iter().filter(|byte| **byte == b'[').count()
 }
 
-// The first word of a text, and what follows the space behind it.
+// The first word of a text, and what follows the space after it.
 fn first_word(text: &[u8]) -> (&[u8], &[u8]) {
     cut(text, b' ').unwrap_or((text, b""))
 }

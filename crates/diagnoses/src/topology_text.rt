@@ -19,7 +19,7 @@ const KEYS: [&[u8]; 4] = [b"nodes", b"links", b"app", b"modulus"];
 
 const APPLICATIONS: [&[u8]; 4] = [b"idle", b"token", b"mutex", b"routes"];
 
-// The most bytes of a name that is told.
+// The most bytes of a name that is printed.
 const LONGEST_NAME: usize = 100;
 
 /// Writes what is wrong with the text of a topology, and where; returns whether it wrote.

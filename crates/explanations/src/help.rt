@@ -44,7 +44,7 @@ exit                           ends the session
 // The longest line that isn't bad for its length alone.
 const MAX_LINE: usize = 256;
 
-/// The commands of a session, a line each: what it is, and behind two spaces or more what it does.
+/// The commands of a session, a line each: the command, two spaces or more, and what it does.
 pub fn command_lines() -> &'static str
     ensures { result.now ≡ COMMANDS_HELP.now }
 {

@@ -117,7 +117,7 @@ fn gather_answer<P: Application>(
     }
 }
 
-// Writes an answer behind the number of its line, if that is asked.
+// Writes an answer, after the number of its line if the marks ask for it.
 fn put_marked<W: Write>(
     number: u64,
     text: &[u8],

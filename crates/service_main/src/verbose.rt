@@ -27,7 +27,7 @@ const NOT_AGAIN: &[u8] = b"it can't be read a second time";
 /// The words that the program was given.
 #[derive(Drop)]
 pub struct GivenWords {
-    /// Its own name, and the words behind it but for `--verbose`.
+    /// The program's name, and the words after it except `--verbose`.
     pub words: Vec<String>,
     /// Whether `--verbose` was one of these, before a word `--`.
     pub is_verbose: bool,
@@ -161,8 +161,8 @@ fn inputs_of(job: Job<'_>) -> Option<Inputs<'_>> {
     }
 }
 
-/// Writes what was wrong with the files of a job that ended so, if it was bad input or a read fault. The run ends as it
-/// did, or for want of memory, and then with nothing written.
+/// Writes what was wrong with the files of a job that ended so, if it was bad input or a read fault. The run keeps
+/// its result, unless an allocation fails here: then nothing is written, and the result is `NoMemory`.
 pub fn say_why<R: Files + AllocGlobal>(
     rt: &R,
     streams: Streams,

@@ -1,4 +1,4 @@
--- An entry leaves the wave registers of all identifiers as they are, and whether they are up, but for its own.
+-- An entry keeps the wave registers of all identifiers but its own, and whether they are up.
 use Rattle.std.proofs.Common.{◌≡◌, ◌≢◌, ℕ, Bool, true, false, cond, not, ◌&&◌, ◌||◌, ◌==◌, Contains, List, Option, Some}
 use Rattle.std.proofs.Common.{None, Result, Ok, Err, refl, ap, subst, ◌∙◌}
 use Rattle.std.proofs.lemmas.Bool.{ne_eqb}
@@ -77,7 +77,7 @@ up_up g at i other =
     ∙ ap (λ b. ((is_node g i || b) && has g.ids i) && not (is_node g i)) (ne_eqb i at other)
     ∙ joined_up (is_node g i) (has g.ids i)
 
--- who is up: whoever was, but for the node itself
+-- the nodes that are up: those that were, except the node itself
 
 joined_still : (b h : Bool) → h ≡ true → (b || false) && h ≡ b
 joined_still true true there = refl

@@ -1,4 +1,4 @@
--- What stands above the lanes.
+-- The parts above the lanes.
 use Rattle.std.specs.Prelude.{ℕ, List, [], ◌∷◌, codes}
 use Rattle.std.specs.Fmt.{decimal}
 use Rattle.std.specs.List.{concat}
@@ -95,6 +95,6 @@ legend =
     ∷ codes "<use href='#fault' x='228' y='160'/><text x='246' y='164'>fault</text>\n"
     ∷ codes "</g>\n" ∷ [])
 
--- what stands above so many lanes
+-- the parts above so many lanes
 abbrev pub head_text : ℕ → ℕ → List ℕ
 head_text lanes count = concat (first_tag lanes count ∷ style ∷ shapes ∷ legend ∷ [])

@@ -1,4 +1,4 @@
-// What stands above the lanes.
+// The parts above the lanes.
 
 ghost use Rattle.std.specs.Prelude.{◌≤◌, OnErr, OnOk};
 ghost use Rattle.std.specs.Io.KnownBytes.{Appends};
@@ -88,7 +88,7 @@ const LEGEND: &[u8] = b"\
     </g>\n\
 ";
 
-// Writes what stands above so many lanes.
+// Writes the parts above so many lanes.
 pub fn put_head<W: Write>(out: &mut W, lanes: usize, count: usize) -> Result<(), WriteFault>
     requires lanes { lanes ≤ MAX_LANES }
     requires marks { count ≤ MAX_MARKS }
