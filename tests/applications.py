@@ -32,6 +32,10 @@ class Idle:
     def start(self, i, leader):
         return ()
 
+    def wrong(self, part, states):
+        """What is wrong with the states of a component, a graph by itself, or None."""
+        return None
+
     def failing(self, i, own, j, other):
         return []
 
@@ -67,6 +71,11 @@ class Token:
     def text(self, local):
         return "/".join(["hold" if local[0] else "free", set_of(local[1]), set_of(local[2])])
 
+    def wrong(self, part, states):
+        held = sum(states[i][0] for i in part)
+        coming = sum((j in states[i][1]) != (i in states[j][2]) for i in part for j in part[i])
+        return None if held + coming == 1 else f"tokens {held + coming}"
+
     def read(self, text):
         words = text.split("/")
         if len(words) != 3 or words[0] not in ("hold", "free"):
@@ -100,6 +109,11 @@ class Mutex:
     def text(self, local):
         return f"{'in' if local[0] else 'out'}/{local[1]}"
 
+    def wrong(self, part, states):
+        lacking = [i for i in part if states[i][0]
+                   and not all(self.turn(i, states[i][1], j, states[j][1]) for j in part[i])]
+        return f"in without its turn {len(lacking)}" if lacking else None
+
     def read(self, text):
         return {"in/0": (True, 0), "in/1": (True, 1), "out/0": (False, 0), "out/1": (False, 1)}.get(text)
 
@@ -124,6 +138,20 @@ class Routes:
 
     def text(self, local):
         return ",".join(f"{d}:{h}:{n}" for d, (h, n) in sorted(local.items())) or "-"
+
+    def wrong(self, part, states):
+        lost = sum(not self.is_route(part, states, i, d, h, n) for i in part for d, (h, n) in states[i].items())
+        return f"routes without a way {lost}" if lost else None
+
+    def is_route(self, part, states, i, d, h, n):
+        """Whether a walk of h links leads from i to d, over a neighbour n that is nearer where there are some."""
+        if h > 0 and (n not in part[i] or states[n].get(d, (h,))[0] >= h):
+            return False
+        # a walk may go back and forth over a link, and 2 n links are enough for each node and each parity
+        reached = {i}
+        for _ in range(min(h, 2 * len(part) + h % 2)):
+            reached = {k for j in reached for k in part[j]}
+        return d in reached
 
     def read(self, text):
         entries = [] if text == "-" else [it.split(":") for it in text.split(",")]

@@ -362,6 +362,15 @@ class Network:
             told += [f"act {i} {case}" if j is None else f"act {i} {case} {j}" for j in near]
         return told
 
+    def verdicts(self):
+        """For each component, by ascending leader, what is wrong with the application's invariant, or None."""
+        states = {i: self.local[i] if self.joined(i) else self.start(i) for i in self.graph}
+        told = {}
+        for leader in sorted(set(self.leaders.values())):
+            part = {i: near for i, near in self.graph.items() if self.leaders[i] == leader}
+            told[leader] = self.app.wrong(part, states)
+        return told
+
     def app_row(self, i, j):
         together = self.wave[i][1] == self.wave[j][1]
         return least(self.app.failing(i, self.local[i], j, self.local[j])) if together else None

@@ -63,9 +63,13 @@ fn leads_nowhere(other: u32, theirs: &RoutesLocal, entry: &Entry) -> bool
 fn leads_no_nearer(other: u32, theirs: &RoutesLocal, entry: &Entry) -> bool
     ensures { result ≡ leads_no_nearer other theirs.now entry.now }
 {
+    // Most entries lead over other neighbours: theirs isn't searched for these.
+    if !leads_over(other, entry) {
+        return false;
+    }
     match theirs.hops_to(entry.destination) {
-        // More than `entry.hops - 1`, which a way of no hops doesn't have.
-        Some(hops) => leads_over(other, entry) && hops >= entry.hops,
+        // More than `entry.hops - 1`, as it has one hop at least.
+        Some(hops) => hops >= entry.hops,
         None => false,
     }
 }

@@ -18,7 +18,7 @@ module _ (name : Text) (rows : List Row) where
   drive_of (inr (inr (inr (inl (is, has))))) here = absurd (apart (codes "threads") (codes "drive") refl is here)
   drive_of (inr (inr (inr (inr (inl (is, has)))))) here = has
   drive_of (inr (inr (inr (inr (inr (inl (is, has))))))) here = absurd (apart (codes "topology") (codes "drive") refl is here)
-  drive_of (inr (inr (inr (inr (inr (inr (inl (is, has)))))))) here = absurd (apart (codes "explain") (codes "drive") refl is here)
+  drive_of (inr (inr (inr (inr (inr (inr (inl is))))))) here = absurd (apart (codes "explain") (codes "drive") refl is here)
   drive_of (inr (inr (inr (inr (inr (inr (inr (inl is)))))))) here = absurd (apart (codes "tables") (codes "drive") refl is here)
   drive_of (inr (inr (inr (inr (inr (inr (inr (inr (inl (is, has)))))))))) here = absurd (apart (codes "plan") (codes "drive") refl is here)
   drive_of (inr (inr (inr (inr (inr (inr (inr (inr (inr (inl (is, has))))))))))) here = absurd (apart (codes "session") (codes "drive") refl is here)
@@ -34,7 +34,7 @@ module _ (name : Text) (rows : List Row) where
   verify_of (inr (inr (inr (inl (is, has))))) here = absurd (apart (codes "threads") (codes "verify") refl is here)
   verify_of (inr (inr (inr (inr (inl (is, has)))))) here = absurd (apart (codes "drive") (codes "verify") refl is here)
   verify_of (inr (inr (inr (inr (inr (inl (is, has))))))) here = absurd (apart (codes "topology") (codes "verify") refl is here)
-  verify_of (inr (inr (inr (inr (inr (inr (inl (is, has)))))))) here = absurd (apart (codes "explain") (codes "verify") refl is here)
+  verify_of (inr (inr (inr (inr (inr (inr (inl is))))))) here = absurd (apart (codes "explain") (codes "verify") refl is here)
   verify_of (inr (inr (inr (inr (inr (inr (inr (inl is)))))))) here = absurd (apart (codes "tables") (codes "verify") refl is here)
   verify_of (inr (inr (inr (inr (inr (inr (inr (inr (inl (is, has)))))))))) here = absurd (apart (codes "plan") (codes "verify") refl is here)
   verify_of (inr (inr (inr (inr (inr (inr (inr (inr (inr (inl (is, has))))))))))) here = absurd (apart (codes "session") (codes "verify") refl is here)

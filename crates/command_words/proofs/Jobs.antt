@@ -1,16 +1,17 @@
 -- The job of a subcommand that clap met, and the fault that stands for clap's error.
-use Rattle.std.proofs.Common.{◌≡◌, ◌∙◌, ◌<◌, ◌^◌, ℕ, Bool, true, false, refl, sym, subst, ap, arith, codes, List}
+use Rattle.std.proofs.Common.{◌≡◌, ◌∙◌, ◌<◌, ◌≤◌, ◌^◌, ℕ, Bool, true, false, refl, sym, subst, ap, arith, codes, List}
 use Rattle.std.proofs.Common.{◌⊎◌, Option, Some, None}
 use Rattle.std.proofs.Common.{Result, Ok, Err, inl, inr}
 use Rattle.std.specs.Borrow.{Bor}
 use Rattle.std.specs.Prelude.{IfErr, IfSome, IsErrAnd, IsSome, IsSomeAnd, option_map, unwrap_or}
+use Rattle.std.specs.Option.{ForSome}
 use Rattle.std.specs.Str.{bytes_eq}
 use Rattle.std.specs.Str.Parse.{ParsesUnsigned, digits_value, without_leading_plus}
-use Rattle.clap.specs.Words.{HasKind, Text, IsAmong, ReadsOne, first_of, kind_of, one_text, rows_of}
+use Rattle.clap.specs.Words.{HasKind, Text, IsAmong, ReadsOne, first_of, kind_of, one_text, rows_of, Row}
 use Rattle.clap.specs.declared.error.Error.{Error}
 use Rattle.clap.specs.declared.parser.matches.Found.{Found}
 use Rattle.clap.proofs.WalkLemmas.{one_text-rows}
-use Rattle.command_words.specs.Words.{HasFlag, HasNumber, IsFaultOf, IsNumberOr, IsNumberOrNone, IsNumberWithin, MayHaveNumber}
+use Rattle.command_words.specs.Words.{HasFlag, HasJob, HasNumber, IsFaultOf, IsNumberOr, IsNumberOrNone, IsNumberWithin, MayHaveNumber}
 use Rattle.command_words.specs.Words.{StandsFor, Writes, faults_of, is_on}
 use Rattle.command_words.specs.declared.words.Job.{Job}
 use Rattle.command_words.specs.declared.words.LineFault.{LineFault}
@@ -92,6 +93,25 @@ module _ (E : Type 0) (G : Text → Result ℕ E → Type 0)
       given : (o : Option Text) → IsNumberWithin least most o h.0 → IsNumberOrNone least most o (Some h.0)
       given None is = absurd is.0
       given (Some t) is = is
+
+-- a number that may be there is one of the range
+pub number_few : (least most : ℕ) (o : Option Text) (r : Option ℕ) → IsNumberOrNone least most o r
+    → ForSome r (λ n. n ≤ most)
+number_few least most None r is n at = let differ : None ≡ Some n = sym is ∙ at in absurd (cc)
+number_few least most (Some t) None is n at = absurd is
+number_few least most (Some t) (Some m) is n at = let same : m ≡ n = cc in subst (λ k. k ≤ most) same is.2
+
+-- what holds of the subcommand that was met holds of its name with its rows
+pub met_rows : {S : Type 0} (name_of : S → Text) (rows_in : S → List Row) (name : Text) (rows : List Row) (found : Option S)
+    → Some name ≡ option_map name_of found
+    → Some rows ≡ option_map (λ p. p.1) (option_map {U = Text × List Row} (λ s. (name_of s, rows_in s)) found)
+    → HasJob (option_map {U = Text × List Row} (λ s. (name_of s, rows_in s)) found) → HasJob (Some (name, rows))
+met_rows name_of rows_in name rows None named given has = absurd (cc)
+met_rows name_of rows_in name rows (Some s) named given has =
+    let same : name ≡ name_of s = cc in
+    let same_rows : rows ≡ rows_in s = cc in
+    subst (λ (n : Text). HasJob (Some (n, rows))) (sym same)
+    (subst (λ (r : List Row). HasJob (Some (name_of s, r))) (sym same_rows) has)
 
 -- a flag is on where it is given
 pub flag_is : (name : Text) (f : Found) (b : Bool) → (one_text f name ≡ None → b ≡ false)

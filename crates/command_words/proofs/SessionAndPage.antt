@@ -12,7 +12,7 @@ use Rattle.command_words.specs.Words.{HasSession, HasTexts}
 use Rattle.command_words.specs.Words.{drive_command, explain_command, explore_command, page_command, plan_command}
 use Rattle.command_words.specs.Words.{program}
 use Rattle.command_words.specs.Words.{record_command, session_command, tables_command, texts_command}
-use Rattle.command_words.specs.Words.{threads_command, topology_command, verify_command, replay_command}
+use Rattle.command_words.specs.Words.{threads_command, topology_command, verify_command, replay_command, check_command}
 use Rattle.command_words.proofs.PathRows.{AllFit, TakesWords, checked, or_else-nil, rows_taken}
 use Rattle.command_words.proofs.Values.{IsOfFlags, both_given, flag_found, is_accepted, one_given, text_found}
 
@@ -30,7 +30,7 @@ rows_of_words s words = (rows_at s words).1
 
 session_fit : AllFit the_session.rules the_session.rules
 unfolding program plan_command record_command threads_command drive_command topology_command explain_command texts_command
-    tables_command session_command page_command explore_command verify_command replay_command
+    tables_command session_command page_command explore_command verify_command replay_command check_command
 session_fit = (
   inl (refl, refl, refl, refl),
   (
@@ -47,7 +47,7 @@ the_sync = slice_index_or the_session.rules 3 (new_rule [])
 
 syncs_are_flags : IsOfFlags the_sync
 unfolding program plan_command record_command threads_command drive_command topology_command explain_command texts_command
-    tables_command session_command page_command explore_command verify_command replay_command
+    tables_command session_command page_command explore_command verify_command replay_command check_command
 syncs_are_flags = record {
   passes = λ v vs e. is_accepted (accepts false Flags v) _ (or_else-nil _ (values_fault the_sync vs) e).0;
   reading = refl;
@@ -56,7 +56,7 @@ syncs_are_flags = record {
 -- where clap finds no fault in the words, they have a topology, and what they say of the flag can be read
 pub has_session : (words : List Text) → TakesWords the_session words → HasSession (rows_of_words the_session words)
 unfolding program plan_command record_command threads_command drive_command topology_command explain_command texts_command
-    tables_command session_command page_command explore_command verify_command replay_command
+    tables_command session_command page_command explore_command verify_command replay_command check_command
 has_session words e =
     let rows = rows_of_words the_session words in
     let taken = rows_taken the_session session_fit words e in (
@@ -69,7 +69,7 @@ has_session words e =
 
 page_fit : AllFit the_page.rules the_page.rules
 unfolding program plan_command record_command threads_command drive_command topology_command explain_command texts_command
-    tables_command session_command page_command explore_command verify_command replay_command
+    tables_command session_command page_command explore_command verify_command replay_command check_command
 page_fit = (
   inl (refl, refl, refl, refl),
   (
@@ -84,7 +84,7 @@ page_fit = (
 -- where clap finds no fault in the words, they have a topology and a history
 pub has_page : (words : List Text) → TakesWords the_page words → HasTexts (codes "HISTORY") (rows_of_words the_page words)
 unfolding program plan_command record_command threads_command drive_command topology_command explain_command texts_command
-    tables_command session_command page_command explore_command verify_command replay_command
+    tables_command session_command page_command explore_command verify_command replay_command check_command
 has_page words e =
     let rows = rows_of_words the_page words in
     let given =

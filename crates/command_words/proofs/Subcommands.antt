@@ -4,9 +4,9 @@ use Rattle.std.proofs.Common.{List, [], codes, Option, Some, None, inl, inr, tru
 use Rattle.std.specs.List.{slice_index_or}
 use Rattle.std.specs.Option.{option_map_or}
 use Rattle.std.specs.Str.{bytes_eq}
-use Rattle.std.specs.Prelude.{IsSome, option_map}
+use Rattle.std.specs.Prelude.{option_map}
 use Rattle.std.proofs.lemmas.Slice.Eq.{bytes_eq-Decides}
-use Rattle.clap.specs.Words.{App, Kinds, Row, Rule, Shape, Text, built, fault_of, first_of, is_simple}
+use Rattle.clap.specs.Words.{App, Kinds, Row, Rule, Shape, Text, built, fault_of, is_simple}
 use Rattle.clap.specs.Words.{is_simple_and_free, new_app, new_rule, subcommand_of, with_subcommand}
 use Rattle.clap.specs.Simple.{argument_words, entered, label_of, names_of, rows_at}
 use Rattle.clap.specs.Takes.{is_given}
@@ -23,13 +23,13 @@ use Rattle.clap.proofs.OnLiterals.{clap_on_literals}
 use Rattle.command_words.specs.Words.{HasDrive, HasJob, HasPlan, HasRecord, HasShape, HasTexts, HasThreads}
 use Rattle.command_words.specs.Words.{drive_command, explain_command, explore_command, faults_of}
 use Rattle.command_words.specs.Words.{page_command, plan_command, program, record_command, session_command}
-use Rattle.command_words.specs.Words.{tables_command, texts_command, threads_command, topology_command, verify_command, replay_command}
+use Rattle.command_words.specs.Words.{tables_command, texts_command, threads_command, topology_command, verify_command, replay_command, check_command}
 use Rattle.command_words.proofs.NoHelp.{IsNoHelp, walk-stop}
 use Rattle.command_words.proofs.PathRows.{AllFit, TakesWords, checked, or_else-nil}
 use Rattle.command_words.proofs.PathRows.{rows_taken}
 use Rattle.command_words.proofs.Exploring.{has_explore, the_explore}
 use Rattle.command_words.proofs.SessionAndPage.{has_page, has_session, the_page, the_session}
-use Rattle.command_words.proofs.Replaying.{has_replay, the_replay}
+use Rattle.command_words.proofs.Replaying.{has_check, has_replay, the_check, the_replay}
 use Rattle.command_words.proofs.Verification.{has_verify, the_verify}
 use Rattle.command_words.proofs.Values.{IsOfNumbers, both_given, four_given, is_accepted, number_found, number_or_none}
 use Rattle.command_words.proofs.Values.{one_given, text_found, three_given}
@@ -41,9 +41,6 @@ abbrev the_texts : Text → Text → Shape
 the_texts name input =
     slice_index_or (built (with_subcommand (new_app (codes "reset-service")) (texts_command name input).top)).subs 0
     (texts_command name input).top
-
-abbrev the_check : Shape
-the_check = the_texts (codes "check") (codes "SCRIPT")
 
 abbrev the_plan : Shape
 the_plan = slice_index_or (built program).subs 2 plan_command.top
@@ -79,16 +76,6 @@ rows_of_words s words = (rows_at s words).1
 -- ---- the subcommands with two paths
 
 -- each argument takes a value, and the flag asks for help
-scripts_fit : (name : Text) → AllFit (the_texts name (codes "SCRIPT")).rules (the_texts name (codes "SCRIPT")).rules
-unfolding texts_command
-scripts_fit name = (
-  inl (refl, refl, refl, refl),
-  (
-    inl (refl, refl, refl, refl),
-    (inl (refl, refl, refl, refl), (inr (inl (refl, refl)), tt)),
-  ),
-)
-
 histories_fit : (name : Text)
     → AllFit (the_texts name (codes "HISTORY")).rules (the_texts name (codes "HISTORY")).rules
 unfolding texts_command
@@ -110,17 +97,6 @@ paths_given name input words e =
     (checked (the_texts name input) words e)
 
 -- where clap finds no fault in the words, they have a value for each path
-has_scripts : (name : Text) (words : List Text) → TakesWords (the_texts name (codes "SCRIPT")) words
-    → HasTexts (codes "SCRIPT") (rows_of_words (the_texts name (codes "SCRIPT")) words)
-unfolding texts_command
-has_scripts name words e =
-    let s = the_texts name (codes "SCRIPT") in
-    let given = paths_given name (codes "SCRIPT") words e in
-    let taken = rows_taken s (scripts_fit name) words e in (
-      text_found s.rules (codes "TOPOLOGY") _ (rows_of_words s words) refl taken given.0,
-      text_found s.rules (codes "SCRIPT") _ (rows_of_words s words) refl taken given.1,
-    )
-
 has_histories : (name : Text) (words : List Text) → TakesWords (the_texts name (codes "HISTORY")) words
     → HasTexts (codes "HISTORY") (rows_of_words (the_texts name (codes "HISTORY")) words)
 unfolding texts_command
@@ -136,7 +112,7 @@ has_histories name words e =
 
 plan_fit : AllFit the_plan.rules the_plan.rules
 unfolding program plan_command record_command threads_command drive_command topology_command explain_command texts_command
-    tables_command session_command page_command explore_command verify_command replay_command
+    tables_command session_command page_command explore_command verify_command replay_command check_command
 plan_fit = (
   inl (refl, refl, refl, refl),
   (
@@ -148,7 +124,7 @@ plan_fit = (
 -- where clap finds no fault in the words, they have a topology
 has_plan : (words : List Text) → TakesWords the_plan words → HasPlan (rows_of_words the_plan words)
 unfolding program plan_command record_command threads_command drive_command topology_command explain_command texts_command
-    tables_command session_command page_command explore_command verify_command replay_command
+    tables_command session_command page_command explore_command verify_command replay_command check_command
 has_plan words e =
     let rows = rows_of_words the_plan words in
     text_found the_plan.rules (codes "TOPOLOGY") _ rows refl (rows_taken the_plan plan_fit words e)
@@ -158,7 +134,7 @@ has_plan words e =
 
 record_fit : AllFit the_record.rules the_record.rules
 unfolding program plan_command record_command threads_command drive_command topology_command explain_command texts_command
-    tables_command session_command page_command explore_command verify_command replay_command
+    tables_command session_command page_command explore_command verify_command replay_command check_command
 record_fit = (
   inl (refl, refl, refl, refl),
   (
@@ -173,7 +149,7 @@ record_fit = (
 -- where clap finds no fault in the words, they have a value for each argument
 has_record : (words : List Text) → TakesWords the_record words → HasRecord (rows_of_words the_record words)
 unfolding program plan_command record_command threads_command drive_command topology_command explain_command texts_command
-    tables_command session_command page_command explore_command verify_command replay_command
+    tables_command session_command page_command explore_command verify_command replay_command check_command
 has_record words e =
     let c = the_record.rules in
     let rows = rows_of_words the_record words in
@@ -192,14 +168,23 @@ has_record words e =
 
 threads_fit : AllFit the_threads.rules the_threads.rules
 unfolding program plan_command record_command threads_command drive_command topology_command explain_command texts_command
-    tables_command session_command page_command explore_command verify_command replay_command
+    tables_command session_command page_command explore_command verify_command replay_command check_command
 threads_fit = (
   inl (refl, refl, refl, refl),
   (
     inl (refl, refl, refl, refl),
     (
       inl (refl, refl, refl, refl),
-      (inl (refl, refl, refl, refl), (inr (inl (refl, refl)), tt)),
+      (
+        inl (refl, refl, refl, refl),
+        (
+          inl (refl, refl, refl, refl),
+          (
+            inl (refl, refl, refl, refl),
+            (inl (refl, refl, refl, refl), (inr (inl (refl, refl)), tt)),
+          ),
+        ),
+      ),
     ),
   ),
 )
@@ -209,7 +194,7 @@ the_turns = slice_index_or the_threads.rules 1 (new_rule [])
 
 turns_are_numbers : IsOfNumbers 1 100000 the_turns
 unfolding program plan_command record_command threads_command drive_command topology_command explain_command texts_command
-    tables_command session_command page_command explore_command verify_command replay_command
+    tables_command session_command page_command explore_command verify_command replay_command check_command
 turns_are_numbers = record {
   passes =
       λ v vs e. is_accepted (accepts false (Unsigned 1 100000) v) _
@@ -217,28 +202,56 @@ turns_are_numbers = record {
   reading = refl;
 }
 
+abbrev the_select : Rule
+the_select = slice_index_or the_threads.rules 3 (new_rule [])
+
+abbrev the_resets : Rule
+the_resets = slice_index_or the_threads.rules 4 (new_rule [])
+
+selected_are_numbers : IsOfNumbers 1 65535 the_select
+unfolding program plan_command record_command threads_command drive_command topology_command explain_command texts_command
+    tables_command session_command page_command explore_command verify_command replay_command check_command
+selected_are_numbers = record {
+  passes =
+      λ v vs e. is_accepted (accepts false (Unsigned 1 65535) v) _
+      (or_else-nil _ (values_fault the_select vs) e).0;
+  reading = refl;
+}
+
+resets_are_numbers : IsOfNumbers 1 100000 the_resets
+unfolding program plan_command record_command threads_command drive_command topology_command explain_command texts_command
+    tables_command session_command page_command explore_command verify_command replay_command check_command
+resets_are_numbers = record {
+  passes =
+      λ v vs e. is_accepted (accepts false (Unsigned 1 100000) v) _
+      (or_else-nil _ (values_fault the_resets vs) e).0;
+  reading = refl;
+}
+
 has_threads : (words : List Text) → TakesWords the_threads words → HasThreads (rows_of_words the_threads words)
 unfolding program plan_command record_command threads_command drive_command topology_command explain_command texts_command
-    tables_command session_command page_command explore_command verify_command replay_command
+    tables_command session_command page_command explore_command verify_command replay_command check_command
 has_threads words e =
     let c = the_threads.rules in
     let rows = rows_of_words the_threads words in
     let given =
-    three_given (is_given (codes "TOPOLOGY") rows) (is_given (codes "turns") rows) (is_given (codes "history") rows)
-    MissingRequiredArgument (checked the_threads words e) in
+    both_given (is_given (codes "TOPOLOGY") rows) (is_given (codes "history") rows) MissingRequiredArgument
+    (checked the_threads words e) in
     let taken = rows_taken the_threads threads_fit words e in (
       (
         text_found c (codes "TOPOLOGY") _ rows refl taken given.0,
-        text_found c (codes "history") _ rows refl taken given.2,
+        text_found c (codes "history") _ rows refl taken given.1,
       ),
-      number_found 1 100000 c (codes "turns") the_turns rows turns_are_numbers refl taken given.1,
+      number_or_none 1 100000 c (codes "turns") the_turns rows turns_are_numbers refl taken,
+      number_or_none 1 65535 c (codes "select") the_select rows selected_are_numbers refl taken,
+      number_or_none 1 100000 c (codes "resets") the_resets rows resets_are_numbers refl taken,
     )
 
 -- ---- the subcommand `drive`
 
 drive_fit : AllFit the_drive.rules the_drive.rules
 unfolding program plan_command record_command threads_command drive_command topology_command explain_command texts_command
-    tables_command session_command page_command explore_command verify_command replay_command
+    tables_command session_command page_command explore_command verify_command replay_command check_command
 drive_fit = (
   inl (refl, refl, refl, refl),
   (
@@ -267,7 +280,7 @@ the_faults = slice_index_or the_drive.rules 4 (new_rule [])
 
 steps_are_numbers : IsOfNumbers 1 1000000 the_steps
 unfolding program plan_command record_command threads_command drive_command topology_command explain_command texts_command
-    tables_command session_command page_command explore_command verify_command replay_command
+    tables_command session_command page_command explore_command verify_command replay_command check_command
 steps_are_numbers = record {
   passes =
       λ v vs e. is_accepted (accepts false (Unsigned 1 1000000) v) _
@@ -277,7 +290,7 @@ steps_are_numbers = record {
 
 drive_seeds_are_numbers : IsOfNumbers 0 4294967295 the_drive_seed
 unfolding program plan_command record_command threads_command drive_command topology_command explain_command texts_command
-    tables_command session_command page_command explore_command verify_command replay_command
+    tables_command session_command page_command explore_command verify_command replay_command check_command
 drive_seeds_are_numbers = record {
   passes =
       λ v vs e. is_accepted (accepts false (Unsigned 0 4294967295) v) _
@@ -287,7 +300,7 @@ drive_seeds_are_numbers = record {
 
 faults_are_numbers : IsOfNumbers 0 1000 the_faults
 unfolding program plan_command record_command threads_command drive_command topology_command explain_command texts_command
-    tables_command session_command page_command explore_command verify_command replay_command
+    tables_command session_command page_command explore_command verify_command replay_command check_command
 faults_are_numbers = record {
   passes =
       λ v vs e. is_accepted (accepts false (Unsigned 0 1000) v) _
@@ -297,7 +310,7 @@ faults_are_numbers = record {
 
 has_drive : (words : List Text) → TakesWords the_drive words → HasDrive (rows_of_words the_drive words)
 unfolding program plan_command record_command threads_command drive_command topology_command explain_command texts_command
-    tables_command session_command page_command explore_command verify_command replay_command
+    tables_command session_command page_command explore_command verify_command replay_command check_command
 has_drive words e =
     let c = the_drive.rules in
     let rows = rows_of_words the_drive words in
@@ -318,7 +331,7 @@ has_drive words e =
 
 topology_fit : AllFit the_topology.rules the_topology.rules
 unfolding program plan_command record_command threads_command drive_command topology_command explain_command texts_command
-    tables_command session_command page_command explore_command verify_command replay_command
+    tables_command session_command page_command explore_command verify_command replay_command check_command
 topology_fit = (
   inl (refl, refl, refl, refl),
   (
@@ -338,7 +351,7 @@ the_shape_seed = slice_index_or the_topology.rules 2 (new_rule [])
 
 nodes_are_numbers : IsOfNumbers 1 1024 the_nodes
 unfolding program plan_command record_command threads_command drive_command topology_command explain_command texts_command
-    tables_command session_command page_command explore_command verify_command replay_command
+    tables_command session_command page_command explore_command verify_command replay_command check_command
 nodes_are_numbers = record {
   passes =
       λ v vs e. is_accepted (accepts false (Unsigned 1 1024) v) _
@@ -348,7 +361,7 @@ nodes_are_numbers = record {
 
 shape_seeds_are_numbers : IsOfNumbers 0 4294967295 the_shape_seed
 unfolding program plan_command record_command threads_command drive_command topology_command explain_command texts_command
-    tables_command session_command page_command explore_command verify_command replay_command
+    tables_command session_command page_command explore_command verify_command replay_command check_command
 shape_seeds_are_numbers = record {
   passes =
       λ v vs e. is_accepted (accepts false (Unsigned 0 4294967295) v) _
@@ -358,7 +371,7 @@ shape_seeds_are_numbers = record {
 
 has_shape : (words : List Text) → TakesWords the_topology words → HasShape (rows_of_words the_topology words)
 unfolding program plan_command record_command threads_command drive_command topology_command explain_command texts_command
-    tables_command session_command page_command explore_command verify_command replay_command
+    tables_command session_command page_command explore_command verify_command replay_command check_command
 has_shape words e =
     let c = the_topology.rules in
     let rows = rows_of_words the_topology words in
@@ -370,22 +383,6 @@ has_shape words e =
       number_found 1 1024 c (codes "N") the_nodes rows nodes_are_numbers refl taken given.1,
       number_or_none 0 4294967295 c (codes "seed") the_shape_seed rows shape_seeds_are_numbers refl taken,
     )
-
--- ---- the subcommand `explain`
-
-explain_fit : AllFit the_explain.rules the_explain.rules
-unfolding program plan_command record_command threads_command drive_command topology_command explain_command texts_command
-    tables_command session_command page_command explore_command verify_command replay_command
-explain_fit = (inl (refl, refl, refl, refl), (inr (inl (refl, refl)), tt))
-
-has_word : (words : List Text) → TakesWords the_explain words
-    → IsSome (first_of (codes "WORD") (rows_of_words the_explain words))
-unfolding program plan_command record_command threads_command drive_command topology_command explain_command texts_command
-    tables_command session_command page_command explore_command verify_command replay_command
-has_word words e =
-    let rows = rows_of_words the_explain words in
-    text_found the_explain.rules (codes "WORD") _ rows refl (rows_taken the_explain explain_fit words e)
-    (one_given (is_given (codes "WORD") rows) MissingRequiredArgument (checked the_explain words e))
 
 -- ---- the job
 
@@ -415,20 +412,20 @@ asks-met words false s below here there = there
 no_help_met : (p : Text × List Text) → bytes_eq p.0 (codes "help") ≡ false → (h : Bool)
     → answers_to p.0 (label_of the_help) ≡ h → AsksJob p.1 (cond h (Some the_help) None)
 unfolding program plan_command record_command threads_command drive_command topology_command explain_command texts_command
-    tables_command session_command page_command explore_command verify_command replay_command
+    tables_command session_command page_command explore_command verify_command replay_command check_command
 no_help_met p no_help true a = absurd (bytes_eq-swap p.0 (codes "help") no_help a)
 no_help_met p no_help false a = λ f. tt
 
 job_at : (stop : Option (Text × List Text)) → IsNoHelp stop → entered_fault (built program) stop ≡ []
     → HasJob (entered (built program) stop)
 unfolding program plan_command record_command threads_command drive_command topology_command explain_command texts_command
-    tables_command session_command page_command explore_command verify_command replay_command
+    tables_command session_command page_command explore_command verify_command replay_command check_command
 job_at None no_help e = tt
 job_at (Some p) no_help e =
     asks-met p.1 (answers_to p.0 (label_of the_replay)) the_replay _
     (λ f. inl (inl (refl, has_replay p.1 f)))
     (asks-met p.1 (answers_to p.0 (label_of the_check)) the_check _
-    (λ f. inl (inr (refl, has_scripts (codes "check") p.1 f)))
+    (λ f. inl (inr (refl, has_check p.1 f)))
     (asks-met p.1 (answers_to p.0 (label_of the_plan)) the_plan _
     (λ f. inr (inr (inr (inr (inr (inr (inr (inr (inl (refl, has_plan p.1 f))))))))))
     (asks-met p.1 (answers_to p.0 (label_of the_explore)) the_explore _
@@ -449,7 +446,7 @@ job_at (Some p) no_help e =
     (asks-met p.1 (answers_to p.0 (label_of the_topology)) the_topology _
     (λ f. inr (inr (inr (inr (inr (inl (refl, has_shape p.1 f)))))))
     (asks-met p.1 (answers_to p.0 (label_of the_explain)) the_explain _
-    (λ f. inr (inr (inr (inr (inr (inr (inl (refl, has_word p.1 f))))))))
+    (λ f. inr (inr (inr (inr (inr (inr (inl refl)))))))
     (asks-met p.1 (answers_to p.0 (label_of the_tables)) the_tables _
     (λ f. inr (inr (inr (inr (inr (inr (inr (inl refl))))))))
     (no_help_met p no_help (answers_to p.0 (label_of the_help)) refl)))))))))))))) e
@@ -457,7 +454,7 @@ job_at (Some p) no_help e =
 -- words in which clap finds no fault ask for a job
 pub has_job : (words : List Text) → fault_of program words ≡ [] → HasJob (subcommand_of program words)
 unfolding program plan_command record_command threads_command drive_command topology_command explain_command texts_command
-    tables_command session_command page_command explore_command verify_command replay_command
+    tables_command session_command page_command explore_command verify_command replay_command check_command
 has_job words e =
     let a : App = built program in
     let given : List Text = argument_words program words in
@@ -474,12 +471,12 @@ has_job words e =
 
 program_is_simple : is_simple program ≡ true
 unfolding program plan_command record_command threads_command drive_command topology_command explain_command texts_command
-    tables_command session_command page_command explore_command verify_command replay_command clap_on_literals
+    tables_command session_command page_command explore_command verify_command replay_command check_command clap_on_literals
 program_is_simple = refl
 
 program_is_free : is_simple_and_free program ≡ true
 unfolding program plan_command record_command threads_command drive_command topology_command explain_command texts_command
-    tables_command session_command page_command explore_command verify_command replay_command clap_on_literals
+    tables_command session_command page_command explore_command verify_command replay_command check_command clap_on_literals
 program_is_free = refl
 
 pub faults_are : (a : App) (words : List Text) (P : Kinds → Type 0) → a ≡ program

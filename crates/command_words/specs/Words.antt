@@ -20,6 +20,7 @@ use Rattle.command_words.specs.declared.words.Job.TheVariants.{Drive, Plan, Expl
 use Rattle.command_words.specs.declared.words.LineFault.{LineFault}
 use Rattle.command_words.specs.declared.words.Paths.{Paths}
 use Rattle.command_words.specs.declared.words.LineFault.TheVariants.{BadWords, NoMemory}
+use Rattle.command_words.specs.declared.check_words.CheckWords.{CheckWords}
 use Rattle.command_words.specs.declared.drive_words.DriveWords.{DriveWords}
 use Rattle.command_words.specs.declared.explore_words.ExploreWords.{ExploreWords}
 use Rattle.command_words.specs.declared.page_words.PageWords.{PageWords}
@@ -71,6 +72,11 @@ unfoldable pub replay_command : App
 replay_command =
     with_rule (with_rule (texts_command (codes "replay") (codes "SCRIPT")) (flag (codes "number"))) (flag (codes "strict"))
 
+-- `check TOPOLOGY SCRIPT [--from SNAPSHOT] [--repair] [--whole]`
+unfoldable pub check_command : App
+check_command =
+    with_rule (with_rule (texts_command (codes "check") (codes "SCRIPT")) (flag (codes "repair"))) (flag (codes "whole"))
+
 -- `plan TOPOLOGY [SCRIPT] [--from SNAPSHOT]`
 unfoldable pub plan_command : App
 plan_command =
@@ -119,13 +125,18 @@ record_command =
     (with_rule (with_rule (new_app (codes "record")) (path (codes "TOPOLOGY"))) (path (codes "SCRIPT")))
     (file_option (codes "history"))) from_option
 
--- `threads TOPOLOGY --turns N --history FILE [--from SNAPSHOT]`
+-- `threads TOPOLOGY [--turns N] [--until WHEN] [--select I] [--resets N] --history FILE [--from SNAPSHOT]`
 unfoldable pub threads_command : App
 threads_command =
     with_rule
     (with_rule
+    (with_rule
+    (with_rule
+    (with_rule
     (with_rule (with_rule (new_app (codes "threads")) (path (codes "TOPOLOGY")))
-    (number_option (codes "turns") 1 100000)) (file_option (codes "history"))) from_option
+    (optional (number_option (codes "turns") 1 100000))) (optional (file_option (codes "until"))))
+    (optional (number_option (codes "select") 1 65535))) (optional (number_option (codes "resets") 1 100000)))
+    (file_option (codes "history"))) from_option
 
 -- `drive TOPOLOGY --steps N --seed S --history FILE [--faults P] [--from SNAPSHOT]`
 unfoldable pub drive_command : App
@@ -146,9 +157,9 @@ topology_command =
     (with_rule (with_rule (new_app (codes "topology")) (path (codes "SHAPE"))) (within 1 1024 (path (codes "N"))))
     (optional (number_option (codes "seed") 0 4294967295))) (optional (file_option (codes "app")))
 
--- `explain WORD`
+-- `explain [WORD]`
 unfoldable pub explain_command : App
-explain_command = with_rule (new_app (codes "explain")) (path (codes "WORD"))
+explain_command = with_rule (new_app (codes "explain")) (optional (path (codes "WORD")))
 
 -- `tables`
 unfoldable pub tables_command : App
@@ -164,8 +175,8 @@ scripts_program =
     with_subcommand
     (with_subcommand
     (with_subcommand
-    (with_subcommand (with_subcommand new_program replay_command.top)
-    (texts_command (codes "check") (codes "SCRIPT")).top) plan_command.top) explore_command.top) session_command.top
+    (with_subcommand (with_subcommand new_program replay_command.top) check_command.top) plan_command.top)
+    explore_command.top) session_command.top
 
 -- with those that read a history
 abbrev pub texts_program : App
@@ -238,6 +249,15 @@ HasReplayWords found words = (name_in found ≡ Some (codes "replay"))
     × (words.number ≡ is_on (value_in found (codes "number")))
     × (words.strict ≡ is_on (value_in found (codes "strict")))
 
+-- it is the subcommand `check` with these values
+abbrev pub HasCheckWords : Found → CheckWords → Type 0
+HasCheckWords found words = (name_in found ≡ Some (codes "check"))
+    × (value_in found (codes "TOPOLOGY") ≡ Some words.topology.now)
+    × (value_in found (codes "SCRIPT") ≡ Some words.script.now)
+    × (value_in found (codes "from") ≡ option_map (λ from. from.now) words.from)
+    × (words.repair ≡ is_on (value_in found (codes "repair")))
+    × (words.whole ≡ is_on (value_in found (codes "whole")))
+
 -- it is the subcommand `plan` with these values
 abbrev pub HasPlanWords : Found → PlanWords → Type 0
 HasPlanWords found words = (name_in found ≡ Some (codes "plan"))
@@ -288,12 +308,16 @@ HasRecordWords found words = (name_in found ≡ Some (codes "record"))
     × (value_in found (codes "history") ≡ Some words.history.now)
     × (value_in found (codes "from") ≡ option_map (λ from. from.now) words.from)
 
--- it is the subcommand `threads` with these values, and the turns are from 1 to 100,000
+-- it is the subcommand `threads` with these values: the turns are from 1 to 100,000, and one reset is asked for where no
+-- number is given
 abbrev pub HasThreadWords : Found → ThreadWords → Type 0
 HasThreadWords found words = (name_in found ≡ Some (codes "threads"))
     × (value_in found (codes "TOPOLOGY") ≡ Some words.topology.now)
     × (value_in found (codes "history") ≡ Some words.history.now)
-    × IsNumberWithin 1 100000 (value_in found (codes "turns")) words.turns
+    × IsNumberOrNone 1 100000 (value_in found (codes "turns")) words.turns
+    × (value_in found (codes "until") ≡ option_map (λ until. until.now) words.until)
+    × IsNumberOrNone 1 65535 (value_in found (codes "select")) words.select
+    × IsNumberOr 1 1 100000 (value_in found (codes "resets")) words.resets
     × (value_in found (codes "from") ≡ option_map (λ from. from.now) words.from)
 
 -- it is the subcommand `drive` with these values: the steps are from 1 to 1,000,000, the seed has 32 bits, and of a
@@ -315,15 +339,15 @@ HasShapeWords found words = (name_in found ≡ Some (codes "topology"))
     × IsNumberOr 0 0 4294967295 (value_in found (codes "seed")) words.seed
     × (value_in found (codes "app") ≡ option_map (λ app. app.now) words.app)
 
--- it is the subcommand `explain` with this word
-abbrev pub HasWord : Found → Text → Type 0
-HasWord found word = (name_in found ≡ Some (codes "explain")) × (value_in found (codes "WORD") ≡ Some word)
+-- it is the subcommand `explain` with this word, if it has one
+abbrev pub MayHaveWord : Found → Option Text → Type 0
+MayHaveWord found word = (name_in found ≡ Some (codes "explain")) × (value_in found (codes "WORD") ≡ word)
 
 -- the subcommand and its values are those of the job
 abbrev pub AskedBy : Found → Job → Type 0
 AskedBy found Joined = found ≡ None
 AskedBy found (Replay words) = HasReplayWords found words
-AskedBy found (Check paths) = HasPaths found (codes "check") (codes "SCRIPT") paths
+AskedBy found (Check words) = HasCheckWords found words
 AskedBy found (Plan words) = HasPlanWords found words
 AskedBy found (Explore words) = HasExploreWords found words
 AskedBy found (Session words) = HasSessionWords found words
@@ -334,7 +358,7 @@ AskedBy found (Record words) = HasRecordWords found words
 AskedBy found (Threads words) = HasThreadWords found words
 AskedBy found (Drive words) = HasDriveWords found words
 AskedBy found (Shape words) = HasShapeWords found words
-AskedBy found (Explain word) = HasWord found word.now
+AskedBy found (Explain word) = MayHaveWord found (option_map (λ word. word.now) word)
 AskedBy found Tables = name_in found ≡ Some (codes "tables")
 
 -- what clap finds in the words asks for the job
@@ -387,6 +411,10 @@ HasFlag name rows = IfSome (first_of name rows) (λ value. (value ≡ codes "tru
 abbrev pub HasReplay : List Row → Type 0
 HasReplay rows = HasTexts (codes "SCRIPT") rows × HasFlag (codes "number") rows × HasFlag (codes "strict") rows
 
+-- what `check` needs was found
+abbrev pub HasCheck : List Row → Type 0
+HasCheck rows = HasTexts (codes "SCRIPT") rows × HasFlag (codes "repair") rows × HasFlag (codes "whole") rows
+
 -- what `session` needs was found
 abbrev pub HasSession : List Row → Type 0
 HasSession rows = IsSome (first_of (codes "TOPOLOGY") rows) × HasFlag (codes "no-sync") rows
@@ -406,7 +434,8 @@ HasRecord rows = HasTexts (codes "SCRIPT") rows × IsSome (first_of (codes "hist
 
 -- what `threads` needs was found
 abbrev pub HasThreads : List Row → Type 0
-HasThreads rows = HasTexts (codes "history") rows × HasNumber (codes "turns") 1 100000 rows
+HasThreads rows = HasTexts (codes "history") rows × MayHaveNumber (codes "turns") 1 100000 rows
+    × MayHaveNumber (codes "select") 1 65535 rows × MayHaveNumber (codes "resets") 1 100000 rows
 
 -- what `drive` needs was found
 abbrev pub HasDrive : List Row → Type 0
@@ -420,7 +449,7 @@ HasShape rows = IsSome (first_of (codes "SHAPE") rows) × HasNumber (codes "N") 
 
 -- it is a subcommand that answers a script, with the values that it needs
 abbrev pub HasScriptJob : Text × List Row → Type 0
-HasScriptJob s = ((s.0 ≡ codes "replay") × HasReplay s.1) ⊎ ((s.0 ≡ codes "check") × HasTexts (codes "SCRIPT") s.1)
+HasScriptJob s = ((s.0 ≡ codes "replay") × HasReplay s.1) ⊎ ((s.0 ≡ codes "check") × HasCheck s.1)
 
 -- a subcommand of the program with the values that it needs, or none
 abbrev pub HasJob : Found → Type 0
@@ -431,7 +460,7 @@ HasJob (Some s) = HasScriptJob s
     ⊎ (((s.0 ≡ codes "threads") × HasThreads s.1)
     ⊎ (((s.0 ≡ codes "drive") × HasDrive s.1)
     ⊎ (((s.0 ≡ codes "topology") × HasShape s.1)
-    ⊎ (((s.0 ≡ codes "explain") × IsSome (first_of (codes "WORD") s.1))
+    ⊎ ((s.0 ≡ codes "explain")
     ⊎ ((s.0 ≡ codes "tables")
     ⊎ (((s.0 ≡ codes "plan") × HasPlan s.1)
     ⊎ (((s.0 ≡ codes "session") × HasSession s.1)

@@ -2,10 +2,9 @@
 
 ghost use Rattle.std.specs.Prelude.{◌≡◌, IfOk, codes};
 ghost use Rattle.clap.specs.Words.{App, Rule, app_of, new_app, with_rule, with_subcommand};
-ghost use Rattle.command_words.specs.Words.{IsCommand, IsWord, drive_command, explain_command};
-ghost use Rattle.command_words.specs.Words.{explore_command, file_option};
-ghost use Rattle.command_words.specs.Words.{flag, from_option};
-ghost use Rattle.command_words.specs.Words.{histories_program, new_program, number_option, optional, path, program};
+ghost use Rattle.command_words.specs.Words.{IsCommand, IsWord, check_command, drive_command, explain_command};
+ghost use Rattle.command_words.specs.Words.{explore_command, file_option, flag, from_option, histories_program};
+ghost use Rattle.command_words.specs.Words.{new_program, number_option, optional, path, program};
 ghost use Rattle.command_words.specs.Words.{page_command, plan_command, record_command, replay_command, scripts_program};
 ghost use Rattle.command_words.specs.Words.{session_command, tables_command, texts_command, texts_program};
 ghost use Rattle.command_words.specs.Words.{threads_command, topology_command, verify_command, within};
@@ -14,10 +13,11 @@ use crate::help::{
     ABOUT, ACTS_HELP, AFTER_HELP, APP_HELP, AT_HELP, CHECK_HELP, DRIVE_HELP, DRIVE_SEED_HELP,
     EXPLAIN_HELP, EXPLORE_HELP, EXPLORE_SCRIPT_HELP, FAULTS_HELP, FEW_NODES_HELP, FROM_HELP,
     HISTORY_FILE_HELP, HISTORY_HELP, Help, LONG_ABOUT, MOST_HELP, NO_SYNC_HELP, NODES_HELP,
-    NUMBER_HELP, PAGE_HELP, PICTURE_HELP, PLAN_HELP, PLAN_SCRIPT_HELP, RECORD_HELP, REPLAY_HELP,
-    SCRIPT_HELP, SESSION_HELP, SESSION_HISTORY_HELP, SHAPE_HELP, SHAPE_NAME_HELP, SHAPE_SEED_HELP,
-    SHOWN_HISTORY_HELP, STEPS_HELP, STRICT_HELP, TABLES_ABOUT, TABLES_LONG_ABOUT, THREADS_HELP,
-    TITLE_HELP, TOPOLOGY_HELP, TURNS_HELP, VERIFY_HELP, VERSION, WHY_HELP, WORD_HELP,
+    NUMBER_HELP, PAGE_HELP, PICTURE_HELP, PLAN_HELP, PLAN_SCRIPT_HELP, RECORD_HELP, REPAIR_HELP,
+    REPLAY_HELP, RESETS_HELP, SCRIPT_HELP, SELECT_HELP, SESSION_HELP, SESSION_HISTORY_HELP,
+    SHAPE_HELP, SHAPE_NAME_HELP, SHAPE_SEED_HELP, SHOWN_HISTORY_HELP, STEPS_HELP, STRICT_HELP,
+    TABLES_ABOUT, TABLES_LONG_ABOUT, THREADS_HELP, TITLE_HELP, TOPOLOGY_HELP, TURNS_HELP,
+    UNTIL_HELP, VERIFY_HELP, VERSION, WHOLE_HELP, WHY_HELP, WORD_HELP,
 };
 use clap::builder::ValueParser;
 use clap::{Arg, ArgAction, Command};
@@ -55,9 +55,8 @@ fn texts_line<'a>(alloc: Global) -> Result<Command<'a>, AllocError>
 fn scripts_line<'a>(alloc: Global) -> Result<Command<'a>, AllocError>
     ensures { IfOk result (IsCommand scripts_program) }
 {
-    let check = texts_words(alloc, "check", "SCRIPT", SCRIPT_HELP, &CHECK_HELP);
     let line = with_command(Ok(program_words(alloc)), replay_words(alloc));
-    let line = with_command(line, check);
+    let line = with_command(line, check_words(alloc));
     let line = with_command(line, plan_words(alloc));
     let line = with_command(line, explore_words(alloc));
     with_command(line, session_words(alloc))
@@ -100,13 +99,23 @@ fn replay_words<'a>(alloc: Global) -> Result<Command<'a>, AllocError>
     with_argument(line, flag_word(alloc, "strict", STRICT_HELP))
 }
 
+// The subcommand with the paths of a topology and of a script and, where they are given, that of a snapshot and the flags
+// that ask for repairs and for the application's invariant.
+fn check_words<'a>(alloc: Global) -> Result<Command<'a>, AllocError>
+    ensures { IfOk result (IsCommand check_command) }
+{
+    let line = texts_words(alloc, "check", "SCRIPT", SCRIPT_HELP, &CHECK_HELP);
+    let line = with_argument(line, flag_word(alloc, "repair", REPAIR_HELP));
+    with_argument(line, flag_word(alloc, "whole", WHOLE_HELP))
+}
+
 // The subcommand with the path of a topology and, where they are given, those of a script and of a snapshot.
 fn plan_words<'a>(alloc: Global) -> Result<Command<'a>, AllocError>
     ensures { IfOk result (IsCommand plan_command) }
 {
     let line = Ok(bare_words(alloc, "plan", &PLAN_HELP));
     let line = with_argument(line, path_word(alloc, "TOPOLOGY", TOPOLOGY_HELP));
-    let line = with_argument(line, script_word(alloc, PLAN_SCRIPT_HELP));
+    let line = with_argument(line, optional_path_word(alloc, "SCRIPT", PLAN_SCRIPT_HELP));
     with_argument(line, from_word(alloc))
 }
 
@@ -117,7 +126,10 @@ fn explore_words<'a>(alloc: Global) -> Result<Command<'a>, AllocError>
 {
     let line = Ok(bare_words(alloc, "explore", &EXPLORE_HELP));
     let line = with_argument(line, path_word(alloc, "TOPOLOGY", TOPOLOGY_HELP));
-    let line = with_argument(line, script_word(alloc, EXPLORE_SCRIPT_HELP));
+    let line = with_argument(
+        line,
+        optional_path_word(alloc, "SCRIPT", EXPLORE_SCRIPT_HELP),
+    );
     let line = with_argument(line, from_word(alloc));
     let line = with_argument(line, flag_word(alloc, "acts", ACTS_HELP));
     let line = with_argument(line, most_word(alloc));
@@ -170,14 +182,17 @@ fn record_words<'a>(alloc: Global) -> Result<Command<'a>, AllocError>
     with_argument(line, from_word(alloc))
 }
 
-// The subcommand with the path of a topology, a number of turns and the path of a file for the history and, where it is
-// given, that of a snapshot.
+// The subcommand with the path of a topology and the path of a file for the history and, where they are given, how long it
+// runs, who asks for how many resets, and the path of a snapshot.
 fn threads_words<'a>(alloc: Global) -> Result<Command<'a>, AllocError>
     ensures { IfOk result (IsCommand threads_command) }
 {
     let line = Ok(bare_words(alloc, "threads", &THREADS_HELP));
     let line = with_argument(line, path_word(alloc, "TOPOLOGY", FEW_NODES_HELP));
     let line = with_argument(line, turns_word(alloc));
+    let line = with_argument(line, until_word(alloc));
+    let line = with_argument(line, select_word(alloc));
+    let line = with_argument(line, resets_word(alloc));
     let line = with_argument(line, history_word(alloc));
     with_argument(line, from_word(alloc))
 }
@@ -211,7 +226,7 @@ fn explain_words<'a>(alloc: Global) -> Result<Command<'a>, AllocError>
     ensures { IfOk result (IsCommand explain_command) }
 {
     let line = Ok(bare_words(alloc, "explain", &EXPLAIN_HELP));
-    with_argument(line, path_word(alloc, "WORD", WORD_HELP))
+    with_argument(line, optional_path_word(alloc, "WORD", WORD_HELP))
 }
 
 fn tables_words<'a>(alloc: Global) -> Command<'a>
@@ -255,12 +270,35 @@ fn with_command<'a>(
     line?.subcommand(words?)
 }
 
-// How many turns each node takes, which has to be given.
+// How many turns each node takes, which may be left out.
 fn turns_word<'a>(alloc: Global) -> Arg<'a>
-    ensures { IsWord (number_option (codes "turns") 1 100000) result }
+    ensures { IsWord (optional (number_option (codes "turns") 1 100000)) result }
 {
-    let turns = option_word(alloc, "turns", "N", true, TURNS_HELP);
+    let turns = option_word(alloc, "turns", "N", false, TURNS_HELP);
     number_word(turns, 1, 100_000)
+}
+
+// What ends a run in place of a number of turns, which may be left out.
+fn until_word<'a>(alloc: Global) -> Arg<'a>
+    ensures { IsWord (optional (file_option (codes "until"))) result }
+{
+    option_word(alloc, "until", "quiet", false, UNTIL_HELP)
+}
+
+// The node that asks for resets, which may be left out.
+fn select_word<'a>(alloc: Global) -> Arg<'a>
+    ensures { IsWord (optional (number_option (codes "select") 1 65535)) result }
+{
+    let select = option_word(alloc, "select", "I", false, SELECT_HELP);
+    number_word(select, 1, 65_535)
+}
+
+// For how many resets it asks, which may be left out.
+fn resets_word<'a>(alloc: Global) -> Arg<'a>
+    ensures { IsWord (optional (number_option (codes "resets") 1 100000)) result }
+{
+    let resets = option_word(alloc, "resets", "N", false, RESETS_HELP);
+    number_word(resets, 1, 100_000)
 }
 
 // How many steps a scheduler takes, which has to be given.
@@ -362,11 +400,11 @@ fn path_word<'a>(alloc: Global, name: &'a str, help: &'a str) -> Arg<'a>
     Arg::new(alloc, name).required(true).help(help)
 }
 
-// The path of a script, which may be left out.
-fn script_word<'a>(alloc: Global, help: &'a str) -> Arg<'a>
-    ensures { IsWord (optional (path (codes "SCRIPT"))) result }
+// The path of a file, or another word, which may be left out.
+fn optional_path_word<'a>(alloc: Global, name: &'a str, help: &'a str) -> Arg<'a>
+    ensures { IsWord (optional (path name.entry.now)) result }
 {
-    Arg::new(alloc, "SCRIPT").help(help)
+    Arg::new(alloc, name).help(help)
 }
 
 // The path of a snapshot, which may be left out.

@@ -94,10 +94,21 @@ Runs a script on a topology, and checks the network that it leaves.
 The script is run as `replay` runs it. Then each link whose ends contradict each other is named
 in a line `link AT OTHER FAMILY ROW`: the node, its neighbour (or the node itself), which table
 (tree, wave or app) and which of its rows; `reset-service tables` prints the tables. The last line is
-`faults COUNT`, and the exit status is 1 where COUNT isn't 0. After a bad line nothing is checked.",
+`faults COUNT`, and the exit status is 1 where COUNT isn't 0. After a bad line nothing is checked.
+
+With `--repair` each row of tree and wave that fails is followed by the command that repairs it, as
+`link 4 5 tree 7 -> adopt 4 5`. To repair the first one again and again may never end: `plan` writes
+repairs that do.
+
+With `--whole` there follows, for each component, a line `invariant LEADER holds` or `invariant LEADER
+fails WHAT COUNT`: what its nodes do together, which no single link shows. An application's invariant
+is about the newest session; a node that hasn't joined it counts as started. WHAT is `tokens` (their
+number isn't 1), `in without its turn` (nodes) or `routes without a way` (entries of tables). The exit
+status is 1 where one fails.",
     after_help: "\
-Example:
-  reset-service check examples/sound-network/topology.toml examples/sound-network/script",
+Examples:
+  reset-service check examples/sound-network/topology.toml examples/sound-network/script
+  reset-service check --repair examples/planned-repair/topology.toml examples/planned-repair/damage",
 };
 
 pub const PLAN_HELP: Help = Help {
@@ -202,6 +213,12 @@ pub const NUMBER_HELP: &str = "Puts the number of its line before each answer";
 
 pub const STRICT_HELP: &str = "Ends at the first refusal, with exit status 1";
 
+pub const REPAIR_HELP: &str =
+    "Puts behind each row of tree and wave that fails the command that repairs it";
+
+pub const WHOLE_HELP: &str =
+    "Prints for each component whether the application's invariant holds there";
+
 pub const PLAN_SCRIPT_HELP: &str =
     "A file with one command a line, which is run before; none where this is left out";
 
@@ -271,10 +288,13 @@ pub const THREADS_HELP: Help = Help {
 Runs a thread for each node, and writes what the nodes did as a history.
 
 The network starts from the booted configuration of its topology. The node with the least
-identifier asks for a reset first. Then each node takes N turns, all nodes at the same time. In a
-turn a node does the first event that it may do, requests left out, or nothing where a neighbour has
-changed what it saw. A node that may do none waits until a neighbour has changed, and the turns end
-where every node that has turns left waits. What the nodes did is written to FILE as a history,
+identifier, or the one that `--select` names, asks for a reset first. Then all nodes take turns at
+the same time, N each with `--turns N`. In a turn a node does the first event that it may do,
+requests left out, or nothing where a neighbour has changed what it saw. A node that may do none waits
+until a neighbour has changed, and the turns end where every node that has turns left waits. With
+`--until quiet` the turns end there alone: the applications `idle` and `routes` come to rest so, `token`
+and `mutex` don't and need `--turns`. With `--resets N` the node that asked asks again when it has
+finished the reset that it asked for, N times in all. What the nodes did is written to FILE as a history,
 which `verify` accepts. It is written to FILE.part, which takes the place of FILE at the end: a run
 that stops, or that leaves no history, leaves FILE as it was. At most 1,000,000 entries are kept: a
 run that reaches this many ends there. Then one line is printed, `threads N nodes E entries R reports`:
@@ -285,6 +305,7 @@ is 2.",
     after_help: "\
 Example:
   reset-service threads examples/one-wave/topology.toml --turns 100 --history history
+  reset-service threads examples/one-wave/topology.toml --until quiet --resets 3 --history history
   reset-service verify examples/one-wave/topology.toml history",
 };
 
@@ -292,6 +313,15 @@ pub const FEW_NODES_HELP: &str =
     "A file in TOML that names the nodes, at most 64, the links between them, and the application";
 
 pub const TURNS_HELP: &str = "How many turns each node takes, from 1 to 100000";
+
+pub const UNTIL_HELP: &str =
+    "In place of `--turns`: the run goes on until no node has anything to do";
+
+pub const SELECT_HELP: &str =
+    "The node that asks for resets; where it isn't given, the least that is up";
+
+pub const RESETS_HELP: &str =
+    "How many resets it asks for, from 1 to 100000; 1 where it isn't given";
 
 pub const HISTORY_FILE_HELP: &str =
     "The file that the history is written to, in place of what it has; it can't be an input";
@@ -384,11 +414,14 @@ pub const EXPLAIN_HELP: Help = Help {
     about: "Explains a word that the program prints or reads, and says what to do",
     long_about: "\
 Explains a word that the program prints or reads, and says what to do: a refusal, a fault of a
-topology or of a history, or a command of a script.",
+topology or of a history, a command of a script, or a row that `check` names. Without a word it
+lists the words that it knows.",
     after_help: "\
-Example:
-  reset-service explain NotEnabled",
+Examples:
+  reset-service explain
+  reset-service explain NotEnabled
+  reset-service explain 'tree 7'",
 };
 
 pub const WORD_HELP: &str =
-    "One word of an answer or of a script, as `NotEnabled`, `complete` or `not`";
+    "One word of an answer or of a script, as `NotEnabled` or `not`, or a row that `check` names, as `tree 7`";

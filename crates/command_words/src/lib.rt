@@ -1,6 +1,7 @@
 //! The words of the program's command line: what they ask for, or what is wrong with them.
 #![tactic(auto)]
 
+mod check_words;
 mod commands;
 mod drive_words;
 mod explore_words;
@@ -15,6 +16,7 @@ mod thread_words;
 mod verify_words;
 mod words;
 
+pub use check_words::CheckWords;
 pub use drive_words::DriveWords;
 pub use explore_words::ExploreWords;
 pub use page_words::PageWords;

@@ -1,12 +1,13 @@
 // What the words of the command line ask for.
 
-ghost use Rattle.std.specs.Prelude.{◌≡◌, [], codes, map, not, option_map, IfErr, IfOk, IsSome, Some};
+ghost use Rattle.std.specs.Prelude.{◌≡◌, [], codes, map, not, option_map, IfErr, IfOk, Some};
 ghost use Rattle.clap.specs.Words.{first_of, found_of, rows_of, subcommand_rows_of};
 ghost use Rattle.command_words.specs.declared.words.LineFault.TheVariants.{NoMemory};
-ghost use Rattle.command_words.specs.Words.{faults_of, AskFor, AskedBy, HasDrive, HasExplore, HasJob, HasPlan, HasRecord, HasReplay};
-ghost use Rattle.command_words.specs.Words.{HasSession, HasShape, HasTexts, HasThreads, HasVerify, IsFaultOf};
+ghost use Rattle.command_words.specs.Words.{faults_of, AskFor, AskedBy, HasCheck, HasDrive, HasExplore, HasJob, HasPlan, HasRecord};
+ghost use Rattle.command_words.specs.Words.{HasReplay, HasSession, HasShape, HasTexts, HasThreads, HasVerify, IsFaultOf};
 ghost use Rattle.command_words.specs.Words.{IsNumberOr, IsNumberOrNone, IsNumberWithin, StandsFor, is_on, line_fault_text};
 
+use crate::check_words::CheckWords;
 use crate::commands::command_line;
 use crate::drive_words::DriveWords;
 use crate::explore_words::ExploreWords;
@@ -43,7 +44,7 @@ pub enum Job<'a> {
     /// Replay the script of a file on the topology of another, from its booted configuration or a snapshot.
     Replay(ReplayWords<'a>),
     /// The same, and check the network that the script leaves.
-    Check(Paths<'a>),
+    Check(CheckWords<'a>),
     /// Plan for the network that a script leaves of a topology.
     Plan(PlanWords<'a>),
     /// Explore all orders of the enabled events of the network that a script leaves of a topology.
@@ -64,8 +65,8 @@ pub enum Job<'a> {
     Drive(DriveWords<'a>),
     /// Write the text of a topology of this shape.
     Shape(ShapeWords<'a>),
-    /// Tell what a word of the output means.
-    Explain(&'a str),
+    /// Explain a word of the output or, without one, list the words that are known.
+    Explain(Option<&'a str>),
     /// Print the tables.
     Tables,
 }
@@ -140,7 +141,7 @@ fn named_job<'a>(name: &str, values: &ArgMatches<'a>) -> Job<'a>
 {
     match name {
         "replay" => Job::Replay(replay_words_of(values)),
-        "check" => Job::Check(paths_of(values, "SCRIPT")),
+        "check" => Job::Check(check_words_of(values)),
         "plan" => Job::Plan(plan_words_of(values)),
         "explore" => Job::Explore(explore_words_of(values)),
         "session" => Job::Session(session_words_of(values)),
@@ -151,7 +152,7 @@ fn named_job<'a>(name: &str, values: &ArgMatches<'a>) -> Job<'a>
         "threads" => Job::Threads(thread_words_of(values)),
         "drive" => Job::Drive(drive_words_of(values)),
         "topology" => Job::Shape(shape_words_of(values)),
-        "explain" => Job::Explain(word_of(values)),
+        "explain" => Job::Explain(values.get_str("WORD")),
         _ => Job::Tables,
     }
 }
@@ -188,6 +189,27 @@ fn replay_words_of<'a>(values: &ArgMatches<'a>) -> ReplayWords<'a>
         from: paths.from,
         number,
         strict,
+    }
+}
+
+// The words of matches that have a topology and a script, and may have a snapshot and the flags of a check.
+fn check_words_of<'a>(values: &ArgMatches<'a>) -> CheckWords<'a>
+    requires { HasCheck (rows_of (found_of values.now)) }
+    ensures topology { first_of (codes "TOPOLOGY") (rows_of (found_of values.now)) ≡ Some result.topology.now }
+    ensures script { first_of (codes "SCRIPT") (rows_of (found_of values.now)) ≡ Some result.script.now }
+    ensures from { first_of (codes "from") (rows_of (found_of values.now)) ≡ option_map (λ from. from.now) result.from }
+    ensures repair { result.repair ≡ is_on (first_of (codes "repair") (rows_of (found_of values.now))) }
+    ensures whole { result.whole ≡ is_on (first_of (codes "whole") (rows_of (found_of values.now))) }
+{
+    let paths = paths_of(values, "SCRIPT");
+    let repair = values.get_flag("repair");
+    let whole = values.get_flag("whole");
+    CheckWords {
+        topology: paths.topology,
+        script: paths.input,
+        from: paths.from,
+        repair,
+        whole,
     }
 }
 
@@ -324,13 +346,19 @@ fn thread_words_of<'a>(values: &ArgMatches<'a>) -> ThreadWords<'a>
     requires { HasThreads (rows_of (found_of values.now)) }
     ensures topology { first_of (codes "TOPOLOGY") (rows_of (found_of values.now)) ≡ Some result.topology.now }
     ensures history { first_of (codes "history") (rows_of (found_of values.now)) ≡ Some result.history.now }
-    ensures turns { IsNumberWithin 1 100000 (first_of (codes "turns") (rows_of (found_of values.now))) result.turns }
+    ensures turns { IsNumberOrNone 1 100000 (first_of (codes "turns") (rows_of (found_of values.now))) result.turns }
+    ensures until { first_of (codes "until") (rows_of (found_of values.now)) ≡ option_map (λ until. until.now) result.until }
+    ensures select { IsNumberOrNone 1 65535 (first_of (codes "select") (rows_of (found_of values.now))) result.select }
+    ensures resets { IsNumberOr 1 1 100000 (first_of (codes "resets") (rows_of (found_of values.now))) result.resets }
     ensures from { first_of (codes "from") (rows_of (found_of values.now)) ≡ option_map (λ from. from.now) result.from }
 {
     let paths = paths_of(values, "history");
     ThreadWords {
         topology: paths.topology,
-        turns: values.get_one::<u32>("turns").unwrap(),
+        turns: values.get_one::<u32>("turns"),
+        until: values.get_str("until"),
+        select: values.get_one::<u32>("select"),
+        resets: values.get_one::<u32>("resets").unwrap_or(1),
         history: paths.input,
         from: paths.from,
     }
@@ -375,12 +403,4 @@ fn shape_words_of<'a>(values: &ArgMatches<'a>) -> ShapeWords<'a>
         seed: values.get_one::<u32>("seed").unwrap_or(0),
         app: values.get_str("app"),
     }
-}
-
-// The word of matches that have one.
-fn word_of<'a>(values: &ArgMatches<'a>) -> &'a str
-    requires { IsSome (first_of (codes "WORD") (rows_of (found_of values.now))) }
-    ensures { first_of (codes "WORD") (rows_of (found_of values.now)) ≡ Some result.now }
-{
-    values.get_str("WORD").unwrap()
 }

@@ -1,4 +1,3 @@
 pub mod Nearing
 pub mod HelpLines
 pub mod BadLines
-pub mod Described

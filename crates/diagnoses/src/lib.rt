@@ -3,6 +3,7 @@
 
 mod bad_line;
 mod commands;
+mod graph_faults;
 mod history_text;
 mod misuse;
 mod near_names;

@@ -2,20 +2,18 @@
 
 ghost use Rattle.std.specs.Prelude.{◌≡◌};
 
+use crate::graph_faults::{put_of_link, put_of_node};
 use crate::said::{Source, put_end, put_head, put_line_number, put_said};
-use action_tables::{Part, WriteFault, put_bytes, put_parts};
+use action_tables::{WriteFault, put_bytes};
 use app_interface::{Application, Idle};
 use app_mutex::EdgeReversal;
 use app_routes::Routes;
 use app_token::Token;
 use script_replay::{Network, RunStop, read_network};
-use snapshots::{SnapshotFault, read_snapshot};
+use snapshots::{MAX_SNAPSHOT, SnapshotFault, read_snapshot};
 use std::alloc::Global;
 use std::io::Write;
 use topology::{AppName, ReadFault};
-
-/// The most bytes of a snapshot.
-const MAX_SNAPSHOT: usize = 67_108_864;
 
 /// Writes what is wrong with a snapshot of a topology, and where; returns whether it wrote. Of a bad topology nothing is
 /// said here.
@@ -93,50 +91,16 @@ fn put_fault<W: Write>(fault: SnapshotFault, out: &mut W) -> Result<(), WriteFau
             put_bytes(out, b"no line of a snapshot")
         }
         SnapshotFault::BadVersion => put_bytes(out, b"line 1: the version of a snapshot is 1"),
-        SnapshotFault::StrangeNode(id) => put_node_fault(
+        SnapshotFault::StrangeNode(id) => put_of_node(
             out,
             b"node ",
             id,
             b" isn't in the topology, or is the end of a link and down",
         ),
-        SnapshotFault::TwiceNode(id) => put_node_fault(out, b"node ", id, b" has two lines"),
-        SnapshotFault::SelfLink(id) => put_node_fault(
-            out,
-            b"a link joins node ",
-            id,
-            b" with itself",
-        ),
-        SnapshotFault::TwiceLink(a, b) => put_twice_link(out, a, b),
+        SnapshotFault::TwiceNode(id) => put_of_node(out, b"node ", id, b" has two lines"),
+        SnapshotFault::SelfLink(id) => put_of_node(out, b"a link joins node ", id, b" with itself"),
+        SnapshotFault::TwiceLink(a, b) => put_of_link(out, a, b, b" has two lines"),
         SnapshotFault::TooManyLinks => put_bytes(out, b"it has more than 8192 links"),
         SnapshotFault::NoMemory => Ok(()),
     }
-}
-
-fn put_node_fault<'t, W: Write>(
-    out: &mut W,
-    before: &'t [u8],
-    id: u32,
-    after: &'t [u8],
-) -> Result<(), WriteFault> {
-    put_parts(
-        out,
-        &[
-            Part::Text(before),
-            Part::Number(u64::from(id)),
-            Part::Text(after),
-        ],
-    )
-}
-
-fn put_twice_link<W: Write>(out: &mut W, a: u32, b: u32) -> Result<(), WriteFault> {
-    put_parts(
-        out,
-        &[
-            Part::Text(b"the link of "),
-            Part::Number(u64::from(a)),
-            Part::Text(b" and "),
-            Part::Number(u64::from(b)),
-            Part::Text(b" has two lines"),
-        ],
-    )
 }

@@ -2,6 +2,7 @@
 
 ghost use Rattle.std.specs.Prelude.{◌≤◌, length};
 
+use crate::graph_faults::{put_of_link, put_of_node};
 use crate::near_names::nearest;
 use crate::place::{column_at, line_at};
 use crate::said::{Source, put_end, put_head};
@@ -154,53 +155,22 @@ fn put_graph_fault<W: Write>(fault: TopoFault, out: &mut W) -> Result<(), RunSto
     match fault {
         TopoFault::NoNodes => put_bytes(out, b"'nodes' is empty")?,
         TopoFault::TooManyNodes => put_bytes(out, b"'nodes' has more than 1024 numbers")?,
-        TopoFault::BadId(id) => put_node_fault(out, b"", id, b" in 'nodes' isn't from 1 to 65535")?,
-        TopoFault::TwiceNode(id) => put_node_fault(out, b"", id, b" is twice in 'nodes'")?,
+        TopoFault::BadId(id) => put_of_node(out, b"", id, b" in 'nodes' isn't from 1 to 65535")?,
+        TopoFault::TwiceNode(id) => put_of_node(out, b"", id, b" is twice in 'nodes'")?,
         TopoFault::TooManyLinks => put_bytes(out, b"'links' has more than 8192 links")?,
         TopoFault::StrangeNode(id) => {
-            put_node_fault(out, b"", id, b" in 'links' isn't in 'nodes'")?
+            put_of_node(out, b"", id, b" in 'links' isn't in 'nodes'")?
         }
-        TopoFault::SelfLink(id) => put_node_fault(
+        TopoFault::SelfLink(id) => put_of_node(
             out,
             b"a link in 'links' joins ",
             id,
             b" with itself",
         )?,
-        TopoFault::TwiceLink(a, b) => put_twice_link(out, a, b)?,
+        TopoFault::TwiceLink(a, b) => put_of_link(out, a, b, b" is twice in 'links'")?,
         TopoFault::NoMemory => return Err(RunStop::NoMemory),
         // No text has one of these.
         TopoFault::NoSuchLink | TopoFault::LinkIsThere | TopoFault::NodeIsUp => {}
     }
-    Ok(())
-}
-
-fn put_node_fault<'t, W: Write>(
-    out: &mut W,
-    before: &'t [u8],
-    id: u32,
-    after: &'t [u8],
-) -> Result<(), RunStop> {
-    put_parts(
-        out,
-        &[
-            Part::Text(before),
-            Part::Number(u64::from(id)),
-            Part::Text(after),
-        ],
-    )?;
-    Ok(())
-}
-
-fn put_twice_link<W: Write>(out: &mut W, a: u32, b: u32) -> Result<(), RunStop> {
-    put_parts(
-        out,
-        &[
-            Part::Text(b"the link of "),
-            Part::Number(u64::from(a)),
-            Part::Text(b" and "),
-            Part::Number(u64::from(b)),
-            Part::Text(b" is twice in 'links'"),
-        ],
-    )?;
     Ok(())
 }

@@ -5,7 +5,7 @@ use Rattle.std.specs.Str.{bytes_eq}
 use Rattle.std.proofs.lemmas.List.Folds.{find-append}
 use Rattle.explanations.specs.Explained.{text_in}
 
-mapped : {X Y : Type 0} (f : X → Y) (a b : Option X)
+pub mapped : {X Y : Type 0} (f : X → Y) (a b : Option X)
     → option_map f (option_or a b) ≡ option_or (option_map f a) (option_map f b)
 mapped f None b = refl
 mapped f (Some x) b = refl

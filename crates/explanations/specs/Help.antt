@@ -1,10 +1,12 @@
 -- The help that a line of a session asks for.
-use Rattle.std.specs.Prelude.{ℕ, nat_lt, Bool, if◌then◌else◌, List, codes, drop, length, take, Option, Some, None, option_map}
+use Rattle.std.specs.Prelude.{ℕ, nat_lt, if◌then◌else◌, List, codes, drop, length, take, Option, Some, None, option_map}
 use Rattle.std.specs.Prelude.{unwrap_or}
+use Rattle.std.specs.Option.{option_or}
 use Rattle.std.specs.Str.{bytes_eq}
 use Rattle.explanations.specs.Explained.{explained}
 use Rattle.explanations.specs.declared.explained.TheConstants.{NO_SUCH_WORD}
 use Rattle.explanations.specs.declared.help.TheConstants.{COMMANDS_HELP}
+use Rattle.explanations.specs.declared.topics.TheConstants.{TOPICS}
 
 -- what a word means, or that it isn't known
 abbrev pub explanation_text : List ℕ → List ℕ
@@ -16,7 +18,16 @@ asked_word line =
     if nat_lt 256 (length line) then None
     else if bytes_eq (take 8 line) (codes "explain ") then Some (drop 8 line) else None
 
--- the help that a line asks for, if it asks for some: the commands, or what a word means
+-- the help of a line that names no word: the commands, or the words that are known
+abbrev pub general_help : List ℕ → Option (List ℕ)
+general_help line =
+    if bytes_eq line (codes "help") then Some COMMANDS_HELP.now
+    else if bytes_eq line (codes "explain") then Some TOPICS.now else None
+
+-- what a word means, if the line asks for that
+abbrev pub word_help : List ℕ → Option (List ℕ)
+word_help line = option_map explanation_text (asked_word line)
+
+-- the help that a line asks for, if it asks for some
 unfoldable pub helped : List ℕ → Option (List ℕ)
-helped line =
-    if bytes_eq line (codes "help") then Some COMMANDS_HELP.now else option_map explanation_text (asked_word line)
+helped line = option_or (general_help line) (word_help line)

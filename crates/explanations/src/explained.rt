@@ -3,7 +3,9 @@
 ghost use Rattle.std.specs.Prelude.{◌≡◌, map, option_map};
 ghost use Rattle.explanations.specs.Explained.{explained, text_in};
 
+use crate::applications::APPLICATIONS;
 use crate::refusals::REFUSALS;
+use crate::rows::ROWS;
 use crate::words::WORDS;
 
 /// What is answered where no word is known.
@@ -16,7 +18,10 @@ type Explanation = (&'static str, &'static str);
 pub fn explanation_of(word: &[u8]) -> Option<&'static str>
     ensures { option_map (λ text. text.now) result ≡ explained word.now }
 {
-    text_of(&REFUSALS, word).or(text_of(&WORDS, word))
+    text_of(&REFUSALS, word)
+        .or(text_of(&WORDS, word))
+        .or(text_of(&APPLICATIONS, word))
+        .or(text_of(&ROWS, word))
 }
 
 // The text of the first explanation of a word.

@@ -1,11 +1,11 @@
 // The help that a line of a session asks for.
 
-ghost use Rattle.std.specs.Prelude.{◌≡◌, codes, option_map};
-ghost use Rattle.std.specs.Str.{bytes_eq};
-ghost use Rattle.explanations.specs.Help.{asked_word, explanation_text, helped};
+ghost use Rattle.std.specs.Prelude.{◌≡◌, option_map};
+ghost use Rattle.explanations.specs.Help.{asked_word, explanation_text, general_help, helped, word_help};
 ghost use Rattle.explanations.specs.declared.help.TheConstants.{COMMANDS_HELP};
 
 use crate::explained::{NO_SUCH_WORD, explanation_of};
+use crate::topics::TOPICS;
 
 // The commands of a session, a line each.
 pub const COMMANDS_HELP: &str = "\
@@ -36,7 +36,7 @@ fault up A B                   brings a link up
 fault off I                    takes node I down
 fault on I                     brings node I up
 draw SEED                      a random fault
-explain WORD                   what a word of an answer or a command means
+explain [WORD]                 what a word of an answer or a command means
 help                           these lines
 exit                           ends the session
 ";
@@ -51,24 +51,35 @@ pub fn command_lines() -> &'static str
     COMMANDS_HELP
 }
 
-/// The help that a line asks for, in lines: `help` for the commands, `explain WORD` for what a word means, or that it isn't
-/// known. None for any other line, and for one of over 256 bytes.
+/// The help that a line asks for, in lines: `help` for the commands, `explain` for the words that have an explanation,
+/// `explain WORD` for what a word means, or that it isn't known. None for any other line, and for one of over 256 bytes.
 pub fn help_for(line: &[u8]) -> Option<&'static str>
     ensures { option_map (λ text. text.now) result ≡ helped line.now }
 {
-    if asks_for_commands(line) {
+    general_help(line).or(word_help(line))
+}
+
+// The help of a line that names no word.
+fn general_help(line: &[u8]) -> Option<&'static str>
+    ensures { option_map (λ text. text.now) result ≡ general_help line.now }
+{
+    if line == b"help".as_slice() {
         return Some(COMMANDS_HELP);
     }
+    if line == b"explain".as_slice() {
+        return Some(TOPICS);
+    }
+    None
+}
+
+// What a word means, if the line asks for that.
+fn word_help(line: &[u8]) -> Option<&'static str>
+    ensures { option_map (λ text. text.now) result ≡ word_help line.now }
+{
     match asked_word(line) {
         Some(word) => Some(meaning_of(word)),
         None => None,
     }
-}
-
-fn asks_for_commands(line: &[u8]) -> bool
-    ensures { result ≡ bytes_eq line.now (codes "help") }
-{
-    line == b"help".as_slice()
 }
 
 // The word of which a line asks what it means.

@@ -1,6 +1,6 @@
 // What the other words mean that the program prints and reads, and what to do: words, each with its text.
 
-pub const WORDS: [(&str, &str); 73] = [
+pub const WORDS: [(&str, &str); 65] = [
     // Answers to commands.
     (
         "bad",
@@ -214,7 +214,9 @@ node has yet to join it.\n",
         "check",
         "\
 `check` or `check I`: the rows that fail at all nodes, or at node I. The subcommand `check` does\n\
-so at the end of a script, with status 1 where some row fails.\n",
+so at the end of a script, with status 1 where some row fails; `check --repair` puts the command that\n\
+repairs it behind each row of tree and wave. To repair the first one again and again may never end:\n\
+`plan` writes repairs that do.\n",
     ),
     (
         "alarm",
@@ -254,8 +256,8 @@ after `# R repairs`, and then restarts each part of it, after `# S steps of a re
     (
         "explain",
         "\
-`explain WORD`: what a word means that an answer or a command has. In a session a command, and else\n\
-a subcommand.\n",
+`explain WORD`: what a word means that an answer or a command has, and `explain` alone: which words\n\
+it knows. In a session a command, and else a subcommand.\n",
     ),
     (
         "exit",
@@ -301,6 +303,12 @@ that ends leaves a network that needs no repair.\n",
         "\
 `endless`: some order never ends. `endless from P to Q`: it is in the history, and the configuration\n\
 after P entries is the one after Q. `plan` writes repairs that end.\n",
+    ),
+    (
+        "repair",
+        "\
+What a node does about registers that can't be right: `claim`, `follow`, `adopt` or `mend`.\n\
+`reset-service check --repair` prints each behind the row that calls for it.\n",
     ),
     (
         "repairs",
@@ -366,52 +374,5 @@ As a family of faults: a row of the application's link table.\n",
         "local",
         "\
 The local state of the application at a node, as a text.\n",
-    ),
-    // Applications and their actions.
-    (
-        "idle",
-        "\
-The application that has nothing to do.\n",
-    ),
-    (
-        "token",
-        "\
-The application in which one node at a time holds a token, in each part of the network one:\n\
-`pass J` and `take J`.\n",
-    ),
-    (
-        "mutex",
-        "\
-The application in which no two neighbours are in at once: `enter` and `leave`.\n",
-    ),
-    (
-        "routes",
-        "\
-The application in which each node learns ways to the others that it can reach: `pull J`.\n",
-    ),
-    (
-        "pass",
-        "\
-`act I pass J` (token): node I, which holds the token, hands it to its neighbour J.\n",
-    ),
-    (
-        "take",
-        "\
-`act I take J` (token): node I takes the token that its neighbour J has handed over.\n",
-    ),
-    (
-        "enter",
-        "\
-`act I enter` (mutex): node I goes in, where it has the turn of each of its links.\n",
-    ),
-    (
-        "leave",
-        "\
-`act I leave` (mutex): node I goes out, and hands the turn of each link over.\n",
-    ),
-    (
-        "pull",
-        "\
-`act I pull J` (routes): node I takes its neighbour J's better ways.\n",
     ),
 ];

@@ -2,9 +2,8 @@
 use Rattle.std.proofs.Common.{◌≡◌, ℕ, zero, suc, ◌*◌, ◌/◌, ◌<◌, ◌≤◌, List, [], ◌∷◌, ◌++◌, length, take, Option, Some}
 use Rattle.std.proofs.Common.{slice_get, refl, ap, ◌∙◌, arith}
 use Rattle.std.proofs.lemmas.List.{length-append, take-append-le, take_all}
-use Rattle.std.proofs.Common.{Result, Ok, Err, get_or}
+use Rattle.std.proofs.Common.{get_or}
 use Rattle.std.proofs.lemmas.Option.{slice_get_read, slice_get_within}
-use Rattle.std.specs.Prelude.{IfOk}
 use Rattle.app_interface.specs.Application.{App}
 use Rattle.reset_model.specs.Configuration.{Configuration}
 use Rattle.history.specs.declared.entry.Entry.{Entry}
@@ -18,12 +17,6 @@ get_more [] last x zero is old new = new refl (let same : last ≡ x = cc in sam
 get_more [] last x (suc k) is old new = absurd (cc)
 get_more (y ∷ ys) last x zero is old new = old is
 get_more (y ∷ ys) last x (suc k) is old new = get_more ys last x k is old (λ at. new (ap suc at))
-
--- what is told of one replay is told of another with the same end
-pub same_end : {C E : Type 0} (o p : Option C) (r : Result C E) → p ≡ o → IfOk r (λ c. o ≡ Some c)
-    → IfOk r (λ c. p ≡ Some c)
-same_end o p (Ok c) same is = same ∙ is
-same_end o p (Err f) same is = tt
 
 module _ {L : Type 0} (app : App L) (from_text : List ℕ → Option L) where
   -- an entry more

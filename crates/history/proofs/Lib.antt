@@ -1,6 +1,6 @@
 mod Tables
 mod Pieces
-mod Replays
+pub mod Replays
 mod Checkpoints
 mod SegmentTexts
 pub mod Plays

@@ -24,7 +24,7 @@ pub use line::{lemma_fault_has_line, lemma_step_has_line};
 pub use lines::MAX_LINE;
 pub use read::{BookText, is_graphic, is_printable, read_book};
 pub use refusal::{ApplyRefusal, AtFault, BookRefusal, DisturbRefusal};
-pub use replay::play;
+pub use replay::{play, play_all};
 pub use stretches::{
     books_tell_steps, replays_stay_shaped, reports_are_completions, reports_are_true,
     stretches_are_steps, undisturbed_parts_are_stretches,

@@ -8,7 +8,7 @@ ghost use Rattle.history.specs.Segments.{HasPlace, IsCovered, IsLog, entries_of}
 
 use crate::entry::{Entry, Receipt};
 use crate::line::lemma_step_has_line;
-use crate::replay::replay;
+use crate::replay::play_all;
 use crate::segments::{SEGMENT, Segments};
 use app_interface::Application;
 use reset_machine::{Config, Event, Reply};
@@ -112,8 +112,9 @@ impl<P: Application> Log<P> {
             (take index (entries_of self.now.segments)) ≡ Some config) }
     {
         let number = index / SEGMENT;
-        let checkpoint = self.checkpoints[number].copy(alloc)?;
+        let mut config = self.checkpoints[number].copy(alloc)?;
         let entries = &self.segments.segment(number)[..index % SEGMENT];
-        replay(alloc, checkpoint, entries)
+        play_all(alloc, &mut config, entries)?;
+        Ok(config)
     }
 }

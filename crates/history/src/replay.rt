@@ -1,6 +1,6 @@
 // Entries played again, each of which was allowed where it stands.
 
-ghost use Rattle.std.specs.Prelude.{◌≡◌, IfOk, IsSome, OnOk, Some};
+ghost use Rattle.std.specs.Prelude.{◌≡◌, IsSome, OnOk, Some};
 ghost use Rattle.history.specs.Entries.{entered, replayed};
 
 use crate::entry::Entry;
@@ -9,20 +9,19 @@ use fault_inject::{FaultRefusal, inject};
 use reset_machine::{Config, StepRefusal};
 use std::alloc::{AllocError, Global};
 
-// What the entries leave from this configuration.
-pub fn replay<P: Application>(
+/// Does what the entries say, each of which is allowed where it stands.
+pub fn play_all<P: Application>(
     alloc: Global,
-    config: Config<P>,
+    config: &mut Config<P>,
     entries: &[Entry],
-) -> Result<Config<P>, AllocError>
-    requires { IsSome (replayed P.app P.from_text config entries.now) }
-    ensures { IfOk result (λ left. replayed P.app P.from_text config entries.now ≡ Some left) }
+) -> Result<(), AllocError>
+    requires { IsSome (replayed P.app P.from_text config.old entries.now) }
+    ensures { OnOk result (replayed P.app P.from_text config.old entries.now ≡ Some config.new) }
 {
-    let mut left = config;
     for entry in entries {
-        play(alloc, &mut left, entry)?;
+        play(alloc, config, entry)?;
     }
-    Ok(left)
+    Ok(())
 }
 
 /// Does what the entry says, which is allowed where it stands.

@@ -1,4 +1,5 @@
-// What stands before the data on all pages: the style and the elements.
+// What stands before the data on all pages: the style and the elements. The links have a picture of their own, which
+// isn't laid out and painted anew where an entry changes nodes alone.
 
 /// What stands before the data on all pages: the style and the elements.
 pub const HEAD: &[u8] = br#"<!doctype html>
@@ -6,8 +7,8 @@ pub const HEAD: &[u8] = br#"<!doctype html>
 <meta charset="utf-8">
 <meta name="viewport" content="width=device-width">
 <meta http-equiv="Content-Security-Policy" content="default-src 'none';
-style-src 'sha256-RsprVWmOrDMWTI+1eUQuFliBUooHtlmKezRHs0J7Uas=';
-script-src 'sha256-iTr4xsimFpgkuck6zuMVwPmF9DPMdqLVMj+ZzoxzHig='">
+style-src 'sha256-hf5DRN5Iz806pXRd9mYtZWcX+3I1xYbZT/eiMde1PXo=';
+script-src 'sha256-I5pKwXsAFJUGpPA7wDvMzzpNDXwWIowjZHiGYKk+AU8='">
 <title>Reset history</title>
 <style>
 :root{color-scheme:light dark;--ground:light-dark(#fff,#14171c);--panel:light-dark(#f4f6f8,#20262e);
@@ -33,8 +34,8 @@ font:700 10px/13px system-ui;text-align:center}
 i:empty{border:0}.Q,.L{border-color:var(--i);border-radius:3px}.O,.J{border-color:var(--wave)}
 .F{border-color:var(--done)}
 .M{border-color:var(--mend)}.T{border-radius:0}.X{border-color:var(--bad);border-radius:0 60%}
-#map{grid-area:map}#map,#lanes,#track,#roll>*{position:relative}svg,canvas,#roll,#scrub{position:absolute;inset:0;
-width:100%;height:100%}
+#map{grid-area:map}#map,#lanes,#track,#roll>*{position:relative}
+svg,canvas,#roll,#scrub{position:absolute;inset:0;width:100%;height:100%}
 line{stroke:var(--line);stroke-width:clamp(.5px,var(--size)/16,1.2px)}.gone{stroke-dasharray:2 5}.hide{display:none}
 line.bad{stroke:var(--bad);stroke-width:clamp(2px,var(--size)/5,5px);stroke-dasharray:2 4}
 .halo{stroke-width:clamp(1.5px,var(--size)/6,3px)}
@@ -94,15 +95,16 @@ th:nth-child(4){width:1.8rem}th:nth-child(5){width:3.4rem}th:nth-child(6){width:
 </style>
 <header><h1 id="title">Reset history</h1><p id="sum"></p><span><button data-do="theme">Theme</button> <button
 data-do="help" data-key="?">Help</button></span></header>
-<section id="map" aria-label="Network"><svg id="net" role="img"><marker id="head" viewBox="0 0 8 8" refX="8" refY="4"
-markerUnits="userSpaceOnUse" orient="auto"><path d="M0 0L8 4L0 8z"/></marker>
-<g id="links"></g><line id="flow"/><circle id="ring"/><circle id="pick"/><g id="nodes"></g><g id="coins"></g><circle
+<section id="map" aria-label="Network"><svg id="links" aria-hidden="true"></svg><svg id="net" role="img"><marker
+id="head" viewBox="0 0 8 8" refX="8" refY="4" markerUnits="userSpaceOnUse" orient="auto"><path
+d="M0 0L8 4L0 8z"/></marker>
+<g id="arrows"></g><line id="flow"/><circle id="ring"/><circle id="pick"/><g id="nodes"></g><g id="coins"></g><circle
 id="dot"/>
 <defs><line id="tie"/><circle id="coin" class="coin"/><g id="node"><title></title><circle class="halo"/><circle
 class="body"/><circle class="app"/><text class="crown">&#9819;</text><text class="name"></text><text
 class="lower"></text></g></defs></svg></section>
-<section id="event" aria-label="This moment"><p id="place"></p><p id="line"></p><p id="tell" aria-live="polite"></p><ul
-id="fails" aria-label="What fails now"></ul></section>
+<section id="event" aria-label="This moment"><p id="place"></p><p id="line"><i id="sign"></i> </p><p id="tell"
+aria-live="polite"></p><ul id="fails" aria-label="What fails now"></ul></section>
 <section id="bar" aria-label="Player">
 <div class="row"><span><button data-do="home" data-key="Home">&laquo; Start</button> <button data-do="back"
 data-key="ArrowLeft">&lsaquo; Back</button>

@@ -9,15 +9,19 @@ const $ = (id) => document.getElementById(id), { min, max, floor, ceil, hypot, s
 const clamp = (least, x, most) => max(least, min(x, most));
 addEventListener('error', (e) => { $('tell').textContent = `The page can't go on: ${e.message}`; });
 
-// ---- The data. A series is one thing in time: is[k] from position at[k] on.
-const series = (...is) => ({ at: is.map(() => 0), is });
+// ---- The data. A series is one thing in time: is[k] from position at[k] on; k is where it was looked at last.
+const series = (...is) => ({ at: is.map(() => 0), is, k: 0 });
 const put = (s, p, value) => { s.at.push(p); s.is.push(value); };
 const find = (at, p) => { // the last index whose position isn't after p, or -1
   let low = 0, high = at.length;
   while (low < high) { const mid = (low + high) >> 1; if (at[mid] > p) high = mid; else low = mid + 1; }
   return low - 1;
 };
-const get = (s, p) => s.is[find(s.at, p)];
+const get = (s, p) => { // mostly asked for a moment beside the last one
+  const { at, k } = s;
+  if (!(at[k] <= p) || at[k + 1] <= p) s.k = find(at, p);
+  return s.is[s.k];
+};
 const decode = (line) => (line.includes('%')
   ? new TextDecoder().decode(Uint8Array.from(line.match(/%..|[^]/g),
     (b) => (b[1] ? parseInt(b.slice(1), 16) : b.charCodeAt()))) : line);

@@ -6,11 +6,23 @@ pub const VIEWS: &[u8] = br#"// ---- The network
 let now = 0, chosen = null, speed = 0, since = 0, size = 9, scale = 0, whole = 0, high = 3;
 // what the filter leaves: nodes, entries, and both in order
 let wanted = null, found = null, tabled = nodes, lanes = [], motion = null;
+let drawn = { p: NaN }; // how the network is drawn: for which moment, and what else it was drawn by
 const still = matchMedia('(prefers-reduced-motion:reduce)'), net = $('net'), roll = $('roll'),
   view = { k: 1, x: 0, y: 0 };
-const set = (e, values) => { for (const key in values) e.setAttribute(key, values[key]); };
+const set = (e, values) => { // what stays isn't set, as the browser would compute style and place anew
+  for (const key in values) if (e.getAttribute(key) !== `${values[key]}`) e.setAttribute(key, values[key]);
+};
 const mark = (e, kind) => { if (e.kind !== kind) set(e, { class: e.kind = kind }); };
-const write = (e, t) => { if (e.shown !== t) e.textContent = e.shown = t; };
+const write = (e, t) => { // into the text that is there, which takes less than a new one
+  if (e.shown === t) return;
+  e.shown = t;
+  if (e.firstChild) e.firstChild.data = t; else e.textContent = t;
+};
+const fill = (e, count, fresh, put) => { // so many children, and in each what belongs there
+  while (e.children.length > count) e.lastChild.remove();
+  while (e.children.length < count) e.append(fresh());
+  for (let k = 0; k < count; k++) put(e.children[k], k);
+};
 const make = (tag, ...inside) => { const e = document.createElement(tag); e.append(...inside); return e; };
 const copy = (id, into) => { const e = $(id).cloneNode(true); e.removeAttribute('id'); $(into).append(e); return e; };
 const tie = (e, a, b, gap) => { // a line from a toward b that ends so far before it
@@ -19,11 +31,13 @@ const tie = (e, a, b, gap) => { // a line from a toward b that ends so far befor
 };
 for (const l of links) l.e = copy('tie', 'links');
 for (const v of nodes) {
-  v.arrow = copy('tie', 'links'); v.way = copy('tie', 'links'); v.e = copy('node', 'nodes');
-  v.e.dataset.node = v.id; v.e.style.setProperty('--long', v.id.length);
+  v.arrow = copy('tie', 'arrows'); v.way = copy('tie', 'arrows'); v.e = copy('node', 'nodes');
+  v.e.dataset.node = v.id; v.e.style.setProperty('--long', v.id.length); v.flips = [];
   [v.title, , v.body, , , v.name, v.lower] = v.e.children;
   write(v.name, v.id);
 }
+// tokens whose given and taken bits differ
+const flights = new Set(), flip = (pair) => flights.delete(pair) || flights.add(pair);
 const fit = () => { // turns and stretches the arrangement to its room, and pushes apart what is too near
   const w = net.clientWidth, h = net.clientHeight, mean = (list) => list.reduce((a, b) => a + b) / N;
   const end = near.findIndex((ks) => ks.length === 1), wide = N * 62 < w ? N : ceil(sqrt(N * w / h));
@@ -52,7 +66,8 @@ const fit = () => { // turns and stretches the arrangement to its room, and push
     set(v.e, { transform: `translate(${v.x} ${v.y})` });
   }
   for (const { e, a, b } of links) tie(e, a, b, 0);
-  net.style.setProperty('--size', `${size}px`);
+  drawn.p = NaN;
+  $('map').style.setProperty('--size', `${size}px`);
   set($('head'), { markerWidth: clamp(4, size * 0.6, 13), markerHeight: clamp(4, size * 0.6, 13) });
   zoom(1);
 };
@@ -60,17 +75,22 @@ const zoom = (by, x = view.w / 2, y = view.h / 2) => { // keeps in place what is
   const k = clamp(1, view.k * by, 30);
   view.x = k > 1 && view.x + x / view.k - x / k; view.y = k > 1 && view.y + y / view.k - y / k; view.k = k;
   net.style.setProperty('--zoom', k); net.style.touchAction = k > 1 ? 'none' : '';
-  set(net, { viewBox: `${+view.x} ${+view.y} ${view.w / k} ${view.h / k}`,
-    class: size * k < 8 ? 'small' : size * k < 14 ? '' : 'big' });
+  for (const e of [$('links'), net]) set(e, { viewBox: `${+view.x} ${+view.y} ${view.w / k} ${view.h / k}` });
+  set(net, { class: size * k < 8 ? 'small' : size * k < 14 ? '' : 'big' });
 };
 const drawNet = (smooth) => {
   const p = now, at = where[p], lead = leaders(p), carry = flow(p),
     both = (v, u) => carry && carry.includes(v) && carry.includes(u);
-  const wrong = new Set(all(p).map((f) => f.v.links.get(byId.get(f.to))));
-  // tokens whose given and taken bits differ
-  const flights = new Set(), flip = (a, b) => flights.delete(`${a} ${b}`) || flights.add(`${a} ${b}`);
-  for (const { e, s } of links) mark(e, get(s, p) ? (wrong.has(s) ? 'bad' : '') : s.is[0] ? 'gone' : 'hide');
-  for (const v of nodes) {
+  const wrong = new Set(all(p).map((f) => f.v.links.get(byId.get(f.to)))), views = [turn, chosen, wanted],
+    apart = [at, ...(carry || [])].filter((v) => v), first = min(p, drawn.p), last = max(p, drawn.p);
+  // between near moments with the same links only the nodes of the entries and their neighbours may look otherwise
+  const near = last - first < 50 && views.every((it, k) => it === drawn.views[k]), stirred = near ? new Set([
+    ...drawn.apart, ...apart, ...where.slice(first + 1, last + 1).flatMap((v) => [v, ...v.links.keys()])]) : nodes;
+  if (!near || wrong.size || drawn.wrong.size) {
+    for (const { e, s } of links) mark(e, get(s, p) ? (wrong.has(s) ? 'bad' : '') : s.is[0] ? 'gone' : 'hide');
+  }
+  drawn = { p, views, apart, wrong };
+  for (const v of stirred) {
     const up = get(v.up, p), w = get(v.wave, p), u = up && father(v, p);
     const [, next] = app === 'routes' && chosen && up && `,${state(v, p)}`.match(`,${chosen.id}:[1-9]\\d*:(\\d+)`) ||
       [];
@@ -87,23 +107,30 @@ const drawNet = (smooth) => {
       v.body.style.fill = up ? `var(--s${w.slice(1) % 6})` : '';
       write(v.lower, up ? `s${w.slice(1).replace(/^\d+(?=\d{4}$)/, '\u2026')}` : 'down');
     }
-    if (!up || app !== 'token' || state(v, p).endsWith('/-/-')) continue;
-    const [, given, taken] = state(v, p).split('/');
-    for (const id of given.split(',')) flip(v.id, id);
-    for (const id of taken.split(',')) flip(id, v.id);
+    if (app !== 'token') continue;
+    const [, given, taken] = up ? state(v, p).split('/').map((ids) => ids.split(',')) : [, [], []];
+    v.flips.forEach(flip);
+    v.flips = [...given.map((id) => `${v.id} ${id}`), ...taken.map((id) => `${id} ${v.id}`)];
+    v.flips.forEach(flip);
   }
   const under = [...flights].map((pair) => pair.split(' ').map((id) => byId.get(id)))
     .filter(([v, u]) => v && u && joined(v, u, p));
-  while ($('coins').children.length > under.length) $('coins').lastChild.remove();
-  while ($('coins').children.length < under.length) copy('coin', 'coins');
-  under.forEach(([v, u], k) => set($('coins').children[k], { cx: v.x * 0.4 + u.x * 0.6, cy: v.y * 0.4 + u.y * 0.6 }));
+  fill($('coins'), under.length, () => copy('coin', 'coins'), (coin, k) => {
+    const [v, u] = under[k];
+    set(coin, { cx: v.x * 0.4 + u.x * 0.6, cy: v.y * 0.4 + u.y * 0.6 });
+  });
   for (const [id, v] of [['pick', chosen], ['ring', at]]) {
     mark($(id), v ? '' : 'hide');
-    if (v) { set($(id), { cx: v.x, cy: v.y }); $('nodes').append(v.e); } // no other node covers its name
+    if (v) set($(id), { cx: v.x, cy: v.y });
+    if (v && v.e !== $('nodes').lastChild) $('nodes').append(v.e); // no other node covers its name
   }
   mark($('flow'), carry ? '' : 'hide');
-  for (const id of ['flow', 'ring', 'dot']) $(id).style.stroke = `var(--${INK[letter(p)]})`;
-  $('dot').style.fill = $('event').style.borderColor = $('dot').style.stroke;
+  const ink = `var(--${INK[letter(p)]})`;
+  if (net.ink !== ink) {
+    net.ink = ink;
+    for (const id of ['flow', 'ring', 'dot']) $(id).style.stroke = ink;
+    $('dot').style.fill = $('event').style.borderColor = ink;
+  }
   if (carry) tie($('flow'), ...carry, size + 3);
   if (motion) motion.cancel();
   motion = carry && smooth && !still.matches && $('dot').animate(carry.map((v) =>
@@ -196,14 +223,12 @@ const drawMarks = () => {
 };
 
 // ---- Table and list, of which only the rows that are seen are there, and the other texts
-const hint = (e, t) => { if (e.title !== t) e.title = t; };
-const rowsOf = (id, rows, total, fresh, fill) => {
+const hint = (e, t) => { if (e.hint !== t) e.title = e.hint = t; };
+const rowsOf = (id, rows, total, fresh, put) => {
   const { top, tall, firstElementChild: inner } = $(id), first = clamp(0, floor(top / 24) - 2, max(0, total - 1));
   const count = min(total - first, ceil(tall / 24) + 4);
-  inner.style.paddingTop = `${first * 24}px`;
-  while (rows.children.length > count) rows.lastChild.remove();
-  while (rows.children.length < count) rows.append(fresh());
-  for (let k = 0; k < count; k++) fill(rows.children[k], first + k);
+  if (inner.first !== first) inner.style.paddingTop = `${24 * (inner.first = first)}px`;
+  fill(rows, count, fresh, (row, k) => put(row, first + k));
 };
 const freshRow = () => make('tr', make('td', make('a')), ...Array.from({ length: 7 }, () => make('td')));
 const drawTable = () => rowsOf('rows', $('body'), tabled.length, freshRow, (row, k) => {
@@ -214,33 +239,32 @@ const drawTable = () => rowsOf('rows', $('body'), tabled.length, freshRow, (row,
   cells.forEach((cell, j) => write(row.children[j + 1], cell));
   for (const j of [6, 7]) hint(row.children[j], cells[j - 1].slice(0, 400)); // there may be no room for all of it
   write(row.firstChild.firstChild, (leaders(now).get(v) === v ? '\u265b ' : '') + v.id);
-  row.firstChild.firstChild.href = `#node=${v.id}`;
   mark(row, (v === where[now] ? 'here ' : '') + (v === chosen ? 'picked' : ''));
-  row.dataset.node = v.id; row.ariaRowIndex = k + 2; $('table').ariaRowCount = tabled.length + 1;
+  set(row, { 'data-node': v.id, 'aria-rowindex': k + 2 }); set(row.firstChild.firstChild, { href: `#node=${v.id}` });
 });
 const freshLine = () => make('a', make('b'), make('i'), make('span'));
 const drawList = () => rowsOf('list', $('list').firstElementChild, (found || text).length, freshLine, (a, k) => {
   const p = found ? found[k] : k, [b, i, span] = a.children;
-  a.href = `#entry=${p}`;
+  set(a, { href: `#entry=${p}` });
   mark(a, p === now ? 'here' : ''); mark(i, letter(p));
   write(b, `${p}`); write(i, sign(letter(p)));
     write(span, text[p] + (reports.has(p) ? ` complete ${reports.get(p)[0]}` : ''));
 });
 const drawText = () => {
-  const i = make('i', sign(letter(now))),
+  const m = letter(now),
     fails = all(now).map((f) => `${f.own ? 'node' : `link ${f.v.id} \u2192`} ${f.to}: ${f.row} ${f.name}`);
   if (fails.length > 50) fails.splice(50, fails.length, `and ${bad[now] - 50} more`);
-  mark(i, letter(now));
-  $('line').replaceChildren(i, ` ${text[now]}`);
+  mark($('sign'), m); write($('sign'), sign(m)); $('line').lastChild.data = ` ${text[now]}`;
   write($('place'), `Entry ${now} of ${E}`); write($('tell'), tell(now)); write($('play'), speed ? 'Pause' : 'Play');
-  $('tell').ariaLive = speed ? 'off' : 'polite';
+  set($('tell'), { 'aria-live': speed ? 'off' : 'polite' });
   mark($('fails'), bad[now] ? '' : 'none');
-  $('fails').replaceChildren(...(bad[now] ? fails : ['No local predicate fails.']).map((t) => make('li', t)));
-  $('whole').hidden = !chosen;
+  const said = bad[now] ? fails : ['No local predicate fails.'];
+  fill($('fails'), said.length, () => make('li'), (li, k) => write(li, said[k]));
+  $('whole').toggleAttribute('hidden', !chosen);
   if (chosen) write($('whole'), show(chosen, now));
   $('scrub').value = now; $('scrub').ariaValueText = `${now}: ${text[now]}`;
   if (document.activeElement !== $('entry')) $('entry').value = now;
-  for (const b of document.querySelectorAll('[data-jump]')) b.disabled = target(b) === undefined;
+  for (const b of $('jumps').querySelectorAll('[data-jump]')) b.toggleAttribute('disabled', target(b) === undefined);
   Object.assign($('cursor').style, { left: `${LEFT + (now + 0.5) * scale - max(scale, 3) / 2}px`,
     width: `${max(scale, 3)}px` });
 };
@@ -311,6 +335,7 @@ const sift = () => { // nodes, ranges and ~node are for all views, words for the
   }
   $('list').firstElementChild.style.height = `${24 * (found || text).length}px`;
   $('rows').firstElementChild.style.height = `${24 * tabled.length + 24}px`;
+  $('table').ariaRowCount = tabled.length + 1;
   speed = 0; stretch(scale && 1);
 };
 const repaint = () => { colours.clear(); drawMarks(); stretch(1); };
@@ -350,7 +375,7 @@ on(document, 'click', (e) => {
   if (v) { e.preventDefault(); choose(byId.get(v.dataset.node)); }
 });
 on(document, 'keydown', (e) => {
-  const field = e.target.closest('input:not(#scrub),select,dialog'),
+  const field = e.target.closest('input:not(#scrub),select,dialog[open]'),
     b = document.querySelector(`[data-key="${CSS.escape(e.key)}"]`), act = KEYS[e.key];
   if (field && field.matches('input') && /^(Enter|Escape)$/.test(e.key)) field.blur();
   if (field || e.ctrlKey || e.metaKey || e.altKey || !(act || b) || (e.key === ' ' &&
@@ -361,7 +386,11 @@ on(document, 'keydown', (e) => {
 on($('scrub'), 'input', () => leap($('scrub').value)); on($('entry'), 'change', () => leap($('entry').value));
 on($('speed'), 'change', () => hurry(0)); on($('filter'), 'input', sift);
 for (const [box, act] of [[roll, drawLanes], [$('rows'), drawTable], [$('list'), drawList]]) {
-  on(box, 'scroll', () => { box.top = box.scrollTop; act(); });
+  on(box, 'scroll', () => {
+    const there = box !== roll && box.top === box.scrollTop; // `go` has scrolled there, and drawn
+    box.top = box.scrollTop;
+    if (!there) act();
+  });
 }
 on(net, 'pointerover', (e) => {
   const g = e.target.closest('.node');

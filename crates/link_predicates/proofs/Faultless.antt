@@ -71,7 +71,7 @@ module _ {L : Type 0} (app : App L) (c : Configuration L) (graph : IsGraph c.gra
   abbrev w : ℕ → WaveRegs
   w = wave_of c
 
-  abbrev links : ℕ → ℕ → List LinkFault
+  abbrev pub links : ℕ → ℕ → List LinkFault
   links i j = link_faults app (node_bound g) c.modulus (near_of app c i) (near_of app c j)
 
   -- what follows the tree's fault at an end, and the wave's
@@ -87,12 +87,12 @@ module _ {L : Type 0} (app : App L) (c : Configuration L) (graph : IsGraph c.gra
       (has-filter (are_linked g i) g.ids j
       ∙ and_from _ _ linked (has-Contains g.ids j (graph.within j (graph.ends j i (graph.symmetric j i ∙ linked)))))
 
-  there_linked : (i j : ℕ) → Contains (neighbours_of g i) j → AreLinked g i j
+  pub there_linked : (i j : ℕ) → Contains (neighbours_of g i) j → AreLinked g i j
   there_linked i j there =
       (and_parts (are_linked g i j) (has g.ids j)
       (sym (has-filter (are_linked g i) g.ids j) ∙ has-Contains (neighbours_of g i) j there)).0
 
-  near_list : (i : ℕ)
+  pub near_list : (i : ℕ)
       → flat_map (link_faults app (node_bound g) c.modulus (near_of app c i)) (map (near_of app c) (neighbours_of g i))
       ≡ flat_map (links i) (neighbours_of g i)
   near_list i = flat_map-map (link_faults app (node_bound g) c.modulus (near_of app c i)) (near_of app c) (neighbours_of g i)

@@ -5,3 +5,4 @@ pub mod QuietRows
 pub mod NodeFaults
 pub mod Silence
 pub mod Faultless
+pub mod Repairs

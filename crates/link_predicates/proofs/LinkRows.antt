@@ -54,13 +54,13 @@ module _ (g : Graph) (K : ℕ) (t : ℕ → TreeRegs) (graph : IsGraph g) (i j :
   abbrev pub seen : LocalView
   seen = record { id = i; bound = K; own = t i; near = (j, t j) ∷ [] }
 
-  abbrev rows : ℕ → Bool
+  abbrev pub rows : ℕ → Bool
   rows n = row_holds n (tree_table seen seen.near)
 
   same : (k : ℕ) → IsFather g t i k → j ≡ (t i).father → k ≡ j
   same k father named = sym father.named ∙ sym named
 
-  follow_tells : Tells (IsOtherFather g K t i j) (first_of_two 5 6 (rows 5) (rows 6))
+  pub follow_tells : Tells (IsOtherFather g K t i j) (first_of_two 5 6 (rows 5) (rows 6))
   follow_tells = father (eqb_tells j (t i).father)
     where
       IsClaimed : Type 0
@@ -96,7 +96,7 @@ module _ (g : Graph) (K : ℕ) (t : ℕ → TreeRegs) (graph : IsGraph g) (i j :
       father (inl named) = up named.0 named.1 (leb_tells (suc (t i).dist) K) (eqb_tells _ _) (eqb_tells _ _)
       father (inr other) = rw other.0 (λ told. other.1 (sym told.0.named))
 
-  adopt_tells : Tells (Adopts g K t i j) (first_of_two 7 8 (rows 7) (rows 8))
+  pub adopt_tells : Tells (Adopts g K t i j) (first_of_two 7 8 (rows 7) (rows 8))
   adopt_tells =
       let v = tree_view_of g K t i in
       let row : Option TreeRegs → ℕ → Result Fired StepRefusal =

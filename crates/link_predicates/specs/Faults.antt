@@ -1,5 +1,5 @@
 -- The faults of a configuration: which row of which table fails at which end of which link.
-use Rattle.std.specs.Prelude.{◌≡◌, ℕ, ◌==◌, Bool, true, false, if◌then◌else◌, List, [], ◌∷◌, ◌++◌, Option, Some, None}
+use Rattle.std.specs.Prelude.{◌≡◌, ℕ, ◌==◌, nat_lt, Bool, true, false, if◌then◌else◌, List, [], ◌∷◌, ◌++◌, Option, Some, None}
 use Rattle.std.specs.Prelude.{map, find, codes}
 use Rattle.std.specs.List.{flat_map, list_all}
 use Rattle.action_tables.specs.Numbers.{is_among}
@@ -12,6 +12,8 @@ use Rattle.wave_layer.specs.WaveTable.{wave_table}
 use Rattle.wave_layer.specs.declared.regs.WaveRegs.{WaveRegs}
 use Rattle.wave_layer.specs.declared.regs.FatherSeen.TheVariants.{Is}
 use Rattle.reset_model.specs.Configuration.{Configuration}
+use Rattle.reset_model.specs.declared.event.Event.{Event}
+use Rattle.reset_model.specs.declared.event.Event.TheVariants.{Adopt, Claim, Follow, Mend}
 use Rattle.reset_machine.specs.Enabled.{enabled_trees}
 use Rattle.reset_model.specs.View.{Neighbour, near_of}
 use Rattle.link_predicates.specs.declared.fault.Family.{Family}
@@ -83,6 +85,23 @@ node_faults app c i =
 -- at all nodes, by ascending node
 abbrev pub faults : {L : Type 0} → App L → Configuration L → List LinkFault
 faults app c = flat_map (node_faults app c) c.graph.nodes
+
+-- ---- what repairs them
+
+-- the event of a row of the tree table: rows 1 to 4 are claims, 5 and 6 follows, 7 and 8 adoptions
+abbrev pub tree_repair : LinkFault → Event
+tree_repair fault =
+    if nat_lt fault.row 5 then Claim fault.at
+    else if nat_lt fault.row 7 then Follow fault.at else Adopt fault.at fault.other
+
+-- the event that repairs a fault of the tree or of the wave
+abbrev pub repair_of : LinkFault → Option Event
+repair_of fault = by_family fault.family
+  where
+    by_family : Family → Option Event
+    by_family Tree = Some (tree_repair fault)
+    by_family Wave = Some (Mend fault.at)
+    by_family OfApp = None
 
 -- ---- the application's
 

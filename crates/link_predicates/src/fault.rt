@@ -1,7 +1,9 @@
 // What the checker reports.
 
 ghost use Rattle.std.specs.Prelude.{◌≡◌};
-ghost use Rattle.link_predicates.specs.Faults.{family_name};
+ghost use Rattle.link_predicates.specs.Faults.{family_name, repair_of, tree_repair};
+
+use reset_machine::Event;
 
 /// Whose predicate fails.
 #[derive(Clone, Copy, Debug, PartialEq, Eq)]
@@ -39,4 +41,32 @@ pub struct LinkFault {
     /// The row: from 1 to 8 of the tree table, from 8 to 11 of the wave table, or from 1 of the
     /// application's link table.
     pub row: u8,
+}
+
+impl LinkFault {
+    /// The event of the row, which repairs the fault: none where the row is the application's.
+    pub fn repair(self) -> Option<Event>
+        ensures { result ≡ repair_of self }
+    {
+        match self.family {
+            Family::Tree => Some(self.tree_repair()),
+            Family::Wave => Some(Event::Mend { at: self.at }),
+            Family::App => None,
+        }
+    }
+
+    // The event of a row of the tree table.
+    fn tree_repair(self) -> Event
+        ensures { result ≡ tree_repair self }
+    {
+        let at = self.at;
+        if self.row < 5 {
+            Event::Claim { at }
+        } else if self.row < 7 {
+            Event::Follow { at }
+        } else {
+            let from = self.other;
+            Event::Adopt { at, from }
+        }
+    }
 }

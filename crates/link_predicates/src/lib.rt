@@ -11,4 +11,4 @@ mod rows;
 
 pub use check::{alarm, check_all, check_node};
 pub use fault::{Family, LinkFault};
-pub use laws::{faultless_is_pictured, faultless_is_sound, joined_are_silent};
+pub use laws::{faultless_is_pictured, faultless_is_sound, joined_are_silent, repairs_are_enabled};

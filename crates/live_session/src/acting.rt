@@ -265,7 +265,7 @@ fn keep_fault(
     }
 }
 
-/// What is written to memory fails for want of memory alone.
+/// What is written to memory fails only if an allocation fails.
 #[inline(always)]
 pub fn gathered(put: Result<(), WriteFault>) -> Result<(), AllocError>
     ensures { IfOk result (λ done. put ≡ Ok done) }

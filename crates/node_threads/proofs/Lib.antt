@@ -10,4 +10,6 @@ mod PutBack
 mod Turning
 mod Waiting
 mod Promising
+mod Requesting
+mod Asking
 pub mod Refusing

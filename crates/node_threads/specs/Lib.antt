@@ -7,3 +7,5 @@ pub mod Closed
 pub mod Stepped
 pub mod Waiting
 pub mod Threads
+pub mod Requests
+pub mod Runs

@@ -1,10 +1,11 @@
 // Runs: a thread for each node of a book.
 
-ghost use Rattle.std.specs.Prelude.{◌≡◌, ◌≢◌, ◌+◌, ◌<◌, ◌≤◌, IfErr, IfOk, IfSome, IsTrue, MatchOption, OnOk, false};
+ghost use Rattle.std.specs.Prelude.{◌≡◌, ◌≢◌, ◌+◌, ◌<◌, ◌≤◌, All, IfErr, IfOk, IsTrue, false};
 ghost use Rattle.std.specs.Prelude.{length, map, ℕ};
-ghost use Rattle.topology.specs.Graph.{IsNode};
-ghost use Rattle.node_threads.specs.Closed.{HasCloseFault, IsClosed};
+ghost use Rattle.node_threads.specs.Closed.{HasCloseFault, IsClosed, list_of};
 ghost use Rattle.node_threads.specs.Locked.{IsContinued};
+ghost use Rattle.node_threads.specs.Requests.{AsksAtMost};
+ghost use Rattle.node_threads.specs.Runs.{IsOutcome, IsStopped, IsStrange, IsThere};
 ghost use Rattle.node_threads.specs.Seats.{nodes_of};
 
 use crate::closing::{CloseFault, Outcome, close_unlocked};
@@ -12,7 +13,8 @@ use crate::refusal::ShareFault;
 use crate::round::Sharing;
 use crate::seat::Seat;
 use crate::sharing::{MAX_SEATS, Shared, share};
-use crate::threads::{Task, in_threads};
+use crate::tasks::{Task, TurnLimit};
+use crate::threads::in_threads;
 use crate::turns::Gate;
 use crate::unlocked::Unlocked;
 use app_interface::Application;
@@ -22,6 +24,7 @@ use std::marker::Brand;
 use std::sync::Wait;
 use std::sync::ledger::Blank;
 use std::thread::Threads;
+use wave_layer::Phase;
 
 /// Why a run of node threads gives no outcome, in the order in which faults are given.
 #[derive(Clone, Copy, Debug, PartialEq, Eq)]
@@ -57,26 +60,47 @@ pub fn run_nodes<P: Application, G: Gate + Sync, R: Threads + Wait + Sync>(
     selected: Option<u32>,
 ) -> Result<Outcome<P>, RunFault<P>>
     requires { turns ≤ 100000 }
-    ensures closed { IfOk result (λ o. IsClosed P.app P.from_text book o.book o.seats.items) }
-    ensures order { IfOk result (λ o. map (λ l. l.0) o.seats.items ≡ book.config.graph.nodes) }
-    ensures few { OnOk result (length book.config.graph.nodes ≤ 64) }
-    ensures there { OnOk result (IfSome selected (λ i. IsNode book.config.graph i)) }
-    ensures strange { IfErr result (λ e. e.cause ≡ RunCause.StrangeNode
-        → MatchOption selected ⊥ (λ i. IsNode book.config.graph i → ⊥)) }
-    ensures many { IfErr result (λ e. e.cause ≡ RunCause.TooManyForThreads → 64 < length book.config.graph.nodes) }
-    ensures first { IfErr result (λ e.
-        (MatchOption selected ⊥ (λ i. IsNode book.config.graph i → ⊥) → e.cause ≡ RunCause.StrangeNode)
-        × (IfSome selected (λ i. IsNode book.config.graph i) → 64 < length book.config.graph.nodes
-        → e.cause ≡ RunCause.TooManyForThreads)) }
-    ensures close { IfErr result (λ e. (f : CloseFault) → e.cause ≡ RunCause.Close f
-        → HasCloseFault P.app P.from_text book e.book f) }
-    ensures seats { IfErr result (λ e. (i : ℕ) → e.cause ≢ RunCause.Close (CloseFault.SeatMissing i)) }
-    ensures back { IfErr result (λ e. (e.cause ≡ RunCause.StrangeNode → e.book ≡ book)
-        × (e.cause ≡ RunCause.TooManyForThreads → e.book ≡ book)) }
-    ensures stands { IfErr result (λ e. IsContinued P.app P.from_text book e.book) }
+    ensures ok { IfOk result (λ o. IsOutcome P.app P.from_text book selected o.book o.seats.items) }
+    ensures err { IfErr result (λ e. IsStopped P.app P.from_text book selected e.cause e.book) }
+{
+    let resets = requests_of(&book, selected);
+    let turns = TurnLimit::AtMost(turns);
+    let task = Task {
+        turns,
+        selected,
+        resets,
+    };
+    run_nodes_as(rt, alloc, gate, book, task)
+}
+
+// How many resets the selected node asks for where it asks once: a node that isn't normal is refused, and asks no more.
+fn requests_of<P: Application>(book: &Book<P>, selected: Option<u32>) -> u32 {
+    match selected {
+        Some(node) => match book.config().wave_at(node) {
+            Some(regs) if regs.phase == Phase::Normal => 1,
+            _ => 0,
+        },
+        None => 0,
+    }
+}
+
+/// Runs each node in a thread of its own, by this task: the selected node asks for a reset, and again each time it is
+/// normal, so often in all, and each takes its turns. A request that is refused is made again when the node is normal.
+/// No other node asks for any. A book that is full ends a node's turns and is no fault. A node whose memory is wanting
+/// doesn't stop the others.
+pub fn run_nodes_as<P: Application, G: Gate + Sync, R: Threads + Wait + Sync>(
+    rt: &R,
+    alloc: Global,
+    gate: &G,
+    book: Book<P>,
+    task: Task,
+) -> Result<Outcome<P>, RunFault<P>>
+    ensures ok { IfOk result (λ o. IsOutcome P.app P.from_text book task.selected o.book o.seats.items) }
+    ensures asked { IfOk result (λ o. AsksAtMost task book o.book) }
+    ensures err { IfErr result (λ e. IsStopped P.app P.from_text book task.selected e.cause e.book) }
 {
     lemma_stands(&book);
-    if !is_there(&book, selected) {
+    if !is_there(&book, task.selected) {
         let cause = RunCause::StrangeNode;
         return Err(RunFault { cause, book });
     }
@@ -85,14 +109,13 @@ pub fn run_nodes<P: Application, G: Gate + Sync, R: Threads + Wait + Sync>(
         let cause = RunCause::TooManyForThreads;
         return Err(RunFault { cause, book });
     }
-    let task = Task { turns, selected };
     run_round::<Brand, P, G, R>(rt, alloc, Blank::new(nodes as u64 + 1), gate, book, task)
 }
 
 // Whether the selected node, if there is one, is a node of the book.
 fn is_there<P: Application>(book: &Book<P>, selected: Option<u32>) -> bool
-    ensures there { IsTrue result → IfSome selected (λ i. IsNode book.now.config.graph i) }
-    ensures strange { result ≡ false → MatchOption selected ⊥ (λ i. IsNode book.now.config.graph i → ⊥) }
+    ensures there { IsTrue result → IsThere book.now selected }
+    ensures strange { result ≡ false → IsStrange book.now selected }
 {
     match selected {
         Some(node) => book.config().tree_at(node).is_some(),
@@ -122,6 +145,7 @@ fn run_round<
     requires stands { IsContinued P.app P.from_text L.book book }
     ensures closed { IfOk result (λ o. IsClosed P.app P.from_text L.book o.book o.seats.items) }
     ensures order { IfOk result (λ o. map (λ l. l.0) o.seats.items ≡ L.nodes) }
+    ensures asked { IfOk result (λ o. AsksAtMost task L.book o.book) }
     ensures strange { IfErr result (λ e. e.cause ≢ RunCause.StrangeNode) }
     ensures many { IfErr result (λ e. e.cause ≡ RunCause.TooManyForThreads → 64 < length L.nodes) }
     ensures back { IfErr result (λ e. e.cause ≡ RunCause.TooManyForThreads → e.book ≡ book) }
@@ -156,6 +180,7 @@ fn close_run<L: Sharing<P::Local>, P: Application>(
     requires nodes { L.book.config.graph.nodes ≡ L.nodes }
     requires own { nodes_of seats.items ≡ L.nodes }
     ensures closed { IfOk result (λ o. IsClosed P.app P.from_text L.book o.book o.seats.items) }
+    ensures lists { IfOk result (λ o. o.seats.items ≡ map list_of seats.items) }
     ensures order { IfOk result (λ o. map (λ l. l.0) o.seats.items ≡ L.nodes) }
     ensures cause { IfErr result (λ e. (e.cause ≢ RunCause.StrangeNode) × (e.cause ≢ RunCause.TooManyForThreads)) }
     ensures close { IfErr result (λ e. (f : CloseFault) → e.cause ≡ RunCause.Close f

@@ -1,42 +1,37 @@
 // A thread for each seat.
 
-ghost use Rattle.std.specs.Prelude.{◌≡◌, ◌⊎◌, ◌↔◌, ◌≤◌, Err, IfErr, IfOk, [], false, length, true};
+ghost use Rattle.std.specs.Prelude.{◌≡◌, ◌⊎◌, ◌↔◌, ◌≤◌, All, Err, IfErr, IfOk, [], false, length, map, true};
 ghost use Rattle.std.specs.Vec.{vec_capacity};
 ghost use denote.Param.{param};
 ghost use denote.Param.Send.{IsSync};
+ghost use Rattle.node_threads.specs.Closed.{list_of};
+ghost use Rattle.node_threads.specs.Requests.{AreAsked, request_count, requests_at};
 ghost use Rattle.node_threads.specs.Seats.{nodes_of};
 ghost use Rattle.node_threads.specs.Threads.{promised};
 ghost use Rattle.node_threads.specs.contracts.sharing.Shared.{the_row};
 
-use crate::refusal::SeatRefusal;
 use crate::round::{Round, Sharing};
 use crate::run::RunCause;
 use crate::seat::Seat;
-use crate::sharing::{Shared, select};
-use crate::turns::{Gate, TurnsEnd, take_turns};
+use crate::sharing::Shared;
+use crate::tasks::{Task, do_task};
+use crate::turns::{Gate, TurnsEnd};
 use app_interface::Application;
-use history::BookRefusal;
 use std::alloc::{AllocError, Global};
 use std::sync::Wait;
 use std::thread;
 use std::thread::{Promise, PromisedHandle, Scope, Threads};
 
-// What a run does at each seat: the selected node asks for a reset, and then each takes so many turns.
-#[derive(Clone, Copy)]
-pub(crate) struct Task {
-    pub(crate) turns: u32,
-    pub(crate) selected: Option<u32>,
-    ghost few: { turns ≤ 100000 },
-}
-
-// The promise of a thread that it gives back the seat of this node.
+// The promise of a thread that it gives back the seat of this node, which asked for no more resets than the task lets it.
 #[derive(Clone, Copy)]
 pub(crate) struct SeatOf {
     node: u32,
+    task: Task,
 }
 
 impl<L: Round> Promise<(Seat<L>, TurnsEnd)> for SeatOf {
-    ghost kept_by = { λ promise given. given.0.node ≡ promise.node };
+    ghost kept_by = { λ promise given. (given.0.node ≡ promise.node)
+        × (request_count given.0.receipts ≤ requests_at promise.task promise.node) };
 }
 
 // A thread at a seat, which it gives back.
@@ -65,12 +60,18 @@ pub(crate) fn in_threads<
     seats: Vec<Seat<L>>,
     task: Task,
 ) -> Result<Vec<Seat<L>>, RunCause>
+    requires fresh { All (λ s. s.receipts ≡ []) seats.items }
     ensures own { IfOk result (λ back. nodes_of back.items ≡ nodes_of seats.items) }
+    ensures asked { IfOk result (λ back. AreAsked task (map list_of back.items)) }
     ensures cause { IfErr result (λ c. (c ≡ RunCause.NoThread) ⊎ (c ≡ RunCause.NoMemory)) }
 {
-    thread::scope(thread::scope_env(), rt, |scope| {
-        start_and_join(scope, rt, alloc, gate, shared, seats, task)
-    })
+    thread::scope(
+        thread::scope_env(),
+        rt,
+        |scope|
+            requires { All (λ s. s.receipts ≡ []) seats.items }
+        { start_and_join(scope, rt, alloc, gate, shared, seats, task) },
+    )
 }
 
 // As `in_threads`, in this scope.
@@ -89,11 +90,13 @@ fn start_and_join<
     seats: Vec<Seat<L>>,
     task: Task,
 ) -> Result<Vec<Seat<L>>, RunCause>
+    requires fresh { All (λ s. s.receipts ≡ []) seats.items }
     ensures own { IfOk result (λ back. nodes_of back.items ≡ nodes_of seats.items) }
+    ensures asked { IfOk result (λ back. AreAsked task (map list_of back.items)) }
     ensures cause { IfErr result (λ c. (c ≡ RunCause.NoThread) ⊎ (c ≡ RunCause.NoMemory)) }
 {
     match start_all(scope, rt, alloc, gate, shared, seats, task) {
-        Ok(started) => join_all(rt, started),
+        Ok(started) => join_all(rt, started, task),
         Err(AllocError) => Err(RunCause::NoMemory),
     }
 }
@@ -116,6 +119,8 @@ fn start_all<
     seats: Vec<Seat<L>>,
     task: Task,
 ) -> Result<Started<L>, AllocError>
+    requires fresh { All (λ s. s.receipts ≡ []) seats.items }
+    ensures tasks { IfOk result (λ s. All (λ t. t.promise.task ≡ task) s.threads.items) }
     ensures room { IfOk result (λ s. (s.room.items ≡ []) × (length s.threads.items ≤ vec_capacity s.room)) }
     ensures all { IfOk result (λ s. s.refused ≡ false → promised s.threads.items ≡ nodes_of seats.items) }
 {
@@ -126,8 +131,10 @@ fn start_all<
     lemma_is_sync(shared);
     for seat in seats {
         let node = seat.node();
-        let work = move || run_seat(rt, alloc, gate, shared, seat, task);
-        match scope.spawn_with(SeatOf { node }, work) {
+        let work = move ||
+            requires { seat.receipts ≡ [] }
+        { run_seat(rt, alloc, gate, shared, seat, task) };
+        match scope.spawn_with(SeatOf { node, task }, work) {
             Ok(thread) => threads.push_reserved(thread),
             Err(_) => {
                 shared.depart(rt, node);
@@ -142,14 +149,21 @@ fn start_all<
     })
 }
 
-// Joins the threads: their seats, in turn. Or one couldn't be started, or else an allocation failed in one.
-fn join_all<L: Round, R: Threads>(rt: &R, started: Started<L>) -> Result<Vec<Seat<L>>, RunCause>
+// Joins the threads of a task: their seats, in turn. Or one couldn't be started, or else an allocation failed in one.
+fn join_all<L: Round, R: Threads>(
+    rt: &R,
+    started: Started<L>,
+    task: Task,
+) -> Result<Vec<Seat<L>>, RunCause>
+    requires tasks { All (λ t. t.promise.task ≡ task) started.threads.items }
     requires none { started.room.items ≡ [] }
     requires room { length started.threads.items ≤ vec_capacity started.room }
     ensures own { IfOk result (λ back. nodes_of back.items ≡ promised started.threads.items) }
+    ensures asked { IfOk result (λ back. AreAsked task (map list_of back.items)) }
     ensures refused { result ≡ Err RunCause.NoThread ↔ started.refused ≡ true }
     ensures cause { IfErr result (λ c. (c ≡ RunCause.NoThread) ⊎ (c ≡ RunCause.NoMemory)) }
 {
+    let _ = task;
     let Started {
         threads,
         room,
@@ -183,7 +197,8 @@ fn lemma_is_sync<L: Sharing<P::Local> + Send + Sync, P: Application>(shared: &Sh
     let _ = shared;
 }
 
-// What a thread does at a seat, which is counted among those that take turns. It gives the seat back.
+// What a thread does at a seat, which was told nothing yet and is counted among those that take turns. It gives the seat
+// back.
 fn run_seat<L: Sharing<P::Local>, P: Application, G: Gate, R: Wait>(
     rt: &R,
     alloc: Global,
@@ -192,29 +207,11 @@ fn run_seat<L: Sharing<P::Local>, P: Application, G: Gate, R: Wait>(
     mut seat: Seat<L>,
     task: Task,
 ) -> (Seat<L>, TurnsEnd)
+    requires { seat.receipts ≡ [] }
     ensures own { result.0.node ≡ seat.node }
+    ensures asked { request_count result.0.receipts ≤ requests_at task seat.node }
 {
     let end = do_task(rt, alloc, gate, shared, &mut seat, task);
     shared.depart(rt, seat.node());
     (seat, end)
-}
-
-// The task at a seat.
-fn do_task<L: Sharing<P::Local>, P: Application, G: Gate, R: Wait>(
-    rt: &R,
-    alloc: Global,
-    gate: &G,
-    shared: &Shared<L, P>,
-    seat: &mut Seat<L>,
-    task: Task,
-) -> TurnsEnd
-    ensures node { seat.new.node ≡ seat.old.node }
-{
-    if task.selected == Some(seat.node()) {
-        match select(rt, alloc, shared, seat) {
-            Err(SeatRefusal::Refused(BookRefusal::NoMemory)) => return TurnsEnd::NoMemory,
-            _ => {}
-        }
-    }
-    take_turns(rt, alloc, gate, shared, seat, task.turns)
 }

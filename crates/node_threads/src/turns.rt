@@ -1,11 +1,11 @@
 // The turns of a node.
 
-ghost use Rattle.std.specs.Prelude.{◌≡◌, ◌+◌, ◌≤◌, IfOk, IfSome, Some, length, take};
+ghost use Rattle.std.specs.Prelude.{◌≡◌, ◌+◌, ◌≤◌, IfOk, Some, length, take};
 ghost use Rattle.node_choices.specs.Choice.{next_of};
 ghost use Rattle.node_threads.specs.Locked.{HasContinuation, IsFull};
 ghost use Rattle.node_threads.specs.Turns.{AddsTurns};
 
-use crate::refusal::{CommitRefusal, LookRefusal};
+use crate::refusal::CommitRefusal;
 use crate::round::Sharing;
 use crate::seat::Seat;
 use crate::sharing::Shared;
@@ -15,6 +15,7 @@ use node_choices::next_event;
 use reset_machine::{Event, StepRefusal, View};
 use std::alloc::{AllocError, Global};
 use std::sync::Wait;
+use wave_layer::Phase;
 
 /// The most turns that a node takes in one call.
 pub const MAX_TURNS: u32 = 100_000;
@@ -37,6 +38,29 @@ pub enum TurnsEnd {
     /// The book had as many entries as it may have.
     BookFull,
     /// An allocation failed.
+    NoMemory,
+}
+
+// How turns ended, as a run of all nodes tells it apart.
+#[derive(Clone, Copy, Debug, PartialEq, Eq)]
+pub(crate) enum Ended {
+    // All were taken.
+    Taken,
+    // No node that takes turns has anything to do.
+    Quiet,
+    // The node is normal, so it may ask for a reset. So many turns weren't taken.
+    MayAsk(u32),
+    BookFull,
+    NoMemory,
+}
+
+// Why a node takes no turn.
+#[derive(Clone, Copy, Debug, PartialEq, Eq)]
+enum NoTurn {
+    // It is to ask for a reset, and is normal.
+    MayAsk,
+    // No node that takes turns has anything to do.
+    Quiet,
     NoMemory,
 }
 
@@ -72,12 +96,13 @@ pub fn node_turns<L: Sharing<P::Local>, P: Application, G: Gate, R: Wait>(
     ensures full { result ≡ TurnsEnd.BookFull → HasContinuation P.app P.from_text L.book IsFull }
 {
     shared.arrive(rt, 1);
-    let end = take_turns(rt, alloc, gate, shared, seat, turns);
+    let ended = take_turns(rt, alloc, gate, shared, seat, turns, false);
     shared.depart(rt, seat.node());
-    end
+    end_of(ended)
 }
 
-// The turns of a seat that is counted among those that take turns.
+// The turns of a seat that is counted among those that take turns. Where its node is to ask for a reset, they end where it
+// may.
 pub(crate) fn take_turns<L: Sharing<P::Local>, P: Application, G: Gate, R: Wait>(
     rt: &R,
     alloc: Global,
@@ -85,42 +110,55 @@ pub(crate) fn take_turns<L: Sharing<P::Local>, P: Application, G: Gate, R: Wait>
     shared: &Shared<L, P>,
     seat: &mut Seat<L>,
     turns: u32,
-) -> TurnsEnd
-    requires { turns ≤ 100000 }
+    to_ask: bool,
+) -> Ended
     ensures node { seat.new.node ≡ seat.old.node }
     ensures most { length seat.new.receipts ≤ length seat.old.receipts + turns }
     ensures kept { take (length seat.old.receipts) seat.new.receipts ≡ seat.old.receipts }
     ensures turns { AddsTurns P.app P.from_text L.book seat.old.node seat.old.receipts seat.new.receipts }
-    ensures full { result ≡ TurnsEnd.BookFull → HasContinuation P.app P.from_text L.book IsFull }
+    ensures full { result ≡ Ended.BookFull → HasContinuation P.app P.from_text L.book IsFull }
 {
     let mut seen: Option<View<P>> = None;
-    for _turn in 0..turns {
-        let (view, event) = match next_allowed(rt, alloc, shared, seat, seen.take()) {
-            Ok(Some(found)) => found,
-            Ok(None) => return TurnsEnd::Done,
-            Err(LookRefusal::StrangeNode) => continue,
-            Err(LookRefusal::NoMemory) => return TurnsEnd::NoMemory,
+    for turn in 0..turns {
+        let (view, event) = match next_allowed(rt, alloc, shared, seat, seen.take(), to_ask) {
+            Ok(found) => found,
+            Err(NoTurn::MayAsk) => return Ended::MayAsk(turns - turn),
+            Err(NoTurn::Quiet) => return Ended::Quiet,
+            Err(NoTurn::NoMemory) => return Ended::NoMemory,
         };
         match turn_on(rt, alloc, gate, shared, seat, view, event) {
             Turn::Over => {}
             Turn::Stale(now) => seen = Some(now),
-            Turn::BookFull => return TurnsEnd::BookFull,
-            Turn::NoMemory => return TurnsEnd::NoMemory,
+            Turn::BookFull => return Ended::BookFull,
+            Turn::NoMemory => return Ended::NoMemory,
         }
     }
-    TurnsEnd::Done
+    Ended::Taken
+}
+
+// How turns ended, as `node_turns` tells it.
+pub(crate) fn end_of(ended: Ended) -> TurnsEnd
+    ensures { result ≡ TurnsEnd.BookFull → ended ≡ Ended.BookFull }
+{
+    match ended {
+        Ended::Taken | Ended::Quiet | Ended::MayAsk(_) => TurnsEnd::Done,
+        Ended::BookFull => TurnsEnd::BookFull,
+        Ended::NoMemory => TurnsEnd::NoMemory,
+    }
 }
 
 // What the seat's node sees, from what it saw last on, where that allows an event, and the first such event. Where it
-// allows none, it waits for a neighbour that changes. None where no node that takes turns has anything to do.
+// allows none, it waits for a neighbour that changes. A node that is to ask for a reset neither waits nor takes a turn
+// while it may. A look is refused for want of memory alone.
 fn next_allowed<L: Sharing<P::Local>, P: Application, R: Wait>(
     rt: &R,
     alloc: Global,
     shared: &Shared<L, P>,
     seat: &Seat<L>,
     last: Option<View<P>>,
-) -> Result<Option<(View<P>, Event)>, LookRefusal>
-    ensures { IfOk result (λ found. IfSome found (λ f. next_of P.app f.0 ≡ Some f.1)) }
+    to_ask: bool,
+) -> Result<(View<P>, Event), NoTurn>
+    ensures { IfOk result (λ f. next_of P.app f.0 ≡ Some f.1) }
 {
     let mut seen = last;
     for _ in rt.forever() {
@@ -128,16 +166,19 @@ fn next_allowed<L: Sharing<P::Local>, P: Application, R: Wait>(
             Some(view) => view,
             None => match shared.look(rt, alloc, seat) {
                 Ok(view) => view,
-                Err(refusal) => return Err(refusal),
+                Err(_) => return Err(NoTurn::NoMemory),
             },
         };
+        if to_ask && view.wave().phase == Phase::Normal {
+            return Err(NoTurn::MayAsk);
+        }
         match next_event(alloc, &view) {
-            Ok(Some(event)) => return Ok(Some((view, event))),
+            Ok(Some(event)) => return Ok((view, event)),
             Ok(None) => drop(view),
-            Err(AllocError) => return Err(LookRefusal::NoMemory),
+            Err(AllocError) => return Err(NoTurn::NoMemory),
         }
         if !shared.wait(rt, seat) {
-            return Ok(None);
+            return Err(NoTurn::Quiet);
         }
     }
     unreachable!()

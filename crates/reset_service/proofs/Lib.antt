@@ -10,7 +10,8 @@ pub mod Threading
 pub mod KeptRuns
 pub mod RecordedRuns
 pub mod SteppedHistories
-pub mod Starting
 pub mod Beginning
+pub mod Selecting
 pub mod Paging
 pub mod Holding
+pub mod Wholes

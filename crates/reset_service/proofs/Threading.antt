@@ -66,6 +66,14 @@ abbrev pub OneReading : Type 0
 OneReading =
     (text : List ℕ) (r s : Result (ℕ × List Entry) BookFault) → IsReadAs text r → IsReadAs text s → r ≡ s
 
+pub same_entries : OneReading → (text : List ℕ) (m n : ℕ) (ds es : List Entry) → IsReadAs text (Ok (m, ds))
+    → IsReadAs text (Ok (n, es)) → ds ≡ es
+same_entries reading text m n ds es one other =
+    let same : ◌≡◌ {A = Result (ℕ × List Entry) BookFault} (Ok (m, ds)) (Ok (n, es)) =
+    reading text (Ok (m, ds)) (Ok (n, es)) one other in
+    let both : ◌≡◌ {A = ℕ × List Entry} (m, ds) (n, es) = cc in
+    ap (λ (b : ℕ × List Entry). b.1) both
+
 module _ {L : Type 0} (m : Meaning L) (c : Configuration L) where
   pub kept_by : OneReading → (text : List ℕ) (modulus : ℕ) (es : List Entry) (s : Summary)
       → length c.graph.nodes ≤ 64 → IsReadAs text (Ok (modulus, es)) → list_all is_step es ≡ true
@@ -86,37 +94,6 @@ module _ {L : Type 0} (m : Meaning L) (c : Configuration L) where
       (sum.entries ∙ ap length is ∙ steps_count made.0)
       ∙ ap (λ k. (threads_line (length c.graph.nodes) (length made.0) k, Good))
       (r ∙ ap length sum.reports ∙ ap (λ xs. length (reports_of m.app m.from_text c xs)) is))
-
-  -- a run that gave no outcome is told of where there are too many nodes
-  pub many_kept : (r : Result Told RunStop) (cause : RunCause)
-      → IfOk r (λ told. (told ≡ TooManyNodes) × (cause ≡ TooManyForThreads))
-      → (cause ≡ TooManyForThreads → 64 < length c.graph.nodes)
-      → IfOk r (λ told. IsKept m c (told_history told) (told_output told))
-  many_kept (Ok told) cause (is, by) many =
-      subst (λ x. IsKept m c (told_history x) (told_output x)) (sym is) (too_many (many by) refl)
-  many_kept (Err stop) cause is many = tt
-
--- and nothing is kept
-pub many_unkept : (r : Result Told RunStop) (cause : RunCause)
-    → IfOk r (λ told. (told ≡ TooManyNodes) × (cause ≡ TooManyForThreads))
-    → IfOk r (λ told. (told_output told).1 ≡ BadInput → told_history told ≡ [])
-many_unkept (Ok told) cause (is, by) = λ _. ap told_history is
-many_unkept (Err stop) cause is = tt
-
--- ---- a topology is judged first
-
-pub threaded : (topology : List ℕ) (g : Graph) (app : AppName) (modulus : ℕ) (r : Result Told RunStop)
-    → Describes topology g app modulus
-    → IfOk r (λ told. IsKeptOf app g modulus (told_history told) (told_output told))
-    → IfOk r (λ told. (told_output told).1 ≡ BadInput → told_history told ≡ [])
-    → IfOk r (λ told. IsThreaded topology (told_history told) (told_output told))
-threaded topology g app modulus (Ok told) describes is unkept =
-    record { judged = good_topology g app modulus describes is; unkept = unkept }
-threaded topology g app modulus (Err stop) describes is unkept = tt
-
-pub unthreaded : (topology : List ℕ) (f : ReadFault) → IsReadFault topology f
-    → IsThreaded topology [] (bad_topology_text f, BadInput)
-unthreaded topology f is = record { judged = bad_topology f is refl; unkept = λ _. refl }
 
 -- ---- what is left to the two writers
 

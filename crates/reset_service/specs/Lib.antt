@@ -1,5 +1,6 @@
 pub mod Counts
 pub mod Verified
+pub mod Whole
 pub mod Reasons
 pub mod Asked
 pub mod Marked
@@ -15,5 +16,6 @@ pub mod Started
 pub mod Page
 pub mod Begun
 pub mod Explorations
+pub mod Selected
 pub mod Shown
 pub mod Held

@@ -31,7 +31,8 @@ use Rattle.script_replay.specs.declared.status.RunStop.TheVariants as stop
 use Rattle.script_replay.specs.declared.status.Status.{Status}
 use Rattle.script_replay.specs.declared.status.Status.TheVariants.{Good, BadInput}
 use Rattle.reset_service.specs.declared.told.Told.{Told}
-use Rattle.reset_service.specs.declared.told.Told.TheVariants.{BadTopology, BadSnapshot, TooManyNodes, Kept, Driven}
+use Rattle.reset_service.specs.declared.told.Told.TheVariants.{BadTopology, BadSnapshot, StrangeNode, TooManyNodes}
+use Rattle.reset_service.specs.declared.told.Told.TheVariants.{Kept, Driven}
 
 -- ---- lines
 
@@ -43,6 +44,10 @@ threads_line nodes entries reports =
 -- the line of a topology that has more nodes than there may be threads
 abbrev pub too_many_text : List ℕ
 too_many_text = ended (codes "bad topology TooManyForThreads")
+
+-- the line of a selected node that isn't one that is up
+abbrev pub strange_node_text : List ℕ
+strange_node_text = ended (codes "refused StrangeNode")
 
 -- ---- the history and the output of a run
 
@@ -143,6 +148,7 @@ told_history told = []
 abbrev pub told_output : Told → List ℕ × Status
 told_output (BadTopology f) = (bad_topology_text f, BadInput)
 told_output (BadSnapshot f) = (start_fault_text f, BadInput)
+told_output StrangeNode = (strange_node_text, BadInput)
 told_output TooManyNodes = (too_many_text, BadInput)
 told_output (Kept k) = (threads_line k.nodes k.entries k.reports, Good)
 told_output (Driven d) = (drove_line d.entries d.reports, Good)

@@ -28,14 +28,15 @@ mod tables;
 mod threaded;
 mod told;
 mod verified;
+mod whole;
 
 pub use asked::{Question, verify_asked};
 pub use command_words::{
-    DriveWords, ExploreWords, Job, LineFault, PageWords, Paths, PlanWords, RecordWords,
+    CheckWords, DriveWords, ExploreWords, Job, LineFault, PageWords, Paths, PlanWords, RecordWords,
     ReplayWords, SessionWords, ShapeWords, ThreadWords, VerifyWords, read_words,
 };
 pub use driven::{Drive, drive_from, drive_text};
-pub use explained::explain;
+pub use explained::{explain, explain_topics};
 pub use explored::{Exploring, explore_text};
 pub use laws::{
     booted_invariants_hold, driven_runs_are_verified, kept_histories_are_runs, one_driven_run,
@@ -43,19 +44,22 @@ pub use laws::{
     verified_histories_tell_steps, verified_reports_are_true,
 };
 pub use marked::replay_marked;
+pub use node_threads::TurnLimit;
 pub use page::{MAX_PLAYED, page_from, page_text};
 pub use pictured::{picture_from, picture_text};
 pub use planned::{plan_from, plan_text};
 pub use recorded::record_from;
 pub use script_replay::{
-    BufferedOutput, Marks, READ_LIMIT, RunStop, Status, check_text, one_joined_output, one_output,
-    one_record, read_text, record_text, recordings_are_replays, replay, replay_joined, replay_text,
-    scripts_are_steps, stretches_are_runs,
+    BufferedOutput, Marks, READ_LIMIT, RunStop, Status, check_repairs_text, check_text,
+    one_joined_output, one_output, one_record, read_text, record_text, recordings_are_replays,
+    replay, replay_joined, replay_text, scripts_are_steps, stretches_are_runs,
 };
 pub use session::{Past, session_text};
 pub use shaped::write_shape;
 pub use shown::explore_history;
-pub use started::{MAX_SNAPSHOT, check_from, replay_from};
+pub use snapshots::MAX_SNAPSHOT;
+pub use started::{check_from, check_repairs_from, replay_from};
 pub use tables::print_tables;
-pub use threaded::{threads_from, threads_text};
+pub use threaded::{ThreadRun, threads_from, threads_run, threads_text};
 pub use verified::{verify_from, verify_text};
+pub use whole::check_whole;

@@ -1,6 +1,6 @@
 // Where a run starts from a snapshot.
 
-ghost use Rattle.std.specs.Prelude.{◌≡◌, ◌≢◌, ◌≤◌, ℕ, List, IfErr, IfOk, length, option_map, OnErr, OnOk};
+ghost use Rattle.std.specs.Prelude.{◌≡◌, ◌≢◌, ◌≤◌, ℕ, List, IfErr, IfOk, length, option_map, OnErr, OnOk, false, true};
 ghost use Rattle.std.specs.Io.KnownBytes.{Appends};
 ghost use Rattle.action_tables.specs.Written.{AppendsPrefix};
 ghost use Rattle.topology.specs.TopologyText.{IsReadFault};
@@ -24,13 +24,10 @@ use script_replay::{
     Network, Purpose, RunStop, Status, read_network, read_text, refuse_input, refuse_topology,
     run_script,
 };
-use snapshots::{SnapshotFault, put_snapshot_fault, read_snapshot};
+use snapshots::{MAX_SNAPSHOT, SnapshotFault, put_snapshot_fault, read_snapshot};
 use std::alloc::Global;
 use std::io::{Read, Write};
 use topology::{AppName, ReadFault};
-
-/// The most bytes of a snapshot: 64 MiB, a thousand lines of the greatest length.
-pub const MAX_SNAPSHOT: usize = 67_108_864;
 
 // Why a run can't start from a text.
 #[derive(Clone, Copy, Debug, PartialEq, Eq)]
@@ -163,12 +160,32 @@ pub fn check_from<R: Read, W: Write>(
     out: &mut W,
 ) -> Result<Status, RunStop>
     ensures leaves { (text : List ℕ) × IsReadFrom (R.remaining script.old) text
-        × Leaves (IsStartedText (Answers Purpose.Check text) topology.now snapshot.now)
+        × Leaves (IsStartedText (Answers (Purpose.Check false) text) topology.now snapshot.now)
         (W.contents out.old) (W.contents out.new) result }
     ensures taken { OnOk result (GaveText (R.remaining script.old) (R.remaining script.new)) }
     ensures untouched { (f : ReadFault) → IsReadFault topology.now f → script.new ≡ script.old }
 {
-    run_from(alloc, Purpose::Check, topology, snapshot, script, out)
+    let purpose = Purpose::Check { repairs: false };
+    run_from(alloc, purpose, topology, snapshot, script, out)
+}
+
+/// As `check_repairs_text`, from the configuration that a snapshot of the topology names. The topology is judged first, and
+/// the snapshot before the script.
+pub fn check_repairs_from<R: Read, W: Write>(
+    alloc: Global,
+    topology: &[u8],
+    snapshot: &[u8],
+    script: &mut R,
+    out: &mut W,
+) -> Result<Status, RunStop>
+    ensures leaves { (text : List ℕ) × IsReadFrom (R.remaining script.old) text
+        × Leaves (IsStartedText (Answers (Purpose.Check true) text) topology.now snapshot.now)
+        (W.contents out.old) (W.contents out.new) result }
+    ensures taken { OnOk result (GaveText (R.remaining script.old) (R.remaining script.new)) }
+    ensures untouched { (f : ReadFault) → IsReadFault topology.now f → script.new ≡ script.old }
+{
+    let purpose = Purpose::Check { repairs: true };
+    run_from(alloc, purpose, topology, snapshot, script, out)
 }
 
 // Runs the script of a reader from a snapshot.

@@ -1,15 +1,18 @@
 // Runs of node threads, from a booted configuration or a snapshot.
 
-ghost use Rattle.std.specs.Prelude.{◌≡◌, ◌≤◌, [], length, IfErr, IfOk, IsTrue};
+ghost use Rattle.std.specs.Prelude.{◌≡◌, ◌≤◌, ℕ, List, [], length, option_map, IfErr, IfOk, IsTrue, None, Ok};
 ghost use Rattle.std.specs.List.{list_all};
+ghost use Rattle.history.specs.HistoryText.{IsReadAs};
+ghost use Rattle.history.specs.declared.entry.Entry.{Entry};
 ghost use Rattle.node_threads.specs.Locked.{is_step};
 ghost use Rattle.script_replay.specs.Meaning.{meaning_of};
-ghost use Rattle.reset_service.specs.Begun.{IsBegunFrom, IsBegunOf, IsBegunText, RunsThreads};
-ghost use Rattle.reset_service.specs.Threaded.{IsKept, IsKeptFrom, IsKeptOf, IsThreaded};
-ghost use Rattle.reset_service.specs.Threaded.{LeavesBoth, told_history, told_output};
+ghost use Rattle.reset_service.specs.Begun.{IsBegunText, RunsThreads};
+ghost use Rattle.reset_service.specs.Explorations.{IsOpenedFrom, IsOpenedOf};
+ghost use Rattle.reset_service.specs.Selected.{IsSelected, IsSelectedText, IsToldOf, RunsSelected, task_of};
+ghost use Rattle.reset_service.specs.Threaded.{IsKept, IsThreaded, LeavesBoth, told_history, told_output};
 ghost use Rattle.script_replay.specs.Stops.{IsRunStop};
 
-use crate::started::{StartFault, start};
+use crate::started::{StartFault, open_network};
 use crate::told::{Kept, Told, put_history, put_told, status_of};
 use app_interface::{Application, Idle};
 use app_mutex::EdgeReversal;
@@ -18,7 +21,7 @@ use app_token::Token;
 use history::{
     Book, BookFault, MAX_ENTRIES, ReaderFault, VerifyFault, one_reading_a_text, verify_reader,
 };
-use node_threads::{Gate, RunCause, run_nodes};
+use node_threads::{Gate, RunCause, Task, TurnLimit, run_nodes_as};
 use reset_machine::Config;
 use script_replay::{Network, RunStop, Status, read_network, text_of};
 use std::alloc::Global;
@@ -34,6 +37,17 @@ impl Gate for NoGate {
     fn planned(&self, _node: u32) {}
 
     fn committed(&self, _node: u32) {}
+}
+
+/// What node threads do in a run.
+#[derive(Clone, Copy, Debug, PartialEq, Eq)]
+pub struct ThreadRun {
+    /// How many turns each node takes.
+    pub turns: TurnLimit,
+    /// The node that asks for resets. None: the least that is up.
+    pub selected: Option<u32>,
+    /// How many resets it asks for.
+    pub resets: u32,
 }
 
 /// Runs a thread for each node of a topology text from its booted configuration on: the node with the least
@@ -60,62 +74,17 @@ pub fn threads_text<R: Threads + Wait + Sync, H: Write, W: Write>(
     Ok(status_of(&told))
 }
 
-// Runs the threads of a topology text.
+// Runs the threads of a topology text from its booted configuration.
 fn run_text<R: Threads + Wait + Sync>(
     rt: &R,
     alloc: Global,
     topology: &[u8],
     turns: u32,
 ) -> Result<Told, RunStop>
-    requires { turns ≤ 100000 }
     ensures ok { IfOk result (λ told. IsThreaded topology.now (told_history told) (told_output told)) }
     ensures stop { IfErr result IsRunStop }
 {
-    match read_network(alloc, topology) {
-        Ok(network) => run_app(rt, alloc, network, turns),
-        Err(ReadFault::NoMemory) => Err(RunStop::NoMemory),
-        Err(fault) => Ok(Told::BadTopology(fault)),
-    }
-}
-
-// Runs the threads of a network, with the application that it names.
-fn run_app<R: Threads + Wait + Sync>(
-    rt: &R,
-    alloc: Global,
-    network: Network,
-    turns: u32,
-) -> Result<Told, RunStop>
-    requires { turns ≤ 100000 }
-    ensures ok { IfOk result
-        (λ told. IsKeptOf network.app network.topology network.modulus (told_history told) (told_output told)) }
-    ensures unkept { IfOk result (λ told. (told_output told).1 ≡ Status.BadInput → told_history told ≡ []) }
-    ensures stop { IfErr result IsRunStop }
-{
-    match network.app {
-        AppName::Idle => run_booted::<Idle, R>(rt, alloc, network, turns),
-        AppName::Token => run_booted::<Token, R>(rt, alloc, network, turns),
-        AppName::Mutex => run_booted::<EdgeReversal, R>(rt, alloc, network, turns),
-        AppName::Routes => run_booted::<Routes, R>(rt, alloc, network, turns),
-    }
-}
-
-fn run_booted<P: Application, R: Threads + Wait + Sync>(
-    rt: &R,
-    alloc: Global,
-    network: Network,
-    turns: u32,
-) -> Result<Told, RunStop>
-    requires { turns ≤ 100000 }
-    ensures ok { IfOk result
-        (λ told. IsKeptFrom (meaning_of P.app P.text P.from_text P.names) network.topology network.modulus
-        (told_history told) (told_output told)) }
-    ensures unkept { IfOk result (λ told. (told_output told).1 ≡ Status.BadInput → told_history told ≡ []) }
-    ensures stop { IfErr result IsRunStop }
-{
-    match Config::<P>::boot(alloc, network.topology, network.modulus) {
-        Ok(opening) => run_from(rt, alloc, opening, turns),
-        Err(_) => Err(RunStop::NoMemory),
-    }
+    run_selected(rt, alloc, topology, None, plain_run(turns))
 }
 
 /// As `threads_text`, from the configuration that a snapshot of the topology names in place of the booted one. The
@@ -148,57 +117,108 @@ fn run_text_from<R: Threads + Wait + Sync>(
     snapshot: &[u8],
     turns: u32,
 ) -> Result<Told, RunStop>
-    requires { turns ≤ 100000 }
     ensures ok { IfOk result (λ told. IsBegunText RunsThreads topology.now snapshot.now (told_history told)
         (told_output told)) }
     ensures stop { IfErr result IsRunStop }
 {
+    run_selected(rt, alloc, topology, Some(snapshot), plain_run(turns))
+}
+
+// A run in which the least node asks once, and each node takes so many turns.
+fn plain_run(turns: u32) -> ThreadRun
+    ensures { result.selected ≡ None }
+{
+    ThreadRun {
+        turns: TurnLimit::AtMost(turns),
+        selected: None,
+        resets: 1,
+    }
+}
+
+/// Runs a thread for each node of a topology text from its booted configuration or, where one is given, from the
+/// configuration that a snapshot of it names: the selected node asks for a reset, and again each time it is normal, so
+/// often in all, and each node takes its turns. Writes the history that they keep to one writer, and then to the other
+/// how many nodes there are, and how many entries and reports the history has.
+///
+/// The topology is judged first, then the snapshot, then whether the selected node is there and up, and then the number
+/// of nodes; none of these faults leaves a history. The history is written only where a verification takes it too, and
+/// nothing before the threads have ended.
+pub fn threads_run<R: Threads + Wait + Sync, H: Write, W: Write>(
+    rt: &R,
+    alloc: Global,
+    topology: &[u8],
+    snapshot: Option<&[u8]>,
+    run: ThreadRun,
+    history: &mut H,
+    out: &mut W,
+) -> Result<Status, RunStop>
+    ensures { LeavesBoth (IsSelectedText run topology.now (option_map (λ s. s.now) snapshot.entry))
+        (H.contents history.old) (H.contents history.new) (W.contents out.old) (W.contents out.new) result }
+{
+    let told = run_selected(rt, alloc, topology, snapshot, run)?;
+    put_history(history, &told)?;
+    put_told(out, &told)?;
+    Ok(status_of(&told))
+}
+
+// Runs the threads of a topology text, and of a snapshot where one is given.
+fn run_selected<R: Threads + Wait + Sync>(
+    rt: &R,
+    alloc: Global,
+    topology: &[u8],
+    snapshot: Option<&[u8]>,
+    run: ThreadRun,
+) -> Result<Told, RunStop>
+    ensures ok { IfOk result (λ told. IsSelectedText run topology.now (option_map (λ s. s.now) snapshot.entry)
+        (told_history told) (told_output told)) }
+    ensures stop { IfErr result IsRunStop }
+{
     match read_network(alloc, topology) {
-        Ok(network) => run_app_from(rt, alloc, network, snapshot, turns),
+        Ok(network) => run_app(rt, alloc, network, snapshot, run),
         Err(ReadFault::NoMemory) => Err(RunStop::NoMemory),
         Err(fault) => Ok(Told::BadTopology(fault)),
     }
 }
 
-// Runs the threads of a network from a snapshot, with the application that it names.
-fn run_app_from<R: Threads + Wait + Sync>(
+// Runs the threads of a network, with the application that it names.
+fn run_app<R: Threads + Wait + Sync>(
     rt: &R,
     alloc: Global,
     network: Network,
-    snapshot: &[u8],
-    turns: u32,
+    snapshot: Option<&[u8]>,
+    run: ThreadRun,
 ) -> Result<Told, RunStop>
-    requires few { turns ≤ 100000 }
-    requires up { network.topology.nodes ≡ network.topology.ids }
-    ensures ok { IfOk result
-        (λ told. IsBegunOf RunsThreads network.app network.topology network.modulus snapshot.now (told_history told)
-        (told_output told)) }
+    requires { network.topology.nodes ≡ network.topology.ids }
+    ensures ok { IfOk result (λ told. IsOpenedOf (RunsSelected run (told_history told)) network.app network.topology
+        network.modulus (option_map (λ s. s.now) snapshot.entry) (told_output told)) }
+    ensures unkept { IfOk result (λ told. (told_output told).1 ≡ Status.BadInput → told_history told ≡ []) }
     ensures stop { IfErr result IsRunStop }
 {
     match network.app {
-        AppName::Idle => run_started::<Idle, R>(rt, alloc, network, snapshot, turns),
-        AppName::Token => run_started::<Token, R>(rt, alloc, network, snapshot, turns),
-        AppName::Mutex => run_started::<EdgeReversal, R>(rt, alloc, network, snapshot, turns),
-        AppName::Routes => run_started::<Routes, R>(rt, alloc, network, snapshot, turns),
+        AppName::Idle => run_opened::<Idle, R>(rt, alloc, network, snapshot, run),
+        AppName::Token => run_opened::<Token, R>(rt, alloc, network, snapshot, run),
+        AppName::Mutex => run_opened::<EdgeReversal, R>(rt, alloc, network, snapshot, run),
+        AppName::Routes => run_opened::<Routes, R>(rt, alloc, network, snapshot, run),
     }
 }
 
-fn run_started<P: Application, R: Threads + Wait + Sync>(
+fn run_opened<P: Application, R: Threads + Wait + Sync>(
     rt: &R,
     alloc: Global,
     network: Network,
-    snapshot: &[u8],
-    turns: u32,
+    snapshot: Option<&[u8]>,
+    run: ThreadRun,
 ) -> Result<Told, RunStop>
-    requires few { turns ≤ 100000 }
-    requires up { network.topology.nodes ≡ network.topology.ids }
+    requires { network.topology.nodes ≡ network.topology.ids }
     ensures ok { IfOk result
-        (λ told. IsBegunFrom (meaning_of P.app P.text P.from_text P.names) network.topology network.modulus snapshot.now
-        (RunsThreads P.Local (meaning_of P.app P.text P.from_text P.names)) (told_history told) (told_output told)) }
+        (λ told. IsOpenedFrom (meaning_of P.app P.text P.from_text P.names) network.topology network.modulus
+        (option_map (λ s. s.now) snapshot.entry)
+        (RunsSelected run (told_history told) P.Local (meaning_of P.app P.text P.from_text P.names)) (told_output told)) }
+    ensures unkept { IfOk result (λ told. (told_output told).1 ≡ Status.BadInput → told_history told ≡ []) }
     ensures stop { IfErr result IsRunStop }
 {
-    match start::<P>(alloc, network, snapshot) {
-        Ok(opening) => run_from(rt, alloc, opening, turns),
+    match open_network::<P>(alloc, network, snapshot) {
+        Ok(opening) => run_from(rt, alloc, opening, run),
         Err(StartFault::NoMemory) => Err(RunStop::NoMemory),
         Err(fault) => Ok(Told::BadSnapshot(fault)),
     }
@@ -209,17 +229,16 @@ fn run_from<P: Application, R: Threads + Wait + Sync>(
     rt: &R,
     alloc: Global,
     opening: Config<P>,
-    turns: u32,
+    run: ThreadRun,
 ) -> Result<Told, RunStop>
-    requires { turns ≤ 100000 }
-    ensures ok { IfOk result (λ told. IsKept (meaning_of P.app P.text P.from_text P.names) opening
+    ensures ok { IfOk result (λ told. IsSelected (meaning_of P.app P.text P.from_text P.names) run opening
         (told_history told) (told_output told)) }
     ensures unkept { IfOk result (λ told. (told_output told).1 ≡ Status.BadInput → told_history told ≡ []) }
     ensures stop { IfErr result IsRunStop }
 {
-    let least = opening.topology().nodes().first().copied();
+    let task = task_of(run, &opening);
     let book = Book::open_book(alloc, opening.copy(alloc)?, MAX_ENTRIES);
-    match run_nodes(rt, alloc, &NoGate, book, turns, least) {
+    match run_nodes_as(rt, alloc, &NoGate, book, task) {
         Ok(outcome) => {
             let told = judge(alloc, opening, &outcome.book);
             drop(outcome);
@@ -229,30 +248,57 @@ fn run_from<P: Application, R: Threads + Wait + Sync>(
             let cause = fault.cause;
             drop(fault);
             drop(opening);
-            stopped_by(cause)
+            stopped_by(run, cause)
         }
     }
 }
 
-// What a run comes to whose threads gave no outcome. The selected node is never a strange one.
-fn stopped_by(cause: RunCause) -> Result<Told, RunStop>
-    ensures many { IfOk result (λ told. (told ≡ Told.TooManyNodes) × (cause ≡ RunCause.TooManyForThreads)) }
+// The task of the nodes in a run, where the least one that is up is selected unless another is.
+fn task_of<P: Application>(run: ThreadRun, opening: &Config<P>) -> Task
+    ensures { result ≡ task_of run opening.now.graph }
+{
+    let ThreadRun {
+        turns,
+        selected,
+        resets,
+    } = run;
+    let selected = match selected {
+        Some(node) => Some(node),
+        None => opening.topology().nodes().first().copied(),
+    };
+    Task {
+        turns,
+        selected,
+        resets,
+    }
+}
+
+// What a run comes to whose threads gave no outcome. The least node is never a strange one.
+fn stopped_by(run: ThreadRun, cause: RunCause) -> Result<Told, RunStop>
+    ensures told { IfOk result (IsToldOf run cause) }
     ensures stop { IfErr result IsRunStop }
 {
     match cause {
+        RunCause::StrangeNode => match run.selected {
+            Some(_) => Ok(Told::StrangeNode),
+            None => Err(RunStop::NotClosed),
+        },
         RunCause::TooManyForThreads => Ok(Told::TooManyNodes),
         RunCause::NoThread => Err(RunStop::ThreadFailed),
-        RunCause::StrangeNode | RunCause::Close(_) => Err(RunStop::NotClosed),
+        RunCause::Close(_) => Err(RunStop::NotClosed),
         RunCause::NoMemory => Err(RunStop::NoMemory),
     }
 }
 
-// Judges the history that was kept from an opening on, which is written where its verification takes it.
+// Judges the history that was kept from an opening on, which is written where its verification takes it. Its text has the
+// book's entries alone.
 fn judge<P: Application>(alloc: Global, opening: Config<P>, book: &Book<P>) -> Result<Told, RunStop>
     requires few { length opening.graph.nodes ≤ 64 }
     requires steps { IsTrue (list_all is_step book.now.entries) }
     ensures ok { IfOk result (λ told. IsKept (meaning_of P.app P.text P.from_text P.names) opening
         (told_history told) (told_output told)) }
+    ensures text { IfOk result (λ told. (modulus : ℕ) (es : List Entry)
+        → IsReadAs (told_history told) (Ok (modulus, es)) → es ≡ book.now.entries) }
     ensures unkept { IfOk result (λ told. (told_output told).1 ≡ Status.BadInput → told_history told ≡ []) }
     ensures stop { IfErr result IsRunStop }
 {

@@ -18,6 +18,7 @@ use topology::ReadFault;
 pub enum Told {
     BadTopology(ReadFault),
     BadSnapshot(StartFault),
+    StrangeNode,
     TooManyNodes,
     Kept(Kept),
     Driven(DrivenHistory),
@@ -41,7 +42,9 @@ pub fn put_history<H: Write>(history: &mut H, told: &Told) -> Result<(), WriteFa
     match told {
         Told::Kept(kept) => put_bytes(history, &kept.history),
         Told::Driven(driven) => put_bytes(history, &driven.text),
-        Told::BadTopology(_) | Told::BadSnapshot(_) | Told::TooManyNodes => put_bytes(history, b""),
+        Told::BadTopology(_) | Told::BadSnapshot(_) | Told::StrangeNode | Told::TooManyNodes => {
+            put_bytes(history, b"")
+        }
     }
 }
 
@@ -53,6 +56,7 @@ pub fn put_told<W: Write>(out: &mut W, told: &Told) -> Result<(), WriteFault>
     match told {
         Told::BadTopology(fault) => put_topology_fault(out, *fault),
         Told::BadSnapshot(fault) => put_start_fault(out, *fault),
+        Told::StrangeNode => put_bytes(out, b"refused StrangeNode\n"),
         Told::TooManyNodes => put_bytes(out, b"bad topology TooManyForThreads\n"),
         Told::Kept(kept) => put_threads(out, kept.nodes, kept.entries, kept.reports),
         Told::Driven(driven) => put_counts(out, b"drove ", driven.entries, driven.reports),
@@ -79,7 +83,9 @@ pub fn status_of(told: &Told) -> Status
     ensures { result ≡ (told_output told.now).1 }
 {
     match told {
-        Told::BadTopology(_) | Told::BadSnapshot(_) | Told::TooManyNodes => Status::BadInput,
+        Told::BadTopology(_) | Told::BadSnapshot(_) | Told::StrangeNode | Told::TooManyNodes => {
+            Status::BadInput
+        }
         Told::Kept(_) | Told::Driven(_) => Status::Good,
     }
 }

@@ -19,3 +19,4 @@ pub mod Written
 pub mod FlatMaps
 pub mod MoveTexts
 pub mod LinkTexts
+pub mod Described

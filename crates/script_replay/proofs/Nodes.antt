@@ -91,19 +91,19 @@ ready_line-is m c ids is = ap ready_text (sym is)
 
 -- ---- faults
 
-pub faults_lines-is : {L : Type 0} (m : Meaning L) (c : Configuration L) (told : List LinkFault) → told ≡ faults m.app c
-    → faults_lines m c ≡ faults_text told
+pub faults_lines-is : {L : Type 0} (m : Meaning L) (repairs : Bool) (c : Configuration L) (told : List LinkFault)
+    → told ≡ faults m.app c → faults_lines m repairs c ≡ faults_text repairs told
 unfolding faults_lines
-faults_lines-is m c told is = ap faults_text (sym is)
+faults_lines-is m repairs c told is = ap (faults_text repairs) (sym is)
 
 node_faults_lines-is : {L : Type 0} (m : Meaning L) (c : Configuration L) (i : ℕ) (told : List LinkFault)
     → told ≡ node_faults m.app c i
-    → node_faults_lines m c i ≡ faults_text told
+    → node_faults_lines m c i ≡ faults_text false told
 unfolding node_faults_lines
-node_faults_lines-is m c i told is = ap faults_text (sym is)
+node_faults_lines-is m c i told is = ap (faults_text false) (sym is)
 
 pub faults_node : {L : Type 0} (m : Meaning L) (c : Configuration L) (i : ℕ) (told : List LinkFault) → IsNode c.graph i
-    → told ≡ node_faults m.app c i → at_node c i (node_faults_lines m c i) ≡ faults_text told
+    → told ≡ node_faults m.app c i → at_node c i (node_faults_lines m c i) ≡ faults_text false told
 faults_node m c i told node is = told_node c i (node_faults_lines m c i) node ∙ node_faults_lines-is m c i told is
 
 pub faults_status-is : {L : Type 0} (m : Meaning L) (c : Configuration L) (told : List LinkFault)

@@ -1,6 +1,6 @@
 -- What a run writes.
 use Rattle.std.specs.Prelude.{◌≡◌, ℕ, ◌+◌, ◌<◌, ◌≤◌, nat_lt, if◌then◌else◌, ◌⊎◌, List, [], ◌∷◌, ◌++◌, length, codes}
-use Rattle.std.specs.Prelude.{Option, Some, None, Result, Ok, Err, map, filter}
+use Rattle.std.specs.Prelude.{Bool, false, Option, Some, None, Result, Ok, Err, map, filter}
 use Rattle.std.specs.Fmt.{decimal}
 use Rattle.std.specs.Io.KnownBytes.{Appends, Keeps}
 use Rattle.std.specs.List.{concat, flat_map}
@@ -37,7 +37,7 @@ use Rattle.fault_inject.specs.declared.fault.Fault.{Fault}
 use Rattle.fault_inject.specs.declared.refusal.FaultRefusal.{FaultRefusal}
 use Rattle.fault_inject.specs.declared.refusal.FaultRefusal.TheVariants.{BadValue, BadLocal}
 use Rattle.fault_inject.specs.declared.refusal.FaultRefusal.TheVariants as refused
-use Rattle.link_predicates.specs.Faults.{alarm_of, family_name, faults, node_faults}
+use Rattle.link_predicates.specs.Faults.{alarm_of, family_name, faults, node_faults, repair_of}
 use Rattle.link_predicates.specs.declared.fault.LinkFault.{LinkFault}
 use Rattle.reset_machine.specs.declared.enabled.Enabled.{Enabled}
 use Rattle.action_tables.specs.RowText.{set_text}
@@ -146,15 +146,24 @@ abbrev pub ready_text : List ℕ → List ℕ
 ready_text [] = ended (codes "ready -")
 ready_text (id ∷ ids) = ended (codes "ready" ++ flat_map spaced (id ∷ ids))
 
--- the line of a fault: at which end of which link, and the row
-abbrev pub fault_line : LinkFault → List ℕ
-fault_line fault =
+-- what a fault says: at which end of which link, and the row
+abbrev pub fault_words : LinkFault → List ℕ
+fault_words fault =
     concat (codes "link " ∷ decimal fault.at ∷ codes " " ∷ decimal fault.other ∷ codes " " ∷ family_name fault.family
-    ∷ codes " " ∷ decimal fault.row ∷ ended [] ∷ [])
+    ∷ codes " " ∷ decimal fault.row ∷ [])
+
+-- what stands behind it for a repair
+abbrev pub repair_text : Option Event → List ℕ
+repair_text None = []
+repair_text (Some event) = codes " -> " ++ event_line event
+
+-- the line of a fault, which has the repair where repairs are asked for
+abbrev pub fault_line : Bool → LinkFault → List ℕ
+fault_line repairs fault = fault_words fault ++ (repair_text (if repairs then repair_of fault else None) ++ ended [])
 
 -- the lines of faults, and their number
-abbrev pub faults_text : List LinkFault → List ℕ
-faults_text told = flat_map fault_line told ++ numbered (codes "faults ") (length told)
+abbrev pub faults_text : Bool → List LinkFault → List ℕ
+faults_text repairs told = flat_map (fault_line repairs) told ++ numbered (codes "faults ") (length told)
 
 -- the line of an alarm, or that there is none
 abbrev pub alarm_text : Option LinkFault → List ℕ
@@ -220,12 +229,12 @@ unfoldable pub moves_lines : {L : Type 0} → Meaning L → Configuration L → 
 moves_lines m c i = moves_text (enabled_events m.app c i)
 
 -- what is told of the faults of all nodes. It stays folded: unfolded, it has all the tables
-unfoldable pub faults_lines : {L : Type 0} → Meaning L → Configuration L → List ℕ
-faults_lines m c = faults_text (faults m.app c)
+unfoldable pub faults_lines : {L : Type 0} → Meaning L → Bool → Configuration L → List ℕ
+faults_lines m repairs c = faults_text repairs (faults m.app c)
 
 -- what is told of those of a node
 unfoldable pub node_faults_lines : {L : Type 0} → Meaning L → Configuration L → ℕ → List ℕ
-node_faults_lines m c i = faults_text (node_faults m.app c i)
+node_faults_lines m c i = faults_text false (node_faults m.app c i)
 
 -- how a check of all nodes ends
 abbrev pub found_status : List LinkFault → Status
@@ -267,7 +276,7 @@ answered m c (ShowNode i) = (c, at_node c i (shown m c i))
 answered m c Newest = (c, flat_map (newest_line m c) c.graph.nodes)
 answered m c (command.Enabled i) = (c, at_node c i (enabled_line m c i))
 answered m c Ready = (c, ready_line m c)
-answered m c Check = (c, faults_lines m c)
+answered m c Check = (c, faults_lines m false c)
 answered m c (CheckNode i) = (c, at_node c i (node_faults_lines m c i))
 answered m c (Alarm i) = (c, at_node c i (alarm_line m c i))
 answered m c (Watch i) = if is_node c.graph i then watched m c i else (c, refusal_text StrangeNode)
@@ -319,7 +328,7 @@ answers m = answers_by (line_answer m)
 -- what follows lines that ended so, and the status of the run: a check of what good lines left, or nothing
 abbrev pub ending : {L : Type 0} → Meaning L → Purpose → Configuration L → Status → List ℕ × Status
 ending m purposes.Replay c status = ([], status)
-ending m purposes.Check c status = if_good status (faults_lines m c, faults_status m c) ([], status)
+ending m (purposes.Check repairs) c status = if_good status (faults_lines m repairs c, faults_status m c) ([], status)
 
 -- what is written for a purpose, and the status
 abbrev pub output_for : {L : Type 0} → Meaning L → Purpose → Answer L → List ℕ × Status

@@ -106,7 +106,7 @@ pub fn put_bad_line<W: Write>(out: &mut W, number: u64) -> Result<(), WriteFault
     put_numbered(out, b"bad line ", number)
 }
 
-/// Does what the command asks for, and writes the answer. Want of memory changes and writes nothing;
+/// Does what the command asks for, and writes the answer. If an allocation fails, nothing is changed or written;
 /// where the writer fails the configuration is that of the answer.
 pub fn answer<P: Application, W: Write>(
     alloc: Global,
@@ -137,7 +137,7 @@ pub fn answer<P: Application, W: Write>(
         Command::Enabled(at) => answer_enabled(alloc, config, at, out),
         Command::Ready => answer_ready(alloc, config, out),
         Command::Check => {
-            answer_check(alloc, config, out)?;
+            answer_check(alloc, config, false, out)?;
             Ok(())
         }
         Command::CheckNode(at) => answer_check_node(alloc, config, at, out),
@@ -149,7 +149,7 @@ pub fn answer<P: Application, W: Write>(
     }
 }
 
-/// Steps, and writes the reply or the refusal. Want of memory changes and writes nothing; where the
+/// Steps, and writes the reply or the refusal. If an allocation fails, nothing is changed or written; where the
 /// writer fails the event was done, or refused.
 #[inline(always)]
 pub fn answer_step<P: Application, W: Write>(

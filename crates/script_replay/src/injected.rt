@@ -19,8 +19,8 @@ use reset_machine::Config;
 use std::alloc::Global;
 use std::io::Write;
 
-/// Does the fault to the configuration, and writes that it was done or the refusal. Want of memory
-/// changes and writes nothing; where the writer fails the fault was done, or refused.
+/// Does the fault to the configuration, and writes that it was done or the refusal. If an allocation
+/// fails, nothing is changed or written; where the writer fails the fault was done, or refused.
 pub fn answer_fault<P: Application, W: Write>(
     alloc: Global,
     config: &mut Config<P>,
@@ -42,8 +42,8 @@ pub fn answer_fault<P: Application, W: Write>(
     written(put_bytes(out, line))
 }
 
-/// Draws a fault, does it, and writes its line and then what `answer_fault` writes. Want of memory
-/// changes and writes nothing; where the writer fails the fault was done, or refused.
+/// Draws a fault, does it, and writes its line and then what `answer_fault` writes. If an
+/// allocation fails, nothing is changed or written; where the writer fails the fault was done, or refused.
 pub fn answer_draw<P: Application, W: Write>(
     alloc: Global,
     config: &mut Config<P>,

@@ -41,7 +41,8 @@ pub use next_line::{NextLine, next_line as first_line_of};
 pub use recorded::{record_script, record_text};
 pub use recording::text_of;
 pub use replays::{
-    check_text, refuse_input, refuse_topology, replay, replay_joined, replay_text, run_script,
+    check_repairs_text, check_text, refuse_input, refuse_topology, replay, replay_joined,
+    replay_text, run_script,
 };
 pub use script::{Command, Line, read_line};
 pub use show::show_node;

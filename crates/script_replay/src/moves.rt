@@ -39,7 +39,7 @@ pub fn answer_moves<P: Application, W: Write>(
     }
 }
 
-/// Writes the moves of a node, or that there is no such node. Want of memory writes nothing.
+/// Writes the moves of a node, or that there is no such node. If an allocation fails, nothing is written.
 pub fn answer_moves_of<P: Application, W: Write>(
     alloc: Global,
     config: &Config<P>,

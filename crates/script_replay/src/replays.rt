@@ -1,6 +1,6 @@
 // The replay of a script on a booted configuration.
 
-ghost use Rattle.std.specs.Prelude.{◌≡◌, ◌≢◌, ℕ, ◌≤◌, List, length, IfOk, IfErr, OnErr, OnOk};
+ghost use Rattle.std.specs.Prelude.{◌≡◌, ◌≢◌, ℕ, ◌≤◌, List, length, IfOk, IfErr, OnErr, OnOk, false, true};
 ghost use Rattle.std.specs.Io.KnownBytes.{Appends};
 ghost use Rattle.topology.specs.TopologyText.{IsReadFault};
 ghost use Rattle.action_tables.specs.Written.{AppendsPrefix};
@@ -75,11 +75,28 @@ pub fn check_text<R: Read, W: Write>(
     out: &mut W,
 ) -> Result<Status, RunStop>
     ensures leaves { (text : List ℕ) × IsReadFrom (R.remaining script.old) text
-        × Leaves (IsOutput Purpose.Check topology.now text) (W.contents out.old) (W.contents out.new) result }
+        × Leaves (IsOutput (Purpose.Check false) topology.now text) (W.contents out.old) (W.contents out.new) result }
     ensures taken { OnOk result (GaveText (R.remaining script.old) (R.remaining script.new)) }
     ensures untouched { (f : ReadFault) → IsReadFault topology.now f → script.new ≡ script.old }
 {
-    run_read(alloc, Purpose::Check, topology, script, out)
+    let purpose = Purpose::Check { repairs: false };
+    run_read(alloc, purpose, topology, script, out)
+}
+
+/// As `check_text`, and each fault of the tree or of the wave is followed by the event that repairs it.
+pub fn check_repairs_text<R: Read, W: Write>(
+    alloc: Global,
+    topology: &[u8],
+    script: &mut R,
+    out: &mut W,
+) -> Result<Status, RunStop>
+    ensures leaves { (text : List ℕ) × IsReadFrom (R.remaining script.old) text
+        × Leaves (IsOutput (Purpose.Check true) topology.now text) (W.contents out.old) (W.contents out.new) result }
+    ensures taken { OnOk result (GaveText (R.remaining script.old) (R.remaining script.new)) }
+    ensures untouched { (f : ReadFault) → IsReadFault topology.now f → script.new ≡ script.old }
+{
+    let purpose = Purpose::Check { repairs: true };
+    run_read(alloc, purpose, topology, script, out)
 }
 
 // Runs the script of a reader.
@@ -205,7 +222,8 @@ pub fn refuse_input<W: Write>(out: &mut W, text: &[u8]) -> Result<Status, RunSto
     Ok(Status::BadInput)
 }
 
-/// Replays a script from this configuration on, and checks what it leaves if the run is for that.
+/// Replays a script from this configuration on, and checks what it leaves if the run is for that. The configuration becomes
+/// the one that the lines leave, up to the first bad one; that of a script that is too long stays as it is.
 pub fn run_script<P: Application, W: Write>(
     alloc: Global,
     purpose: Purpose,
@@ -216,6 +234,8 @@ pub fn run_script<P: Application, W: Write>(
     ensures leaves { Leaves
         (λ output. output ≡ script_output (meaning_of P.app P.text P.from_text P.names) purpose config.old script.now)
         (W.contents out.old) (W.contents out.new) result }
+    ensures config { OnOk result (length script.now ≤ MAX_TEXT → config.new
+        ≡ (answers (meaning_of P.app P.text P.from_text P.names) config.old 1 (lines_of script.now)).config) }
     ensures stop { IfErr result IsOutputStop }
 {
     if script.len() > MAX_TEXT {
@@ -243,7 +263,7 @@ fn end_run<P: Application, W: Write>(
     ensures stop { IfErr result IsOutputStop }
 {
     match (purpose, answered) {
-        (Purpose::Check, Status::Good) => answer_check(alloc, config, out),
+        (Purpose::Check { repairs }, Status::Good) => answer_check(alloc, config, repairs, out),
         _ => Ok(answered),
     }
 }

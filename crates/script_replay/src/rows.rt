@@ -16,7 +16,7 @@ use reset_machine::{Config, Enabled, StepRefusal};
 use std::alloc::{AllocError, Global};
 use std::io::Write;
 
-/// Writes the enabled rows of a node, or that there is no such node. Want of memory writes nothing.
+/// Writes the enabled rows of a node, or that there is no such node. If an allocation fails, nothing is written.
 pub fn answer_enabled<P: Application, W: Write>(
     alloc: Global,
     config: &Config<P>,
@@ -59,7 +59,7 @@ fn put_enabled<W: Write>(out: &mut W, id: u32, rows: Enabled) -> Result<(), Writ
     )
 }
 
-/// Writes the ids of the nodes that have something to do, and changes none. Want of memory writes nothing.
+/// Writes the ids of the nodes that have something to do, and changes none. If an allocation fails, nothing is written.
 pub fn answer_ready<P: Application, W: Write>(
     alloc: Global,
     config: &mut Config<P>,

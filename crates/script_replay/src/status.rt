@@ -28,7 +28,10 @@ pub enum Purpose {
     /// Its answers.
     Replay,
     /// Its answers, and the faults of the configuration that it leaves.
-    Check,
+    Check {
+        /// Whether each fault of the tree or of the wave is followed by the event that repairs it.
+        repairs: bool,
+    },
 }
 
 /// What cut a run short: the first that came.

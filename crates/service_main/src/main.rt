@@ -5,32 +5,37 @@
 //! Here stand the files and the streams that it opens and its exit status; all else is the library `reset_service`.
 #![tactic(auto)]
 
+mod bad_files;
 mod files;
 mod history_file;
 mod kept_file;
 mod live;
 mod places;
 mod progress;
+mod run_threads;
 mod status;
 mod streams;
 mod verbose;
 
+use crate::bad_files::say_why;
 use crate::files::{open_file, read_file, read_snapshot};
 use crate::history_file::create_history;
 use crate::live::run_session;
 use crate::places::{history_fault, refuse_history};
 use crate::progress::{BelowLine, ProgressLine};
+use crate::run_threads::run_threads;
 use crate::status::exit_code;
 use crate::streams::Streams;
-use crate::verbose::{is_set, say_why, says_always, without_verbose};
+use crate::verbose::{is_set, says_always, without_verbose};
 use action_tables::put_bytes;
 use reset_service::{
-    BufferedOutput, Drive, DriveWords, ExploreWords, Exploring, Job, LineFault, Marks, PageWords,
-    Paths, PlanWords, Question, RecordWords, ReplayWords, RunStop, ShapeWords, Status, ThreadWords,
-    VerifyWords, check_from, check_text, drive_from, drive_text, explain, explore_history,
-    explore_text, page_from, page_text, picture_from, picture_text, plan_from, plan_text,
-    print_tables, read_words, record_from, record_text, replay, replay_from, replay_joined,
-    replay_marked, threads_from, threads_text, verify_asked, verify_from, verify_text, write_shape,
+    BufferedOutput, CheckWords, Drive, DriveWords, ExploreWords, Exploring, Job, LineFault, Marks,
+    PageWords, Paths, PlanWords, Question, RecordWords, ReplayWords, RunStop, ShapeWords, Status,
+    VerifyWords, check_from, check_repairs_from, check_repairs_text, check_text, check_whole,
+    drive_from, drive_text, explain, explain_topics, explore_history, explore_text, page_from,
+    page_text, picture_from, picture_text, plan_from, plan_text, print_tables, read_words,
+    record_from, record_text, replay, replay_from, replay_joined, replay_marked, verify_asked,
+    verify_from, verify_text, write_shape,
 };
 use std::env::Env;
 use std::io::{IsTerminal, Read, Write};
@@ -166,7 +171,7 @@ fn job_output<R: Files + Input + Eprint + AllocGlobal + Threads + Wait + Sync, W
     match job {
         Job::Joined => replay_joined(rt.alloc(), &mut rt.reader(), out),
         Job::Replay(words) => run_replay(rt, words, out),
-        Job::Check(paths) => run_check(rt, paths, out),
+        Job::Check(words) => run_check(rt, words, out),
         Job::Plan(words) => run_plan(rt, words, out),
         Job::Explore(words) => run_explore(rt, words, out),
         Job::Session(words) => run_session(rt, streams, words, out),
@@ -177,7 +182,8 @@ fn job_output<R: Files + Input + Eprint + AllocGlobal + Threads + Wait + Sync, W
         Job::Threads(words) => run_threads(rt, words, out),
         Job::Drive(words) => run_drive(rt, words, out),
         Job::Shape(words) => put_shape(rt, words, out),
-        Job::Explain(word) => explain(word, out),
+        Job::Explain(Some(word)) => explain(word, out),
+        Job::Explain(None) => explain_topics(out),
         Job::Tables => print_tables(out),
     }
 }
@@ -206,15 +212,28 @@ fn run_replay<R: Files + AllocGlobal, W: Write>(
 
 fn run_check<R: Files + AllocGlobal, W: Write>(
     rt: &R,
-    paths: Paths<'_>,
+    words: CheckWords<'_>,
     out: &mut W,
 ) -> Result<Status, RunStop> {
-    let topology = read_file(rt, paths.topology)?;
-    let snapshot = read_snapshot(rt, paths.from)?;
-    let mut script = open_file(rt, paths.input)?;
-    match snapshot {
-        None => check_text(rt.alloc(), &topology, &mut script, out),
-        Some(snapshot) => check_from(rt.alloc(), &topology, &snapshot, &mut script, out),
+    let topology = read_file(rt, words.topology)?;
+    let snapshot = read_snapshot(rt, words.from)?;
+    let mut script = open_file(rt, words.script)?;
+    if words.whole {
+        let snapshot = snapshot.as_deref();
+        return check_whole(
+            rt.alloc(),
+            &topology,
+            snapshot,
+            &mut script,
+            words.repair,
+            out,
+        );
+    }
+    match (snapshot, words.repair) {
+        (None, false) => check_text(rt.alloc(), &topology, &mut script, out),
+        (None, true) => check_repairs_text(rt.alloc(), &topology, &mut script, out),
+        (Some(from), false) => check_from(rt.alloc(), &topology, &from, &mut script, out),
+        (Some(from), true) => check_repairs_from(rt.alloc(), &topology, &from, &mut script, out),
     }
 }
 
@@ -363,26 +382,6 @@ fn run_record<R: Files + Eprint + AllocGlobal, W: Write>(
     let ended = match snapshot {
         None => record_text(rt.alloc(), &topology, &mut script, history, out),
         Some(snapshot) => record_from(rt.alloc(), &topology, &snapshot, &mut script, history, out),
-    };
-    kept.end(rt, out, ended)
-}
-
-fn run_threads<R: Files + Eprint + AllocGlobal + Threads + Wait + Sync, W: Write>(
-    rt: &R,
-    words: ThreadWords<'_>,
-    out: &mut W,
-) -> Result<Status, RunStop> {
-    if let Some(fault) = history_fault(rt, words.history, &[Some(words.topology), words.from]) {
-        return Ok(refuse_history(rt, fault));
-    }
-    let topology = read_file(rt, words.topology)?;
-    let snapshot = read_snapshot(rt, words.from)?;
-    let mut kept = create_history(rt, words.history)?;
-    let history = &mut kept.file;
-    let turns = words.turns;
-    let ended = match snapshot {
-        None => threads_text(rt, rt.alloc(), &topology, turns, history, out),
-        Some(snapshot) => threads_from(rt, rt.alloc(), &topology, &snapshot, turns, history, out),
     };
     kept.end(rt, out, ended)
 }

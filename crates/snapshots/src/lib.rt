@@ -16,4 +16,4 @@ pub use answer::put_snapshot_fault;
 pub use fault::SnapshotFault;
 pub use laws::{one_snapshot, snapshots_read_back};
 pub use line::MAX_SNAPSHOT_LINE;
-pub use snapshot::read_snapshot;
+pub use snapshot::{MAX_SNAPSHOT, read_snapshot};

@@ -15,6 +15,10 @@ use std::alloc::Global;
 use topology::Topology;
 use wave_layer::Modulus;
 
+/// The most bytes of a snapshot: 64 MiB, a thousand lines of the greatest length. Callers of
+/// `read_snapshot` refuse longer ones.
+pub const MAX_SNAPSHOT: usize = 67_108_864;
+
 /// Reads the snapshot of a configuration of this topology, whose identifiers are all up, with sessions counted modulo
 /// this number: the configuration that the text names, or its first fault.
 pub fn read_snapshot<P: Application>(

@@ -1,7 +1,6 @@
 mod Strangers
 mod Standing
 mod PlayedBands
-mod Replays
 mod ComponentMembers
 mod ToldNodes
 mod Rows

@@ -1,11 +1,12 @@
 -- The bands of entries that are played one after another.
-use Rattle.std.proofs.Common.{◌≡◌, ℕ, suc, ◌+◌, ◌<◌, List, [], ◌∷◌, ◌++◌, length, drop, Option, Some, None, IsSome}
+use Rattle.std.proofs.Common.{◌≡◌, ℕ, suc, ◌+◌, ◌<◌, List, [], ◌∷◌, ◌++◌, length, drop, Option, Some, IsSome}
 use Rattle.std.proofs.Common.{sym, slice_index_or, refl, ap, subst, ◌∙◌, add-one, drop-cons, append_assoc}
-use Rattle.std.specs.Option.{option_and_then, option_map_or}
+use Rattle.std.specs.Option.{option_map_or}
 use Rattle.app_interface.specs.Application.{App}
 use Rattle.reset_model.specs.Configuration.{Configuration}
 use Rattle.history.specs.declared.entry.Entry.{Entry}
 use Rattle.history.specs.Entries.{entered, replayed}
+use Rattle.history.proofs.Replays.{next_replayed}
 use Rattle.space_time_diagram.specs.declared.band.Band.{Band}
 use Rattle.space_time_diagram.specs.Bands.{band, bands_from, entry_node, shown_of}
 
@@ -16,28 +17,12 @@ entry_and_rest es i x short is =
     drop-cons es i x short ∙ ap (λ e. e ∷ drop (suc i) es) (sym is) ∙ ap (λ k. x ∷ drop k es) (sym (add-one i))
 
 module _ {L : Type 0} (app : App L) (from_text : List ℕ → Option L) where
-  pub replayed_next : (c : Configuration L) (es : List Entry) (i : ℕ) (x : Entry) → i < length es
-      → x ≡ slice_index_or es i x → replayed app from_text c (drop i es)
-      ≡ option_and_then (λ after. replayed app from_text after (drop (i + 1) es)) (entered app from_text c x)
-  unfolding replayed
-  replayed_next c es i x short is = ap (replayed app from_text c) (entry_and_rest es i x short is)
-
-  -- the next entry is allowed
-  pub next_allowed : (c : Configuration L) (es : List Entry) (i : ℕ) (x : Entry) → i < length es
-      → x ≡ slice_index_or es i x → IsSome (replayed app from_text c (drop i es)) → IsSome (entered app from_text c x)
-  next_allowed c es i x short is some =
-      elim (entered app from_text c x) as (λ o. IsSome (option_and_then (λ after. replayed app from_text after (drop
-      (i + 1) es)) o) → IsSome o) [ None ↦ λ none. none | Some a ↦ λ rest. refl ]
-      (subst (λ o. IsSome o) (replayed_next c es i x short is) some)
-
-  -- and so are those after it
+  -- what follows an entry is allowed after it
   pub rest_allowed : (c d : Configuration L) (es : List Entry) (i : ℕ) (x : Entry) → i < length es
       → x ≡ slice_index_or es i x → entered app from_text c x ≡ Some d → IsSome (replayed app from_text c (drop i es))
       → IsSome (replayed app from_text d (drop (i + 1) es))
   rest_allowed c d es i x short is here some =
-      subst (λ o. IsSome o)
-      (replayed_next c es i x short is
-      ∙ ap (option_and_then (λ after. replayed app from_text after (drop (i + 1) es))) here) some
+      subst (λ o. IsSome o) (sym (next_replayed app from_text c d es i x short is here)) some
 
   bands_next : (lane : ℕ → ℕ) (count place : ℕ) (c d : Configuration L) (es : List Entry) (i : ℕ) (x : Entry)
       → i < length es → x ≡ slice_index_or es i x → entered app from_text c x ≡ Some d

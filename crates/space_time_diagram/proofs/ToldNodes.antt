@@ -1,13 +1,15 @@
 -- The node that told a completion, and the reports that are left.
-use Rattle.std.proofs.Common.{◌≡◌, ℕ, ◌-◌, ◌<◌, ◌≤◌, List, [], length, take, Option, Some, refl}
-use Rattle.std.proofs.Common.{ap, ◌∙◌, slice_index_or, slice_get, arith}
+use Rattle.std.proofs.Common.{◌≡◌, ℕ, ◌-◌, ◌<◌, ◌≤◌, List, [], length, take, drop, Option, Some, refl}
+use Rattle.std.proofs.Common.{sym, ap, ◌∙◌, slice_index_or, slice_get, arith}
 use Rattle.std.proofs.lemmas.Option.{slice_get_read}
 use Rattle.std.specs.Option.{option_map_or}
 use Rattle.topology.specs.Components.{component}
+use Rattle.topology.specs.Graph.{Graph}
 use Rattle.app_interface.specs.Application.{App}
 use Rattle.reset_model.specs.Configuration.{Configuration}
 use Rattle.history.specs.declared.entry.Entry.{Entry}
 use Rattle.history.specs.Entries.{replayed}
+use Rattle.history.proofs.Replays.{replayed_between}
 use Rattle.space_time_diagram.specs.Bands.{entry_node}
 use Rattle.space_time_diagram.specs.Completions.{told_nodes}
 
@@ -25,3 +27,14 @@ told_by app from_text c d es place x first within is here =
     ap (λ o. option_map_or (λ (after : Configuration _). (component after.graph (option_map_or entry_node o 0)).nodes)
     (replayed app from_text c (take place es)) []) at
     ∙ ap (λ o. option_map_or (λ (after : Configuration _). (component after.graph (entry_node x)).nodes) o []) here
+
+-- the nodes of the component of the node of the last entry, where those after the first m leave e
+pub told_there : {L : Type 0} (app : App L) (from_text : List ℕ → Option L) (c d e : Configuration L) (es : List Entry)
+    (m place : ℕ) (x : Entry) (g : Graph) (n : ℕ) → m < place → place ≤ length es → x ≡ slice_index_or es (place - 1) x
+    → replayed app from_text c (take m es) ≡ Some d
+    → replayed app from_text d (take (place - m) (drop m es)) ≡ Some e → g ≡ e.graph → n ≡ entry_node x
+    → told_nodes app from_text c es place ≡ (component g n).nodes
+told_there app from_text c d e es m place x g n above within is before after of_it at =
+    told_by app from_text c e es place x (omega (arith, above)) within is
+    (replayed_between app from_text c d es m (place - m) place before (omega (arith, above)) ∙ after)
+    ∙ ap (λ (h : Graph). (component h (entry_node x)).nodes) (sym of_it) ∙ ap (λ k. (component g k).nodes) (sym at)

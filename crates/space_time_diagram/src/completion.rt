@@ -15,9 +15,9 @@ use crate::diagram::DiagramStop;
 use crate::page::{MAX_LANES, MAX_MARKS, right_end, row_y};
 use action_tables::{Part, WriteFault, put_parts};
 use app_interface::Application;
-use history::{Entry, Report, play};
+use history::{Entry, Report, play_all};
 use reset_machine::Config;
-use std::alloc::{AllocError, Global};
+use std::alloc::Global;
 use std::io::Write;
 use topology::Topology;
 
@@ -97,21 +97,6 @@ fn put_next<P: Application, W: Write>(
     play_all(alloc, config, &entries[played..report.finished])?;
     let node = entry_node(&entries[report.finished - 1]);
     put_completion(out, opening, config.topology(), node, report)?;
-    Ok(())
-}
-
-// Plays the entries.
-fn play_all<P: Application>(
-    alloc: Global,
-    config: &mut Config<P>,
-    entries: &[Entry],
-) -> Result<(), AllocError>
-    requires { IsSome (replayed P.app P.from_text config.old entries.now) }
-    ensures { OnOk result (replayed P.app P.from_text config.old entries.now ≡ Some config.new) }
-{
-    for entry in entries {
-        play(alloc, config, entry)?;
-    }
     Ok(())
 }
 

@@ -14,6 +14,8 @@ mod gates;
 #[cfg(test)]
 mod repairs;
 #[cfg(test)]
+mod requests;
+#[cfg(test)]
 mod rounds;
 #[cfg(test)]
 mod runs;

@@ -5,5 +5,5 @@ pub returns : goal.returns
 unfolding plan_command
 returns c =
     let one = c.with_argument-line.ensures _ _ c.bare_words.ensures c.path_word.ensures in
-    let two = c.with_argument-line-2.ensures _ _ one c.script_word.ensures in
+    let two = c.with_argument-line-2.ensures _ _ one c.optional_path_word.ensures in
     c.with_argument.ensures _ _ two c.from_word.ensures

@@ -6,5 +6,8 @@ unfolding threads_command
 returns c =
     let one = c.with_argument-line.ensures _ _ c.bare_words.ensures c.path_word.ensures in
     let two = c.with_argument-line-2.ensures _ _ one c.turns_word.ensures in
-    let three = c.with_argument-line-3.ensures _ _ two c.history_word.ensures in
-    c.with_argument.ensures _ _ three c.from_word.ensures
+    let three = c.with_argument-line-3.ensures _ _ two c.until_word.ensures in
+    let four = c.with_argument-line-4.ensures _ _ three c.select_word.ensures in
+    let five = c.with_argument-line-5.ensures _ _ four c.resets_word.ensures in
+    let six = c.with_argument-line-6.ensures _ _ five c.history_word.ensures in
+    c.with_argument.ensures _ _ six c.from_word.ensures

@@ -1,4 +1,6 @@
+use Rattle.std.proofs.Common.{Some, ap, codes, sym, ◌∙◌}
 use Rattle.clap.specs.Words.{found_of, rows_of}
+use Rattle.clap.proofs.WalkLemmas.{first_value-rows}
 use Rattle.command_words.proofs.JobValues.{drive_of, verify_of}
 use Rattle.command_words.proofs.words.named_job.Goals as goal
 
@@ -8,3 +10,9 @@ verify_words_of-requires c =
 
 pub drive_words_of-requires : goal.drive_words_of-requires
 drive_words_of-requires c = drive_of c.args.name.now (rows_of (found_of c.args.values.now)) c.requires c.in-drive.is
+
+pub returns-in-explain : goal.returns-in-explain
+returns-in-explain c = (
+  ap Some c.in-explain.is,
+  sym (first_value-rows (found_of c.args.values.now) (codes "WORD")) ∙ sym c.get_str.ensures,
+)

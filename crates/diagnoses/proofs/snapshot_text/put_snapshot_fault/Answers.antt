@@ -1,4 +1,4 @@
-use Rattle.diagnoses.proofs.Described.{all_up}
+use Rattle.script_replay.proofs.Described.{all_up}
 use Rattle.diagnoses.proofs.snapshot_text.put_snapshot_fault.Goals as goal
 
 pub put_fault_on-requires : goal.put_fault_on-requires

@@ -5,7 +5,7 @@ use Rattle.node_threads.proofs.turns.take_turns.Given as goal
 
 abbrev pub invariant-loop-turn : goal.invariant-loop-turn
 invariant-loop-turn g l = record {
-  most : length l.seat.receipts ≤ length l.fn.seat.receipts + l._turn;
+  most : length l.seat.receipts ≤ length l.fn.seat.receipts + l.turn;
   kept : take (length l.fn.seat.receipts) l.seat.receipts ≡ l.fn.seat.receipts;
   node : l.seat.node ≡ l.fn.seat.node;
   turns : AddsTurns g.P.Application.app g.P.Application.from_text g.L.Sharing.book l.fn.seat.node

@@ -6,7 +6,7 @@ use Rattle.script_replay.specs.Output.IsJudged.{bad_topology, good_topology}
 use Rattle.script_replay.specs.declared.status.Status.TheVariants.{BadInput}
 use Rattle.reset_service.specs.Explorations.{IsOpenedOf, IsOpenedText}
 use Rattle.reset_service.specs.Asked.{AnswersTo}
-use Rattle.reset_service.proofs.Starting.{all_up}
+use Rattle.script_replay.proofs.Described.{all_up}
 use Rattle.reset_service.proofs.Verifying.{read_anyway, read_weaker}
 use Rattle.reset_service.proofs.asked.verify_asked.Goals as goal
 

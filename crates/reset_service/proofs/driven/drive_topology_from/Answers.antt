@@ -1,8 +1,8 @@
 use Rattle.std.proofs.Common.{◌≢◌, refl, rules}
 use Rattle.topology.specs.declared.text.ReadFault.TheVariants.{NoMemory}
 use Rattle.reset_service.specs.Begun.{Drives}
+use Rattle.script_replay.proofs.Described.{all_up}
 use Rattle.reset_service.proofs.Beginning.{told_begun, unbegun}
-use Rattle.reset_service.proofs.Starting.{all_up}
 use Rattle.reset_service.proofs.driven.drive_topology_from.Goals as goal
 
 pub drive_app_from-requires : goal.drive_app_from-requires

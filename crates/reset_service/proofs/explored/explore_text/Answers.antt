@@ -5,9 +5,9 @@ use Rattle.script_replay.specs.Output.IsJudged.{bad_topology, good_topology}
 use Rattle.script_replay.specs.declared.status.Status.TheVariants.{BadInput}
 use Rattle.std.specs.Prelude.{option_map}
 use Rattle.reset_service.specs.Explorations.{Explores, IsOpenedOf, IsOpenedText}
+use Rattle.script_replay.proofs.Described.{all_up}
 use Rattle.script_replay.proofs.Reading.{nothing_given, some_read, text_given}
 use Rattle.script_replay.proofs.Runs.{leaves_unread, leaves_weaker}
-use Rattle.reset_service.proofs.Starting.{all_up}
 use Rattle.reset_service.proofs.explored.explore_text.Goals as goal
 
 pub explore_app-requires : goal.explore_app-requires

@@ -6,9 +6,9 @@ use Rattle.script_replay.specs.declared.status.Status.TheVariants.{BadInput}
 use Rattle.std.specs.Prelude.{option_map}
 use Rattle.reset_service.specs.Explorations.{IsOpenedOf, IsOpenedText}
 use Rattle.reset_service.specs.Marked.{MarkedReplay}
+use Rattle.script_replay.proofs.Described.{all_up}
 use Rattle.script_replay.proofs.Reading.{nothing_given, some_read, text_given}
 use Rattle.script_replay.proofs.Runs.{leaves_unread, leaves_weaker}
-use Rattle.reset_service.proofs.Starting.{all_up}
 use Rattle.reset_service.proofs.marked.replay_marked.Goals as goal
 
 pub replay_app-requires : goal.replay_app-requires

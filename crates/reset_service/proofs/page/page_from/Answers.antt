@@ -6,7 +6,7 @@ use Rattle.script_replay.specs.declared.status.Status.TheVariants.{BadInput}
 use Rattle.topology.specs.TopologyTable.{app_word}
 use Rattle.reset_service.specs.Page.{IsPageTextFrom, Plays}
 use Rattle.reset_service.specs.Started.{IsStartedOf}
-use Rattle.reset_service.proofs.Starting.{all_up}
+use Rattle.script_replay.proofs.Described.{all_up}
 use Rattle.reset_service.proofs.Verifying.{read_anyway, read_weaker}
 use Rattle.reset_service.proofs.Paging.{page_frame}
 use Rattle.reset_service.proofs.page.page_from.Goals as goal

@@ -4,9 +4,9 @@ use Rattle.script_replay.specs.Output.{bad_topology_text}
 use Rattle.script_replay.specs.Output.IsJudged.{bad_topology, good_topology}
 use Rattle.script_replay.specs.declared.status.Status.TheVariants.{BadInput}
 use Rattle.reset_service.specs.Started.{Plans, IsStartedOf, IsStartedText}
+use Rattle.script_replay.proofs.Described.{all_up}
 use Rattle.script_replay.proofs.Reading.{nothing_given, some_read, text_given}
 use Rattle.script_replay.proofs.Runs.{leaves_unread, leaves_weaker}
-use Rattle.reset_service.proofs.Starting.{all_up}
 use Rattle.reset_service.proofs.planned.plan_from.Goals as goal
 
 pub plan_app_from-requires : goal.plan_app_from-requires

@@ -2,11 +2,11 @@ use Rattle.std.proofs.Common.{◌≡◌, ◌≢◌}
 use Rattle.topology.specs.declared.text.ReadFault.TheVariants.{NoMemory}
 use Rattle.script_replay.specs.Output.{bad_topology_text}
 use Rattle.script_replay.specs.declared.status.Status.TheVariants.{BadInput}
+use Rattle.script_replay.proofs.Described.{all_up}
 use Rattle.script_replay.proofs.LeftRecords.{record_alone, record_unread, record_weaker}
 use Rattle.script_replay.proofs.Reading.{nothing_given, some_read, text_given}
 use Rattle.reset_service.specs.Begun.{IsBegunOf, IsBegunText, Records}
 use Rattle.reset_service.proofs.Beginning.{begun, unbegun}
-use Rattle.reset_service.proofs.Starting.{all_up}
 use Rattle.reset_service.proofs.recorded.record_from.Goals as goal
 
 pub record_app-requires : goal.record_app-requires

@@ -4,11 +4,11 @@ use Rattle.topology.specs.declared.text.ReadFault.TheVariants.{NoMemory}
 use Rattle.script_replay.specs.Output.{bad_topology_text}
 use Rattle.script_replay.specs.Output.IsJudged.{bad_topology, good_topology}
 use Rattle.script_replay.specs.declared.status.Status.TheVariants.{BadInput}
+use Rattle.script_replay.proofs.Described.{all_up}
 use Rattle.script_replay.proofs.LeftRecords.{record_alone, record_unread, record_weaker}
 use Rattle.script_replay.proofs.Reading.{nothing_given, some_read, text_given}
 use Rattle.reset_service.specs.Explorations.{IsOpenedOf}
 use Rattle.reset_service.specs.Shown.{IsShownText, Shows}
-use Rattle.reset_service.proofs.Starting.{all_up}
 use Rattle.reset_service.proofs.shown.explore_history.Goals as goal
 
 pub show_app-requires : goal.show_app-requires

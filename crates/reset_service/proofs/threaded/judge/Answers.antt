@@ -2,7 +2,7 @@ use Rattle.std.proofs.Common.{Ok, ◌∙◌, ap, length, subst}
 use Rattle.topology.specs.Graph.{Graph}
 use Rattle.history.specs.Verdict.{IsVerdict}
 use Rattle.script_replay.specs.Meaning.{meaning_of}
-use Rattle.reset_service.proofs.Threading.{kept_by}
+use Rattle.reset_service.proofs.Threading.{kept_by, same_entries}
 use Rattle.reset_service.proofs.threaded.judge.Goals as goal
 
 pub returns-in-Ok-clause-ok : goal.returns-in-Ok-clause-ok
@@ -17,3 +17,8 @@ returns-in-Ok-clause-ok g c =
     c.node_count-nodes.result (length c.as_slice-reports.result.now)
     (c.node_count-nodes.ensures ∙ ap (λ (h : Graph). length h.nodes) c.topology.ensures)
     (ap length c.as_slice-reports.ensures.value)
+
+pub returns-in-Ok-clause-text : goal.returns-in-Ok-clause-text
+returns-in-Ok-clause-text g c = λ modulus es is.
+    same_entries c.one_reading_a_text.ensures c.in_ok-history.history.items modulus c.args.book.now.config.modulus es
+    c.args.book.now.entries is c.in_ok-history.ensures.read

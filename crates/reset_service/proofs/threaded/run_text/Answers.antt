@@ -1,14 +1,16 @@
-use Rattle.std.proofs.Common.{◌≢◌, rules}
-use Rattle.topology.specs.declared.text.ReadFault.TheVariants.{NoMemory}
-use Rattle.reset_service.proofs.Threading.{threaded, unthreaded}
+use Rattle.std.proofs.Common.{None}
+use Rattle.reset_service.specs.Selected.{IsSelectedText}
+use Rattle.reset_service.specs.Threaded.{IsThreaded, told_history, told_output}
+use Rattle.reset_service.proofs.Selecting.{plain_threaded}
+use Rattle.reset_service.proofs.Threading.{ok_weaker}
 use Rattle.reset_service.proofs.threaded.run_text.Goals as goal
 
-pub returns-in-Ok-clause-ok : goal.returns-in-Ok-clause-ok
-returns-in-Ok-clause-ok g c =
-    threaded c.args.topology.now c.in-Ok.network.topology c.in-Ok.network.app c.in-Ok.network.modulus c.run_app.result
-    c.in-Ok.ensures.ok c.run_app.ensures.ok c.run_app.ensures.unkept
-
-pub returns-in-Err-clause-ok : goal.returns-in-Err-clause-ok
-returns-in-Err-clause-ok g c =
-    let memory : c.in-Err.fault ≢ NoMemory = search rules in
-    unthreaded c.args.topology.now c.in-Err.fault (c.in-Err.ensures.err memory)
+pub returns-clause-ok : goal.returns-clause-ok
+returns-clause-ok g c =
+    let run = c.plain_run.result in
+    let topology = c.args.topology.now in
+    ok_weaker c.run_selected.result
+    (λ told. IsSelectedText run topology None (told_history told) (told_output told))
+    (λ told. IsThreaded topology (told_history told) (told_output told))
+    (λ told is. plain_threaded run c.plain_run.ensures topology (told_history told) (told_output told) is)
+    c.run_selected.ensures.ok

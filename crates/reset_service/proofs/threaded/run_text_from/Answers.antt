@@ -1,22 +1,18 @@
-use Rattle.std.proofs.Common.{◌≢◌, refl, rules}
-use Rattle.topology.specs.declared.text.ReadFault.TheVariants.{NoMemory}
-use Rattle.reset_service.specs.Begun.{RunsThreads}
-use Rattle.reset_service.proofs.Beginning.{told_begun, unbegun}
-use Rattle.reset_service.proofs.Starting.{all_up}
+use Rattle.std.proofs.Common.{Some}
+use Rattle.reset_service.specs.Begun.{IsBegunText, RunsThreads}
+use Rattle.reset_service.specs.Selected.{IsSelectedText}
+use Rattle.reset_service.specs.Threaded.{told_history, told_output}
+use Rattle.reset_service.proofs.Selecting.{plain_begun}
+use Rattle.reset_service.proofs.Threading.{ok_weaker}
 use Rattle.reset_service.proofs.threaded.run_text_from.Goals as goal
 
-pub run_app_from-requires : goal.run_app_from-requires
-run_app_from-requires g c =
-    let up = all_up c.args.topology.now c.in-Ok.network.topology c.in-Ok.network.app c.in-Ok.network.modulus
-    c.in-Ok.ensures.ok in
-    (search rules, (search rules, up))
-
-pub returns-in-Ok-clause-ok : goal.returns-in-Ok-clause-ok
-returns-in-Ok-clause-ok g c =
-    told_begun RunsThreads c.args.topology.now c.args.snapshot.now c.in-Ok.network.topology c.in-Ok.network.app
-    c.in-Ok.network.modulus c.in-Ok.ensures.ok c.run_app_from.result c.run_app_from.ensures.ok
-
-pub returns-in-Err-clause-ok : goal.returns-in-Err-clause-ok
-returns-in-Err-clause-ok g c =
-    let memory : c.in-Err.fault ≢ NoMemory = search rules in
-    unbegun RunsThreads c.args.topology.now c.args.snapshot.now c.in-Err.fault (c.in-Err.ensures.err memory) _ refl
+pub returns-clause-ok : goal.returns-clause-ok
+returns-clause-ok g c =
+    let run = c.plain_run.result in
+    let topology = c.args.topology.now in
+    let snapshot = c.args.snapshot.now in
+    ok_weaker c.run_selected.result
+    (λ told. IsSelectedText run topology (Some snapshot) (told_history told) (told_output told))
+    (λ told. IsBegunText RunsThreads topology snapshot (told_history told) (told_output told))
+    (λ told is. plain_begun run c.plain_run.ensures topology snapshot (told_history told) (told_output told) is)
+    c.run_selected.ensures.ok

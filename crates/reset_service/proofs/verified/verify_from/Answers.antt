@@ -4,7 +4,7 @@ use Rattle.script_replay.specs.Output.{bad_topology_text}
 use Rattle.script_replay.specs.Output.IsJudged.{bad_topology, good_topology}
 use Rattle.script_replay.specs.declared.status.Status.TheVariants.{BadInput}
 use Rattle.reset_service.specs.Started.{Verifies, IsStartedOf, IsStartedText}
-use Rattle.reset_service.proofs.Starting.{all_up}
+use Rattle.script_replay.proofs.Described.{all_up}
 use Rattle.reset_service.proofs.Verifying.{read_anyway, read_weaker}
 use Rattle.reset_service.proofs.verified.verify_from.Goals as goal
 

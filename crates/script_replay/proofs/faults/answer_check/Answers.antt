@@ -11,7 +11,7 @@ returns-in_err-put_faults-in-Ok-clause-err g c =
     let text =
     faults_lines-is
     (meaning_of g.P.Application.app g.P.Application.text g.P.Application.from_text g.P.Application.names)
-    c.args.config.now c.deref.result.now (c.deref.ensures.value ∙ c.in-Ok.ensures) in
+    c.args.repairs c.args.config.now c.deref.result.now (c.deref.ensures.value ∙ c.in-Ok.ensures) in
     let P : List ℕ → Type 0 =
     λ t. AppendsPrefix (g.W.Write.contents c.args.out.now) (g.W.Write.contents c.put_faults.new.out) t in
     OnErr-always _ _ (subst P (sym text) c.in_err-put_faults-in-Ok.ensures.err)
@@ -21,7 +21,7 @@ returns-in_ok-put_faults-in-Ok-clause-ok g c =
     let text =
     faults_lines-is
     (meaning_of g.P.Application.app g.P.Application.text g.P.Application.from_text g.P.Application.names)
-    c.args.config.now c.deref.result.now (c.deref.ensures.value ∙ c.in-Ok.ensures) in
+    c.args.repairs c.args.config.now c.deref.result.now (c.deref.ensures.value ∙ c.in-Ok.ensures) in
     let P : List ℕ → Type 0 =
     λ t. Appends (g.W.Write.contents c.args.out.now) (g.W.Write.contents c.put_faults.new.out) t in
     subst P (sym text) c.in_ok-put_faults-in-Ok.ensures.ok

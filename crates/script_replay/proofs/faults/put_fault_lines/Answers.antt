@@ -7,5 +7,5 @@ use Rattle.script_replay.proofs.faults.put_fault_lines.Goals as goal
 pub returns-in_err-put_fault-clause-err : goal.returns-in_err-put_fault-clause-err
 returns-in_err-put_fault-clause-err g c =
     OnErr-always _ _
-    (AppendsPrefix-piece _ _ _ fault_line c.args.faults.now c.loop-fault.fault-index _ (omega arith)
+    (AppendsPrefix-piece _ _ _ (fault_line c.args.repairs) c.args.faults.now c.loop-fault.fault-index _ (omega arith)
     c.loop-fault.invariant c.in_err-put_fault.ensures.err)

@@ -8,4 +8,4 @@ use Rattle.script_replay.proofs.faults.put_fault_lines.Given as goal
 abbrev pub invariant-loop-fault : goal.invariant-loop-fault
 invariant-loop-fault g l =
     Appends (g.W.Write.contents l.initial.out) (g.W.Write.contents l.out)
-    (flat_map fault_line (take l.fault-index l.faults))
+    (flat_map (fault_line l.repairs) (take l.fault-index l.faults))

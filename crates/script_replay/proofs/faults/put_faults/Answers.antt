@@ -8,13 +8,13 @@ use Rattle.script_replay.proofs.faults.put_faults.Goals as goal
 pub returns-in_err-put_fault_lines-clause-err : goal.returns-in_err-put_fault_lines-clause-err
 returns-in_err-put_fault_lines-clause-err g c =
     OnErr-always _ _
-    (AppendsPrefix-first _ _ (flat_map fault_line c.args.faults.now)
+    (AppendsPrefix-first _ _ (flat_map (fault_line c.args.repairs) c.args.faults.now)
     (numbered (codes "faults ") (length c.args.faults.now)) c.in_err-put_fault_lines.ensures.err)
 
 pub returns-clause-err : goal.returns-clause-err
 returns-clause-err g c =
     OnErr-then c.put_numbered.result (g.W.Write.contents c.args.out.now) (g.W.Write.contents c.put_fault_lines.new.out)
     (g.W.Write.contents c.put_numbered.new.out)
-    (flat_map fault_line c.args.faults.now) (numbered (codes "faults ") (length c.args.faults.now))
-    (faults_text c.args.faults.now) refl
+    (flat_map (fault_line c.args.repairs) c.args.faults.now) (numbered (codes "faults ") (length c.args.faults.now))
+    (faults_text c.args.repairs c.args.faults.now) refl
     c.in_ok-put_fault_lines.ensures.ok c.put_numbered.ensures.err

@@ -2,7 +2,8 @@ use Rattle.std.proofs.Common.{append-nil, arith, length, ap, sym, ◌∙◌, ◌
 use Rattle.std.proofs.lemmas.List.{drop_all}
 use Rattle.space_time_diagram.specs.Bands.{bands_from}
 use Rattle.space_time_diagram.specs.Lanes.{lane_of}
-use Rattle.space_time_diagram.proofs.PlayedBands.{bands_more, bands_none, next_allowed, rest_allowed}
+use Rattle.history.proofs.Replays.{next_allowed}
+use Rattle.space_time_diagram.proofs.PlayedBands.{bands_more, bands_none, rest_allowed}
 use Rattle.space_time_diagram.proofs.band.add_bands.Goals as goal
 
 pub play-requires-after_bounds : goal.play-requires-after_bounds

@@ -1,0 +1,12 @@
+pub mod Filters
+pub mod Parts
+pub mod TokenSums
+pub mod States
+pub mod Newest
+pub mod Telling
+pub mod TurnCounts
+pub mod EntryTexts
+pub mod Doubling
+pub mod ParityWalks
+pub mod Nearer
+pub mod RouteCounts

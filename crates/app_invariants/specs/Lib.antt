@@ -1,0 +1,10 @@
+pub mod States
+pub mod Violations
+pub mod Verdicts
+pub mod Tokens
+pub mod LackedTurns
+pub mod LawsOfCounts
+pub mod WrongEntries
+pub mod LawsOfWrongEntries
+pub mod Parities
+pub mod Prepared

@@ -1,0 +1,35 @@
+// The application that does nothing: its invariant always holds.
+ghost use Rattle.std.specs.Prelude.{codes};
+ghost use Rattle.app_invariants.specs.LawsOfCounts.{nothing_wrong};
+
+use crate::invariant::Invariant;
+use app_interface::Idle;
+use std::alloc::{AllocError, Global};
+use topology::Topology;
+
+impl Invariant for Idle {
+    ghost counted = { codes "faults" };
+
+    ghost right = { 0 };
+
+    ghost number = { λ g v. 0 };
+
+    ghost decides = { nothing_wrong };
+
+    fn words() -> &'static str {
+        "faults"
+    }
+
+    fn right_count() -> u64 {
+        0
+    }
+
+    fn count(
+        _alloc: Global,
+        _topology: &Topology,
+        _at: u32,
+        _states: &[()],
+    ) -> Result<u64, AllocError> {
+        Ok(0)
+    }
+}

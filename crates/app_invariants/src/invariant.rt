@@ -1,0 +1,69 @@
+// The trait of applications whose invariant is decided.
+ghost use Rattle.std.specs.Prelude.{◌≡◌, ◌↔◌, ℕ, List, IfOk, length};
+ghost use Rattle.topology.specs.Components.{component};
+ghost use Rattle.topology.specs.Graph.{Graph, IsGraph, IsNode};
+ghost use Rattle.app_invariants.specs.States.{AreStates};
+ghost use Rattle.app_invariants.specs.Violations.{Tells};
+
+use crate::violation::Violation;
+use app_interface::Application;
+use std::alloc::{AllocError, Global};
+use topology::Topology;
+
+/// An application whose invariant is decided, by a number that the states of a component's nodes have.
+pub trait Invariant: Application {
+    // What is counted.
+    ghost counted: { List ℕ };
+
+    // The number where the invariant holds.
+    ghost right: { ℕ };
+
+    // The number, for a graph and the states of its nodes.
+    ghost number: { Graph → (ℕ → Self.Local) → ℕ };
+
+    /// What is counted, in words.
+    fn words() -> &'static str
+        ensures { result.now ≡ counted };
+
+    /// The number where the invariant holds.
+    fn right_count() -> u64
+        ensures { result ≡ right };
+
+    /// The number of a node's component, where `states` are those of all identifiers, in their order.
+    fn count(
+        alloc: Global,
+        topology: &Topology,
+        at: u32,
+        states: &[Self::Local],
+    ) -> Result<u64, AllocError>
+        requires node { IsNode topology.now at }
+        requires states { length states.now ≡ length topology.now.ids }
+        ensures { IfOk result (λ n. (v : ℕ → Self.Local) → AreStates topology.now v states.now
+            → n ≡ number (component topology.now at) v) };
+
+    // The invariant holds exactly where the number is the right one.
+    ghost decides: { (g : Graph) (v : ℕ → Self.Local) → IsGraph g → (number g v ≡ right ↔ Self.Inv g v) };
+}
+
+/// Decides whether the invariant holds of the component of the node `at`, where `states` are those of all
+/// identifiers, in their order. None exactly where it holds, and else the number that is wrong.
+pub fn find_violation<P: Invariant>(
+    alloc: Global,
+    topology: &Topology,
+    at: u32,
+    states: &[P::Local],
+) -> Result<Option<Violation>, AllocError>
+    requires node { IsNode topology.now at }
+    requires states { length states.now ≡ length topology.now.ids }
+    ensures { IfOk result (λ told. (v : ℕ → P.Local) → AreStates topology.now v states.now
+        → Tells (P.Inv (component topology.now at) v) P.counted (P.number (component topology.now at) v) told) }
+{
+    topology.lemma_is_graph();
+    let count = P::count(alloc, topology, at, states)?;
+    if count == P::right_count() {
+        Ok(None)
+    } else {
+        let words = P::words();
+        Ok(Some(Violation { words, count }))
+    }
+}

@@ -1,0 +1,16 @@
+// What holds of all verdicts.
+ghost use Rattle.std.specs.Prelude.{◌≡◌, ◌↔◌, ℕ, None};
+ghost use Rattle.topology.specs.Graph.{IsGraph, IsNode};
+ghost use Rattle.reset_model.specs.Configuration.{Configuration};
+ghost use Rattle.reset_model.specs.SoundSteps.{HoldsAt};
+ghost use Rattle.app_invariants.specs.Verdicts.{verdict_of};
+
+use crate::invariant::Invariant;
+
+/// The verdict on the component of a node finds nothing wrong exactly where the application's invariant holds of the
+/// abstract states there, as the headline has it.
+pub fn verdicts_tell<P: Invariant>()
+    ensures { (c : Configuration P.Local) (i : ℕ) → IsGraph c.graph → IsNode c.graph i
+        → ((verdict_of (record { words = P.counted; right = P.right; number = P.number }) P.app c i).1 ≡ None
+        ↔ HoldsAt P.app P.Inv c i) }
+{}

@@ -1,0 +1,16 @@
+// What the words of a check give.
+
+/// The words of a check of the network that a script leaves.
+#[derive(Clone, Copy, Debug, PartialEq, Eq)]
+pub struct CheckWords<'a> {
+    /// The path of the topology.
+    pub topology: &'a str,
+    /// The path of the script.
+    pub script: &'a str,
+    /// The path of the snapshot that it starts from, if one is given.
+    pub from: Option<&'a str>,
+    /// Whether the command that repairs it stands behind each row of tree and wave that fails.
+    pub repair: bool,
+    /// Whether it is told of each component whether the application's invariant holds there.
+    pub whole: bool,
+}
