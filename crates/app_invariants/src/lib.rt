@@ -5,14 +5,12 @@
 //! entry of a routing table is without a way. The count reads the topology and the local states, and changes neither.
 #![tactic(auto)]
 
-mod entries;
 mod idle;
 mod invariant;
 mod laws;
 mod members;
 mod parities;
 mod routes;
-mod search;
 mod tokens;
 mod turns;
 mod verdict;

@@ -1,15 +1,14 @@
 // The least numbers of links of walks to a node, for evenly many links and for oddly many.
 //
 // A walk can go back and forth over its first link, so that with a walk of some number of links there is one of two
-// more. The least number of each parity tells all numbers.
+// more. The least number of each parity decides for all numbers.
 ghost use Rattle.std.specs.Prelude.{◌≡◌, ℕ, ◌+◌, ◌<◌, ◌≤◌, true, false, All, IfOk, OnOk, length, map, slice_index};
 ghost use Rattle.topology.specs.Graph.{AreLinked};
 ghost use Rattle.app_invariants.specs.Parities.{AreDoubled, AreTables, PushesShifted, TellsWalks, place_for};
 ghost use Rattle.app_invariants.specs.WrongEntries.{is_walked};
 
-use crate::search::distances_to;
 use std::alloc::{AllocError, Global};
-use topology::{MAX_NODES, Topology};
+use topology::{MAX_NODES, Topology, distances_to};
 
 /// For each of the nodes at these indexes the table of the walks to it.
 pub(crate) fn tables_of(
@@ -43,7 +42,7 @@ fn table_of(
     distances_to(alloc, rows, index)
 }
 
-// The rows of the graph in which each identifier stands twice.
+// The rows of the doubled graph: each identifier is there twice, and a link leads from the one copy to the other.
 fn doubled(alloc: Global, topology: &Topology) -> Result<Vec<Vec<usize>>, AllocError>
     ensures { IfOk result (λ rows. AreDoubled topology.now (map (λ row. row.items) rows.items)) }
 {

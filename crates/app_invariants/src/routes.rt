@@ -11,7 +11,6 @@ ghost use Rattle.app_invariants.specs.States.{AreStates};
 ghost use Rattle.app_invariants.specs.WrongEntries.{has_nearer, is_route, is_walked, leads_nearer};
 ghost use Rattle.app_invariants.specs.WrongEntries.{wrong_at, wrong_entries};
 
-use crate::entries::all_entries;
 use crate::invariant::Invariant;
 use crate::members::members_of;
 use crate::parities::{has_walk, tables_of};
@@ -44,13 +43,12 @@ impl Invariant for Routes {
     ) -> Result<u64, AllocError> {
         topology.lemma_is_graph();
         let members = members_of(alloc, topology, at)?;
-        let entries = all_entries(alloc, states)?;
         let tables = tables_of(alloc, topology, members.as_slice())?;
         Ok(wrong_entries(
             topology,
             members.as_slice(),
             tables.as_slice(),
-            entries.as_slice(),
+            states,
         ))
     }
 }
@@ -60,17 +58,17 @@ fn wrong_entries(
     topology: &Topology,
     members: &[usize],
     tables: &[Vec<usize>],
-    entries: &[Vec<Entry>],
+    states: &[RoutesLocal],
 ) -> u64
     requires { ArePrepared topology.now members.now (map (λ marks. marks.items) tables.now)
-        (map (λ es. es.items) entries.now) }
-    ensures { (v : ℕ → List Entry) → AreStates topology.now v (map (λ es. es.items) entries.now)
+        states.now }
+    ensures { (v : ℕ → List Entry) → AreStates topology.now v states.now
         → result ≡ sum_by (wrong_at topology.now v) (map (λ k. slice_index topology.now.ids k) members.now) }
 {
     topology.lemma_is_graph();
     let mut count = 0;
     for index in members {
-        count += wrong_at(topology, members, tables, entries, *index);
+        count += wrong_at(topology, members, tables, states, *index);
     }
     count
 }
@@ -80,20 +78,20 @@ fn wrong_at(
     topology: &Topology,
     members: &[usize],
     tables: &[Vec<usize>],
-    entries: &[Vec<Entry>],
+    states: &[RoutesLocal],
     index: usize,
 ) -> u64
     requires prepared { ArePrepared topology.now members.now (map (λ marks. marks.items) tables.now)
-        (map (λ es. es.items) entries.now) }
+        states.now }
     requires index { Contains members.now index }
-    ensures count { (v : ℕ → List Entry) → AreStates topology.now v (map (λ es. es.items) entries.now)
+    ensures count { (v : ℕ → List Entry) → AreStates topology.now v states.now
         → result ≡ wrong_at topology.now v (slice_index topology.now.ids index) }
     ensures small { result ≤ 65535 }
 {
     topology.lemma_is_graph();
     let mut count = 0;
-    for entry in entries[index].as_slice() {
-        if !is_route(topology, members, tables, entries, index, entry) {
+    for entry in states[index].entries() {
+        if !is_route(topology, members, tables, states, index, entry) {
             count += 1;
         }
     }
@@ -105,20 +103,20 @@ fn is_route(
     topology: &Topology,
     members: &[usize],
     tables: &[Vec<usize>],
-    entries: &[Vec<Entry>],
+    states: &[RoutesLocal],
     index: usize,
     entry: &Entry,
 ) -> bool
     requires prepared { ArePrepared topology.now members.now (map (λ marks. marks.items) tables.now)
-        (map (λ es. es.items) entries.now) }
+        states.now }
     requires index { Contains members.now index }
-    ensures { (v : ℕ → List Entry) → AreStates topology.now v (map (λ es. es.items) entries.now)
+    ensures { (v : ℕ → List Entry) → AreStates topology.now v states.now
         → result ≡ is_route topology.now v (slice_index topology.now.ids index) entry.now }
 {
     if !is_walked(topology, members, tables, index, entry) {
         return false;
     }
-    entry.hops == 0 || leads_nearer(topology, entries, index, entry)
+    entry.hops == 0 || leads_nearer(topology, states, index, entry)
 }
 
 // Whether a walk of as many links as the entry has hops leads from the node at this index to the destination.
@@ -158,17 +156,17 @@ fn place_of(topology: &Topology, members: &[usize], id: u32) -> Option<usize>
 }
 
 // Whether the next node of an entry of the node at this index is a neighbour that is nearer to the destination.
-fn leads_nearer(topology: &Topology, entries: &[Vec<Entry>], index: usize, entry: &Entry) -> bool
+fn leads_nearer(topology: &Topology, states: &[RoutesLocal], index: usize, entry: &Entry) -> bool
     requires index { index < length topology.now.ids }
-    requires count { length entries.now ≡ length topology.now.ids }
+    requires count { length states.now ≡ length topology.now.ids }
     requires ascending { (k : ℕ) (es : List Entry) → k < length topology.now.ids
-        → IsAscending (slice_index_or (map (λ es. es.items) entries.now) k es) }
-    ensures { (v : ℕ → List Entry) → AreStates topology.now v (map (λ es. es.items) entries.now)
+        → IsAscending (slice_index_or states.now k es) }
+    ensures { (v : ℕ → List Entry) → AreStates topology.now v states.now
         → result ≡ leads_nearer topology.now v (slice_index topology.now.ids index) entry.now }
 {
     topology.lemma_is_graph();
     match topology.neighbour_at(index, entry.next) {
-        Some(near) => has_nearer(entries[near].as_slice(), entry.destination, entry.hops),
+        Some(near) => has_nearer(states[near].entries(), entry.destination, entry.hops),
         None => false,
     }
 }

@@ -1,7 +1,6 @@
 // The number of nodes that are in without their turns.
 ghost use Rattle.std.specs.Prelude.{◌≡◌, ℕ, ◌<◌, ◌≤◌, All, codes, length, map, slice_index};
 ghost use Rattle.std.specs.List.{count_by};
-ghost use Rattle.app_mutex.specs.Turns.{holds_turn};
 ghost use Rattle.app_mutex.specs.declared.local.MutexLocal.{MutexLocal};
 ghost use Rattle.app_invariants.specs.LackedTurns.{holds_all_turns, in_without_count, is_in_without};
 ghost use Rattle.app_invariants.specs.LawsOfCounts.{turns_held};
@@ -9,7 +8,7 @@ ghost use Rattle.app_invariants.specs.States.{AreStates};
 
 use crate::invariant::Invariant;
 use crate::members::members_of;
-use app_mutex::{EdgeReversal, MutexLocal};
+use app_mutex::{EdgeReversal, MutexLocal, holds_turn};
 use std::alloc::{AllocError, Global};
 use topology::Topology;
 
@@ -76,16 +75,4 @@ fn holds_all_turns(topology: &Topology, index: usize, states: &[MutexLocal]) -> 
         }
     }
     true
-}
-
-// Whether the node has the turn of its link to the neighbour: the lesser of the two where their bits are
-// equal, and the greater where they differ.
-fn holds_turn(id: u32, bit: bool, near_id: u32, near_bit: bool) -> bool
-    ensures { result ≡ holds_turn id bit near_id near_bit }
-{
-    if id < near_id {
-        bit == near_bit
-    } else {
-        bit != near_bit
-    }
 }

@@ -21,3 +21,4 @@ pub use links::link_rows;
 pub use local::MutexLocal;
 pub use mutex::EdgeReversal;
 pub use table::app_rows;
+pub use turn::holds_turn;

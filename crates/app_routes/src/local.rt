@@ -60,7 +60,7 @@ impl RoutesLocal {
     }
 
     /// The entries, in ascending order of their destinations.
-    pub(crate) fn entries(&self) -> &[Entry]
+    pub fn entries(&self) -> &[Entry]
         ensures value { result.now ≡ self.now }
         ensures routes { AreRoutes self.now }
     {

@@ -15,7 +15,7 @@ mod table;
 mod token;
 
 pub use bits::Bits;
-pub use links::link_rows;
+pub use links::{is_in_flight, link_rows};
 pub use local::TokenLocal;
 pub use table::app_rows;
 pub use token::Token;

@@ -49,7 +49,8 @@ fn mark_all(near: &[Vec<usize>], start: usize, marks: &mut [usize], reached: &mu
     }
 }
 
-/// The distance from each index to the start, and the number of rows where no walk leads there.
+/// The distance from each index to the start, and the number of rows where no walk leads there. Row k lists the indexes
+/// that index k is linked with, in both directions. It fails only if an allocation fails.
 pub fn distances_to(
     alloc: Global,
     near: &[Vec<usize>],
