@@ -30,7 +30,7 @@ impl<T: Drop> From<AllocFailed<T>> for ClockRefusal {
     }
 }
 
-/// Why a text gives no local state. A text that spells none is named as such before want of memory,
+/// Why a text gives no local state. A text that isn't one is named as such before a failed allocation,
 /// unless a growth is refused before that is known.
 #[derive(Clone, Copy, Debug, PartialEq, Eq)]
 pub enum LocalFault {

@@ -5,7 +5,6 @@ pub mod States
 pub mod Newest
 pub mod Telling
 pub mod TurnCounts
-pub mod EntryTexts
 pub mod Doubling
 pub mod ParityWalks
 pub mod Nearer

@@ -13,6 +13,10 @@ use Rattle.app_routes.specs.declared.entry.Entry.{Entry}
 use Rattle.app_invariants.specs.LawsOfWrongEntries.{any_item, item_any}
 use Rattle.app_invariants.specs.WrongEntries.{has_nearer}
 
+-- an entry, for what lies past the end of a list
+abbrev pub some_entry : Entry
+some_entry = record { destination = 0; hops = 0; next = 0 }
+
 module _ (es : List Entry) (d : ℕ) where
   abbrev ends : List ℕ
   ends = map (λ e. e.destination) es

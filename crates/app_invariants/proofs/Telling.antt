@@ -16,7 +16,7 @@ module _ {L : Type 0} (app : App L) (Inv : Graph → (ℕ → L) → Type 0) (co
     (keeps : (g : Graph) (bound : ℕ) → IsGraph g → IsConnected g → 0 < length g.nodes → length g.ids ≤ bound
     → Keeps app g bound (Inv g))
     (decides : (g : Graph) (v : ℕ → L) → IsGraph g → ((count.number g v ≡ count.right) ↔ Inv g v)) where
-  -- nothing is told exactly where the number is right
+  -- nothing is wrong exactly where the number is right
   none_told : (n right : ℕ) (words : List ℕ)
       → (cond {A = Option (List ℕ × ℕ)} (n == right) None (Some (words, n)) ≡ None) ↔ (n ≡ right)
   none_told n right words = (
@@ -27,6 +27,11 @@ module _ {L : Type 0} (app : App L) (Inv : Graph → (ℕ → L) → Type 0) (co
       at : (b : Bool) → (n == right) ≡ b → cond {A = Option (List ℕ × ℕ)} b None (Some (words, n)) ≡ None → n ≡ right
       at true is none = eqb-true n right is
       at false is none = absurd (cc)
+
+  pub violation_tells : (g : Graph) (v : ℕ → L) → IsGraph g → (wrong_of count g v ≡ None ↔ Inv g v)
+  violation_tells g v graph =
+      let told = none_told (count.number g v) count.right count.words in
+      let means = decides g v graph in (λ none. means.0 (told.0 none), λ inv. told.1 (means.1 inv))
 
   module _ (c : Configuration L) (i : ℕ) (graph : IsGraph c.graph) (node : IsNode c.graph i) where
     part : IsComponent c.graph i (component c.graph i)
@@ -47,9 +52,8 @@ module _ {L : Type 0} (app : App L) (Inv : Graph → (ℕ → L) → Type 0) (co
     pub verdict_tells : (verdict_of count app c i).1 ≡ None ↔ HoldsAt app Inv c i
     verdict_tells =
         let g = component c.graph i in
-        let told = none_told (count.number g (newest_of app c)) count.right count.words in
-        let means = decides g (newest_of app c) part.as_graph in (
+        let tells = violation_tells g (newest_of app c) part.as_graph in (
           λ none. kept.same (newest_of app c) (abstract_of app c) (λ j inside. sym (same j inside))
-              (means.0 (told.0 none)),
-          λ inv. told.1 (means.1 (kept.same (abstract_of app c) (newest_of app c) same inv)),
+              (tells.0 none),
+          λ inv. tells.1 (kept.same (abstract_of app c) (newest_of app c) same inv),
         )

@@ -1,9 +1,9 @@
 // The trait of applications whose invariant is decided.
-ghost use Rattle.std.specs.Prelude.{◌≡◌, ◌↔◌, ℕ, List, IfOk, length};
+ghost use Rattle.std.specs.Prelude.{◌≡◌, ◌↔◌, ℕ, List, IfOk, length, option_map};
 ghost use Rattle.topology.specs.Components.{component};
 ghost use Rattle.topology.specs.Graph.{Graph, IsGraph, IsNode};
 ghost use Rattle.app_invariants.specs.States.{AreStates};
-ghost use Rattle.app_invariants.specs.Violations.{Tells};
+ghost use Rattle.app_invariants.specs.Verdicts.{wrong_of};
 
 use crate::violation::Violation;
 use app_interface::Application;
@@ -29,7 +29,8 @@ pub trait Invariant: Application {
     fn right_count() -> u64
         ensures { result ≡ right };
 
-    /// The number of a node's component, where `states` are those of all identifiers, in their order.
+    /// The number of a node's component, where `states` are those of all identifiers, in their order. It fails only if
+    /// an allocation fails.
     fn count(
         alloc: Global,
         topology: &Topology,
@@ -46,7 +47,8 @@ pub trait Invariant: Application {
 }
 
 /// Decides whether the invariant holds of the component of the node `at`, where `states` are those of all
-/// identifiers, in their order. None exactly where it holds, and else the number that is wrong.
+/// identifiers, in their order. None exactly where it holds, and else the number that is wrong. It fails only if an
+/// allocation fails.
 pub fn find_violation<P: Invariant>(
     alloc: Global,
     topology: &Topology,
@@ -55,10 +57,10 @@ pub fn find_violation<P: Invariant>(
 ) -> Result<Option<Violation>, AllocError>
     requires node { IsNode topology.now at }
     requires states { length states.now ≡ length topology.now.ids }
-    ensures { IfOk result (λ told. (v : ℕ → P.Local) → AreStates topology.now v states.now
-        → Tells (P.Inv (component topology.now at) v) P.counted (P.number (component topology.now at) v) told) }
+    ensures { IfOk result (λ violation. (v : ℕ → P.Local) → AreStates topology.now v states.now
+        → option_map (λ wrong. (wrong.words.now, wrong.count)) violation
+        ≡ wrong_of (record { words = P.counted; right = P.right; number = P.number }) (component topology.now at) v) }
 {
-    topology.lemma_is_graph();
     let count = P::count(alloc, topology, at, states)?;
     if count == P::right_count() {
         Ok(None)

@@ -1,11 +1,17 @@
-// What holds of all verdicts.
+// What a verdict means.
 ghost use Rattle.std.specs.Prelude.{◌≡◌, ◌↔◌, ℕ, None};
-ghost use Rattle.topology.specs.Graph.{IsGraph, IsNode};
+ghost use Rattle.topology.specs.Graph.{Graph, IsGraph, IsNode};
 ghost use Rattle.reset_model.specs.Configuration.{Configuration};
 ghost use Rattle.reset_model.specs.SoundSteps.{HoldsAt};
-ghost use Rattle.app_invariants.specs.Verdicts.{verdict_of};
+ghost use Rattle.app_invariants.specs.Verdicts.{verdict_of, wrong_of};
 
 use crate::invariant::Invariant;
+
+/// Nothing is wrong exactly where the application's invariant holds of the graph with these states.
+pub fn violations_tell<P: Invariant>()
+    ensures { (g : Graph) (v : ℕ → P.Local) → IsGraph g
+        → (wrong_of (record { words = P.counted; right = P.right; number = P.number }) g v ≡ None ↔ P.Inv g v) }
+{}
 
 /// The verdict on the component of a node finds nothing wrong exactly where the application's invariant holds of the
 /// abstract states there, as the headline has it.

@@ -1,8 +1,9 @@
 //! Deciding the invariants of the applications: whether the invariant of an application holds of the nodes of
 //! a component, and what is wrong where it fails.
 //!
-//! Each application counts something whose number tells: there is one token, no node is in without its turns, and no
-//! entry of a routing table is without a way. The count reads the topology and the local states, and changes neither.
+//! Each application counts something: the tokens, the nodes that are in without their turns, the entries of routing
+//! tables without a way. The invariant holds exactly where there is one token, and none of the others. Counting changes
+//! neither the topology nor the states.
 #![tactic(auto)]
 
 mod idle;
@@ -17,6 +18,6 @@ mod verdict;
 mod violation;
 
 pub use invariant::{Invariant, find_violation};
-pub use laws::verdicts_tell;
+pub use laws::{verdicts_tell, violations_tell};
 pub use verdict::{Verdict, judge_components};
 pub use violation::Violation;

@@ -1,6 +1,6 @@
 // The number of entries that are no routes.
 ghost use Rattle.std.specs.Prelude.{◌≡◌, ℕ, ◌<◌, ◌≤◌, List, Contains, IfNone, IfSome, codes, length, map};
-ghost use Rattle.std.specs.Prelude.{slice_index, slice_index_or};
+ghost use Rattle.std.specs.Prelude.{slice_index};
 ghost use Rattle.std.specs.List.{sum_by};
 ghost use Rattle.app_routes.specs.Entries.{IsAscending};
 ghost use Rattle.app_routes.specs.declared.entry.Entry.{Entry};
@@ -44,12 +44,7 @@ impl Invariant for Routes {
         topology.lemma_is_graph();
         let members = members_of(alloc, topology, at)?;
         let tables = tables_of(alloc, topology, members.as_slice())?;
-        Ok(wrong_entries(
-            topology,
-            members.as_slice(),
-            tables.as_slice(),
-            states,
-        ))
+        Ok(wrong_entries(topology, members.as_slice(), tables.as_slice(), states))
     }
 }
 
@@ -60,8 +55,7 @@ fn wrong_entries(
     tables: &[Vec<usize>],
     states: &[RoutesLocal],
 ) -> u64
-    requires { ArePrepared topology.now members.now (map (λ marks. marks.items) tables.now)
-        states.now }
+    requires { ArePrepared topology.now members.now (map (λ marks. marks.items) tables.now) states.now }
     ensures { (v : ℕ → List Entry) → AreStates topology.now v states.now
         → result ≡ sum_by (wrong_at topology.now v) (map (λ k. slice_index topology.now.ids k) members.now) }
 {
@@ -81,8 +75,7 @@ fn wrong_at(
     states: &[RoutesLocal],
     index: usize,
 ) -> u64
-    requires prepared { ArePrepared topology.now members.now (map (λ marks. marks.items) tables.now)
-        states.now }
+    requires prepared { ArePrepared topology.now members.now (map (λ marks. marks.items) tables.now) states.now }
     requires index { Contains members.now index }
     ensures count { (v : ℕ → List Entry) → AreStates topology.now v states.now
         → result ≡ wrong_at topology.now v (slice_index topology.now.ids index) }
@@ -107,8 +100,7 @@ fn is_route(
     index: usize,
     entry: &Entry,
 ) -> bool
-    requires prepared { ArePrepared topology.now members.now (map (λ marks. marks.items) tables.now)
-        states.now }
+    requires prepared { ArePrepared topology.now members.now (map (λ marks. marks.items) tables.now) states.now }
     requires index { Contains members.now index }
     ensures { (v : ℕ → List Entry) → AreStates topology.now v states.now
         → result ≡ is_route topology.now v (slice_index topology.now.ids index) entry.now }
@@ -159,8 +151,6 @@ fn place_of(topology: &Topology, members: &[usize], id: u32) -> Option<usize>
 fn leads_nearer(topology: &Topology, states: &[RoutesLocal], index: usize, entry: &Entry) -> bool
     requires index { index < length topology.now.ids }
     requires count { length states.now ≡ length topology.now.ids }
-    requires ascending { (k : ℕ) (es : List Entry) → k < length topology.now.ids
-        → IsAscending (slice_index_or states.now k es) }
     ensures { (v : ℕ → List Entry) → AreStates topology.now v states.now
         → result ≡ leads_nearer topology.now v (slice_index topology.now.ids index) entry.now }
 {

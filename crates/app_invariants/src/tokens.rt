@@ -69,7 +69,11 @@ fn tokens_at(topology: &Topology, index: usize, states: &[TokenLocal]) -> u64
 {
     topology.lemma_is_graph();
     let flights = flights_to(topology, index, states);
-    if states[index].hold { flights + 1 } else { flights }
+    if states[index].hold {
+        flights + 1
+    } else {
+        flights
+    }
 }
 
 // How many tokens are in flight to the node at this index.

@@ -5,7 +5,7 @@ ghost use Rattle.topology.specs.Graph.{IsNode};
 ghost use Rattle.app_invariants.specs.States.{AreStates};
 ghost use Rattle.app_invariants.specs.Verdicts.{newest_of, verdict_of, verdicts_of, wrong_of};
 
-use crate::invariant::Invariant;
+use crate::invariant::{Invariant, find_violation};
 use crate::members::leader_of;
 use crate::violation::Violation;
 use reset_machine::Config;
@@ -31,7 +31,7 @@ impl Model for Verdict {
 }
 
 /// Decides the application's invariant in each component, by ascending leader: of the newest states there, where a node
-/// that hasn't joined counts as started.
+/// that hasn't joined counts as started. It fails only if an allocation fails.
 pub fn judge_components<P: Invariant>(
     alloc: Global,
     config: &Config<P>,
@@ -67,13 +67,7 @@ fn judge<P: Invariant>(
               (component topology.now leader) v,
         )) }
 {
-    let count = P::count(alloc, topology, leader, states)?;
-    let violation = if count == P::right_count() {
-        None
-    } else {
-        let words = P::words();
-        Some(Violation { words, count })
-    };
+    let violation = find_violation::<P>(alloc, topology, leader, states)?;
     Ok(Verdict { leader, violation })
 }
 

@@ -369,7 +369,7 @@ AskFor words = AskedBy (subcommand_of program words)
 abbrev pub faults_of : List Text → Kinds
 faults_of = fault_of program
 
--- the fault is one that clap has at the words, or memory was wanting
+-- the fault is one that clap has at the words, or an allocation failed
 abbrev pub IsFaultOf : List Text → LineFault → Type 0
 IsFaultOf words (BadWords error) = IsAmong (kind_of error) (faults_of words)
 IsFaultOf words NoMemory = ⊤

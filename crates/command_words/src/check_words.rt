@@ -9,8 +9,8 @@ pub struct CheckWords<'a> {
     pub script: &'a str,
     /// The path of the snapshot that it starts from, if one is given.
     pub from: Option<&'a str>,
-    /// Whether the command that repairs it stands behind each row of tree and wave that fails.
+    /// Whether each line of a failing row of tree and wave ends with the command that repairs it.
     pub repair: bool,
-    /// Whether it is told of each component whether the application's invariant holds there.
+    /// Whether it prints for each component whether the application's invariant holds there.
     pub whole: bool,
 }

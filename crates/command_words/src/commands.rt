@@ -247,7 +247,7 @@ fn bare_words<'a>(alloc: Global, name: &'a str, help: &Help) -> Command<'a>
         .after_help(help.after_help)
 }
 
-// The command with one more argument. Where memory was wanting before, it still is: so a chain of these is a plain
+// The command with one more argument. An earlier failed allocation is passed on, so that a chain of these is a plain
 // sequence, and only its end is looked at.
 fn with_argument<'a>(
     line: Result<Command<'a>, AllocError>,

@@ -16,6 +16,6 @@ pub enum FaultRefusal {
     LinkIsThere,
     /// The node that would come up is up.
     NodeIsUp,
-    /// Memory is wanting.
+    /// An allocation failed.
     NoMemory,
 }

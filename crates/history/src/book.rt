@@ -267,7 +267,7 @@ impl<P: Application> Book<P> {
     }
 
     /// The identifiers of the nodes of its configuration that have something to do, ascending: what
-    /// `Config::ready` answers. It changes nothing, want of memory included.
+    /// `Config::ready` answers. It changes nothing, even if an allocation fails.
     pub fn ready(&mut self, alloc: Global) -> Result<Vec<u32>, AllocError>
         ensures ok { IfOk result (λ ids. ids.items ≡ ready_of P.app self.old.config) }
         ensures kept { self.new ≡ self.old }

@@ -60,6 +60,6 @@ pub struct Summary {
 pub enum VerifyFault {
     /// The entry at this position isn't allowed where it stands. It is the first such one.
     NotEnabledAt(usize),
-    /// Memory is wanting.
+    /// An allocation failed.
     NoMemory,
 }

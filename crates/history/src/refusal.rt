@@ -13,7 +13,7 @@ pub enum BookRefusal {
     Refused(StepRefusal),
     /// The book has as many entries as it may have.
     BookFull,
-    /// Memory is wanting.
+    /// An allocation failed.
     NoMemory,
 }
 
@@ -24,7 +24,7 @@ pub enum DisturbRefusal {
     Refused(FaultRefusal),
     /// The book has as many entries as it may have.
     BookFull,
-    /// Memory is wanting.
+    /// An allocation failed.
     NoMemory,
 }
 
@@ -37,7 +37,7 @@ pub enum ApplyRefusal<P: Application> {
     Stale(View<P>),
     /// The book has as many entries as it may have.
     BookFull,
-    /// Memory is wanting.
+    /// An allocation failed.
     NoMemory,
 }
 
@@ -46,7 +46,7 @@ pub enum ApplyRefusal<P: Application> {
 pub enum AtFault {
     /// The book has fewer entries. Positions go from 0, the opening, to [`len`](crate::Book::len).
     NoPosition,
-    /// Memory is wanting.
+    /// An allocation failed.
     NoMemory,
 }
 

@@ -28,7 +28,7 @@ pub enum BookFault {
     BadVersion,
     /// There is an entry after the millionth.
     TooLong,
-    /// Memory is wanting.
+    /// An allocation failed.
     NoMemory,
     /// The reader failed.
     ReadFailed,

@@ -28,7 +28,7 @@ use std::io::Write;
 pub enum PageStop {
     /// The writer failed.
     WriteFailed,
-    /// Memory is wanting.
+    /// An allocation failed.
     NoMemory,
 }
 

@@ -18,7 +18,7 @@ use topology::AppName;
 
 /// The topology text of a shape with the nodes 1 to `count`, from 1 to 1,024 of them. `seed` matters
 /// to `Shape::Random` alone. The text names no modulus, so that it is read with the greatest. It has no
-/// fault that `read_topology` could name, so that reading it fails for want of memory alone.
+/// fault that `read_topology` could name, so that reading it fails only if an allocation fails.
 pub fn shape_text(
     alloc: Global,
     shape: Shape,

@@ -96,7 +96,7 @@ IsCloseFault app from_text first nodes seats (ListsDiffer i) =
 IsCloseFault app from_text first nodes seats NoMemory = first_missing nodes seats ≡ None
 
 -- what a run of the first book tells of seats that don't close its sharing: seats of which each node has one, in the
--- nodes' order, have this fault, which isn't want of memory, by the book that comes back
+-- nodes' order, have this fault, which isn't a failed allocation, by the book that comes back
 pub record HasCloseFault {L : Type 0} (app : App L) (from_text : List ℕ → Option L) (first b : BookView L)
     (f : CloseFault) : Type 0 where
   pub seats : List SeatView

@@ -51,7 +51,7 @@ pub enum CloseFault {
     SeatMissing(u32),
     /// The seat of this node wasn't told exactly the node's entries since the mark. It is the first such seat.
     ListsDiffer(u32),
-    /// Memory is wanting.
+    /// An allocation failed.
     NoMemory,
 }
 

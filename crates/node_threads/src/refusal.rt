@@ -8,7 +8,7 @@ use history::{ApplyRefusal, BookRefusal};
 pub enum ShareFault {
     /// Its configuration has over 64 nodes.
     TooManyForThreads,
-    /// Memory is wanting.
+    /// An allocation failed.
     NoMemory,
 }
 
@@ -17,7 +17,7 @@ pub enum ShareFault {
 pub enum LookRefusal {
     /// The seat's node isn't a node of the topology.
     StrangeNode,
-    /// Memory is wanting.
+    /// An allocation failed.
     NoMemory,
 }
 

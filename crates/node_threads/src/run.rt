@@ -37,11 +37,11 @@ pub enum RunCause {
     NoThread,
     /// The seats don't close the sharing.
     Close(CloseFault),
-    /// Memory is wanting.
+    /// An allocation failed.
     NoMemory,
 }
 
-/// Why a run gives no outcome, with the book as it stands.
+/// Why a run gives no outcome, with the book as it is then.
 #[derive(Drop)]
 pub struct RunFault<P: Application> {
     pub cause: RunCause,
@@ -49,8 +49,8 @@ pub struct RunFault<P: Application> {
 }
 
 /// Runs each node in a thread of its own: the selected node asks for a reset, and then each takes so many
-/// turns. A book that is full ends a node's turns and is no fault. A node whose memory is wanting doesn't stop
-/// the others.
+/// turns. A full book ends a node's turns, and isn't a fault. A failed allocation ends the turns of its node
+/// alone.
 pub fn run_nodes<P: Application, G: Gate + Sync, R: Threads + Wait + Sync>(
     rt: &R,
     alloc: Global,
@@ -86,8 +86,8 @@ fn requests_of<P: Application>(book: &Book<P>, selected: Option<u32>) -> u32 {
 
 /// Runs each node in a thread of its own, by this task: the selected node asks for a reset, and again each time it is
 /// normal, so often in all, and each takes its turns. A request that is refused is made again when the node is normal.
-/// No other node asks for any. A book that is full ends a node's turns and is no fault. A node whose memory is wanting
-/// doesn't stop the others.
+/// No other node asks for any. A full book ends a node's turns, and isn't a fault. A failed allocation ends the turns
+/// of its node alone.
 pub fn run_nodes_as<P: Application, G: Gate + Sync, R: Threads + Wait + Sync>(
     rt: &R,
     alloc: Global,
@@ -206,7 +206,7 @@ fn lemma_stands<P: Application>(book: &Book<P>)
     book.lemma_is_book();
 }
 
-// A fault of sharing as a run tells it.
+// The cause of a run that a fault of sharing is.
 fn cause_of(fault: ShareFault) -> RunCause
     ensures many { result ≡ RunCause.TooManyForThreads → fault ≡ ShareFault.TooManyForThreads }
     ensures strange { result ≢ RunCause.StrangeNode }
@@ -218,7 +218,7 @@ fn cause_of(fault: ShareFault) -> RunCause
     }
 }
 
-// A fault of closing as a run tells it.
+// The cause of a run that a fault of closing is.
 fn cause_of_closing(fault: CloseFault) -> RunCause
     ensures memory { fault ≡ CloseFault.NoMemory → result ≡ RunCause.NoMemory }
     ensures close { fault ≢ CloseFault.NoMemory → result ≡ RunCause.Close fault }

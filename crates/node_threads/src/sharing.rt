@@ -123,7 +123,7 @@ fn seat_all<L: Round>(
 }
 
 impl<L: Sharing<P::Local>, P: Application> Shared<L, P> {
-    // The book as it stands.
+    // The book as it is.
     pub(crate) fn into_book(self) -> Book<P>
         ensures { IsContinued P.app P.from_text L.book result }
     {

@@ -63,8 +63,8 @@ fn requests_at(task: Task, node: u32) -> u32
     }
 }
 
-// Asks for a reset, if one is left to be asked for, and tells how many are left then. A request that is refused is left,
-// but in a full book, which takes no request, none is. None where memory is wanting.
+// Asks for a reset, if one is left to be asked for. The result is how many are left then: a request that is refused is
+// left, and none is left in a full book, which takes no request. None if an allocation failed.
 fn ask<L: Sharing<P::Local>, P: Application, R: Wait>(
     rt: &R,
     alloc: Global,

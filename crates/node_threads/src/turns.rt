@@ -41,7 +41,7 @@ pub enum TurnsEnd {
     NoMemory,
 }
 
-// How turns ended, as a run of all nodes tells it apart.
+// How turns ended, by the cases that a run of all nodes needs.
 #[derive(Clone, Copy, Debug, PartialEq, Eq)]
 pub(crate) enum Ended {
     // All were taken.
@@ -136,7 +136,7 @@ pub(crate) fn take_turns<L: Sharing<P::Local>, P: Application, G: Gate, R: Wait>
     Ended::Taken
 }
 
-// How turns ended, as `node_turns` tells it.
+// How turns ended, by the cases that `node_turns` returns.
 pub(crate) fn end_of(ended: Ended) -> TurnsEnd
     ensures { result ≡ TurnsEnd.BookFull → ended ≡ Ended.BookFull }
 {
@@ -149,7 +149,7 @@ pub(crate) fn end_of(ended: Ended) -> TurnsEnd
 
 // What the seat's node sees, from what it saw last on, where that allows an event, and the first such event. Where it
 // allows none, it waits for a neighbour that changes. A node that is to ask for a reset neither waits nor takes a turn
-// while it may. A look is refused for want of memory alone.
+// while it may. A look fails only if an allocation fails.
 fn next_allowed<L: Sharing<P::Local>, P: Application, R: Wait>(
     rt: &R,
     alloc: Global,

@@ -69,7 +69,7 @@ impl<L: Sharing<P::Local>, P: Application> Unlocked<L, P> {
         }
     }
 
-    // The book as it stands.
+    // The book as it is.
     pub(crate) fn into_book(self) -> Book<P>
         ensures same { result ≡ self.locked.book }
         ensures continued { IsContinued P.app P.from_text L.book result }

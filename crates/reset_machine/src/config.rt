@@ -80,7 +80,7 @@ impl<P: Application> Config<P> {
 
     /// The configuration in which each node has its place in the tree of shortest ways to the
     /// greatest id of its component, and no reset has begun: every node is normal, in session 0, and has its declared
-    /// start state. Sessions are counted modulo this number from then on. Where memory is wanting the
+    /// start state. Sessions are counted modulo this number from then on. If an allocation fails the
     /// topology comes back.
     pub fn boot(
         alloc: Global,

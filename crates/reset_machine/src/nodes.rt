@@ -59,7 +59,7 @@ impl<P: Application> Nodes<P> {
     ghost use Rattle.reset_model.specs.Topologies.{with_topology};
     ghost use Rattle.reset_model.specs.Outcome.{IsBoot};
 
-    /// The nodes as they are booted, with sessions counted modulo this number. Where memory is wanting the
+    /// The nodes as they are booted, with sessions counted modulo this number. If an allocation fails the
     /// topology comes back.
     pub fn boot(
         alloc: Global,
@@ -148,7 +148,7 @@ impl<P: Application> Nodes<P> {
     }
 
     /// Puts a topology of the same identifiers, with its start states: a node that comes up is its own root, normal in
-    /// session 0, and has its start state. Where memory is wanting the topology comes back.
+    /// session 0, and has its start state. If an allocation fails the topology comes back.
     pub fn set_topology(
         &mut self,
         alloc: Global,

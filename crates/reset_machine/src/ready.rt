@@ -15,7 +15,7 @@ use topology::Topology;
 use tree_layer::TreeRegs;
 use wave_layer::WaveRegs;
 
-/// Tests the nodes in doubt, one after another. Where memory is wanting those that are left stay in
+/// Tests the nodes in doubt, one after another. If an allocation fails those that are left stay in
 /// doubt.
 pub fn settle_all<P: Application>(
     alloc: Global,

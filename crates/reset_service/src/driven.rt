@@ -14,6 +14,7 @@ use app_mutex::EdgeReversal;
 use app_routes::Routes;
 use app_token::Token;
 use history::books_read_back;
+use progress::Progress;
 use reset_machine::Config;
 use scheduler::driven_history;
 use script_replay::{Network, RunStop, Status, read_network};
@@ -36,38 +37,50 @@ pub struct Drive {
 /// what it did to one writer, and then to the other how many entries and reports the history has.
 ///
 /// The same words give the same history (`one_driven_run`). A verification takes it (`driven_runs_are_verified`).
-/// Nothing is written before the last step. A history has at most a million entries.
+/// Nothing is written before the last step. A history has at most a million entries. How many steps are taken is told to
+/// `progress`.
 pub fn drive_text<H: Write, W: Write>(
     alloc: Global,
     topology: &[u8],
     run: Drive,
+    progress: &Progress,
     history: &mut H,
     out: &mut W,
 ) -> Result<Status, RunStop>
     ensures { LeavesBoth (IsDroveText run.steps run.seed run.faults topology.now) (H.contents history.old)
         (H.contents history.new) (W.contents out.old) (W.contents out.new) result }
 {
-    let told = drive_topology(alloc, topology, run)?;
+    let told = drive_topology(alloc, topology, run, progress)?;
     put_history(history, &told)?;
     put_told(out, &told)?;
     Ok(status_of(&told))
 }
 
 // Drives the network of a topology text.
-fn drive_topology(alloc: Global, topology: &[u8], run: Drive) -> Result<Told, RunStop>
+fn drive_topology(
+    alloc: Global,
+    topology: &[u8],
+    run: Drive,
+    progress: &Progress,
+) -> Result<Told, RunStop>
     ensures ok { IfOk result
         (λ told. IsDroveText run.steps run.seed run.faults topology.now (told_history told) (told_output told)) }
     ensures stop { IfErr result IsRunStop }
 {
     match read_network(alloc, topology) {
-        Ok(network) => drive_app(alloc, network, run),
+        Ok(network) => drive_app(alloc, network, run, progress),
         Err(ReadFault::NoMemory) => Err(RunStop::NoMemory),
         Err(fault) => Ok(Told::BadTopology(fault)),
     }
 }
 
 // Drives a network with the application that it names.
-fn drive_app(alloc: Global, network: Network, run: Drive) -> Result<Told, RunStop>
+fn drive_app(
+    alloc: Global,
+    network: Network,
+    run: Drive,
+    progress: &Progress,
+) -> Result<Told, RunStop>
     ensures ok { IfOk result
         (λ told. IsDroveOf run.steps run.seed run.faults network.app network.topology network.modulus
         (told_history told) (told_output told)) }
@@ -75,10 +88,10 @@ fn drive_app(alloc: Global, network: Network, run: Drive) -> Result<Told, RunSto
     ensures stop { IfErr result IsRunStop }
 {
     match network.app {
-        AppName::Idle => drive_booted::<Idle>(alloc, network, run),
-        AppName::Token => drive_booted::<Token>(alloc, network, run),
-        AppName::Mutex => drive_booted::<EdgeReversal>(alloc, network, run),
-        AppName::Routes => drive_booted::<Routes>(alloc, network, run),
+        AppName::Idle => drive_booted::<Idle>(alloc, network, run, progress),
+        AppName::Token => drive_booted::<Token>(alloc, network, run, progress),
+        AppName::Mutex => drive_booted::<EdgeReversal>(alloc, network, run, progress),
+        AppName::Routes => drive_booted::<Routes>(alloc, network, run, progress),
     }
 }
 
@@ -86,6 +99,7 @@ fn drive_booted<P: Application>(
     alloc: Global,
     network: Network,
     run: Drive,
+    progress: &Progress,
 ) -> Result<Told, RunStop>
     ensures ok { IfOk result
         (λ told. IsDroveFrom (meaning_of P.app P.text P.from_text P.names) run.steps run.seed run.faults
@@ -94,7 +108,7 @@ fn drive_booted<P: Application>(
     ensures stop { IfErr result IsRunStop }
 {
     match Config::<P>::boot(alloc, network.topology, network.modulus) {
-        Ok(opening) => drive_opened(alloc, opening, run),
+        Ok(opening) => drive_opened(alloc, opening, run, progress),
         Err(_) => Err(RunStop::NoMemory),
     }
 }
@@ -106,13 +120,14 @@ pub fn drive_from<H: Write, W: Write>(
     topology: &[u8],
     snapshot: &[u8],
     run: Drive,
+    progress: &Progress,
     history: &mut H,
     out: &mut W,
 ) -> Result<Status, RunStop>
     ensures { LeavesBoth (IsBegunText (Drives run.steps run.seed run.faults) topology.now snapshot.now)
         (H.contents history.old) (H.contents history.new) (W.contents out.old) (W.contents out.new) result }
 {
-    let told = drive_topology_from(alloc, topology, snapshot, run)?;
+    let told = drive_topology_from(alloc, topology, snapshot, run, progress)?;
     put_history(history, &told)?;
     put_told(out, &told)?;
     Ok(status_of(&told))
@@ -124,6 +139,7 @@ fn drive_topology_from(
     topology: &[u8],
     snapshot: &[u8],
     run: Drive,
+    progress: &Progress,
 ) -> Result<Told, RunStop>
     ensures ok { IfOk result
         (λ told. IsBegunText (Drives run.steps run.seed run.faults) topology.now snapshot.now
@@ -131,7 +147,7 @@ fn drive_topology_from(
     ensures stop { IfErr result IsRunStop }
 {
     match read_network(alloc, topology) {
-        Ok(network) => drive_app_from(alloc, network, snapshot, run),
+        Ok(network) => drive_app_from(alloc, network, snapshot, run, progress),
         Err(ReadFault::NoMemory) => Err(RunStop::NoMemory),
         Err(fault) => Ok(Told::BadTopology(fault)),
     }
@@ -143,6 +159,7 @@ fn drive_app_from(
     network: Network,
     snapshot: &[u8],
     run: Drive,
+    progress: &Progress,
 ) -> Result<Told, RunStop>
     requires { network.topology.nodes ≡ network.topology.ids }
     ensures ok { IfOk result
@@ -151,10 +168,10 @@ fn drive_app_from(
     ensures stop { IfErr result IsRunStop }
 {
     match network.app {
-        AppName::Idle => drive_started::<Idle>(alloc, network, snapshot, run),
-        AppName::Token => drive_started::<Token>(alloc, network, snapshot, run),
-        AppName::Mutex => drive_started::<EdgeReversal>(alloc, network, snapshot, run),
-        AppName::Routes => drive_started::<Routes>(alloc, network, snapshot, run),
+        AppName::Idle => drive_started::<Idle>(alloc, network, snapshot, run, progress),
+        AppName::Token => drive_started::<Token>(alloc, network, snapshot, run, progress),
+        AppName::Mutex => drive_started::<EdgeReversal>(alloc, network, snapshot, run, progress),
+        AppName::Routes => drive_started::<Routes>(alloc, network, snapshot, run, progress),
     }
 }
 
@@ -163,6 +180,7 @@ fn drive_started<P: Application>(
     network: Network,
     snapshot: &[u8],
     run: Drive,
+    progress: &Progress,
 ) -> Result<Told, RunStop>
     requires { network.topology.nodes ≡ network.topology.ids }
     ensures ok { IfOk result
@@ -172,7 +190,7 @@ fn drive_started<P: Application>(
     ensures stop { IfErr result IsRunStop }
 {
     match start::<P>(alloc, network, snapshot) {
-        Ok(opening) => drive_opened(alloc, opening, run),
+        Ok(opening) => drive_opened(alloc, opening, run, progress),
         Err(StartFault::NoMemory) => Err(RunStop::NoMemory),
         Err(fault) => Ok(Told::BadSnapshot(fault)),
     }
@@ -183,6 +201,7 @@ fn drive_opened<P: Application>(
     alloc: Global,
     opening: Config<P>,
     run: Drive,
+    progress: &Progress,
 ) -> Result<Told, RunStop>
     ensures ok { IfOk result
         (λ told. IsDrove (meaning_of P.app P.text P.from_text P.names) opening run.steps run.seed run.faults
@@ -191,7 +210,7 @@ fn drive_opened<P: Application>(
     ensures stop { IfErr result IsRunStop }
 {
     books_read_back::<P>();
-    match driven_history(alloc, opening, run.steps, run.seed, run.faults) {
+    match driven_history(alloc, opening, run.steps, run.seed, run.faults, progress) {
         Ok(history) => Ok(Told::Driven(history)),
         Err(AllocError) => Err(RunStop::NoMemory),
     }

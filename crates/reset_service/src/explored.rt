@@ -20,6 +20,7 @@ use app_interface::{Application, Idle};
 use app_mutex::EdgeReversal;
 use app_routes::Routes;
 use app_token::Token;
+use progress::Progress;
 use reset_machine::Config;
 use schedules::{ExploreFault, Runs, Schedules, explore};
 use script_replay::{
@@ -46,13 +47,15 @@ pub struct Exploring {
 ///
 /// The topology is judged before the reader is touched, and the snapshot before the script. A script that is too long, or
 /// has a bad line, is answered as `replay` ends with it. Where there are more configurations than the limit, that is
-/// written in place of all else, with the status of bad input.
+/// written in place of all else, with the status of bad input. How many configurations have been followed, of those
+/// found so far, is told to `progress`.
 pub fn explore_text<R: Read, W: Write>(
     alloc: Global,
     topology: &[u8],
     snapshot: Option<&[u8]>,
     script: &mut R,
     run: Exploring,
+    progress: &Progress,
     out: &mut W,
 ) -> Result<Status, RunStop>
     ensures leaves { (text : List ℕ) × IsReadFrom (R.remaining script.old) text
@@ -63,7 +66,7 @@ pub fn explore_text<R: Read, W: Write>(
 {
     match read_network(alloc, topology) {
         Ok(network) => match read_text(alloc, script) {
-            Ok(text) => explore_app(alloc, network, snapshot, &text, run, out),
+            Ok(text) => explore_app(alloc, network, snapshot, &text, run, progress, out),
             Err(stop) => Err(stop),
         },
         Err(fault) => refuse_topology(fault, out),
@@ -77,6 +80,7 @@ fn explore_app<W: Write>(
     snapshot: Option<&[u8]>,
     script: &[u8],
     run: Exploring,
+    progress: &Progress,
     out: &mut W,
 ) -> Result<Status, RunStop>
     requires { network.topology.nodes ≡ network.topology.ids }
@@ -87,12 +91,18 @@ fn explore_app<W: Write>(
     ensures stop { IfErr result IsOutputStop }
 {
     match network.app {
-        AppName::Idle => explore_opened::<Idle, W>(alloc, network, snapshot, script, run, out),
-        AppName::Token => explore_opened::<Token, W>(alloc, network, snapshot, script, run, out),
+        AppName::Idle => explore_opened::<Idle, W>(
+            alloc, network, snapshot, script, run, progress, out,
+        ),
+        AppName::Token => explore_opened::<Token, W>(
+            alloc, network, snapshot, script, run, progress, out,
+        ),
         AppName::Mutex => {
-            explore_opened::<EdgeReversal, W>(alloc, network, snapshot, script, run, out)
+            explore_opened::<EdgeReversal, W>(alloc, network, snapshot, script, run, progress, out)
         }
-        AppName::Routes => explore_opened::<Routes, W>(alloc, network, snapshot, script, run, out),
+        AppName::Routes => explore_opened::<Routes, W>(
+            alloc, network, snapshot, script, run, progress, out,
+        ),
     }
 }
 
@@ -102,6 +112,7 @@ fn explore_opened<P: Application, W: Write>(
     snapshot: Option<&[u8]>,
     script: &[u8],
     run: Exploring,
+    progress: &Progress,
     out: &mut W,
 ) -> Result<Status, RunStop>
     requires { network.topology.nodes ≡ network.topology.ids }
@@ -113,7 +124,7 @@ fn explore_opened<P: Application, W: Write>(
     ensures stop { IfErr result IsOutputStop }
 {
     match open_network::<P>(alloc, network, snapshot) {
-        Ok(mut config) => explore_after(alloc, &mut config, script, run, out),
+        Ok(mut config) => explore_after(alloc, &mut config, script, run, progress, out),
         Err(fault) => refuse_start(fault, out),
     }
 }
@@ -124,6 +135,7 @@ fn explore_after<P: Application, W: Write>(
     config: &mut Config<P>,
     script: &[u8],
     run: Exploring,
+    progress: &Progress,
     out: &mut W,
 ) -> Result<Status, RunStop>
     ensures leaves { Leaves (IsExploration (meaning_of P.app P.text P.from_text P.names) run config.old script.now)
@@ -134,7 +146,7 @@ fn explore_after<P: Application, W: Write>(
         return refuse_input(out, b"bad script TooLong\n");
     }
     match leave_script(alloc, config, script) {
-        Ok(None) => explore_here(alloc, config, run, out),
+        Ok(None) => explore_here(alloc, config, run, progress, out),
         Ok(Some(number)) => refuse_line(number, out),
         Err(_) => Err(RunStop::NoMemory),
     }
@@ -145,12 +157,13 @@ fn explore_here<P: Application, W: Write>(
     alloc: Global,
     config: &Config<P>,
     run: Exploring,
+    progress: &Progress,
     out: &mut W,
 ) -> Result<Status, RunStop>
     ensures leaves { Leaves (IsFound P.app run config.now) (W.contents out.old) (W.contents out.new) result }
     ensures stop { IfErr result IsOutputStop }
 {
-    match explore(alloc, config, run.acts, run.most) {
+    match explore(alloc, config, run.acts, run.most, progress) {
         Ok(found) => answer_schedules(found, out),
         Err(ExploreFault::TooMany) => answer_too_many(run.most, out),
         Err(ExploreFault::NoMemory) => Err(RunStop::NoMemory),

@@ -26,6 +26,7 @@ use app_mutex::EdgeReversal;
 use app_routes::Routes;
 use app_token::Token;
 use history::{MAX_ENTRIES, one_reading_a_text, read_book};
+use progress::Progress;
 use reset_machine::{Config, Event, write_event};
 use schedules::{ExploreFault, Runs, Schedules, Witness, explore_witnessed};
 use script_replay::{
@@ -48,6 +49,7 @@ pub fn explore_history<R: Read, H: Write, W: Write>(
     snapshot: Option<&[u8]>,
     script: &mut R,
     run: Exploring,
+    progress: &Progress,
     history: &mut H,
     out: &mut W,
 ) -> Result<Status, RunStop>
@@ -59,7 +61,7 @@ pub fn explore_history<R: Read, H: Write, W: Write>(
 {
     match read_network(alloc, topology) {
         Ok(network) => match read_text(alloc, script) {
-            Ok(text) => show_app(alloc, network, snapshot, &text, run, history, out),
+            Ok(text) => show_app(alloc, network, snapshot, &text, run, progress, history, out),
             Err(stop) => Err(stop),
         },
         Err(fault) => refuse_topology(fault, out),
@@ -73,6 +75,7 @@ fn show_app<H: Write, W: Write>(
     snapshot: Option<&[u8]>,
     script: &[u8],
     run: Exploring,
+    progress: &Progress,
     history: &mut H,
     out: &mut W,
 ) -> Result<Status, RunStop>
@@ -84,16 +87,24 @@ fn show_app<H: Write, W: Write>(
 {
     match network.app {
         AppName::Idle => {
-            show_opened::<Idle, H, W>(alloc, network, snapshot, script, run, history, out)
+            show_opened::<Idle, H, W>(
+                alloc, network, snapshot, script, run, progress, history, out,
+            )
         }
         AppName::Token => {
-            show_opened::<Token, H, W>(alloc, network, snapshot, script, run, history, out)
+            show_opened::<Token, H, W>(
+                alloc, network, snapshot, script, run, progress, history, out,
+            )
         }
         AppName::Mutex => {
-            show_opened::<EdgeReversal, H, W>(alloc, network, snapshot, script, run, history, out)
+            show_opened::<EdgeReversal, H, W>(
+                alloc, network, snapshot, script, run, progress, history, out,
+            )
         }
         AppName::Routes => {
-            show_opened::<Routes, H, W>(alloc, network, snapshot, script, run, history, out)
+            show_opened::<Routes, H, W>(
+                alloc, network, snapshot, script, run, progress, history, out,
+            )
         }
     }
 }
@@ -104,6 +115,7 @@ fn show_opened<P: Application, H: Write, W: Write>(
     snapshot: Option<&[u8]>,
     script: &[u8],
     run: Exploring,
+    progress: &Progress,
     history: &mut H,
     out: &mut W,
 ) -> Result<Status, RunStop>
@@ -116,7 +128,7 @@ fn show_opened<P: Application, H: Write, W: Write>(
         (H.contents history.old) (H.contents history.new) (W.contents out.old) (W.contents out.new) result }
 {
     match open_network::<P>(alloc, network, snapshot) {
-        Ok(opening) => show_after(alloc, &opening, script, run, history, out),
+        Ok(opening) => show_after(alloc, &opening, script, run, progress, history, out),
         Err(fault) => refuse_start(fault, out),
     }
 }
@@ -127,6 +139,7 @@ fn show_after<P: Application, H: Write, W: Write>(
     opening: &Config<P>,
     script: &[u8],
     run: Exploring,
+    progress: &Progress,
     history: &mut H,
     out: &mut W,
 ) -> Result<Status, RunStop>
@@ -140,7 +153,7 @@ fn show_after<P: Application, H: Write, W: Write>(
     }
     let mut left = opening.copy(alloc)?;
     match leave_script(alloc, &mut left, script) {
-        Ok(None) => show_here(alloc, opening, &left, script, run, history, out),
+        Ok(None) => show_here(alloc, opening, &left, script, run, progress, history, out),
         Ok(Some(number)) => refuse_line(number, out),
         Err(_) => Err(RunStop::NoMemory),
     }
@@ -153,6 +166,7 @@ fn show_here<P: Application, H: Write, W: Write>(
     left: &Config<P>,
     script: &[u8],
     run: Exploring,
+    progress: &Progress,
     history: &mut H,
     out: &mut W,
 ) -> Result<Status, RunStop>
@@ -163,7 +177,7 @@ fn show_here<P: Application, H: Write, W: Write>(
         × (o.1 ≡ Status.BadInput → h ≡ []))
         (H.contents history.old) (H.contents history.new) (W.contents out.old) (W.contents out.new) result }
 {
-    let (found, witness) = match explore_witnessed(alloc, left, run.acts, run.most) {
+    let (found, witness) = match explore_witnessed(alloc, left, run.acts, run.most, progress) {
         Ok(answer) => answer,
         Err(ExploreFault::TooMany) => return answer_too_many(run.most, out),
         Err(ExploreFault::NoMemory) => return Err(RunStop::NoMemory),

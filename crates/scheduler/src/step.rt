@@ -13,7 +13,7 @@ use reset_machine::Event;
 use std::alloc::{AllocError, Global};
 
 /// Draws a fault in so many of a thousand cases, and else an event, and does it. What is refused changes nothing.
-/// Where memory is wanting the book stays as it was.
+/// If an allocation fails the book stays as it was.
 pub fn drawn_step<P: Application>(
     alloc: Global,
     book: &mut Book<P>,

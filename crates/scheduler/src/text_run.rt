@@ -7,19 +7,21 @@ ghost use Rattle.scheduler.specs.Told.{IsAfterSteps, IsTold, new_book};
 use crate::history_text::DrivenHistory;
 use crate::text_step::told_step;
 use app_interface::Application;
+use progress::Progress;
 use rand_core::SeedableRng;
 use rand_pcg::Lcg64Xsh32;
 use reset_machine::Config;
 use std::alloc::{AllocError, Global};
 
 /// The history of a run that [`drive`](crate::drive) takes from this configuration on in a book of 1,000,000 entries. Of
-/// the run the configuration is kept, and the history's text.
+/// the run the configuration is kept, and the history's text. How many of the steps are taken is told to `progress`.
 pub fn driven_history<P: Application>(
     alloc: Global,
     opening: Config<P>,
     steps: u32,
     seed: u32,
     faults: u32,
+    progress: &Progress,
 ) -> Result<DrivenHistory, AllocError>
     ensures { IfOk result
         (IsTold P.app P.from_text (driven P.app P.from_text steps seed faults (new_book opening))) }
@@ -28,7 +30,15 @@ pub fn driven_history<P: Application>(
     let mut told = DrivenHistory::new(alloc, opening.modulus().get())?;
     let mut config = opening;
     let mut random = Lcg64Xsh32::seed_from_u64(u64::from(seed));
-    take_steps(alloc, &mut config, &mut told, steps, faults, &mut random)?;
+    take_steps(
+        alloc,
+        &mut config,
+        &mut told,
+        steps,
+        faults,
+        &mut random,
+        progress,
+    )?;
     Ok(told)
 }
 
@@ -40,12 +50,14 @@ fn take_steps<P: Application>(
     steps: u32,
     faults: u32,
     random: &mut Lcg64Xsh32,
+    progress: &Progress,
 ) -> Result<(), AllocError>
     ensures { OnOk result (IsAfterSteps P.app P.from_text steps faults config.old told.old random.old
         config.new told.new random.new) }
 {
-    for _ in 0..steps {
+    for step in 0..steps {
         told_step(alloc, config, told, faults, random)?;
+        progress.set(step + 1, steps);
     }
     Ok(())
 }

@@ -1,2 +1,2 @@
 pub mod ExitStatus
-pub mod SecondsLine
+pub mod ProgressText

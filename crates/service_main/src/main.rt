@@ -11,7 +11,8 @@ mod history_file;
 mod kept_file;
 mod live;
 mod places;
-mod progress;
+mod progress_line;
+mod progress_text;
 mod run_threads;
 mod status;
 mod streams;
@@ -22,12 +23,13 @@ use crate::files::{open_file, read_file, read_snapshot};
 use crate::history_file::create_history;
 use crate::live::run_session;
 use crate::places::{history_fault, refuse_history};
-use crate::progress::{BelowLine, ProgressLine};
+use crate::progress_line::{BelowLine, ProgressLine, Work};
 use crate::run_threads::run_threads;
 use crate::status::exit_code;
 use crate::streams::Streams;
-use crate::verbose::{is_set, says_always, without_verbose};
+use crate::verbose::{is_set, says_always, without_flags};
 use action_tables::put_bytes;
+use progress::Progress;
 use reset_service::{
     BufferedOutput, CheckWords, Drive, DriveWords, ExploreWords, Exploring, Job, LineFault, Marks,
     PageWords, Paths, PlanWords, Question, RecordWords, ReplayWords, RunStop, ShapeWords, Status,
@@ -80,7 +82,7 @@ fn run<R: Clock + Env + Files + Input + Print + Eprint + AllocGlobal + Threads +
         let _ = eprint!(rt; "{NOT_TEXT}");
         return Ok(Status::BadInput);
     };
-    let given = without_verbose(rt.alloc(), words)?;
+    let given = without_flags(rt.alloc(), words)?;
     let is_verbose = given.is_verbose || is_set(rt)?;
     let mut words = given.words;
     // Nobody types a topology and a script in one piece.
@@ -92,7 +94,7 @@ fn run<R: Clock + Env + Files + Input + Print + Eprint + AllocGlobal + Threads +
     }
     match read_words(rt.alloc(), words.as_slice()) {
         Ok(job) => {
-            let ended = do_job(rt, streams, job);
+            let ended = do_job(rt, streams, job, given.has_progress);
             if is_verbose || says_always(job) {
                 return say_why(rt, streams, job, ended, said);
             }
@@ -135,17 +137,27 @@ fn do_job<R: Clock + Files + Input + Print + Eprint + AllocGlobal + Threads + Wa
     rt: &R,
     streams: Streams,
     job: Job<'_>,
+    has_progress: bool,
 ) -> Result<Status, RunStop> {
-    let line = ProgressLine::new(streams.errors);
-    let writer = BelowLine::new(rt, line.as_ref(), io::writer(rt));
+    let progress = Progress::new();
+    let line = ProgressLine::new(streams.errors, has_progress);
+    let above = line.as_ref().filter(|line| line.is_on_terminal);
+    let writer = BelowLine::new(rt, above, io::writer(rt));
     let mut out = BufferedOutput::new(rt.alloc(), writer)?;
     let ended = match (long_name(&job), &line) {
-        (Some(name), Some(line)) => line.during(
-            rt,
-            name,
-            || job_output(rt, streams, job, &mut out),
-        ),
-        _ => job_output(rt, streams, job, &mut out),
+        (Some(name), Some(line)) => {
+            let work = Work {
+                name,
+                progress: &progress,
+                is_measured: matches!(job, Job::Drive(_)),
+            };
+            line.during(
+                rt,
+                work,
+                || job_output(rt, streams, job, &progress, &mut out),
+            )
+        }
+        _ => job_output(rt, streams, job, &progress, &mut out),
     };
     out.end(ended)
 }
@@ -166,6 +178,7 @@ fn job_output<R: Files + Input + Eprint + AllocGlobal + Threads + Wait + Sync, W
     rt: &R,
     streams: Streams,
     job: Job<'_>,
+    progress: &Progress,
     out: &mut W,
 ) -> Result<Status, RunStop> {
     match job {
@@ -173,14 +186,14 @@ fn job_output<R: Files + Input + Eprint + AllocGlobal + Threads + Wait + Sync, W
         Job::Replay(words) => run_replay(rt, words, out),
         Job::Check(words) => run_check(rt, words, out),
         Job::Plan(words) => run_plan(rt, words, out),
-        Job::Explore(words) => run_explore(rt, words, out),
+        Job::Explore(words) => run_explore(rt, words, progress, out),
         Job::Session(words) => run_session(rt, streams, words, out),
         Job::Verify(words) => run_verify(rt, words, out),
         Job::Picture(paths) => run_picture(rt, paths, out),
         Job::Page(words) => run_page(rt, words, out),
         Job::Record(words) => run_record(rt, words, out),
         Job::Threads(words) => run_threads(rt, words, out),
-        Job::Drive(words) => run_drive(rt, words, out),
+        Job::Drive(words) => run_drive(rt, words, progress, out),
         Job::Shape(words) => put_shape(rt, words, out),
         Job::Explain(Some(word)) => explain(word, out),
         Job::Explain(None) => explain_topics(out),
@@ -268,6 +281,7 @@ fn put_plan<R: AllocGlobal, S: Read, W: Write>(
 fn run_explore<R: Files + Eprint + AllocGlobal, W: Write>(
     rt: &R,
     words: ExploreWords<'_>,
+    progress: &Progress,
     out: &mut W,
 ) -> Result<Status, RunStop> {
     if let Some(path) = words.history {
@@ -286,9 +300,18 @@ fn run_explore<R: Files + Eprint + AllocGlobal, W: Write>(
             &topology,
             snapshot,
             &mut open_file(rt, path)?,
+            progress,
             out,
         ),
-        None => put_explored(rt, words, &topology, snapshot, &mut b"".as_slice(), out),
+        None => put_explored(
+            rt,
+            words,
+            &topology,
+            snapshot,
+            &mut b"".as_slice(),
+            progress,
+            out,
+        ),
     }
 }
 
@@ -298,6 +321,7 @@ fn put_explored<R: Files + Eprint + AllocGlobal, S: Read, W: Write>(
     topology: &[u8],
     snapshot: Option<&[u8]>,
     script: &mut S,
+    progress: &Progress,
     out: &mut W,
 ) -> Result<Status, RunStop> {
     let run = Exploring {
@@ -305,11 +329,20 @@ fn put_explored<R: Files + Eprint + AllocGlobal, S: Read, W: Write>(
         most: words.most,
     };
     let Some(path) = words.history else {
-        return explore_text(rt.alloc(), topology, snapshot, script, run, out);
+        return explore_text(rt.alloc(), topology, snapshot, script, run, progress, out);
     };
     let mut kept = create_history(rt, path)?;
     let history = &mut kept.file;
-    let ended = explore_history(rt.alloc(), topology, snapshot, script, run, history, out);
+    let ended = explore_history(
+        rt.alloc(),
+        topology,
+        snapshot,
+        script,
+        run,
+        progress,
+        history,
+        out,
+    );
     kept.end(rt, out, ended)
 }
 
@@ -389,6 +422,7 @@ fn run_record<R: Files + Eprint + AllocGlobal, W: Write>(
 fn run_drive<R: Files + Eprint + AllocGlobal, W: Write>(
     rt: &R,
     words: DriveWords<'_>,
+    progress: &Progress,
     out: &mut W,
 ) -> Result<Status, RunStop> {
     if let Some(fault) = history_fault(rt, words.history, &[Some(words.topology), words.from]) {
@@ -404,8 +438,16 @@ fn run_drive<R: Files + Eprint + AllocGlobal, W: Write>(
         faults: words.faults,
     };
     let ended = match snapshot {
-        None => drive_text(rt.alloc(), &topology, run, history, out),
-        Some(snapshot) => drive_from(rt.alloc(), &topology, &snapshot, run, history, out),
+        None => drive_text(rt.alloc(), &topology, run, progress, history, out),
+        Some(snapshot) => drive_from(
+            rt.alloc(),
+            &topology,
+            &snapshot,
+            run,
+            progress,
+            history,
+            out,
+        ),
     };
     kept.end(rt, out, ended)
 }

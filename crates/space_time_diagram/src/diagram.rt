@@ -28,7 +28,7 @@ use std::io::Write;
 pub enum DiagramStop {
     /// The writer failed.
     WriteFailed,
-    /// Memory is wanting.
+    /// An allocation failed.
     NoMemory,
 }
 

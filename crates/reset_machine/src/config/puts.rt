@@ -69,7 +69,7 @@ impl<P: Application> Config<P> {
     /// Puts a topology of the same identifiers, whatever its links and whichever of them are up. A node that comes
     /// up starts anew: it is its own root, normal in session 0, and has its start state. The modulus and the others'
     /// registers and local states stay, and an open or a join puts from now on the start state of this topology.
-    /// Where memory is wanting the topology comes back.
+    /// If an allocation fails the topology comes back.
     pub fn put_topology(
         &mut self,
         alloc: Global,

@@ -1,7 +1,6 @@
 use Rattle.std.proofs.Common.{rules}
 use Rattle.std.proofs.lemmas.Fn.{always_returns_same}
-use Rattle.app_invariants.proofs.EntryTexts.{some_entry}
-use Rattle.app_invariants.proofs.Nearer.{found_nearer, none_nearer}
+use Rattle.app_invariants.proofs.Nearer.{found_nearer, none_nearer, some_entry}
 use Rattle.app_invariants.proofs.routes.has_nearer.Goals as goal
 
 pub returns-in-Ok : goal.returns-in-Ok

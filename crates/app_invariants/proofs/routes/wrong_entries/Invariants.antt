@@ -7,7 +7,7 @@ use Rattle.app_invariants.proofs.routes.wrong_entries.Given as goal
 
 abbrev pub invariant-loop-index : goal.invariant-loop-index
 invariant-loop-index l = record {
-  so_far : (v : ℕ → List Entry) → AreStates l.topology v (map (λ es. es.items) l.entries)
+  so_far : (v : ℕ → List Entry) → AreStates l.topology v l.states
       → l.count ≡ sum_by (wrong_at l.topology v) (map (λ k. get_or l.topology.ids k 0) (take l.index-index l.members));
   small : l.count ≤ l.index-index * 65535;
 }

@@ -8,7 +8,7 @@ use Rattle.app_invariants.proofs.tokens.flights_to.Given as goal
 abbrev pub invariant-loop-near : goal.invariant-loop-near
 invariant-loop-near l = record {
   so_far : (v : ℕ → TokenLocal) → AreStates l.topology v l.states
-      → l.count ≡ count_by (λ a. is_in_flight a (get_or l.topology.ids l.index 0) (v a) l.free)
+      → l.count ≡ count_by (λ a. is_in_flight a (get_or l.topology.ids l.index 0) (v a) (v (get_or l.topology.ids l.index 0)))
       (map (λ k. get_or l.topology.ids k 0) (take l.near-index l.near-items));
   few : l.count ≤ l.near-index;
 }

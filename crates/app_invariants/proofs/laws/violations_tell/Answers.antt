@@ -1,0 +1,11 @@
+use Rattle.app_invariants.proofs.Telling.{violation_tells}
+use Rattle.app_invariants.proofs.laws.violations_tell.Goals as goal
+
+-- an application's laws hold in each thread to which it may be sent: they are taken in this one
+pub returns : goal.returns
+returns g c =
+    let laws = g.met.P.Application g.world.𝓛 g.world.𝓜 g.world.𝓡 ((λ s x. x), (λ x. x), (λ x. x), λ x. x) in
+    let own = g.met.P.Invariant g.world.𝓛 g.world.𝓜 g.world.𝓡 ((λ s x. x), (λ x. x), (λ x. x), λ x. x) in
+    violation_tells g.P.Application.app g.P.Application.Inv
+    (record { words = g.P.Invariant.counted; right = g.P.Invariant.right; number = g.P.Invariant.number })
+    laws.keeps own.decides
