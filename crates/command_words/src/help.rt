@@ -29,7 +29,10 @@ Exit status:
   4  out of memory
 
 With --verbose among the words, or RESET_VERBOSE=1 in the environment, standard error says of a
-file that is bad where it is, and why.";
+file that is bad where it is, and why.
+
+With --progress among the words, standard error says each second how far a long run has come. On a
+terminal it says so in any case.";
 
 pub const TOPOLOGY_HELP: &str =
     "A file in TOML that names the nodes, the links between them, and the application";

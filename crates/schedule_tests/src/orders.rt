@@ -2,6 +2,7 @@
 
 use app_interface::{Application, Idle};
 use app_mutex::EdgeReversal;
+use progress::Progress;
 use reset_machine::{Config, Event};
 use schedules::{ExploreFault, Runs, Schedules, Totals, explore};
 use std::alloc::Global;
@@ -18,7 +19,7 @@ fn is_explored<P: Application, R: Abort>(
     acts: bool,
     expected: Schedules,
 ) {
-    let found = explore(alloc, config, acts, 1000).expect(rt, "an exploration");
+    let found = explore(alloc, config, acts, 1000, &Progress::new()).expect(rt, "an exploration");
     assert!(rt; found == expected);
 }
 
@@ -71,11 +72,13 @@ fn one_more_than_the_limit_is_too_many(rt: HostRuntime) {
         runs: ending(7, 1),
     };
     is_explored(&rt, rt.alloc(), &config, false, expected);
-    assert!(rt; explore(rt.alloc(), &config, false, 8).is_ok());
-    match explore(rt.alloc(), &config, false, 7) {
+    let progress = Progress::new();
+    assert!(rt; explore(rt.alloc(), &config, false, 8, &progress).is_ok());
+    match explore(rt.alloc(), &config, false, 7, &progress) {
         Ok(_) => assert!(rt; false),
         Err(fault) => assert!(rt; matches!(fault, ExploreFault::TooMany)),
     }
+    assert!(rt; (progress.done(), progress.known()) == (6, 7));
     drop(config);
 }
 
