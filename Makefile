@@ -6,9 +6,9 @@
 # Replays one whole reset on the line of nodes 1, 2, 3: by the proved program where `make build` has left it, else
 # by the program before its proof, within one to two and a half minutes.
 run:
-	@tools/run replay examples/one-wave/topology.toml examples/one-wave/script
+	@tools/run replay examples/first/one-wave/topology.toml examples/first/one-wave/script
 
-# Runs any subcommand before the proof: make try ARGS="check examples/one-wave/topology.toml". The files that it names
+# Runs any subcommand before the proof: make try ARGS="check examples/first/one-wave/topology.toml". The files that it names
 # are copied; what it writes to files is lost.
 try:
 	@tools/run --unproved $(ARGS)

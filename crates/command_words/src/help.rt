@@ -17,7 +17,7 @@ that is `---`, and a script. `reset-service replay --help` describes these.";
 
 pub const AFTER_HELP: &str = "\
 Examples:
-  reset-service replay examples/one-wave/topology.toml examples/one-wave/script
+  reset-service replay examples/first/one-wave/topology.toml examples/first/one-wave/script
   { cat topology.toml; echo ---; cat script; } | reset-service
 
 Exit status:
@@ -86,7 +86,7 @@ letters, a zero before a number or a comment behind the command makes the line b
 `cat -A SCRIPT` shows what the eye misses.
 
 Example:
-  reset-service replay examples/one-wave/topology.toml examples/one-wave/script",
+  reset-service replay examples/first/one-wave/topology.toml examples/first/one-wave/script",
 };
 
 pub const CHECK_HELP: Help = Help {
@@ -110,8 +110,8 @@ number isn't 1), `in without its turn` (nodes) or `routes without a way` (entrie
 status is 1 where one fails.",
     after_help: "\
 Examples:
-  reset-service check examples/sound-network/topology.toml examples/sound-network/script
-  reset-service check --repair examples/planned-repair/topology.toml examples/planned-repair/damage",
+  reset-service check examples/reset/sound-network/topology.toml examples/reset/sound-network/script
+  reset-service check --repair examples/repair/planned-repair/topology.toml examples/repair/planned-repair/damage",
 };
 
 pub const PLAN_HELP: Help = Help {
@@ -129,9 +129,9 @@ there are at most 5 steps for each node. A bad line of the script is answered as
 exit status is 2.",
     after_help: "\
 Example:
-  reset-service plan examples/planned-repair/topology.toml examples/planned-repair/damage > plan
-  cat examples/planned-repair/damage plan > script
-  reset-service replay examples/planned-repair/topology.toml script",
+  reset-service plan examples/repair/planned-repair/topology.toml examples/repair/planned-repair/damage > plan
+  cat examples/repair/planned-repair/damage plan > script
+  reset-service replay examples/repair/planned-repair/topology.toml script",
 };
 
 pub const EXPLORE_HELP: Help = Help {
@@ -158,8 +158,8 @@ that stops, or that leaves no history, leaves FILE as it was.",
 The exit status is 0 where every order ends and every end is whole, and else 1.
 
 Example:
-  reset-service explore examples/every-order/topology.toml examples/every-order/script --history history
-  reset-service verify examples/every-order/topology.toml history",
+  reset-service explore examples/reset/every-order/topology.toml examples/reset/every-order/script --history history
+  reset-service verify examples/reset/every-order/topology.toml history",
 };
 
 pub const EXPLORE_SCRIPT_HELP: &str =
@@ -186,8 +186,8 @@ FILE isn't empty, it is verified first, and the session goes on after its last e
 `picture` accept FILE.",
     after_help: "\
 Example:
-  reset-service session examples/one-wave/topology.toml --history history < examples/one-wave/script
-  reset-service verify examples/one-wave/topology.toml history",
+  reset-service session examples/first/one-wave/topology.toml --history history < examples/first/one-wave/script
+  reset-service verify examples/first/one-wave/topology.toml history",
 };
 
 pub const SESSION_HISTORY_HELP: &str =
@@ -204,7 +204,7 @@ Writes a page that plays a history forward and back, in HTML, on standard output
 The page is one file that needs no other: a browser shows it without a network.",
     after_help: "\
 Example:
-  reset-service page examples/verified-wave/topology.toml examples/verified-wave/history > page.html",
+  reset-service page examples/history/verified-wave/topology.toml examples/history/verified-wave/history > page.html",
 };
 
 pub const TITLE_HELP: &str = "The title of the page";
@@ -264,7 +264,7 @@ number of its case; `reset-service replay --help` lists the commands. There are 
 empty lines, no questions and no draws, and each line, the last one too, ends with a line feed.
 
 Example:
-  reset-service verify examples/verified-wave/topology.toml examples/verified-wave/history",
+  reset-service verify examples/history/verified-wave/topology.toml examples/history/verified-wave/history",
 };
 
 pub const RECORD_HELP: Help = Help {
@@ -281,8 +281,8 @@ The history is written to FILE.part, which takes the place of FILE at the end: a
 that leaves no history, leaves FILE as it was.",
     after_help: "\
 Example:
-  reset-service record examples/one-wave/topology.toml examples/one-wave/script --history history
-  reset-service verify examples/one-wave/topology.toml history",
+  reset-service record examples/first/one-wave/topology.toml examples/first/one-wave/script --history history
+  reset-service verify examples/first/one-wave/topology.toml history",
 };
 
 pub const THREADS_HELP: Help = Help {
@@ -307,9 +307,9 @@ A topology of over 64 nodes is answered by `bad topology TooManyForThreads`, and
 is 2.",
     after_help: "\
 Example:
-  reset-service threads examples/one-wave/topology.toml --turns 100 --history history
-  reset-service threads examples/one-wave/topology.toml --until quiet --resets 3 --history history
-  reset-service verify examples/one-wave/topology.toml history",
+  reset-service threads examples/first/one-wave/topology.toml --turns 100 --history history
+  reset-service threads examples/first/one-wave/topology.toml --until quiet --resets 3 --history history
+  reset-service verify examples/first/one-wave/topology.toml history",
 };
 
 pub const FEW_NODES_HELP: &str =
@@ -358,8 +358,8 @@ was. Then one line is printed, `drove E entries R reports`: the entries of the h
 that were completed.",
     after_help: "\
 Example:
-  reset-service drive examples/one-wave/topology.toml --steps 1000 --seed 7 --history history
-  reset-service verify examples/one-wave/topology.toml history",
+  reset-service drive examples/first/one-wave/topology.toml --steps 1000 --seed 7 --history history
+  reset-service verify examples/first/one-wave/topology.toml history",
 };
 
 pub const STEPS_HELP: &str = "How many steps it takes, from 1 to 1000000";
@@ -383,7 +383,7 @@ most 64 nodes and 2,000 entries are drawn. What can't be drawn is answered in pl
 exit status tells.",
     after_help: "\
 Example:
-  reset-service picture examples/verified-wave/topology.toml examples/verified-wave/history > wave.svg",
+  reset-service picture examples/history/verified-wave/topology.toml examples/history/verified-wave/history > wave.svg",
 };
 
 pub const SHAPE_HELP: Help = Help {
