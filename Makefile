@@ -27,7 +27,7 @@ install: build
 
 # Runs the examples alone on the built program, in seconds.
 examples: build
-	@tests/examples build/reset-service
+	@tests/cli/examples.sh build/reset-service
 
 # Everything that decides: the gate `rt ci`, and then the examples and the words on the program that
 # it has built.
@@ -36,11 +36,11 @@ test:
 
 # Opens pages in Chromium (the Debian package `chromium`) and compares what they show with what the program prints.
 test-page: build
-	@tests/page-browser build/reset-service
+	@tests/cli/page-browser.py build/reset-service
 
 # Writes the pictures and pages of docs/ anew: those that the guide's commands leave, and those of one reset.
 docs: build
-	@tests/guide build/reset-service --write
+	@tests/docs/guide.py build/reset-service --write
 
 # Tries the wrong bodies that the gate leaves out, of one crate or of all: make mutants CRATE=topology
 mutants:
@@ -67,8 +67,8 @@ bench: build
 
 # Compares the program with a second one, written in Python, on random texts: make fuzz N=100000 SEED=s JOBS=2
 fuzz: build
-	@tests/fuzz build/reset-service $(or $(N),100000) $(or $(SEED),reset) $(JOBS)
+	@tests/hostile/fuzz.py build/reset-service $(or $(N),100000) $(or $(SEED),reset) $(JOBS)
 
 # Runs 64 node threads for long, three times, and verifies what they keep: make soak TURNS=5000
 soak: build
-	@tests/soak build/reset-service $(TURNS)
+	@tests/hostile/soak.py build/reset-service $(TURNS)

@@ -1,5 +1,5 @@
 //! Tests of the reset machine by its public calls: its configurations and pictures, and the lines of
-//! its events. Its runs are tested from outside, by `tests/runs`.
+//! its events. Its runs are tested from outside, by `tests/cli/runs.py`.
 #![tactic(auto)]
 
 #[cfg(test)]

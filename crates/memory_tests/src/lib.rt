@@ -1,5 +1,5 @@
 //! Tests of calls to which memory is refused once: what a call was given is then as before, and the call again
-//! answers as it should. `tests/refused-calls` refuses each request of each test in turn; with ample memory
+//! answers as it should. `tests/hostile/refused-calls.py` refuses each request of each test in turn; with ample memory
 //! none is refused. Those of the module `none` call what asks for no memory.
 #![tactic(auto)]
 

@@ -1,4 +1,4 @@
-// Calls that ask for no memory: `tests/refused-calls` refuses every request from the one on that a test makes by `spend`,
+// Calls that ask for no memory: `tests/hostile/refused-calls.py` refuses every request from the one on that a test makes by `spend`,
 // and counts those that come after it. There are none, and each answer is that which ample memory would give.
 
 use crate::assert_equal;
@@ -17,7 +17,7 @@ use std::alloc::Global;
 use std::process::Abort;
 use test_networks::WHOLE_RESET;
 
-// A request for so many bytes is the last one: `tests/refused-calls` has the same number.
+// A request for so many bytes is the last one: `tests/hostile/refused-calls.py` has the same number.
 const LAST_REQUEST: usize = 7_654_321;
 
 // Makes the last request.

@@ -1,4 +1,4 @@
-// Small networks, whose counts the model of tests/explored finds too.
+// Small networks, whose counts the model of tests/cli/explored.py finds too.
 
 use app_interface::{Application, Idle};
 use app_mutex::EdgeReversal;
