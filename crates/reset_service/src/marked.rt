@@ -15,6 +15,7 @@ use app_interface::{Application, Idle};
 use app_mutex::EdgeReversal;
 use app_routes::Routes;
 use app_token::Token;
+use progress::Tally;
 use script_replay::{
     Marks, Network, RunStop, Status, read_network, read_text, refuse_topology, run_marked,
 };
@@ -23,13 +24,15 @@ use std::io::{Read, Write};
 use topology::{AppName, ReadFault};
 
 /// Replays the script of a reader as `replay` or, where a snapshot is given, `replay_from` does, with marks: the number of its
-/// line before each answer, or an end at the first refusal, which is `Status::NotEnabled`.
+/// line before each answer, or an end at the first refusal, which is `Status::NotEnabled`. The commands that are answered are
+/// counted by `tally`, with those that are refused.
 pub fn replay_marked<R: Read, W: Write>(
     alloc: Global,
     topology: &[u8],
     snapshot: Option<&[u8]>,
     script: &mut R,
     marks: Marks,
+    tally: &Tally,
     out: &mut W,
 ) -> Result<Status, RunStop>
     ensures leaves { (text : List ℕ) × IsReadFrom (R.remaining script.old) text
@@ -40,7 +43,7 @@ pub fn replay_marked<R: Read, W: Write>(
 {
     match read_network(alloc, topology) {
         Ok(network) => match read_text(alloc, script) {
-            Ok(text) => replay_app(alloc, network, snapshot, &text, marks, out),
+            Ok(text) => replay_app(alloc, network, snapshot, &text, marks, tally, out),
             Err(stop) => Err(stop),
         },
         Err(fault) => refuse_topology(fault, out),
@@ -54,6 +57,7 @@ fn replay_app<W: Write>(
     snapshot: Option<&[u8]>,
     script: &[u8],
     marks: Marks,
+    tally: &Tally,
     out: &mut W,
 ) -> Result<Status, RunStop>
     requires { network.topology.nodes ≡ network.topology.ids }
@@ -64,12 +68,18 @@ fn replay_app<W: Write>(
     ensures stop { IfErr result IsOutputStop }
 {
     match network.app {
-        AppName::Idle => replay_opened::<Idle, W>(alloc, network, snapshot, script, marks, out),
-        AppName::Token => replay_opened::<Token, W>(alloc, network, snapshot, script, marks, out),
+        AppName::Idle => replay_opened::<Idle, W>(
+            alloc, network, snapshot, script, marks, tally, out,
+        ),
+        AppName::Token => replay_opened::<Token, W>(
+            alloc, network, snapshot, script, marks, tally, out,
+        ),
         AppName::Mutex => {
-            replay_opened::<EdgeReversal, W>(alloc, network, snapshot, script, marks, out)
+            replay_opened::<EdgeReversal, W>(alloc, network, snapshot, script, marks, tally, out)
         }
-        AppName::Routes => replay_opened::<Routes, W>(alloc, network, snapshot, script, marks, out),
+        AppName::Routes => replay_opened::<Routes, W>(
+            alloc, network, snapshot, script, marks, tally, out,
+        ),
     }
 }
 
@@ -79,6 +89,7 @@ fn replay_opened<P: Application, W: Write>(
     snapshot: Option<&[u8]>,
     script: &[u8],
     marks: Marks,
+    tally: &Tally,
     out: &mut W,
 ) -> Result<Status, RunStop>
     requires { network.topology.nodes ≡ network.topology.ids }
@@ -90,7 +101,7 @@ fn replay_opened<P: Application, W: Write>(
     ensures stop { IfErr result IsOutputStop }
 {
     match open_network::<P>(alloc, network, snapshot) {
-        Ok(mut config) => run_marked(alloc, &mut config, script, marks, out),
+        Ok(mut config) => run_marked(alloc, &mut config, script, marks, tally, out),
         Err(fault) => refuse_start(fault, out),
     }
 }

@@ -10,9 +10,11 @@ ghost use Rattle.script_replay.specs.Stops.{IsOutputStop};
 
 use crate::input::split_line;
 use crate::replays::{answer_line, refuse_script};
+use crate::script::is_silent;
 use crate::status::{RunStop, Status};
 use action_tables::{Part, WriteFault, put_bytes, put_parts};
 use app_interface::Application;
+use progress::Tally;
 use reset_machine::Config;
 use std::alloc::{AllocError, Global};
 use std::io::Write;
@@ -27,12 +29,14 @@ pub struct Marks {
     pub strict: bool,
 }
 
-/// Replays a script from this configuration on, with marks. A strict run that a refusal ends is `Status::NotEnabled`.
+/// Replays a script from this configuration on, with marks. A strict run that a refusal ends is `Status::NotEnabled`. The
+/// commands that are answered are counted by `tally`, with those that are refused.
 pub fn run_marked<P: Application, W: Write>(
     alloc: Global,
     config: &mut Config<P>,
     script: &[u8],
     marks: Marks,
+    tally: &Tally,
     out: &mut W,
 ) -> Result<Status, RunStop>
     ensures leaves { Leaves
@@ -43,7 +47,7 @@ pub fn run_marked<P: Application, W: Write>(
     if script.len() > MAX_TEXT {
         return refuse_script(out);
     }
-    answer_marked_lines(alloc, config, script, marks, out)
+    answer_marked_lines(alloc, config, script, marks, tally, out)
 }
 
 // Answers the lines of a script in order, up to the first answer that isn't good.
@@ -52,6 +56,7 @@ fn answer_marked_lines<P: Application, W: Write>(
     config: &mut Config<P>,
     script: &[u8],
     marks: Marks,
+    tally: &Tally,
     out: &mut W,
 ) -> Result<Status, RunStop>
     requires { length script.now ≤ MAX_TEXT }
@@ -62,7 +67,7 @@ fn answer_marked_lines<P: Application, W: Write>(
     let mut rest = script;
     let mut number = 1;
     while let Some((line, after)) = split_line(rest) {
-        match answer_marked(alloc, config, number, line, marks, out) {
+        match answer_marked(alloc, config, number, line, marks, tally, out) {
             Ok(Status::Good) => {}
             Ok(ended) => return Ok(ended),
             Err(stop) => return Err(stop),
@@ -70,7 +75,7 @@ fn answer_marked_lines<P: Application, W: Write>(
         rest = after;
         number += 1;
     }
-    answer_marked(alloc, config, number, rest, marks, out)
+    answer_marked(alloc, config, number, rest, marks, tally, out)
 }
 
 // Answers the line with this number and text, with marks.
@@ -80,6 +85,7 @@ fn answer_marked<P: Application, W: Write>(
     number: u64,
     line: &[u8],
     marks: Marks,
+    tally: &Tally,
     out: &mut W,
 ) -> Result<Status, RunStop>
     ensures ok { IfOk result
@@ -93,10 +99,23 @@ fn answer_marked<P: Application, W: Write>(
     let mut text = Vec::new(alloc);
     let status = gather_answer(alloc, config, number, line, &mut text)?;
     put_marked(number, &text, marks, out)?;
-    if marks.strict && is_refused(&text) {
+    let is_refusal = is_refused(&text);
+    if status == Status::Good && !is_silent(line) {
+        count_command(tally, number, is_refusal);
+    }
+    if marks.strict && is_refusal {
         return Ok(Status::NotEnabled);
     }
     Ok(status)
+}
+
+// Counts the command in the line of this number.
+fn count_command(tally: &Tally, number: u64, is_refused: bool) {
+    if is_refused {
+        tally.add_refused(number);
+    } else {
+        tally.add();
+    }
 }
 
 // Adds the answer to a line to a text in memory.

@@ -87,7 +87,8 @@ pub fn read_line<P: Application>(alloc: Global, line: &[u8]) -> Result<Line, All
     }
 }
 
-fn is_silent(line: &[u8]) -> bool
+/// Whether a line is empty or a comment.
+pub(crate) fn is_silent(line: &[u8]) -> bool
     ensures { result ≡ is_silent line.now }
 {
     matches!(line, [] | [b'#', ..])

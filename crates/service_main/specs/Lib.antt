@@ -1,2 +1,3 @@
 pub mod ExitStatus
 pub mod ProgressText
+pub mod Counts

@@ -6,6 +6,7 @@
 #![tactic(auto)]
 
 mod bad_files;
+mod counts;
 mod files;
 mod history_file;
 mod kept_file;
@@ -19,6 +20,7 @@ mod streams;
 mod verbose;
 
 use crate::bad_files::say_why;
+use crate::counts::{Observed, say_counts};
 use crate::files::{open_file, read_file, read_snapshot};
 use crate::history_file::create_history;
 use crate::live::run_session;
@@ -29,7 +31,7 @@ use crate::status::exit_code;
 use crate::streams::Streams;
 use crate::verbose::{is_set, says_always, without_flags};
 use action_tables::put_bytes;
-use progress::Progress;
+use progress::{Progress, Tally};
 use reset_service::{
     BufferedOutput, CheckWords, Drive, DriveWords, ExploreWords, Exploring, Job, LineFault, Marks,
     PageWords, Paths, PlanWords, Question, RecordWords, ReplayWords, RunStop, ShapeWords, Status,
@@ -94,7 +96,11 @@ fn run<R: Clock + Env + Files + Input + Print + Eprint + AllocGlobal + Threads +
     }
     match read_words(rt.alloc(), words.as_slice()) {
         Ok(job) => {
-            let ended = do_job(rt, streams, job, given.has_progress);
+            let observed = Observed::new();
+            let ended = do_job(rt, streams, job, given.has_progress, &observed);
+            if streams.errors.is_terminal() {
+                let _ = say_counts(job, &observed.tally, said);
+            }
             if is_verbose || says_always(job) {
                 return say_why(rt, streams, job, ended, said);
             }
@@ -138,8 +144,8 @@ fn do_job<R: Clock + Files + Input + Print + Eprint + AllocGlobal + Threads + Wa
     streams: Streams,
     job: Job<'_>,
     has_progress: bool,
+    observed: &Observed,
 ) -> Result<Status, RunStop> {
-    let progress = Progress::new();
     let line = ProgressLine::new(streams.errors, has_progress);
     let above = line.as_ref().filter(|line| line.is_on_terminal);
     let writer = BelowLine::new(rt, above, io::writer(rt));
@@ -148,16 +154,16 @@ fn do_job<R: Clock + Files + Input + Print + Eprint + AllocGlobal + Threads + Wa
         (Some(name), Some(line)) => {
             let work = Work {
                 name,
-                progress: &progress,
+                progress: &observed.progress,
                 is_measured: matches!(job, Job::Drive(_)),
             };
             line.during(
                 rt,
                 work,
-                || job_output(rt, streams, job, &progress, &mut out),
+                || job_output(rt, streams, job, observed, &mut out),
             )
         }
-        _ => job_output(rt, streams, job, &progress, &mut out),
+        _ => job_output(rt, streams, job, observed, &mut out),
     };
     out.end(ended)
 }
@@ -178,22 +184,22 @@ fn job_output<R: Files + Input + Eprint + AllocGlobal + Threads + Wait + Sync, W
     rt: &R,
     streams: Streams,
     job: Job<'_>,
-    progress: &Progress,
+    observed: &Observed,
     out: &mut W,
 ) -> Result<Status, RunStop> {
     match job {
         Job::Joined => replay_joined(rt.alloc(), &mut rt.reader(), out),
-        Job::Replay(words) => run_replay(rt, words, out),
+        Job::Replay(words) => run_replay(rt, streams, words, &observed.tally, out),
         Job::Check(words) => run_check(rt, words, out),
         Job::Plan(words) => run_plan(rt, words, out),
-        Job::Explore(words) => run_explore(rt, words, progress, out),
+        Job::Explore(words) => run_explore(rt, words, &observed.progress, out),
         Job::Session(words) => run_session(rt, streams, words, out),
         Job::Verify(words) => run_verify(rt, words, out),
         Job::Picture(paths) => run_picture(rt, paths, out),
         Job::Page(words) => run_page(rt, words, out),
         Job::Record(words) => run_record(rt, words, out),
         Job::Threads(words) => run_threads(rt, words, out),
-        Job::Drive(words) => run_drive(rt, words, progress, out),
+        Job::Drive(words) => run_drive(rt, words, &observed.progress, out),
         Job::Shape(words) => put_shape(rt, words, out),
         Job::Explain(Some(word)) => explain(word, out),
         Job::Explain(None) => explain_topics(out),
@@ -201,21 +207,32 @@ fn job_output<R: Files + Input + Eprint + AllocGlobal + Threads + Wait + Sync, W
     }
 }
 
+// Where standard error is a terminal, the commands are counted for a line at the end.
 fn run_replay<R: Files + AllocGlobal, W: Write>(
     rt: &R,
+    streams: Streams,
     words: ReplayWords<'_>,
+    tally: &Tally,
     out: &mut W,
 ) -> Result<Status, RunStop> {
     let topology = read_file(rt, words.topology)?;
     let snapshot = read_snapshot(rt, words.from)?;
     let mut script = open_file(rt, words.script)?;
-    if words.number || words.strict {
+    if words.number || words.strict || streams.errors.is_terminal() {
         let marks = Marks {
             number: words.number,
             strict: words.strict,
         };
         let snapshot = snapshot.as_deref();
-        return replay_marked(rt.alloc(), &topology, snapshot, &mut script, marks, out);
+        return replay_marked(
+            rt.alloc(),
+            &topology,
+            snapshot,
+            &mut script,
+            marks,
+            tally,
+            out,
+        );
     }
     match snapshot {
         None => replay(rt.alloc(), &topology, &mut script, out),

@@ -1,0 +1,82 @@
+// What is said of the commands of a replay at its end.
+
+ghost use Rattle.std.specs.Prelude.{OnErr, OnOk};
+ghost use Rattle.std.specs.Io.KnownBytes.{Appends};
+ghost use Rattle.action_tables.specs.Written.{AppendsPrefix};
+ghost use Rattle.service_main.specs.Counts.{refused_text};
+
+use action_tables::{Part, WriteFault, put_bytes, put_parts};
+use progress::{Progress, Tally};
+use reset_service::Job;
+use std::io::Write;
+
+/// What a run says of itself while it goes on.
+#[derive(Drop)]
+pub struct Observed {
+    /// How far it has come.
+    pub progress: Progress,
+    /// How the commands of a script were answered.
+    pub tally: Tally,
+}
+
+impl Observed {
+    /// A run that hasn't begun.
+    pub fn new() -> Observed {
+        Observed {
+            progress: Progress::new(),
+            tally: Tally::new(),
+        }
+    }
+}
+
+/// Says of a replay how many commands were answered and how many of these were refused, and nothing of other runs or where
+/// none was answered.
+pub fn say_counts<W: Write>(job: Job<'_>, tally: &Tally, out: &mut W) -> Result<(), WriteFault> {
+    if !matches!(job, Job::Replay(_)) || tally.commands() == 0 {
+        return Ok(());
+    }
+    put_counts(
+        out,
+        tally.commands(),
+        tally.refused(),
+        tally.first_refused(),
+    )
+}
+
+// Writes how many commands were answered, how many of these were refused, and in which line the first of them is.
+fn put_counts<W: Write>(
+    out: &mut W,
+    commands: u64,
+    refused: u64,
+    first: u64,
+) -> Result<(), WriteFault> {
+    put_parts(
+        out,
+        &[
+            Part::Text(b"replay: "),
+            Part::Number(commands),
+            Part::Text(b" commands, "),
+        ],
+    )?;
+    put_refused(out, refused, first)?;
+    put_bytes(out, b"\n")
+}
+
+// Writes how many commands were refused, and in which line the first of them is.
+fn put_refused<W: Write>(out: &mut W, refused: u64, first: u64) -> Result<(), WriteFault>
+    ensures ok { OnOk result (Appends (W.contents out.old) (W.contents out.new) (refused_text refused first)) }
+    ensures err { OnErr result
+        (AppendsPrefix (W.contents out.old) (W.contents out.new) (refused_text refused first)) }
+{
+    if refused == 0 {
+        return put_bytes(out, b"none refused");
+    }
+    put_parts(
+        out,
+        &[
+            Part::Number(refused),
+            Part::Text(b" refused, the first in line "),
+            Part::Number(first),
+        ],
+    )
+}
