@@ -9,7 +9,8 @@ short runs, in those of other subcommands and where there can be no second threa
 the status and the last words are those of the same run without a terminal.
 
 What a drive and an exploration say of how far they have come is asked of runs that take seconds: the percent grow, as do
-the configurations, and none is more than there is.
+the configurations, and none is more than there is. A replay on a terminal says at its end how many commands there were and
+how many of them were refused.
 """
 import collections
 import concurrent.futures
@@ -31,6 +32,17 @@ RESETS = 400  # whose reports are more than the buffer before the output holds
 HISTORY = b"reset-history 1\n" + b"request 7\nopen 7\nfinish 7\n" * RESETS
 REPORTS = b"".join(b"report %d opened %d finished %d\n" % (n, 3 * n - 1, 3 * n) for n in range(1, RESETS + 1))
 VERIFIED = REPORTS + b"verified %d entries %d reports\n" % (3 * RESETS, RESETS)
+SCRIPTS = {
+    "refused": b"request 7\nopen 7\n\n# node 7 has a session already\nopen 7\nfinish 7\n",
+    "taken": b"request 7\nopen 7\nfinish 7\n",
+    "bad": b"request 7\nnothing\n",
+}
+ANSWERS = {
+    "refused": (0, b"applied\napplied\nrefused NotEnabled\ncomplete 1\n",
+                b"replay: 4 commands, 1 refused, the first in line 5\n"),
+    "taken": (0, b"applied\napplied\ncomplete 1\n", b"replay: 3 commands, none refused\n"),
+    "bad": (2, b"applied\nbad line 2\n", b"replay: 1 command, none refused\n"),
+}
 
 
 class Terminal:
@@ -70,8 +82,9 @@ def run(program, case, folder):
     """The status, the standard output and the standard error of a run, where both go to one terminal what that got."""
     topology = os.path.join(folder, "topology")
     os.mkfifo(topology)
-    with open(os.path.join(folder, "history"), "wb") as history:
-        history.write(HISTORY)
+    for name, text in [("history", HISTORY), *SCRIPTS.items()]:
+        with open(os.path.join(folder, name), "wb") as file:
+            file.write(text)
     put_late(topology, case.topology, LATE if case.late else 0)
     terminal = None if case.error == "pipe" else Terminal()
     ends = {"pipe": (subprocess.PIPE, subprocess.PIPE), "terminal": (subprocess.PIPE, terminal and terminal.far),
@@ -123,6 +136,14 @@ def cases():
     words = ["replay", "topology", "/dev/null"]
     yield Case("replay, terminal", words, ALONE, True, "terminal", None, (0, b"", b""))
     yield Case("replay, --progress", [*words, "--progress"], ALONE, True, "pipe", None, (0, b"", b""))
+    for name, (status, answer, counts) in ANSWERS.items():
+        words = ["replay", "topology", name]
+        yield Case(f"replay {name}, terminal", words, ALONE, False, "terminal", None, (status, answer, counts))
+        yield Case(f"replay {name}, one terminal", words, ALONE, False, "both", None, (status, None, answer + counts))
+        yield Case(f"replay {name}, pipe", words, ALONE, False, "pipe", None, (status, answer, b""))
+    strict = ["replay", "--strict", "--number", "topology", "refused"]
+    ended = (1, b"1: applied\n2: applied\n5: refused NotEnabled\n", b"replay: 3 commands, 1 refused, the first in line 5\n")
+    yield Case("replay --strict, terminal", strict, ALONE, False, "terminal", None, ended)
     behind = ["--", "--progress", "/dev/null"]
     yield Case("--progress is a path", ["replay", *behind], ALONE, False, "pipe", None, (3, b"", b"read fault\n"))
 

@@ -37,8 +37,8 @@ pub struct Drive {
 /// what it did to one writer, and then to the other how many entries and reports the history has.
 ///
 /// The same words give the same history (`one_driven_run`). A verification takes it (`driven_runs_are_verified`).
-/// Nothing is written before the last step. A history has at most a million entries. How many steps are taken is told to
-/// `progress`.
+/// Nothing is written before the last step. A history has at most a million entries. Sets `progress` to how many
+/// steps are taken.
 pub fn drive_text<H: Write, W: Write>(
     alloc: Global,
     topology: &[u8],

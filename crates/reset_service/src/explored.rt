@@ -47,8 +47,8 @@ pub struct Exploring {
 ///
 /// The topology is judged before the reader is touched, and the snapshot before the script. A script that is too long, or
 /// has a bad line, is answered as `replay` ends with it. Where there are more configurations than the limit, that is
-/// written in place of all else, with the status of bad input. How many configurations have been followed, of those
-/// found so far, is told to `progress`.
+/// written in place of all else, with the status of bad input. Sets `progress` to how many configurations have
+/// been followed, of those found so far.
 pub fn explore_text<R: Read, W: Write>(
     alloc: Global,
     topology: &[u8],

@@ -14,7 +14,7 @@ use reset_machine::Config;
 use std::alloc::{AllocError, Global};
 
 /// The history of a run that [`drive`](crate::drive) takes from this configuration on in a book of 1,000,000 entries. Of
-/// the run the configuration is kept, and the history's text. How many of the steps are taken is told to `progress`.
+/// the run the configuration is kept, and the history's text. Sets `progress` to how many of the steps are taken.
 pub fn driven_history<P: Application>(
     alloc: Global,
     opening: Config<P>,

@@ -55,11 +55,17 @@ fn put_counts<W: Write>(
         &[
             Part::Text(b"replay: "),
             Part::Number(commands),
-            Part::Text(b" commands, "),
+            Part::Text(b" command"),
         ],
     )?;
+    put_bytes(out, plural_end(commands))?;
     put_refused(out, refused, first)?;
     put_bytes(out, b"\n")
+}
+
+// What follows a word of which there are so many.
+fn plural_end(count: u64) -> &'static [u8] {
+    if count == 1 { b", " } else { b"s, " }
 }
 
 // Writes how many commands were refused, and in which line the first of them is.
