@@ -1,10 +1,10 @@
 -- A verdict finds nothing wrong exactly where the invariant holds of the abstract states.
-use Rattle.std.proofs.Common.{◌≡◌, ◌↔◌, ℕ, ◌<◌, ◌≤◌, ◌==◌, Bool, true, false, cond, List, [], Option, Some, None, length, refl, sym, ap, ◌∙◌}
-use Rattle.std.proofs.Common.{eqb-true, eq-eqb, arith, true≢false}
+use Rattle.std.proofs.Common.{◌≡◌, ◌↔◌, ℕ, ◌<◌, ◌≤◌, ◌==◌, Bool, true, false, cond, List, [], Option, Some, None, length, refl, sym, ap}
+use Rattle.std.proofs.Common.{eqb-true, eq-eqb, arith}
 use Rattle.app_interface.specs.Application.{App}
-use Rattle.app_interface.specs.Invariant.{Keeps, SameAtNodes}
+use Rattle.app_interface.specs.Invariant.{Keeps}
 use Rattle.topology.specs.Components.{IsComponent, component}
-use Rattle.topology.specs.Graph.{Graph, IsConnected, IsGraph, IsNode, IsReached, is_node}
+use Rattle.topology.specs.Graph.{Graph, IsConnected, IsGraph, IsNode}
 use Rattle.topology.proofs.Components.{component_is, reached_node}
 use Rattle.topology.proofs.Membership.{has-Contains}
 use Rattle.reset_model.specs.Configuration.{Configuration}

@@ -1,5 +1,5 @@
 -- Of each component whether the application's invariant holds there, of the newest states.
-use Rattle.std.specs.Prelude.{◌≡◌, ◌==◌, ℕ, if◌then◌else◌, List, filter, map, Option, Some, None}
+use Rattle.std.specs.Prelude.{◌==◌, ℕ, if◌then◌else◌, List, filter, map, Option, Some, None}
 use Rattle.app_interface.specs.Application.{App}
 use Rattle.topology.specs.Components.{component, leader}
 use Rattle.topology.specs.Graph.{Graph, is_node}

@@ -1,4 +1,4 @@
-use Rattle.std.proofs.Common.{◌≡◌, ℕ, ◌≤◌, not, List, get_or, map, take}
+use Rattle.std.proofs.Common.{◌≡◌, ℕ, ◌≤◌, not, List, get_or, take}
 use Rattle.std.specs.List.{count_by}
 use Rattle.app_routes.specs.declared.entry.Entry.{Entry}
 use Rattle.app_invariants.specs.States.{AreStates}

@@ -1,4 +1,3 @@
-use Rattle.std.proofs.Common.{rules}
 use Rattle.app_invariants.proofs.Newest.{newest_start}
 use Rattle.app_invariants.proofs.verdict.newest_state.Goals as goal
 
