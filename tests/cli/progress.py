@@ -162,14 +162,14 @@ def ring(count, app):
     return f"nodes = {list(range(1, count + 1))}\nlinks = {links}\napp = \"{app}\"\n".encode()
 
 
-def measured(program, words, topology, line):
+def measured(program, words, topology, line, status):
     """The numbers in the lines of a long run with `--progress`, one row a line, or what is wrong with it."""
     with tempfile.TemporaryDirectory() as folder:
         with open(os.path.join(folder, "topology"), "wb") as written:
             written.write(topology)
         ran = subprocess.run([program, *words, "--progress"], capture_output=True, cwd=folder, timeout=LONGEST)
     rows = [re.fullmatch(line, said) for said in ran.stderr.splitlines()]
-    if ran.returncode != 0 or not rows or None in rows:
+    if ran.returncode != status or not rows or None in rows:
         return f"status {ran.returncode}, {ran.stderr[-200:]!r}"
     return [list(map(int, row.groups())) for row in rows]
 
@@ -177,7 +177,7 @@ def measured(program, words, topology, line):
 def long_drive(program):
     """A drive of a million steps on a large ring takes seconds, of which each line says less are left."""
     words = ["drive", "topology", "--steps", "1000000", "--seed", "1", "--faults", "20", "--history", "kept"]
-    rows = measured(program, words, ring(1000, "token"), rb"drive: ([0-9]+) %, ([0-9]+) s left")
+    rows = measured(program, words, ring(1000, "token"), rb"drive: ([0-9]+) %, ([0-9]+) s left", 0)
     if isinstance(rows, str):
         return rows
     percents = [percent for percent, _ in rows]
@@ -185,14 +185,14 @@ def long_drive(program):
 
 
 def long_exploration(program):
-    """An exploration of many configurations takes seconds, and finds more of them in each."""
+    """An exploration of a million configurations, which are fewer than there are, takes seconds, and finds more in each."""
     line = rb"explore: ([0-9]+) configurations, ([0-9]+) to follow, ([0-9]+) a second, ([0-9]+) s"
-    rows = measured(program, ["explore", "topology", "--acts"], ring(9, "mutex"), line)
+    rows = measured(program, ["explore", "topology", "--acts"], ring(16, "mutex"), line, 2)
     if isinstance(rows, str):
         return rows
     found = [row[0] for row in rows]
     paced = all(of <= count and pace == count // seconds for count, of, pace, seconds in rows)
-    return None if paced and found == sorted(found) else f"{rows}"
+    return None if paced and found == sorted(found) and found[-1] <= 1_000_000 else f"{rows}"
 
 
 def main():
