@@ -12,8 +12,12 @@ abbrev pub share_text : ℕ → ℕ → ℕ → List ℕ
 share_text seconds done all =
     concat (decimal (done * 100 / all) ∷ codes " %, " ∷ decimal (seconds * (all - done) / done) ∷ codes " s left" ∷ [])
 
--- how many configurations are found, how many of them are still to be followed, how many a second, and the seconds
-abbrev pub search_text : ℕ → ℕ → ℕ → List ℕ
-search_text seconds done found =
-    concat (decimal found ∷ codes " configurations, " ∷ decimal (found - done) ∷ codes " to follow, "
-    ∷ decimal (found / seconds) ∷ codes " a second, " ∷ decimal seconds ∷ codes " s" ∷ [])
+-- how many configurations are found, and how many of them are still to be followed
+abbrev pub found_text : ℕ → ℕ → List ℕ
+found_text found rest =
+    concat (decimal found ∷ codes " configurations, " ∷ decimal rest ∷ codes " to follow, " ∷ [])
+
+-- how many were found a second, and the seconds
+abbrev pub pace_text : ℕ → ℕ → List ℕ
+pace_text seconds found =
+    concat (decimal (found / seconds) ∷ codes " a second, " ∷ decimal seconds ∷ codes " s" ∷ [])

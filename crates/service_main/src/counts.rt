@@ -59,7 +59,11 @@ fn put_counts<W: Write>(
         ],
     )?;
     put_bytes(out, plural_end(commands))?;
-    put_refused(out, refused, first)?;
+    if refused == 0 {
+        put_bytes(out, b"none refused")?;
+    } else {
+        put_refused(out, refused, first)?;
+    }
     put_bytes(out, b"\n")
 }
 
@@ -74,9 +78,6 @@ fn put_refused<W: Write>(out: &mut W, refused: u64, first: u64) -> Result<(), Wr
     ensures err { OnErr result
         (AppendsPrefix (W.contents out.old) (W.contents out.new) (refused_text refused first)) }
 {
-    if refused == 0 {
-        return put_bytes(out, b"none refused");
-    }
     put_parts(
         out,
         &[

@@ -3,7 +3,7 @@
 ghost use Rattle.std.specs.Prelude.{◌≡◌, ◌<◌, ◌≤◌, OnErr, OnOk};
 ghost use Rattle.std.specs.Io.KnownBytes.{Appends};
 ghost use Rattle.action_tables.specs.Written.{AppendsPrefix};
-ghost use Rattle.service_main.specs.ProgressText.{search_text, seconds_text, share_text};
+ghost use Rattle.service_main.specs.ProgressText.{found_text, pace_text, seconds_text, share_text};
 
 use action_tables::{Part, WriteFault, put_parts};
 use std::io::Write;
@@ -69,21 +69,41 @@ fn put_share<W: Write>(out: &mut W, seconds: u32, done: u32, all: u32) -> Result
     )
 }
 
-// Writes how many configurations are found, how many of them are still to be followed, and how many a second.
+// Writes how many configurations are found, how many of them are still to be followed, how many were found a second, and for
+// how many seconds the run has been working.
 fn put_search<W: Write>(out: &mut W, seconds: u32, done: u32, found: u32) -> Result<(), WriteFault>
     requires some { 0 < seconds }
     requires within { done ≤ found }
-    ensures ok { OnOk result (Appends (W.contents out.old) (W.contents out.new) (search_text seconds done found)) }
-    ensures err { OnErr result (AppendsPrefix (W.contents out.old) (W.contents out.new) (search_text seconds done found)) }
+{
+    put_found(out, u64::from(found), u64::from(found - done))?;
+    put_pace(out, seconds, found)
+}
+
+fn put_found<W: Write>(out: &mut W, found: u64, rest: u64) -> Result<(), WriteFault>
+    ensures ok { OnOk result (Appends (W.contents out.old) (W.contents out.new) (found_text found rest)) }
+    ensures err { OnErr result (AppendsPrefix (W.contents out.old) (W.contents out.new) (found_text found rest)) }
 {
     put_parts(
         out,
         &[
-            Part::Number(u64::from(found)),
+            Part::Number(found),
             Part::Text(b" configurations, "),
-            Part::Number(u64::from(found - done)),
+            Part::Number(rest),
             Part::Text(b" to follow, "),
-            Part::Number(u64::from(found / seconds)),
+        ],
+    )
+}
+
+fn put_pace<W: Write>(out: &mut W, seconds: u32, found: u32) -> Result<(), WriteFault>
+    requires { 0 < seconds }
+    ensures ok { OnOk result (Appends (W.contents out.old) (W.contents out.new) (pace_text seconds found)) }
+    ensures err { OnErr result (AppendsPrefix (W.contents out.old) (W.contents out.new) (pace_text seconds found)) }
+{
+    let pace = u64::from(found / seconds);
+    put_parts(
+        out,
+        &[
+            Part::Number(pace),
             Part::Text(b" a second, "),
             Part::Number(u64::from(seconds)),
             Part::Text(b" s"),
