@@ -35,7 +35,7 @@ struct LineState {
 #[derive(Clone, Copy)]
 pub struct Work<'a> {
     /// The name of the subcommand.
-    pub name: &'static str,
+    pub name: &'a str,
     /// How far it has come.
     pub progress: &'a Progress,
     /// Whether all that it will come to is known from the beginning.
