@@ -26,6 +26,7 @@ import tty
 
 LATE = 2.4  # seconds until the topology comes
 LONGEST = 60  # seconds
+FOUND = 300_000  # configurations of a long exploration, which has more
 NO_STACK = 6144  # KiB: room for the program, and none for the stack of a second thread
 ALONE = b"nodes = [7]\nlinks = []\napp = \"idle\"\n"
 RESETS = 400  # whose reports are more than the buffer before the output holds
@@ -185,14 +186,14 @@ def long_drive(program):
 
 
 def long_exploration(program):
-    """An exploration of a million configurations, which are fewer than there are, takes seconds, and finds more in each."""
+    """An exploration of some configurations of many takes seconds, and finds more of them in each."""
     line = rb"explore: ([0-9]+) configurations, ([0-9]+) to follow, ([0-9]+) a second, ([0-9]+) s"
-    rows = measured(program, ["explore", "topology", "--acts"], ring(16, "mutex"), line, 2)
+    rows = measured(program, ["explore", "topology", "--acts", "--most", str(FOUND)], ring(7, "routes"), line, 2)
     if isinstance(rows, str):
         return rows
     found = [row[0] for row in rows]
     paced = all(of <= count and pace == count // seconds for count, of, pace, seconds in rows)
-    return None if paced and found == sorted(found) and found[-1] <= 1_000_000 else f"{rows}"
+    return None if paced and found == sorted(found) and found[-1] <= FOUND else f"{rows}"
 
 
 def main():
