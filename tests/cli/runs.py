@@ -18,6 +18,9 @@ import random
 import subprocess
 import sys
 
+sys.dont_write_bytecode = True
+from history_reader import distances
+
 MOST = 4294967296  # the modulus of a topology that names none
 MODULI = {2: 30, 3: 10, MOST: 0}  # each with how many resets to session 0 its random runs have at least
 SEEDS = 21  # random runs of each application and each modulus
@@ -121,16 +124,6 @@ def least(rows):
 
 class Refused(Exception):
     pass
-
-
-def distances(graph, root):
-    found, edge = {root: 0}, [root]
-    for i in edge:
-        for j in graph[i]:
-            if j not in found:
-                found[j] = found[i] + 1
-                edge.append(j)
-    return found
 
 
 class Machine:
