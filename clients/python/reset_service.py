@@ -16,7 +16,7 @@ import os
 import subprocess
 import tempfile
 from dataclasses import dataclass
-from typing import Iterable, List, Optional, Union
+from typing import Dict, Iterable, List, Optional, Union
 
 # A line that is no command: its answer, `bad line N`, comes after all answers to the line before it.
 MARK = "?"
@@ -166,6 +166,11 @@ class Session:
     def moves(self, node: Optional[int] = None) -> List[str]:
         """The events that are allowed now, as commands: of all nodes, or of one."""
         return [line.removeprefix("move ") for line in self.ask(_about("moves", node))]
+
+    def invariants(self) -> Dict[int, Optional[str]]:
+        """For each component, by its leader, what is wrong with the application's invariant, or None where it holds."""
+        verdicts = [line.split(" ", 3)[1:] for line in self.ask("invariant")]
+        return {int(leader): wrong[0] if wrong else None for leader, _, *wrong in verdicts}
 
     def ready(self) -> List[int]:
         """The nodes that have something to do."""

@@ -38,6 +38,7 @@ def calls(program, folder):
         yield "a node", session.show(1) == [client.Node(1, 3, 2, 2, "normal", 1, "free/-/-")]
         yield "nodes", [node.id for node in session.show()] == [1, 2, 3]
         yield "a sound network", bool(session.check()) and session.check().violations == []
+        yield "an invariant", session.invariants() == {3: None}
         yield "a fault", session.step("fault tree 1 1 1 0") == client.Disturbed()
         yield "a violation", session.check(1).violations == [client.Violation(1, 2, "tree", 7)]
         yield "a plan", session.plan()[0] == "adopt 1 2" and session.plan()[1:3] == ["request 3", "open 3"]
@@ -57,6 +58,8 @@ def calls(program, folder):
             yield "a bad question too", session.ready() == [3]
     with client.Session(topology, history=day, program=program) as again:
         yield "a session goes on", again.opening[0].startswith("resumed ") and again.snapshot() == shot
+        yield "a second token", again.step("fault local 1 hold/-/-") == client.Disturbed()
+        yield "an invariant that fails", again.invariants() == {3: "tokens 2"}
     with open(f"{folder}/shot", "w", encoding="utf-8") as file:
         file.write(shot)
     with client.Session(topology, snapshot=f"{folder}/shot", program=program) as started:

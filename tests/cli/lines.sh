@@ -120,6 +120,11 @@ moves pass
 moves 4294967296
 Moves
 Moves 1
+invariant 
+invariant 1
+ invariant
+Invariant
+invariants
 snapshot 
 snapshot 1
  snapshot
@@ -254,6 +259,20 @@ answers idle 'fault tree 2 1 2 7\nmoves 2' 'disturbed\nmove claim 2\nmove adopt 
 answers idle 'fault wave 1 reset 5\nmoves 1' 'disturbed\nmove mend 1\nmove finish 1'
 answers idle 'fault off 2\nmoves 1\nmoves 2' 'disturbed\nmove claim 1\nmove request 1\nrefused StrangeNode'
 answers idle 'fault off 1\nfault off 2\nfault off 3\nmoves\nready' 'disturbed\ndisturbed\ndisturbed\nready -'
+
+# ---- the invariant, of each component
+
+for app in idle token mutex routes; do
+  answers $app invariant 'invariant 3 holds'
+  answers $app 'request 1\nrelay 2 1\nrelay 3 2\nopen 3\njoin 2\ninvariant' \
+    'applied\napplied\napplied\napplied\napplied\ninvariant 3 holds'
+done
+answers token 'fault local 1 hold/-/-\ninvariant\ncheck' 'disturbed\ninvariant 3 fails tokens 2\nfaults 0'
+answers token 'fault local 3 free/-/-\ninvariant\nshow 3' \
+  'disturbed\ninvariant 3 fails tokens 0\nnode 3 tree 3 3 0 wave normal 0 local free/-/-'
+answers token 'fault down 2 3\ninvariant' 'disturbed\ninvariant 2 fails tokens 0\ninvariant 3 holds'
+answers idle 'fault off 2\ninvariant' 'disturbed\ninvariant 1 holds\ninvariant 3 holds'
+answers idle 'fault off 1\nfault off 2\nfault off 3\ninvariant\nready' 'disturbed\ndisturbed\ndisturbed\nready -'
 
 # ---- snapshots
 

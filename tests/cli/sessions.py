@@ -296,7 +296,7 @@ def helps(program, folder):
         yield f"`explain {word}` in a session", ran.stdout == wanted + b"ready -\n"
     helped = run(program, "session", topology, given=b"help\n")
     lines = helped.stdout.decode().splitlines()
-    yield "`help` has a line for each command", len(lines) == 30 and all(len(line) < 100 for line in lines)
+    yield "`help` has a line for each command", len(lines) == 31 and all(len(line) < 100 for line in lines)
     known = {line.split(" ")[0] for line in lines}
     yield "`help` has every command", known >= {it.split(" ")[0] for it in WAVE} | set(
         "claim follow adopt mend act show newest enabled ready moves check alarm watch snapshot fault draw explain help exit"

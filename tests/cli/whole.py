@@ -1,7 +1,7 @@
 #!/usr/bin/env python3
 """Runs the program named on the command line as `check --whole` after random scripts on random networks, and from snapshots
-of what they leave, with `--repair` and without. The output and the status have to be those of the second program, model.py
-and answers.py. Many scripts end with damage to registers and local states. In all runs the invariant of each application has
+of what they leave, with `--repair` and without, and as `replay` with the command `invariant` as the last. The output and the
+status have to be those of the second program, model.py and answers.py. Many scripts end with damage to registers and local states. In all runs the invariant of each application has
 to hold LEAST times in a network of several components, and to fail as often; that of `idle` never fails.
 """
 import collections
@@ -50,9 +50,9 @@ def differences(program, seed, room):
     """What is wrong with a run, and the verdicts that came, by the application."""
     topology, script, network, answered = case(seed)
     verdicts = network.verdicts()
-    last = [f"invariant {leader} " + (f"fails {wrong}" if wrong else "holds") for leader, wrong in verdicts.items()]
+    last = network.ask_invariant()
     faults = network.ask_check()
-    texts = {"topology.toml": topology, "script": script, "empty": b"",
+    texts = {"topology.toml": topology, "script": script, "empty": b"", "asked": script + b"invariant\n", "ask": b"invariant\n",
              "snapshot": "".join(f"{it}\n" for it in network.ask_snapshot()).encode()}
     for name, text in texts.items():
         with open(os.path.join(room, name), "wb") as file:
@@ -67,6 +67,12 @@ def differences(program, seed, room):
             wanted = answers.output([*before, *faults, *last], status)
             if (out, ran.returncode) != wanted or ran.stderr:
                 differ.append(f"run {seed} {words}: {ran.stdout!r} {ran.returncode} {ran.stderr!r} in place of {wanted}")
+    for start, before in ((["asked"], answered), (["ask", "--from", "snapshot"], [])):
+        words = [program, "replay", "topology.toml", *start]
+        ran = subprocess.run(words, cwd=room, stdin=subprocess.DEVNULL, capture_output=True, timeout=60)
+        wanted = answers.output([*before, *last], 0)
+        if (ran.stdout, ran.returncode) != wanted or ran.stderr:
+            differ.append(f"run {seed} {words}: {ran.stdout!r} {ran.returncode} {ran.stderr!r} in place of {wanted}")
     app = next(name for name, it in answers.APPLICATIONS.items() if it is network.app)
     return differ, collections.Counter((app, wrong is None) for wrong in verdicts.values())
 
@@ -88,7 +94,7 @@ def main():
     for line in wrong[:20]:
         print(line)
     failed = len(wrong)
-    print(f"{4 * RUNS + len(FOUND) - failed} whole passed, {failed} failed")
+    print(f"{6 * RUNS + len(FOUND) - failed} whole passed, {failed} failed")
     return 1 if failed else 0
 
 

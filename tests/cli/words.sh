@@ -316,7 +316,7 @@ done
 # what `explained` says that the explanation has to name. No two words have one explanation.
 names=$(grep -oh '`[A-Z][A-Za-z]*[a-z][A-Za-z]*' "$formats" | tr -d '`' | sort -u | grep -vxE 'Complete|Lcg')
 lowercase='claim follow adopt request relay open join finish mend act fault draw show newest enabled ready check alarm
-  watch moves move snapshot plan applied complete refused disturbed drawn quiet unjoined link faults report verified drove
+  watch moves move invariant snapshot plan applied complete refused disturbed drawn quiet unjoined link faults report verified drove
   resumed help explain exit normal initiate reset entry
   tree wave app local bad node session threads idle token mutex routes pass take enter leave pull memory read write thread lists line not
   configurations steps ends whole longest completions endless repair repairs root father distance K row'

@@ -63,6 +63,7 @@ fault on 3
 fault up 3 1
 moves
 moves 3
+invariant
 snapshot
 """
 # each line asks for memory, and is answered by one line
@@ -91,11 +92,13 @@ class Program:
     def run_counted(self, words, given=None, **refused):
         """The same, and how many threads were started."""
         told, tell = os.pipe()
-        streams = {"stdin": subprocess.DEVNULL} if given is None else {"input": given}
+        # A pipe would come in pieces of any length, and how many requests a reading makes hangs on these.
+        self.put("given", given or b"")
         loaded = {"LD_PRELOAD": self.refuser, "COUNT_TO": str(tell), **refused}
         try:
-            ran = subprocess.run([self.path, *words], capture_output=True, cwd=self.room, timeout=LONGEST,
-                                 pass_fds=[tell], env={**os.environ, **loaded}, **streams)
+            with open(os.path.join(self.room, "given"), "rb") as stdin:
+                ran = subprocess.run([self.path, *words], capture_output=True, cwd=self.room, timeout=LONGEST,
+                                     pass_fds=[tell], env={**os.environ, **loaded}, stdin=stdin)
             answer = ran.stdout, ran.returncode, ran.stderr
         except subprocess.TimeoutExpired:
             answer = b"", "no end", b""

@@ -194,6 +194,7 @@ alarm N
 watch N
 moves
 moves N
+invariant
 snapshot
 """
 KINDS = {

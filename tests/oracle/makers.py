@@ -265,9 +265,9 @@ class Maker:
 
     def question(self, network):
         words = ["show", "newest", "ready", "enabled", "enabled", "check", "check", "check", "alarm", "alarm", "watch",
-                 "moves", "moves", "snapshot"]
+                 "moves", "moves", "invariant", "snapshot"]
         word = self.rng.choice(words)
-        alone = word in ("newest", "ready", "snapshot") or word in ("show", "check", "moves") and self.chance(0.5)
+        alone = word in ("newest", "ready", "invariant", "snapshot") or word in ("show", "check", "moves") and self.chance(0.5)
         return word if alone else f"{word} {self.node(network)}"
 
     def command(self, network, faulty):

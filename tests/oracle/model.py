@@ -433,6 +433,10 @@ class Network:
     def ask_moves(self, *ids):
         return [f"move {line}" for i in ids or self.graph for line in self.moves(i)]
 
+    def ask_invariant(self):
+        verdicts = self.verdicts().items()
+        return [f"invariant {leader} fails {wrong}" if wrong else f"invariant {leader} holds" for leader, wrong in verdicts]
+
     def ask_snapshot(self):
         links = [f"link {i} {j}" for i, j in sorted(self.links()) if i < j]
         return ["reset-snapshot 1", *self.ask_show(), *(links or ["link -"])]
@@ -447,5 +451,6 @@ QUESTIONS = {
     "alarm": Network.ask_alarm,
     "watch": Network.ask_watch,
     "moves": Network.ask_moves,
+    "invariant": Network.ask_invariant,
     "snapshot": Network.ask_snapshot,
 }

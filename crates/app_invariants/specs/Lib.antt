@@ -8,3 +8,4 @@ pub mod WrongEntries
 pub mod LawsOfWrongEntries
 pub mod Parities
 pub mod Prepared
+pub mod Counts

@@ -1,5 +1,5 @@
 // The application that does nothing: its invariant always holds.
-ghost use Rattle.std.specs.Prelude.{codes};
+ghost use Rattle.app_invariants.specs.Counts.{idle_count};
 ghost use Rattle.app_invariants.specs.LawsOfCounts.{nothing_wrong};
 
 use crate::invariant::Invariant;
@@ -8,11 +8,7 @@ use std::alloc::{AllocError, Global};
 use topology::Topology;
 
 impl Invariant for Idle {
-    ghost counted = { codes "faults" };
-
-    ghost right = { 0 };
-
-    ghost number = { λ g v. 0 };
+    ghost counts = { idle_count };
 
     ghost decides = { nothing_wrong };
 

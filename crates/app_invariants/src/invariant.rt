@@ -1,9 +1,9 @@
 // The trait of applications whose invariant is decided.
-ghost use Rattle.std.specs.Prelude.{◌≡◌, ◌↔◌, ℕ, List, IfOk, length, option_map};
+ghost use Rattle.std.specs.Prelude.{◌≡◌, ◌↔◌, ℕ, IfOk, length, option_map};
 ghost use Rattle.topology.specs.Components.{component};
 ghost use Rattle.topology.specs.Graph.{Graph, IsGraph, IsNode};
 ghost use Rattle.app_invariants.specs.States.{AreStates};
-ghost use Rattle.app_invariants.specs.Verdicts.{wrong_of};
+ghost use Rattle.app_invariants.specs.Verdicts.{Count, wrong_of};
 
 use crate::violation::Violation;
 use app_interface::Application;
@@ -13,21 +13,15 @@ use topology::Topology;
 /// An application whose invariant is decided, by a number that the states of a component's nodes have.
 pub trait Invariant: Application {
     // What is counted.
-    ghost counted: { List ℕ };
-
-    // The number where the invariant holds.
-    ghost right: { ℕ };
-
-    // The number, for a graph and the states of its nodes.
-    ghost number: { Graph → (ℕ → Self.Local) → ℕ };
+    ghost counts: { Count Self.Local };
 
     /// What is counted, in words.
     fn words() -> &'static str
-        ensures { result.now ≡ counted };
+        ensures { result.now ≡ counts.words };
 
     /// The number where the invariant holds.
     fn right_count() -> u64
-        ensures { result ≡ right };
+        ensures { result ≡ counts.right };
 
     /// The number of a node's component, where `states` are those of all identifiers, in their order. It fails only if
     /// an allocation fails.
@@ -40,10 +34,10 @@ pub trait Invariant: Application {
         requires node { IsNode topology.now at }
         requires states { length states.now ≡ length topology.now.ids }
         ensures { IfOk result (λ n. (v : ℕ → Self.Local) → AreStates topology.now v states.now
-            → n ≡ number (component topology.now at) v) };
+            → n ≡ counts.number (component topology.now at) v) };
 
     // The invariant holds exactly where the number is the right one.
-    ghost decides: { (g : Graph) (v : ℕ → Self.Local) → IsGraph g → (number g v ≡ right ↔ Self.Inv g v) };
+    ghost decides: { (g : Graph) (v : ℕ → Self.Local) → IsGraph g → (counts.number g v ≡ counts.right ↔ Self.Inv g v) };
 }
 
 /// Decides whether the invariant holds of the component of the node `at`, where `states` are those of all
@@ -59,7 +53,7 @@ pub fn find_violation<P: Invariant>(
     requires states { length states.now ≡ length topology.now.ids }
     ensures { IfOk result (λ violation. (v : ℕ → P.Local) → AreStates topology.now v states.now
         → option_map (λ wrong. (wrong.words.now, wrong.count)) violation
-        ≡ wrong_of (record { words = P.counted; right = P.right; number = P.number }) (component topology.now at) v) }
+        ≡ wrong_of P.counts (component topology.now at) v) }
 {
     let count = P::count(alloc, topology, at, states)?;
     if count == P::right_count() {

@@ -9,14 +9,12 @@ use crate::invariant::Invariant;
 
 /// Nothing is wrong exactly where the application's invariant holds of the graph with these states.
 pub fn violations_tell<P: Invariant>()
-    ensures { (g : Graph) (v : ℕ → P.Local) → IsGraph g
-        → (wrong_of (record { words = P.counted; right = P.right; number = P.number }) g v ≡ None ↔ P.Inv g v) }
+    ensures { (g : Graph) (v : ℕ → P.Local) → IsGraph g → (wrong_of P.counts g v ≡ None ↔ P.Inv g v) }
 {}
 
 /// The verdict on the component of a node finds nothing wrong exactly where the application's invariant holds of the
 /// abstract states there, as the headline has it.
 pub fn verdicts_tell<P: Invariant>()
     ensures { (c : Configuration P.Local) (i : ℕ) → IsGraph c.graph → IsNode c.graph i
-        → ((verdict_of (record { words = P.counted; right = P.right; number = P.number }) P.app c i).1 ≡ None
-        ↔ HoldsAt P.app P.Inv c i) }
+        → ((verdict_of P.counts P.app c i).1 ≡ None ↔ HoldsAt P.app P.Inv c i) }
 {}

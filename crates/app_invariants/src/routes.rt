@@ -1,9 +1,10 @@
 // The number of entries that are no routes.
-ghost use Rattle.std.specs.Prelude.{◌≡◌, ℕ, ◌<◌, ◌≤◌, List, Contains, IfNone, IfSome, codes, length, map};
+ghost use Rattle.std.specs.Prelude.{◌≡◌, ℕ, ◌<◌, ◌≤◌, List, Contains, IfNone, IfSome, length, map};
 ghost use Rattle.std.specs.Prelude.{slice_index};
 ghost use Rattle.std.specs.List.{sum_by};
 ghost use Rattle.app_routes.specs.Entries.{IsAscending};
 ghost use Rattle.app_routes.specs.declared.entry.Entry.{Entry};
+ghost use Rattle.app_invariants.specs.Counts.{ways_lacked};
 ghost use Rattle.app_invariants.specs.LawsOfWrongEntries.{routes_right};
 ghost use Rattle.app_invariants.specs.Parities.{AreTables};
 ghost use Rattle.app_invariants.specs.Prepared.{AreMembers, ArePrepared};
@@ -19,11 +20,7 @@ use std::alloc::{AllocError, Global};
 use topology::Topology;
 
 impl Invariant for Routes {
-    ghost counted = { codes "routes without a way" };
-
-    ghost right = { 0 };
-
-    ghost number = { wrong_entries };
+    ghost counts = { ways_lacked };
 
     ghost decides = { routes_right };
 

@@ -1,9 +1,10 @@
 // The number of tokens.
-ghost use Rattle.std.specs.Prelude.{◌≡◌, ℕ, ◌+◌, ◌<◌, ◌≤◌, All, codes, length, map, slice_index};
+ghost use Rattle.std.specs.Prelude.{◌≡◌, ℕ, ◌+◌, ◌<◌, ◌≤◌, All, length, map, slice_index};
 ghost use Rattle.std.specs.List.{count_by, sum_by};
 ghost use Rattle.topology.specs.Graph.{neighbours_of};
 ghost use Rattle.app_token.specs.TokenLinks.{is_in_flight};
 ghost use Rattle.app_token.specs.declared.local.TokenLocal.{TokenLocal};
+ghost use Rattle.app_invariants.specs.Counts.{tokens};
 ghost use Rattle.app_invariants.specs.LawsOfCounts.{one_token};
 ghost use Rattle.app_invariants.specs.States.{AreStates};
 ghost use Rattle.app_invariants.specs.Tokens.{token_count, tokens_at};
@@ -15,11 +16,7 @@ use std::alloc::{AllocError, Global};
 use topology::Topology;
 
 impl Invariant for Token {
-    ghost counted = { codes "tokens" };
-
-    ghost right = { 1 };
-
-    ghost number = { token_count };
+    ghost counts = { tokens };
 
     ghost decides = { one_token };
 

@@ -1,7 +1,8 @@
 // The number of nodes that are in without their turns.
-ghost use Rattle.std.specs.Prelude.{◌≡◌, ℕ, ◌<◌, ◌≤◌, All, codes, length, map, slice_index};
+ghost use Rattle.std.specs.Prelude.{◌≡◌, ℕ, ◌<◌, ◌≤◌, All, length, map, slice_index};
 ghost use Rattle.std.specs.List.{count_by};
 ghost use Rattle.app_mutex.specs.declared.local.MutexLocal.{MutexLocal};
+ghost use Rattle.app_invariants.specs.Counts.{turns_lacked};
 ghost use Rattle.app_invariants.specs.LackedTurns.{holds_all_turns, in_without_count, is_in_without};
 ghost use Rattle.app_invariants.specs.LawsOfCounts.{turns_held};
 ghost use Rattle.app_invariants.specs.States.{AreStates};
@@ -13,11 +14,7 @@ use std::alloc::{AllocError, Global};
 use topology::Topology;
 
 impl Invariant for EdgeReversal {
-    ghost counted = { codes "in without its turn" };
-
-    ghost right = { 0 };
-
-    ghost number = { in_without_count };
+    ghost counts = { turns_lacked };
 
     ghost decides = { turns_held };
 

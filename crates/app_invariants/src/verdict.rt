@@ -37,7 +37,7 @@ pub fn judge_components<P: Invariant>(
     config: &Config<P>,
 ) -> Result<Vec<Verdict>, AllocError>
     ensures { IfOk result (λ verdicts. verdicts.items
-        ≡ verdicts_of (record { words = P.counted; right = P.right; number = P.number }) P.app config.now) }
+        ≡ verdicts_of P.counts P.app config.now) }
 {
     config.lemma_is_graph();
     let topology = config.topology();
@@ -63,8 +63,7 @@ fn judge<P: Invariant>(
     ensures { IfOk result (λ verdict. (v : ℕ → P.Local) → AreStates topology.now v states.now
         → verdict ≡ (
           leader,
-          wrong_of (record { words = P.counted; right = P.right; number = P.number })
-              (component topology.now leader) v,
+          wrong_of P.counts (component topology.now leader) v,
         )) }
 {
     let violation = find_violation::<P>(alloc, topology, leader, states)?;

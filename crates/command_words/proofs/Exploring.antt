@@ -10,6 +10,7 @@ use Rattle.clap.specs.declared.builder.value_parser.ValueParser.TheVariants.{Boo
 use Rattle.clap.specs.declared.error.ErrorKind.TheVariants.{MissingRequiredArgument}
 use Rattle.command_words.specs.Words.{HasExplore}
 use Rattle.command_words.specs.Words.{drive_command, explain_command, explore_command, page_command, plan_command}
+use Rattle.command_words.specs.Words.{picture_command}
 use Rattle.command_words.specs.Words.{program, record_command, session_command, tables_command, texts_command}
 use Rattle.command_words.specs.Words.{threads_command, topology_command, verify_command, replay_command, check_command}
 use Rattle.command_words.proofs.PathRows.{AllFit, TakesWords, checked, or_else-nil, rows_taken}
@@ -25,7 +26,7 @@ rows_of_words s words = (rows_at s words).1
 
 explore_fit : AllFit the_explore.rules the_explore.rules
 unfolding program plan_command record_command threads_command drive_command topology_command explain_command texts_command
-    tables_command session_command page_command explore_command verify_command replay_command check_command
+    tables_command session_command page_command picture_command explore_command verify_command replay_command check_command
 explore_fit = (
   inl (refl, refl, refl, refl),
   (
@@ -51,7 +52,7 @@ the_most = slice_index_or the_explore.rules 4 (new_rule [])
 
 acts_are_flags : IsOfFlags the_acts
 unfolding program plan_command record_command threads_command drive_command topology_command explain_command texts_command
-    tables_command session_command page_command explore_command verify_command replay_command check_command
+    tables_command session_command page_command picture_command explore_command verify_command replay_command check_command
 acts_are_flags = record {
   passes = λ v vs e. is_accepted (accepts false Flags v) _ (or_else-nil _ (values_fault the_acts vs) e).0;
   reading = refl;
@@ -59,7 +60,7 @@ acts_are_flags = record {
 
 most_are_numbers : IsOfNumbers 1 100000000 the_most
 unfolding program plan_command record_command threads_command drive_command topology_command explain_command texts_command
-    tables_command session_command page_command explore_command verify_command replay_command check_command
+    tables_command session_command page_command picture_command explore_command verify_command replay_command check_command
 most_are_numbers = record {
   passes =
       λ v vs e. is_accepted (accepts false (Unsigned 1 100000000) v) _
@@ -70,7 +71,7 @@ most_are_numbers = record {
 -- where clap finds no fault in the words, they have a topology, and what they say of the flag and the number can be read
 pub has_explore : (words : List Text) → TakesWords the_explore words → HasExplore (rows_of_words the_explore words)
 unfolding program plan_command record_command threads_command drive_command topology_command explain_command texts_command
-    tables_command session_command page_command explore_command verify_command replay_command check_command
+    tables_command session_command page_command picture_command explore_command verify_command replay_command check_command
 has_explore words e =
     let c = the_explore.rules in
     let rows = rows_of_words the_explore words in

@@ -10,6 +10,7 @@ use Rattle.clap.specs.declared.builder.value_parser.ValueParser.TheVariants.{Boo
 use Rattle.clap.specs.declared.error.ErrorKind.TheVariants.{MissingRequiredArgument}
 use Rattle.command_words.specs.Words.{HasCheck, HasReplay, check_command}
 use Rattle.command_words.specs.Words.{drive_command, explain_command, explore_command, page_command, plan_command}
+use Rattle.command_words.specs.Words.{picture_command}
 use Rattle.command_words.specs.Words.{program, record_command, session_command, tables_command, texts_command}
 use Rattle.command_words.specs.Words.{replay_command, threads_command, topology_command, verify_command}
 use Rattle.command_words.proofs.PathRows.{AllFit, TakesWords, checked, or_else-nil, rows_taken}
@@ -24,7 +25,7 @@ rows_of_words s words = (rows_at s words).1
 
 replay_fit : AllFit the_replay.rules the_replay.rules
 unfolding program plan_command record_command threads_command drive_command topology_command explain_command texts_command
-    tables_command session_command page_command explore_command verify_command replay_command check_command
+    tables_command session_command page_command picture_command explore_command verify_command replay_command check_command
 replay_fit = (
   inl (refl, refl, refl, refl),
   (
@@ -47,7 +48,7 @@ the_strict = slice_index_or the_replay.rules 4 (new_rule [])
 
 numbers_are_flags : IsOfFlags the_number
 unfolding program plan_command record_command threads_command drive_command topology_command explain_command texts_command
-    tables_command session_command page_command explore_command verify_command replay_command check_command
+    tables_command session_command page_command picture_command explore_command verify_command replay_command check_command
 numbers_are_flags = record {
   passes = λ v vs e. is_accepted (accepts false Flags v) _ (or_else-nil _ (values_fault the_number vs) e).0;
   reading = refl;
@@ -55,7 +56,7 @@ numbers_are_flags = record {
 
 stricts_are_flags : IsOfFlags the_strict
 unfolding program plan_command record_command threads_command drive_command topology_command explain_command texts_command
-    tables_command session_command page_command explore_command verify_command replay_command check_command
+    tables_command session_command page_command picture_command explore_command verify_command replay_command check_command
 stricts_are_flags = record {
   passes = λ v vs e. is_accepted (accepts false Flags v) _ (or_else-nil _ (values_fault the_strict vs) e).0;
   reading = refl;
@@ -64,7 +65,7 @@ stricts_are_flags = record {
 -- where clap finds no fault in the words, they have a topology and a script, and what they say of the flags can be read
 pub has_replay : (words : List Text) → TakesWords the_replay words → HasReplay (rows_of_words the_replay words)
 unfolding program plan_command record_command threads_command drive_command topology_command explain_command texts_command
-    tables_command session_command page_command explore_command verify_command replay_command check_command
+    tables_command session_command page_command picture_command explore_command verify_command replay_command check_command
 has_replay words e =
     let rows = rows_of_words the_replay words in
     let given =
@@ -86,7 +87,7 @@ the_check = slice_index_or (built program).subs 1 check_command.top
 
 check_fit : AllFit the_check.rules the_check.rules
 unfolding program plan_command record_command threads_command drive_command topology_command explain_command texts_command
-    tables_command session_command page_command explore_command verify_command replay_command check_command
+    tables_command session_command page_command picture_command explore_command verify_command replay_command check_command
 check_fit = (
   inl (refl, refl, refl, refl),
   (
@@ -106,7 +107,7 @@ the_repair = slice_index_or the_check.rules 3 (new_rule [])
 
 repairs_are_flags : IsOfFlags the_repair
 unfolding program plan_command record_command threads_command drive_command topology_command explain_command texts_command
-    tables_command session_command page_command explore_command verify_command replay_command check_command
+    tables_command session_command page_command picture_command explore_command verify_command replay_command check_command
 repairs_are_flags = record {
   passes = λ v vs e. is_accepted (accepts false Flags v) _ (or_else-nil _ (values_fault the_repair vs) e).0;
   reading = refl;
@@ -117,7 +118,7 @@ the_whole = slice_index_or the_check.rules 4 (new_rule [])
 
 wholes_are_flags : IsOfFlags the_whole
 unfolding program plan_command record_command threads_command drive_command topology_command explain_command texts_command
-    tables_command session_command page_command explore_command verify_command replay_command check_command
+    tables_command session_command page_command picture_command explore_command verify_command replay_command check_command
 wholes_are_flags = record {
   passes = λ v vs e. is_accepted (accepts false Flags v) _ (or_else-nil _ (values_fault the_whole vs) e).0;
   reading = refl;
@@ -126,7 +127,7 @@ wholes_are_flags = record {
 -- where clap finds no fault in the words, they have a topology and a script, and what they say of the flags can be read
 pub has_check : (words : List Text) → TakesWords the_check words → HasCheck (rows_of_words the_check words)
 unfolding program plan_command record_command threads_command drive_command topology_command explain_command texts_command
-    tables_command session_command page_command explore_command verify_command replay_command check_command
+    tables_command session_command page_command picture_command explore_command verify_command replay_command check_command
 has_check words e =
     let rows = rows_of_words the_check words in
     let given =

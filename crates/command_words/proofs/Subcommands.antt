@@ -7,7 +7,7 @@ use Rattle.std.specs.Str.{bytes_eq}
 use Rattle.std.specs.Prelude.{option_map}
 use Rattle.std.proofs.lemmas.Slice.Eq.{bytes_eq-Decides}
 use Rattle.clap.specs.Words.{App, Kinds, Row, Rule, Shape, Text, built, fault_of, is_simple}
-use Rattle.clap.specs.Words.{is_simple_and_free, new_app, new_rule, subcommand_of, with_subcommand}
+use Rattle.clap.specs.Words.{is_simple_and_free, new_rule, subcommand_of}
 use Rattle.clap.specs.Simple.{argument_words, entered, label_of, names_of, rows_at}
 use Rattle.clap.specs.Takes.{is_given}
 use Rattle.clap.specs.ValueTests.{accepts}
@@ -20,15 +20,16 @@ use Rattle.clap.specs.Walk.{nothing_held}
 use Rattle.clap.specs.Walk.{walk}
 use Rattle.clap.specs.Walk.{walk_from}
 use Rattle.clap.proofs.OnLiterals.{clap_on_literals}
-use Rattle.command_words.specs.Words.{HasDrive, HasJob, HasPlan, HasRecord, HasShape, HasTexts, HasThreads}
+use Rattle.command_words.specs.Words.{HasDrive, HasJob, HasPlan, HasRecord, HasShape, HasThreads}
 use Rattle.command_words.specs.Words.{drive_command, explain_command, explore_command, faults_of}
-use Rattle.command_words.specs.Words.{page_command, plan_command, program, record_command, session_command}
+use Rattle.command_words.specs.Words.{page_command, picture_command, plan_command, program, record_command}
+use Rattle.command_words.specs.Words.{session_command}
 use Rattle.command_words.specs.Words.{tables_command, texts_command, threads_command, topology_command, verify_command, replay_command, check_command}
 use Rattle.command_words.proofs.NoHelp.{IsNoHelp, walk-stop}
 use Rattle.command_words.proofs.PathRows.{AllFit, TakesWords, checked, or_else-nil}
 use Rattle.command_words.proofs.PathRows.{rows_taken}
 use Rattle.command_words.proofs.Exploring.{has_explore, the_explore}
-use Rattle.command_words.proofs.SessionAndPage.{has_page, has_session, the_page, the_session}
+use Rattle.command_words.proofs.SessionAndPage.{has_page, has_picture, has_session, the_page, the_picture, the_session}
 use Rattle.command_words.proofs.Replaying.{has_check, has_replay, the_check, the_replay}
 use Rattle.command_words.proofs.Verification.{has_verify, the_verify}
 use Rattle.command_words.proofs.Values.{IsOfNumbers, both_given, four_given, is_accepted, number_found, number_or_none}
@@ -36,17 +37,8 @@ use Rattle.command_words.proofs.Values.{one_given, text_found, three_given}
 
 -- ---- the program
 
--- a subcommand with two paths, as it is built
-abbrev the_texts : Text → Text → Shape
-the_texts name input =
-    slice_index_or (built (with_subcommand (new_app (codes "reset-service")) (texts_command name input).top)).subs 0
-    (texts_command name input).top
-
 abbrev the_plan : Shape
 the_plan = slice_index_or (built program).subs 2 plan_command.top
-
-abbrev the_picture : Shape
-the_picture = the_texts (codes "picture") (codes "HISTORY")
 
 abbrev the_record : Shape
 the_record = slice_index_or (built program).subs 8 record_command.top
@@ -73,46 +65,11 @@ the_help = slice_index_or (built program).subs 14 tables_command.top
 abbrev rows_of_words : Shape → List Text → List Row
 rows_of_words s words = (rows_at s words).1
 
--- ---- the subcommands with two paths
-
--- each argument takes a value, and the flag asks for help
-histories_fit : (name : Text)
-    → AllFit (the_texts name (codes "HISTORY")).rules (the_texts name (codes "HISTORY")).rules
-unfolding texts_command
-histories_fit name = (
-  inl (refl, refl, refl, refl),
-  (
-    inl (refl, refl, refl, refl),
-    (inl (refl, refl, refl, refl), (inr (inl (refl, refl)), tt)),
-  ),
-)
-
-paths_given : (name input : Text) (words : List Text) → TakesWords (the_texts name input) words
-    → (is_given (codes "TOPOLOGY") (rows_of_words (the_texts name input) words) ≡ true)
-    × (is_given input (rows_of_words (the_texts name input) words) ≡ true)
-unfolding texts_command
-paths_given name input words e =
-    both_given (is_given (codes "TOPOLOGY") (rows_of_words (the_texts name input) words))
-    (is_given input (rows_of_words (the_texts name input) words)) MissingRequiredArgument
-    (checked (the_texts name input) words e)
-
--- where clap finds no fault in the words, they have a value for each path
-has_histories : (name : Text) (words : List Text) → TakesWords (the_texts name (codes "HISTORY")) words
-    → HasTexts (codes "HISTORY") (rows_of_words (the_texts name (codes "HISTORY")) words)
-unfolding texts_command
-has_histories name words e =
-    let s = the_texts name (codes "HISTORY") in
-    let given = paths_given name (codes "HISTORY") words e in
-    let taken = rows_taken s (histories_fit name) words e in (
-      text_found s.rules (codes "TOPOLOGY") _ (rows_of_words s words) refl taken given.0,
-      text_found s.rules (codes "HISTORY") _ (rows_of_words s words) refl taken given.1,
-    )
-
 -- ---- the subcommand `plan`
 
 plan_fit : AllFit the_plan.rules the_plan.rules
 unfolding program plan_command record_command threads_command drive_command topology_command explain_command texts_command
-    tables_command session_command page_command explore_command verify_command replay_command check_command
+    tables_command session_command page_command picture_command explore_command verify_command replay_command check_command
 plan_fit = (
   inl (refl, refl, refl, refl),
   (
@@ -124,7 +81,7 @@ plan_fit = (
 -- where clap finds no fault in the words, they have a topology
 has_plan : (words : List Text) → TakesWords the_plan words → HasPlan (rows_of_words the_plan words)
 unfolding program plan_command record_command threads_command drive_command topology_command explain_command texts_command
-    tables_command session_command page_command explore_command verify_command replay_command check_command
+    tables_command session_command page_command picture_command explore_command verify_command replay_command check_command
 has_plan words e =
     let rows = rows_of_words the_plan words in
     text_found the_plan.rules (codes "TOPOLOGY") _ rows refl (rows_taken the_plan plan_fit words e)
@@ -134,7 +91,7 @@ has_plan words e =
 
 record_fit : AllFit the_record.rules the_record.rules
 unfolding program plan_command record_command threads_command drive_command topology_command explain_command texts_command
-    tables_command session_command page_command explore_command verify_command replay_command check_command
+    tables_command session_command page_command picture_command explore_command verify_command replay_command check_command
 record_fit = (
   inl (refl, refl, refl, refl),
   (
@@ -149,7 +106,7 @@ record_fit = (
 -- where clap finds no fault in the words, they have a value for each argument
 has_record : (words : List Text) → TakesWords the_record words → HasRecord (rows_of_words the_record words)
 unfolding program plan_command record_command threads_command drive_command topology_command explain_command texts_command
-    tables_command session_command page_command explore_command verify_command replay_command check_command
+    tables_command session_command page_command picture_command explore_command verify_command replay_command check_command
 has_record words e =
     let c = the_record.rules in
     let rows = rows_of_words the_record words in
@@ -168,7 +125,7 @@ has_record words e =
 
 threads_fit : AllFit the_threads.rules the_threads.rules
 unfolding program plan_command record_command threads_command drive_command topology_command explain_command texts_command
-    tables_command session_command page_command explore_command verify_command replay_command check_command
+    tables_command session_command page_command picture_command explore_command verify_command replay_command check_command
 threads_fit = (
   inl (refl, refl, refl, refl),
   (
@@ -194,7 +151,7 @@ the_turns = slice_index_or the_threads.rules 1 (new_rule [])
 
 turns_are_numbers : IsOfNumbers 1 100000 the_turns
 unfolding program plan_command record_command threads_command drive_command topology_command explain_command texts_command
-    tables_command session_command page_command explore_command verify_command replay_command check_command
+    tables_command session_command page_command picture_command explore_command verify_command replay_command check_command
 turns_are_numbers = record {
   passes =
       λ v vs e. is_accepted (accepts false (Unsigned 1 100000) v) _
@@ -210,7 +167,7 @@ the_resets = slice_index_or the_threads.rules 4 (new_rule [])
 
 selected_are_numbers : IsOfNumbers 1 65535 the_select
 unfolding program plan_command record_command threads_command drive_command topology_command explain_command texts_command
-    tables_command session_command page_command explore_command verify_command replay_command check_command
+    tables_command session_command page_command picture_command explore_command verify_command replay_command check_command
 selected_are_numbers = record {
   passes =
       λ v vs e. is_accepted (accepts false (Unsigned 1 65535) v) _
@@ -220,7 +177,7 @@ selected_are_numbers = record {
 
 resets_are_numbers : IsOfNumbers 1 100000 the_resets
 unfolding program plan_command record_command threads_command drive_command topology_command explain_command texts_command
-    tables_command session_command page_command explore_command verify_command replay_command check_command
+    tables_command session_command page_command picture_command explore_command verify_command replay_command check_command
 resets_are_numbers = record {
   passes =
       λ v vs e. is_accepted (accepts false (Unsigned 1 100000) v) _
@@ -230,7 +187,7 @@ resets_are_numbers = record {
 
 has_threads : (words : List Text) → TakesWords the_threads words → HasThreads (rows_of_words the_threads words)
 unfolding program plan_command record_command threads_command drive_command topology_command explain_command texts_command
-    tables_command session_command page_command explore_command verify_command replay_command check_command
+    tables_command session_command page_command picture_command explore_command verify_command replay_command check_command
 has_threads words e =
     let c = the_threads.rules in
     let rows = rows_of_words the_threads words in
@@ -251,7 +208,7 @@ has_threads words e =
 
 drive_fit : AllFit the_drive.rules the_drive.rules
 unfolding program plan_command record_command threads_command drive_command topology_command explain_command texts_command
-    tables_command session_command page_command explore_command verify_command replay_command check_command
+    tables_command session_command page_command picture_command explore_command verify_command replay_command check_command
 drive_fit = (
   inl (refl, refl, refl, refl),
   (
@@ -280,7 +237,7 @@ the_faults = slice_index_or the_drive.rules 4 (new_rule [])
 
 steps_are_numbers : IsOfNumbers 1 1000000 the_steps
 unfolding program plan_command record_command threads_command drive_command topology_command explain_command texts_command
-    tables_command session_command page_command explore_command verify_command replay_command check_command
+    tables_command session_command page_command picture_command explore_command verify_command replay_command check_command
 steps_are_numbers = record {
   passes =
       λ v vs e. is_accepted (accepts false (Unsigned 1 1000000) v) _
@@ -290,7 +247,7 @@ steps_are_numbers = record {
 
 drive_seeds_are_numbers : IsOfNumbers 0 4294967295 the_drive_seed
 unfolding program plan_command record_command threads_command drive_command topology_command explain_command texts_command
-    tables_command session_command page_command explore_command verify_command replay_command check_command
+    tables_command session_command page_command picture_command explore_command verify_command replay_command check_command
 drive_seeds_are_numbers = record {
   passes =
       λ v vs e. is_accepted (accepts false (Unsigned 0 4294967295) v) _
@@ -300,7 +257,7 @@ drive_seeds_are_numbers = record {
 
 faults_are_numbers : IsOfNumbers 0 1000 the_faults
 unfolding program plan_command record_command threads_command drive_command topology_command explain_command texts_command
-    tables_command session_command page_command explore_command verify_command replay_command check_command
+    tables_command session_command page_command picture_command explore_command verify_command replay_command check_command
 faults_are_numbers = record {
   passes =
       λ v vs e. is_accepted (accepts false (Unsigned 0 1000) v) _
@@ -310,7 +267,7 @@ faults_are_numbers = record {
 
 has_drive : (words : List Text) → TakesWords the_drive words → HasDrive (rows_of_words the_drive words)
 unfolding program plan_command record_command threads_command drive_command topology_command explain_command texts_command
-    tables_command session_command page_command explore_command verify_command replay_command check_command
+    tables_command session_command page_command picture_command explore_command verify_command replay_command check_command
 has_drive words e =
     let c = the_drive.rules in
     let rows = rows_of_words the_drive words in
@@ -331,7 +288,7 @@ has_drive words e =
 
 topology_fit : AllFit the_topology.rules the_topology.rules
 unfolding program plan_command record_command threads_command drive_command topology_command explain_command texts_command
-    tables_command session_command page_command explore_command verify_command replay_command check_command
+    tables_command session_command page_command picture_command explore_command verify_command replay_command check_command
 topology_fit = (
   inl (refl, refl, refl, refl),
   (
@@ -351,7 +308,7 @@ the_shape_seed = slice_index_or the_topology.rules 2 (new_rule [])
 
 nodes_are_numbers : IsOfNumbers 1 1024 the_nodes
 unfolding program plan_command record_command threads_command drive_command topology_command explain_command texts_command
-    tables_command session_command page_command explore_command verify_command replay_command check_command
+    tables_command session_command page_command picture_command explore_command verify_command replay_command check_command
 nodes_are_numbers = record {
   passes =
       λ v vs e. is_accepted (accepts false (Unsigned 1 1024) v) _
@@ -361,7 +318,7 @@ nodes_are_numbers = record {
 
 shape_seeds_are_numbers : IsOfNumbers 0 4294967295 the_shape_seed
 unfolding program plan_command record_command threads_command drive_command topology_command explain_command texts_command
-    tables_command session_command page_command explore_command verify_command replay_command check_command
+    tables_command session_command page_command picture_command explore_command verify_command replay_command check_command
 shape_seeds_are_numbers = record {
   passes =
       λ v vs e. is_accepted (accepts false (Unsigned 0 4294967295) v) _
@@ -371,7 +328,7 @@ shape_seeds_are_numbers = record {
 
 has_shape : (words : List Text) → TakesWords the_topology words → HasShape (rows_of_words the_topology words)
 unfolding program plan_command record_command threads_command drive_command topology_command explain_command texts_command
-    tables_command session_command page_command explore_command verify_command replay_command check_command
+    tables_command session_command page_command picture_command explore_command verify_command replay_command check_command
 has_shape words e =
     let c = the_topology.rules in
     let rows = rows_of_words the_topology words in
@@ -412,14 +369,14 @@ asks-met words false s below here there = there
 no_help_met : (p : Text × List Text) → bytes_eq p.0 (codes "help") ≡ false → (h : Bool)
     → answers_to p.0 (label_of the_help) ≡ h → AsksJob p.1 (cond h (Some the_help) None)
 unfolding program plan_command record_command threads_command drive_command topology_command explain_command texts_command
-    tables_command session_command page_command explore_command verify_command replay_command check_command
+    tables_command session_command page_command picture_command explore_command verify_command replay_command check_command
 no_help_met p no_help true a = absurd (bytes_eq-swap p.0 (codes "help") no_help a)
 no_help_met p no_help false a = λ f. tt
 
 job_at : (stop : Option (Text × List Text)) → IsNoHelp stop → entered_fault (built program) stop ≡ []
     → HasJob (entered (built program) stop)
 unfolding program plan_command record_command threads_command drive_command topology_command explain_command texts_command
-    tables_command session_command page_command explore_command verify_command replay_command check_command
+    tables_command session_command page_command picture_command explore_command verify_command replay_command check_command
 job_at None no_help e = tt
 job_at (Some p) no_help e =
     asks-met p.1 (answers_to p.0 (label_of the_replay)) the_replay _
@@ -435,7 +392,7 @@ job_at (Some p) no_help e =
     (asks-met p.1 (answers_to p.0 (label_of the_verify)) the_verify _
     (λ f. inr (inr (inr (inr (inr (inr (inr (inr (inr (inr (inr (inr (refl, has_verify p.1 f)))))))))))))
     (asks-met p.1 (answers_to p.0 (label_of the_picture)) the_picture _
-    (λ f. inr (inl (refl, has_histories (codes "picture") p.1 f)))
+    (λ f. inr (inl (refl, has_picture p.1 f)))
     (asks-met p.1 (answers_to p.0 (label_of the_page)) the_page _
     (λ f. inr (inr (inr (inr (inr (inr (inr (inr (inr (inr (inr (inl (refl, has_page p.1 f)))))))))))))
     (asks-met p.1 (answers_to p.0 (label_of the_record)) the_record _ (λ f. inr (inr (inl (refl, has_record p.1 f))))
@@ -454,7 +411,7 @@ job_at (Some p) no_help e =
 -- words in which clap finds no fault ask for a job
 pub has_job : (words : List Text) → fault_of program words ≡ [] → HasJob (subcommand_of program words)
 unfolding program plan_command record_command threads_command drive_command topology_command explain_command texts_command
-    tables_command session_command page_command explore_command verify_command replay_command check_command
+    tables_command session_command page_command picture_command explore_command verify_command replay_command check_command
 has_job words e =
     let a : App = built program in
     let given : List Text = argument_words program words in
@@ -471,12 +428,14 @@ has_job words e =
 
 program_is_simple : is_simple program ≡ true
 unfolding program plan_command record_command threads_command drive_command topology_command explain_command texts_command
-    tables_command session_command page_command explore_command verify_command replay_command check_command clap_on_literals
+    tables_command session_command page_command picture_command explore_command verify_command replay_command check_command
+    clap_on_literals
 program_is_simple = refl
 
 program_is_free : is_simple_and_free program ≡ true
 unfolding program plan_command record_command threads_command drive_command topology_command explain_command texts_command
-    tables_command session_command page_command explore_command verify_command replay_command check_command clap_on_literals
+    tables_command session_command page_command picture_command explore_command verify_command replay_command check_command
+    clap_on_literals
 program_is_free = refl
 
 pub faults_are : (a : App) (words : List Text) (P : Kinds → Type 0) → a ≡ program

@@ -10,6 +10,7 @@ use Rattle.clap.specs.declared.builder.value_parser.ValueParser.TheVariants.{Boo
 use Rattle.clap.specs.declared.error.ErrorKind.TheVariants.{MissingRequiredArgument}
 use Rattle.command_words.specs.Words.{HasVerify}
 use Rattle.command_words.specs.Words.{drive_command, explain_command, explore_command, page_command, plan_command}
+use Rattle.command_words.specs.Words.{picture_command}
 use Rattle.command_words.specs.Words.{program, record_command, session_command, tables_command, texts_command}
 use Rattle.command_words.specs.Words.{threads_command, topology_command, verify_command, replay_command, check_command}
 use Rattle.command_words.proofs.PathRows.{AllFit, TakesWords, checked, or_else-nil, rows_taken}
@@ -25,7 +26,7 @@ rows_of_words s words = (rows_at s words).1
 
 verify_fit : AllFit the_verify.rules the_verify.rules
 unfolding program plan_command record_command threads_command drive_command topology_command explain_command texts_command
-    tables_command session_command page_command explore_command verify_command replay_command check_command
+    tables_command session_command page_command picture_command explore_command verify_command replay_command check_command
 verify_fit = (
   inl (refl, refl, refl, refl),
   (
@@ -42,7 +43,7 @@ the_why = slice_index_or the_verify.rules 3 (new_rule [])
 
 whys_are_flags : IsOfFlags the_why
 unfolding program plan_command record_command threads_command drive_command topology_command explain_command texts_command
-    tables_command session_command page_command explore_command verify_command replay_command check_command
+    tables_command session_command page_command picture_command explore_command verify_command replay_command check_command
 whys_are_flags = record {
   passes = λ v vs e. is_accepted (accepts false Flags v) _ (or_else-nil _ (values_fault the_why vs) e).0;
   reading = refl;
@@ -53,7 +54,7 @@ the_at = slice_index_or the_verify.rules 4 (new_rule [])
 
 places_are_numbers : IsOfNumbers 0 1000000 the_at
 unfolding program plan_command record_command threads_command drive_command topology_command explain_command texts_command
-    tables_command session_command page_command explore_command verify_command replay_command check_command
+    tables_command session_command page_command picture_command explore_command verify_command replay_command check_command
 places_are_numbers = record {
   passes =
       λ v vs e. is_accepted (accepts false (Unsigned 0 1000000) v) _ (or_else-nil _ (values_fault the_at vs) e).0;
@@ -64,7 +65,7 @@ places_are_numbers = record {
 -- can be read
 pub has_verify : (words : List Text) → TakesWords the_verify words → HasVerify (rows_of_words the_verify words)
 unfolding program plan_command record_command threads_command drive_command topology_command explain_command texts_command
-    tables_command session_command page_command explore_command verify_command replay_command check_command
+    tables_command session_command page_command picture_command explore_command verify_command replay_command check_command
 has_verify words e =
     let rows = rows_of_words the_verify words in
     let given =

@@ -18,12 +18,12 @@ use Rattle.command_words.specs.declared.words.Job.{Job}
 use Rattle.command_words.specs.declared.words.Job.TheVariants.{Joined, Replay, Check, Verify, Picture, Record, Threads}
 use Rattle.command_words.specs.declared.words.Job.TheVariants.{Drive, Plan, Explore, Session, Page, Shape, Explain, Tables}
 use Rattle.command_words.specs.declared.words.LineFault.{LineFault}
-use Rattle.command_words.specs.declared.words.Paths.{Paths}
 use Rattle.command_words.specs.declared.words.LineFault.TheVariants.{BadWords, NoMemory}
 use Rattle.command_words.specs.declared.check_words.CheckWords.{CheckWords}
 use Rattle.command_words.specs.declared.drive_words.DriveWords.{DriveWords}
 use Rattle.command_words.specs.declared.explore_words.ExploreWords.{ExploreWords}
 use Rattle.command_words.specs.declared.page_words.PageWords.{PageWords}
+use Rattle.command_words.specs.declared.picture_words.PictureWords.{PictureWords}
 use Rattle.command_words.specs.declared.plan_words.PlanWords.{PlanWords}
 use Rattle.command_words.specs.declared.record_words.RecordWords.{RecordWords}
 use Rattle.command_words.specs.declared.session_words.SessionWords.{SessionWords}
@@ -109,6 +109,13 @@ verify_command =
     with_rule (with_rule (texts_command (codes "verify") (codes "HISTORY")) (flag (codes "why")))
     (optional (number_option (codes "at") 0 1000000))
 
+-- `picture TOPOLOGY HISTORY [--from SNAPSHOT] [--rows P..Q] [--nodes IDS]`
+unfoldable pub picture_command : App
+picture_command =
+    with_rule
+    (with_rule (texts_command (codes "picture") (codes "HISTORY")) (optional (file_option (codes "rows"))))
+    (optional (file_option (codes "nodes")))
+
 -- `page TOPOLOGY HISTORY [--from SNAPSHOT] [--title TEXT]`
 unfoldable pub page_command : App
 page_command =
@@ -182,8 +189,7 @@ scripts_program =
 abbrev pub texts_program : App
 texts_program =
     with_subcommand
-    (with_subcommand (with_subcommand scripts_program verify_command.top)
-    (texts_command (codes "picture") (codes "HISTORY")).top) page_command.top
+    (with_subcommand (with_subcommand scripts_program verify_command.top) picture_command.top) page_command.top
 
 -- with those that write a history
 abbrev pub histories_program : App
@@ -208,12 +214,6 @@ name_in = option_map (λ s. s.0)
 
 abbrev pub value_in : Found → Text → Option Text
 value_in found argument = option_and_then (λ s. first_of argument s.1) found
-
--- it is the subcommand of this name, with these paths, of which the second is that of the argument input
-abbrev pub HasPaths : Found → Text → Text → Paths → Type 0
-HasPaths found name input paths = (name_in found ≡ Some name)
-    × (value_in found (codes "TOPOLOGY") ≡ Some paths.topology.now) × (value_in found input ≡ Some paths.input.now)
-    × (value_in found (codes "from") ≡ option_map (λ from. from.now) paths.from)
 
 -- the text is the number in decimal digits; a plus may stand first
 abbrev pub Writes : ℕ → Text → Type 0
@@ -292,6 +292,15 @@ HasVerifyWords found words = (name_in found ≡ Some (codes "verify"))
     × (words.why ≡ is_on (value_in found (codes "why")))
     × IsNumberOrNone 0 1000000 (value_in found (codes "at")) words.at
 
+-- it is the subcommand `picture` with these values
+abbrev pub HasPictureWords : Found → PictureWords → Type 0
+HasPictureWords found words = (name_in found ≡ Some (codes "picture"))
+    × (value_in found (codes "TOPOLOGY") ≡ Some words.topology.now)
+    × (value_in found (codes "HISTORY") ≡ Some words.history.now)
+    × (value_in found (codes "from") ≡ option_map (λ from. from.now) words.from)
+    × (value_in found (codes "rows") ≡ option_map (λ rows. rows.now) words.rows)
+    × (value_in found (codes "nodes") ≡ option_map (λ nodes. nodes.now) words.nodes)
+
 -- it is the subcommand `page` with these values
 abbrev pub HasPageWords : Found → PageWords → Type 0
 HasPageWords found words = (name_in found ≡ Some (codes "page"))
@@ -352,7 +361,7 @@ AskedBy found (Plan words) = HasPlanWords found words
 AskedBy found (Explore words) = HasExploreWords found words
 AskedBy found (Session words) = HasSessionWords found words
 AskedBy found (Verify words) = HasVerifyWords found words
-AskedBy found (Picture paths) = HasPaths found (codes "picture") (codes "HISTORY") paths
+AskedBy found (Picture words) = HasPictureWords found words
 AskedBy found (Page words) = HasPageWords found words
 AskedBy found (Record words) = HasRecordWords found words
 AskedBy found (Threads words) = HasThreadWords found words

@@ -5,19 +5,19 @@ ghost use Rattle.clap.specs.Words.{App, Rule, app_of, new_app, with_rule, with_s
 ghost use Rattle.command_words.specs.Words.{IsCommand, IsWord, check_command, drive_command, explain_command};
 ghost use Rattle.command_words.specs.Words.{explore_command, file_option, flag, from_option, histories_program};
 ghost use Rattle.command_words.specs.Words.{new_program, number_option, optional, path, program};
-ghost use Rattle.command_words.specs.Words.{page_command, plan_command, record_command, replay_command, scripts_program};
+ghost use Rattle.command_words.specs.Words.{page_command, picture_command, plan_command, record_command, replay_command, scripts_program};
 ghost use Rattle.command_words.specs.Words.{session_command, tables_command, texts_command, texts_program};
 ghost use Rattle.command_words.specs.Words.{threads_command, topology_command, verify_command, within};
 
 use crate::help::{
-    ABOUT, ACTS_HELP, AFTER_HELP, APP_HELP, AT_HELP, CHECK_HELP, DRIVE_HELP, DRIVE_SEED_HELP,
-    EXPLAIN_HELP, EXPLORE_HELP, EXPLORE_SCRIPT_HELP, FAULTS_HELP, FEW_NODES_HELP, FROM_HELP,
-    HISTORY_FILE_HELP, HISTORY_HELP, Help, LONG_ABOUT, MOST_HELP, NO_SYNC_HELP, NODES_HELP,
-    NUMBER_HELP, PAGE_HELP, PICTURE_HELP, PLAN_HELP, PLAN_SCRIPT_HELP, RECORD_HELP, REPAIR_HELP,
-    REPLAY_HELP, RESETS_HELP, SCRIPT_HELP, SELECT_HELP, SESSION_HELP, SESSION_HISTORY_HELP,
-    SHAPE_HELP, SHAPE_NAME_HELP, SHAPE_SEED_HELP, SHOWN_HISTORY_HELP, STEPS_HELP, STRICT_HELP,
-    TABLES_ABOUT, TABLES_LONG_ABOUT, THREADS_HELP, TITLE_HELP, TOPOLOGY_HELP, TURNS_HELP,
-    UNTIL_HELP, VERIFY_HELP, VERSION, WHOLE_HELP, WHY_HELP, WORD_HELP,
+    ABOUT, ACTS_HELP, AFTER_HELP, APP_HELP, AT_HELP, CHECK_HELP, DRAWN_NODES_HELP, DRIVE_HELP,
+    DRIVE_SEED_HELP, EXPLAIN_HELP, EXPLORE_HELP, EXPLORE_SCRIPT_HELP, FAULTS_HELP, FEW_NODES_HELP,
+    FROM_HELP, HISTORY_FILE_HELP, HISTORY_HELP, Help, LONG_ABOUT, MOST_HELP, NO_SYNC_HELP,
+    NODES_HELP, NUMBER_HELP, PAGE_HELP, PICTURE_HELP, PLAN_HELP, PLAN_SCRIPT_HELP, RECORD_HELP,
+    REPAIR_HELP, REPLAY_HELP, RESETS_HELP, ROWS_HELP, SCRIPT_HELP, SELECT_HELP, SESSION_HELP,
+    SESSION_HISTORY_HELP, SHAPE_HELP, SHAPE_NAME_HELP, SHAPE_SEED_HELP, SHOWN_HISTORY_HELP,
+    STEPS_HELP, STRICT_HELP, TABLES_ABOUT, TABLES_LONG_ABOUT, THREADS_HELP, TITLE_HELP,
+    TOPOLOGY_HELP, TURNS_HELP, UNTIL_HELP, VERIFY_HELP, VERSION, WHOLE_HELP, WHY_HELP, WORD_HELP,
 };
 use clap::builder::ValueParser;
 use clap::{Arg, ArgAction, Command};
@@ -45,9 +45,8 @@ fn histories_line<'a>(alloc: Global) -> Result<Command<'a>, AllocError>
 fn texts_line<'a>(alloc: Global) -> Result<Command<'a>, AllocError>
     ensures { IfOk result (IsCommand texts_program) }
 {
-    let picture = texts_words(alloc, "picture", "HISTORY", HISTORY_HELP, &PICTURE_HELP);
     let line = with_command(scripts_line(alloc), verify_words(alloc));
-    let line = with_command(line, picture);
+    let line = with_command(line, picture_words(alloc));
     with_command(line, page_words(alloc))
 }
 
@@ -156,6 +155,16 @@ fn verify_words<'a>(alloc: Global) -> Result<Command<'a>, AllocError>
     let line = texts_words(alloc, "verify", "HISTORY", HISTORY_HELP, &VERIFY_HELP);
     let line = with_argument(line, flag_word(alloc, "why", WHY_HELP));
     with_argument(line, at_word(alloc))
+}
+
+// The subcommand with the paths of a topology and of a history and, where they are given, that of a snapshot and the
+// entries and the nodes that are drawn.
+fn picture_words<'a>(alloc: Global) -> Result<Command<'a>, AllocError>
+    ensures { IfOk result (IsCommand picture_command) }
+{
+    let line = texts_words(alloc, "picture", "HISTORY", HISTORY_HELP, &PICTURE_HELP);
+    let line = with_argument(line, rows_word(alloc));
+    with_argument(line, drawn_nodes_word(alloc))
 }
 
 // The subcommand with the paths of a topology and of a history and, where they are given, that of a snapshot and a
@@ -374,6 +383,20 @@ fn kept_history_word<'a>(alloc: Global) -> Arg<'a>
     ensures { IsWord (optional (file_option (codes "history"))) result }
 {
     option_word(alloc, "history", "FILE", false, SESSION_HISTORY_HELP)
+}
+
+// The first and the last entry of a picture, which may be left out.
+fn rows_word<'a>(alloc: Global) -> Arg<'a>
+    ensures { IsWord (optional (file_option (codes "rows"))) result }
+{
+    option_word(alloc, "rows", "P..Q", false, ROWS_HELP)
+}
+
+// The nodes of a picture, which may be left out.
+fn drawn_nodes_word<'a>(alloc: Global) -> Arg<'a>
+    ensures { IsWord (optional (file_option (codes "nodes"))) result }
+{
+    option_word(alloc, "nodes", "IDS", false, DRAWN_NODES_HELP)
 }
 
 // The title of a page, which may be left out.

@@ -72,7 +72,7 @@ The commands of a script, at node I with its neighbour J and its child C:
   request I, relay I C, open I, join I, finish I, mend I
   act I CASE, act I CASE J
   show, show I, newest, enabled I, ready
-  check, check I, alarm I, watch I, moves, moves I, snapshot
+  check, check I, alarm I, watch I, moves, moves I, invariant, snapshot
   fault tree I ROOT FATHER DIST, fault wave I PHASE SESSION, fault local I TEXT
   fault down A B, fault up A B, fault off I, fault on I, draw SEED
 A CASE is the name of an action of the application, or its number. They are
@@ -208,6 +208,11 @@ Example:
 };
 
 pub const TITLE_HELP: &str = "The title of the page";
+
+pub const ROWS_HELP: &str =
+    "Draws these entries alone, the first and the last counted from 1, as in 17..40";
+
+pub const DRAWN_NODES_HELP: &str = "Draws these nodes alone, as in 1,2,5";
 
 pub const FROM_HELP: &str =
     "A file with a snapshot, which it starts from in place of the booted configuration";
@@ -379,11 +384,13 @@ A node is a lane, the leader first, and time goes down the page: each entry is a
 its node, with its line as a text that shows where the pointer rests. A lane has the colour of the
 node's phase, and behind it that of its session, so that a reset is seen to go down the tree and to
 end. A line across the lanes of a component is a completed reset; a node that is down is hatched. At
-most 64 nodes and 2,000 entries are drawn. What can't be drawn is answered in place of a picture: the
+most 64 nodes and 2,000 entries are drawn: of more, `--nodes` and `--rows` draw a part, with the
+numbers that the entries have in the whole. What can't be drawn is answered in place of a picture: the
 exit status tells.",
     after_help: "\
-Example:
-  reset-service picture examples/history/verified-wave/topology.toml examples/history/verified-wave/history > wave.svg",
+Examples:
+  reset-service picture examples/history/verified-wave/topology.toml examples/history/verified-wave/history > wave.svg
+  reset-service picture topology.toml history --rows 5000..5060 --nodes 1,2,5 > part.svg",
 };
 
 pub const SHAPE_HELP: Help = Help {

@@ -12,6 +12,7 @@ use crate::commands::command_line;
 use crate::drive_words::DriveWords;
 use crate::explore_words::ExploreWords;
 use crate::page_words::PageWords;
+use crate::picture_words::PictureWords;
 use crate::plan_words::PlanWords;
 use crate::record_words::RecordWords;
 use crate::replay_words::ReplayWords;
@@ -54,7 +55,7 @@ pub enum Job<'a> {
     /// Verify the history of a file from the booted configuration of another's topology, or from a snapshot.
     Verify(VerifyWords<'a>),
     /// Draw the history of a file from the booted configuration of another's topology, or from a snapshot.
-    Picture(Paths<'a>),
+    Picture(PictureWords<'a>),
     /// Write a page that plays the history of a file forward and back.
     Page(PageWords<'a>),
     /// Replay the script of a file on the topology of another, and write what happened to a third.
@@ -146,7 +147,7 @@ fn named_job<'a>(name: &str, values: &ArgMatches<'a>) -> Job<'a>
         "explore" => Job::Explore(explore_words_of(values)),
         "session" => Job::Session(session_words_of(values)),
         "verify" => Job::Verify(verify_words_of(values)),
-        "picture" => Job::Picture(paths_of(values, "HISTORY")),
+        "picture" => Job::Picture(picture_words_of(values)),
         "page" => Job::Page(page_words_of(values)),
         "record" => Job::Record(record_words_of(values)),
         "threads" => Job::Threads(thread_words_of(values)),
@@ -321,6 +322,28 @@ fn page_words_of<'a>(values: &ArgMatches<'a>) -> PageWords<'a>
         history: paths.input,
         from: paths.from,
         title,
+    }
+}
+
+// The words of matches that have a topology and a history, and may have a snapshot, entries and nodes.
+fn picture_words_of<'a>(values: &ArgMatches<'a>) -> PictureWords<'a>
+    requires { HasTexts (codes "HISTORY") (rows_of (found_of values.now)) }
+    ensures topology { first_of (codes "TOPOLOGY") (rows_of (found_of values.now)) ≡ Some result.topology.now }
+    ensures history { first_of (codes "HISTORY") (rows_of (found_of values.now)) ≡ Some result.history.now }
+    ensures from { first_of (codes "from") (rows_of (found_of values.now)) ≡ option_map (λ from. from.now) result.from }
+    ensures rows { first_of (codes "rows") (rows_of (found_of values.now)) ≡ option_map (λ rows. rows.now) result.rows }
+    ensures nodes { first_of (codes "nodes") (rows_of (found_of values.now))
+        ≡ option_map (λ nodes. nodes.now) result.nodes }
+{
+    let paths = paths_of(values, "HISTORY");
+    let rows = values.get_str("rows");
+    let nodes = values.get_str("nodes");
+    PictureWords {
+        topology: paths.topology,
+        history: paths.input,
+        from: paths.from,
+        rows,
+        nodes,
     }
 }
 

@@ -5,7 +5,8 @@ ghost use Rattle.std.specs.Prelude.{◌≡◌};
 use crate::graph_faults::{put_of_link, put_of_node};
 use crate::said::{Source, put_end, put_head, put_line_number, put_said};
 use action_tables::{WriteFault, put_bytes};
-use app_interface::{Application, Idle};
+use app_interface::Idle;
+use app_invariants::Invariant;
 use app_mutex::EdgeReversal;
 use app_routes::Routes;
 use app_token::Token;
@@ -75,7 +76,7 @@ fn fault_of(alloc: Global, network: &Network, text: &[u8]) -> Option<SnapshotFau
     }
 }
 
-fn fault_on<P: Application>(alloc: Global, network: &Network, text: &[u8]) -> Option<SnapshotFault>
+fn fault_on<P: Invariant>(alloc: Global, network: &Network, text: &[u8]) -> Option<SnapshotFault>
     requires { network.now.topology.nodes ≡ network.now.topology.ids }
 {
     match read_snapshot::<P>(alloc, &network.topology, network.modulus, text) {

@@ -25,6 +25,7 @@ enabled I                      the rows of the tables that node I may take
 ready                          the nodes that have something to do
 moves [I]                      the commands that are allowed now
 check [I]                      the rows of the tables that fail
+invariant                      what the application's nodes do together, in each component
 alarm I                        the first fault of the application that node I sees
 watch I                        the same, and node I asks for a reset where it sees one
 snapshot                       the whole configuration

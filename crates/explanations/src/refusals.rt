@@ -1,6 +1,6 @@
 // What the refusals of events and of faults mean, and the faults of texts, and what to do: words, each with its text.
 
-pub const REFUSALS: [(&str, &str); 42] = [
+pub const REFUSALS: [(&str, &str); 43] = [
     // Refusals of events and of faults.
     (
         "StrangeNode",
@@ -159,7 +159,13 @@ one link.\n",
     (
         "TooManyForPicture",
         "\
-`picture` draws a topology of at most 64 nodes.\n",
+`picture` draws at most 64 nodes; `--nodes` says which.\n",
+    ),
+    (
+        "BadRange",
+        "\
+The rows of `picture --rows` are two numbers with two dots between them, as in 17..40: the first entry\n\
+that is drawn, from 1 on, and the last.\n",
     ),
     // Faults of scripts, histories and devices.
     (
@@ -171,8 +177,7 @@ A script has at most 1,048,576 bytes, a history at most 1,000,000 entries, and a
     (
         "TooLongForPicture",
         "\
-`picture` draws a history of at most 2,000 entries. The first 2,001 lines of a longer one are a\n\
-history too: `head -n 2001`.\n",
+`picture` draws at most 2,000 entries; of a longer history `--rows 1..2000` draws the first ones.\n",
     ),
     (
         "BadLine",

@@ -7,12 +7,12 @@ pub const TOPICS: &str = "\
 commands that take a step or do a fault
   claim follow adopt request relay open join finish mend act fault draw
 commands that ask
-  show newest enabled ready moves check alarm watch snapshot
+  show newest enabled ready moves check invariant alarm watch snapshot
 of sessions alone
   help explain exit
 answers
   applied complete refused disturbed drawn move quiet unjoined link faults
-  invariant verified report entry row drove threads resumed bad
+  verified report entry row drove threads resumed bad
 refusals
   StrangeNode StrangeNeighbour NoSuchCase WantsNeighbour TakesNoNeighbour
   Disagrees NotEnabled BadValue BadLocal NoSuchLink LinkIsThere NodeIsUp
@@ -20,8 +20,8 @@ refusals
 errors of topologies, snapshots, scripts and histories
   TextTooLong NotToml MissingKey UnknownKey WrongKind UnknownApp
   UnknownShape NoNodes TooManyNodes BadId TwiceNode TooManyLinks SelfLink
-  TwiceLink TooManyForThreads TooManyForPicture TooLong TooLongForPicture
-  BadLine BadVersion OtherModulus
+  TwiceLink TooManyForThreads TooManyForPicture BadRange TooLong
+  TooLongForPicture BadLine BadVersion OtherModulus
 what a run may end by
   line not EndsAfter read write thread memory lists
 plans and explorations

@@ -9,7 +9,7 @@ use Rattle.script_replay.specs.Script.{line_of}
 use Rattle.script_replay.specs.declared.script.Command.{Command}
 use Rattle.script_replay.specs.declared.script.Command.TheVariants.{Step, Inject, Draw, Show, ShowNode, Newest, Enabled}
 use Rattle.script_replay.specs.declared.script.Command.TheVariants.{Ready, Check, CheckNode, Alarm, Watch, Moves}
-use Rattle.script_replay.specs.declared.script.Command.TheVariants.{MovesOf, Snapshot}
+use Rattle.script_replay.specs.declared.script.Command.TheVariants.{MovesOf, Snapshot, Invariant}
 use Rattle.script_replay.specs.declared.script.Line.{Line}
 use Rattle.script_replay.specs.declared.script.Line.TheVariants.{Asks, Bad, Silent}
 use Rattle.live_session.specs.Course.{Exchange, asks_for_change, full_text, is_full, is_refused, reply_text}
@@ -91,6 +91,7 @@ module _ {L : Type 0} (m : Meaning L) (c : Configuration L) where
   question_entries Moves is = refl
   question_entries (MovesOf i) is = refl
   question_entries Snapshot is = refl
+  question_entries Invariant is = refl
 
   pub question_answered : (room : Option ℕ) (n : ℕ) (text : List ℕ) (command : Command) (c' : Configuration L) (old new : Batch)
       → asks_for_change (Asks command) ≡ false → c' ≡ (answered m c command).0

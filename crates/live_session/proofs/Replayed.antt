@@ -24,7 +24,7 @@ use Rattle.script_replay.specs.Script.{line_of}
 use Rattle.script_replay.specs.declared.script.Command.{Command}
 use Rattle.script_replay.specs.declared.script.Command.TheVariants.{Step, Inject, Draw, Show, ShowNode, Newest, Enabled}
 use Rattle.script_replay.specs.declared.script.Command.TheVariants.{Ready, Check, CheckNode, Alarm, Watch, Moves}
-use Rattle.script_replay.specs.declared.script.Command.TheVariants.{MovesOf, Snapshot}
+use Rattle.script_replay.specs.declared.script.Command.TheVariants.{MovesOf, Snapshot, Invariant}
 use Rattle.script_replay.specs.declared.script.Line.{Line}
 use Rattle.script_replay.specs.declared.script.Line.TheVariants.{Silent, Asks, Bad}
 use Rattle.script_replay.proofs.Nodes.{node_of, node_there}
@@ -115,6 +115,7 @@ module _ {L : Type 0} (m : Meaning L) (c : Configuration L) where
   command_replayed Moves = replayed-none m.app m.from_text c
   command_replayed (MovesOf i) = replayed-none m.app m.from_text c
   command_replayed Snapshot = replayed-none m.app m.from_text c
+  command_replayed Invariant = replayed-none m.app m.from_text c
 
   line_replayed : (n : ℕ) (line : Line) → left_by (line_entries m c line) ≡ Some (answer_to m c n line).config
   line_replayed n Silent = replayed-none m.app m.from_text c

@@ -18,6 +18,7 @@ ghost use Rattle.reset_model.specs.declared.event.Event.TheVariants.{Request};
 use crate::batch::Batch;
 use action_tables::{WriteFault, put_bytes};
 use app_interface::Application;
+use app_invariants::Invariant;
 use fault_inject::{Fault, FaultRefusal, inject, write_fault};
 use link_predicates::alarm;
 use reset_machine::{Config, Event, StepRefusal, write_event};
@@ -165,7 +166,7 @@ pub fn act_draw<P: Application>(
 }
 
 /// Answers the alarm of a node, and has the node ask for a reset where it has one. The answer is the room that is left.
-pub fn act_watch<P: Application>(
+pub fn act_watch<P: Invariant>(
     alloc: Global,
     config: &mut Config<P>,
     room: Option<u64>,
@@ -174,10 +175,10 @@ pub fn act_watch<P: Application>(
 ) -> Result<Option<u64>, AllocError>
     requires { is_full room ≡ false }
     ensures config { OnOk result
-        (config.new ≡ (answered (meaning_of P.app P.text P.from_text P.names) config.old (Watch at)).0) }
+        (config.new ≡ (answered (meaning_of P.app P.text P.from_text P.names P.counts) config.old (Watch at)).0) }
     ensures acted { IfOk result (λ left. HasActed room
-        (answered (meaning_of P.app P.text P.from_text P.names) config.old (Watch at)).1
-        (line_entries (meaning_of P.app P.text P.from_text P.names) config.old (Asks (Watch at))) left
+        (answered (meaning_of P.app P.text P.from_text P.names P.counts) config.old (Watch at)).1
+        (line_entries (meaning_of P.app P.text P.from_text P.names P.counts) config.old (Asks (Watch at))) left
         batch.old batch.new) }
 {
     let asks = asks_for_reset(alloc, config, at)?;
@@ -193,12 +194,13 @@ pub fn act_watch<P: Application>(
 }
 
 // Whether a node that watches asks for a reset: it has an alarm, and its request is applied.
-fn asks_for_reset<P: Application>(
+fn asks_for_reset<P: Invariant>(
     alloc: Global,
     config: &Config<P>,
     at: u32,
 ) -> Result<bool, AllocError>
-    ensures { IfOk result (λ asks. line_entries (meaning_of P.app P.text P.from_text P.names) config.now (Asks (Watch at))
+    ensures { IfOk result (λ asks. line_entries (meaning_of P.app P.text P.from_text P.names P.counts)
+        config.now (Asks (Watch at))
         ≡ entry_if asks (Request at)) }
 {
     match alarm(config, at) {

@@ -14,14 +14,14 @@ ghost use Rattle.live_session.specs.Progress.{IsAnswered};
 use crate::acting::{act_draw, act_event, act_fault, act_kept, act_unkept, act_watch, gathered};
 use crate::batch::Batch;
 use action_tables::put_bytes;
-use app_interface::Application;
+use app_invariants::Invariant;
 use explanations::help_for;
 use reset_machine::{Config, Event};
 use script_replay::{Command, Line, RunStop, answer_command, put_bad_line, read_line};
 use std::alloc::{AllocError, Global};
 
 /// Answers the line with this number and text. The answer is the room that the history has left.
-pub fn answer_text<P: Application>(
+pub fn answer_text<P: Invariant>(
     alloc: Global,
     config: &mut Config<P>,
     room: Option<u64>,
@@ -29,7 +29,8 @@ pub fn answer_text<P: Application>(
     line: &[u8],
     batch: &mut Batch,
 ) -> Result<Option<u64>, AllocError>
-    ensures { IfOk result (λ left. IsAnswered (meaning_of P.app P.text P.from_text P.names) room config.old number
+    ensures { IfOk result (λ left. IsAnswered (meaning_of P.app P.text P.from_text P.names P.counts)
+        room config.old number
         line.now (line_of P.names line.now) left config.new batch.old batch.new) }
 {
     match read_line::<P>(alloc, line)? {
@@ -56,13 +57,14 @@ fn answer_unread(number: u64, line: &[u8], batch: &mut Batch) -> Result<(), Allo
 
 /// Answers the line of an event where the session keeps no history.
 #[inline(always)]
-pub fn answer_unkept<P: Application>(
+pub fn answer_unkept<P: Invariant>(
     alloc: Global,
     config: &mut Config<P>,
     event: Event,
     batch: &mut Batch,
 ) -> Result<(), AllocError>
-    ensures { OnOk result ((n : ℕ) (text : List ℕ) → IsAnswered (meaning_of P.app P.text P.from_text P.names) None
+    ensures { OnOk result ((n : ℕ) (text : List ℕ) → IsAnswered (meaning_of P.app P.text P.from_text P.names P.counts)
+        None
         config.old n text (Asks (Step event)) None config.new batch.old batch.new) }
 {
     act_unkept(alloc, config, event, batch)
@@ -71,7 +73,7 @@ pub fn answer_unkept<P: Application>(
 /// Answers the line of an event, which has this text with its line feed. The answer is the room that the history has
 /// left.
 #[inline(always)]
-pub fn answer_kept<P: Application>(
+pub fn answer_kept<P: Invariant>(
     alloc: Global,
     config: &mut Config<P>,
     room: u64,
@@ -80,7 +82,8 @@ pub fn answer_kept<P: Application>(
     batch: &mut Batch,
 ) -> Result<u64, AllocError>
     requires { line.now ≡ ended (event_line event) }
-    ensures { IfOk result (λ left. (n : ℕ) (text : List ℕ) → IsAnswered (meaning_of P.app P.text P.from_text P.names)
+    ensures { IfOk result (λ left. (n : ℕ) (text : List ℕ) → IsAnswered
+        (meaning_of P.app P.text P.from_text P.names P.counts)
         (Some room) config.old n text (Asks (Step event)) (Some left) config.new batch.old batch.new) }
 {
     if room == 0 {
@@ -91,14 +94,15 @@ pub fn answer_kept<P: Application>(
 }
 
 // Answers a command.
-fn answer_asked<P: Application>(
+fn answer_asked<P: Invariant>(
     alloc: Global,
     config: &mut Config<P>,
     room: Option<u64>,
     command: Command,
     batch: &mut Batch,
 ) -> Result<Option<u64>, AllocError>
-    ensures { IfOk result (λ left. (n : ℕ) (text : List ℕ) → IsAnswered (meaning_of P.app P.text P.from_text P.names) room
+    ensures { IfOk result (λ left. (n : ℕ) (text : List ℕ) → IsAnswered
+        (meaning_of P.app P.text P.from_text P.names P.counts) room
         config.old n text (Asks command) left config.new batch.old batch.new) }
 {
     if !asks_for_change(&command) {
@@ -129,16 +133,16 @@ fn asks_for_change(command: &Command) -> bool
 }
 
 // Answers a question, which changes nothing.
-fn answer_question<P: Application>(
+fn answer_question<P: Invariant>(
     alloc: Global,
     config: &mut Config<P>,
     command: Command,
     batch: &mut Batch,
 ) -> Result<(), AllocError>
     ensures config { OnOk result
-        (config.new ≡ (answered (meaning_of P.app P.text P.from_text P.names) config.old command).0) }
+        (config.new ≡ (answered (meaning_of P.app P.text P.from_text P.names P.counts) config.old command).0) }
     ensures answers { OnOk result (batch.new.answers.items ≡ batch.old.answers.items
-        ++ (answered (meaning_of P.app P.text P.from_text P.names) config.old command).1) }
+        ++ (answered (meaning_of P.app P.text P.from_text P.names P.counts) config.old command).1) }
     ensures entries { OnOk result (batch.new.entries.items ≡ batch.old.entries.items) }
 {
     match answer_command(alloc, config, command, &mut batch.answers) {

@@ -10,7 +10,7 @@ ghost use Rattle.live_session.specs.Kept.{HasGoneOn, IsCutGoingOn, IsStopped, re
 
 use crate::session::run_session;
 use action_tables::{Part, WriteFault, put_parts};
-use app_interface::Application;
+use app_invariants::Invariant;
 use history::{MAX_ENTRIES, ReaderFault, Resumed, put_first_line, resume_reader};
 use reset_machine::Config;
 use script_replay::RunStop;
@@ -27,16 +27,16 @@ pub enum ResumeStop {
 }
 
 /// A session with a new history, whose first line is written and flushed before the first read.
-pub fn begin_history<P: Application, R: Read, H: Write, W: Write>(
+pub fn begin_history<P: Invariant, R: Read, H: Write, W: Write>(
     alloc: Global,
     opening: Config<P>,
     input: &mut R,
     log: &mut H,
     out: &mut W,
 ) -> Result<Config<P>, RunStop>
-    ensures done { IfOk result (HasBegun (meaning_of P.app P.text P.from_text P.names) opening
+    ensures done { IfOk result (HasBegun (meaning_of P.app P.text P.from_text P.names P.counts) opening
         (R.remaining input.old) (H.contents log.old) (H.contents log.new) (W.contents out.old) (W.contents out.new)) }
-    ensures cut { OnErr result (IsCutAtBeginning (meaning_of P.app P.text P.from_text P.names) opening
+    ensures cut { OnErr result (IsCutAtBeginning (meaning_of P.app P.text P.from_text P.names P.counts) opening
         (R.remaining input.old) (H.contents log.old) (H.contents log.new) (W.contents out.old) (W.contents out.new)) }
 {
     match put_beginning(log, opening.modulus().get()) {
@@ -62,7 +62,7 @@ fn put_beginning<H: Write>(log: &mut H, modulus: u64) -> Result<(), WriteFault>
 
 /// A session that goes on after the history that a reader gives, from this opening on: its past is verified first, and
 /// how many entries and reports it has is answered before the first read.
-pub fn resume_history<P: Application, F: Read, R: Read, H: Write, W: Write>(
+pub fn resume_history<P: Invariant, F: Read, R: Read, H: Write, W: Write>(
     alloc: Global,
     opening: Config<P>,
     past: &mut F,
@@ -70,10 +70,10 @@ pub fn resume_history<P: Application, F: Read, R: Read, H: Write, W: Write>(
     log: &mut H,
     out: &mut W,
 ) -> Result<Config<P>, ResumeStop>
-    ensures done { IfOk result (HasResumed (meaning_of P.app P.text P.from_text P.names) opening
+    ensures done { IfOk result (HasResumed (meaning_of P.app P.text P.from_text P.names P.counts) opening
         (F.remaining past.old) (R.remaining input.old) (H.contents log.old) (H.contents log.new)
         (W.contents out.old) (W.contents out.new)) }
-    ensures err { IfErr result (IsStopped (meaning_of P.app P.text P.from_text P.names) opening
+    ensures err { IfErr result (IsStopped (meaning_of P.app P.text P.from_text P.names P.counts) opening
         (F.remaining past.old) (R.remaining input.old) (H.contents log.old) (H.contents log.new)
         (W.contents out.old) (W.contents out.new)) }
 {
@@ -87,18 +87,18 @@ pub fn resume_history<P: Application, F: Read, R: Read, H: Write, W: Write>(
 }
 
 // A session that goes on where a history leads to.
-fn go_on<P: Application, R: Read, H: Write, W: Write>(
+fn go_on<P: Invariant, R: Read, H: Write, W: Write>(
     alloc: Global,
     resumed: Resumed<P>,
     input: &mut R,
     log: &mut H,
     out: &mut W,
 ) -> Result<Config<P>, RunStop>
-    ensures done { IfOk result (HasGoneOn (meaning_of P.app P.text P.from_text P.names)
+    ensures done { IfOk result (HasGoneOn (meaning_of P.app P.text P.from_text P.names P.counts)
         (1000000 - resumed.summary.entries) resumed.config
         (resumed_text resumed.summary.entries (length resumed.summary.reports.items)) (R.remaining input.old)
         (H.contents log.old) (H.contents log.new) (W.contents out.old) (W.contents out.new)) }
-    ensures cut { OnErr result (IsCutGoingOn (meaning_of P.app P.text P.from_text P.names)
+    ensures cut { OnErr result (IsCutGoingOn (meaning_of P.app P.text P.from_text P.names P.counts)
         (1000000 - resumed.summary.entries) resumed.config
         (resumed_text resumed.summary.entries (length resumed.summary.reports.items)) (R.remaining input.old)
         (H.contents log.old) (H.contents log.new) (W.contents out.old) (W.contents out.new)) }

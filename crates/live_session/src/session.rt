@@ -12,7 +12,7 @@ use crate::answering::{answer_kept, answer_text, answer_unkept};
 use crate::batch::Batch;
 use crate::partial::go_on;
 use action_tables::WriteFault;
-use app_interface::Application;
+use app_invariants::Invariant;
 use reset_machine::{Config, Event};
 use script_replay::{NextLine, RunStop, first_line_of, split_line};
 use std::alloc::{AllocError, Global};
@@ -38,7 +38,7 @@ const MOST_LINES: u64 = u64::MAX - 8192 - 8192;
 ///
 /// `ReadFailed` where the reader fails, `WriteFailed` where one of the writers does, and `NoMemory`. What was answered
 /// until then is kept.
-pub fn run_session<P: Application, R: Read, H: Write, W: Write>(
+pub fn run_session<P: Invariant, R: Read, H: Write, W: Write>(
     alloc: Global,
     config: Config<P>,
     room: Option<u64>,
@@ -47,11 +47,11 @@ pub fn run_session<P: Application, R: Read, H: Write, W: Write>(
     out: &mut W,
 ) -> Result<Config<P>, RunStop>
     ensures done { IfOk result (λ left. (text : List ℕ) × IsReadWhole (R.remaining input.old) text
-        × (left ≡ (course (meaning_of P.app P.text P.from_text P.names) room config text).config)
-        × IsDone room (course (meaning_of P.app P.text P.from_text P.names) room config text).exchanges
+        × (left ≡ (course (meaning_of P.app P.text P.from_text P.names P.counts) room config text).config)
+        × IsDone room (course (meaning_of P.app P.text P.from_text P.names P.counts) room config text).exchanges
         (H.contents log.old) (H.contents log.new) (W.contents out.old) (W.contents out.new)) }
     ensures cut { OnErr result ((text : List ℕ) × IsReadWhole (R.remaining input.old) text
-        × IsCutShort room (course (meaning_of P.app P.text P.from_text P.names) room config text).exchanges
+        × IsCutShort room (course (meaning_of P.app P.text P.from_text P.names P.counts) room config text).exchanges
         (H.contents log.old) (H.contents log.new) (W.contents out.old) (W.contents out.new)) }
 {
     let mut session = Session::new(alloc, config, room);
@@ -68,7 +68,7 @@ pub fn run_session<P: Application, R: Read, H: Write, W: Write>(
 
 // A session between two lines, or within one.
 #[derive(Drop)]
-struct Session<P: Application> {
+struct Session<P: Invariant> {
     config: Config<P>,
     // For how many entries the history has room, if there is one.
     room: Option<u64>,
@@ -79,7 +79,7 @@ struct Session<P: Application> {
     batch: Batch,
 }
 
-impl<P: Application> Session<P> {
+impl<P: Invariant> Session<P> {
     ghost use Rattle.live_session.specs.Progress.{Comes, HasDone, HasEndedWith, HasTaken, IsAt, IsCut, IsFront, Start};
 
     // Before the first line.
@@ -123,14 +123,17 @@ impl<P: Application> Session<P> {
         out: &mut W,
     ) -> Result<(), RunStop>
         ensures done { OnOk result ((s : Start P.Local)
-            → IsAt (meaning_of P.app P.text P.from_text P.names) s [] self.old (H.contents log.old) (W.contents out.old)
+            → IsAt (meaning_of P.app P.text P.from_text P.names P.counts)
+            s [] self.old (H.contents log.old) (W.contents out.old)
             → (text : List ℕ) × IsReadWhole (R.remaining input.old) text
-            × HasDone (meaning_of P.app P.text P.from_text P.names) s text self.new.config (H.contents log.new)
+            × HasDone (meaning_of P.app P.text P.from_text P.names P.counts) s text self.new.config (H.contents log.new)
             (W.contents out.new)) }
         ensures cut { OnErr result ((s : Start P.Local)
-            → IsAt (meaning_of P.app P.text P.from_text P.names) s [] self.old (H.contents log.old) (W.contents out.old)
+            → IsAt (meaning_of P.app P.text P.from_text P.names P.counts)
+            s [] self.old (H.contents log.old) (W.contents out.old)
             → (text : List ℕ) × IsReadWhole (R.remaining input.old) text
-            × IsCut (meaning_of P.app P.text P.from_text P.names) s text (H.contents log.new) (W.contents out.new)) }
+            × IsCut (meaning_of P.app P.text P.from_text P.names P.counts)
+            s text (H.contents log.new) (W.contents out.new)) }
     {
         let mut chunk = [0; CHUNK];
         for _ in 0..u64::MAX {
@@ -165,14 +168,16 @@ impl<P: Application> Session<P> {
     ) -> Result<(), RunStop>
         requires { self.old.number + 1 < 2 ^ 64 }
         ensures done { OnOk result ((s : Start P.Local) (given : List ℕ)
-            → IsAt (meaning_of P.app P.text P.from_text P.names) s given self.old (H.contents log.old)
+            → IsAt (meaning_of P.app P.text P.from_text P.names P.counts) s given self.old (H.contents log.old)
             (W.contents out.old)
-            → HasDone (meaning_of P.app P.text P.from_text P.names) s given self.new.config (H.contents log.new)
+            → HasDone (meaning_of P.app P.text P.from_text P.names P.counts)
+            s given self.new.config (H.contents log.new)
             (W.contents out.new)) }
         ensures cut { OnErr result ((s : Start P.Local) (given : List ℕ)
-            → IsAt (meaning_of P.app P.text P.from_text P.names) s given self.old (H.contents log.old)
+            → IsAt (meaning_of P.app P.text P.from_text P.names P.counts) s given self.old (H.contents log.old)
             (W.contents out.old)
-            → IsCut (meaning_of P.app P.text P.from_text P.names) s given (H.contents log.new) (W.contents out.new)) }
+            → IsCut (meaning_of P.app P.text P.from_text P.names P.counts)
+            s given (H.contents log.new) (W.contents out.new)) }
     {
         match self.take_partial(alloc) {
             Ok(_) => self.leave(log, out),
@@ -183,14 +188,15 @@ impl<P: Application> Session<P> {
     // Writes what is held back, when the session has ended.
     fn leave<H: Write, W: Write>(&mut self, log: &mut H, out: &mut W) -> Result<(), RunStop>
         ensures done { OnOk result ((s : Start P.Local) (text : List ℕ)
-            → HasEndedWith (meaning_of P.app P.text P.from_text P.names) s text self.old (H.contents log.old)
+            → HasEndedWith (meaning_of P.app P.text P.from_text P.names P.counts) s text self.old (H.contents log.old)
             (W.contents out.old)
-            → HasDone (meaning_of P.app P.text P.from_text P.names) s text self.new.config (H.contents log.new)
+            → HasDone (meaning_of P.app P.text P.from_text P.names P.counts) s text self.new.config (H.contents log.new)
             (W.contents out.new)) }
         ensures cut { OnErr result ((s : Start P.Local) (text : List ℕ)
-            → HasEndedWith (meaning_of P.app P.text P.from_text P.names) s text self.old (H.contents log.old)
+            → HasEndedWith (meaning_of P.app P.text P.from_text P.names P.counts) s text self.old (H.contents log.old)
             (W.contents out.old)
-            → IsCut (meaning_of P.app P.text P.from_text P.names) s text (H.contents log.new) (W.contents out.new)) }
+            → IsCut (meaning_of P.app P.text P.from_text P.names P.counts)
+            s text (H.contents log.new) (W.contents out.new)) }
     {
         match self.batch.commit(log, out) {
             Ok(()) => Ok(()),
@@ -208,14 +214,14 @@ impl<P: Application> Session<P> {
     ) -> Result<bool, RunStop>
         requires { self.old.number + length bytes.now + 1 < 2 ^ 64 }
         ensures ok { IfOk result (λ ends. (s : Start P.Local) (given : List ℕ)
-            → IsAt (meaning_of P.app P.text P.from_text P.names) s given self.old (H.contents log.old)
+            → IsAt (meaning_of P.app P.text P.from_text P.names P.counts) s given self.old (H.contents log.old)
             (W.contents out.old)
-            → Comes ends (meaning_of P.app P.text P.from_text P.names) s (given ++ bytes.now) self.new
+            → Comes ends (meaning_of P.app P.text P.from_text P.names P.counts) s (given ++ bytes.now) self.new
             (H.contents log.new) (W.contents out.new)) }
         ensures cut { OnErr result ((s : Start P.Local) (given more : List ℕ)
-            → IsAt (meaning_of P.app P.text P.from_text P.names) s given self.old (H.contents log.old)
+            → IsAt (meaning_of P.app P.text P.from_text P.names P.counts) s given self.old (H.contents log.old)
             (W.contents out.old)
-            → IsCut (meaning_of P.app P.text P.from_text P.names) s ((given ++ bytes.now) ++ more)
+            → IsCut (meaning_of P.app P.text P.from_text P.names P.counts) s ((given ++ bytes.now) ++ more)
             (H.contents log.new) (W.contents out.new)) }
     {
         if self.partial.is_empty() {
@@ -245,14 +251,14 @@ impl<P: Application> Session<P> {
         requires none { self.old.partial.items ≡ [] }
         requires few { self.old.number + length bytes.now < 2 ^ 64 }
         ensures ok { IfOk result (λ ends. (s : Start P.Local) (given : List ℕ)
-            → IsAt (meaning_of P.app P.text P.from_text P.names) s given self.old (H.contents log.old)
+            → IsAt (meaning_of P.app P.text P.from_text P.names P.counts) s given self.old (H.contents log.old)
             (W.contents out.old)
-            → Comes ends (meaning_of P.app P.text P.from_text P.names) s (given ++ bytes.now) self.new
+            → Comes ends (meaning_of P.app P.text P.from_text P.names P.counts) s (given ++ bytes.now) self.new
             (H.contents log.new) (W.contents out.new)) }
         ensures cut { OnErr result ((s : Start P.Local) (given more : List ℕ)
-            → IsAt (meaning_of P.app P.text P.from_text P.names) s given self.old (H.contents log.old)
+            → IsAt (meaning_of P.app P.text P.from_text P.names P.counts) s given self.old (H.contents log.old)
             (W.contents out.old)
-            → IsCut (meaning_of P.app P.text P.from_text P.names) s ((given ++ bytes.now) ++ more)
+            → IsCut (meaning_of P.app P.text P.from_text P.names P.counts) s ((given ++ bytes.now) ++ more)
             (H.contents log.new) (W.contents out.new)) }
     {
         let mut rest = bytes;
@@ -287,7 +293,7 @@ impl<P: Application> Session<P> {
         requires fits { HasFitting line }
         requires whole { whole.now ≡ ended (next_text line) }
         requires few { self.old.number + 1 < 2 ^ 64 }
-        ensures taken { IfOk result (λ ends. HasTaken (meaning_of P.app P.text P.from_text P.names)
+        ensures taken { IfOk result (λ ends. HasTaken (meaning_of P.app P.text P.from_text P.names P.counts)
             (next_text line.entry) ends self.old self.new) }
         ensures partial { self.new.partial ≡ self.old.partial }
     {
@@ -306,7 +312,8 @@ impl<P: Application> Session<P> {
         requires fits { Fits event }
         requires line { line.now ≡ ended (event_line event) }
         requires few { self.old.number + 1 < 2 ^ 64 }
-        ensures taken { OnOk result (HasTaken (meaning_of P.app P.text P.from_text P.names) (event_line event) false
+        ensures taken { OnOk result (HasTaken (meaning_of P.app P.text P.from_text P.names P.counts)
+            (event_line event) false
             self.old self.new) }
         ensures partial { self.new.partial ≡ self.old.partial }
     {
@@ -322,7 +329,8 @@ impl<P: Application> Session<P> {
         requires fits { Fits event }
         requires room { self.old.room ≡ None }
         requires few { self.old.number + 1 < 2 ^ 64 }
-        ensures taken { OnOk result (HasTaken (meaning_of P.app P.text P.from_text P.names) (event_line event) false
+        ensures taken { OnOk result (HasTaken (meaning_of P.app P.text P.from_text P.names P.counts)
+            (event_line event) false
             self.old self.new) }
         ensures partial { self.new.partial ≡ self.old.partial }
     {
@@ -345,7 +353,8 @@ impl<P: Application> Session<P> {
         requires line { line.now ≡ ended (event_line event) }
         requires room { self.old.room ≡ Some room }
         requires few { self.old.number + 1 < 2 ^ 64 }
-        ensures taken { OnOk result (HasTaken (meaning_of P.app P.text P.from_text P.names) (event_line event) false
+        ensures taken { OnOk result (HasTaken (meaning_of P.app P.text P.from_text P.names P.counts)
+            (event_line event) false
             self.old self.new) }
         ensures partial { self.new.partial ≡ self.old.partial }
     {
@@ -358,7 +367,8 @@ impl<P: Application> Session<P> {
     // Answers the line with this text. Whether it ends the session.
     fn take_text(&mut self, alloc: Global, text: &[u8]) -> Result<bool, AllocError>
         requires { self.old.number + 1 < 2 ^ 64 }
-        ensures taken { IfOk result (λ ends. HasTaken (meaning_of P.app P.text P.from_text P.names) text.now ends
+        ensures taken { IfOk result (λ ends. HasTaken (meaning_of P.app P.text P.from_text P.names P.counts)
+            text.now ends
             self.old self.new) }
         ensures partial { self.new.partial ≡ self.old.partial }
         ensures number { OnOk result (self.new.number ≤ self.old.number + 1) }
@@ -382,7 +392,8 @@ impl<P: Application> Session<P> {
     fn end_partial(&mut self, alloc: Global, bytes: &[u8]) -> Result<bool, AllocError>
         requires { self.old.number + 1 < 2 ^ 64 }
         ensures taken { IfOk result (λ ends. (line : List ℕ) → IsFront self.old.partial.items line
-            → HasTaken (meaning_of P.app P.text P.from_text P.names) (line ++ bytes.now) ends self.old self.new) }
+            → HasTaken (meaning_of P.app P.text P.from_text P.names P.counts)
+            (line ++ bytes.now) ends self.old self.new) }
         ensures partial { OnOk result (self.new.partial.items ≡ []) }
         ensures number { OnOk result (self.new.number ≤ self.old.number + 1) }
     {
@@ -396,7 +407,7 @@ impl<P: Application> Session<P> {
     fn take_partial(&mut self, alloc: Global) -> Result<bool, AllocError>
         requires { self.old.number + 1 < 2 ^ 64 }
         ensures taken { IfOk result (λ ends. (line : List ℕ) → IsFront self.old.partial.items line
-            → HasTaken (meaning_of P.app P.text P.from_text P.names) line ends self.old self.new) }
+            → HasTaken (meaning_of P.app P.text P.from_text P.names P.counts) line ends self.old self.new) }
         ensures partial { OnOk result (self.new.partial.items ≡ []) }
         ensures number { OnOk result (self.new.number ≤ self.old.number + 1) }
     {

@@ -1,5 +1,7 @@
 // How far work has come.
 
+ghost use Rattle.std.specs.Prelude.{◌≤◌};
+
 use std::sync::atomic::{AtomicU32, Ordering};
 
 /// How far work has come: how much of it is done, of as much as is known of it.
@@ -24,13 +26,12 @@ impl Progress {
         self.done.store(done, Ordering::Relaxed);
     }
 
-    /// How much is done.
-    pub fn done(&self) -> u32 {
-        self.done.load(Ordering::Relaxed)
-    }
-
-    /// How much is known, what is done included.
-    pub fn known(&self) -> u32 {
-        self.known.load(Ordering::Relaxed)
+    /// How much is done, and how much is known, what is done included.
+    pub fn reached(&self) -> (u32, u32)
+        ensures { result.0 ≤ result.1 }
+    {
+        let done = self.done.load(Ordering::Relaxed);
+        let known = self.known.load(Ordering::Relaxed);
+        (done.min(known), known)
     }
 }

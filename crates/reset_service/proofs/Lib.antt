@@ -1,5 +1,7 @@
 pub mod Driving
 pub mod Picturing
+pub mod Choosing
+pub mod Parting
 pub mod TableRuns
 pub mod Verifying
 pub mod Reasoning

@@ -7,7 +7,7 @@ use Rattle.std.specs.Io.KnownBytes.{Appends}
 use Rattle.std.proofs.KnownBytes.{Appends-trans}
 use Rattle.action_tables.specs.Written.{AppendsPrefix}
 use Rattle.action_tables.proofs.Prefixes.{AppendsPrefix-first, AppendsPrefix-then}
-use Rattle.app_invariants.specs.Verdicts.{Count, verdicts_of}
+use Rattle.app_invariants.specs.Verdicts.{verdicts_of}
 use Rattle.reset_model.specs.Configuration.{Configuration}
 use Rattle.script_replay.specs.Lines.{lines_of}
 use Rattle.script_replay.specs.Meaning.{Meaning}
@@ -19,7 +19,8 @@ use Rattle.script_replay.specs.declared.status.RunStop.TheVariants.{ReadFailed, 
 use Rattle.script_replay.specs.declared.status.Status.{Status}
 use Rattle.script_replay.specs.declared.status.Status.TheVariants.{Good, FaultsFound, NotEnabled, BadInput}
 use Rattle.script_replay.proofs.Runs.{leaves_stop}
-use Rattle.reset_service.specs.Whole.{Judged, after_check, all_hold, verdict_line, whole_output}
+use Rattle.script_replay.specs.VerdictText.{Judged, verdict_line}
+use Rattle.reset_service.specs.Whole.{after_check, all_hold, whole_output}
 
 abbrev Output : Type 0
 Output = List ℕ × Status
@@ -90,23 +91,23 @@ good_follows verdicts NotEnabled good = refl
 good_follows verdicts BadInput good = absurd (good refl)
 
 -- what follows a check is by what its lines leave, which is the configuration then
-pub same_follows : {L : Type 0} (count : Count L) (m : Meaning L) (repairs : Bool) (c after : Configuration L) (script : List ℕ)
+pub same_follows : {L : Type 0} (m : Meaning L) (repairs : Bool) (c after : Configuration L) (script : List ℕ)
     (old new : Option (List ℕ)) (s : Status)
     → Leaves (λ x. x ≡ script_output m (purpose.Check repairs) c script) old new (Ok s)
     → (length script ≤ 1048576 → after ≡ (answers m c 1 (lines_of script)).config)
-    → after_check (verdicts_of count m.app after) s
-    ≡ after_check (verdicts_of count m.app (answers m c 1 (lines_of script)).config) s
-same_follows {L} count m repairs c after script old new s (written, is, wrote) same =
+    → after_check (verdicts_of m.counts m.app after) s
+    ≡ after_check (verdicts_of m.counts m.app (answers m c 1 (lines_of script)).config) s
+same_follows {L} m repairs c after script old new s (written, is, wrote) same =
     at (nat_lt 1048576 (length script)) refl
   where
     at : (b : Bool) → nat_lt 1048576 (length script) ≡ b
-        → after_check (verdicts_of count m.app after) s
-        ≡ after_check (verdicts_of count m.app (answers m c 1 (lines_of script)).config) s
+        → after_check (verdicts_of m.counts m.app after) s
+        ≡ after_check (verdicts_of m.counts m.app (answers m c 1 (lines_of script)).config) s
     at true long =
         let judged : Bool → Output =
         λ b. cond b (too_long_text, BadInput) (output_for m (purpose.Check repairs) (answers m c 1 (lines_of script))) in
         let bad : s ≡ BadInput = ap (λ (x : Output). x.1) (is ∙ ap judged long) in
         rw bad refl
     at false short =
-        ap (λ (d : Configuration L). after_check (verdicts_of count m.app d) s)
+        ap (λ (d : Configuration L). after_check (verdicts_of m.counts m.app d) s)
         (same (grind (arith, short)))

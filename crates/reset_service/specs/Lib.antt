@@ -7,6 +7,8 @@ pub mod Marked
 pub mod Drove
 pub mod Threaded
 pub mod Pictured
+pub mod Chosen
+pub mod Parted
 pub mod Shaped
 pub mod Explained
 pub mod Tables

@@ -26,11 +26,16 @@ too_many_lanes_text = ended (codes "bad topology TooManyForPicture")
 abbrev pub too_many_marks_text : List ℕ
 too_many_marks_text = ended (codes "bad history TooLongForPicture")
 
--- the picture of entries that are a run from c, and the status, where they aren't too many
-abbrev pub drawing : {L : Type 0} → Meaning L → Configuration L → List Entry → List ℕ × Status
-drawing m c es =
+-- the picture of these nodes and of entries that are a run from c, before which so many came, and the status, where
+-- they aren't too many
+abbrev pub drawing_of : {L : Type 0} → Meaning L → List ℕ → ℕ → Configuration L → List Entry → List ℕ × Status
+drawing_of m nodes before c es =
     if nat_lt 2000 (length es) then (too_many_marks_text, BadInput)
-    else (diagram_text m.app m.from_text c es (reports_of m.app m.from_text c es), Good)
+    else (diagram_text m.app m.from_text nodes before c es (reports_of m.app m.from_text c es), Good)
+
+-- that of all nodes, and of the entries of a whole history
+abbrev pub drawing : {L : Type 0} → Meaning L → Configuration L → List Entry → List ℕ × Status
+drawing m c es = drawing_of m c.graph.ids 0 c es
 
 -- what entries are drawn as that a text has: whether each is allowed where it stands is judged before their number
 pub data IsDrawing {L : Type 0} (m : Meaning L) (c : Configuration L) (es : List Entry) (output : List ℕ × Status) :

@@ -17,6 +17,7 @@ use crate::reasons::put_asked_reason;
 use crate::started::{open_network, refuse_start};
 use crate::verified::{answer_summary, put_not_enabled, refuse_history, refuse_modulus};
 use app_interface::{Application, Idle};
+use app_invariants::Invariant;
 use app_mutex::EdgeReversal;
 use app_routes::Routes;
 use app_token::Token;
@@ -92,7 +93,7 @@ fn ask_app<R: Read, W: Write>(
     }
 }
 
-fn ask_opened<P: Application, R: Read, W: Write>(
+fn ask_opened<P: Invariant, R: Read, W: Write>(
     alloc: Global,
     network: Network,
     snapshot: Option<&[u8]>,
@@ -102,9 +103,9 @@ fn ask_opened<P: Application, R: Read, W: Write>(
 ) -> Result<Status, RunStop>
     requires { network.topology.nodes ≡ network.topology.ids }
     ensures leaves { LeavesOfReader (R.remaining history.old)
-        (λ text. IsOpenedFrom (meaning_of P.app P.text P.from_text P.names) network.topology network.modulus
+        (λ text. IsOpenedFrom (meaning_of P.app P.text P.from_text P.names P.counts) network.topology network.modulus
         (option_map (λ s. s.now) snapshot.entry)
-        (AnswersTo question text P.Local (meaning_of P.app P.text P.from_text P.names)))
+        (AnswersTo question text P.Local (meaning_of P.app P.text P.from_text P.names P.counts)))
         (W.contents out.old) (W.contents out.new) result }
 {
     match open_network::<P>(alloc, network, snapshot) {
@@ -114,7 +115,7 @@ fn ask_opened<P: Application, R: Read, W: Write>(
 }
 
 // Judges a history from this configuration on.
-fn ask_from<P: Application, R: Read, W: Write>(
+fn ask_from<P: Invariant, R: Read, W: Write>(
     alloc: Global,
     opening: Config<P>,
     history: &mut R,
@@ -122,7 +123,7 @@ fn ask_from<P: Application, R: Read, W: Write>(
     out: &mut W,
 ) -> Result<Status, RunStop>
     ensures leaves { LeavesOfReader (R.remaining history.old)
-        (IsAnswered question (meaning_of P.app P.text P.from_text P.names) opening)
+        (IsAnswered question (meaning_of P.app P.text P.from_text P.names P.counts) opening)
         (W.contents out.old) (W.contents out.new) result }
 {
     match judge(alloc, opening, question.at, history) {
@@ -153,14 +154,15 @@ fn judge<P: Application, R: Read>(
 }
 
 // Answers entries that are all allowed, by what they come to or by what they leave.
-fn answer_allowed<P: Application, W: Write>(
+fn answer_allowed<P: Invariant, W: Write>(
     alloc: Global,
     at: Option<u32>,
     resumed: Resumed<P>,
     out: &mut W,
 ) -> Result<Status, RunStop>
     ensures leaves { Leaves
-        (λ output. output ≡ allowed_output (meaning_of P.app P.text P.from_text P.names) at resumed.summary.entries
+        (λ output. output ≡ allowed_output (meaning_of P.app P.text P.from_text P.names P.counts)
+        at resumed.summary.entries
         resumed.summary.reports.items resumed.config)
         (W.contents out.old) (W.contents out.new) result }
 {
@@ -175,7 +177,7 @@ fn answer_allowed<P: Application, W: Write>(
 }
 
 // Answers entries of which so many were asked for, and so many are there, by what they leave.
-fn answer_left<P: Application, W: Write>(
+fn answer_left<P: Invariant, W: Write>(
     alloc: Global,
     count: u32,
     entries: usize,
@@ -183,7 +185,7 @@ fn answer_left<P: Application, W: Write>(
     out: &mut W,
 ) -> Result<Status, RunStop>
     ensures leaves { Leaves
-        (λ output. output ≡ left_output (meaning_of P.app P.text P.from_text P.names) count entries config)
+        (λ output. output ≡ left_output (meaning_of P.app P.text P.from_text P.names P.counts) count entries config)
         (W.contents out.old) (W.contents out.new) result }
 {
     if entries < count as usize {
@@ -194,7 +196,7 @@ fn answer_left<P: Application, W: Write>(
 }
 
 // Answers a history that has so many entries, fewer than are asked for.
-fn refuse_fewer<W: Write>(entries: usize, out: &mut W) -> Result<Status, RunStop>
+pub fn refuse_fewer<W: Write>(entries: usize, out: &mut W) -> Result<Status, RunStop>
     ensures leaves { Leaves (λ output. output ≡ (ends_after_text entries, Status.BadInput)) (W.contents out.old)
         (W.contents out.new) result }
     ensures stop { IfErr result IsOutputStop }
@@ -204,13 +206,13 @@ fn refuse_fewer<W: Write>(entries: usize, out: &mut W) -> Result<Status, RunStop
 }
 
 // Answers by the snapshot of a configuration.
-fn answer_snapshot<P: Application, W: Write>(
+fn answer_snapshot<P: Invariant, W: Write>(
     alloc: Global,
     config: Config<P>,
     out: &mut W,
 ) -> Result<Status, RunStop>
     ensures leaves { Leaves
-        (λ output. output ≡ (snapshot_text (meaning_of P.app P.text P.from_text P.names) config, Status.Good))
+        (λ output. output ≡ (snapshot_text (meaning_of P.app P.text P.from_text P.names P.counts) config, Status.Good))
         (W.contents out.old) (W.contents out.new) result }
 {
     let mut config = config;
@@ -223,7 +225,7 @@ fn answer_snapshot<P: Application, W: Write>(
 }
 
 // Answers a history by its first entry that isn't allowed where it stands and, where it is asked, why it isn't.
-fn answer_refused<P: Application, W: Write>(
+fn answer_refused<P: Invariant, W: Write>(
     alloc: Global,
     why: bool,
     refused: Refused<P>,
@@ -233,7 +235,7 @@ fn answer_refused<P: Application, W: Write>(
     ensures leaves { Leaves
         (λ output. output ≡ (
           not_enabled_text refused.position
-              ++ asked_reason why (meaning_of P.app P.text P.from_text P.names) refused.config refused.entry,
+              ++ asked_reason why (meaning_of P.app P.text P.from_text P.names P.counts) refused.config refused.entry,
           Status.NotEnabled,
         ))
         (W.contents out.old) (W.contents out.new) result }

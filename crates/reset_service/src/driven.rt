@@ -9,7 +9,8 @@ ghost use Rattle.reset_service.specs.Threaded.{LeavesBoth, told_history, told_ou
 
 use crate::started::{StartFault, start};
 use crate::told::{Told, put_history, put_told, status_of};
-use app_interface::{Application, Idle};
+use app_interface::Idle;
+use app_invariants::Invariant;
 use app_mutex::EdgeReversal;
 use app_routes::Routes;
 use app_token::Token;
@@ -95,14 +96,14 @@ fn drive_app(
     }
 }
 
-fn drive_booted<P: Application>(
+fn drive_booted<P: Invariant>(
     alloc: Global,
     network: Network,
     run: Drive,
     progress: &Progress,
 ) -> Result<Told, RunStop>
     ensures ok { IfOk result
-        (λ told. IsDroveFrom (meaning_of P.app P.text P.from_text P.names) run.steps run.seed run.faults
+        (λ told. IsDroveFrom (meaning_of P.app P.text P.from_text P.names P.counts) run.steps run.seed run.faults
         network.topology network.modulus (told_history told) (told_output told)) }
     ensures undriven { IfOk result (λ told. (told_output told).1 ≡ Status.BadInput → told_history told ≡ []) }
     ensures stop { IfErr result IsRunStop }
@@ -175,7 +176,7 @@ fn drive_app_from(
     }
 }
 
-fn drive_started<P: Application>(
+fn drive_started<P: Invariant>(
     alloc: Global,
     network: Network,
     snapshot: &[u8],
@@ -184,8 +185,9 @@ fn drive_started<P: Application>(
 ) -> Result<Told, RunStop>
     requires { network.topology.nodes ≡ network.topology.ids }
     ensures ok { IfOk result
-        (λ told. IsBegunFrom (meaning_of P.app P.text P.from_text P.names) network.topology network.modulus snapshot.now
-        (Drives run.steps run.seed run.faults P.Local (meaning_of P.app P.text P.from_text P.names))
+        (λ told. IsBegunFrom (meaning_of P.app P.text P.from_text P.names P.counts)
+        network.topology network.modulus snapshot.now
+        (Drives run.steps run.seed run.faults P.Local (meaning_of P.app P.text P.from_text P.names P.counts))
         (told_history told) (told_output told)) }
     ensures stop { IfErr result IsRunStop }
 {
@@ -197,14 +199,14 @@ fn drive_started<P: Application>(
 }
 
 // Drives a network from this configuration on.
-fn drive_opened<P: Application>(
+fn drive_opened<P: Invariant>(
     alloc: Global,
     opening: Config<P>,
     run: Drive,
     progress: &Progress,
 ) -> Result<Told, RunStop>
     ensures ok { IfOk result
-        (λ told. IsDrove (meaning_of P.app P.text P.from_text P.names) opening run.steps run.seed run.faults
+        (λ told. IsDrove (meaning_of P.app P.text P.from_text P.names P.counts) opening run.steps run.seed run.faults
         (told_history told) (told_output told)) }
     ensures undriven { IfOk result (λ told. (told_output told).1 ≡ Status.BadInput → told_history told ≡ []) }
     ensures stop { IfErr result IsRunStop }

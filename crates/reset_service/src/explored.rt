@@ -17,6 +17,7 @@ use crate::planned::refuse_line;
 use crate::started::{open_network, refuse_start};
 use action_tables::{Part, WriteFault, put_bytes, put_parts};
 use app_interface::{Application, Idle};
+use app_invariants::Invariant;
 use app_mutex::EdgeReversal;
 use app_routes::Routes;
 use app_token::Token;
@@ -106,7 +107,7 @@ fn explore_app<W: Write>(
     }
 }
 
-fn explore_opened<P: Application, W: Write>(
+fn explore_opened<P: Invariant, W: Write>(
     alloc: Global,
     network: Network,
     snapshot: Option<&[u8]>,
@@ -117,9 +118,9 @@ fn explore_opened<P: Application, W: Write>(
 ) -> Result<Status, RunStop>
     requires { network.topology.nodes ≡ network.topology.ids }
     ensures leaves { Leaves
-        (IsOpenedFrom (meaning_of P.app P.text P.from_text P.names) network.topology network.modulus
+        (IsOpenedFrom (meaning_of P.app P.text P.from_text P.names P.counts) network.topology network.modulus
         (option_map (λ s. s.now) snapshot.entry)
-        (Explores run script.now P.Local (meaning_of P.app P.text P.from_text P.names)))
+        (Explores run script.now P.Local (meaning_of P.app P.text P.from_text P.names P.counts)))
         (W.contents out.old) (W.contents out.new) result }
     ensures stop { IfErr result IsOutputStop }
 {
@@ -130,7 +131,7 @@ fn explore_opened<P: Application, W: Write>(
 }
 
 // Explores what a script leaves of this configuration.
-fn explore_after<P: Application, W: Write>(
+fn explore_after<P: Invariant, W: Write>(
     alloc: Global,
     config: &mut Config<P>,
     script: &[u8],
@@ -138,7 +139,8 @@ fn explore_after<P: Application, W: Write>(
     progress: &Progress,
     out: &mut W,
 ) -> Result<Status, RunStop>
-    ensures leaves { Leaves (IsExploration (meaning_of P.app P.text P.from_text P.names) run config.old script.now)
+    ensures leaves { Leaves (IsExploration (meaning_of P.app P.text P.from_text P.names P.counts)
+        run config.old script.now)
         (W.contents out.old) (W.contents out.new) result }
     ensures stop { IfErr result IsOutputStop }
 {

@@ -16,6 +16,7 @@ ghost use Rattle.reset_service.specs.Verified.{IsVerification, TellsTrueReportsO
 ghost use Rattle.script_replay.specs.declared.status.Status.{Status};
 
 use app_interface::{Application, Idle};
+use app_invariants::Invariant;
 use app_mutex::EdgeReversal;
 use app_routes::Routes;
 use app_token::Token;
@@ -66,10 +67,10 @@ pub fn booted_invariants_hold<P: Application>()
 {}
 
 /// What node threads keep from the booted configuration of a graph, where it is written, is a run.
-pub fn kept_histories_are_runs<P: Application>()
+pub fn kept_histories_are_runs<P: Invariant>()
     ensures { (g : Graph) (modulus : ℕ) (history line : List ℕ) → IsGraph g
-        → IsKeptFrom (meaning_of P.app P.text P.from_text P.names) g modulus history (line, Status.Good)
-        → TellsRun (meaning_of P.app P.text P.from_text P.names) P.Inv g modulus history line }
+        → IsKeptFrom (meaning_of P.app P.text P.from_text P.names P.counts) g modulus history (line, Status.Good)
+        → TellsRun (meaning_of P.app P.text P.from_text P.names P.counts) P.Inv g modulus history line }
 {
     booted_invariants_hold::<P>();
     reports_are_completions::<P>();

@@ -8,7 +8,9 @@
 #![tactic(auto)]
 
 mod asked;
+mod chosen;
 mod counts;
+mod drawn;
 mod driven;
 mod explained;
 mod explored;
@@ -16,6 +18,7 @@ mod laws;
 mod line;
 mod marked;
 mod page;
+mod parted;
 mod pictured;
 mod planned;
 mod reasons;
@@ -32,8 +35,9 @@ mod whole;
 
 pub use asked::{Question, verify_asked};
 pub use command_words::{
-    CheckWords, DriveWords, ExploreWords, Job, LineFault, PageWords, Paths, PlanWords, RecordWords,
-    ReplayWords, SessionWords, ShapeWords, ThreadWords, VerifyWords, read_words,
+    CheckWords, DriveWords, ExploreWords, Job, LineFault, PageWords, Paths, PictureWords,
+    PlanWords, RecordWords, ReplayWords, SessionWords, ShapeWords, ThreadWords, VerifyWords,
+    read_words,
 };
 pub use driven::{Drive, drive_from, drive_text};
 pub use explained::{explain, explain_topics};
@@ -46,11 +50,12 @@ pub use laws::{
 pub use marked::replay_marked;
 pub use node_threads::TurnLimit;
 pub use page::{MAX_PLAYED, page_from, page_text};
+pub use parted::{Part, picture_part};
 pub use pictured::{picture_from, picture_text};
 pub use planned::{plan_from, plan_text};
 pub use recorded::record_from;
 pub use script_replay::{
-    BufferedOutput, Marks, READ_LIMIT, RunStop, Status, check_repairs_text, check_text,
+    BufferedOutput, Marks, READ_LIMIT, RunStop, Status, Tally, check_repairs_text, check_text,
     one_joined_output, one_output, one_record, read_text, record_text, recordings_are_replays,
     replay, replay_joined, replay_text, scripts_are_steps, stretches_are_runs,
 };

@@ -7,39 +7,42 @@ ghost use Rattle.script_replay.specs.Marked.{marked_output};
 ghost use Rattle.script_replay.specs.Meaning.{meaning_of};
 ghost use Rattle.script_replay.specs.Output.{Leaves};
 ghost use Rattle.script_replay.specs.Stops.{IsOutputStop};
+ghost use Rattle.script_replay.specs.declared.tally.Tally.{Tally};
 ghost use Rattle.reset_service.specs.Explorations.{IsOpenedFrom, IsOpenedOf, IsOpenedText};
 ghost use Rattle.reset_service.specs.Marked.{MarkedReplay};
 
 use crate::started::{open_network, refuse_start};
-use app_interface::{Application, Idle};
+use app_interface::Idle;
+use app_invariants::Invariant;
 use app_mutex::EdgeReversal;
 use app_routes::Routes;
 use app_token::Token;
-use progress::Tally;
 use script_replay::{
-    Marks, Network, RunStop, Status, read_network, read_text, refuse_topology, run_marked,
+    Marks, Network, RunStop, Status, Tally, read_network, read_text, refuse_topology, run_marked,
 };
 use std::alloc::Global;
 use std::io::{Read, Write};
 use topology::{AppName, ReadFault};
 
 /// Replays the script of a reader as `replay` or, where a snapshot is given, `replay_from` does, with marks: the number of its
-/// line before each answer, or an end at the first refusal, which is `Status::NotEnabled`. The commands that are answered are
-/// counted by `tally`, with those that are refused.
+/// line before each answer, or an end at the first refusal, which is `Status::NotEnabled`. Leaves in `tally` how the commands
+/// were answered, and as it was where the topology or the snapshot is bad.
 pub fn replay_marked<R: Read, W: Write>(
     alloc: Global,
     topology: &[u8],
     snapshot: Option<&[u8]>,
     script: &mut R,
     marks: Marks,
-    tally: &Tally,
+    tally: &mut Tally,
     out: &mut W,
 ) -> Result<Status, RunStop>
-    ensures leaves { (text : List ℕ) × IsReadFrom (R.remaining script.old) text
-        × Leaves (IsOpenedText (MarkedReplay marks text) topology.now (option_map (λ s. s.now) snapshot.entry))
+    ensures leaves { (text : List ℕ) × (answered : Tally) × IsReadFrom (R.remaining script.old) text
+        × OnOk result (tally.new ≡ answered)
+        × Leaves (IsOpenedText (MarkedReplay marks text answered) topology.now (option_map (λ s. s.now) snapshot.entry))
         (W.contents out.old) (W.contents out.new) result }
     ensures taken { OnOk result (GaveText (R.remaining script.old) (R.remaining script.new)) }
-    ensures untouched { (f : ReadFault) → IsReadFault topology.now f → script.new ≡ script.old }
+    ensures untouched { (f : ReadFault) → IsReadFault topology.now f
+        → (script.new ≡ script.old) × (tally.new ≡ tally.old) }
 {
     match read_network(alloc, topology) {
         Ok(network) => match read_text(alloc, script) {
@@ -57,12 +60,12 @@ fn replay_app<W: Write>(
     snapshot: Option<&[u8]>,
     script: &[u8],
     marks: Marks,
-    tally: &Tally,
+    tally: &mut Tally,
     out: &mut W,
 ) -> Result<Status, RunStop>
     requires { network.topology.nodes ≡ network.topology.ids }
-    ensures leaves { Leaves
-        (IsOpenedOf (MarkedReplay marks script.now) network.app network.topology network.modulus
+    ensures leaves { (answered : Tally) × OnOk result (tally.new ≡ answered) × Leaves
+        (IsOpenedOf (MarkedReplay marks script.now answered) network.app network.topology network.modulus
         (option_map (λ s. s.now) snapshot.entry))
         (W.contents out.old) (W.contents out.new) result }
     ensures stop { IfErr result IsOutputStop }
@@ -83,20 +86,20 @@ fn replay_app<W: Write>(
     }
 }
 
-fn replay_opened<P: Application, W: Write>(
+fn replay_opened<P: Invariant, W: Write>(
     alloc: Global,
     network: Network,
     snapshot: Option<&[u8]>,
     script: &[u8],
     marks: Marks,
-    tally: &Tally,
+    tally: &mut Tally,
     out: &mut W,
 ) -> Result<Status, RunStop>
     requires { network.topology.nodes ≡ network.topology.ids }
-    ensures leaves { Leaves
-        (IsOpenedFrom (meaning_of P.app P.text P.from_text P.names) network.topology network.modulus
+    ensures leaves { (answered : Tally) × OnOk result (tally.new ≡ answered) × Leaves
+        (IsOpenedFrom (meaning_of P.app P.text P.from_text P.names P.counts) network.topology network.modulus
         (option_map (λ s. s.now) snapshot.entry)
-        (MarkedReplay marks script.now P.Local (meaning_of P.app P.text P.from_text P.names)))
+        (MarkedReplay marks script.now answered P.Local (meaning_of P.app P.text P.from_text P.names P.counts)))
         (W.contents out.old) (W.contents out.new) result }
     ensures stop { IfErr result IsOutputStop }
 {

@@ -18,6 +18,7 @@ ghost use Rattle.reset_service.specs.Verified.{LeavesOfReader};
 use crate::started::{refuse_start, start};
 use crate::verified::{refuse_entry, refuse_history, refuse_modulus};
 use app_interface::{Application, Idle};
+use app_invariants::Invariant;
 use app_mutex::EdgeReversal;
 use app_routes::Routes;
 use app_token::Token;
@@ -109,7 +110,7 @@ fn play_app_from<R: Read, W: Write>(
     }
 }
 
-fn play_started<P: Application, R: Read, W: Write>(
+fn play_started<P: Invariant, R: Read, W: Write>(
     alloc: Global,
     network: Network,
     snapshot: &[u8],
@@ -120,10 +121,10 @@ fn play_started<P: Application, R: Read, W: Write>(
 ) -> Result<Status, RunStop>
     requires { network.topology.nodes ≡ network.topology.ids }
     ensures leaves { LeavesOfReader (R.remaining history.old)
-        (λ text. IsStartedFrom (meaning_of P.app P.text P.from_text P.names) network.topology network.modulus
+        (λ text. IsStartedFrom (meaning_of P.app P.text P.from_text P.names P.counts) network.topology network.modulus
         snapshot.now
         (Plays (page_text HEAD.now MOMENTS.now VIEWS.now) title.now app.now text P.Local
-        (meaning_of P.app P.text P.from_text P.names)))
+        (meaning_of P.app P.text P.from_text P.names P.counts)))
         (W.contents out.old) (W.contents out.new) result }
 {
     match start::<P>(alloc, network, snapshot) {
@@ -156,7 +157,7 @@ fn play_app<R: Read, W: Write>(
     }
 }
 
-fn play_booted<P: Application, R: Read, W: Write>(
+fn play_booted<P: Invariant, R: Read, W: Write>(
     alloc: Global,
     network: Network,
     history: &mut R,
@@ -166,7 +167,7 @@ fn play_booted<P: Application, R: Read, W: Write>(
 ) -> Result<Status, RunStop>
     ensures leaves { LeavesOfReader (R.remaining history.old)
         (IsPageFrom (page_text HEAD.now MOMENTS.now VIEWS.now) title.now app.now
-        (meaning_of P.app P.text P.from_text P.names) network.topology
+        (meaning_of P.app P.text P.from_text P.names P.counts) network.topology
         network.modulus) (W.contents out.old) (W.contents out.new) result }
 {
     match Config::<P>::boot(alloc, network.topology, network.modulus) {
@@ -176,7 +177,7 @@ fn play_booted<P: Application, R: Read, W: Write>(
 }
 
 // Plays a history from this configuration on.
-fn play_from<P: Application, R: Read, W: Write>(
+fn play_from<P: Invariant, R: Read, W: Write>(
     alloc: Global,
     opening: &Config<P>,
     history: &mut R,
@@ -186,7 +187,7 @@ fn play_from<P: Application, R: Read, W: Write>(
 ) -> Result<Status, RunStop>
     ensures leaves { LeavesOfReader (R.remaining history.old)
         (IsPage (page_text HEAD.now MOMENTS.now VIEWS.now) title.now app.now
-        (meaning_of P.app P.text P.from_text P.names) opening.now)
+        (meaning_of P.app P.text P.from_text P.names P.counts) opening.now)
         (W.contents out.old) (W.contents out.new) result }
 {
     match read_book(alloc, history) {
@@ -198,7 +199,7 @@ fn play_from<P: Application, R: Read, W: Write>(
 }
 
 // Plays the history of a text from this configuration on, if both count sessions modulo the same number.
-fn play_book<P: Application, W: Write>(
+fn play_book<P: Invariant, W: Write>(
     alloc: Global,
     opening: &Config<P>,
     book: &BookText,
@@ -209,7 +210,7 @@ fn play_book<P: Application, W: Write>(
     ensures leaves { Leaves
         (λ output. (text : List ℕ) → IsReadAs text (Ok (book.now.modulus, book.now.entries.items))
         → IsPage (page_text HEAD.now MOMENTS.now VIEWS.now) title.now app.now
-        (meaning_of P.app P.text P.from_text P.names) opening.now text output)
+        (meaning_of P.app P.text P.from_text P.names P.counts) opening.now text output)
         (W.contents out.old) (W.contents out.new) result }
     ensures stop { IfErr result IsOutputStop }
 {
@@ -220,7 +221,7 @@ fn play_book<P: Application, W: Write>(
 }
 
 // Plays entries from this configuration on.
-fn play_entries<P: Application, W: Write>(
+fn play_entries<P: Invariant, W: Write>(
     alloc: Global,
     opening: &Config<P>,
     entries: &[Entry],
@@ -230,7 +231,7 @@ fn play_entries<P: Application, W: Write>(
 ) -> Result<Status, RunStop>
     ensures leaves { Leaves
         (IsPageOfEntries (page_text HEAD.now MOMENTS.now VIEWS.now) title.now app.now
-        (meaning_of P.app P.text P.from_text P.names) opening.now
+        (meaning_of P.app P.text P.from_text P.names P.counts) opening.now
         entries.now) (W.contents out.old) (W.contents out.new) result }
     ensures stop { IfErr result IsOutputStop }
 {
@@ -242,7 +243,7 @@ fn play_entries<P: Application, W: Write>(
 }
 
 // Plays entries that are a run from this configuration on, with their reports, if they aren't too many.
-fn play<P: Application, W: Write>(
+fn play<P: Invariant, W: Write>(
     alloc: Global,
     opening: &Config<P>,
     entries: &[Entry],
@@ -255,7 +256,7 @@ fn play<P: Application, W: Write>(
     requires reports { reports.now ≡ reports_of P.app P.from_text opening.now entries.now }
     ensures leaves { Leaves
         (λ output. output ≡ page_output (page_text HEAD.now MOMENTS.now VIEWS.now) title.now app.now
-        (meaning_of P.app P.text P.from_text P.names)
+        (meaning_of P.app P.text P.from_text P.names P.counts)
         opening.now entries.now) (W.contents out.old) (W.contents out.new) result }
     ensures stop { IfErr result IsOutputStop }
 {

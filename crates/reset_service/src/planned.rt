@@ -17,6 +17,7 @@ ghost use Rattle.reset_service.specs.Planned.{recovery_text};
 use crate::started::{refuse_start, start};
 use action_tables::{Part, WriteFault, put_bytes, put_parts};
 use app_interface::{Application, Idle};
+use app_invariants::Invariant;
 use app_mutex::EdgeReversal;
 use app_routes::Routes;
 use app_token::Token;
@@ -103,7 +104,7 @@ fn plan_app_from<W: Write>(
     }
 }
 
-fn plan_started<P: Application, W: Write>(
+fn plan_started<P: Invariant, W: Write>(
     alloc: Global,
     network: Network,
     snapshot: &[u8],
@@ -112,8 +113,8 @@ fn plan_started<P: Application, W: Write>(
 ) -> Result<Status, RunStop>
     requires { network.topology.nodes ≡ network.topology.ids }
     ensures leaves { Leaves
-        (IsStartedFrom (meaning_of P.app P.text P.from_text P.names) network.topology network.modulus
-        snapshot.now (Plans script.now P.Local (meaning_of P.app P.text P.from_text P.names)))
+        (IsStartedFrom (meaning_of P.app P.text P.from_text P.names P.counts) network.topology network.modulus
+        snapshot.now (Plans script.now P.Local (meaning_of P.app P.text P.from_text P.names P.counts)))
         (W.contents out.old) (W.contents out.new) result }
     ensures stop { IfErr result IsOutputStop }
 {
@@ -142,14 +143,14 @@ fn plan_app<W: Write>(
     }
 }
 
-fn plan_booted<P: Application, W: Write>(
+fn plan_booted<P: Invariant, W: Write>(
     alloc: Global,
     network: Network,
     script: &[u8],
     out: &mut W,
 ) -> Result<Status, RunStop>
     ensures leaves { Leaves
-        (IsPlanFrom (meaning_of P.app P.text P.from_text P.names) network.topology network.modulus script.now)
+        (IsPlanFrom (meaning_of P.app P.text P.from_text P.names P.counts) network.topology network.modulus script.now)
         (W.contents out.old) (W.contents out.new) result }
     ensures stop { IfErr result IsOutputStop }
 {
@@ -160,13 +161,13 @@ fn plan_booted<P: Application, W: Write>(
 }
 
 // Plans for what a script leaves of this configuration.
-fn plan_after<P: Application, W: Write>(
+fn plan_after<P: Invariant, W: Write>(
     alloc: Global,
     config: &mut Config<P>,
     script: &[u8],
     out: &mut W,
 ) -> Result<Status, RunStop>
-    ensures leaves { Leaves (IsPlan (meaning_of P.app P.text P.from_text P.names) config.old script.now)
+    ensures leaves { Leaves (IsPlan (meaning_of P.app P.text P.from_text P.names P.counts) config.old script.now)
         (W.contents out.old) (W.contents out.new) result }
     ensures stop { IfErr result IsOutputStop }
 {

@@ -22,6 +22,7 @@ ghost use Rattle.reset_service.specs.Reasons.{reason_text, refusal_lines, refuse
 
 use action_tables::{CaseRow, Part, WriteFault, put_bytes, put_parts};
 use app_interface::Application;
+use app_invariants::Invariant;
 use history::{Entry, put_entry};
 use history_page::{add_neighbours, entry_node};
 use reset_machine::{Config, Event, StepRefusal};
@@ -33,7 +34,7 @@ use tree_layer::tree_rows;
 use wave_layer::wave_rows;
 
 // Writes why an entry isn't allowed here, where that is asked.
-pub fn put_asked_reason<P: Application, W: Write>(
+pub fn put_asked_reason<P: Invariant, W: Write>(
     alloc: Global,
     why: bool,
     config: &mut Config<P>,
@@ -42,9 +43,9 @@ pub fn put_asked_reason<P: Application, W: Write>(
 ) -> Result<(), RunStop>
     requires { entered P.app P.from_text config.old entry ≡ None }
     ensures ok { OnOk result (Appends (W.contents out.old) (W.contents out.new)
-        (asked_reason why (meaning_of P.app P.text P.from_text P.names) config.old entry)) }
+        (asked_reason why (meaning_of P.app P.text P.from_text P.names P.counts) config.old entry)) }
     ensures err { OnErr result (AppendsPrefix (W.contents out.old) (W.contents out.new)
-        (asked_reason why (meaning_of P.app P.text P.from_text P.names) config.old entry)) }
+        (asked_reason why (meaning_of P.app P.text P.from_text P.names P.counts) config.old entry)) }
     ensures stop { IfErr result IsOutputStop }
 {
     if why {
@@ -55,7 +56,7 @@ pub fn put_asked_reason<P: Application, W: Write>(
 }
 
 // Writes why an entry isn't allowed here.
-fn put_reason<P: Application, W: Write>(
+fn put_reason<P: Invariant, W: Write>(
     alloc: Global,
     config: &mut Config<P>,
     entry: Entry,
@@ -63,9 +64,9 @@ fn put_reason<P: Application, W: Write>(
 ) -> Result<(), RunStop>
     requires { entered P.app P.from_text config.old entry ≡ None }
     ensures ok { OnOk result (Appends (W.contents out.old) (W.contents out.new)
-        (reason_text (meaning_of P.app P.text P.from_text P.names) config.old entry)) }
+        (reason_text (meaning_of P.app P.text P.from_text P.names P.counts) config.old entry)) }
     ensures err { OnErr result (AppendsPrefix (W.contents out.old) (W.contents out.new)
-        (reason_text (meaning_of P.app P.text P.from_text P.names) config.old entry)) }
+        (reason_text (meaning_of P.app P.text P.from_text P.names P.counts) config.old entry)) }
     ensures stop { IfErr result IsOutputStop }
 {
     let ids = nodes_near(alloc, config.topology(), &entry)?;
@@ -95,7 +96,7 @@ fn put_entry_text<W: Write>(out: &mut W, entry: &Entry) -> Result<(), WriteFault
 }
 
 // Writes what a script answers to the command of an entry that isn't allowed, and what the rows of its event ask for.
-fn put_refusal_lines<P: Application, W: Write>(
+fn put_refusal_lines<P: Invariant, W: Write>(
     alloc: Global,
     config: &mut Config<P>,
     entry: Entry,
@@ -104,9 +105,9 @@ fn put_refusal_lines<P: Application, W: Write>(
     requires { entered P.app P.from_text config.old entry ≡ None }
     ensures same { OnOk result (config.new ≡ config.old) }
     ensures ok { OnOk result (Appends (W.contents out.old) (W.contents out.new)
-        (refusal_lines (meaning_of P.app P.text P.from_text P.names) config.old entry)) }
+        (refusal_lines (meaning_of P.app P.text P.from_text P.names P.counts) config.old entry)) }
     ensures err { OnErr result (AppendsPrefix (W.contents out.old) (W.contents out.new)
-        (refusal_lines (meaning_of P.app P.text P.from_text P.names) config.old entry)) }
+        (refusal_lines (meaning_of P.app P.text P.from_text P.names P.counts) config.old entry)) }
     ensures stop { IfErr result IsOutputStop }
 {
     match entry {
@@ -216,15 +217,15 @@ fn put_guard<W: Write>(row: &CaseRow<'_>, numbers: &[u8], out: &mut W) -> Result
 }
 
 // Writes the lines of those of these nodes that are up.
-fn put_nodes<P: Application, W: Write>(
+fn put_nodes<P: Invariant, W: Write>(
     config: &Config<P>,
     ids: &[u32],
     out: &mut W,
 ) -> Result<(), WriteFault>
     ensures ok { OnOk result (Appends (W.contents out.old) (W.contents out.new)
-        (flat_map (line_there (meaning_of P.app P.text P.from_text P.names) config.now) ids.now)) }
+        (flat_map (line_there (meaning_of P.app P.text P.from_text P.names P.counts) config.now) ids.now)) }
     ensures err { OnErr result (AppendsPrefix (W.contents out.old) (W.contents out.new)
-        (flat_map (line_there (meaning_of P.app P.text P.from_text P.names) config.now) ids.now)) }
+        (flat_map (line_there (meaning_of P.app P.text P.from_text P.names P.counts) config.now) ids.now)) }
 {
     for id in ids {
         put_node(config, *id, out)?;
@@ -233,15 +234,15 @@ fn put_nodes<P: Application, W: Write>(
 }
 
 // Writes the line of a node, if it is up.
-fn put_node<P: Application, W: Write>(
+fn put_node<P: Invariant, W: Write>(
     config: &Config<P>,
     id: u32,
     out: &mut W,
 ) -> Result<(), WriteFault>
     ensures ok { OnOk result (Appends (W.contents out.old) (W.contents out.new)
-        (line_there (meaning_of P.app P.text P.from_text P.names) config.now id)) }
+        (line_there (meaning_of P.app P.text P.from_text P.names P.counts) config.now id)) }
     ensures err { OnErr result (AppendsPrefix (W.contents out.old) (W.contents out.new)
-        (line_there (meaning_of P.app P.text P.from_text P.names) config.now id)) }
+        (line_there (meaning_of P.app P.text P.from_text P.names P.counts) config.now id)) }
 {
     match config.tree_at(id) {
         Some(_) => show_node(config, id, out),

@@ -8,7 +8,8 @@ ghost use Rattle.script_replay.specs.Recorded.{LeavesRecord};
 ghost use Rattle.reset_service.specs.Begun.{IsBegunFrom, IsBegunOf, IsBegunText, Records};
 
 use crate::started::{refuse_start, start};
-use app_interface::{Application, Idle};
+use app_interface::Idle;
+use app_invariants::Invariant;
 use app_mutex::EdgeReversal;
 use app_routes::Routes;
 use app_token::Token;
@@ -75,7 +76,7 @@ fn record_app<H: Write, W: Write>(
     }
 }
 
-fn record_started<P: Application, H: Write, W: Write>(
+fn record_started<P: Invariant, H: Write, W: Write>(
     alloc: Global,
     network: Network,
     snapshot: &[u8],
@@ -85,8 +86,9 @@ fn record_started<P: Application, H: Write, W: Write>(
 ) -> Result<Status, RunStop>
     requires { network.topology.nodes ≡ network.topology.ids }
     ensures { LeavesRecord
-        (IsBegunFrom (meaning_of P.app P.text P.from_text P.names) network.topology network.modulus snapshot.now
-        (Records script.now P.Local (meaning_of P.app P.text P.from_text P.names)))
+        (IsBegunFrom (meaning_of P.app P.text P.from_text P.names P.counts)
+        network.topology network.modulus snapshot.now
+        (Records script.now P.Local (meaning_of P.app P.text P.from_text P.names P.counts)))
         (H.contents history.old) (H.contents history.new) (W.contents out.old) (W.contents out.new) result }
 {
     match start::<P>(alloc, network, snapshot) {

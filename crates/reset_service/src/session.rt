@@ -10,6 +10,7 @@ ghost use Rattle.reset_service.specs.Held.{IsPastOutput, session_run, status_of}
 use crate::started::{refuse_start, start};
 use crate::verified::{refuse_entry, refuse_history, refuse_modulus};
 use app_interface::{Application, Idle};
+use app_invariants::Invariant;
 use app_mutex::EdgeReversal;
 use app_routes::Routes;
 use app_token::Token;
@@ -86,7 +87,7 @@ fn session_app<F: Read + Drop, R: Read, H: Write, W: Write>(
     }
 }
 
-fn session_on<P: Application, F: Read + Drop, R: Read, H: Write, W: Write>(
+fn session_on<P: Invariant, F: Read + Drop, R: Read, H: Write, W: Write>(
     alloc: Global,
     network: Network,
     snapshot: Option<&[u8]>,
@@ -96,8 +97,9 @@ fn session_on<P: Application, F: Read + Drop, R: Read, H: Write, W: Write>(
     out: &mut W,
 ) -> Result<Status, RunStop>
     requires { network.topology.nodes ≡ network.topology.ids }
-    ensures { HoldsOn (meaning_of P.app P.text P.from_text P.names) network.topology network.modulus (option_map (λ text. text.now) snapshot.entry)
-        (HoldsFrom F.remaining past (meaning_of P.app P.text P.from_text P.names))
+    ensures { HoldsOn (meaning_of P.app P.text P.from_text P.names P.counts)
+        network.topology network.modulus (option_map (λ text. text.now) snapshot.entry)
+        (HoldsFrom F.remaining past (meaning_of P.app P.text P.from_text P.names P.counts))
         (session_run (R.remaining input.old) (H.contents log.old) (H.contents log.new) (W.contents out.old)
         (W.contents out.new) result) }
 {
@@ -110,7 +112,7 @@ fn session_on<P: Application, F: Read + Drop, R: Read, H: Write, W: Write>(
 }
 
 // A session from the booted configuration of a network.
-fn session_booted<P: Application, F: Read + Drop, R: Read, H: Write, W: Write>(
+fn session_booted<P: Invariant, F: Read + Drop, R: Read, H: Write, W: Write>(
     alloc: Global,
     network: Network,
     past: Past<F>,
@@ -118,8 +120,8 @@ fn session_booted<P: Application, F: Read + Drop, R: Read, H: Write, W: Write>(
     log: &mut H,
     out: &mut W,
 ) -> Result<Status, RunStop>
-    ensures { HoldsOn (meaning_of P.app P.text P.from_text P.names) network.topology network.modulus None
-        (HoldsFrom F.remaining past (meaning_of P.app P.text P.from_text P.names))
+    ensures { HoldsOn (meaning_of P.app P.text P.from_text P.names P.counts) network.topology network.modulus None
+        (HoldsFrom F.remaining past (meaning_of P.app P.text P.from_text P.names P.counts))
         (session_run (R.remaining input.old) (H.contents log.old) (H.contents log.new) (W.contents out.old)
         (W.contents out.new) result) }
 {
@@ -130,7 +132,7 @@ fn session_booted<P: Application, F: Read + Drop, R: Read, H: Write, W: Write>(
 }
 
 // A session from the configuration of a network that a snapshot names.
-fn session_started<P: Application, F: Read + Drop, R: Read, H: Write, W: Write>(
+fn session_started<P: Invariant, F: Read + Drop, R: Read, H: Write, W: Write>(
     alloc: Global,
     network: Network,
     snapshot: &[u8],
@@ -140,8 +142,9 @@ fn session_started<P: Application, F: Read + Drop, R: Read, H: Write, W: Write>(
     out: &mut W,
 ) -> Result<Status, RunStop>
     requires { network.topology.nodes ≡ network.topology.ids }
-    ensures { HoldsOn (meaning_of P.app P.text P.from_text P.names) network.topology network.modulus (Some snapshot.now)
-        (HoldsFrom F.remaining past (meaning_of P.app P.text P.from_text P.names))
+    ensures { HoldsOn (meaning_of P.app P.text P.from_text P.names P.counts)
+        network.topology network.modulus (Some snapshot.now)
+        (HoldsFrom F.remaining past (meaning_of P.app P.text P.from_text P.names P.counts))
         (session_run (R.remaining input.old) (H.contents log.old) (H.contents log.new) (W.contents out.old)
         (W.contents out.new) result) }
 {
@@ -152,7 +155,7 @@ fn session_started<P: Application, F: Read + Drop, R: Read, H: Write, W: Write>(
 }
 
 // A session from this configuration on.
-fn session_from<P: Application, F: Read + Drop, R: Read, H: Write, W: Write>(
+fn session_from<P: Invariant, F: Read + Drop, R: Read, H: Write, W: Write>(
     alloc: Global,
     opening: Config<P>,
     past: Past<F>,
@@ -160,7 +163,7 @@ fn session_from<P: Application, F: Read + Drop, R: Read, H: Write, W: Write>(
     log: &mut H,
     out: &mut W,
 ) -> Result<Status, RunStop>
-    ensures { HoldsFrom F.remaining past (meaning_of P.app P.text P.from_text P.names) opening
+    ensures { HoldsFrom F.remaining past (meaning_of P.app P.text P.from_text P.names P.counts) opening
         (session_run (R.remaining input.old) (H.contents log.old) (H.contents log.new) (W.contents out.old)
         (W.contents out.new) result) }
 {
@@ -172,14 +175,14 @@ fn session_from<P: Application, F: Read + Drop, R: Read, H: Write, W: Write>(
 }
 
 // A session without a history.
-fn hold<P: Application, R: Read, H: Write, W: Write>(
+fn hold<P: Invariant, R: Read, H: Write, W: Write>(
     alloc: Global,
     opening: Config<P>,
     input: &mut R,
     log: &mut H,
     out: &mut W,
 ) -> Result<Status, RunStop>
-    ensures { HoldsUnkept (meaning_of P.app P.text P.from_text P.names) opening
+    ensures { HoldsUnkept (meaning_of P.app P.text P.from_text P.names P.counts) opening
         (session_run (R.remaining input.old) (H.contents log.old) (H.contents log.new) (W.contents out.old)
         (W.contents out.new) result) }
 {
@@ -187,14 +190,14 @@ fn hold<P: Application, R: Read, H: Write, W: Write>(
 }
 
 // A session with a new history.
-fn begin<P: Application, R: Read, H: Write, W: Write>(
+fn begin<P: Invariant, R: Read, H: Write, W: Write>(
     alloc: Global,
     opening: Config<P>,
     input: &mut R,
     log: &mut H,
     out: &mut W,
 ) -> Result<Status, RunStop>
-    ensures { HoldsNew (meaning_of P.app P.text P.from_text P.names) opening
+    ensures { HoldsNew (meaning_of P.app P.text P.from_text P.names P.counts) opening
         (session_run (R.remaining input.old) (H.contents log.old) (H.contents log.new) (W.contents out.old)
         (W.contents out.new) result) }
 {
@@ -202,7 +205,7 @@ fn begin<P: Application, R: Read, H: Write, W: Write>(
 }
 
 // A session that goes on after the history that a reader gives.
-fn resume<P: Application, F: Read, R: Read, H: Write, W: Write>(
+fn resume<P: Invariant, F: Read, R: Read, H: Write, W: Write>(
     alloc: Global,
     opening: Config<P>,
     past: &mut F,
@@ -210,7 +213,7 @@ fn resume<P: Application, F: Read, R: Read, H: Write, W: Write>(
     log: &mut H,
     out: &mut W,
 ) -> Result<Status, RunStop>
-    ensures { HoldsKept (meaning_of P.app P.text P.from_text P.names) opening (F.remaining past.old)
+    ensures { HoldsKept (meaning_of P.app P.text P.from_text P.names P.counts) opening (F.remaining past.old)
         (session_run (R.remaining input.old) (H.contents log.old) (H.contents log.new) (W.contents out.old)
         (W.contents out.new) result) }
 {

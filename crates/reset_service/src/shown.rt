@@ -21,7 +21,8 @@ use crate::explored::{Exploring, answer_too_many, put_found_counts, put_runs, st
 use crate::planned::refuse_line;
 use crate::started::{open_network, refuse_start};
 use action_tables::{Part, WriteFault, put_bytes, put_parts};
-use app_interface::{Application, Idle};
+use app_interface::Idle;
+use app_invariants::Invariant;
 use app_mutex::EdgeReversal;
 use app_routes::Routes;
 use app_token::Token;
@@ -109,7 +110,7 @@ fn show_app<H: Write, W: Write>(
     }
 }
 
-fn show_opened<P: Application, H: Write, W: Write>(
+fn show_opened<P: Invariant, H: Write, W: Write>(
     alloc: Global,
     network: Network,
     snapshot: Option<&[u8]>,
@@ -121,9 +122,9 @@ fn show_opened<P: Application, H: Write, W: Write>(
 ) -> Result<Status, RunStop>
     requires { network.topology.nodes ≡ network.topology.ids }
     ensures { LeavesRecord
-        (λ h o. IsOpenedFrom (meaning_of P.app P.text P.from_text P.names) network.topology network.modulus
+        (λ h o. IsOpenedFrom (meaning_of P.app P.text P.from_text P.names P.counts) network.topology network.modulus
         (option_map (λ s. s.now) snapshot.entry)
-        (Shows run script.now h P.Local (meaning_of P.app P.text P.from_text P.names)) o
+        (Shows run script.now h P.Local (meaning_of P.app P.text P.from_text P.names P.counts)) o
         × (o.1 ≡ Status.BadInput → h ≡ []))
         (H.contents history.old) (H.contents history.new) (W.contents out.old) (W.contents out.new) result }
 {
@@ -134,7 +135,7 @@ fn show_opened<P: Application, H: Write, W: Write>(
 }
 
 // Explores what a script leaves of this configuration.
-fn show_after<P: Application, H: Write, W: Write>(
+fn show_after<P: Invariant, H: Write, W: Write>(
     alloc: Global,
     opening: &Config<P>,
     script: &[u8],
@@ -144,7 +145,7 @@ fn show_after<P: Application, H: Write, W: Write>(
     out: &mut W,
 ) -> Result<Status, RunStop>
     ensures { LeavesRecord
-        (λ h o. IsShown (meaning_of P.app P.text P.from_text P.names) run opening.now script.now h o
+        (λ h o. IsShown (meaning_of P.app P.text P.from_text P.names P.counts) run opening.now script.now h o
         × (o.1 ≡ Status.BadInput → h ≡ []))
         (H.contents history.old) (H.contents history.new) (W.contents out.old) (W.contents out.new) result }
 {
@@ -160,7 +161,7 @@ fn show_after<P: Application, H: Write, W: Write>(
 }
 
 // Explores from what a script left of an opening.
-fn show_here<P: Application, H: Write, W: Write>(
+fn show_here<P: Invariant, H: Write, W: Write>(
     alloc: Global,
     opening: &Config<P>,
     left: &Config<P>,
@@ -172,8 +173,9 @@ fn show_here<P: Application, H: Write, W: Write>(
 ) -> Result<Status, RunStop>
     requires { length script.now ≤ MAX_TEXT }
     ensures { LeavesRecord
-        (λ h o. IsFoundBy (meaning_of P.app P.text P.from_text P.names) run opening.now.modulus
-        (entries_of_lines (meaning_of P.app P.text P.from_text P.names) opening.now 1 (lines_of script.now)) left.now h o
+        (λ h o. IsFoundBy (meaning_of P.app P.text P.from_text P.names P.counts) run opening.now.modulus
+        (entries_of_lines (meaning_of P.app P.text P.from_text P.names P.counts)
+        opening.now 1 (lines_of script.now)) left.now h o
         × (o.1 ≡ Status.BadInput → h ≡ []))
         (H.contents history.old) (H.contents history.new) (W.contents out.old) (W.contents out.new) result }
 {
@@ -211,7 +213,7 @@ pub struct ShownHistory {
 
 // The history of the entries of a script and of the events after them, or None where they are more than a history may
 // have.
-fn history_of<P: Application>(
+fn history_of<P: Invariant>(
     alloc: Global,
     opening: &Config<P>,
     script: &[u8],
@@ -219,7 +221,8 @@ fn history_of<P: Application>(
 ) -> Result<Option<ShownHistory>, AllocError>
     requires { length script.now ≤ MAX_TEXT }
     ensures { IfOk result (IsHistoryOf opening.now.modulus
-        (entries_of_lines (meaning_of P.app P.text P.from_text P.names) opening.now 1 (lines_of script.now)) events.now) }
+        (entries_of_lines (meaning_of P.app P.text P.from_text P.names P.counts)
+        opening.now 1 (lines_of script.now)) events.now) }
 {
     let mut text = script_history(alloc, opening, script)?;
     let before = entry_count(alloc, &text)?;
@@ -233,13 +236,13 @@ fn history_of<P: Application>(
 }
 
 // The text of the history of a script.
-fn script_history<P: Application>(
+fn script_history<P: Invariant>(
     alloc: Global,
     opening: &Config<P>,
     script: &[u8],
 ) -> Result<Vec<u8>, AllocError>
     ensures { IfOk result (λ text.
-        IsHistory (meaning_of P.app P.text P.from_text P.names) opening.now script.now text.items) }
+        IsHistory (meaning_of P.app P.text P.from_text P.names P.counts) opening.now script.now text.items) }
 {
     let mut left = opening.copy(alloc)?;
     let mut text = Vec::new(alloc);

@@ -15,7 +15,8 @@ ghost use Rattle.reset_service.specs.Started.{IsStartedOf, IsStartedText};
 ghost use Rattle.reset_service.specs.Started.{start_fault_text};
 
 use action_tables::{WriteFault, put_bytes};
-use app_interface::{Application, Idle};
+use app_interface::Idle;
+use app_invariants::Invariant;
 use app_mutex::EdgeReversal;
 use app_routes::Routes;
 use app_token::Token;
@@ -41,17 +42,17 @@ pub enum StartFault {
 }
 
 // The configuration of a network that a snapshot names.
-pub fn start<P: Application>(
+pub fn start<P: Invariant>(
     alloc: Global,
     network: Network,
     snapshot: &[u8],
 ) -> Result<Config<P>, StartFault>
     requires { network.topology.nodes ≡ network.topology.ids }
     ensures short { OnOk result (length snapshot.now ≤ MAX_SNAPSHOT) }
-    ensures ok { IfOk result (IsSnapshotOf (meaning_of P.app P.text P.from_text P.names) network.topology
+    ensures ok { IfOk result (IsSnapshotOf (meaning_of P.app P.text P.from_text P.names P.counts) network.topology
         network.modulus snapshot.now) }
     ensures err { IfErr result (λ f. f ≢ StartFault.NoMemory
-        → IsStartFault (meaning_of P.app P.text P.from_text P.names) network.topology snapshot.now f) }
+        → IsStartFault (meaning_of P.app P.text P.from_text P.names P.counts) network.topology snapshot.now f) }
 {
     let started = start_on::<P>(alloc, &network, snapshot);
     drop(network);
@@ -59,17 +60,17 @@ pub fn start<P: Application>(
 }
 
 // The same of a network that the caller keeps.
-fn start_on<P: Application>(
+fn start_on<P: Invariant>(
     alloc: Global,
     network: &Network,
     snapshot: &[u8],
 ) -> Result<Config<P>, StartFault>
     requires { network.now.topology.nodes ≡ network.now.topology.ids }
     ensures short { OnOk result (length snapshot.now ≤ MAX_SNAPSHOT) }
-    ensures ok { IfOk result (IsSnapshotOf (meaning_of P.app P.text P.from_text P.names) network.now.topology
+    ensures ok { IfOk result (IsSnapshotOf (meaning_of P.app P.text P.from_text P.names P.counts) network.now.topology
         network.now.modulus snapshot.now) }
     ensures err { IfErr result (λ f. f ≢ StartFault.NoMemory
-        → IsStartFault (meaning_of P.app P.text P.from_text P.names) network.now.topology snapshot.now f) }
+        → IsStartFault (meaning_of P.app P.text P.from_text P.names P.counts) network.now.topology snapshot.now f) }
 {
     if snapshot.len() > MAX_SNAPSHOT {
         return Err(StartFault::TooLong);
@@ -82,16 +83,17 @@ fn start_on<P: Application>(
 }
 
 // The configuration that a run starts from: the booted one, or the one that a snapshot names.
-pub fn open_network<P: Application>(
+pub fn open_network<P: Invariant>(
     alloc: Global,
     network: Network,
     snapshot: Option<&[u8]>,
 ) -> Result<Config<P>, StartFault>
     requires { network.topology.nodes ≡ network.topology.ids }
-    ensures ok { IfOk result (IsOpening (meaning_of P.app P.text P.from_text P.names) network.topology network.modulus
+    ensures ok { IfOk result (IsOpening (meaning_of P.app P.text P.from_text P.names P.counts)
+        network.topology network.modulus
         (option_map (λ s. s.now) snapshot.entry)) }
     ensures err { IfErr result (λ f. f ≢ StartFault.NoMemory
-        → IsOpeningFault (meaning_of P.app P.text P.from_text P.names) network.topology
+        → IsOpeningFault (meaning_of P.app P.text P.from_text P.names P.counts) network.topology
         (option_map (λ s. s.now) snapshot.entry) f) }
 {
     match snapshot {
@@ -237,7 +239,7 @@ fn run_app<W: Write>(
     }
 }
 
-fn run_started<P: Application, W: Write>(
+fn run_started<P: Invariant, W: Write>(
     alloc: Global,
     purpose: Purpose,
     network: Network,
@@ -247,8 +249,8 @@ fn run_started<P: Application, W: Write>(
 ) -> Result<Status, RunStop>
     requires { network.topology.nodes ≡ network.topology.ids }
     ensures leaves { Leaves
-        (IsStartedFrom (meaning_of P.app P.text P.from_text P.names) network.topology network.modulus
-        snapshot.now (Answers purpose script.now P.Local (meaning_of P.app P.text P.from_text P.names)))
+        (IsStartedFrom (meaning_of P.app P.text P.from_text P.names P.counts) network.topology network.modulus
+        snapshot.now (Answers purpose script.now P.Local (meaning_of P.app P.text P.from_text P.names P.counts)))
         (W.contents out.old) (W.contents out.new) result }
     ensures stop { IfErr result IsOutputStop }
 {

@@ -15,6 +15,7 @@ ghost use Rattle.script_replay.specs.Stops.{IsRunStop};
 use crate::started::{StartFault, open_network};
 use crate::told::{Kept, Told, put_history, put_told, status_of};
 use app_interface::{Application, Idle};
+use app_invariants::Invariant;
 use app_mutex::EdgeReversal;
 use app_routes::Routes;
 use app_token::Token;
@@ -202,7 +203,7 @@ fn run_app<R: Threads + Wait + Sync>(
     }
 }
 
-fn run_opened<P: Application, R: Threads + Wait + Sync>(
+fn run_opened<P: Invariant, R: Threads + Wait + Sync>(
     rt: &R,
     alloc: Global,
     network: Network,
@@ -211,9 +212,10 @@ fn run_opened<P: Application, R: Threads + Wait + Sync>(
 ) -> Result<Told, RunStop>
     requires { network.topology.nodes ≡ network.topology.ids }
     ensures ok { IfOk result
-        (λ told. IsOpenedFrom (meaning_of P.app P.text P.from_text P.names) network.topology network.modulus
+        (λ told. IsOpenedFrom (meaning_of P.app P.text P.from_text P.names P.counts) network.topology network.modulus
         (option_map (λ s. s.now) snapshot.entry)
-        (RunsSelected run (told_history told) P.Local (meaning_of P.app P.text P.from_text P.names)) (told_output told)) }
+        (RunsSelected run (told_history told) P.Local (meaning_of P.app P.text P.from_text P.names P.counts))
+        (told_output told)) }
     ensures unkept { IfOk result (λ told. (told_output told).1 ≡ Status.BadInput → told_history told ≡ []) }
     ensures stop { IfErr result IsRunStop }
 {
@@ -225,13 +227,13 @@ fn run_opened<P: Application, R: Threads + Wait + Sync>(
 }
 
 // Runs the threads from this configuration on. What they keep is judged from a copy of it.
-fn run_from<P: Application, R: Threads + Wait + Sync>(
+fn run_from<P: Invariant, R: Threads + Wait + Sync>(
     rt: &R,
     alloc: Global,
     opening: Config<P>,
     run: ThreadRun,
 ) -> Result<Told, RunStop>
-    ensures ok { IfOk result (λ told. IsSelected (meaning_of P.app P.text P.from_text P.names) run opening
+    ensures ok { IfOk result (λ told. IsSelected (meaning_of P.app P.text P.from_text P.names P.counts) run opening
         (told_history told) (told_output told)) }
     ensures unkept { IfOk result (λ told. (told_output told).1 ≡ Status.BadInput → told_history told ≡ []) }
     ensures stop { IfErr result IsRunStop }
@@ -292,10 +294,10 @@ fn stopped_by(run: ThreadRun, cause: RunCause) -> Result<Told, RunStop>
 
 // Judges the history that was kept from an opening on, which is written where its verification takes it. Its text has the
 // book's entries alone.
-fn judge<P: Application>(alloc: Global, opening: Config<P>, book: &Book<P>) -> Result<Told, RunStop>
+fn judge<P: Invariant>(alloc: Global, opening: Config<P>, book: &Book<P>) -> Result<Told, RunStop>
     requires few { length opening.graph.nodes ≤ 64 }
     requires steps { IsTrue (list_all is_step book.now.entries) }
-    ensures ok { IfOk result (λ told. IsKept (meaning_of P.app P.text P.from_text P.names) opening
+    ensures ok { IfOk result (λ told. IsKept (meaning_of P.app P.text P.from_text P.names P.counts) opening
         (told_history told) (told_output told)) }
     ensures text { IfOk result (λ told. (modulus : ℕ) (es : List Entry)
         → IsReadAs (told_history told) (Ok (modulus, es)) → es ≡ book.now.entries) }

@@ -18,7 +18,8 @@ use crate::counts::put_counts;
 use crate::line::LineBuffer;
 use crate::started::{refuse_start, start};
 use action_tables::{WriteFault, put_bytes};
-use app_interface::{Application, Idle};
+use app_interface::Idle;
+use app_invariants::Invariant;
 use app_mutex::EdgeReversal;
 use app_routes::Routes;
 use app_token::Token;
@@ -94,7 +95,7 @@ fn verify_app_from<R: Read, W: Write>(
     }
 }
 
-fn verify_started<P: Application, R: Read, W: Write>(
+fn verify_started<P: Invariant, R: Read, W: Write>(
     alloc: Global,
     network: Network,
     snapshot: &[u8],
@@ -103,8 +104,8 @@ fn verify_started<P: Application, R: Read, W: Write>(
 ) -> Result<Status, RunStop>
     requires { network.topology.nodes ≡ network.topology.ids }
     ensures leaves { LeavesOfReader (R.remaining history.old)
-        (λ text. IsStartedFrom (meaning_of P.app P.text P.from_text P.names) network.topology network.modulus
-        snapshot.now (Verifies text P.Local (meaning_of P.app P.text P.from_text P.names)))
+        (λ text. IsStartedFrom (meaning_of P.app P.text P.from_text P.names P.counts) network.topology network.modulus
+        snapshot.now (Verifies text P.Local (meaning_of P.app P.text P.from_text P.names P.counts)))
         (W.contents out.old) (W.contents out.new) result }
 {
     match start::<P>(alloc, network, snapshot) {
@@ -131,14 +132,14 @@ fn verify_app<R: Read, W: Write>(
     }
 }
 
-fn verify_booted<P: Application, R: Read, W: Write>(
+fn verify_booted<P: Invariant, R: Read, W: Write>(
     alloc: Global,
     network: Network,
     history: &mut R,
     out: &mut W,
 ) -> Result<Status, RunStop>
     ensures leaves { LeavesOfReader (R.remaining history.old)
-        (IsVerifiedFrom (meaning_of P.app P.text P.from_text P.names) network.topology network.modulus)
+        (IsVerifiedFrom (meaning_of P.app P.text P.from_text P.names P.counts) network.topology network.modulus)
         (W.contents out.old) (W.contents out.new) result }
 {
     match Config::<P>::boot(alloc, network.topology, network.modulus) {
@@ -148,14 +149,15 @@ fn verify_booted<P: Application, R: Read, W: Write>(
 }
 
 // Verifies a history from this configuration on.
-fn verify_opened<P: Application, R: Read, W: Write>(
+fn verify_opened<P: Invariant, R: Read, W: Write>(
     alloc: Global,
     opening: Config<P>,
     history: &mut R,
     out: &mut W,
 ) -> Result<Status, RunStop>
     ensures leaves { LeavesOfReader (R.remaining history.old)
-        (IsVerified (meaning_of P.app P.text P.from_text P.names) opening) (W.contents out.old) (W.contents out.new) result }
+        (IsVerified (meaning_of P.app P.text P.from_text P.names P.counts)
+        opening) (W.contents out.old) (W.contents out.new) result }
 {
     match verify_reader(alloc, opening, history) {
         Ok(summary) => answer_summary(&summary, out),

@@ -1,7 +1,6 @@
 // Checks of what a script leaves, with the application's invariant.
 
 ghost use Rattle.std.specs.Prelude.{◌≡◌, ℕ, List, if◌then◌else◌, option_map, IfErr, IfOk, OnErr, OnOk};
-ghost use Rattle.std.specs.List.{flat_map};
 ghost use Rattle.std.specs.Option.{is_none};
 ghost use Rattle.std.specs.Io.KnownBytes.{Appends};
 ghost use Rattle.action_tables.specs.Written.{AppendsPrefix};
@@ -11,11 +10,10 @@ ghost use Rattle.script_replay.specs.Lines.{GaveText, IsReadFrom};
 ghost use Rattle.script_replay.specs.Meaning.{meaning_of};
 ghost use Rattle.script_replay.specs.Output.{Leaves};
 ghost use Rattle.script_replay.specs.Stops.{IsOutputStop};
-ghost use Rattle.reset_service.specs.Whole.{IsWholeFrom, IsWholeOf, IsWholeText, after_check, all_hold, verdict_line};
-ghost use Rattle.reset_service.specs.Whole.{whole_output};
+ghost use Rattle.reset_service.specs.Explorations.{IsOpenedFrom, IsOpenedOf, IsOpenedText};
+ghost use Rattle.reset_service.specs.Whole.{WholeCheck, after_check, all_hold, whole_output};
 
 use crate::started::{open_network, refuse_start};
-use action_tables::{Part, WriteFault, put_parts};
 use app_interface::Idle;
 use app_invariants::{Invariant, Verdict, judge_components};
 use app_mutex::EdgeReversal;
@@ -23,7 +21,8 @@ use app_routes::Routes;
 use app_token::Token;
 use reset_machine::Config;
 use script_replay::{
-    Network, Purpose, RunStop, Status, read_network, read_text, refuse_topology, run_script,
+    Network, Purpose, RunStop, Status, put_verdicts, read_network, read_text, refuse_topology,
+    run_script,
 };
 use std::alloc::{AllocError, Global};
 use std::io::{Read, Write};
@@ -42,7 +41,7 @@ pub fn check_whole<R: Read, W: Write>(
     out: &mut W,
 ) -> Result<Status, RunStop>
     ensures leaves { (text : List ℕ) × IsReadFrom (R.remaining script.old) text
-        × Leaves (IsWholeText repairs text topology.now (option_map (λ s. s.now) snapshot.entry))
+        × Leaves (IsOpenedText (WholeCheck repairs text) topology.now (option_map (λ s. s.now) snapshot.entry))
         (W.contents out.old) (W.contents out.new) result }
     ensures taken { OnOk result (GaveText (R.remaining script.old) (R.remaining script.new)) }
     ensures untouched { (f : ReadFault) → IsReadFault topology.now f → script.new ≡ script.old }
@@ -67,7 +66,7 @@ fn check_app<W: Write>(
 ) -> Result<Status, RunStop>
     requires { network.topology.nodes ≡ network.topology.ids }
     ensures leaves { Leaves
-        (IsWholeOf repairs script.now network.app network.topology network.modulus
+        (IsOpenedOf (WholeCheck repairs script.now) network.app network.topology network.modulus
         (option_map (λ s. s.now) snapshot.entry))
         (W.contents out.old) (W.contents out.new) result }
     ensures stop { IfErr result IsOutputStop }
@@ -94,9 +93,9 @@ fn check_opened<P: Invariant, W: Write>(
 ) -> Result<Status, RunStop>
     requires { network.topology.nodes ≡ network.topology.ids }
     ensures leaves { Leaves
-        (IsWholeFrom (record { words = P.counted; right = P.right; number = P.number })
-        (meaning_of P.app P.text P.from_text P.names) repairs script.now network.topology network.modulus
-        (option_map (λ s. s.now) snapshot.entry))
+        (IsOpenedFrom (meaning_of P.app P.text P.from_text P.names P.counts) network.topology network.modulus
+        (option_map (λ s. s.now) snapshot.entry)
+        (WholeCheck repairs script.now P.Local (meaning_of P.app P.text P.from_text P.names P.counts)))
         (W.contents out.old) (W.contents out.new) result }
     ensures stop { IfErr result IsOutputStop }
 {
@@ -115,8 +114,7 @@ fn check_after<P: Invariant, W: Write>(
     out: &mut W,
 ) -> Result<Status, RunStop>
     ensures leaves { Leaves (λ output. output
-        ≡ whole_output (record { words = P.counted; right = P.right; number = P.number })
-        (meaning_of P.app P.text P.from_text P.names) repairs config.old script.now)
+        ≡ whole_output (meaning_of P.app P.text P.from_text P.names P.counts) repairs config.old script.now)
         (W.contents out.old) (W.contents out.new) result }
     ensures stop { IfErr result IsOutputStop }
 {
@@ -135,11 +133,11 @@ fn end_check<P: Invariant, W: Write>(
     out: &mut W,
 ) -> Result<Status, RunStop>
     ensures ok { IfOk result (λ status. let last = after_check
-        (verdicts_of (record { words = P.counted; right = P.right; number = P.number }) P.app config.now) checked in
+        (verdicts_of P.counts P.app config.now) checked in
         (status ≡ last.1) × Appends (W.contents out.old) (W.contents out.new) last.0) }
     ensures err { OnErr result (AppendsPrefix (W.contents out.old) (W.contents out.new)
         (after_check
-        (verdicts_of (record { words = P.counted; right = P.right; number = P.number }) P.app config.now) checked).0) }
+        (verdicts_of P.counts P.app config.now) checked).0) }
     ensures stop { IfErr result IsOutputStop }
 {
     if checked == Status::BadInput {
@@ -177,46 +175,4 @@ fn holds(verdict: &Verdict) -> bool
     ensures { result ≡ is_none verdict.now.1 }
 {
     verdict.violation.is_none()
-}
-
-// Writes the lines of verdicts.
-fn put_verdicts<W: Write>(out: &mut W, verdicts: &[Verdict]) -> Result<(), WriteFault>
-    ensures ok { OnOk result
-        (Appends (W.contents out.old) (W.contents out.new) (flat_map verdict_line verdicts.now)) }
-    ensures err { OnErr result
-        (AppendsPrefix (W.contents out.old) (W.contents out.new) (flat_map verdict_line verdicts.now)) }
-{
-    for verdict in verdicts {
-        put_verdict(out, verdict)?;
-    }
-    Ok(())
-}
-
-// Writes the line of a verdict.
-fn put_verdict<W: Write>(out: &mut W, verdict: &Verdict) -> Result<(), WriteFault>
-    ensures ok { OnOk result (Appends (W.contents out.old) (W.contents out.new) (verdict_line verdict.now)) }
-    ensures err { OnErr result (AppendsPrefix (W.contents out.old) (W.contents out.new) (verdict_line verdict.now)) }
-{
-    match &verdict.violation {
-        None => put_parts(
-            out,
-            &[
-                Part::Text(b"invariant "),
-                Part::Number(u64::from(verdict.leader)),
-                Part::Text(b" holds\n"),
-            ],
-        ),
-        Some(wrong) => put_parts(
-            out,
-            &[
-                Part::Text(b"invariant "),
-                Part::Number(u64::from(verdict.leader)),
-                Part::Text(b" fails "),
-                Part::Text(wrong.words.as_bytes()),
-                Part::Text(b" "),
-                Part::Number(wrong.count),
-                Part::Text(b"\n"),
-            ],
-        ),
-    }
 }

@@ -78,7 +78,7 @@ fn one_more_than_the_limit_is_too_many(rt: HostRuntime) {
         Ok(_) => assert!(rt; false),
         Err(fault) => assert!(rt; matches!(fault, ExploreFault::TooMany)),
     }
-    assert!(rt; (progress.done(), progress.known()) == (6, 7));
+    assert!(rt; progress.reached() == (6, 7));
     drop(config);
 }
 

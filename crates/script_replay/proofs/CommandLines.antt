@@ -18,7 +18,7 @@ use Rattle.fault_inject.specs.declared.fault.Fault.TheVariants.{NodeDown, NodeUp
 use Rattle.script_replay.specs.declared.script.Command.{Command}
 use Rattle.script_replay.specs.declared.script.Command.TheVariants.{Step, Inject, Draw, Show, ShowNode, Newest, Enabled}
 use Rattle.script_replay.specs.declared.script.Command.TheVariants.{Ready, Check, CheckNode, Alarm, Watch, Moves}
-use Rattle.script_replay.specs.declared.script.Command.TheVariants.{MovesOf, Snapshot}
+use Rattle.script_replay.specs.declared.script.Command.TheVariants.{MovesOf, Snapshot, Invariant}
 use Rattle.script_replay.specs.Script.{command_words, command_line, AsksAbout, CommandFits, IsPlain}
 
 pub words_of-command_line : (c : Command) → CommandFits c → words_of (command_line c) ≡ command_words c
@@ -37,6 +37,7 @@ words_of-command_line (Watch at) h = ap (λ ws. codes "watch" ∷ ws) (words_of-
 words_of-command_line Moves h = refl
 words_of-command_line (MovesOf at) h = ap (λ ws. codes "moves" ∷ ws) (words_of-decimal at h)
 words_of-command_line Snapshot h = refl
+words_of-command_line Invariant h = refl
 
 -- a command that fits and is no fault fits
 pub plain_fits : (c : Command) → IsPlain c → CommandFits c
@@ -55,6 +56,7 @@ plain_fits (Watch at) h = h
 plain_fits Moves h = h
 plain_fits (MovesOf at) h = h
 plain_fits Snapshot h = h
+plain_fits Invariant h = h
 
 pub words_of-plain_line : (c : Command) → IsPlain c → words_of (command_line c) ≡ command_words c
 words_of-plain_line c h = words_of-command_line c (plain_fits c h)
@@ -78,6 +80,7 @@ none_of_both line fault plain (Watch at) h = plain (Watch at) h
 none_of_both line fault plain Moves h = plain Moves h
 none_of_both line fault plain (MovesOf at) h = plain (MovesOf at) h
 none_of_both line fault plain Snapshot h = plain Snapshot h
+none_of_both line fault plain Invariant h = plain Invariant h
 
 -- the words of a command's line
 pub words_of_line : (line : List ℕ) (c : Command) → CommandFits c → line ≡ command_line c
@@ -92,7 +95,7 @@ begins_no_event ws =
     || first_bytes ws == two_bytes (codes "check") || first_bytes ws == two_bytes (codes "alarm")
     || first_bytes ws == two_bytes (codes "watch") || first_bytes ws == two_bytes (codes "draw")
     || first_bytes ws == two_bytes (codes "fault") || first_bytes ws == two_bytes (codes "moves")
-    || first_bytes ws == two_bytes (codes "snapshot")
+    || first_bytes ws == two_bytes (codes "snapshot") || first_bytes ws == two_bytes (codes "invariant")
 
 event_begins : (e : Event) → begins_no_event (event_words e) ≡ false
 event_begins (Claim at) = refl
@@ -147,7 +150,8 @@ two_words e = omega arith
 -- what is none of these words is no command of one word
 pub no_word : (word : List ℕ) (o : Option Command)
     → (word ≢ codes "show") × (word ≢ codes "newest") × (word ≢ codes "snapshot")
-    → IfNone o ((word ≢ codes "ready") × (word ≢ codes "check") × (word ≢ codes "moves"))
+    → IfNone o
+    ((word ≢ codes "ready") × (word ≢ codes "check") × (word ≢ codes "moves") × (word ≢ codes "invariant"))
     → IfNone o ((c : Command) → IsPlain c → word ∷ [] ≡ command_words c → ⊥)
 no_word word (Some c) state rules = tt
 no_word word None state rules = none
@@ -161,6 +165,7 @@ no_word word None state rules = none
     none Ready fits is = rules.0 (cc)
     none Check fits is = rules.1 (cc)
     none Moves fits is = rules.2 (cc)
+    none Invariant fits is = rules.3 (cc)
     none c fits is = absurd (omega (arith, ap length is))
 
 -- ---- a word and more
@@ -203,3 +208,4 @@ no_command word rest None event question = none
     none Moves fits is = words_of-some rest (cc)
     none (MovesOf at) fits is = question at fits (inr (inr (inr (inr (inr (inr is))))))
     none Snapshot fits is = words_of-some rest (cc)
+    none Invariant fits is = words_of-some rest (cc)

@@ -26,7 +26,7 @@ use Rattle.script_replay.specs.declared.script.Line.TheVariants.{Asks}
 use Rattle.script_replay.specs.declared.script.Command.{Command}
 use Rattle.script_replay.specs.declared.script.Command.TheVariants.{Step, Inject, Draw, Show, ShowNode, Newest, Enabled}
 use Rattle.script_replay.specs.declared.script.Command.TheVariants.{Ready, Check, CheckNode, Alarm, Watch, Moves}
-use Rattle.script_replay.specs.declared.script.Command.TheVariants.{MovesOf, Snapshot}
+use Rattle.script_replay.specs.declared.script.Command.TheVariants.{MovesOf, Snapshot, Invariant}
 use Rattle.script_replay.specs.Script.{case_named, command_words, command_line, command_of, commands_with, faults_with}
 use Rattle.script_replay.specs.Script.{in_words, is_silent, line_of, local_faults_with, own_commands, with_name}
 use Rattle.script_replay.specs.Script.{is_name, is_text, actions_with, named_words, number_at, spellings, word_at}
@@ -67,6 +67,7 @@ one_by_words (Watch a) (Watch b) p q h = ap Watch (same_number a b p q (cc))
 one_by_words Moves Moves p q h = refl
 one_by_words (MovesOf a) (MovesOf b) p q h = ap MovesOf (same_number a b p q (cc))
 one_by_words Snapshot Snapshot p q h = refl
+one_by_words Invariant Invariant p q h = refl
 one_by_words c d p q h = absurd (omega (arith, ap first_bytes h, ap length h))
 
 spelled_once : (names : ℕ → Option (List ℕ)) (line : List ℕ) (c d : Command) → Spells names line c → Spells names line d
@@ -177,7 +178,7 @@ words_spell names line m n k p q r =
                                         by_words p,
                                         (
                                           by_words p,
-                                          (by_words p, (by_words p, (by_words tt, (by_words p, (by_words tt, tt))))),
+                                          (by_words p, (by_words p, (by_words tt, (by_words p, (by_words tt, (by_words tt, tt)))))),
                                         ),
                                       ),
                                     ),
@@ -293,20 +294,20 @@ IsPlaced c = (n : ℕ) × (slice_get (own_commands (command_words c)) n ≡ Some
 
 wave_among : (at session : ℕ) (phase : Phase) → at < 2 ^ 32 → session < 2 ^ 32
     → IsPlaced (Inject (SetWave at (record { phase = phase; session = session })))
-wave_among at session Normal p q = (25, rw (value at p, value session q) refl)
-wave_among at session Initiate p q = (26, rw (value at p, value session q) refl)
-wave_among at session Reset p q = (27, rw (value at p, value session q) refl)
+wave_among at session Normal p q = (26, rw (value at p, value session q) refl)
+wave_among at session Initiate p q = (27, rw (value at p, value session q) refl)
+wave_among at session Reset p q = (28, rw (value at p, value session q) refl)
 
 -- the place of a command with its own numbers
 among : (c : Command) → CommandFits c → IsPlaced c
 among (Inject (SetTree a regs)) h =
-    (24, rw (value a h.0.0, value regs.root h.0.1, value regs.father h.0.2, value regs.dist h.0.3) refl)
+    (25, rw (value a h.0.0, value regs.root h.0.1, value regs.father h.0.2, value regs.dist h.0.3) refl)
 among (Inject (SetWave a regs)) h = wave_among a regs.session regs.phase h.0.0 h.0.1
-among (Inject (SetLocal a text)) h = (32, rw (value a h.0.0, is_text-from text h.0.1.0 h.1) refl)
-among (Inject (LinkDown a b)) h = (28, rw (value a h.0.0, value b h.0.1) refl)
-among (Inject (LinkUp a b)) h = (29, rw (value a h.0.0, value b h.0.1) refl)
-among (Inject (NodeDown a)) h = (30, rw (value a h.0) refl)
-among (Inject (NodeUp a)) h = (31, rw (value a h.0) refl)
+among (Inject (SetLocal a text)) h = (33, rw (value a h.0.0, is_text-from text h.0.1.0 h.1) refl)
+among (Inject (LinkDown a b)) h = (29, rw (value a h.0.0, value b h.0.1) refl)
+among (Inject (LinkUp a b)) h = (30, rw (value a h.0.0, value b h.0.1) refl)
+among (Inject (NodeDown a)) h = (31, rw (value a h.0) refl)
+among (Inject (NodeUp a)) h = (32, rw (value a h.0) refl)
 among (Draw seed) h = (20, ap (λ n. Some (Draw n)) (value seed h))
 among Show h = (0, refl)
 among (ShowNode a) h = (1, ap (λ n. Some (ShowNode n)) (value a h))
@@ -331,6 +332,7 @@ among (Watch a) h = (19, ap (λ n. Some (Watch n)) (value a h))
 among Moves h = (21, refl)
 among (MovesOf a) h = (22, ap (λ n. Some (MovesOf n)) (value a h))
 among Snapshot h = (23, refl)
+among Invariant h = (24, refl)
 
 names_among : (names : ℕ → Option (List ℕ)) (line : List ℕ) (at : ℕ) (w : List ℕ) (with : Option ℕ) (c : Command)
     → Fits (Act at 0 with) → (b : Bool) → b ≡ true

@@ -20,3 +20,5 @@ pub mod FlatMaps
 pub mod MoveTexts
 pub mod LinkTexts
 pub mod Described
+pub mod Tallying
+pub mod VerdictTexts

@@ -34,7 +34,7 @@ use Rattle.script_replay.specs.Stretches.{after_alarm_events, watch_events}
 use Rattle.script_replay.specs.declared.script.Command.{Command}
 use Rattle.script_replay.specs.declared.script.Command.TheVariants.{Step, Inject, Draw, Show, ShowNode, Newest, Enabled}
 use Rattle.script_replay.specs.declared.script.Command.TheVariants.{Ready, Check, CheckNode, Alarm, Watch, Moves}
-use Rattle.script_replay.specs.declared.script.Command.TheVariants.{MovesOf, Snapshot}
+use Rattle.script_replay.specs.declared.script.Command.TheVariants.{MovesOf, Snapshot, Invariant}
 use Rattle.script_replay.specs.declared.script.Line.{Line}
 use Rattle.script_replay.specs.declared.script.Line.TheVariants.{Silent, Asks, Bad}
 use Rattle.script_replay.specs.declared.status.Status.{Status}
@@ -190,6 +190,7 @@ module _ {L : Type 0} (m : Meaning L) where
   few_command c Moves = omega arith
   few_command c (MovesOf i) = omega arith
   few_command c Snapshot = omega arith
+  few_command c Invariant = omega arith
 
   few_entries : (c : Configuration L) (line : Line) → length (line_entries m c line) ≤ 1
   few_entries c Silent = omega arith

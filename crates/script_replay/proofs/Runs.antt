@@ -290,3 +290,8 @@ leaves_unread O a WriteFailed other = absurd other
 leaves_unread O a NoMemory other = inl (Keeps-refl a)
 leaves_unread O a ThreadFailed other = absurd other
 leaves_unread O a NotClosed other = absurd other
+
+-- what holds however a call ends
+pub OnOk-always : {A B : Type 0} {P : Type 0} (r : Result A B) → P → OnOk r P
+OnOk-always (Ok a) h = h
+OnOk-always (Err b) h = tt

@@ -24,7 +24,7 @@ use Rattle.script_replay.specs.Stretches.{events_of_lines, line_events, after_al
 use Rattle.script_replay.specs.declared.script.Command.{Command}
 use Rattle.script_replay.specs.declared.script.Command.TheVariants.{Step, Inject, Draw, Show, ShowNode, Newest, Enabled}
 use Rattle.script_replay.specs.declared.script.Command.TheVariants.{Ready, Check, CheckNode, Alarm, Watch, Moves}
-use Rattle.script_replay.specs.declared.script.Command.TheVariants.{MovesOf, Snapshot}
+use Rattle.script_replay.specs.declared.script.Command.TheVariants.{MovesOf, Snapshot, Invariant}
 use Rattle.script_replay.specs.declared.script.Line.{Line}
 use Rattle.script_replay.specs.declared.script.Line.TheVariants.{Silent, Asks, Bad}
 
@@ -100,6 +100,7 @@ module _ {L : Type 0} (m : Meaning L) where
   command_left c Moves es calm = refl
   command_left c (MovesOf i) es calm = refl
   command_left c Snapshot es calm = refl
+  command_left c Invariant es calm = refl
 
   abbrev Leave : ℕ → List (List ℕ) → Type 0
   Leave n lines = (c : Configuration L) → (answers m c n lines).config ≡ left c (events_of_lines m c n lines)

@@ -10,3 +10,5 @@ pub mod Stretches
 pub mod Recorded
 pub mod Left
 pub mod Marked
+pub mod VerdictText
+pub mod Tallies

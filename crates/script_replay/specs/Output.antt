@@ -37,6 +37,7 @@ use Rattle.fault_inject.specs.declared.fault.Fault.{Fault}
 use Rattle.fault_inject.specs.declared.refusal.FaultRefusal.{FaultRefusal}
 use Rattle.fault_inject.specs.declared.refusal.FaultRefusal.TheVariants.{BadValue, BadLocal}
 use Rattle.fault_inject.specs.declared.refusal.FaultRefusal.TheVariants as refused
+use Rattle.app_invariants.specs.Verdicts.{verdicts_of}
 use Rattle.link_predicates.specs.Faults.{alarm_of, family_name, faults, node_faults, repair_of}
 use Rattle.link_predicates.specs.declared.fault.LinkFault.{LinkFault}
 use Rattle.reset_machine.specs.declared.enabled.Enabled.{Enabled}
@@ -47,10 +48,11 @@ use Rattle.scheduler.specs.Driven.{enabled_events}
 use Rattle.script_replay.specs.Lines.{lines_of, IsCut}
 use Rattle.script_replay.specs.Meaning.{Meaning, idle_meaning, token_meaning, mutex_meaning, routes_meaning}
 use Rattle.script_replay.specs.Script.{line_of}
+use Rattle.script_replay.specs.VerdictText.{verdict_line}
 use Rattle.script_replay.specs.declared.script.Command.{Command}
 use Rattle.script_replay.specs.declared.script.Command.TheVariants.{Step, Inject, Draw, Show, ShowNode, Newest, Ready}
 use Rattle.script_replay.specs.declared.script.Command.TheVariants.{Check, CheckNode, Alarm, Watch, Moves, MovesOf}
-use Rattle.script_replay.specs.declared.script.Command.TheVariants.{Snapshot}
+use Rattle.script_replay.specs.declared.script.Command.TheVariants.{Snapshot, Invariant}
 use Rattle.script_replay.specs.declared.script.Command.TheVariants as command
 use Rattle.script_replay.specs.declared.script.Line.{Line}
 use Rattle.script_replay.specs.declared.script.Line.TheVariants.{Silent, Asks, Bad}
@@ -236,6 +238,10 @@ faults_lines m repairs c = faults_text repairs (faults m.app c)
 unfoldable pub node_faults_lines : {L : Type 0} → Meaning L → Configuration L → ℕ → List ℕ
 node_faults_lines m c i = faults_text false (node_faults m.app c i)
 
+-- what is told of the application's invariant in each component. It stays folded: unfolded, it has all that is counted
+unfoldable pub invariant_lines : {L : Type 0} → Meaning L → Configuration L → List ℕ
+invariant_lines m c = flat_map verdict_line (verdicts_of m.counts m.app c)
+
 -- how a check of all nodes ends
 abbrev pub found_status : List LinkFault → Status
 found_status [] = Good
@@ -283,6 +289,7 @@ answered m c (Watch i) = if is_node c.graph i then watched m c i else (c, refusa
 answered m c Moves = (c, flat_map (moves_lines m c) c.graph.nodes)
 answered m c (MovesOf i) = (c, at_node c i (moves_lines m c i))
 answered m c Snapshot = (c, snapshot_text m c)
+answered m c Invariant = (c, invariant_lines m c)
 
 -- what lines leave: the configuration, what is written, and whether they are good
 pub record Answer (L : Type 0) : Type 0 where

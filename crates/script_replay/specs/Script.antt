@@ -20,7 +20,7 @@ use Rattle.reset_model.specs.declared.event.Event.TheVariants.{Mend, Act}
 use Rattle.script_replay.specs.declared.script.Command.{Command}
 use Rattle.script_replay.specs.declared.script.Command.TheVariants.{Step, Inject, Draw, Show, ShowNode, Newest, Enabled}
 use Rattle.script_replay.specs.declared.script.Command.TheVariants.{Ready, Check, CheckNode, Alarm, Watch, Moves}
-use Rattle.script_replay.specs.declared.script.Command.TheVariants.{MovesOf, Snapshot}
+use Rattle.script_replay.specs.declared.script.Command.TheVariants.{MovesOf, Snapshot, Invariant}
 use Rattle.script_replay.specs.declared.script.Line.{Line}
 use Rattle.script_replay.specs.declared.script.Line.TheVariants.{Silent, Asks, Bad}
 
@@ -41,6 +41,7 @@ command_words (Watch at) = codes "watch" ∷ decimal at ∷ []
 command_words Moves = codes "moves" ∷ []
 command_words (MovesOf at) = codes "moves" ∷ decimal at ∷ []
 command_words Snapshot = codes "snapshot" ∷ []
+command_words Invariant = codes "invariant" ∷ []
 
 -- the words ask something of the node with this identifier, or draw a fault from this number
 abbrev pub AsksAbout : ℕ → List (List ℕ) → Type 0
@@ -71,6 +72,7 @@ CommandFits (Watch at) = at < 2 ^ 32
 CommandFits Moves = Unit {0}
 CommandFits (MovesOf at) = at < 2 ^ 32
 CommandFits Snapshot = Unit {0}
+CommandFits Invariant = Unit {0}
 
 -- the command fits, and is no fault
 abbrev pub IsPlain : Command → Type 0
@@ -134,7 +136,7 @@ commands_with m n k =
     Show ∷ ShowNode m ∷ Newest ∷ Enabled m ∷ Ready ∷ Step (Claim m) ∷ Step (Follow m) ∷ Step (Adopt m n)
     ∷ Step (Request m) ∷ Step (Relay m n) ∷ Step (Open m) ∷ Step (Join m) ∷ Step (Finish m) ∷ Step (Mend m)
     ∷ Step (Act m (n % 2 ^ 8) None) ∷ Step (Act m (n % 2 ^ 8) (Some k)) ∷ Check ∷ CheckNode m ∷ Alarm m ∷ Watch m
-    ∷ Draw m ∷ Moves ∷ MovesOf m ∷ Snapshot ∷ []
+    ∷ Draw m ∷ Moves ∷ MovesOf m ∷ Snapshot ∷ Invariant ∷ []
 
 -- whether a text may be a word of a line: it isn't empty, and has only the bytes 33 to 126
 abbrev pub is_text : List ℕ → Bool

@@ -17,8 +17,10 @@ use crate::script::Command;
 use crate::show::{show_all, show_newest, show_node};
 use crate::snapshot::put_snapshot;
 use crate::status::{RunStop, written};
+use crate::verdicts::answer_invariant;
 use action_tables::{Part, WriteFault, put_bytes, put_number, put_parts};
 use app_interface::Application;
+use app_invariants::Invariant;
 use reset_machine::{Config, Event, Reply, StepRefusal};
 use std::alloc::Global;
 use std::io::Write;
@@ -108,24 +110,24 @@ pub fn put_bad_line<W: Write>(out: &mut W, number: u64) -> Result<(), WriteFault
 
 /// Does what the command asks for, and writes the answer. If an allocation fails, nothing is changed or written;
 /// where the writer fails the configuration is that of the answer.
-pub fn answer<P: Application, W: Write>(
+pub fn answer<P: Invariant, W: Write>(
     alloc: Global,
     config: &mut Config<P>,
     command: Command,
     out: &mut W,
 ) -> Result<(), RunStop>
     ensures ok { OnOk result
-        ((config.new ≡ (answered (meaning_of P.app P.text P.from_text P.names) config.old command).0)
+        ((config.new ≡ (answered (meaning_of P.app P.text P.from_text P.names P.counts) config.old command).0)
         × Appends (W.contents out.old) (W.contents out.new)
-        (answered (meaning_of P.app P.text P.from_text P.names) config.old command).1) }
+        (answered (meaning_of P.app P.text P.from_text P.names P.counts) config.old command).1) }
     ensures err { OnErr result
         (AppendsPrefix (W.contents out.old) (W.contents out.new)
-        (answered (meaning_of P.app P.text P.from_text P.names) config.old command).1) }
+        (answered (meaning_of P.app P.text P.from_text P.names P.counts) config.old command).1) }
     ensures stop { IfErr result IsOutputStop }
     ensures memory { result ≡ Err RunStop.NoMemory
         → (config.new ≡ config.old) × Keeps (W.contents out.old) (W.contents out.new) }
     ensures fault { result ≡ Err RunStop.WriteFailed
-        → config.new ≡ (answered (meaning_of P.app P.text P.from_text P.names) config.old command).0 }
+        → config.new ≡ (answered (meaning_of P.app P.text P.from_text P.names P.counts) config.old command).0 }
 {
     match command {
         Command::Step(event) => answer_step(alloc, config, event, out),
@@ -146,6 +148,7 @@ pub fn answer<P: Application, W: Write>(
         Command::Moves => answer_moves(alloc, config, out),
         Command::MovesOf(at) => answer_moves_of(alloc, config, at, out),
         Command::Snapshot => written(put_snapshot(config, out)),
+        Command::Invariant => answer_invariant(alloc, config, out),
     }
 }
 

@@ -20,6 +20,7 @@ use crate::answer::{put_numbered, put_refusal, put_reply};
 use crate::status::{RunStop, Status, written};
 use action_tables::{Part, WriteFault, put_bytes, put_parts};
 use app_interface::Application;
+use app_invariants::Invariant;
 use fault_inject::is_node;
 use link_predicates::{LinkFault, alarm, check_all, check_node};
 use reset_machine::{Config, Event, StepRefusal, write_event};
@@ -28,18 +29,18 @@ use std::io::Write;
 
 /// Writes the faults of all nodes, with what repairs each where that is asked for, and answers whether there are some.
 /// If an allocation fails, nothing is written.
-pub fn answer_check<P: Application, W: Write>(
+pub fn answer_check<P: Invariant, W: Write>(
     alloc: Global,
     config: &Config<P>,
     repairs: bool,
     out: &mut W,
 ) -> Result<Status, RunStop>
     ensures ok { OnOk result (Appends (W.contents out.old) (W.contents out.new)
-        (faults_lines (meaning_of P.app P.text P.from_text P.names) repairs config.now)) }
+        (faults_lines (meaning_of P.app P.text P.from_text P.names P.counts) repairs config.now)) }
     ensures status { IfOk result
-        (λ status. status ≡ faults_status (meaning_of P.app P.text P.from_text P.names) config.now) }
+        (λ status. status ≡ faults_status (meaning_of P.app P.text P.from_text P.names P.counts) config.now) }
     ensures err { OnErr result (AppendsPrefix (W.contents out.old) (W.contents out.new)
-        (faults_lines (meaning_of P.app P.text P.from_text P.names) repairs config.now)) }
+        (faults_lines (meaning_of P.app P.text P.from_text P.names P.counts) repairs config.now)) }
     ensures stop { IfErr result IsOutputStop }
     ensures memory { result ≡ Err RunStop.NoMemory → Keeps (W.contents out.old) (W.contents out.new) }
 {
@@ -63,16 +64,18 @@ fn found_status(found: &[LinkFault]) -> Status
 }
 
 /// Writes the faults of a node, or that there is no such node. If an allocation fails, nothing is written.
-pub fn answer_check_node<P: Application, W: Write>(
+pub fn answer_check_node<P: Invariant, W: Write>(
     alloc: Global,
     config: &Config<P>,
     at: u32,
     out: &mut W,
 ) -> Result<(), RunStop>
     ensures ok { OnOk result (Appends (W.contents out.old) (W.contents out.new)
-        (at_node config.now at (node_faults_lines (meaning_of P.app P.text P.from_text P.names) config.now at))) }
+        (at_node config.now at (node_faults_lines (meaning_of P.app P.text P.from_text P.names P.counts)
+        config.now at))) }
     ensures err { OnErr result (AppendsPrefix (W.contents out.old) (W.contents out.new)
-        (at_node config.now at (node_faults_lines (meaning_of P.app P.text P.from_text P.names) config.now at))) }
+        (at_node config.now at (node_faults_lines (meaning_of P.app P.text P.from_text P.names P.counts)
+        config.now at))) }
     ensures stop { IfErr result IsOutputStop }
     ensures memory { result ≡ Err RunStop.NoMemory → Keeps (W.contents out.old) (W.contents out.new) }
 {
@@ -84,15 +87,15 @@ pub fn answer_check_node<P: Application, W: Write>(
 }
 
 /// Writes the alarm of a node, that it has none, or that there is no such node.
-pub fn answer_alarm<P: Application, W: Write>(
+pub fn answer_alarm<P: Invariant, W: Write>(
     config: &Config<P>,
     at: u32,
     out: &mut W,
 ) -> Result<(), WriteFault>
     ensures ok { OnOk result (Appends (W.contents out.old) (W.contents out.new)
-        (at_node config.now at (alarm_line (meaning_of P.app P.text P.from_text P.names) config.now at))) }
+        (at_node config.now at (alarm_line (meaning_of P.app P.text P.from_text P.names P.counts) config.now at))) }
     ensures err { OnErr result (AppendsPrefix (W.contents out.old) (W.contents out.new)
-        (at_node config.now at (alarm_line (meaning_of P.app P.text P.from_text P.names) config.now at))) }
+        (at_node config.now at (alarm_line (meaning_of P.app P.text P.from_text P.names P.counts) config.now at))) }
 {
     if is_node(config, at) {
         put_alarm(out, alarm(config, at))
@@ -104,23 +107,23 @@ pub fn answer_alarm<P: Application, W: Write>(
 /// As `answer_alarm`; where the node has an alarm it asks for a reset, and the reply or the refusal is
 /// written too. If an allocation fails, nothing is changed or written; where the writer fails the node has asked,
 /// where it has an alarm.
-pub fn answer_watch<P: Application, W: Write>(
+pub fn answer_watch<P: Invariant, W: Write>(
     alloc: Global,
     config: &mut Config<P>,
     at: u32,
     out: &mut W,
 ) -> Result<(), RunStop>
     ensures ok { OnOk result
-        ((config.new ≡ (answered (meaning_of P.app P.text P.from_text P.names) config.old (Watch at)).0)
+        ((config.new ≡ (answered (meaning_of P.app P.text P.from_text P.names P.counts) config.old (Watch at)).0)
         × Appends (W.contents out.old) (W.contents out.new)
-        (answered (meaning_of P.app P.text P.from_text P.names) config.old (Watch at)).1) }
+        (answered (meaning_of P.app P.text P.from_text P.names P.counts) config.old (Watch at)).1) }
     ensures err { OnErr result (AppendsPrefix (W.contents out.old) (W.contents out.new)
-        (answered (meaning_of P.app P.text P.from_text P.names) config.old (Watch at)).1) }
+        (answered (meaning_of P.app P.text P.from_text P.names P.counts) config.old (Watch at)).1) }
     ensures stop { IfErr result IsOutputStop }
     ensures memory { result ≡ Err RunStop.NoMemory
         → (config.new ≡ config.old) × Keeps (W.contents out.old) (W.contents out.new) }
     ensures fault { result ≡ Err RunStop.WriteFailed
-        → config.new ≡ (answered (meaning_of P.app P.text P.from_text P.names) config.old (Watch at)).0 }
+        → config.new ≡ (answered (meaning_of P.app P.text P.from_text P.names P.counts) config.old (Watch at)).0 }
 {
     if is_node(&*config, at) {
         watch_node(alloc, config, at, out)
@@ -130,23 +133,24 @@ pub fn answer_watch<P: Application, W: Write>(
 }
 
 // Has a node ask for a reset where it has an alarm, and writes the alarm and how the request is answered.
-fn watch_node<P: Application, W: Write>(
+fn watch_node<P: Invariant, W: Write>(
     alloc: Global,
     config: &mut Config<P>,
     at: u32,
     out: &mut W,
 ) -> Result<(), RunStop>
     requires { IsNode config.now.graph at }
-    ensures ok { OnOk result ((config.new ≡ (watched (meaning_of P.app P.text P.from_text P.names) config.old at).0)
+    ensures ok { OnOk result ((config.new ≡ (watched (meaning_of P.app P.text P.from_text P.names P.counts)
+        config.old at).0)
         × Appends (W.contents out.old) (W.contents out.new)
-        (watched (meaning_of P.app P.text P.from_text P.names) config.old at).1) }
+        (watched (meaning_of P.app P.text P.from_text P.names P.counts) config.old at).1) }
     ensures err { OnErr result (AppendsPrefix (W.contents out.old) (W.contents out.new)
-        (watched (meaning_of P.app P.text P.from_text P.names) config.old at).1) }
+        (watched (meaning_of P.app P.text P.from_text P.names P.counts) config.old at).1) }
     ensures stop { IfErr result IsOutputStop }
     ensures memory { result ≡ Err RunStop.NoMemory
         → (config.new ≡ config.old) × Keeps (W.contents out.old) (W.contents out.new) }
     ensures fault { result ≡ Err RunStop.WriteFailed
-        → config.new ≡ (watched (meaning_of P.app P.text P.from_text P.names) config.old at).0 }
+        → config.new ≡ (watched (meaning_of P.app P.text P.from_text P.names P.counts) config.old at).0 }
 {
     let told = alarm(config, at);
     match told {

@@ -12,6 +12,7 @@ ghost use Rattle.script_replay.specs.Stops.{IsOutputStop};
 use crate::status::{RunStop, written};
 use action_tables::{WriteFault, put_bytes};
 use app_interface::Application;
+use app_invariants::Invariant;
 use fault_inject::{Fault, FaultRefusal, draw_fault, inject, write_fault};
 use rand_core::SeedableRng;
 use rand_pcg::Lcg64Xsh32;
@@ -44,23 +45,23 @@ pub fn answer_fault<P: Application, W: Write>(
 
 /// Draws a fault, does it, and writes its line and then what `answer_fault` writes. If an
 /// allocation fails, nothing is changed or written; where the writer fails the fault was done, or refused.
-pub fn answer_draw<P: Application, W: Write>(
+pub fn answer_draw<P: Invariant, W: Write>(
     alloc: Global,
     config: &mut Config<P>,
     seed: u32,
     out: &mut W,
 ) -> Result<(), RunStop>
     ensures ok { OnOk result
-        ((config.new ≡ (answered (meaning_of P.app P.text P.from_text P.names) config.old (Draw seed)).0)
+        ((config.new ≡ (answered (meaning_of P.app P.text P.from_text P.names P.counts) config.old (Draw seed)).0)
         × Appends (W.contents out.old) (W.contents out.new)
-        (answered (meaning_of P.app P.text P.from_text P.names) config.old (Draw seed)).1) }
+        (answered (meaning_of P.app P.text P.from_text P.names P.counts) config.old (Draw seed)).1) }
     ensures err { OnErr result (AppendsPrefix (W.contents out.old) (W.contents out.new)
-        (answered (meaning_of P.app P.text P.from_text P.names) config.old (Draw seed)).1) }
+        (answered (meaning_of P.app P.text P.from_text P.names P.counts) config.old (Draw seed)).1) }
     ensures stop { IfErr result IsOutputStop }
     ensures memory { result ≡ Err RunStop.NoMemory
         → (config.new ≡ config.old) × Keeps (W.contents out.old) (W.contents out.new) }
     ensures fault { result ≡ Err RunStop.WriteFailed
-        → config.new ≡ (answered (meaning_of P.app P.text P.from_text P.names) config.old (Draw seed)).0 }
+        → config.new ≡ (answered (meaning_of P.app P.text P.from_text P.names P.counts) config.old (Draw seed)).0 }
 {
     let fault = drawn(config, seed);
     let line = disturb(alloc, config, &fault)?;

@@ -13,7 +13,7 @@ ghost use Rattle.script_replay.specs.Stretches.{AreUndisturbed, MakeRun, MakeSte
 ghost use Rattle.script_replay.specs.declared.status.Purpose.{Purpose};
 ghost use Rattle.script_replay.specs.declared.status.Status.{Status};
 
-use app_interface::Application;
+use app_invariants::Invariant;
 use reset_machine::runs_are_steps;
 
 /// A topology and a script have at most one output, status included.
@@ -42,13 +42,13 @@ pub fn recordings_are_replays()
 /// Between two faults the lines of a script make a run happen: whatever the configuration of a graph, lines of which
 /// none asks for a fault leave what a run of their events leaves, each event answered by its outcome. The event of a line is its own, or the request of a node that watches and has an alarm. So,
 /// from a sound configuration on, the events that are applied are steps, of which the headline holds.
-pub fn stretches_are_runs<P: Application>()
+pub fn stretches_are_runs<P: Invariant>()
     ensures run { (c : Configuration P.Local) (n : ℕ) (lines : List (List ℕ)) → AreUndisturbed P.names lines
         → IsGraph c.graph → IsShaped c
-        → MakeRun (meaning_of P.app P.text P.from_text P.names) c n lines }
+        → MakeRun (meaning_of P.app P.text P.from_text P.names P.counts) c n lines }
     ensures lawful { (c : Configuration P.Local) (n : ℕ) (lines : List (List ℕ)) → AreUndisturbed P.names lines
         → IsGraph c.graph → IsShaped c → IsSound c
-        → MakeSteps (meaning_of P.app P.text P.from_text P.names) P.Inv c n lines }
+        → MakeSteps (meaning_of P.app P.text P.from_text P.names P.counts) P.Inv c n lines }
 {
     runs_are_steps::<P>();
 }
@@ -56,10 +56,10 @@ pub fn stretches_are_runs<P: Application>()
 /// From the booted configuration of a graph, the lines of a script of which none asks for a fault make steps happen:
 /// what they leave is what steps of their events leave that were taken in turn, but for those that were refused; and the
 /// headline holds of these steps.
-pub fn scripts_are_steps<P: Application>()
+pub fn scripts_are_steps<P: Invariant>()
     ensures { (g : Graph) (modulus : ℕ) (c : Configuration P.Local) (lines : List (List ℕ)) → IsGraph g
         → IsModulus modulus → IsBoot P.app g modulus c → AreUndisturbed P.names lines
-        → MakeSteps (meaning_of P.app P.text P.from_text P.names) P.Inv c 1 lines }
+        → MakeSteps (meaning_of P.app P.text P.from_text P.names P.counts) P.Inv c 1 lines }
 {
     runs_are_steps::<P>();
 }

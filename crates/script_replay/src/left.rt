@@ -14,6 +14,7 @@ use crate::injected::drawn;
 use crate::input::split_line;
 use crate::script::{Command, Line, read_line};
 use app_interface::Application;
+use app_invariants::Invariant;
 use fault_inject::{Fault, FaultRefusal, inject};
 use link_predicates::alarm;
 use reset_machine::{Config, Event, StepRefusal};
@@ -22,7 +23,7 @@ use topology::MAX_TEXT;
 
 /// Does what the lines of a script ask for in order, up to the first bad one, and answers none of them: the number of
 /// that line, counted from 1, or None where all are good.
-pub fn leave_script<P: Application>(
+pub fn leave_script<P: Invariant>(
     alloc: Global,
     config: &mut Config<P>,
     script: &[u8],
@@ -30,7 +31,7 @@ pub fn leave_script<P: Application>(
     requires { length script.now ≤ MAX_TEXT }
     ensures bad { IfOk result (λ bad. bad ≡ bad_line_of P.names script.now) }
     ensures left { OnOk result
-        (config.new ≡ left_by (meaning_of P.app P.text P.from_text P.names) config.old script.now) }
+        (config.new ≡ left_by (meaning_of P.app P.text P.from_text P.names P.counts) config.old script.now) }
 {
     let mut rest = script;
     let mut number = 1;
@@ -49,12 +50,12 @@ pub fn leave_script<P: Application>(
 }
 
 // Does what the line asks for. Whether it is good.
-fn pass_line<P: Application>(
+fn pass_line<P: Invariant>(
     alloc: Global,
     config: &mut Config<P>,
     line: &[u8],
 ) -> Result<bool, AllocError>
-    ensures { IfOk result (IsPassed (meaning_of P.app P.text P.from_text P.names) (line_of P.names line.now)
+    ensures { IfOk result (IsPassed (meaning_of P.app P.text P.from_text P.names P.counts) (line_of P.names line.now)
         config.old config.new) }
 {
     match read_line::<P>(alloc, line)? {
@@ -68,13 +69,13 @@ fn pass_line<P: Application>(
 }
 
 // Does what the command asks for. A question does nothing.
-fn pass_command<P: Application>(
+fn pass_command<P: Invariant>(
     alloc: Global,
     config: &mut Config<P>,
     command: Command,
 ) -> Result<(), AllocError>
     ensures { OnOk result
-        (config.new ≡ (answered (meaning_of P.app P.text P.from_text P.names) config.old command).0) }
+        (config.new ≡ (answered (meaning_of P.app P.text P.from_text P.names P.counts) config.old command).0) }
 {
     match command {
         Command::Step(event) => pass_event(alloc, config, event),
@@ -94,7 +95,8 @@ fn pass_command<P: Application>(
         | Command::Alarm(_)
         | Command::Moves
         | Command::MovesOf(_)
-        | Command::Snapshot => Ok(()),
+        | Command::Snapshot
+        | Command::Invariant => Ok(()),
     }
 }
 
@@ -130,13 +132,13 @@ fn pass_fault<P: Application>(
 }
 
 // Where the node has an alarm, lets it ask for a reset.
-fn pass_watch<P: Application>(
+fn pass_watch<P: Invariant>(
     alloc: Global,
     config: &mut Config<P>,
     at: u32,
 ) -> Result<(), AllocError>
     ensures { OnOk result
-        (config.new ≡ (answered (meaning_of P.app P.text P.from_text P.names) config.old (Watch at)).0) }
+        (config.new ≡ (answered (meaning_of P.app P.text P.from_text P.names P.counts) config.old (Watch at)).0) }
 {
     match alarm(config, at) {
         None => Ok(()),

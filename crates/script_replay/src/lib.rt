@@ -21,6 +21,8 @@ mod script;
 mod show;
 mod snapshot;
 mod status;
+mod tally;
+mod verdicts;
 
 pub use answer::{
     answer as answer_command, answer_step, put_bad_line, put_numbered, put_refusal, put_reply,
@@ -47,3 +49,5 @@ pub use replays::{
 pub use script::{Command, Line, read_line};
 pub use show::show_node;
 pub use status::{Purpose, RunStop, Status};
+pub use tally::Tally;
+pub use verdicts::put_verdicts;

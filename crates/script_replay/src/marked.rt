@@ -1,20 +1,23 @@
 // A replay that marks its answers.
 
-ghost use Rattle.std.specs.Prelude.{◌≡◌, ◌++◌, ◌≤◌, [], length, if◌then◌else◌, IfErr, IfOk, OnErr, OnOk};
+ghost use Rattle.std.specs.Prelude.{◌≡◌, ◌++◌, ◌<◌, ◌≤◌, [], length, if◌then◌else◌, IfErr, IfOk, OnErr, OnOk};
 ghost use Rattle.std.specs.Io.KnownBytes.{Appends};
 ghost use Rattle.action_tables.specs.Written.{AppendsPrefix};
+ghost use Rattle.script_replay.specs.Lines.{lines_of};
 ghost use Rattle.script_replay.specs.Marked.{is_refusal, is_refused, marked_answer, marked_answers, marked_output, number_text};
 ghost use Rattle.script_replay.specs.Meaning.{meaning_of};
-ghost use Rattle.script_replay.specs.Output.{Leaves, line_answer};
+ghost use Rattle.script_replay.specs.Output.{Leaves, if_good, line_answer};
+ghost use Rattle.script_replay.specs.Script.{is_silent};
 ghost use Rattle.script_replay.specs.Stops.{IsOutputStop};
+ghost use Rattle.script_replay.specs.Tallies.{counted, counted_answer, no_answers, script_tally, tally_of};
 
 use crate::input::split_line;
 use crate::replays::{answer_line, refuse_script};
 use crate::script::is_silent;
 use crate::status::{RunStop, Status};
+use crate::tally::Tally;
 use action_tables::{Part, WriteFault, put_bytes, put_parts};
-use app_interface::Application;
-use progress::Tally;
+use app_invariants::Invariant;
 use reset_machine::Config;
 use std::alloc::{AllocError, Global};
 use std::io::Write;
@@ -29,21 +32,25 @@ pub struct Marks {
     pub strict: bool,
 }
 
-/// Replays a script from this configuration on, with marks. A strict run that a refusal ends is `Status::NotEnabled`. The
-/// commands that are answered are counted by `tally`, with those that are refused.
-pub fn run_marked<P: Application, W: Write>(
+/// Replays a script from this configuration on, with marks. A strict run that a refusal ends is `Status::NotEnabled`. Leaves
+/// in `tally` how its commands were answered.
+pub fn run_marked<P: Invariant, W: Write>(
     alloc: Global,
     config: &mut Config<P>,
     script: &[u8],
     marks: Marks,
-    tally: &Tally,
+    tally: &mut Tally,
     out: &mut W,
 ) -> Result<Status, RunStop>
     ensures leaves { Leaves
-        (λ output. output ≡ marked_output (meaning_of P.app P.text P.from_text P.names) marks config.old script.now)
+        (λ output. output ≡ marked_output (meaning_of P.app P.text P.from_text P.names P.counts)
+        marks config.old script.now)
         (W.contents out.old) (W.contents out.new) result }
+    ensures tally { OnOk result
+        (tally.new ≡ script_tally (meaning_of P.app P.text P.from_text P.names P.counts) marks config.old script.now) }
     ensures stop { IfErr result IsOutputStop }
 {
+    *tally = Tally::new();
     if script.len() > MAX_TEXT {
         return refuse_script(out);
     }
@@ -51,17 +58,22 @@ pub fn run_marked<P: Application, W: Write>(
 }
 
 // Answers the lines of a script in order, up to the first answer that isn't good.
-fn answer_marked_lines<P: Application, W: Write>(
+fn answer_marked_lines<P: Invariant, W: Write>(
     alloc: Global,
     config: &mut Config<P>,
     script: &[u8],
     marks: Marks,
-    tally: &Tally,
+    tally: &mut Tally,
     out: &mut W,
 ) -> Result<Status, RunStop>
-    requires { length script.now ≤ MAX_TEXT }
-    ensures leaves { let a = marked_answers (meaning_of P.app P.text P.from_text P.names) marks config.old script.now in
+    requires short { length script.now ≤ MAX_TEXT }
+    requires tally { tally.old ≡ no_answers }
+    ensures leaves { let a = marked_answers (meaning_of P.app P.text P.from_text P.names P.counts)
+        marks config.old script.now in
         Leaves (λ output. output ≡ (a.text, a.status)) (W.contents out.old) (W.contents out.new) result }
+    ensures tally { OnOk result (tally.new
+        ≡ tally_of (meaning_of P.app P.text P.from_text P.names P.counts)
+        marks tally.old config.old 1 (lines_of script.now)) }
     ensures stop { IfErr result IsOutputStop }
 {
     let mut rest = script;
@@ -79,47 +91,56 @@ fn answer_marked_lines<P: Application, W: Write>(
 }
 
 // Answers the line with this number and text, with marks.
-fn answer_marked<P: Application, W: Write>(
+fn answer_marked<P: Invariant, W: Write>(
     alloc: Global,
     config: &mut Config<P>,
     number: u64,
     line: &[u8],
     marks: Marks,
-    tally: &Tally,
+    tally: &mut Tally,
     out: &mut W,
 ) -> Result<Status, RunStop>
+    requires room { tally.old.commands < number }
+    requires few { tally.old.refused ≤ tally.old.commands }
     ensures ok { IfOk result
-        (λ status. let a = marked_answer (meaning_of P.app P.text P.from_text P.names) marks config.old number line.now in
+        (λ status. let a = marked_answer (meaning_of P.app P.text P.from_text P.names P.counts)
+        marks config.old number line.now in
         (status ≡ a.status) × (config.new ≡ a.config) × Appends (W.contents out.old) (W.contents out.new) a.text) }
     ensures err { OnErr result
         (AppendsPrefix (W.contents out.old) (W.contents out.new)
-        (marked_answer (meaning_of P.app P.text P.from_text P.names) marks config.old number line.now).text) }
+        (marked_answer (meaning_of P.app P.text P.from_text P.names P.counts) marks config.old number line.now).text) }
+    ensures tally { OnOk result (tally.new ≡ counted_answer tally.old number line.now
+        (line_answer (meaning_of P.app P.text P.from_text P.names P.counts) config.old number line.now)) }
     ensures stop { IfErr result IsOutputStop }
 {
     let mut text = Vec::new(alloc);
     let status = gather_answer(alloc, config, number, line, &mut text)?;
     put_marked(number, &text, marks, out)?;
     let is_refusal = is_refused(&text);
-    if status == Status::Good && !is_silent(line) {
-        count_command(tally, number, is_refusal);
-    }
+    count_answer(tally, number, line, status, is_refusal);
     if marks.strict && is_refusal {
         return Ok(Status::NotEnabled);
     }
     Ok(status)
 }
 
-// Counts the command in the line of this number.
-fn count_command(tally: &Tally, number: u64, is_refused: bool) {
-    if is_refused {
-        tally.add_refused(number);
-    } else {
-        tally.add();
+// Counts the answer with this status to the line with this number and text, if it is a command's.
+fn count_answer(tally: &mut Tally, number: u64, line: &[u8], status: Status, is_refused: bool)
+    requires room { tally.old.commands < number }
+    requires few { tally.old.refused ≤ tally.old.commands }
+    ensures { tally.new
+        ≡ (if is_silent line.now then tally.old else if_good status (counted tally.old number is_refused) tally.old) }
+{
+    if is_silent(line) {
+        return;
+    }
+    if status == Status::Good {
+        tally.count(number, is_refused);
     }
 }
 
 // Adds the answer to a line to a text in memory.
-fn gather_answer<P: Application>(
+fn gather_answer<P: Invariant>(
     alloc: Global,
     config: &mut Config<P>,
     number: u64,
@@ -127,7 +148,8 @@ fn gather_answer<P: Application>(
     text: &mut Vec<u8>,
 ) -> Result<Status, AllocError>
     ensures { IfOk result
-        (λ status. let a = line_answer (meaning_of P.app P.text P.from_text P.names) config.old number line.now in
+        (λ status. let a = line_answer (meaning_of P.app P.text P.from_text P.names P.counts)
+        config.old number line.now in
         (status ≡ a.status) × (config.new ≡ a.config) × (text.new.items ≡ text.old.items ++ a.text)) }
 {
     match answer_line(alloc, config, number, line, text) {

@@ -13,6 +13,7 @@ use crate::answer::put_refusal;
 use crate::status::{RunStop, written};
 use action_tables::{WriteFault, put_bytes};
 use app_interface::Application;
+use app_invariants::Invariant;
 use fault_inject::is_node;
 use reset_machine::{Config, Event, StepRefusal, write_event};
 use scheduler::enabled_events;
@@ -21,15 +22,17 @@ use std::io::Write;
 
 /// Writes the moves of each node that is up, ascending. All are gathered before the first is written, so want of
 /// memory writes nothing.
-pub fn answer_moves<P: Application, W: Write>(
+pub fn answer_moves<P: Invariant, W: Write>(
     alloc: Global,
     config: &Config<P>,
     out: &mut W,
 ) -> Result<(), RunStop>
     ensures ok { OnOk result (Appends (W.contents out.old) (W.contents out.new)
-        (flat_map (moves_lines (meaning_of P.app P.text P.from_text P.names) config.now) config.now.graph.nodes)) }
+        (flat_map (moves_lines (meaning_of P.app P.text P.from_text P.names P.counts)
+        config.now) config.now.graph.nodes)) }
     ensures err { OnErr result (AppendsPrefix (W.contents out.old) (W.contents out.new)
-        (flat_map (moves_lines (meaning_of P.app P.text P.from_text P.names) config.now) config.now.graph.nodes)) }
+        (flat_map (moves_lines (meaning_of P.app P.text P.from_text P.names P.counts)
+        config.now) config.now.graph.nodes)) }
     ensures stop { IfErr result IsOutputStop }
     ensures memory { result ≡ Err RunStop.NoMemory → Keeps (W.contents out.old) (W.contents out.new) }
 {
@@ -40,16 +43,16 @@ pub fn answer_moves<P: Application, W: Write>(
 }
 
 /// Writes the moves of a node, or that there is no such node. If an allocation fails, nothing is written.
-pub fn answer_moves_of<P: Application, W: Write>(
+pub fn answer_moves_of<P: Invariant, W: Write>(
     alloc: Global,
     config: &Config<P>,
     at: u32,
     out: &mut W,
 ) -> Result<(), RunStop>
     ensures ok { OnOk result (Appends (W.contents out.old) (W.contents out.new)
-        (at_node config.now at (moves_lines (meaning_of P.app P.text P.from_text P.names) config.now at))) }
+        (at_node config.now at (moves_lines (meaning_of P.app P.text P.from_text P.names P.counts) config.now at))) }
     ensures err { OnErr result (AppendsPrefix (W.contents out.old) (W.contents out.new)
-        (at_node config.now at (moves_lines (meaning_of P.app P.text P.from_text P.names) config.now at))) }
+        (at_node config.now at (moves_lines (meaning_of P.app P.text P.from_text P.names P.counts) config.now at))) }
     ensures stop { IfErr result IsOutputStop }
     ensures memory { result ≡ Err RunStop.NoMemory → Keeps (W.contents out.old) (W.contents out.new) }
 {

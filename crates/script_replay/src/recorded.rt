@@ -13,7 +13,8 @@ use crate::recording::history_of;
 use crate::replays::{refuse_topology, run_script};
 use crate::status::{Purpose, RunStop, Status};
 use action_tables::put_bytes;
-use app_interface::{Application, Idle};
+use app_interface::Idle;
+use app_invariants::Invariant;
 use app_mutex::EdgeReversal;
 use app_routes::Routes;
 use app_token::Token;
@@ -71,7 +72,7 @@ fn record_app<H: Write, W: Write>(
     }
 }
 
-fn record_booted<P: Application, H: Write, W: Write>(
+fn record_booted<P: Invariant, H: Write, W: Write>(
     alloc: Global,
     network: Network,
     script: &[u8],
@@ -79,7 +80,8 @@ fn record_booted<P: Application, H: Write, W: Write>(
     out: &mut W,
 ) -> Result<Status, RunStop>
     ensures { LeavesRecord
-        (IsRecordFrom (meaning_of P.app P.text P.from_text P.names) network.topology network.modulus script.now)
+        (IsRecordFrom (meaning_of P.app P.text P.from_text P.names P.counts)
+        network.topology network.modulus script.now)
         (H.contents history.old) (H.contents history.new) (W.contents out.old) (W.contents out.new) result }
 {
     match Config::<P>::boot(alloc, network.topology, network.modulus) {
@@ -89,14 +91,14 @@ fn record_booted<P: Application, H: Write, W: Write>(
 }
 
 /// Records a script from this configuration on: its history goes to one writer, and then its answers to the other.
-pub fn record_script<P: Application, H: Write, W: Write>(
+pub fn record_script<P: Invariant, H: Write, W: Write>(
     alloc: Global,
     config: &mut Config<P>,
     script: &[u8],
     history: &mut H,
     out: &mut W,
 ) -> Result<Status, RunStop>
-    ensures { LeavesRecord (IsRecord (meaning_of P.app P.text P.from_text P.names) config.old script.now)
+    ensures { LeavesRecord (IsRecord (meaning_of P.app P.text P.from_text P.names P.counts) config.old script.now)
         (H.contents history.old) (H.contents history.new) (W.contents out.old) (W.contents out.new) result }
 {
     match put_history(alloc, config, script, history) {
@@ -106,17 +108,17 @@ pub fn record_script<P: Application, H: Write, W: Write>(
 }
 
 // Writes the history of a script. A stop leaves what a recording may that has written no answer yet.
-fn put_history<P: Application, H: Write>(
+fn put_history<P: Invariant, H: Write>(
     alloc: Global,
     opening: &Config<P>,
     script: &[u8],
     history: &mut H,
 ) -> Result<(), RunStop>
     ensures ok { OnOk result ((text : List ℕ)
-        × IsHistory (meaning_of P.app P.text P.from_text P.names) opening.now script.now text
+        × IsHistory (meaning_of P.app P.text P.from_text P.names P.counts) opening.now script.now text
         × Appends (H.contents history.old) (H.contents history.new) text) }
     ensures err { IfErr result (λ stop. (output : Option (List ℕ)) → LeavesRecord
-        (IsRecord (meaning_of P.app P.text P.from_text P.names) opening.now script.now)
+        (IsRecord (meaning_of P.app P.text P.from_text P.names P.counts) opening.now script.now)
         (H.contents history.old) (H.contents history.new) output output (Err stop)) }
 {
     let text = history_of(alloc, opening, script)?;

@@ -18,6 +18,7 @@ use crate::input::split_line;
 use crate::script::{Command, Line, read_line};
 use crate::status::Status;
 use app_interface::Application;
+use app_invariants::Invariant;
 use fault_inject::Fault;
 use history::{Book, BookRefusal, DisturbRefusal, MAX_ENTRIES, books_read_back, write_book};
 use link_predicates::alarm;
@@ -27,13 +28,13 @@ use topology::MAX_TEXT;
 
 /// The text of the history that a script leaves from this configuration on. It is empty where the script
 /// is too long.
-pub fn history_of<P: Application>(
+pub fn history_of<P: Invariant>(
     alloc: Global,
     opening: &Config<P>,
     script: &[u8],
 ) -> Result<Vec<u8>, AllocError>
     ensures { IfOk result (λ text.
-        IsHistory (meaning_of P.app P.text P.from_text P.names) opening.now script.now text.items) }
+        IsHistory (meaning_of P.app P.text P.from_text P.names P.counts) opening.now script.now text.items) }
 {
     if script.len() > MAX_TEXT {
         return Ok(Vec::new(alloc));
@@ -42,21 +43,21 @@ pub fn history_of<P: Application>(
 }
 
 // The text of the history of a script that isn't too long.
-fn kept_history<P: Application>(
+fn kept_history<P: Invariant>(
     alloc: Global,
     opening: Config<P>,
     script: &[u8],
 ) -> Result<Vec<u8>, AllocError>
     requires { length script.now ≤ MAX_TEXT }
     ensures { IfOk result (λ text.
-        IsHistory (meaning_of P.app P.text P.from_text P.names) opening script.now text.items) }
+        IsHistory (meaning_of P.app P.text P.from_text P.names P.counts) opening script.now text.items) }
 {
     let mut book = Book::open_book(alloc, opening, MAX_ENTRIES);
     history_in(alloc, &mut book, script)
 }
 
 // The same, with the entries in a book that was just opened.
-fn history_in<P: Application>(
+fn history_in<P: Invariant>(
     alloc: Global,
     book: &mut Book<P>,
     script: &[u8],
@@ -66,7 +67,7 @@ fn history_in<P: Application>(
     requires fresh { book.old.entries ≡ [] }
     requires room { book.old.limit ≡ MAX_ENTRIES }
     ensures { IfOk result (λ text.
-        IsHistory (meaning_of P.app P.text P.from_text P.names) book.old.config script.now text.items) }
+        IsHistory (meaning_of P.app P.text P.from_text P.names P.counts) book.old.config script.now text.items) }
 {
     record_lines(alloc, book, script)?;
     book.lemma_is_book();
@@ -89,7 +90,7 @@ pub fn text_of<P: Application>(alloc: Global, book: &Book<P>) -> Result<Vec<u8>,
 
 // Does what the lines of a script ask for in order, up to the first bad one, and enters what was done. There is
 // room for all: an entry has a line with at least one byte, and a line feed stands between two of them.
-fn record_lines<P: Application>(
+fn record_lines<P: Invariant>(
     alloc: Global,
     book: &mut Book<P>,
     script: &[u8],
@@ -98,7 +99,8 @@ fn record_lines<P: Application>(
     requires fresh { book.old.entries ≡ [] }
     requires room { book.old.limit ≡ MAX_ENTRIES }
     ensures entries { OnOk result (book.new.entries
-        ≡ entries_of_lines (meaning_of P.app P.text P.from_text P.names) book.old.config 1 (lines_of script.now)) }
+        ≡ entries_of_lines (meaning_of P.app P.text P.from_text P.names P.counts)
+        book.old.config 1 (lines_of script.now)) }
     ensures opening { OnOk result (book.new.opening ≡ book.old.opening) }
 {
     let mut rest = script;
@@ -115,13 +117,13 @@ fn record_lines<P: Application>(
 }
 
 // Does what the line asks for, and enters what was done.
-fn record_line<P: Application>(
+fn record_line<P: Invariant>(
     alloc: Global,
     book: &mut Book<P>,
     line: &[u8],
 ) -> Result<Status, AllocError>
     requires { length book.old.entries < book.old.limit }
-    ensures { IfOk result (IsNoted (meaning_of P.app P.text P.from_text P.names) (line_of P.names line.now)
+    ensures { IfOk result (IsNoted (meaning_of P.app P.text P.from_text P.names P.counts) (line_of P.names line.now)
         book.old book.new) }
 {
     match read_line::<P>(alloc, line)? {
@@ -135,15 +137,15 @@ fn record_line<P: Application>(
 }
 
 // Does what the command asks for, and enters what was done. A question does nothing.
-fn record_command<P: Application>(
+fn record_command<P: Invariant>(
     alloc: Global,
     book: &mut Book<P>,
     command: Command,
 ) -> Result<(), AllocError>
     requires { length book.old.entries < book.old.limit }
     ensures { OnOk result (book.new ≡ with_entries book.old
-        (line_entries (meaning_of P.app P.text P.from_text P.names) book.old.config (Asks command))
-        (answered (meaning_of P.app P.text P.from_text P.names) book.old.config command).0) }
+        (line_entries (meaning_of P.app P.text P.from_text P.names P.counts) book.old.config (Asks command))
+        (answered (meaning_of P.app P.text P.from_text P.names P.counts) book.old.config command).0) }
 {
     match command {
         Command::Step(event) => record_event(alloc, book, event),
@@ -160,19 +162,20 @@ fn record_command<P: Application>(
         | Command::Alarm(_)
         | Command::Moves
         | Command::MovesOf(_)
-        | Command::Snapshot => Ok(()),
+        | Command::Snapshot
+        | Command::Invariant => Ok(()),
     }
 }
 
 // Does what the event says and enters it, where it isn't refused.
-fn record_event<P: Application>(
+fn record_event<P: Invariant>(
     alloc: Global,
     book: &mut Book<P>,
     event: Event,
 ) -> Result<(), AllocError>
     requires { length book.old.entries < book.old.limit }
     ensures { OnOk result (book.new ≡ with_entries book.old
-        (event_entries (meaning_of P.app P.text P.from_text P.names) book.old.config event)
+        (event_entries (meaning_of P.app P.text P.from_text P.names P.counts) book.old.config event)
         (stepped book.old.config (outcome_of P.app book.old.config event)).0) }
 {
     match book.step(alloc, event) {
@@ -184,14 +187,14 @@ fn record_event<P: Application>(
 }
 
 // Does the fault and enters it, where it isn't refused.
-fn record_fault<P: Application>(
+fn record_fault<P: Invariant>(
     alloc: Global,
     book: &mut Book<P>,
     fault: Fault,
 ) -> Result<(), AllocError>
     requires { length book.old.entries < book.old.limit }
     ensures { OnOk result (book.new ≡ with_entries book.old
-        (fault_entries (meaning_of P.app P.text P.from_text P.names) book.old.config fault)
+        (fault_entries (meaning_of P.app P.text P.from_text P.names P.counts) book.old.config fault)
         (disturbed book.old.config (injected P.app P.from_text book.old.config fault)).0) }
 {
     match book.disturb(alloc, fault) {
@@ -203,30 +206,22 @@ fn record_fault<P: Application>(
 }
 
 // Draws a fault, and does and enters it where it isn't refused.
-fn record_draw<P: Application>(
-    alloc: Global,
-    book: &mut Book<P>,
-    seed: u32,
-) -> Result<(), AllocError>
+fn record_draw<P: Invariant>(alloc: Global, book: &mut Book<P>, seed: u32) -> Result<(), AllocError>
     requires { length book.old.entries < book.old.limit }
     ensures { OnOk result (book.new ≡ with_entries book.old
-        (line_entries (meaning_of P.app P.text P.from_text P.names) book.old.config (Asks (Draw seed)))
-        (answered (meaning_of P.app P.text P.from_text P.names) book.old.config (Draw seed)).0) }
+        (line_entries (meaning_of P.app P.text P.from_text P.names P.counts) book.old.config (Asks (Draw seed)))
+        (answered (meaning_of P.app P.text P.from_text P.names P.counts) book.old.config (Draw seed)).0) }
 {
     let fault = drawn(book.config(), seed);
     record_fault(alloc, book, fault)
 }
 
 // Where the node has an alarm, lets it ask for a reset, and enters the request where it isn't refused.
-fn record_watch<P: Application>(
-    alloc: Global,
-    book: &mut Book<P>,
-    at: u32,
-) -> Result<(), AllocError>
+fn record_watch<P: Invariant>(alloc: Global, book: &mut Book<P>, at: u32) -> Result<(), AllocError>
     requires { length book.old.entries < book.old.limit }
     ensures { OnOk result (book.new ≡ with_entries book.old
-        (line_entries (meaning_of P.app P.text P.from_text P.names) book.old.config (Asks (Watch at)))
-        (answered (meaning_of P.app P.text P.from_text P.names) book.old.config (Watch at)).0) }
+        (line_entries (meaning_of P.app P.text P.from_text P.names P.counts) book.old.config (Asks (Watch at)))
+        (answered (meaning_of P.app P.text P.from_text P.names P.counts) book.old.config (Watch at)).0) }
 {
     match alarm(book.config(), at) {
         None => Ok(()),

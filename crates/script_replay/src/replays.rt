@@ -19,7 +19,8 @@ use crate::next_line::{NextLine, next_line};
 use crate::script::{Line, read_line};
 use crate::status::{Purpose, RunStop, Status};
 use action_tables::put_bytes;
-use app_interface::{Application, Idle};
+use app_interface::Idle;
+use app_invariants::Invariant;
 use app_mutex::EdgeReversal;
 use app_routes::Routes;
 use app_token::Token;
@@ -171,7 +172,7 @@ fn run_app<W: Write>(
     }
 }
 
-fn run_booted<P: Application, W: Write>(
+fn run_booted<P: Invariant, W: Write>(
     alloc: Global,
     purpose: Purpose,
     network: Network,
@@ -179,7 +180,8 @@ fn run_booted<P: Application, W: Write>(
     out: &mut W,
 ) -> Result<Status, RunStop>
     ensures leaves { Leaves
-        (IsReplay (meaning_of P.app P.text P.from_text P.names) purpose network.topology network.modulus script.now)
+        (IsReplay (meaning_of P.app P.text P.from_text P.names P.counts)
+        purpose network.topology network.modulus script.now)
         (W.contents out.old) (W.contents out.new) result }
     ensures stop { IfErr result IsOutputStop }
 {
@@ -224,7 +226,7 @@ pub fn refuse_input<W: Write>(out: &mut W, text: &[u8]) -> Result<Status, RunSto
 
 /// Replays a script from this configuration on, and checks what it leaves if the run is for that. The configuration becomes
 /// the one that the lines leave, up to the first bad one; that of a script that is too long stays as it is.
-pub fn run_script<P: Application, W: Write>(
+pub fn run_script<P: Invariant, W: Write>(
     alloc: Global,
     purpose: Purpose,
     config: &mut Config<P>,
@@ -232,10 +234,11 @@ pub fn run_script<P: Application, W: Write>(
     out: &mut W,
 ) -> Result<Status, RunStop>
     ensures leaves { Leaves
-        (λ output. output ≡ script_output (meaning_of P.app P.text P.from_text P.names) purpose config.old script.now)
+        (λ output. output ≡ script_output (meaning_of P.app P.text P.from_text P.names P.counts)
+        purpose config.old script.now)
         (W.contents out.old) (W.contents out.new) result }
     ensures config { OnOk result (length script.now ≤ MAX_TEXT → config.new
-        ≡ (answers (meaning_of P.app P.text P.from_text P.names) config.old 1 (lines_of script.now)).config) }
+        ≡ (answers (meaning_of P.app P.text P.from_text P.names P.counts) config.old 1 (lines_of script.now)).config) }
     ensures stop { IfErr result IsOutputStop }
 {
     if script.len() > MAX_TEXT {
@@ -248,7 +251,7 @@ pub fn run_script<P: Application, W: Write>(
 }
 
 // Ends a run whose lines ended so: a check follows good lines, if the run is for one.
-fn end_run<P: Application, W: Write>(
+fn end_run<P: Invariant, W: Write>(
     alloc: Global,
     purpose: Purpose,
     config: &Config<P>,
@@ -256,10 +259,11 @@ fn end_run<P: Application, W: Write>(
     out: &mut W,
 ) -> Result<Status, RunStop>
     ensures ok { IfOk result
-        (λ status. let last = ending (meaning_of P.app P.text P.from_text P.names) purpose config.now answered in
+        (λ status. let last = ending (meaning_of P.app P.text P.from_text P.names P.counts)
+        purpose config.now answered in
         (status ≡ last.1) × Appends (W.contents out.old) (W.contents out.new) last.0) }
     ensures err { OnErr result (AppendsPrefix (W.contents out.old) (W.contents out.new)
-        (ending (meaning_of P.app P.text P.from_text P.names) purpose config.now answered).0) }
+        (ending (meaning_of P.app P.text P.from_text P.names P.counts) purpose config.now answered).0) }
     ensures stop { IfErr result IsOutputStop }
 {
     match (purpose, answered) {
@@ -269,18 +273,19 @@ fn end_run<P: Application, W: Write>(
 }
 
 // Answers the lines of a script in order, up to the first bad one.
-fn answer_lines<P: Application, W: Write>(
+fn answer_lines<P: Invariant, W: Write>(
     alloc: Global,
     config: &mut Config<P>,
     script: &[u8],
     out: &mut W,
 ) -> Result<Status, RunStop>
     requires { length script.now ≤ MAX_TEXT }
-    ensures leaves { let a = answers (meaning_of P.app P.text P.from_text P.names) config.old 1 (lines_of script.now) in
+    ensures leaves { let a = answers (meaning_of P.app P.text P.from_text P.names P.counts)
+        config.old 1 (lines_of script.now) in
         Leaves (λ output. output ≡ (a.text, a.status)) (W.contents out.old) (W.contents out.new) result }
     ensures config { OnOk result
         (config.new
-        ≡ (answers (meaning_of P.app P.text P.from_text P.names) config.old 1 (lines_of script.now)).config) }
+        ≡ (answers (meaning_of P.app P.text P.from_text P.names P.counts) config.old 1 (lines_of script.now)).config) }
     ensures stop { IfErr result IsOutputStop }
 {
     let mut rest = script;
@@ -300,7 +305,7 @@ fn answer_lines<P: Application, W: Write>(
 // Answers the line with this number. An event is answered by itself, since a command of any kind may hold the text of
 // a fault, with which it is slow to move.
 #[inline(always)]
-fn answer_next<P: Application, W: Write>(
+fn answer_next<P: Invariant, W: Write>(
     alloc: Global,
     config: &mut Config<P>,
     number: u64,
@@ -310,11 +315,12 @@ fn answer_next<P: Application, W: Write>(
     requires { HasFitting line }
     ensures ok { IfOk result
         (λ status. let a =
-        line_answer (meaning_of P.app P.text P.from_text P.names) config.old number (next_text line.entry) in
+        line_answer (meaning_of P.app P.text P.from_text P.names P.counts) config.old number (next_text line.entry) in
         (status ≡ a.status) × (config.new ≡ a.config) × Appends (W.contents out.old) (W.contents out.new) a.text) }
     ensures err { OnErr result
         (AppendsPrefix (W.contents out.old) (W.contents out.new)
-        (line_answer (meaning_of P.app P.text P.from_text P.names) config.old number (next_text line.entry)).text) }
+        (line_answer (meaning_of P.app P.text P.from_text P.names P.counts)
+        config.old number (next_text line.entry)).text) }
     ensures stop { IfErr result IsOutputStop }
 {
     match line {
@@ -328,7 +334,7 @@ fn answer_next<P: Application, W: Write>(
 
 // Answers the line with this number and text.
 #[inline(never)]
-pub fn answer_line<P: Application, W: Write>(
+pub fn answer_line<P: Invariant, W: Write>(
     alloc: Global,
     config: &mut Config<P>,
     number: u64,
@@ -336,11 +342,12 @@ pub fn answer_line<P: Application, W: Write>(
     out: &mut W,
 ) -> Result<Status, RunStop>
     ensures ok { IfOk result
-        (λ status. let a = line_answer (meaning_of P.app P.text P.from_text P.names) config.old number line.now in
+        (λ status. let a = line_answer (meaning_of P.app P.text P.from_text P.names P.counts)
+        config.old number line.now in
         (status ≡ a.status) × (config.new ≡ a.config) × Appends (W.contents out.old) (W.contents out.new) a.text) }
     ensures err { OnErr result
         (AppendsPrefix (W.contents out.old) (W.contents out.new)
-        (line_answer (meaning_of P.app P.text P.from_text P.names) config.old number line.now).text) }
+        (line_answer (meaning_of P.app P.text P.from_text P.names P.counts) config.old number line.now).text) }
     ensures stop { IfErr result IsOutputStop }
 {
     match read_line::<P>(alloc, line)? {

@@ -11,13 +11,13 @@ ghost use Rattle.script_replay.specs.Stops.{IsOutputStop};
 use crate::answer::put_refusal;
 use crate::status::{RunStop, written};
 use action_tables::{Part, WriteFault, put_bytes, put_parts};
-use app_interface::Application;
+use app_invariants::Invariant;
 use reset_machine::{Config, Enabled, StepRefusal};
 use std::alloc::{AllocError, Global};
 use std::io::Write;
 
 /// Writes the enabled rows of a node, or that there is no such node. If an allocation fails, nothing is written.
-pub fn answer_enabled<P: Application, W: Write>(
+pub fn answer_enabled<P: Invariant, W: Write>(
     alloc: Global,
     config: &Config<P>,
     at: u32,
@@ -25,10 +25,10 @@ pub fn answer_enabled<P: Application, W: Write>(
 ) -> Result<(), RunStop>
     ensures ok { OnOk result
         (Appends (W.contents out.old) (W.contents out.new)
-        (at_node config.now at (enabled_line (meaning_of P.app P.text P.from_text P.names) config.now at))) }
+        (at_node config.now at (enabled_line (meaning_of P.app P.text P.from_text P.names P.counts) config.now at))) }
     ensures err { OnErr result
         (AppendsPrefix (W.contents out.old) (W.contents out.new)
-        (at_node config.now at (enabled_line (meaning_of P.app P.text P.from_text P.names) config.now at))) }
+        (at_node config.now at (enabled_line (meaning_of P.app P.text P.from_text P.names P.counts) config.now at))) }
     ensures stop { IfErr result IsOutputStop }
     ensures memory { result ≡ Err RunStop.NoMemory → Keeps (W.contents out.old) (W.contents out.new) }
 {
@@ -60,17 +60,17 @@ fn put_enabled<W: Write>(out: &mut W, id: u32, rows: Enabled) -> Result<(), Writ
 }
 
 /// Writes the ids of the nodes that have something to do, and changes none. If an allocation fails, nothing is written.
-pub fn answer_ready<P: Application, W: Write>(
+pub fn answer_ready<P: Invariant, W: Write>(
     alloc: Global,
     config: &mut Config<P>,
     out: &mut W,
 ) -> Result<(), RunStop>
     ensures ok { OnOk result
         (Appends (W.contents out.old) (W.contents out.new)
-        (ready_line (meaning_of P.app P.text P.from_text P.names) config.old)) }
+        (ready_line (meaning_of P.app P.text P.from_text P.names P.counts) config.old)) }
     ensures err { OnErr result
         (AppendsPrefix (W.contents out.old) (W.contents out.new)
-        (ready_line (meaning_of P.app P.text P.from_text P.names) config.old)) }
+        (ready_line (meaning_of P.app P.text P.from_text P.names P.counts) config.old)) }
     ensures stop { IfErr result IsOutputStop }
     ensures memory { result ≡ Err RunStop.NoMemory → Keeps (W.contents out.old) (W.contents out.new) }
     ensures kept { config.new ≡ config.old }

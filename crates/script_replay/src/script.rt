@@ -57,6 +57,8 @@ pub enum Command {
     MovesOf(u32),
     /// The configuration, as a text that can be read back.
     Snapshot,
+    /// Whether the application's invariant holds in each component.
+    Invariant,
 }
 
 /// A line of a script, without its line feed.
@@ -230,12 +232,14 @@ fn by_word_of_rules(word: &[u8]) -> Option<Command>
     ensures found { IfSome result (λ command. word.now ∷ [] ≡ command_words command) }
     ensures fits { IfSome result IsPlain }
     ensures only { IfNone result
-        ((word.now ≢ codes "ready") × (word.now ≢ codes "check") × (word.now ≢ codes "moves")) }
+        ((word.now ≢ codes "ready") × (word.now ≢ codes "check") × (word.now ≢ codes "moves")
+        × (word.now ≢ codes "invariant")) }
 {
     match word {
         b"ready" => Some(Command::Ready),
         b"check" => Some(Command::Check),
         b"moves" => Some(Command::Moves),
+        b"invariant" => Some(Command::Invariant),
         _ => None,
     }
 }

@@ -13,19 +13,20 @@ ghost use Rattle.script_replay.specs.Output.{at_node, newest_head, newest_line, 
 use crate::answer::put_refusal;
 use action_tables::{Part, WriteFault, put_bytes, put_parts};
 use app_interface::Application;
+use app_invariants::Invariant;
 use reset_machine::{Config, StepRefusal};
 use std::io::Write;
 use tree_layer::TreeRegs;
 use wave_layer::WaveRegs;
 
 /// Writes the line of each node that is up, ascending.
-pub fn show_all<P: Application, W: Write>(config: &Config<P>, out: &mut W) -> Result<(), WriteFault>
+pub fn show_all<P: Invariant, W: Write>(config: &Config<P>, out: &mut W) -> Result<(), WriteFault>
     ensures ok { OnOk result
         (Appends (W.contents out.old) (W.contents out.new)
-        (flat_map (shown (meaning_of P.app P.text P.from_text P.names) config.now) config.now.graph.nodes)) }
+        (flat_map (shown (meaning_of P.app P.text P.from_text P.names P.counts) config.now) config.now.graph.nodes)) }
     ensures err { OnErr result
         (AppendsPrefix (W.contents out.old) (W.contents out.new)
-        (flat_map (shown (meaning_of P.app P.text P.from_text P.names) config.now) config.now.graph.nodes)) }
+        (flat_map (shown (meaning_of P.app P.text P.from_text P.names P.counts) config.now) config.now.graph.nodes)) }
 {
     for id in config.topology().nodes() {
         show_node(config, *id, out)?;
@@ -34,17 +35,17 @@ pub fn show_all<P: Application, W: Write>(config: &Config<P>, out: &mut W) -> Re
 }
 
 /// Writes the line of a node, or that there is no such node.
-pub fn show_node<P: Application, W: Write>(
+pub fn show_node<P: Invariant, W: Write>(
     config: &Config<P>,
     id: u32,
     out: &mut W,
 ) -> Result<(), WriteFault>
     ensures ok { OnOk result
         (Appends (W.contents out.old) (W.contents out.new)
-        (at_node config.now id (shown (meaning_of P.app P.text P.from_text P.names) config.now id))) }
+        (at_node config.now id (shown (meaning_of P.app P.text P.from_text P.names P.counts) config.now id))) }
     ensures err { OnErr result
         (AppendsPrefix (W.contents out.old) (W.contents out.new)
-        (at_node config.now id (shown (meaning_of P.app P.text P.from_text P.names) config.now id))) }
+        (at_node config.now id (shown (meaning_of P.app P.text P.from_text P.names P.counts) config.now id))) }
 {
     match node_at(config, id) {
         Some((tree, wave, local)) => {
@@ -108,16 +109,18 @@ fn put_local<P: Application, W: Write>(local: &P::Local, out: &mut W) -> Result<
 }
 
 /// Writes the local state of each node that is up, in the newest session, ascending.
-pub fn show_newest<P: Application, W: Write>(
+pub fn show_newest<P: Invariant, W: Write>(
     config: &Config<P>,
     out: &mut W,
 ) -> Result<(), WriteFault>
     ensures ok { OnOk result
         (Appends (W.contents out.old) (W.contents out.new)
-        (flat_map (newest_line (meaning_of P.app P.text P.from_text P.names) config.now) config.now.graph.nodes)) }
+        (flat_map (newest_line (meaning_of P.app P.text P.from_text P.names P.counts)
+        config.now) config.now.graph.nodes)) }
     ensures err { OnErr result
         (AppendsPrefix (W.contents out.old) (W.contents out.new)
-        (flat_map (newest_line (meaning_of P.app P.text P.from_text P.names) config.now) config.now.graph.nodes)) }
+        (flat_map (newest_line (meaning_of P.app P.text P.from_text P.names P.counts)
+        config.now) config.now.graph.nodes)) }
 {
     for node in config.topology().nodes() {
         newest_of(config, *node, out)?;
@@ -126,7 +129,7 @@ pub fn show_newest<P: Application, W: Write>(
 }
 
 // Writes the local state of a node in the newest session.
-fn newest_of<P: Application, W: Write>(
+fn newest_of<P: Invariant, W: Write>(
     config: &Config<P>,
     id: u32,
     out: &mut W,
@@ -134,10 +137,10 @@ fn newest_of<P: Application, W: Write>(
     requires { IsNode config.now.graph id }
     ensures ok { OnOk result
         (Appends (W.contents out.old) (W.contents out.new)
-        (newest_line (meaning_of P.app P.text P.from_text P.names) config.now id)) }
+        (newest_line (meaning_of P.app P.text P.from_text P.names P.counts) config.now id)) }
     ensures err { OnErr result
         (AppendsPrefix (W.contents out.old) (W.contents out.new)
-        (newest_line (meaning_of P.app P.text P.from_text P.names) config.now id)) }
+        (newest_line (meaning_of P.app P.text P.from_text P.names P.counts) config.now id)) }
 {
     put_newest_head(out, id)?;
     match config.newest_local(id) {

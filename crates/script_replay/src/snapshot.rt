@@ -11,21 +11,21 @@ ghost use Rattle.script_replay.specs.Parts.{line_from, links_from};
 
 use crate::show::show_all;
 use action_tables::{Part, WriteFault, put_bytes, put_parts};
-use app_interface::Application;
+use app_invariants::Invariant;
 use reset_machine::Config;
 use std::io::Write;
 use topology::Topology;
 
 /// Writes the configuration as a text that can be read back: a first line, the lines of its nodes and those of its
 /// links. It requests no memory.
-pub fn put_snapshot<P: Application, W: Write>(
+pub fn put_snapshot<P: Invariant, W: Write>(
     config: &Config<P>,
     out: &mut W,
 ) -> Result<(), WriteFault>
     ensures ok { OnOk result (Appends (W.contents out.old) (W.contents out.new)
-        (snapshot_text (meaning_of P.app P.text P.from_text P.names) config.now)) }
+        (snapshot_text (meaning_of P.app P.text P.from_text P.names P.counts) config.now)) }
     ensures err { OnErr result (AppendsPrefix (W.contents out.old) (W.contents out.new)
-        (snapshot_text (meaning_of P.app P.text P.from_text P.names) config.now)) }
+        (snapshot_text (meaning_of P.app P.text P.from_text P.names P.counts) config.now)) }
 {
     put_bytes(out, b"reset-snapshot 1\n")?;
     show_all(config, out)?;

@@ -76,8 +76,8 @@ fn inputs_of(job: Job<'_>) -> Option<Inputs<'_>> {
         Job::Check(words) => {
             Some(Inputs::new(words.topology, words.from).with_script(Some(words.script)))
         }
-        Job::Picture(paths) => {
-            Some(Inputs::new(paths.topology, paths.from).with_history(paths.input))
+        Job::Picture(words) => {
+            Some(Inputs::new(words.topology, words.from).with_history(words.history))
         }
         Job::Plan(words) => Some(Inputs::new(words.topology, words.from).with_script(words.script)),
         Job::Explore(words) => Some(

@@ -6,63 +6,32 @@ ghost use Rattle.action_tables.specs.Written.{AppendsPrefix};
 ghost use Rattle.service_main.specs.Counts.{refused_text};
 
 use action_tables::{Part, WriteFault, put_bytes, put_parts};
-use progress::{Progress, Tally};
-use reset_service::Job;
+use reset_service::{Job, Tally};
 use std::io::Write;
-
-/// What a run says of itself while it goes on.
-#[derive(Drop)]
-pub struct Observed {
-    /// How far it has come.
-    pub progress: Progress,
-    /// How the commands of a script were answered.
-    pub tally: Tally,
-}
-
-impl Observed {
-    /// A run that hasn't begun.
-    pub fn new() -> Observed {
-        Observed {
-            progress: Progress::new(),
-            tally: Tally::new(),
-        }
-    }
-}
 
 /// Says of a replay how many commands were answered and how many of these were refused, and nothing of other runs or where
 /// none was answered.
-pub fn say_counts<W: Write>(job: Job<'_>, tally: &Tally, out: &mut W) -> Result<(), WriteFault> {
-    if !matches!(job, Job::Replay(_)) || tally.commands() == 0 {
+pub fn say_counts<W: Write>(job: Job<'_>, tally: Tally, out: &mut W) -> Result<(), WriteFault> {
+    if !matches!(job, Job::Replay(_)) || tally.commands == 0 {
         return Ok(());
     }
-    put_counts(
-        out,
-        tally.commands(),
-        tally.refused(),
-        tally.first_refused(),
-    )
+    put_counts(out, tally)
 }
 
 // Writes how many commands were answered, how many of these were refused, and in which line the first of them is.
-fn put_counts<W: Write>(
-    out: &mut W,
-    commands: u64,
-    refused: u64,
-    first: u64,
-) -> Result<(), WriteFault> {
+fn put_counts<W: Write>(out: &mut W, tally: Tally) -> Result<(), WriteFault> {
     put_parts(
         out,
         &[
             Part::Text(b"replay: "),
-            Part::Number(commands),
+            Part::Number(tally.commands),
             Part::Text(b" command"),
         ],
     )?;
-    put_bytes(out, plural_end(commands))?;
-    if refused == 0 {
-        put_bytes(out, b"none refused")?;
-    } else {
-        put_refused(out, refused, first)?;
+    put_bytes(out, plural_end(tally.commands))?;
+    match tally.first_refused {
+        Some(first) => put_refused(out, tally.refused, first)?,
+        None => put_bytes(out, b"none refused")?,
     }
     put_bytes(out, b"\n")
 }

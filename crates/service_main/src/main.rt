@@ -20,7 +20,7 @@ mod streams;
 mod verbose;
 
 use crate::bad_files::say_why;
-use crate::counts::{Observed, say_counts};
+use crate::counts::say_counts;
 use crate::files::{open_file, read_file, read_snapshot};
 use crate::history_file::create_history;
 use crate::live::run_session;
@@ -31,15 +31,15 @@ use crate::status::exit_code;
 use crate::streams::Streams;
 use crate::verbose::{is_set, says_always, without_flags};
 use action_tables::put_bytes;
-use progress::{Progress, Tally};
+use progress::Progress;
 use reset_service::{
     BufferedOutput, CheckWords, Drive, DriveWords, ExploreWords, Exploring, Job, LineFault, Marks,
-    PageWords, Paths, PlanWords, Question, RecordWords, ReplayWords, RunStop, ShapeWords, Status,
-    VerifyWords, check_from, check_repairs_from, check_repairs_text, check_text, check_whole,
-    drive_from, drive_text, explain, explain_topics, explore_history, explore_text, page_from,
-    page_text, picture_from, picture_text, plan_from, plan_text, print_tables, read_words,
-    record_from, record_text, replay, replay_from, replay_joined, replay_marked, verify_asked,
-    verify_from, verify_text, write_shape,
+    PageWords, Part, PictureWords, PlanWords, Question, RecordWords, ReplayWords, RunStop,
+    ShapeWords, Status, Tally, VerifyWords, check_from, check_repairs_from, check_repairs_text,
+    check_text, check_whole, drive_from, drive_text, explain, explain_topics, explore_history,
+    explore_text, page_from, page_text, picture_from, picture_part, picture_text, plan_from,
+    plan_text, print_tables, read_words, record_from, record_text, replay, replay_from,
+    replay_joined, replay_marked, verify_asked, verify_from, verify_text, write_shape,
 };
 use std::env::Env;
 use std::io::{IsTerminal, Read, Write};
@@ -96,10 +96,10 @@ fn run<R: Clock + Env + Files + Input + Print + Eprint + AllocGlobal + Threads +
     }
     match read_words(rt.alloc(), words.as_slice()) {
         Ok(job) => {
-            let observed = Observed::new();
-            let ended = do_job(rt, streams, job, given.has_progress, &observed);
+            let mut tally = Tally::new();
+            let ended = do_job(rt, streams, job, given.has_progress, &mut tally);
             if streams.errors.is_terminal() {
-                let _ = say_counts(job, &observed.tally, said);
+                let _ = say_counts(job, tally, said);
             }
             if is_verbose || says_always(job) {
                 return say_why(rt, streams, job, ended, said);
@@ -144,8 +144,9 @@ fn do_job<R: Clock + Files + Input + Print + Eprint + AllocGlobal + Threads + Wa
     streams: Streams,
     job: Job<'_>,
     has_progress: bool,
-    observed: &Observed,
+    tally: &mut Tally,
 ) -> Result<Status, RunStop> {
+    let progress = Progress::new();
     let line = ProgressLine::new(streams.errors, has_progress);
     let above = line.as_ref().filter(|line| line.is_on_terminal);
     let writer = BelowLine::new(rt, above, io::writer(rt));
@@ -154,16 +155,16 @@ fn do_job<R: Clock + Files + Input + Print + Eprint + AllocGlobal + Threads + Wa
         (Some(name), Some(line)) => {
             let work = Work {
                 name,
-                progress: &observed.progress,
+                progress: &progress,
                 is_measured: matches!(job, Job::Drive(_)),
             };
             line.during(
                 rt,
                 work,
-                || job_output(rt, streams, job, observed, &mut out),
+                || job_output(rt, streams, job, &progress, tally, &mut out),
             )
         }
-        _ => job_output(rt, streams, job, observed, &mut out),
+        _ => job_output(rt, streams, job, &progress, tally, &mut out),
     };
     out.end(ended)
 }
@@ -184,22 +185,23 @@ fn job_output<R: Files + Input + Eprint + AllocGlobal + Threads + Wait + Sync, W
     rt: &R,
     streams: Streams,
     job: Job<'_>,
-    observed: &Observed,
+    progress: &Progress,
+    tally: &mut Tally,
     out: &mut W,
 ) -> Result<Status, RunStop> {
     match job {
         Job::Joined => replay_joined(rt.alloc(), &mut rt.reader(), out),
-        Job::Replay(words) => run_replay(rt, streams, words, &observed.tally, out),
+        Job::Replay(words) => run_replay(rt, streams, words, tally, out),
         Job::Check(words) => run_check(rt, words, out),
         Job::Plan(words) => run_plan(rt, words, out),
-        Job::Explore(words) => run_explore(rt, words, &observed.progress, out),
+        Job::Explore(words) => run_explore(rt, words, progress, out),
         Job::Session(words) => run_session(rt, streams, words, out),
         Job::Verify(words) => run_verify(rt, words, out),
-        Job::Picture(paths) => run_picture(rt, paths, out),
+        Job::Picture(words) => run_picture(rt, words, out),
         Job::Page(words) => run_page(rt, words, out),
         Job::Record(words) => run_record(rt, words, out),
         Job::Threads(words) => run_threads(rt, words, out),
-        Job::Drive(words) => run_drive(rt, words, &observed.progress, out),
+        Job::Drive(words) => run_drive(rt, words, progress, out),
         Job::Shape(words) => put_shape(rt, words, out),
         Job::Explain(Some(word)) => explain(word, out),
         Job::Explain(None) => explain_topics(out),
@@ -212,7 +214,7 @@ fn run_replay<R: Files + AllocGlobal, W: Write>(
     rt: &R,
     streams: Streams,
     words: ReplayWords<'_>,
-    tally: &Tally,
+    tally: &mut Tally,
     out: &mut W,
 ) -> Result<Status, RunStop> {
     let topology = read_file(rt, words.topology)?;
@@ -385,14 +387,23 @@ fn run_verify<R: Files + AllocGlobal, W: Write>(
     }
 }
 
+// Where neither rows nor nodes are named, the whole history is drawn.
 fn run_picture<R: Files + AllocGlobal, W: Write>(
     rt: &R,
-    paths: Paths<'_>,
+    words: PictureWords<'_>,
     out: &mut W,
 ) -> Result<Status, RunStop> {
-    let topology = read_file(rt, paths.topology)?;
-    let snapshot = read_snapshot(rt, paths.from)?;
-    let mut history = open_file(rt, paths.input)?;
+    let topology = read_file(rt, words.topology)?;
+    let snapshot = read_snapshot(rt, words.from)?;
+    let mut history = open_file(rt, words.history)?;
+    if words.rows.is_some() || words.nodes.is_some() {
+        let part = Part {
+            rows: words.rows,
+            nodes: words.nodes,
+        };
+        let snapshot = snapshot.as_deref();
+        return picture_part(rt.alloc(), &topology, snapshot, &mut history, part, out);
+    }
     match snapshot {
         None => picture_text(rt.alloc(), &topology, &mut history, out),
         Some(snapshot) => picture_from(rt.alloc(), &topology, &snapshot, &mut history, out),

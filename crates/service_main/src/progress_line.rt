@@ -126,10 +126,11 @@ impl ProgressLine {
         }
         put_bytes(&mut errors, work.name.as_bytes())?;
         put_bytes(&mut errors, b": ")?;
+        let (done, known) = work.progress.reached();
         let reached = Reached {
             seconds,
-            done: work.progress.done(),
-            known: work.progress.known(),
+            done,
+            known,
         };
         put_reached(&mut errors, reached, work.is_measured)?;
         if self.is_on_terminal {

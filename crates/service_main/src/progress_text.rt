@@ -25,13 +25,15 @@ pub fn put_reached<W: Write>(
     out: &mut W,
     reached: Reached,
     is_measured: bool,
-) -> Result<(), WriteFault> {
+) -> Result<(), WriteFault>
+    requires { reached.done ≤ reached.known }
+{
     let Reached {
         seconds,
         done,
         known,
     } = reached;
-    if seconds == 0 || done == 0 || done > known {
+    if seconds == 0 || done == 0 {
         return put_seconds(out, seconds);
     }
     if is_measured {

@@ -13,7 +13,8 @@ use crate::fault::SnapshotFault;
 use crate::item::{Item, NodeState};
 use crate::words::split_state;
 use action_tables::read_number;
-use app_interface::{Application, LocalFault};
+use app_interface::LocalFault;
+use app_invariants::Invariant;
 use reset_machine::{split_word, two_numbers};
 use std::alloc::{AllocError, Global};
 
@@ -22,14 +23,15 @@ use std::alloc::{AllocError, Global};
 pub const MAX_SNAPSHOT_LINE: usize = 65_536;
 
 /// What the line with this number says, or that it is bad. Lines count from 1.
-pub(crate) fn read_line<P: Application>(
+pub(crate) fn read_line<P: Invariant>(
     alloc: Global,
     number: usize,
     line: &[u8],
 ) -> Result<Option<Item<P::Local>>, SnapshotFault>
-    ensures ok { IfOk result (Says (meaning_of P.app P.text P.from_text P.names) number line.now) }
+    ensures ok { IfOk result (Says (meaning_of P.app P.text P.from_text P.names P.counts) number line.now) }
     ensures err { IfErr result (λ f. f ≢ SnapshotFault.NoMemory → (f ≡ SnapshotFault.BadLine number)
-        × ((said : Option (Item P.Local)) → Says (meaning_of P.app P.text P.from_text P.names) number line.now said
+        × ((said : Option (Item P.Local)) → Says (meaning_of P.app P.text P.from_text P.names P.counts)
+        number line.now said
         → ⊥)) }
 {
     if line.len() > MAX_SNAPSHOT_LINE {
@@ -52,26 +54,26 @@ fn is_silent(line: &[u8]) -> bool
 }
 
 // The item that the line with this number spells.
-fn read_item<P: Application>(
+fn read_item<P: Invariant>(
     alloc: Global,
     number: usize,
     line: &[u8],
 ) -> Result<Option<Item<P::Local>>, AllocError>
     ensures found { IfOk result
-        (λ read. IfSome read (Spells (meaning_of P.app P.text P.from_text P.names) number line.now)) }
+        (λ read. IfSome read (Spells (meaning_of P.app P.text P.from_text P.names P.counts) number line.now)) }
     ensures only { IfOk result (λ read. IfNone read ((item : Item P.Local)
-        → Spells (meaning_of P.app P.text P.from_text P.names) number line.now item → ⊥)) }
+        → Spells (meaning_of P.app P.text P.from_text P.names P.counts) number line.now item → ⊥)) }
 {
     read_words::<P>(alloc, number, line)
 }
 
 // The same by the words of the line.
-fn read_words<P: Application>(
+fn read_words<P: Invariant>(
     alloc: Global,
     number: usize,
     line: &[u8],
 ) -> Result<Option<Item<P::Local>>, AllocError>
-    ensures { IfOk result (IsReadOf (meaning_of P.app P.text P.from_text P.names) number (words_of line.now)) }
+    ensures { IfOk result (IsReadOf (meaning_of P.app P.text P.from_text P.names P.counts) number (words_of line.now)) }
 {
     let Some((command, rest)) = split_word(line) else {
         return Ok(None);
@@ -87,13 +89,13 @@ fn read_words<P: Application>(
 }
 
 // The node of a line, by what follows its first word.
-fn read_node<P: Application>(
+fn read_node<P: Invariant>(
     alloc: Global,
     number: usize,
     text: &[u8],
 ) -> Result<Option<Item<P::Local>>, AllocError>
     ensures { IfOk result
-        (IsReadOf (meaning_of P.app P.text P.from_text P.names) number (codes "node" ∷ words_of text.now)) }
+        (IsReadOf (meaning_of P.app P.text P.from_text P.names P.counts) number (codes "node" ∷ words_of text.now)) }
 {
     let Some((id, tree, wave, local)) = split_state(text) else {
         return Ok(None);
@@ -111,8 +113,9 @@ fn read_node<P: Application>(
 }
 
 // The link of a line, or that there is none, by what follows its first word.
-fn read_link<P: Application>(number: usize, text: &[u8]) -> Option<Item<P::Local>>
-    ensures { IsReadOf (meaning_of P.app P.text P.from_text P.names) number (codes "link" ∷ words_of text.now) result }
+fn read_link<P: Invariant>(number: usize, text: &[u8]) -> Option<Item<P::Local>>
+    ensures { IsReadOf (meaning_of P.app P.text P.from_text P.names P.counts)
+        number (codes "link" ∷ words_of text.now) result }
 {
     if text == b"-".as_slice() {
         return Some(Item::NoLink);
@@ -122,8 +125,8 @@ fn read_link<P: Application>(number: usize, text: &[u8]) -> Option<Item<P::Local
 }
 
 // The version of a first line, by what follows its first word.
-fn read_version<P: Application>(number: usize, text: &[u8]) -> Option<Item<P::Local>>
-    ensures { IsReadOf (meaning_of P.app P.text P.from_text P.names) number
+fn read_version<P: Invariant>(number: usize, text: &[u8]) -> Option<Item<P::Local>>
+    ensures { IsReadOf (meaning_of P.app P.text P.from_text P.names P.counts) number
         (codes "reset-snapshot" ∷ words_of text.now) result }
 {
     if number != 1 {

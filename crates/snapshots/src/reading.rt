@@ -16,7 +16,7 @@ ghost use Rattle.snapshots.specs.declared.item.Item.{Item};
 use crate::fault::SnapshotFault;
 use crate::item::{Item, NodeState};
 use crate::line::read_line;
-use app_interface::Application;
+use app_invariants::Invariant;
 use script_replay::split_line;
 use std::alloc::Global;
 use topology::{MAX_LINKS, Topology};
@@ -45,7 +45,7 @@ pub(crate) fn no_lines<L>(alloc: Global) -> Reading<L>
 }
 
 /// Takes the lines of a text, or names their first fault.
-pub(crate) fn take_lines<P: Application>(
+pub(crate) fn take_lines<P: Invariant>(
     alloc: Global,
     topology: &Topology,
     reading: &mut Reading<P::Local>,
@@ -53,9 +53,9 @@ pub(crate) fn take_lines<P: Application>(
 ) -> Result<(), SnapshotFault>
     requires { AreKept [] reading.old }
     ensures ok { OnOk result ((items : List (Item P.Local)) × AreKept items reading.new
-        × Say (meaning_of P.app P.text P.from_text P.names) topology.now 1 [] (lines_of text.now) items) }
+        × Say (meaning_of P.app P.text P.from_text P.names P.counts) topology.now 1 [] (lines_of text.now) items) }
     ensures err { IfErr result (λ f. f ≢ SnapshotFault.NoMemory
-        → IsFirstFault (meaning_of P.app P.text P.from_text P.names) topology.now text.now f) }
+        → IsFirstFault (meaning_of P.app P.text P.from_text P.names P.counts) topology.now text.now f) }
 {
     let mut rest = text;
     let mut number = 1;
@@ -71,7 +71,7 @@ pub(crate) fn take_lines<P: Application>(
 }
 
 // Takes the line with this number.
-fn take_line<P: Application>(
+fn take_line<P: Invariant>(
     alloc: Global,
     topology: &Topology,
     reading: &mut Reading<P::Local>,
@@ -79,11 +79,12 @@ fn take_line<P: Application>(
     line: &[u8],
 ) -> Result<(), SnapshotFault>
     ensures ok { OnOk result ((items : List (Item P.Local)) → AreKept items reading.old
-        → (said : Option (Item P.Local)) × Says (meaning_of P.app P.text P.from_text P.names) number line.now said
+        → (said : Option (Item P.Local)) × Says (meaning_of P.app P.text P.from_text P.names P.counts)
+        number line.now said
         × (first_of (said_refusals topology.now items said) ≡ None) × AreKept (with_said items said) reading.new) }
     ensures err { IfErr result (λ f. f ≢ SnapshotFault.NoMemory
         → (items : List (Item P.Local)) → AreKept items reading.old
-        → IsLineFault (meaning_of P.app P.text P.from_text P.names) topology.now number items line.now f) }
+        → IsLineFault (meaning_of P.app P.text P.from_text P.names P.counts) topology.now number items line.now f) }
 {
     match read_line::<P>(alloc, number, line)? {
         Some(item) => take_item(topology, reading, item),

@@ -9,7 +9,7 @@ use crate::configuration::configured;
 use crate::fault::SnapshotFault;
 use crate::network::first_down;
 use crate::reading::{no_lines, take_lines};
-use app_interface::Application;
+use app_invariants::Invariant;
 use reset_machine::Config;
 use std::alloc::Global;
 use topology::Topology;
@@ -21,7 +21,7 @@ pub const MAX_SNAPSHOT: usize = 67_108_864;
 
 /// Reads the snapshot of a configuration of this topology, whose identifiers are all up, with sessions counted modulo
 /// this number: the configuration that the text names, or its first fault.
-pub fn read_snapshot<P: Application>(
+pub fn read_snapshot<P: Invariant>(
     alloc: Global,
     topology: &Topology,
     modulus: Modulus,
@@ -29,9 +29,9 @@ pub fn read_snapshot<P: Application>(
 ) -> Result<Config<P>, SnapshotFault>
     requires { topology.now.nodes ≡ topology.now.ids }
     ensures ok { IfOk result
-        (IsSnapshotOf (meaning_of P.app P.text P.from_text P.names) topology.now modulus text.now) }
+        (IsSnapshotOf (meaning_of P.app P.text P.from_text P.names P.counts) topology.now modulus text.now) }
     ensures err { IfErr result (λ f. f ≢ SnapshotFault.NoMemory
-        → IsFirstFault (meaning_of P.app P.text P.from_text P.names) topology.now text.now f) }
+        → IsFirstFault (meaning_of P.app P.text P.from_text P.names P.counts) topology.now text.now f) }
 {
     let mut reading = no_lines(alloc);
     match take_lines::<P>(alloc, topology, &mut reading, text) {

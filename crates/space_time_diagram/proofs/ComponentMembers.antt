@@ -1,7 +1,7 @@
 -- The nodes of a component, which have one leader.
-use Rattle.std.proofs.Common.{◌≡◌, ◌≢◌, ℕ, suc, ◌==◌, nat_eq, Bool, true, false, cond, ◌&&◌, List, [], ◌∷◌, ◌++◌, filter}
-use Rattle.std.proofs.Common.{Contains, ◌⊎◌, inl, inr, refl, sym, ap, subst, ◌∙◌, arith}
-use Rattle.std.specs.List.{flat_map}
+use Rattle.std.proofs.Common.{◌≡◌, ◌≢◌, ℕ, ◌==◌, nat_eq, Bool, true, false, cond, ◌&&◌, ◌||◌, List, [], ◌∷◌, ◌++◌}
+use Rattle.std.proofs.Common.{filter, ◌⊎◌, inl, inr, refl, sym, ap, subst, ◌∙◌}
+use Rattle.std.specs.List.{flat_map, list_any}
 use Rattle.std.proofs.lemmas.Bool.Decides.{eqb_tells}
 use Rattle.topology.specs.Components.{component, leader, reaches}
 use Rattle.topology.specs.Graph.{Graph, IsGraph, IsNode, IsReached, has, is_node}
@@ -9,7 +9,8 @@ use Rattle.topology.proofs.Components.{component_nodes, leader_leads, reached_fr
 use Rattle.topology.proofs.Components.{reaches_tests, same_leader}
 use Rattle.topology.proofs.Membership.{Contains-has, has-Contains, has-filter}
 use Rattle.topology.proofs.Walks.{reached_back}
-use Rattle.space_time_diagram.specs.Completions.{piece}
+use Rattle.history.specs.declared.entry.Report.{Report}
+use Rattle.space_time_diagram.specs.Completions.{completion, completion_line, piece}
 use Rattle.space_time_diagram.specs.Members.{member_piece}
 
 -- ---- the test
@@ -20,10 +21,6 @@ member_is g i j = ap (λ ns. has ns j) (component_nodes g i) ∙ has-filter (rea
 and-false : (b : Bool) → b && false ≡ false
 and-false true = refl
 and-false false = refl
-
-and-true : (b : Bool) → b && true ≡ b
-and-true true = refl
-and-true false = refl
 
 is_false : (b : Bool) → (b ≡ true → ⊥) → b ≡ false
 is_false true not = absurd (not refl)
@@ -74,22 +71,41 @@ module _ (g : Graph) (graph : IsGraph g) (i j : ℕ) where
 
 -- ---- what is written for the members
 
-pieces_kept : (p q : ℕ → Bool) (f : ℕ → List ℕ) (xs : List ℕ) → ((j : ℕ) → Contains xs j → q j ≡ p j)
-    → flat_map (λ j. cond (q j) (f j) []) xs ≡ flat_map f (filter p xs)
-pieces_kept p q f [] same = refl
-pieces_kept p q f (x ∷ xs) same =
-    ap (λ b. cond b (f x) [] ++ flat_map (λ j. cond (q j) (f j) []) xs) (same x (0, omega arith, refl))
-    ∙ at (p x) refl (pieces_kept p q f xs (λ j there. same j (suc there.0, omega (arith, there.1), there.2)))
+-- the pieces of the members, node by node, are those of the nodes that are in the component
+pub member_pieces : (lane : ℕ → ℕ) (g : Graph) (i : ℕ) (nodes : List ℕ)
+    → flat_map (member_piece lane g i) nodes ≡ flat_map (piece lane) (filter (is_node (component g i)) nodes)
+member_pieces lane g i [] = refl
+member_pieces lane g i (x ∷ xs) = at (is_node (component g i) x) refl (member_pieces lane g i xs)
   where
-    at : (b : Bool) → p x ≡ b → flat_map (λ j. cond (q j) (f j) []) xs ≡ flat_map f (filter p xs)
-        → cond (p x) (f x) [] ++ flat_map (λ j. cond (q j) (f j) []) xs ≡ flat_map f (filter p (x ∷ xs))
-    at true is rest = rw is (ap (λ t. f x ++ t) rest)
+    at : (b : Bool) → is_node (component g i) x ≡ b
+        → flat_map (member_piece lane g i) xs ≡ flat_map (piece lane) (filter (is_node (component g i)) xs)
+        → cond (is_node (component g i) x) (piece lane x) [] ++ flat_map (member_piece lane g i) xs
+        ≡ flat_map (piece lane) (filter (is_node (component g i)) (x ∷ xs))
+    at true is rest = rw is (ap (λ t. piece lane x ++ t) rest)
     at false is rest = rw is rest
 
--- the pieces of the members, node by node, are those of the component
-pub member_pieces : (lane : ℕ → ℕ) (g : Graph) (i : ℕ)
-    → flat_map (member_piece lane g i) g.nodes ≡ flat_map (piece lane) (component g i).nodes
-member_pieces lane g i =
-    pieces_kept (reaches g i) (is_node (component g i)) (piece lane) g.nodes
-    (λ j there. member_is g i j ∙ ap (λ b. reaches g i j && b) (has-Contains g.nodes j there) ∙ and-true (reaches g i j))
-    ∙ ap (flat_map (piece lane)) (sym (component_nodes g i))
+-- a line is across a lane where one of the nodes is in the component, and left out where none is
+module _ (lane : ℕ → ℕ) (lanes earlier : ℕ) (r : Report) (p : ℕ → Bool) where
+  pub line_where_some : (nodes : List ℕ) → list_any p nodes ≡ true
+      → completion_line lane lanes earlier (filter p nodes) r ≡ completion lane lanes earlier (filter p nodes) r
+  line_where_some [] some = absurd (cc)
+  line_where_some (x ∷ xs) some = at (line_where_some xs) (p x) refl some
+    where
+      at : (list_any p xs ≡ true
+          → completion_line lane lanes earlier (filter p xs) r ≡ completion lane lanes earlier (filter p xs) r)
+          → (b : Bool) → p x ≡ b → b || list_any p xs ≡ true
+          → completion_line lane lanes earlier (filter p (x ∷ xs)) r
+          ≡ completion lane lanes earlier (filter p (x ∷ xs)) r
+      at rest true is some = rw is refl
+      at rest false is some = rw is (rest some)
+
+  pub nothing_where_none : (nodes : List ℕ) → list_any p nodes ≡ false
+      → [] ≡ completion lane lanes earlier (filter p nodes) r
+  nothing_where_none [] none = refl
+  nothing_where_none (x ∷ xs) none = at (nothing_where_none xs) (p x) refl none
+    where
+      at : (list_any p xs ≡ false → [] ≡ completion lane lanes earlier (filter p xs) r)
+          → (b : Bool) → p x ≡ b → b || list_any p xs ≡ false
+          → [] ≡ completion lane lanes earlier (filter p (x ∷ xs)) r
+      at rest true is none = absurd (cc)
+      at rest false is none = rw is (rest none)

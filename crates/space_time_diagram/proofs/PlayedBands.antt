@@ -8,7 +8,7 @@ use Rattle.history.specs.declared.entry.Entry.{Entry}
 use Rattle.history.specs.Entries.{entered, replayed}
 use Rattle.history.proofs.Replays.{next_replayed}
 use Rattle.space_time_diagram.specs.declared.band.Band.{Band}
-use Rattle.space_time_diagram.specs.Bands.{band, bands_from, entry_node, shown_of}
+use Rattle.space_time_diagram.specs.Bands.{bands_from, begun_band, entry_node, shown_of}
 
 -- the entry at an index, and those after it
 entry_and_rest : (es : List Entry) (i : ℕ) (x : Entry) → i < length es → x ≡ slice_index_or es i x
@@ -24,28 +24,29 @@ module _ {L : Type 0} (app : App L) (from_text : List ℕ → Option L) where
   rest_allowed c d es i x short is here some =
       subst (λ o. IsSome o) (sym (next_replayed app from_text c d es i x short is here)) some
 
-  bands_next : (lane : ℕ → ℕ) (count place : ℕ) (c d : Configuration L) (es : List Entry) (i : ℕ) (x : Entry)
+  bands_next : (lane : ℕ → Option ℕ) (count place : ℕ) (c d : Configuration L) (es : List Entry) (i : ℕ) (x : Entry)
       → i < length es → x ≡ slice_index_or es i x → entered app from_text c x ≡ Some d
       → bands_from app from_text lane count c place (drop i es)
-      ≡ band lane count place (entry_node x) (shown_of d (entry_node x))
-      ∷ bands_from app from_text lane count d (place + 1) (drop (i + 1) es)
+      ≡ begun_band (lane (entry_node x)) count place (entry_node x) (shown_of d (entry_node x))
+      ++ bands_from app from_text lane count d (place + 1) (drop (i + 1) es)
   unfolding bands_from
   bands_next lane count place c d es i x short is here =
       ap (bands_from app from_text lane count c place) (entry_and_rest es i x short is)
-      ∙ ap (λ o. option_map_or (λ after. band lane count place (entry_node x) (shown_of after (entry_node x))
-      ∷ bands_from app from_text lane count after (place + 1) (drop (i + 1) es)) o []) here
+      ∙ ap (λ o. option_map_or (λ after. begun_band (lane (entry_node x)) count place (entry_node x)
+      (shown_of after (entry_node x))
+      ++ bands_from app from_text lane count after (place + 1) (drop (i + 1) es)) o []) here
 
   -- one band more
-  pub bands_more : (lane : ℕ → ℕ) (count place : ℕ) (c d : Configuration L) (es : List Entry) (i : ℕ) (x : Entry)
+  pub bands_more : (lane : ℕ → Option ℕ) (count place : ℕ) (c d : Configuration L) (es : List Entry) (i : ℕ) (x : Entry)
       (before : List Band) → i < length es → x ≡ slice_index_or es i x → entered app from_text c x ≡ Some d
-      → (before ++ band lane count place (entry_node x) (shown_of d (entry_node x)) ∷ [])
+      → (before ++ begun_band (lane (entry_node x)) count place (entry_node x) (shown_of d (entry_node x)))
       ++ bands_from app from_text lane count d (place + 1) (drop (i + 1) es)
       ≡ before ++ bands_from app from_text lane count c place (drop i es)
   bands_more lane count place c d es i x before short is here =
       append_assoc before _ _ ∙ ap (λ bs. before ++ bs) (sym (bands_next lane count place c d es i x short is here))
 
   -- none is left where no entry is
-  pub bands_none : (lane : ℕ → ℕ) (count place : ℕ) (c : Configuration L)
+  pub bands_none : (lane : ℕ → Option ℕ) (count place : ℕ) (c : Configuration L)
       → bands_from app from_text lane count c place [] ≡ []
   unfolding bands_from
   bands_none lane count place c = refl

@@ -1,5 +1,5 @@
--- What is seen of a node in a row of a picture is what its wave registers are after the entries down to that row, or that
--- it is down there.
+-- What is seen of a node in a row of a picture is what its wave registers are after the entries down to that row, or
+-- that it is down there.
 use Rattle.std.proofs.Common.{◌≡◌, ◌≢◌, ℕ, zero, suc, ◌+◌, ◌<◌, ◌≤◌, ◌&&◌, Bool, true, false, cond, nat_eq}
 use Rattle.std.proofs.Common.{nat_le, nat_lt, List, [], ◌∷◌, ◌++◌, length, take, map, Contains, Option, Some, None}
 use Rattle.std.proofs.Common.{◌⊎◌, inl, inr, refl, sym, ap, subst, ◌∙◌, arith}
@@ -8,13 +8,15 @@ use Rattle.std.proofs.lemmas.Bool.Decides.{eqb_tells, leb_tells}
 use Rattle.std.specs.Option.{option_and_then, option_map_or}
 use Rattle.app_interface.specs.Application.{App}
 use Rattle.topology.specs.Graph.{IsGraph}
+use Rattle.topology.proofs.Membership.{has-Contains}
 use Rattle.wave_layer.specs.declared.regs.WaveRegs.{WaveRegs}
 use Rattle.reset_model.specs.Configuration.{Configuration, IsShaped}
 use Rattle.history.specs.declared.entry.Entry.{Entry}
 use Rattle.history.specs.Entries.{entered, replayed}
 use Rattle.space_time_diagram.specs.declared.band.Band.{Band}
-use Rattle.space_time_diagram.specs.Bands.{band, bands_from, bands_of, entry_node, opening_band, shown_of}
-use Rattle.space_time_diagram.specs.Lanes.{lane_of}
+use Rattle.space_time_diagram.specs.Bands.{band, bands_from, bands_of, begun_band, entry_node}
+use Rattle.space_time_diagram.specs.Bands.{opening_band, shown_of}
+use Rattle.space_time_diagram.specs.Lanes.{lane_of, own_lane}
 use Rattle.space_time_diagram.specs.Page.{height_below, row_y}
 use Rattle.space_time_diagram.specs.Shown.{covers, seen}
 use Rattle.space_time_diagram.proofs.KeptRegisters.{KeepsOthers, entry_keeps, shown_kept}
@@ -61,41 +63,58 @@ module _ (i : ℕ) where
 
 -- ---- the opening
 
-module _ {L : Type 0} (c : Configuration L) (count q i : ℕ) (within : q ≤ count) where
-  opening_kept : (ks : List ℕ) (bs : List Band) → seen i (row_y q) (shown_of c i) (map (opening_band c count) ks ++ bs)
+module _ {L : Type 0} (nodes : List ℕ) (c : Configuration L) (count q i : ℕ) (within : q ≤ count) where
+  opening_kept : (ks : List ℕ) (bs : List Band)
+      → seen i (row_y q) (shown_of c i) (map (opening_band nodes c count) ks ++ bs)
       ≡ seen i (row_y q) (shown_of c i) bs
   opening_kept [] bs = refl
   opening_kept (k ∷ ks) bs =
-      ap (λ w. seen i (row_y q) w (map (opening_band c count) ks ++ bs)) (at (eqb_tells k i)) ∙ opening_kept ks bs
+      ap (λ w. seen i (row_y q) w (map (opening_band nodes c count) ks ++ bs)) (at (eqb_tells k i)) ∙ opening_kept ks bs
     where
       at : ((nat_eq k i ≡ true) × (k ≡ i)) ⊎ ((nat_eq k i ≡ false) × (k ≢ i))
-          → cond (covers i (row_y q) (opening_band c count k)) (shown_of c k) (shown_of c i) ≡ shown_of c i
-      at (inl t) = either (covers i (row_y q) (opening_band c count k)) (shown_of c k) (shown_of c i) (ap (shown_of c) t.1)
-      at (inr t) = other_node i (row_y q) (opening_band c count k) (shown_of c i) t.0
+          → cond (covers i (row_y q) (opening_band nodes c count k)) (shown_of c k) (shown_of c i) ≡ shown_of c i
+      at (inl t) =
+          either (covers i (row_y q) (opening_band nodes c count k)) (shown_of c k) (shown_of c i) (ap (shown_of c) t.1)
+      at (inr t) = other_node i (row_y q) (opening_band nodes c count k) (shown_of c i) t.0
 
   opening_seen : (ks : List ℕ) (bs : List Band) (w : Option WaveRegs) → Contains ks i
-      → seen i (row_y q) w (map (opening_band c count) ks ++ bs) ≡ seen i (row_y q) (shown_of c i) bs
+      → seen i (row_y q) w (map (opening_band nodes c count) ks ++ bs) ≡ seen i (row_y q) (shown_of c i) bs
   opening_seen [] bs w there = absurd (omega (arith, there.1))
   opening_seen (k ∷ ks) bs w there = at (λ more. opening_seen ks bs w more) (eqb_tells k i) there
     where
-      at : (Contains ks i → seen i (row_y q) w (map (opening_band c count) ks ++ bs)
+      at : (Contains ks i → seen i (row_y q) w (map (opening_band nodes c count) ks ++ bs)
           ≡ seen i (row_y q) (shown_of c i) bs)
           → ((nat_eq k i ≡ true) × (k ≡ i)) ⊎ ((nat_eq k i ≡ false) × (k ≢ i)) → Contains (k ∷ ks) i
-          → seen i (row_y q) w (map (opening_band c count) (k ∷ ks) ++ bs) ≡ seen i (row_y q) (shown_of c i) bs
+          → seen i (row_y q) w (map (opening_band nodes c count) (k ∷ ks) ++ bs) ≡ seen i (row_y q) (shown_of c i) bs
       at rest (inl t) there =
-          ap (λ v. seen i (row_y q) v (map (opening_band c count) ks ++ bs))
-          (own_band i (row_y q) (opening_band c count k) w t.0 (reaches count 0 q (omega arith) within)
+          ap (λ v. seen i (row_y q) v (map (opening_band nodes c count) ks ++ bs))
+          (own_band i (row_y q) (opening_band nodes c count k) w t.0 (reaches count 0 q (omega arith) within)
           ∙ ap (shown_of c) t.1)
           ∙ opening_kept ks bs
       at rest (inr t) (zero, short, here) = absurd (t.1 here)
       at rest (inr t) (suc n, short, here) =
-          ap (λ v. seen i (row_y q) v (map (opening_band c count) ks ++ bs))
-          (other_node i (row_y q) (opening_band c count k) w t.0)
+          ap (λ v. seen i (row_y q) v (map (opening_band nodes c count) ks ++ bs))
+          (other_node i (row_y q) (opening_band nodes c count k) w t.0)
           ∙ rest (n, omega (arith, short), here)
 
 -- ---- the entries
 
-module _ {L : Type 0} (app : App L) (from_text : List ℕ → Option L) (lane : ℕ → ℕ) (count i : ℕ) where
+module _ (count i : ℕ) where
+  -- a band that an entry begins below the row leaves what is seen
+  begun_below : (lane : Option ℕ) (at p q : ℕ) (shown w : Option WaveRegs) (bs : List Band) → q < p
+      → seen i (row_y q) w (begun_band lane count p at shown ++ bs) ≡ seen i (row_y q) w bs
+  begun_below (Some l) at p q shown w bs below =
+      ap (λ v. seen i (row_y q) v bs) (lower_band i (row_y q) (band l count p at shown) w (not_yet p q below))
+  begun_below None at p q shown w bs below = refl
+
+  -- so does one that is begun at another node
+  begun_elsewhere : (lane : Option ℕ) (at p y : ℕ) (shown w : Option WaveRegs) (bs : List Band) → nat_eq at i ≡ false
+      → seen i y w (begun_band lane count p at shown ++ bs) ≡ seen i y w bs
+  begun_elsewhere (Some l) at p y shown w bs other =
+      ap (λ v. seen i y v bs) (other_node i y (band l count p at shown) w other)
+  begun_elsewhere None at p y shown w bs other = refl
+
+module _ {L : Type 0} (app : App L) (from_text : List ℕ → Option L) (lane : ℕ → Option ℕ) (count i : ℕ) where
   -- the bands of later entries aren't in the row
   later_unseen : (es : List Entry) (c : Configuration L) (p q : ℕ) (w : Option WaveRegs) → q < p
       → seen i (row_y q) w (bands_from app from_text lane count c p es) ≡ w
@@ -103,13 +122,12 @@ module _ {L : Type 0} (app : App L) (from_text : List ℕ → Option L) (lane : 
   later_unseen [] c p q w below = refl
   later_unseen (e ∷ es) c p q w below =
       elim (entered app from_text c e) as (λ o. seen i (row_y q) w
-      (option_map_or (λ after. band lane count p (entry_node e) (shown_of after (entry_node e))
-      ∷ bands_from app from_text lane count after (p + 1) es) o []) ≡ w) [
+      (option_map_or (λ after. begun_band (lane (entry_node e)) count p (entry_node e) (shown_of after (entry_node e))
+      ++ bands_from app from_text lane count after (p + 1) es) o []) ≡ w) [
         | None ↦ refl
         | Some after ↦
-            ap (λ v. seen i (row_y q) v (bands_from app from_text lane count after (p + 1) es))
-            (lower_band i (row_y q) (band lane count p (entry_node e) (shown_of after (entry_node e))) w
-            (not_yet p q below))
+            begun_below count i (lane (entry_node e)) (entry_node e) p q (shown_of after (entry_node e)) w
+            (bands_from app from_text lane count after (p + 1) es) below
             ∙ later_unseen es after (p + 1) q w (omega arith)
       ]
 
@@ -118,7 +136,7 @@ module _ {L : Type 0} (app : App L) (from_text : List ℕ → Option L) (lane : 
   StayNetworks = (c left : Configuration L) (es : List Entry) → IsGraph c.graph → IsShaped c
       → replayed app from_text c es ≡ Some left → IsGraph left.graph × IsShaped left
 
-  module _ (stay : StayNetworks) where
+  module _ (stay : StayNetworks) (own : ℕ) (has_lane : lane i ≡ Some own) where
     network_after : (c after : Configuration L) (e : Entry) → IsGraph c.graph → IsShaped c
         → entered app from_text c e ≡ Some after
         → IsGraph after.graph × IsShaped after
@@ -126,21 +144,25 @@ module _ {L : Type 0} (app : App L) (from_text : List ℕ → Option L) (lane : 
     network_after c after e graph shaped is =
         stay c after (e ∷ []) graph shaped (ap (λ o. option_and_then (λ left. Some left) o) is)
 
-    -- what is seen of the node after one more band
-    one_more : (c after : Configuration L) (at p q : ℕ) → KeepsOthers c at after → Contains c.graph.ids i → p ≤ q → q ≤ count
-        → cond (covers i (row_y q) (band lane count p at (shown_of after at))) (shown_of after at) (shown_of c i)
-        ≡ shown_of after i
-    one_more c after at p q keeps node above within = by (eqb_tells at i)
+    -- what is seen of the node after one more entry
+    one_more : (c after : Configuration L) (at p q : ℕ) (bs : List Band) → KeepsOthers c at after
+        → Contains c.graph.ids i → p ≤ q → q ≤ count
+        → seen i (row_y q) (shown_of c i) (begun_band (lane at) count p at (shown_of after at) ++ bs)
+        ≡ seen i (row_y q) (shown_of after i) bs
+    one_more c after at p q bs keeps node above within = by (eqb_tells at i)
       where
         by : ((nat_eq at i ≡ true) × (at ≡ i)) ⊎ ((nat_eq at i ≡ false) × (at ≢ i))
-            → cond (covers i (row_y q) (band lane count p at (shown_of after at))) (shown_of after at) (shown_of c i)
-            ≡ shown_of after i
+            → seen i (row_y q) (shown_of c i) (begun_band (lane at) count p at (shown_of after at) ++ bs)
+            ≡ seen i (row_y q) (shown_of after i) bs
         by (inl t) =
-            own_band i (row_y q) (band lane count p at (shown_of after at)) (shown_of c i) t.0
-            (reaches count p q above within) ∙ ap (shown_of after) t.1
+            ap (λ o. seen i (row_y q) (shown_of c i) (begun_band o count p at (shown_of after at) ++ bs))
+            (ap lane t.1 ∙ has_lane)
+            ∙ ap (λ v. seen i (row_y q) v bs)
+            (own_band i (row_y q) (band own count p at (shown_of after at)) (shown_of c i) t.0
+            (reaches count p q above within) ∙ ap (shown_of after) t.1)
         by (inr t) =
-            other_node i (row_y q) (band lane count p at (shown_of after at)) (shown_of c i) t.0
-            ∙ sym (shown_kept c at after keeps i node (λ same. t.1 (sym same)))
+            begun_elsewhere count i (lane at) at p (row_y q) (shown_of after at) (shown_of c i) bs t.0
+            ∙ ap (λ v. seen i (row_y q) v bs) (sym (shown_kept c at after keeps i node (λ same. t.1 (sym same))))
 
     entries_seen : (es : List Entry) (c here : Configuration L) (p k : ℕ) → IsGraph c.graph
         → IsShaped c → Contains c.graph.ids i → p + k ≤ count → replayed app from_text c (take k es) ≡ Some here
@@ -165,16 +187,17 @@ module _ {L : Type 0} (app : App L) (from_text : List ℕ → Option L) (lane : 
             → (o : Option (Configuration L)) → entered app from_text c e ≡ o
             → option_and_then (λ after. replayed app from_text after (take k es)) o ≡ Some here
             → seen i (row_y (p + suc k)) (shown_of c i)
-            (option_map_or (λ after. band lane count (p + 1) (entry_node e) (shown_of after (entry_node e))
-            ∷ bands_from app from_text lane count after (p + 1 + 1) es) o []) ≡ shown_of here i
+            (option_map_or (λ after. begun_band (lane (entry_node e)) count (p + 1) (entry_node e)
+            (shown_of after (entry_node e))
+            ++ bands_from app from_text lane count after (p + 1 + 1) es) o []) ≡ shown_of here i
         by_entry later None none is = absurd (cc)
         by_entry later (Some after) some is =
             let keeps = entry_keeps app from_text c after e shaped some in
             let network = network_after c after e graph shaped some in
             let there : Contains after.graph.ids i = subst (λ ids. Contains ids i) (sym keeps.ids) node in
             let row : p + suc k ≡ (p + 1) + k = omega arith in
-            ap (λ v. seen i (row_y (p + suc k)) v (bands_from app from_text lane count after (p + 1 + 1) es))
-            (one_more c after (entry_node e) (p + 1) (p + suc k) keeps node (omega arith) within)
+            one_more c after (entry_node e) (p + 1) (p + suc k)
+            (bands_from app from_text lane count after (p + 1 + 1) es) keeps node (omega arith) within
             ∙ ap (λ n. seen i (row_y n) (shown_of after i) (bands_from app from_text lane count after (p + 1 + 1) es))
             row
             ∙ later after network.0 network.1 there is
@@ -183,14 +206,16 @@ module _ {L : Type 0} (app : App L) (from_text : List ℕ → Option L) (lane : 
 pub registers_seen : {L : Type 0} (app : App L) (from_text : List ℕ → Option L)
     → ((c left : Configuration L) (es : List Entry) → IsGraph c.graph → IsShaped c
     → replayed app from_text c es ≡ Some left → IsGraph left.graph × IsShaped left)
-    → (c here : Configuration L) (es : List Entry) (place i : ℕ) (before : Option WaveRegs) → IsGraph c.graph
-    → IsShaped c → Contains c.graph.ids i → place ≤ length es
+    → (c here : Configuration L) (nodes : List ℕ) (es : List Entry) (place i : ℕ) (before : Option WaveRegs)
+    → IsGraph c.graph → IsShaped c → Contains nodes i → Contains c.graph.ids i → place ≤ length es
     → replayed app from_text c (take place es) ≡ Some here
-    → seen i (row_y place) before (bands_of app from_text c es) ≡ shown_of here i
-registers_seen app from_text stay c here es place i before graph shaped node within is =
+    → seen i (row_y place) before (bands_of app from_text nodes c es) ≡ shown_of here i
+registers_seen app from_text stay c here nodes es place i before graph shaped drawn node within is =
     let zero_and : 0 + place ≡ place = omega arith in
-    opening_seen c (length es) place i within c.graph.ids
-    (bands_from app from_text (lane_of c) (length es) c 1 es) before node
-    ∙ ap (λ n. seen i (row_y n) (shown_of c i) (bands_from app from_text (lane_of c) (length es) c 1 es)) (sym zero_and)
-    ∙ entries_seen app from_text (lane_of c) (length es) i stay es c here 0 place graph shaped node
-    (omega (arith, within)) is
+    let lane = own_lane nodes c in
+    let has_lane = ap (λ b. cond b (Some (lane_of nodes c i)) None) (has-Contains nodes i drawn) in
+    opening_seen nodes c (length es) place i within nodes
+    (bands_from app from_text lane (length es) c 1 es) before drawn
+    ∙ ap (λ n. seen i (row_y n) (shown_of c i) (bands_from app from_text lane (length es) c 1 es)) (sym zero_and)
+    ∙ entries_seen app from_text lane (length es) i stay (lane_of nodes c i) has_lane es c here 0 place graph shaped
+    node (omega (arith, within)) is

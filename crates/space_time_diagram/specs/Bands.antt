@@ -17,7 +17,7 @@ use Rattle.history.specs.declared.entry.Entry.{Entry}
 use Rattle.history.specs.declared.entry.Entry.TheVariants.{Step, Disturbed}
 use Rattle.history.specs.Entries.{entered}
 use Rattle.space_time_diagram.specs.declared.band.Band.{Band}
-use Rattle.space_time_diagram.specs.Lanes.{lane_of}
+use Rattle.space_time_diagram.specs.Lanes.{lane_of, own_lane}
 use Rattle.space_time_diagram.specs.Page.{height_below, lane_x, row_y}
 
 -- the node on whose lane a fault stands: its own, and of a link the first end that it names
@@ -39,33 +39,39 @@ entry_node (Disturbed f) = fault_node f
 abbrev pub shown_of : {L : Type 0} → Configuration L → ℕ → Option WaveRegs
 shown_of c i = if is_node c.graph i then Some (wave_of c i) else None
 
--- the band of a node that shows this, from the row of a position down to below the last of so many entries
-abbrev pub band : (ℕ → ℕ) → ℕ → ℕ → ℕ → Option WaveRegs → Band
+-- the band of a node that shows this, on its lane from the row of a position down to below the last of so many entries
+abbrev pub band : ℕ → ℕ → ℕ → ℕ → Option WaveRegs → Band
 band lane count place i shown = record {
-  x = lane_x (lane i);
+  x = lane_x lane;
   y = row_y place;
   height = height_below count place;
   node = i;
   shown = shown;
 }
 
--- the band of a node in the opening
-abbrev pub opening_band : {L : Type 0} → Configuration L → ℕ → ℕ → Band
-opening_band c count i = band (lane_of c) count 0 i (shown_of c i)
+-- the band of one of these nodes in the opening
+abbrev pub opening_band : {L : Type 0} → List ℕ → Configuration L → ℕ → ℕ → Band
+opening_band nodes c count i = band (lane_of nodes c i) count 0 i (shown_of c i)
+
+-- the band that the entry at a position begins at a node, where this has a lane
+abbrev pub begun_band : Option ℕ → ℕ → ℕ → ℕ → Option WaveRegs → List Band
+begun_band (Some lane) count place i shown = band lane count place i shown ∷ []
+begun_band None count place i shown = []
 
 -- the bands of entries from c on, the first of which has this position: each begins one at its node, of what it leaves
--- there
-unfoldable pub bands_from : {L : Type 0} → App L → (List ℕ → Option L) → (ℕ → ℕ) → ℕ → Configuration L → ℕ
+-- there, if the node has a lane
+unfoldable pub bands_from : {L : Type 0} → App L → (List ℕ → Option L) → (ℕ → Option ℕ) → ℕ → Configuration L → ℕ
     → List Entry → List Band
 bands_from app from_text lane count c place [] = []
 bands_from app from_text lane count c place (e ∷ es) =
-    option_map_or (λ after. band lane count place (entry_node e) (shown_of after (entry_node e))
-    ∷ bands_from app from_text lane count after (place + 1) es) (entered app from_text c e) []
+    option_map_or (λ after. begun_band (lane (entry_node e)) count place (entry_node e) (shown_of after (entry_node e))
+    ++ bands_from app from_text lane count after (place + 1) es) (entered app from_text c e) []
 
--- the bands of a picture, in the order in which they are painted: each covers what an earlier one has below it
-abbrev pub bands_of : {L : Type 0} → App L → (List ℕ → Option L) → Configuration L → List Entry → List Band
-bands_of app from_text c es =
-    map (opening_band c (length es)) c.graph.ids ++ bands_from app from_text (lane_of c) (length es) c 1 es
+-- the bands of a picture of these nodes, in the order in which they are painted: each covers what an earlier one has
+-- below it
+abbrev pub bands_of : {L : Type 0} → App L → (List ℕ → Option L) → List ℕ → Configuration L → List Entry → List Band
+bands_of app from_text nodes c es =
+    map (opening_band nodes c (length es)) nodes ++ bands_from app from_text (own_lane nodes c) (length es) c 1 es
 
 -- a band of these registers, whose phase has this name: the session as a wide pale rectangle in one of six colours
 -- with its number, and the phase as a narrow one before it

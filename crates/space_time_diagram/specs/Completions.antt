@@ -1,9 +1,11 @@
 -- The lines of completions.
-use Rattle.std.specs.Prelude.{ℕ, ◌-◌, ◌<◌, ◌≤◌, List, [], ◌∷◌, codes, length, take, slice_get, Option, Some, None}
+use Rattle.std.specs.Prelude.{ℕ, ◌+◌, ◌-◌, ◌<◌, ◌≤◌, List, [], ◌∷◌, codes, filter, length, take, slice_get}
+use Rattle.std.specs.Prelude.{Option, Some, None, IfSome}
 use Rattle.std.specs.Fmt.{decimal}
 use Rattle.std.specs.List.{concat, flat_map}
-use Rattle.std.specs.Option.{option_map_or}
+use Rattle.std.specs.Option.{option_map, option_map_or}
 use Rattle.topology.specs.Components.{component}
+use Rattle.topology.specs.Graph.{is_node}
 use Rattle.app_interface.specs.Application.{App}
 use Rattle.reset_model.specs.Configuration.{Configuration}
 use Rattle.history.specs.Entries.{replayed}
@@ -13,26 +15,31 @@ use Rattle.space_time_diagram.specs.Bands.{entry_node}
 use Rattle.space_time_diagram.specs.Lanes.{lane_of}
 use Rattle.space_time_diagram.specs.Page.{lane_left, right_end, row_y}
 
+-- the session of a report was opened before it was complete
+abbrev pub IsOpenedBefore : Report → Type 0
+IsOpenedBefore r = IfSome r.opened (λ opened. opened < r.finished)
+
 -- the reports are of entries after this position and up to the last, each after those before it
 abbrev pub AreInTurn : ℕ → ℕ → List Report → Type 0
 AreInTurn from last [] = Unit {0}
-AreInTurn from last (r ∷ rs) = (from < r.finished) × (r.finished ≤ last) × AreInTurn r.finished last rs
+AreInTurn from last (r ∷ rs) =
+    ((from < r.finished) × (r.finished ≤ last) × IsOpenedBefore r) × AreInTurn r.finished last rs
 
 -- the node of the entry at a position
 abbrev pub node_at : List Entry → ℕ → ℕ
 node_at es place = option_map_or entry_node (slice_get es (place - 1)) 0
 
--- the nodes of the component that this node has right after the entry
-abbrev pub told_nodes : {L : Type 0} → App L → (List ℕ → Option L) → Configuration L → List Entry → ℕ → List ℕ
-told_nodes app from_text c es place =
-    option_map_or (λ after. (component after.graph (node_at es place)).nodes) (replayed app from_text c (take place es))
-    []
+-- those of these nodes that are in the component that the node of the entry at a position has right after it
+abbrev pub told_nodes : {L : Type 0} → App L → (List ℕ → Option L) → List ℕ → Configuration L → List Entry → ℕ → List ℕ
+told_nodes app from_text nodes c es place =
+    option_map_or (λ after. filter (is_node (component after.graph (node_at es place))) nodes)
+    (replayed app from_text c (take place es)) []
 
 -- the tag of a completion, whose row is at y
 unfoldable pub completion_tag : ℕ → List ℕ
 completion_tag y = concat (codes "<g class='completion' transform='translate(0 " ∷ decimal y ∷ codes ")'>" ∷ [])
 
--- the words of a completion, to be read at its line: its session, the position at which it was told, and that of the
+-- the words of a completion, to be read at its line: its session, the number of the entry that told it, and that of the
 -- opening where it is known
 unfoldable pub completion_words : ℕ → Option ℕ → ℕ → List ℕ
 completion_words session (Some opened) finished =
@@ -56,18 +63,27 @@ completion_end x session =
     concat (codes "<text dx='6' y='15' x='" ∷ decimal x ∷ codes "'>session " ∷ decimal session
     ∷ codes " complete</text></g>\n" ∷ [])
 
--- where a session was told complete: a line across the lanes of these nodes, and its session right of all lanes
-abbrev pub completion : (ℕ → ℕ) → ℕ → List ℕ → Report → List ℕ
-completion lane lanes nodes r =
-    concat (completion_tag (row_y r.finished) ∷ completion_words r.number r.opened r.finished
+-- where a session was told complete, if so many entries came before the first: a line across the lanes of these nodes,
+-- and its session right of all lanes
+abbrev pub completion_line : (ℕ → ℕ) → ℕ → ℕ → List ℕ → Report → List ℕ
+completion_line lane lanes before nodes r =
+    concat (completion_tag (row_y r.finished)
+    ∷ completion_words r.number (option_map (λ opened. before + opened) r.opened) (before + r.finished)
     ∷ flat_map (piece lane) nodes ∷ completion_end (right_end lanes) r.number ∷ [])
 
+-- the same, and nothing where it would be across no lane
+abbrev pub completion : (ℕ → ℕ) → ℕ → ℕ → List ℕ → Report → List ℕ
+completion lane lanes before [] r = []
+completion lane lanes before (i ∷ is) r = completion_line lane lanes before (i ∷ is) r
+
 -- the completion of a report, across the lanes of the component of the node that told it
-abbrev pub told_completion : {L : Type 0} → App L → (List ℕ → Option L) → Configuration L → List Entry → Report → List ℕ
-told_completion app from_text c es r =
-    completion (lane_of c) (length c.graph.ids) (told_nodes app from_text c es r.finished) r
+abbrev pub told_completion : {L : Type 0} → App L → (List ℕ → Option L) → List ℕ → ℕ → Configuration L → List Entry
+    → Report → List ℕ
+told_completion app from_text nodes before c es r =
+    completion (lane_of nodes c) (length nodes) before (told_nodes app from_text nodes c es r.finished) r
 
 -- those of all reports
-abbrev pub completions : {L : Type 0} → App L → (List ℕ → Option L) → Configuration L → List Entry → List Report
-    → List ℕ
-completions app from_text c es reports = flat_map (told_completion app from_text c es) reports
+abbrev pub completions : {L : Type 0} → App L → (List ℕ → Option L) → List ℕ → ℕ → Configuration L → List Entry
+    → List Report → List ℕ
+completions app from_text nodes before c es reports =
+    flat_map (told_completion app from_text nodes before c es) reports

@@ -10,18 +10,18 @@ use Rattle.space_time_diagram.specs.Bands.{bands_of, bands_text}
 use Rattle.space_time_diagram.specs.Completions.{completions}
 use Rattle.space_time_diagram.specs.Frame.{head_text}
 use Rattle.space_time_diagram.specs.Headings.{foot_text}
-use Rattle.space_time_diagram.specs.Lanes.{lane_of}
+use Rattle.space_time_diagram.specs.Lanes.{lane_of, own_lane}
 use Rattle.space_time_diagram.specs.Marks.{marks_from}
 
--- the picture with lanes for these nodes, with these bands, of these entries, and with these lines of completions, part
--- by part: each is painted over those before it
-abbrev pub page_text : (ℕ → ℕ) → List ℕ → List Band → List Entry → List ℕ → List ℕ
-page_text lane ids bands es lines =
-    concat (head_text (length ids) (length es) ∷ bands_text bands ∷ marks_from lane 1 es ∷ lines
-    ∷ foot_text lane ids (length es) ∷ [])
+-- the picture of these nodes and of so many entries, with these bands, with these marks and with these lines of
+-- completions, part by part: each is painted over those before it
+abbrev pub page_text : (ℕ → ℕ) → List ℕ → ℕ → List Band → List ℕ → List ℕ → List ℕ
+page_text lane nodes count bands marks lines =
+    concat (head_text (length nodes) count ∷ bands_text bands ∷ marks ∷ lines ∷ foot_text lane nodes count ∷ [])
 
--- the picture of entries from the opening c on, and of what they report
-abbrev pub diagram_text : {L : Type 0} → App L → (List ℕ → Option L) → Configuration L → List Entry → List Report
-    → List ℕ
-diagram_text app from_text c es reports =
-    page_text (lane_of c) c.graph.ids (bands_of app from_text c es) es (completions app from_text c es reports)
+-- the picture of these nodes, and of entries from the opening c on, before which so many came, and of what they report
+abbrev pub diagram_text : {L : Type 0} → App L → (List ℕ → Option L) → List ℕ → ℕ → Configuration L → List Entry
+    → List Report → List ℕ
+diagram_text app from_text nodes before c es reports =
+    page_text (lane_of nodes c) nodes (length es) (bands_of app from_text nodes c es)
+    (marks_from (own_lane nodes c) before 1 es) (completions app from_text nodes before c es reports)

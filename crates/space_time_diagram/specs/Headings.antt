@@ -15,12 +15,12 @@ lane_heading lane y i = heading_text (lane_x (lane i)) y i
 
 -- those of these nodes
 abbrev pub lane_headings : (ℕ → ℕ) → List ℕ → ℕ → List ℕ
-lane_headings lane ids y = flat_map (lane_heading lane y) ids
+lane_headings lane nodes y = flat_map (lane_heading lane y) nodes
 
 -- and so many times, from above row 0 on
 abbrev pub headings : (ℕ → ℕ) → List ℕ → ℕ → List ℕ
-headings lane ids times = flat_map (λ n. lane_headings lane ids (heading_y n)) (range_with_len 0 times)
+headings lane nodes times = flat_map (λ n. lane_headings lane nodes (heading_y n)) (range_with_len 0 times)
 
 -- what is painted last, over so many rows: the numbers, and the last tag
 abbrev pub foot_text : (ℕ → ℕ) → List ℕ → ℕ → List ℕ
-foot_text lane ids count = headings lane ids (count / 40 + 1) ++ codes "</svg>\n"
+foot_text lane nodes count = headings lane nodes (count / 40 + 1) ++ codes "</svg>\n"

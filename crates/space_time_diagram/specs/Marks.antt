@@ -2,7 +2,7 @@
 use Rattle.std.specs.Prelude.{ℕ, ◌+◌, ◌==◌, if◌then◌else◌, List, [], ◌∷◌, ◌++◌, codes, Option, Some, None}
 use Rattle.std.specs.Fmt.{decimal}
 use Rattle.std.specs.List.{concat, flat_map}
-use Rattle.std.specs.Option.{option_map_or}
+use Rattle.std.specs.Option.{option_and_then}
 use Rattle.reset_model.specs.declared.event.Event.{Event}
 use Rattle.reset_model.specs.declared.event.Event.TheVariants.{Claim, Follow, Adopt, Request, Relay, Open, Join}
 use Rattle.reset_model.specs.declared.event.Event.TheVariants.{Finish, Mend, Act}
@@ -42,12 +42,20 @@ abbrev pub entry_kind : Entry → List ℕ
 entry_kind (Step e) = event_kind e
 entry_kind (Disturbed f) = codes "fault"
 
--- a mark at x and y, of this kind, with the line of its entry to be read there, and the position of the entry at the
--- left
+-- a mark at x and y, of this kind, with the number of its entry and the line of it to be read there
 unfoldable pub mark_text : List ℕ → ℕ → ℕ → ℕ → List ℕ → List ℕ
-mark_text kind x y place line = concat (codes "<g class='mark " ∷ kind ∷ codes "' transform='translate(" ∷ decimal x
-    ∷ codes " " ∷ decimal y ∷ codes ")'><title>" ∷ decimal place ∷ codes ": " ∷ line ∷ codes "</title><use href='#"
-    ∷ kind ∷ codes "'/></g>\n<text class='place' x='36' dy='3' y='" ∷ decimal y ∷ codes "'>" ∷ decimal place
+mark_text kind x y number line = concat (codes "<g class='mark " ∷ kind ∷ codes "' transform='translate(" ∷ decimal x
+    ∷ codes " " ∷ decimal y ∷ codes ")'><title>" ∷ decimal number ∷ codes ": " ∷ line ∷ codes "</title><use href='#"
+    ∷ kind ∷ codes "'/></g>\n" ∷ [])
+
+-- the same on a lane, if there is one
+abbrev pub mark_on : Option ℕ → List ℕ → ℕ → ℕ → List ℕ → List ℕ
+mark_on (Some lane) kind y number line = mark_text kind (lane_x lane) y number line
+mark_on None kind y number line = []
+
+-- the number of an entry, left of all lanes
+unfoldable pub number_text : ℕ → ℕ → List ℕ
+number_text y number = concat (codes "<text class='place' x='36' dy='3' y='" ∷ decimal y ∷ codes "'>" ∷ decimal number
     ∷ codes "</text>\n" ∷ [])
 
 -- the other end of the link of a fault: the one that it names last
@@ -65,25 +73,34 @@ abbrev pub entry_end : Entry → Option ℕ
 entry_end (Step e) = None
 entry_end (Disturbed f) = fault_end f
 
--- a thin line at y from x to the other end, where it has a small mark, with the line of its entry to be read there
+-- a thin line at y from x to the other end, where it has a small mark, with the number of its entry and the line of it
+-- to be read there
 unfoldable pub link_text : ℕ → ℕ → ℕ → ℕ → List ℕ → List ℕ
-link_text x end y place line = concat (codes "<g class='link'><title>" ∷ decimal place ∷ codes ": " ∷ line
+link_text x end y number line = concat (codes "<g class='link'><title>" ∷ decimal number ∷ codes ": " ∷ line
     ∷ codes "</title><path d='M" ∷ decimal x ∷ codes " " ∷ decimal y ∷ codes "H" ∷ decimal end
     ∷ codes "'/><circle class='form bad' cx='" ∷ decimal end ∷ codes "' cy='" ∷ decimal y
     ∷ codes "' r='4'/></g>\n" ∷ [])
 
--- the mark at x of the entry at a position. Where it takes a link out or puts one in, a line leads to the lane of its
--- other end
-abbrev pub mark_at : (ℕ → ℕ) → ℕ → ℕ → Entry → List ℕ
-mark_at lane x place e =
-    option_map_or (λ j. link_text x (lane_x (lane j)) (row_y place) place (escaped (entry_line e))) (entry_end e) []
-    ++ mark_text (entry_kind e) x (row_y place) place (escaped (entry_line e))
+-- the same between two lanes, if there are both
+abbrev pub link_between : Option ℕ → Option ℕ → ℕ → ℕ → List ℕ → List ℕ
+link_between (Some lane) (Some end) y number line = link_text (lane_x lane) (lane_x end) y number line
+link_between (Some lane) None y number line = []
+link_between None end y number line = []
 
--- the mark of the entry at a position, on the lane of its node
-abbrev pub mark : (ℕ → ℕ) → ℕ → Entry → List ℕ
-mark lane place e = mark_at lane (lane_x (lane (entry_node e))) place e
+-- what the row at y has of an entry of this kind and number and with this line: its mark, if there is a lane for that,
+-- and a line from there to the lane of the other end, if there is one
+abbrev pub row_text : List ℕ → Option ℕ → Option ℕ → ℕ → ℕ → List ℕ → List ℕ
+row_text kind lane end y number line =
+    link_between lane end y number line ++ (mark_on lane kind y number line ++ number_text y number)
+
+-- that of the entry at a position, if so many entries came before the first: its mark is on the lane of its node. If it
+-- takes a link out or puts one in, a line leads to the lane of its other end
+abbrev pub mark : (ℕ → Option ℕ) → ℕ → ℕ → Entry → List ℕ
+mark lane before place e =
+    row_text (entry_kind e) (lane (entry_node e)) (option_and_then lane (entry_end e)) (row_y place) (before + place)
+    (escaped (entry_line e))
 
 -- the marks of entries, the first of which has this position
-unfoldable pub marks_from : (ℕ → ℕ) → ℕ → List Entry → List ℕ
-marks_from lane place [] = []
-marks_from lane place (e ∷ es) = mark lane place e ++ marks_from lane (place + 1) es
+unfoldable pub marks_from : (ℕ → Option ℕ) → ℕ → ℕ → List Entry → List ℕ
+marks_from lane before place [] = []
+marks_from lane before place (e ∷ es) = mark lane before place e ++ marks_from lane before (place + 1) es

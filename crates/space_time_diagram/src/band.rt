@@ -1,15 +1,15 @@
 // The bands: what the wave registers of a node are, from the entry that left them on, or that it is down.
 
-ghost use Rattle.std.specs.Prelude.{◌≡◌, ◌++◌, ◌≤◌, IfOk, IsSome, OnErr, OnOk, length, map};
+ghost use Rattle.std.specs.Prelude.{◌≡◌, ◌++◌, ◌≤◌, IfOk, IfSome, IsSome, OnErr, OnOk, length, map};
 ghost use Rattle.std.specs.Io.KnownBytes.{Appends};
 ghost use Rattle.action_tables.specs.Written.{AppendsPrefix};
 ghost use Rattle.history.specs.Entries.{replayed};
-ghost use Rattle.space_time_diagram.specs.Bands.{band, band_text, bands_from, bands_of, bands_text};
+ghost use Rattle.space_time_diagram.specs.Bands.{band, band_text, bands_from, bands_of, bands_text, begun_band};
 ghost use Rattle.space_time_diagram.specs.Bands.{down_text, entry_node, fault_node, opening_band, phase_band_text};
 ghost use Rattle.space_time_diagram.specs.Bands.{shown_of};
-ghost use Rattle.space_time_diagram.specs.Lanes.{lane_of};
+ghost use Rattle.space_time_diagram.specs.Lanes.{lane_of, own_lane};
 
-use crate::lane::lane_of;
+use crate::lane::{lane_of, own_lane};
 use crate::page::{MAX_LANES, MAX_MARKS, height_below, lane_x, row_y};
 use action_tables::{Part, WriteFault, put_parts};
 use app_interface::Application;
@@ -52,81 +52,111 @@ fn fault_node(fault: &Fault) -> u32
     }
 }
 
-// The bands of a picture, in the order in which they are painted.
+// The bands of a picture of these nodes, in the order in which they are painted.
 pub fn bands_of<P: Application>(
     alloc: Global,
     opening: &Config<P>,
+    nodes: &[u32],
     entries: &[Entry],
 ) -> Result<Vec<Band>, AllocError>
-    requires lanes { length opening.now.graph.ids ≤ MAX_LANES }
+    requires lanes { length nodes.now ≤ MAX_LANES }
     requires marks { length entries.now ≤ MAX_MARKS }
     requires run { IsSome (replayed P.app P.from_text opening.now entries.now) }
-    ensures { IfOk result (λ bands. bands.items ≡ bands_of P.app P.from_text opening.now entries.now) }
+    ensures { IfOk result (λ bands. bands.items ≡ bands_of P.app P.from_text nodes.now opening.now entries.now) }
 {
-    let mut bands = opening_bands(alloc, opening, opening.topology().ids(), entries.len())?;
+    let mut bands = opening_bands(alloc, opening, nodes, entries.len())?;
     let mut config = opening.copy(alloc)?;
-    let added = add_bands(alloc, opening, entries, &mut config, &mut bands);
+    let added = add_bands(alloc, opening, nodes, entries, &mut config, &mut bands);
     drop(config);
     added?;
     Ok(bands)
 }
 
-// Plays the entries from this configuration on, and adds the band of each.
+// Plays the entries from this configuration on, and adds the band of each whose node has a lane.
 fn add_bands<P: Application>(
     alloc: Global,
     opening: &Config<P>,
+    nodes: &[u32],
     entries: &[Entry],
     config: &mut Config<P>,
     bands: &mut Vec<Band>,
 ) -> Result<(), AllocError>
-    requires lanes { length opening.now.graph.ids ≤ MAX_LANES }
+    requires lanes { length nodes.now ≤ MAX_LANES }
     requires marks { length entries.now ≤ MAX_MARKS }
     requires run { IsSome (replayed P.app P.from_text config.old entries.now) }
     ensures { OnOk result (bands.new.items ≡ bands.old.items
-        ++ bands_from P.app P.from_text (lane_of opening.now) (length entries.now) config.old 1 entries.now) }
+        ++ bands_from P.app P.from_text (own_lane nodes.now opening.now) (length entries.now) config.old 1
+        entries.now) }
 {
     let mut place = 0;
     for entry in entries {
         place += 1;
         play(alloc, config, entry)?;
-        bands.push(band_at(opening, config, entries.len(), place, entry_node(entry)))?;
+        let node = entry_node(entry);
+        let lane = own_lane(opening, nodes, node);
+        add_band(config, lane, entries.len(), place, node, bands)?;
     }
     Ok(())
+}
+
+// Adds the band that an entry begins at its node, if that has a lane.
+fn add_band<P: Application>(
+    config: &Config<P>,
+    lane: Option<usize>,
+    count: usize,
+    place: usize,
+    node: u32,
+    bands: &mut Vec<Band>,
+) -> Result<(), AllocError>
+    requires lanes { IfSome lane (λ lane. lane ≤ MAX_LANES) }
+    requires marks { count ≤ MAX_MARKS }
+    requires within { place ≤ count }
+    ensures { OnOk result
+        (bands.new.items ≡ bands.old.items ++ begun_band lane count place node (shown_of config.now node)) }
+{
+    match lane {
+        Some(lane) => {
+            bands.push(band_at(config, lane, count, place, node))?;
+            Ok(())
+        }
+        None => Ok(()),
+    }
 }
 
 // The bands of these nodes in the opening.
 fn opening_bands<P: Application>(
     alloc: Global,
     opening: &Config<P>,
-    ids: &[u32],
+    nodes: &[u32],
     count: usize,
 ) -> Result<Vec<Band>, AllocError>
-    requires lanes { length opening.now.graph.ids ≤ MAX_LANES }
+    requires lanes { length nodes.now ≤ MAX_LANES }
     requires marks { count ≤ MAX_MARKS }
-    ensures { IfOk result (λ bands. bands.items ≡ map (opening_band opening.now count) ids.now) }
+    ensures { IfOk result (λ bands. bands.items ≡ map (opening_band nodes.now opening.now count) nodes.now) }
 {
     let mut bands = Vec::new(alloc);
-    for id in ids {
-        bands.push(band_at(opening, opening, count, 0, *id))?;
+    for id in nodes {
+        let lane = lane_of(opening, nodes, *id);
+        bands.push(band_at(opening, lane, count, 0, *id))?;
     }
     Ok(bands)
 }
 
-// The band of a node from the row of a position on, with what it shows in this configuration.
+// The band of a node on this lane, from the row of a position on, with what it shows in this configuration.
 fn band_at<P: Application>(
-    opening: &Config<P>,
     config: &Config<P>,
+    lane: usize,
     count: usize,
     place: usize,
     node: u32,
 ) -> Band
-    requires lanes { length opening.now.graph.ids ≤ MAX_LANES }
+    requires lanes { lane ≤ MAX_LANES }
     requires marks { count ≤ MAX_MARKS }
     requires within { place ≤ count }
-    ensures { result ≡ band (lane_of opening.now) count place node (shown_of config.now node) }
+    ensures { result ≡ band lane count place node (shown_of config.now node) }
 {
     Band {
-        x: lane_x(lane_of(opening, node)),
+        x: lane_x(lane),
         y: row_y(place),
         height: height_below(count, place),
         node,

@@ -1,18 +1,21 @@
 // The lines of completions.
 
-ghost use Rattle.std.specs.Prelude.{◌≡◌, ◌<◌, ◌≤◌, IsSome, OnErr, OnOk, Some, length, take};
+ghost use Rattle.std.specs.Prelude.{◌≡◌, ◌+◌, ◌<◌, ◌≤◌, IfSome, IsSome, OnErr, OnOk, Some, filter, length, take};
 ghost use Rattle.std.specs.Io.KnownBytes.{Appends};
+ghost use Rattle.std.specs.Option.{option_map};
 ghost use Rattle.action_tables.specs.Written.{AppendsPrefix};
 ghost use Rattle.topology.specs.Components.{component};
+ghost use Rattle.topology.specs.Graph.{is_node};
 ghost use Rattle.history.specs.Entries.{replayed};
-ghost use Rattle.space_time_diagram.specs.Completions.{AreInTurn, completion, completion_end, completion_tag};
-ghost use Rattle.space_time_diagram.specs.Completions.{completion_words, completions, told_completion};
+ghost use Rattle.space_time_diagram.specs.Completions.{AreInTurn, IsOpenedBefore, completion, completion_end};
+ghost use Rattle.space_time_diagram.specs.Completions.{completion_line, completion_tag, completion_words, completions};
+ghost use Rattle.space_time_diagram.specs.Completions.{told_completion};
 ghost use Rattle.space_time_diagram.specs.Lanes.{lane_of};
 
 use crate::band::entry_node;
-use crate::component::put_pieces;
+use crate::component::{has_member, put_pieces};
 use crate::diagram::DiagramStop;
-use crate::page::{MAX_LANES, MAX_MARKS, right_end, row_y};
+use crate::page::{MAX_BEFORE, MAX_LANES, MAX_MARKS, right_end, row_y};
 use action_tables::{Part, WriteFault, put_parts};
 use app_interface::Application;
 use history::{Entry, Report, play_all};
@@ -21,25 +24,37 @@ use std::alloc::Global;
 use std::io::Write;
 use topology::Topology;
 
-// Writes a line for each of the reports, across the lanes of the component that completed its session.
+// Writes a line for each of the reports, across the lanes of the component that completed its session, if it has one.
 pub fn put_completions<P: Application, W: Write>(
     alloc: Global,
     opening: &Config<P>,
+    nodes: &[u32],
+    before: u64,
     entries: &[Entry],
     reports: &[Report],
     out: &mut W,
 ) -> Result<(), DiagramStop>
-    requires lanes { length opening.now.graph.ids ≤ MAX_LANES }
+    requires lanes { length nodes.now ≤ MAX_LANES }
     requires marks { length entries.now ≤ MAX_MARKS }
+    requires early { before ≤ MAX_BEFORE }
     requires run { IsSome (replayed P.app P.from_text opening.now entries.now) }
     requires in_turn { AreInTurn 0 (length entries.now) reports.now }
     ensures ok { OnOk result (Appends (W.contents out.old) (W.contents out.new)
-        (completions P.app P.from_text opening.now entries.now reports.now)) }
+        (completions P.app P.from_text nodes.now before opening.now entries.now reports.now)) }
     ensures err { OnErr result (AppendsPrefix (W.contents out.old) (W.contents out.new)
-        (completions P.app P.from_text opening.now entries.now reports.now)) }
+        (completions P.app P.from_text nodes.now before opening.now entries.now reports.now)) }
 {
     let mut config = opening.copy(alloc)?;
-    let put = put_each(alloc, opening, entries, reports, &mut config, out);
+    let put = put_each(
+        alloc,
+        opening,
+        nodes,
+        before,
+        entries,
+        reports,
+        &mut config,
+        out,
+    );
     drop(config);
     put
 }
@@ -48,24 +63,29 @@ pub fn put_completions<P: Application, W: Write>(
 fn put_each<P: Application, W: Write>(
     alloc: Global,
     opening: &Config<P>,
+    nodes: &[u32],
+    before: u64,
     entries: &[Entry],
     reports: &[Report],
     config: &mut Config<P>,
     out: &mut W,
 ) -> Result<(), DiagramStop>
     requires opening { config.old ≡ opening.now }
-    requires lanes { length opening.now.graph.ids ≤ MAX_LANES }
+    requires lanes { length nodes.now ≤ MAX_LANES }
     requires marks { length entries.now ≤ MAX_MARKS }
+    requires early { before ≤ MAX_BEFORE }
     requires run { IsSome (replayed P.app P.from_text opening.now entries.now) }
     requires in_turn { AreInTurn 0 (length entries.now) reports.now }
     ensures ok { OnOk result (Appends (W.contents out.old) (W.contents out.new)
-        (completions P.app P.from_text opening.now entries.now reports.now)) }
+        (completions P.app P.from_text nodes.now before opening.now entries.now reports.now)) }
     ensures err { OnErr result (AppendsPrefix (W.contents out.old) (W.contents out.new)
-        (completions P.app P.from_text opening.now entries.now reports.now)) }
+        (completions P.app P.from_text nodes.now before opening.now entries.now reports.now)) }
 {
     let mut played = 0;
     for report in reports {
-        put_next(alloc, opening, entries, played, *report, config, out)?;
+        put_next(
+            alloc, opening, nodes, before, entries, played, *report, config, out,
+        )?;
         played = report.finished;
     }
     Ok(())
@@ -75,56 +95,123 @@ fn put_each<P: Application, W: Write>(
 fn put_next<P: Application, W: Write>(
     alloc: Global,
     opening: &Config<P>,
+    nodes: &[u32],
+    before: u64,
     entries: &[Entry],
     played: usize,
     report: Report,
     config: &mut Config<P>,
     out: &mut W,
 ) -> Result<(), DiagramStop>
-    requires lanes { length opening.now.graph.ids ≤ MAX_LANES }
+    requires lanes { length nodes.now ≤ MAX_LANES }
     requires marks { length entries.now ≤ MAX_MARKS }
+    requires early { before ≤ MAX_BEFORE }
     requires run { IsSome (replayed P.app P.from_text opening.now entries.now) }
     requires here { replayed P.app P.from_text opening.now (take played entries.now) ≡ Some config.old }
     requires later { played < report.finished }
     requires within { report.finished ≤ length entries.now }
+    requires opened { IsOpenedBefore report }
     ensures played { OnOk result
         (replayed P.app P.from_text opening.now (take report.finished entries.now) ≡ Some config.new) }
     ensures ok { OnOk result (Appends (W.contents out.old) (W.contents out.new)
-        (told_completion P.app P.from_text opening.now entries.now report)) }
+        (told_completion P.app P.from_text nodes.now before opening.now entries.now report)) }
     ensures err { OnErr result (AppendsPrefix (W.contents out.old) (W.contents out.new)
-        (told_completion P.app P.from_text opening.now entries.now report)) }
+        (told_completion P.app P.from_text nodes.now before opening.now entries.now report)) }
 {
     play_all(alloc, config, &entries[played..report.finished])?;
     let node = entry_node(&entries[report.finished - 1]);
-    put_completion(out, opening, config.topology(), node, report)?;
+    put_completion(out, opening, nodes, before, config.topology(), node, report)?;
     Ok(())
 }
 
-// Writes where the session of a report was told complete, by this node in this topology.
+// Writes where the session of a report was told complete, by this node in this topology, if one of the nodes that have
+// a lane is in its component.
 fn put_completion<P: Application, W: Write>(
     out: &mut W,
     opening: &Config<P>,
+    nodes: &[u32],
+    before: u64,
     topology: &Topology,
     node: u32,
     report: Report,
 ) -> Result<(), WriteFault>
-    requires lanes { length opening.now.graph.ids ≤ MAX_LANES }
+    requires lanes { length nodes.now ≤ MAX_LANES }
+    requires early { before ≤ MAX_BEFORE }
     requires within { report.finished ≤ MAX_MARKS }
+    requires opened { IsOpenedBefore report }
     ensures ok { OnOk result (Appends (W.contents out.old) (W.contents out.new)
-        (completion (lane_of opening.now) (length opening.now.graph.ids) (component topology.now node).nodes report)) }
+        (completion (lane_of nodes.now opening.now) (length nodes.now) before
+        (filter (is_node (component topology.now node)) nodes.now) report)) }
     ensures err { OnErr result (AppendsPrefix (W.contents out.old) (W.contents out.new)
-        (completion (lane_of opening.now) (length opening.now.graph.ids) (component topology.now node).nodes report)) }
+        (completion (lane_of nodes.now opening.now) (length nodes.now) before
+        (filter (is_node (component topology.now node)) nodes.now) report)) }
 {
-    let lanes = opening.topology().len();
+    if has_member(topology, node, nodes) {
+        put_completion_line(out, opening, nodes, before, topology, node, report)
+    } else {
+        Ok(())
+    }
+}
+
+// Writes a line across the lanes of those nodes that are in the component of this one.
+fn put_completion_line<P: Application, W: Write>(
+    out: &mut W,
+    opening: &Config<P>,
+    nodes: &[u32],
+    before: u64,
+    topology: &Topology,
+    node: u32,
+    report: Report,
+) -> Result<(), WriteFault>
+    requires lanes { length nodes.now ≤ MAX_LANES }
+    requires early { before ≤ MAX_BEFORE }
+    requires within { report.finished ≤ MAX_MARKS }
+    requires opened { IsOpenedBefore report }
+    ensures ok { OnOk result (Appends (W.contents out.old) (W.contents out.new)
+        (completion_line (lane_of nodes.now opening.now) (length nodes.now) before
+        (filter (is_node (component topology.now node)) nodes.now) report)) }
+    ensures err { OnErr result (AppendsPrefix (W.contents out.old) (W.contents out.new)
+        (completion_line (lane_of nodes.now opening.now) (length nodes.now) before
+        (filter (is_node (component topology.now node)) nodes.now) report)) }
+{
+    let number = report.number as u64;
     put_tag(out, row_y(report.finished))?;
+    put_title(out, before, report)?;
+    put_pieces(out, opening, nodes, topology, node)?;
+    put_end(out, right_end(nodes.len()), number)
+}
+
+// Writes the words of the completion of a report.
+fn put_title<W: Write>(out: &mut W, before: u64, report: Report) -> Result<(), WriteFault>
+    requires early { before ≤ MAX_BEFORE }
+    requires within { report.finished ≤ MAX_MARKS }
+    requires opened { IsOpenedBefore report }
+    ensures ok { OnOk result (Appends (W.contents out.old) (W.contents out.new)
+        (completion_words report.number (option_map (λ opened. before + opened) report.opened)
+        (before + report.finished))) }
+    ensures err { OnErr result (AppendsPrefix (W.contents out.old) (W.contents out.new)
+        (completion_words report.number (option_map (λ opened. before + opened) report.opened)
+        (before + report.finished))) }
+{
+    let opened = opening_number(before, report.opened);
     put_words(
         out,
         report.number as u64,
-        report.opened,
-        report.finished as u64,
-    )?;
-    put_pieces(out, opening, topology, node)?;
-    put_end(out, right_end(lanes), report.number as u64)
+        opened,
+        before + report.finished as u64,
+    )
+}
+
+// The number of the entry at a position, where so many entries came before the first.
+fn opening_number(before: u64, opened: Option<usize>) -> Option<u64>
+    requires early { before ≤ MAX_BEFORE }
+    requires within { IfSome opened (λ opened. opened ≤ MAX_MARKS) }
+    ensures { result ≡ option_map (λ opened. before + opened) opened }
+{
+    match opened {
+        Some(opened) => Some(before + opened as u64),
+        None => None,
+    }
 }
 
 // Writes the tag of a completion, whose row is at y.
@@ -148,7 +235,7 @@ fn put_tag<W: Write>(out: &mut W, y: u64) -> Result<(), WriteFault>
 fn put_words<W: Write>(
     out: &mut W,
     session: u64,
-    opened: Option<usize>,
+    opened: Option<u64>,
     finished: u64,
 ) -> Result<(), WriteFault>
     ensures ok { OnOk result
@@ -163,7 +250,7 @@ fn put_words<W: Write>(
                 Part::Text(b"<title>session "),
                 Part::Number(session),
                 Part::Text(b": opened at "),
-                Part::Number(opened as u64),
+                Part::Number(opened),
                 Part::Text(b", complete at "),
                 Part::Number(finished),
                 Part::Text(b"</title>"),

@@ -1,8 +1,8 @@
 // The lanes of a component.
 
-ghost use Rattle.std.specs.Prelude.{◌≡◌, ◌≤◌, IfNone, IfSome, OnErr, OnOk, length};
+ghost use Rattle.std.specs.Prelude.{◌≡◌, ◌≤◌, IfNone, IfSome, OnErr, OnOk, filter, length};
 ghost use Rattle.std.specs.Io.KnownBytes.{Appends};
-ghost use Rattle.std.specs.List.{flat_map};
+ghost use Rattle.std.specs.List.{flat_map, list_any};
 ghost use Rattle.action_tables.specs.Written.{AppendsPrefix};
 ghost use Rattle.topology.specs.Components.{component, leader};
 ghost use Rattle.topology.specs.Graph.{IsNode, is_node};
@@ -18,38 +18,46 @@ use reset_machine::Config;
 use std::io::Write;
 use topology::Topology;
 
-// Writes the pieces of a line across the lanes of the component of a node.
+// Whether one of these nodes is in the component of a node.
+pub fn has_member(topology: &Topology, node: u32, nodes: &[u32]) -> bool
+    ensures { result ≡ list_any (is_node (component topology.now node)) nodes.now }
+{
+    nodes.iter().any(|other| is_member(topology, node, *other))
+}
+
+// Writes the pieces of a line across the lanes of those of these nodes that are in the component of a node.
 pub fn put_pieces<P: Application, W: Write>(
     out: &mut W,
     opening: &Config<P>,
+    nodes: &[u32],
     topology: &Topology,
     node: u32,
 ) -> Result<(), WriteFault>
-    requires { length opening.now.graph.ids ≤ MAX_LANES }
+    requires { length nodes.now ≤ MAX_LANES }
     ensures ok { OnOk result (Appends (W.contents out.old) (W.contents out.new)
-        (flat_map (piece (lane_of opening.now)) (component topology.now node).nodes)) }
+        (flat_map (piece (lane_of nodes.now opening.now)) (filter (is_node (component topology.now node)) nodes.now))) }
     ensures err { OnErr result (AppendsPrefix (W.contents out.old) (W.contents out.new)
-        (flat_map (piece (lane_of opening.now)) (component topology.now node).nodes)) }
+        (flat_map (piece (lane_of nodes.now opening.now)) (filter (is_node (component topology.now node)) nodes.now))) }
 {
-    put_member_pieces(out, opening, topology, node, topology.nodes())
+    put_member_pieces(out, opening, nodes, topology, node)
 }
 
-// Writes the pieces on the lanes of those of these nodes that are in the component of a node.
+// Writes them node by node.
 fn put_member_pieces<P: Application, W: Write>(
     out: &mut W,
     opening: &Config<P>,
+    nodes: &[u32],
     topology: &Topology,
     node: u32,
-    others: &[u32],
 ) -> Result<(), WriteFault>
-    requires { length opening.now.graph.ids ≤ MAX_LANES }
+    requires { length nodes.now ≤ MAX_LANES }
     ensures ok { OnOk result (Appends (W.contents out.old) (W.contents out.new)
-        (flat_map (member_piece (lane_of opening.now) topology.now node) others.now)) }
+        (flat_map (member_piece (lane_of nodes.now opening.now) topology.now node) nodes.now)) }
     ensures err { OnErr result (AppendsPrefix (W.contents out.old) (W.contents out.new)
-        (flat_map (member_piece (lane_of opening.now) topology.now node) others.now)) }
+        (flat_map (member_piece (lane_of nodes.now opening.now) topology.now node) nodes.now)) }
 {
-    for other in others {
-        put_member_piece(out, opening, topology, node, *other)?;
+    for other in nodes {
+        put_member_piece(out, opening, nodes, topology, node, *other)?;
     }
     Ok(())
 }
@@ -58,18 +66,19 @@ fn put_member_pieces<P: Application, W: Write>(
 fn put_member_piece<P: Application, W: Write>(
     out: &mut W,
     opening: &Config<P>,
+    nodes: &[u32],
     topology: &Topology,
     node: u32,
     other: u32,
 ) -> Result<(), WriteFault>
-    requires { length opening.now.graph.ids ≤ MAX_LANES }
+    requires { length nodes.now ≤ MAX_LANES }
     ensures ok { OnOk result (Appends (W.contents out.old) (W.contents out.new)
-        (member_piece (lane_of opening.now) topology.now node other)) }
+        (member_piece (lane_of nodes.now opening.now) topology.now node other)) }
     ensures err { OnErr result (AppendsPrefix (W.contents out.old) (W.contents out.new)
-        (member_piece (lane_of opening.now) topology.now node other)) }
+        (member_piece (lane_of nodes.now opening.now) topology.now node other)) }
 {
     if is_member(topology, node, other) {
-        put_piece(out, lane_left(lane_of(opening, other)))
+        put_piece(out, lane_left(lane_of(opening, nodes, other)))
     } else {
         Ok(())
     }

@@ -7,7 +7,8 @@ ghost use Rattle.history.specs.Entries.{replayed};
 ghost use Rattle.history.specs.Reports.{reports_of};
 ghost use Rattle.space_time_diagram.specs.Completions.{AreInTurn, completions};
 ghost use Rattle.space_time_diagram.specs.Diagram.{diagram_text, page_text};
-ghost use Rattle.space_time_diagram.specs.Lanes.{lane_of};
+ghost use Rattle.space_time_diagram.specs.Lanes.{lane_of, own_lane};
+ghost use Rattle.space_time_diagram.specs.Marks.{marks_from};
 ghost use Rattle.space_time_diagram.specs.declared.diagram.DiagramStop.TheVariants.{NoMemory, WriteFailed};
 
 use crate::band::{Band, bands_of, put_bands};
@@ -15,7 +16,7 @@ use crate::completion::put_completions;
 use crate::frame::put_head;
 use crate::heading::put_foot;
 use crate::mark::put_marks;
-use crate::page::{MAX_LANES, MAX_MARKS};
+use crate::page::{MAX_BEFORE, MAX_LANES, MAX_MARKS};
 use action_tables::WriteFault;
 use app_interface::Application;
 use history::{Entry, Report};
@@ -51,59 +52,66 @@ impl From<AllocError> for DiagramStop {
 /// Writes the picture of entries that are a run from the opening, and of what they report: an SVG by itself, without
 /// scripts and without references to anything outside of it.
 ///
-/// It is of at most `MAX_LANES` nodes and `MAX_MARKS` entries. What it holds at a time is a band an entry, a copy of the
-/// opening, and no text but the line of one entry.
+/// It has lanes for these nodes only, and no mark, no link and no completion of others. The numbers of the entries go
+/// on from those of the entries that came before. It is of at most `MAX_LANES` nodes and `MAX_MARKS` entries, and at
+/// most `MAX_BEFORE` came before these. What it holds at a time is a band an entry, a copy of the opening, and no text
+/// but the line of one entry.
 pub fn put_diagram<P: Application, W: Write>(
     alloc: Global,
     opening: &Config<P>,
+    nodes: &[u32],
+    before: u64,
     entries: &[Entry],
     reports: &[Report],
     out: &mut W,
 ) -> Result<(), DiagramStop>
-    requires lanes { length opening.now.graph.ids ≤ MAX_LANES }
+    requires lanes { length nodes.now ≤ MAX_LANES }
     requires marks { length entries.now ≤ MAX_MARKS }
+    requires early { before ≤ MAX_BEFORE }
     requires run { IsSome (replayed P.app P.from_text opening.now entries.now) }
     requires reports { reports.now ≡ reports_of P.app P.from_text opening.now entries.now }
     ensures ok { OnOk result
         (Appends (W.contents out.old) (W.contents out.new)
-        (diagram_text P.app P.from_text opening.now entries.now reports.now)) }
+        (diagram_text P.app P.from_text nodes.now before opening.now entries.now reports.now)) }
     ensures err { OnErr result
         (AppendsPrefix (W.contents out.old) (W.contents out.new)
-        (diagram_text P.app P.from_text opening.now entries.now reports.now)) }
+        (diagram_text P.app P.from_text nodes.now before opening.now entries.now reports.now)) }
 {
-    let bands = bands_of(alloc, opening, entries)?;
-    let ids = opening.topology().ids();
-    put_page(alloc, opening, ids, &bands, entries, reports, out)
+    let bands = bands_of(alloc, opening, nodes, entries)?;
+    put_page(alloc, opening, nodes, before, &bands, entries, reports, out)
 }
 
-// Writes the picture with lanes for these nodes, with these bands, and of these entries and reports.
+// Writes the picture of these nodes, with these bands, and of these entries and reports.
 fn put_page<P: Application, W: Write>(
     alloc: Global,
     opening: &Config<P>,
-    ids: &[u32],
+    nodes: &[u32],
+    before: u64,
     bands: &[Band],
     entries: &[Entry],
     reports: &[Report],
     out: &mut W,
 ) -> Result<(), DiagramStop>
-    requires graph { length opening.now.graph.ids ≤ MAX_LANES }
-    requires lanes { length ids.now ≤ MAX_LANES }
+    requires lanes { length nodes.now ≤ MAX_LANES }
     requires marks { length entries.now ≤ MAX_MARKS }
+    requires early { before ≤ MAX_BEFORE }
     requires run { IsSome (replayed P.app P.from_text opening.now entries.now) }
     requires in_turn { AreInTurn 0 (length entries.now) reports.now }
     ensures ok { OnOk result
         (Appends (W.contents out.old) (W.contents out.new)
-        (page_text (lane_of opening.now) ids.now bands.now entries.now
-        (completions P.app P.from_text opening.now entries.now reports.now))) }
+        (page_text (lane_of nodes.now opening.now) nodes.now (length entries.now) bands.now
+        (marks_from (own_lane nodes.now opening.now) before 1 entries.now)
+        (completions P.app P.from_text nodes.now before opening.now entries.now reports.now))) }
     ensures err { OnErr result
         (AppendsPrefix (W.contents out.old) (W.contents out.new)
-        (page_text (lane_of opening.now) ids.now bands.now entries.now
-        (completions P.app P.from_text opening.now entries.now reports.now))) }
+        (page_text (lane_of nodes.now opening.now) nodes.now (length entries.now) bands.now
+        (marks_from (own_lane nodes.now opening.now) before 1 entries.now)
+        (completions P.app P.from_text nodes.now before opening.now entries.now reports.now))) }
 {
-    put_head(out, ids.len(), entries.len())?;
+    put_head(out, nodes.len(), entries.len())?;
     put_bands(out, bands)?;
-    put_marks(alloc, opening, entries, out)?;
-    put_completions(alloc, opening, entries, reports, out)?;
-    put_foot(out, opening, ids, entries.len())?;
+    put_marks(alloc, opening, nodes, before, entries, out)?;
+    put_completions(alloc, opening, nodes, before, entries, reports, out)?;
+    put_foot(out, opening, nodes, entries.len())?;
     Ok(())
 }

@@ -17,17 +17,17 @@ use std::io::Write;
 pub fn put_foot<P: Application, W: Write>(
     out: &mut W,
     opening: &Config<P>,
-    ids: &[u32],
+    nodes: &[u32],
     count: usize,
 ) -> Result<(), WriteFault>
-    requires graph { length opening.now.graph.ids ≤ MAX_LANES }
+    requires lanes { length nodes.now ≤ MAX_LANES }
     requires marks { count ≤ MAX_MARKS }
-    ensures ok { OnOk result
-        (Appends (W.contents out.old) (W.contents out.new) (foot_text (lane_of opening.now) ids.now count)) }
-    ensures err { OnErr result
-        (AppendsPrefix (W.contents out.old) (W.contents out.new) (foot_text (lane_of opening.now) ids.now count)) }
+    ensures ok { OnOk result (Appends (W.contents out.old) (W.contents out.new)
+        (foot_text (lane_of nodes.now opening.now) nodes.now count)) }
+    ensures err { OnErr result (AppendsPrefix (W.contents out.old) (W.contents out.new)
+        (foot_text (lane_of nodes.now opening.now) nodes.now count)) }
 {
-    put_headings(out, opening, ids, count / HEADED + 1)?;
+    put_headings(out, opening, nodes, count / HEADED + 1)?;
     put_bytes(out, b"</svg>\n")
 }
 
@@ -35,18 +35,18 @@ pub fn put_foot<P: Application, W: Write>(
 fn put_headings<P: Application, W: Write>(
     out: &mut W,
     opening: &Config<P>,
-    ids: &[u32],
+    nodes: &[u32],
     times: usize,
 ) -> Result<(), WriteFault>
-    requires graph { length opening.now.graph.ids ≤ MAX_LANES }
+    requires lanes { length nodes.now ≤ MAX_LANES }
     requires few { times ≤ MAX_MARKS / HEADED + 1 }
-    ensures ok { OnOk result
-        (Appends (W.contents out.old) (W.contents out.new) (headings (lane_of opening.now) ids.now times)) }
-    ensures err { OnErr result
-        (AppendsPrefix (W.contents out.old) (W.contents out.new) (headings (lane_of opening.now) ids.now times)) }
+    ensures ok { OnOk result (Appends (W.contents out.old) (W.contents out.new)
+        (headings (lane_of nodes.now opening.now) nodes.now times)) }
+    ensures err { OnErr result (AppendsPrefix (W.contents out.old) (W.contents out.new)
+        (headings (lane_of nodes.now opening.now) nodes.now times)) }
 {
     for number in 0..times {
-        put_lane_headings(out, opening, ids, heading_y(number))?;
+        put_lane_headings(out, opening, nodes, heading_y(number))?;
     }
     Ok(())
 }
@@ -55,17 +55,17 @@ fn put_headings<P: Application, W: Write>(
 fn put_lane_headings<P: Application, W: Write>(
     out: &mut W,
     opening: &Config<P>,
-    ids: &[u32],
+    nodes: &[u32],
     y: u64,
 ) -> Result<(), WriteFault>
-    requires { length opening.now.graph.ids ≤ MAX_LANES }
-    ensures ok { OnOk result
-        (Appends (W.contents out.old) (W.contents out.new) (lane_headings (lane_of opening.now) ids.now y)) }
-    ensures err { OnErr result
-        (AppendsPrefix (W.contents out.old) (W.contents out.new) (lane_headings (lane_of opening.now) ids.now y)) }
+    requires { length nodes.now ≤ MAX_LANES }
+    ensures ok { OnOk result (Appends (W.contents out.old) (W.contents out.new)
+        (lane_headings (lane_of nodes.now opening.now) nodes.now y)) }
+    ensures err { OnErr result (AppendsPrefix (W.contents out.old) (W.contents out.new)
+        (lane_headings (lane_of nodes.now opening.now) nodes.now y)) }
 {
-    for id in ids {
-        put_lane_heading(out, opening, y, *id)?;
+    for id in nodes {
+        put_lane_heading(out, opening, nodes, y, *id)?;
     }
     Ok(())
 }
@@ -74,16 +74,17 @@ fn put_lane_headings<P: Application, W: Write>(
 fn put_lane_heading<P: Application, W: Write>(
     out: &mut W,
     opening: &Config<P>,
+    nodes: &[u32],
     y: u64,
     id: u32,
 ) -> Result<(), WriteFault>
-    requires { length opening.now.graph.ids ≤ MAX_LANES }
-    ensures ok { OnOk result
-        (Appends (W.contents out.old) (W.contents out.new) (lane_heading (lane_of opening.now) y id)) }
-    ensures err { OnErr result
-        (AppendsPrefix (W.contents out.old) (W.contents out.new) (lane_heading (lane_of opening.now) y id)) }
+    requires { length nodes.now ≤ MAX_LANES }
+    ensures ok { OnOk result (Appends (W.contents out.old) (W.contents out.new)
+        (lane_heading (lane_of nodes.now opening.now) y id)) }
+    ensures err { OnErr result (AppendsPrefix (W.contents out.old) (W.contents out.new)
+        (lane_heading (lane_of nodes.now opening.now) y id)) }
 {
-    put_heading(out, lane_x(lane_of(opening, id)), y, id as u64)
+    put_heading(out, lane_x(lane_of(opening, nodes, id)), y, id as u64)
 }
 
 // Writes the number of a node at x and y.

@@ -2,7 +2,7 @@
 //!
 //! A lane a node, in the order of the tree that the opening has, and a row an entry, downward. On its lane a node has a
 //! band, by what its wave registers are; each entry has a mark, and each completion a line across the lanes of its
-//! component.
+//! component. A picture is of the whole network or of some of its nodes, and of the whole history or of a part of it.
 #![tactic(auto)]
 
 mod band;
@@ -19,4 +19,4 @@ mod page;
 
 pub use diagram::{DiagramStop, put_diagram};
 pub use laws::{bands_show_registers, nodes_have_lanes};
-pub use page::{MAX_LANES, MAX_MARKS};
+pub use page::{MAX_BEFORE, MAX_LANES, MAX_MARKS};

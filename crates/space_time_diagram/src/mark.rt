@@ -1,19 +1,18 @@
 // The marks of entries.
 
-ghost use Rattle.std.specs.Prelude.{◌≡◌, ◌≤◌, [], OnErr, OnOk, length};
+ghost use Rattle.std.specs.Prelude.{◌≡◌, ◌≤◌, IfSome, OnErr, OnOk, Some, length};
 ghost use Rattle.std.specs.Io.KnownBytes.{Appends};
-ghost use Rattle.std.specs.Option.{option_map_or};
+ghost use Rattle.std.specs.Option.{option_and_then};
 ghost use Rattle.action_tables.specs.Written.{AppendsPrefix};
-ghost use Rattle.space_time_diagram.specs.Lanes.{lane_of};
-ghost use Rattle.space_time_diagram.specs.Marks.{entry_end, entry_kind, event_kind, fault_end, link_text, mark};
-ghost use Rattle.space_time_diagram.specs.Marks.{mark_text, marks_from};
-ghost use Rattle.space_time_diagram.specs.Page.{lane_x};
+ghost use Rattle.space_time_diagram.specs.Lanes.{own_lane};
+ghost use Rattle.space_time_diagram.specs.Marks.{entry_end, entry_kind, event_kind, fault_end, link_between, link_text};
+ghost use Rattle.space_time_diagram.specs.Marks.{mark, mark_on, mark_text, marks_from, number_text, row_text};
 
 use crate::band::entry_node;
 use crate::diagram::DiagramStop;
 use crate::escape::escaped_line;
-use crate::lane::lane_of;
-use crate::page::{MAX_LANES, MAX_MARKS, lane_x, row_y};
+use crate::lane::own_lane;
+use crate::page::{MAX_BEFORE, MAX_LANES, MAX_MARKS, lane_x, row_y};
 use action_tables::{Part, WriteFault, put_parts};
 use app_interface::Application;
 use fault_inject::Fault;
@@ -22,69 +21,131 @@ use reset_machine::{Config, Event};
 use std::alloc::Global;
 use std::io::Write;
 
-// Writes the marks of the entries.
+// Writes the marks of the entries, before which so many came.
 pub fn put_marks<P: Application, W: Write>(
     alloc: Global,
     opening: &Config<P>,
+    nodes: &[u32],
+    before: u64,
     entries: &[Entry],
     out: &mut W,
 ) -> Result<(), DiagramStop>
-    requires lanes { length opening.now.graph.ids ≤ MAX_LANES }
+    requires lanes { length nodes.now ≤ MAX_LANES }
     requires marks { length entries.now ≤ MAX_MARKS }
-    ensures ok { OnOk result
-        (Appends (W.contents out.old) (W.contents out.new) (marks_from (lane_of opening.now) 1 entries.now)) }
-    ensures err { OnErr result
-        (AppendsPrefix (W.contents out.old) (W.contents out.new) (marks_from (lane_of opening.now) 1 entries.now)) }
+    requires early { before ≤ MAX_BEFORE }
+    ensures ok { OnOk result (Appends (W.contents out.old) (W.contents out.new)
+        (marks_from (own_lane nodes.now opening.now) before 1 entries.now)) }
+    ensures err { OnErr result (AppendsPrefix (W.contents out.old) (W.contents out.new)
+        (marks_from (own_lane nodes.now opening.now) before 1 entries.now)) }
 {
     let mut place = 0;
     for entry in entries {
         place += 1;
-        put_mark(alloc, opening, place, entry, out)?;
+        put_mark(alloc, opening, nodes, before, place, entry, out)?;
     }
     Ok(())
 }
 
-// Writes the mark of the entry at this position.
+// Writes the mark of the entry at this position, and its number.
 fn put_mark<P: Application, W: Write>(
     alloc: Global,
     opening: &Config<P>,
+    nodes: &[u32],
+    before: u64,
     place: usize,
     entry: &Entry,
     out: &mut W,
 ) -> Result<(), DiagramStop>
-    requires lanes { length opening.now.graph.ids ≤ MAX_LANES }
+    requires lanes { length nodes.now ≤ MAX_LANES }
+    requires early { before ≤ MAX_BEFORE }
     requires within { place ≤ MAX_MARKS }
-    ensures ok { OnOk result
-        (Appends (W.contents out.old) (W.contents out.new) (mark (lane_of opening.now) place entry.now)) }
-    ensures err { OnErr result
-        (AppendsPrefix (W.contents out.old) (W.contents out.new) (mark (lane_of opening.now) place entry.now)) }
+    ensures ok { OnOk result (Appends (W.contents out.old) (W.contents out.new)
+        (mark (own_lane nodes.now opening.now) before place entry.now)) }
+    ensures err { OnErr result (AppendsPrefix (W.contents out.old) (W.contents out.new)
+        (mark (own_lane nodes.now opening.now) before place entry.now)) }
 {
     let line = escaped_line(alloc, entry)?;
-    let x = lane_x(lane_of(opening, entry_node(entry)));
-    let y = row_y(place);
-    put_link(out, opening, entry_end(entry), x, y, place as u64, &line)?;
-    put_mark_text(out, entry_kind(entry).as_bytes(), x, y, place as u64, &line)?;
+    let kind = entry_kind(entry).as_bytes();
+    let lane = own_lane(opening, nodes, entry_node(entry));
+    let end = end_lane(opening, nodes, entry);
+    let number = before + place as u64;
+    put_row(out, kind, lane, end, row_y(place), number, &line)?;
     Ok(())
 }
 
-// Writes a line at y from x to the lane of the other end of a link, if there is one, with the line of its entry.
-fn put_link<'t, P: Application, W: Write>(
+// The lane of the other end of the link that an entry takes out or puts in, if that has one.
+fn end_lane<P: Application>(opening: &Config<P>, nodes: &[u32], entry: &Entry) -> Option<usize>
+    ensures lane { result ≡ option_and_then (own_lane nodes.now opening.now) (entry_end entry.now) }
+    ensures within { IfSome result (λ lane. lane ≤ length nodes.now) }
+{
+    match entry_end(entry) {
+        Some(end) => own_lane(opening, nodes, end),
+        None => None,
+    }
+}
+
+// Writes what the row at y of an entry has, of this kind and number and with this line.
+fn put_row<'t, W: Write>(
     out: &mut W,
-    opening: &Config<P>,
-    end: Option<u32>,
-    x: u64,
+    kind: &'t [u8],
+    lane: Option<usize>,
+    end: Option<usize>,
     y: u64,
-    place: u64,
+    number: u64,
     line: &'t [u8],
 ) -> Result<(), WriteFault>
-    requires { length opening.now.graph.ids ≤ MAX_LANES }
-    ensures ok { OnOk result (Appends (W.contents out.old) (W.contents out.new)
-        (option_map_or (λ j. link_text x (lane_x (lane_of opening.now j)) y place line.now) end [])) }
-    ensures err { OnErr result (AppendsPrefix (W.contents out.old) (W.contents out.new)
-        (option_map_or (λ j. link_text x (lane_x (lane_of opening.now j)) y place line.now) end [])) }
+    requires lane { IfSome lane (λ lane. lane ≤ MAX_LANES) }
+    requires end { IfSome end (λ end. end ≤ MAX_LANES) }
+    ensures ok { OnOk result
+        (Appends (W.contents out.old) (W.contents out.new) (row_text kind.now lane end y number line.now)) }
+    ensures err { OnErr result
+        (AppendsPrefix (W.contents out.old) (W.contents out.new) (row_text kind.now lane end y number line.now)) }
+{
+    put_link(out, lane, end, y, number, line)?;
+    put_mark_on(out, lane, kind, y, number, line)?;
+    put_number_text(out, y, number)
+}
+
+// Writes a line at y between two lanes, if there are both, with the line of its entry.
+fn put_link<'t, W: Write>(
+    out: &mut W,
+    lane: Option<usize>,
+    end: Option<usize>,
+    y: u64,
+    number: u64,
+    line: &'t [u8],
+) -> Result<(), WriteFault>
+    requires lane { IfSome lane (λ lane. lane ≤ MAX_LANES) }
+    requires end { IfSome end (λ end. end ≤ MAX_LANES) }
+    ensures ok { OnOk result
+        (Appends (W.contents out.old) (W.contents out.new) (link_between lane end y number line.now)) }
+    ensures err { OnErr result
+        (AppendsPrefix (W.contents out.old) (W.contents out.new) (link_between lane end y number line.now)) }
+{
+    match lane {
+        Some(lane) => put_link_from(out, lane, end, y, number, line),
+        None => Ok(()),
+    }
+}
+
+// Writes a line at y from this lane to the other one, if there is one.
+fn put_link_from<'t, W: Write>(
+    out: &mut W,
+    lane: usize,
+    end: Option<usize>,
+    y: u64,
+    number: u64,
+    line: &'t [u8],
+) -> Result<(), WriteFault>
+    requires lane { lane ≤ MAX_LANES }
+    requires end { IfSome end (λ end. end ≤ MAX_LANES) }
+    ensures ok { OnOk result
+        (Appends (W.contents out.old) (W.contents out.new) (link_between (Some lane) end y number line.now)) }
+    ensures err { OnErr result
+        (AppendsPrefix (W.contents out.old) (W.contents out.new) (link_between (Some lane) end y number line.now)) }
 {
     match end {
-        Some(end) => put_link_text(out, x, lane_x(lane_of(opening, end)), y, place, line),
+        Some(end) => put_link_text(out, lane_x(lane), lane_x(end), y, number, line),
         None => Ok(()),
     }
 }
@@ -96,18 +157,18 @@ fn put_link_text<'t, W: Write>(
     x: u64,
     end: u64,
     y: u64,
-    place: u64,
+    number: u64,
     line: &'t [u8],
 ) -> Result<(), WriteFault>
-    ensures ok { OnOk result (Appends (W.contents out.old) (W.contents out.new) (link_text x end y place line.now)) }
+    ensures ok { OnOk result (Appends (W.contents out.old) (W.contents out.new) (link_text x end y number line.now)) }
     ensures err { OnErr result
-        (AppendsPrefix (W.contents out.old) (W.contents out.new) (link_text x end y place line.now)) }
+        (AppendsPrefix (W.contents out.old) (W.contents out.new) (link_text x end y number line.now)) }
 {
     put_parts(
         out,
         &[
             Part::Text(b"<g class='link'><title>"),
-            Part::Number(place),
+            Part::Number(number),
             Part::Text(b": "),
             Part::Text(line),
             Part::Text(b"</title><path d='M"),
@@ -145,20 +206,41 @@ fn fault_end(fault: &Fault) -> Option<u32>
     }
 }
 
-// Writes a mark at x and y, of this kind, with the line of its entry.
+// Writes a mark at y on a lane, if there is one, of this kind, with the line of its entry.
+fn put_mark_on<'t, W: Write>(
+    out: &mut W,
+    lane: Option<usize>,
+    kind: &'t [u8],
+    y: u64,
+    number: u64,
+    line: &'t [u8],
+) -> Result<(), WriteFault>
+    requires { IfSome lane (λ lane. lane ≤ MAX_LANES) }
+    ensures ok { OnOk result
+        (Appends (W.contents out.old) (W.contents out.new) (mark_on lane kind.now y number line.now)) }
+    ensures err { OnErr result
+        (AppendsPrefix (W.contents out.old) (W.contents out.new) (mark_on lane kind.now y number line.now)) }
+{
+    match lane {
+        Some(lane) => put_mark_text(out, kind, lane_x(lane), y, number, line),
+        None => Ok(()),
+    }
+}
+
+// Writes a mark at x and y, of this kind, with the number and the line of its entry.
 #[tactic(auto, unfolding(crate::specs::Marks::mark_text))]
 fn put_mark_text<'t, W: Write>(
     out: &mut W,
     kind: &'t [u8],
     x: u64,
     y: u64,
-    place: u64,
+    number: u64,
     line: &'t [u8],
 ) -> Result<(), WriteFault>
     ensures ok { OnOk result
-        (Appends (W.contents out.old) (W.contents out.new) (mark_text kind.now x y place line.now)) }
+        (Appends (W.contents out.old) (W.contents out.new) (mark_text kind.now x y number line.now)) }
     ensures err { OnErr result
-        (AppendsPrefix (W.contents out.old) (W.contents out.new) (mark_text kind.now x y place line.now)) }
+        (AppendsPrefix (W.contents out.old) (W.contents out.new) (mark_text kind.now x y number line.now)) }
 {
     put_parts(
         out,
@@ -170,15 +252,29 @@ fn put_mark_text<'t, W: Write>(
             Part::Text(b" "),
             Part::Number(y),
             Part::Text(b")'><title>"),
-            Part::Number(place),
+            Part::Number(number),
             Part::Text(b": "),
             Part::Text(line),
             Part::Text(b"</title><use href='#"),
             Part::Text(kind),
-            Part::Text(b"'/></g>\n<text class='place' x='36' dy='3' y='"),
+            Part::Text(b"'/></g>\n"),
+        ],
+    )
+}
+
+// Writes the number of an entry at y, left of all lanes.
+#[tactic(auto, unfolding(crate::specs::Marks::number_text))]
+fn put_number_text<W: Write>(out: &mut W, y: u64, number: u64) -> Result<(), WriteFault>
+    ensures ok { OnOk result (Appends (W.contents out.old) (W.contents out.new) (number_text y number)) }
+    ensures err { OnErr result (AppendsPrefix (W.contents out.old) (W.contents out.new) (number_text y number)) }
+{
+    put_parts(
+        out,
+        &[
+            Part::Text(b"<text class='place' x='36' dy='3' y='"),
             Part::Number(y),
             Part::Text(b"'>"),
-            Part::Number(place),
+            Part::Number(number),
             Part::Text(b"</text>\n"),
         ],
     )

@@ -10,6 +10,9 @@ pub const MAX_LANES: usize = 64;
 /// The most entries of a picture.
 pub const MAX_MARKS: usize = 2000;
 
+/// The most entries that came before those of a picture.
+pub const MAX_BEFORE: u64 = 1_000_000;
+
 /// How many rows there are from one line of the nodes' numbers to the next.
 pub const HEADED: usize = 40;
 

@@ -6,6 +6,4 @@ pub returns : goal.returns
 returns g c =
     let laws = g.met.P.Application g.world.𝓛 g.world.𝓜 g.world.𝓡 ((λ s x. x), (λ x. x), (λ x. x), λ x. x) in
     let own = g.met.P.Invariant g.world.𝓛 g.world.𝓜 g.world.𝓡 ((λ s x. x), (λ x. x), (λ x. x), λ x. x) in
-    violation_tells g.P.Application.app g.P.Application.Inv
-    (record { words = g.P.Invariant.counted; right = g.P.Invariant.right; number = g.P.Invariant.number })
-    laws.keeps own.decides
+    violation_tells g.P.Application.app g.P.Application.Inv g.P.Invariant.counts laws.keeps own.decides

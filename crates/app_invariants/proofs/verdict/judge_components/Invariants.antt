@@ -7,6 +7,5 @@ use Rattle.app_invariants.proofs.verdict.judge_components.Given as goal
 abbrev pub invariant-loop-id : goal.invariant-loop-id
 invariant-loop-id g l =
     l.verdicts.items
-    ≡ map
-    (verdict_of (record { words = g.P.Invariant.counted; right = g.P.Invariant.right; number = g.P.Invariant.number })
-    g.P.Application.app l.config) (filter (λ i. leader l.config.graph i == i) (take l.id-index l.config.graph.nodes))
+    ≡ map (verdict_of g.P.Invariant.counts g.P.Application.app l.config)
+    (filter (λ i. leader l.config.graph i == i) (take l.id-index l.config.graph.nodes))

@@ -9,7 +9,9 @@ use Rattle.live_session.proofs.kept.go_on.Goals as goal
 
 pub returns-in-Ok-clause-done : goal.returns-in-Ok-clause-done
 returns-in-Ok-clause-done g c =
-    let m = meaning_of g.P.Application.app g.P.Application.text g.P.Application.from_text g.P.Application.names in
+    let m =
+    meaning_of g.P.Application.app g.P.Application.text g.P.Application.from_text g.P.Application.names
+    g.P.Invariant.counts in
     let from = c.args.resumed in
     let out = g.W.Write.contents c.args.out.now in
     let begun = g.W.Write.contents c.put_resumed-put.new.out in
@@ -26,7 +28,9 @@ returns-in-Ok-clause-done g c =
 
 pub returns-in-Ok-clause-cut : goal.returns-in-Ok-clause-cut
 returns-in-Ok-clause-cut g c =
-    let m = meaning_of g.P.Application.app g.P.Application.text g.P.Application.from_text g.P.Application.names in
+    let m =
+    meaning_of g.P.Application.app g.P.Application.text g.P.Application.from_text g.P.Application.names
+    g.P.Invariant.counts in
     let from = c.args.resumed in
     let out = g.W.Write.contents c.args.out.now in
     let begun = g.W.Write.contents c.put_resumed-put.new.out in

@@ -5,7 +5,9 @@ use Rattle.live_session.proofs.kept.resume_history.Goals as goal
 
 pub returns-in-Ok-go_on-clause-done : goal.returns-in-Ok-go_on-clause-done
 returns-in-Ok-go_on-clause-done g c =
-    let m = meaning_of g.P.Application.app g.P.Application.text g.P.Application.from_text g.P.Application.names in
+    let m =
+    meaning_of g.P.Application.app g.P.Application.text g.P.Application.from_text g.P.Application.names
+    g.P.Invariant.counts in
     let (text, whole, past) = c.in-Ok.ensures.told in
     let (es, read, is) = past in
     resumed_on m c.args.opening c.in-Ok.resumed.config (g.F.Read.remaining c.args.past.now)
@@ -17,7 +19,9 @@ returns-in-Ok-go_on-clause-done g c =
 
 pub returns-in-Err-go_on-clause-err : goal.returns-in-Err-go_on-clause-err
 returns-in-Err-go_on-clause-err g c =
-    let m = meaning_of g.P.Application.app g.P.Application.text g.P.Application.from_text g.P.Application.names in
+    let m =
+    meaning_of g.P.Application.app g.P.Application.text g.P.Application.from_text g.P.Application.names
+    g.P.Invariant.counts in
     let (text, whole, past) = c.in-Ok.ensures.told in
     let (es, read, is) = past in
     cut_resumed m c.args.opening c.in-Ok.resumed.config (g.F.Read.remaining c.args.past.now)

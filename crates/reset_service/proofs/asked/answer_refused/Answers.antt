@@ -12,7 +12,9 @@ use Rattle.reset_service.proofs.asked.answer_refused.Goals as goal
 
 pub returns-in_err-put_not_enabled : goal.returns-in_err-put_not_enabled
 returns-in_err-put_not_enabled g c =
-    let m = meaning_of g.P.Application.app g.P.Application.text g.P.Application.from_text g.P.Application.names in
+    let m =
+    meaning_of g.P.Application.app g.P.Application.text g.P.Application.from_text g.P.Application.names
+    g.P.Invariant.counts in
     let r = c.args.refused in
     let residual = c.from_residual in
     let failed : residual.result ≡ Err WriteFailed = search (rules, residual.ensures) in
@@ -27,7 +29,9 @@ returns-in_err-put_not_enabled g c =
 
 pub returns-in-Ok : goal.returns-in-Ok
 returns-in-Ok g c =
-    let m = meaning_of g.P.Application.app g.P.Application.text g.P.Application.from_text g.P.Application.names in
+    let m =
+    meaning_of g.P.Application.app g.P.Application.text g.P.Application.from_text g.P.Application.names
+    g.P.Invariant.counts in
     let r = c.args.refused in
     let place = not_enabled_text r.position in
     let reason = asked_reason c.args.why m r.config r.entry in
@@ -41,7 +45,9 @@ returns-in-Ok g c =
 
 pub returns-in-Err : goal.returns-in-Err
 returns-in-Err g c =
-    let m = meaning_of g.P.Application.app g.P.Application.text g.P.Application.from_text g.P.Application.names in
+    let m =
+    meaning_of g.P.Application.app g.P.Application.text g.P.Application.from_text g.P.Application.names
+    g.P.Invariant.counts in
     let r = c.args.refused in
     let place = not_enabled_text r.position in
     let reason = asked_reason c.args.why m r.config r.entry in

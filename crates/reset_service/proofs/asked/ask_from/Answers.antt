@@ -13,7 +13,9 @@ use Rattle.reset_service.proofs.asked.ask_from.Goals as goal
 
 pub returns-in-Ok : goal.returns-in-Ok
 returns-in-Ok g c =
-    let m = meaning_of g.P.Application.app g.P.Application.text g.P.Application.from_text g.P.Application.names in
+    let m =
+    meaning_of g.P.Application.app g.P.Application.text g.P.Application.from_text g.P.Application.names
+    g.P.Invariant.counts in
     let r = c.in-Ok.resumed in
     record {
       leaves = read_leaves (g.R.Read.remaining c.args.history.now) (IsAnswered c.args.question m c.args.opening)
@@ -26,7 +28,9 @@ returns-in-Ok g c =
 
 pub returns-in-Err-Text : goal.returns-in-Err-Text
 returns-in-Err-Text g c =
-    let m = meaning_of g.P.Application.app g.P.Application.text g.P.Application.from_text g.P.Application.names in
+    let m =
+    meaning_of g.P.Application.app g.P.Application.text g.P.Application.from_text g.P.Application.names
+    g.P.Invariant.counts in
     let fault = c.in-Err-Text.fault in
     let memory : fault ≢ NoMemory = search rules in
     let device : fault ≢ ReadFailed = search rules in
@@ -40,7 +44,9 @@ returns-in-Err-Text g c =
 
 pub returns-in-Err-OtherModulus : goal.returns-in-Err-OtherModulus
 returns-in-Err-OtherModulus g c =
-    let m = meaning_of g.P.Application.app g.P.Application.text g.P.Application.from_text g.P.Application.names in
+    let m =
+    meaning_of g.P.Application.app g.P.Application.text g.P.Application.from_text g.P.Application.names
+    g.P.Invariant.counts in
     let modulus = c.in-Err-OtherModulus.modulus in
     record {
       leaves = read_leaves (g.R.Read.remaining c.args.history.now) (IsAnswered c.args.question m c.args.opening)
@@ -52,7 +58,9 @@ returns-in-Err-OtherModulus g c =
 
 pub returns-in-Err-Refused : goal.returns-in-Err-Refused
 returns-in-Err-Refused g c =
-    let m = meaning_of g.P.Application.app g.P.Application.text g.P.Application.from_text g.P.Application.names in
+    let m =
+    meaning_of g.P.Application.app g.P.Application.text g.P.Application.from_text g.P.Application.names
+    g.P.Invariant.counts in
     let r = c.in-Err-Refused.refused in
     record {
       leaves = read_leaves (g.R.Read.remaining c.args.history.now) (IsAnswered c.args.question m c.args.opening)

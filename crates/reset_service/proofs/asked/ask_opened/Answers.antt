@@ -12,7 +12,9 @@ use Rattle.reset_service.proofs.asked.ask_opened.Goals as goal
 
 pub returns-in-Ok : goal.returns-in-Ok
 returns-in-Ok g c =
-    let m = meaning_of g.P.Application.app g.P.Application.text g.P.Application.from_text g.P.Application.names in
+    let m =
+    meaning_of g.P.Application.app g.P.Application.text g.P.Application.from_text g.P.Application.names
+    g.P.Invariant.counts in
     let here =
     IsOpenedFrom m c.args.network.topology c.args.network.modulus (option_map (λ s. s.now) c.args.snapshot) in
     record {
@@ -23,7 +25,9 @@ returns-in-Ok g c =
 
 pub returns-in-Err : goal.returns-in-Err
 returns-in-Err g c =
-    let m = meaning_of g.P.Application.app g.P.Application.text g.P.Application.from_text g.P.Application.names in
+    let m =
+    meaning_of g.P.Application.app g.P.Application.text g.P.Application.from_text g.P.Application.names
+    g.P.Invariant.counts in
     let here =
     IsOpenedFrom m c.args.network.topology c.args.network.modulus (option_map (λ s. s.now) c.args.snapshot) in
     record {

@@ -9,7 +9,9 @@ use Rattle.reset_service.proofs.driven.drive_started.Goals as goal
 
 pub returns-in-Ok-clause-ok : goal.returns-in-Ok-clause-ok
 returns-in-Ok-clause-ok g c =
-    let m = meaning_of g.P.Application.app g.P.Application.text g.P.Application.from_text g.P.Application.names in
+    let m =
+    meaning_of g.P.Application.app g.P.Application.text g.P.Application.from_text g.P.Application.names
+    g.P.Invariant.counts in
     let run = c.args.run in
     let follows = Drives run.steps run.seed run.faults _ m in
     ok_weaker c.drive_opened.result (λ told. follows c.in-Ok.opening (told_history told) (told_output told))

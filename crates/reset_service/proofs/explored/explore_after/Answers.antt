@@ -10,14 +10,18 @@ use Rattle.reset_service.proofs.explored.explore_after.Goals as goal
 
 pub returns-then-script-gt-MAX_TEXT-clause-leaves : goal.returns-then-script-gt-MAX_TEXT-clause-leaves
 returns-then-script-gt-MAX_TEXT-clause-leaves g c =
-    let m = meaning_of g.P.Application.app g.P.Application.text g.P.Application.from_text g.P.Application.names in
+    let m =
+    meaning_of g.P.Application.app g.P.Application.text g.P.Application.from_text g.P.Application.names
+    g.P.Invariant.counts in
     let long : 1048576 < length c.args.script.now = search rules in
     leaves_weaker (λ o. o ≡ (too_long_text, BadInput)) (IsExploration m c.args.run c.args.config.now c.args.script.now) _ _
     c.refuse_input.result (λ o is. too_long long is) c.refuse_input.ensures.leaves
 
 pub returns-in-Ok-None-clause-leaves : goal.returns-in-Ok-None-clause-leaves
 returns-in-Ok-None-clause-leaves g c =
-    let m = meaning_of g.P.Application.app g.P.Application.text g.P.Application.from_text g.P.Application.names in
+    let m =
+    meaning_of g.P.Application.app g.P.Application.text g.P.Application.from_text g.P.Application.names
+    g.P.Invariant.counts in
     let script = c.args.script.now in
     let short : length script ≤ 1048576 = search rules in
     let good : bad_line_of m.names script ≡ None = sym c.in-Ok-None.ensures.bad ∙ c.in-Ok-None.field-0-is in
@@ -28,7 +32,9 @@ returns-in-Ok-None-clause-leaves g c =
 
 pub returns-in-Ok-Some-clause-leaves : goal.returns-in-Ok-Some-clause-leaves
 returns-in-Ok-Some-clause-leaves g c =
-    let m = meaning_of g.P.Application.app g.P.Application.text g.P.Application.from_text g.P.Application.names in
+    let m =
+    meaning_of g.P.Application.app g.P.Application.text g.P.Application.from_text g.P.Application.names
+    g.P.Invariant.counts in
     let script = c.args.script.now in
     let short : length script ≤ 1048576 = search rules in
     let number = c.in-Ok-Some.number in

@@ -1,4 +1,4 @@
-use Rattle.std.proofs.Common.{◌≡◌, ◌≢◌}
+use Rattle.std.proofs.Common.{◌≡◌, ◌≢◌, refl}
 use Rattle.topology.specs.declared.text.ReadFault.TheVariants.{NoMemory}
 use Rattle.script_replay.specs.Output.{bad_topology_text}
 use Rattle.script_replay.specs.Output.IsJudged.{bad_topology, good_topology}
@@ -8,7 +8,7 @@ use Rattle.reset_service.specs.Explorations.{IsOpenedOf, IsOpenedText}
 use Rattle.reset_service.specs.Marked.{MarkedReplay}
 use Rattle.script_replay.proofs.Described.{all_up}
 use Rattle.script_replay.proofs.Reading.{nothing_given, some_read, text_given}
-use Rattle.script_replay.proofs.Runs.{leaves_unread, leaves_weaker}
+use Rattle.script_replay.proofs.Runs.{OnOk-always, leaves_unread, leaves_weaker}
 use Rattle.reset_service.proofs.marked.replay_marked.Goals as goal
 
 pub replay_app-requires : goal.replay_app-requires
@@ -20,23 +20,30 @@ returns-in-Err-clause-leaves g c =
     let read = some_read (g.R.Read.remaining c.args.script.now) in
     let snapshot = option_map (λ s. s.now) c.args.snapshot in (
       read.0,
+      c.args.tally.now,
       read.1,
+      OnOk-always _ refl,
       leaves_weaker (λ o. (c.in-Err.fault ≢ NoMemory) × (o ≡ (bad_topology_text c.in-Err.fault, BadInput)))
-          (IsOpenedText (MarkedReplay c.args.marks read.0) c.args.topology.now snapshot) _ _ c.refuse_topology.result
+          (IsOpenedText (MarkedReplay c.args.marks read.0 c.args.tally.now) c.args.topology.now snapshot) _ _
+          c.refuse_topology.result
           (λ o is. bad_topology c.in-Err.fault (c.in-Err.ensures.err is.0) is.1) c.refuse_topology.ensures.leaves,
     )
 
 pub returns-in-Ok-read_text-clause-leaves : goal.returns-in-Ok-read_text-clause-leaves
 returns-in-Ok-read_text-clause-leaves g c =
-    let snapshot = option_map (λ s. s.now) c.args.snapshot in (
+    let snapshot = option_map (λ s. s.now) c.args.snapshot in
+    let (answered, tally, left) = c.replay_app.ensures.leaves in (
       c.deref.result.now,
+      answered,
       rw c.deref.ensures.value c.in-Ok-read_text.ensures.ok,
+      tally,
       leaves_weaker
-          (IsOpenedOf (MarkedReplay c.args.marks c.deref.result.now) c.in-Ok.network.app c.in-Ok.network.topology
-          c.in-Ok.network.modulus snapshot)
-          (IsOpenedText (MarkedReplay c.args.marks c.deref.result.now) c.args.topology.now snapshot) _ _ c.replay_app.result
+          (IsOpenedOf (MarkedReplay c.args.marks c.deref.result.now answered) c.in-Ok.network.app
+          c.in-Ok.network.topology c.in-Ok.network.modulus snapshot)
+          (IsOpenedText (MarkedReplay c.args.marks c.deref.result.now answered) c.args.topology.now snapshot) _ _
+          c.replay_app.result
           (λ o is. good_topology c.in-Ok.network.topology c.in-Ok.network.app c.in-Ok.network.modulus c.in-Ok.ensures.ok
-          is) c.replay_app.ensures.leaves,
+          is) left,
     )
 
 pub returns-in-Err-read_text-clause-leaves : goal.returns-in-Err-read_text-clause-leaves
@@ -44,8 +51,10 @@ returns-in-Err-read_text-clause-leaves g c =
     let read = some_read (g.R.Read.remaining c.args.script.now) in
     let snapshot = option_map (λ s. s.now) c.args.snapshot in (
       read.0,
+      c.args.tally.now,
       read.1,
-      leaves_unread (IsOpenedText (MarkedReplay c.args.marks read.0) c.args.topology.now snapshot)
+      tt,
+      leaves_unread (IsOpenedText (MarkedReplay c.args.marks read.0 c.args.tally.now) c.args.topology.now snapshot)
           (g.W.Write.contents c.args.out.now) c.in-Err-read_text.stop c.in-Err-read_text.ensures.err,
     )
 

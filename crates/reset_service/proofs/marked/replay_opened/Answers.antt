@@ -1,8 +1,10 @@
-use Rattle.std.proofs.Common.{◌≡◌, ◌≢◌}
+use Rattle.std.proofs.Common.{◌≡◌, ◌≢◌, refl}
 use Rattle.std.specs.Prelude.{option_map}
+use Rattle.script_replay.specs.Marked.{marked_output}
 use Rattle.script_replay.specs.Meaning.{meaning_of}
+use Rattle.script_replay.specs.Tallies.{script_tally}
 use Rattle.script_replay.specs.declared.status.Status.TheVariants.{BadInput}
-use Rattle.script_replay.proofs.Runs.{leaves_weaker}
+use Rattle.script_replay.proofs.Runs.{OnOk-always, leaves_weaker}
 use Rattle.reset_service.specs.Started.{start_fault_text}
 use Rattle.reset_service.specs.Explorations.{IsOpenedFrom}
 use Rattle.reset_service.specs.Explorations.IsOpenedFrom.{bad_snapshot, opened}
@@ -12,17 +14,29 @@ use Rattle.reset_service.proofs.marked.replay_opened.Goals as goal
 
 pub returns-in-Ok-clause-leaves : goal.returns-in-Ok-clause-leaves
 returns-in-Ok-clause-leaves g c =
-    let m = meaning_of g.P.Application.app g.P.Application.text g.P.Application.from_text g.P.Application.names in
-    let follows = MarkedReplay c.args.marks c.args.script.now _ m in
-    leaves_weaker (follows c.in-Ok.config)
-    (IsOpenedFrom m c.args.network.topology c.args.network.modulus (option_map (λ s. s.now) c.args.snapshot) follows) _ _
-    c.run_marked.result (λ o is. opened c.in-Ok.config c.in-Ok.ensures.ok is) c.run_marked.ensures.leaves
+    let m =
+    meaning_of g.P.Application.app g.P.Application.text g.P.Application.from_text g.P.Application.names
+    g.P.Invariant.counts in
+    let answered = script_tally m c.args.marks c.in-Ok.config c.args.script.now in
+    let follows = MarkedReplay c.args.marks c.args.script.now answered _ m in (
+      answered,
+      c.run_marked.ensures.tally,
+      leaves_weaker (λ o. o ≡ marked_output m c.args.marks c.in-Ok.config c.args.script.now)
+          (IsOpenedFrom m c.args.network.topology c.args.network.modulus (option_map (λ s. s.now) c.args.snapshot) follows)
+          _ _ c.run_marked.result (λ o is. opened c.in-Ok.config c.in-Ok.ensures.ok (is, refl))
+          c.run_marked.ensures.leaves,
+    )
 
 pub returns-in-Err-clause-leaves : goal.returns-in-Err-clause-leaves
 returns-in-Err-clause-leaves g c =
-    let m = meaning_of g.P.Application.app g.P.Application.text g.P.Application.from_text g.P.Application.names in
-    let follows = MarkedReplay c.args.marks c.args.script.now _ m in
-    leaves_weaker (λ o. (c.in-Err.fault ≢ NoMemory) × (o ≡ (start_fault_text c.in-Err.fault, BadInput)))
-    (IsOpenedFrom m c.args.network.topology c.args.network.modulus (option_map (λ s. s.now) c.args.snapshot) follows) _ _
-    c.refuse_start.result
-    (λ o is. bad_snapshot c.in-Err.fault (c.in-Err.ensures.err is.0) is.1) c.refuse_start.ensures.leaves
+    let m =
+    meaning_of g.P.Application.app g.P.Application.text g.P.Application.from_text g.P.Application.names
+    g.P.Invariant.counts in
+    let follows = MarkedReplay c.args.marks c.args.script.now c.args.tally.now _ m in (
+      c.args.tally.now,
+      OnOk-always _ refl,
+      leaves_weaker (λ o. (c.in-Err.fault ≢ NoMemory) × (o ≡ (start_fault_text c.in-Err.fault, BadInput)))
+          (IsOpenedFrom m c.args.network.topology c.args.network.modulus (option_map (λ s. s.now) c.args.snapshot) follows)
+          _ _ c.refuse_start.result
+          (λ o is. bad_snapshot c.in-Err.fault (c.in-Err.ensures.err is.0) is.1) c.refuse_start.ensures.leaves,
+    )

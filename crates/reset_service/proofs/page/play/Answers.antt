@@ -9,7 +9,9 @@ use Rattle.reset_service.proofs.page.play.Goals as goal
 
 pub returns-else-entries-gt-MAX_PLAYED-clause-leaves : goal.returns-else-entries-gt-MAX_PLAYED-clause-leaves
 returns-else-entries-gt-MAX_PLAYED-clause-leaves g c =
-    let m = meaning_of g.P.Application.app g.P.Application.text g.P.Application.from_text g.P.Application.names in
+    let m =
+    meaning_of g.P.Application.app g.P.Application.text g.P.Application.from_text g.P.Application.names
+    g.P.Invariant.counts in
     let title = c.args.title.now in
     let name = c.args.app.now in
     let opening = c.args.opening.now in

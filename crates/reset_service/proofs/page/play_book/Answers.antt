@@ -12,7 +12,9 @@ use Rattle.reset_service.proofs.page.play_book.Goals as goal
 
 pub returns-then-book-get-clause-leaves : goal.returns-then-book-get-clause-leaves
 returns-then-book-get-clause-leaves g c =
-    let m = meaning_of g.P.Application.app g.P.Application.text g.P.Application.from_text g.P.Application.names in
+    let m =
+    meaning_of g.P.Application.app g.P.Application.text g.P.Application.from_text g.P.Application.names
+    g.P.Invariant.counts in
     let opening = c.args.opening.now in
     let modulus = c.args.book.now.modulus in
     let es = c.args.book.now.entries.items in
@@ -24,7 +26,9 @@ returns-then-book-get-clause-leaves g c =
 
 pub returns-clause-leaves : goal.returns-clause-leaves
 returns-clause-leaves g c =
-    let m = meaning_of g.P.Application.app g.P.Application.text g.P.Application.from_text g.P.Application.names in
+    let m =
+    meaning_of g.P.Application.app g.P.Application.text g.P.Application.from_text g.P.Application.names
+    g.P.Invariant.counts in
     let opening = c.args.opening.now in
     let modulus = c.args.book.now.modulus in
     let es = c.args.book.now.entries.items in

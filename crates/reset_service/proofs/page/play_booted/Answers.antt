@@ -7,7 +7,9 @@ use Rattle.reset_service.proofs.page.play_booted.Goals as goal
 
 pub returns-in-Ok : goal.returns-in-Ok
 returns-in-Ok g c =
-    let m = meaning_of g.P.Application.app g.P.Application.text g.P.Application.from_text g.P.Application.names in
+    let m =
+    meaning_of g.P.Application.app g.P.Application.text g.P.Application.from_text g.P.Application.names
+    g.P.Invariant.counts in
     record {
       leaves = read_weaker (g.R.Read.remaining c.args.history.now)
           (IsPageFrom page_frame c.args.title.now c.args.app.now m c.args.network.topology c.args.network.modulus)
@@ -18,7 +20,9 @@ returns-in-Ok g c =
 
 pub returns : goal.returns
 returns g c =
-    let m = meaning_of g.P.Application.app g.P.Application.text g.P.Application.from_text g.P.Application.names in
+    let m =
+    meaning_of g.P.Application.app g.P.Application.text g.P.Application.from_text g.P.Application.names
+    g.P.Invariant.counts in
     record {
       leaves = read_unread (g.R.Read.remaining c.args.history.now)
           (IsPageFrom page_frame c.args.title.now c.args.app.now m c.args.network.topology c.args.network.modulus)

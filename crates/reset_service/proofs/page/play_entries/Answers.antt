@@ -11,7 +11,9 @@ use Rattle.reset_service.proofs.page.play_entries.Goals as goal
 
 pub returns-in-Err-NotEnabledAt-clause-leaves : goal.returns-in-Err-NotEnabledAt-clause-leaves
 returns-in-Err-NotEnabledAt-clause-leaves g c =
-    let m = meaning_of g.P.Application.app g.P.Application.text g.P.Application.from_text g.P.Application.names in
+    let m =
+    meaning_of g.P.Application.app g.P.Application.text g.P.Application.from_text g.P.Application.names
+    g.P.Invariant.counts in
     let position = c.in-Err-NotEnabledAt.position in
     let es = c.args.entries.now in
     let first = c.in-Err-NotEnabledAt.ensures.err position c.in-Err-NotEnabledAt.field-0-is in

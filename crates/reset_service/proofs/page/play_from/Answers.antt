@@ -13,7 +13,9 @@ use Rattle.reset_service.proofs.page.play_from.Goals as goal
 
 pub returns-in-Ok : goal.returns-in-Ok
 returns-in-Ok g c =
-    let m = meaning_of g.P.Application.app g.P.Application.text g.P.Application.from_text g.P.Application.names in
+    let m =
+    meaning_of g.P.Application.app g.P.Application.text g.P.Application.from_text g.P.Application.names
+    g.P.Invariant.counts in
     let opening = c.args.opening.now in
     let modulus = c.in-Ok.book.modulus in
     let es = c.in-Ok.book.entries.items in
@@ -28,7 +30,9 @@ returns-in-Ok g c =
 
 pub returns-in-Err : goal.returns-in-Err
 returns-in-Err g c =
-    let m = meaning_of g.P.Application.app g.P.Application.text g.P.Application.from_text g.P.Application.names in
+    let m =
+    meaning_of g.P.Application.app g.P.Application.text g.P.Application.from_text g.P.Application.names
+    g.P.Invariant.counts in
     let opening = c.args.opening.now in
     let fault = c.in-Err.fault in
     let memory : fault ≢ NoMemory = search rules in
@@ -43,7 +47,9 @@ returns-in-Err g c =
 
 pub returns-in-Err-NoMemory : goal.returns-in-Err-NoMemory
 returns-in-Err-NoMemory g c =
-    let m = meaning_of g.P.Application.app g.P.Application.text g.P.Application.from_text g.P.Application.names in
+    let m =
+    meaning_of g.P.Application.app g.P.Application.text g.P.Application.from_text g.P.Application.names
+    g.P.Invariant.counts in
     record {
       leaves = read_unread (g.R.Read.remaining c.args.history.now)
           (IsPage page_frame c.args.title.now c.args.app.now m c.args.opening.now)
@@ -52,7 +58,9 @@ returns-in-Err-NoMemory g c =
 
 pub returns-in-Err-ReadFailed : goal.returns-in-Err-ReadFailed
 returns-in-Err-ReadFailed g c =
-    let m = meaning_of g.P.Application.app g.P.Application.text g.P.Application.from_text g.P.Application.names in
+    let m =
+    meaning_of g.P.Application.app g.P.Application.text g.P.Application.from_text g.P.Application.names
+    g.P.Invariant.counts in
     record {
       leaves = read_unread (g.R.Read.remaining c.args.history.now)
           (IsPage page_frame c.args.title.now c.args.app.now m c.args.opening.now)

@@ -9,7 +9,9 @@ use Rattle.reset_service.proofs.pictured.draw_started.Goals as goal
 
 pub returns-in-Ok : goal.returns-in-Ok
 returns-in-Ok g c =
-    let m = meaning_of g.P.Application.app g.P.Application.text g.P.Application.from_text g.P.Application.names in
+    let m =
+    meaning_of g.P.Application.app g.P.Application.text g.P.Application.from_text g.P.Application.names
+    g.P.Invariant.counts in
     let here = IsStartedFrom m c.args.network.topology c.args.network.modulus c.args.snapshot.now in
     record {
       leaves = read_weaker (g.R.Read.remaining c.args.history.now) (λ text. here (Draws text _ m))
@@ -19,7 +21,9 @@ returns-in-Ok g c =
 
 pub returns-in-Err : goal.returns-in-Err
 returns-in-Err g c =
-    let m = meaning_of g.P.Application.app g.P.Application.text g.P.Application.from_text g.P.Application.names in
+    let m =
+    meaning_of g.P.Application.app g.P.Application.text g.P.Application.from_text g.P.Application.names
+    g.P.Invariant.counts in
     let here = IsStartedFrom m c.args.network.topology c.args.network.modulus c.args.snapshot.now in
     record {
       leaves = read_anyway (g.R.Read.remaining c.args.history.now) (λ text. here (Draws text _ m))

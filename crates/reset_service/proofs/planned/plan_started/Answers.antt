@@ -9,7 +9,9 @@ use Rattle.reset_service.proofs.planned.plan_started.Goals as goal
 
 pub returns-in-Ok-clause-leaves : goal.returns-in-Ok-clause-leaves
 returns-in-Ok-clause-leaves g c =
-    let m = meaning_of g.P.Application.app g.P.Application.text g.P.Application.from_text g.P.Application.names in
+    let m =
+    meaning_of g.P.Application.app g.P.Application.text g.P.Application.from_text g.P.Application.names
+    g.P.Invariant.counts in
     let follows = Plans c.args.script.now _ m in
     leaves_weaker (follows c.in-Ok.config)
     (IsStartedFrom m c.args.network.topology c.args.network.modulus c.args.snapshot.now follows) _ _ c.plan_after.result
@@ -17,7 +19,9 @@ returns-in-Ok-clause-leaves g c =
 
 pub returns-in-Err-clause-leaves : goal.returns-in-Err-clause-leaves
 returns-in-Err-clause-leaves g c =
-    let m = meaning_of g.P.Application.app g.P.Application.text g.P.Application.from_text g.P.Application.names in
+    let m =
+    meaning_of g.P.Application.app g.P.Application.text g.P.Application.from_text g.P.Application.names
+    g.P.Invariant.counts in
     let follows = Plans c.args.script.now _ m in
     leaves_weaker (λ o. (c.in-Err.fault ≢ NoMemory) × (o ≡ (start_fault_text c.in-Err.fault, BadInput)))
     (IsStartedFrom m c.args.network.topology c.args.network.modulus c.args.snapshot.now follows) _ _

@@ -7,7 +7,9 @@ use Rattle.reset_service.proofs.reasons.put_nodes.Goals as goal
 
 pub returns-in_err-put_node-clause-err : goal.returns-in_err-put_node-clause-err
 returns-in_err-put_node-clause-err g c =
-    let m = meaning_of g.P.Application.app g.P.Application.text g.P.Application.from_text g.P.Application.names in
+    let m =
+    meaning_of g.P.Application.app g.P.Application.text g.P.Application.from_text g.P.Application.names
+    g.P.Invariant.counts in
     OnErr-always _ _
     (AppendsPrefix-piece _ _ _ (line_there m c.args.config.now) c.args.ids.now c.loop-id.id-index _ (omega arith)
     c.loop-id.invariant c.in_err-put_node.ensures.err)

@@ -8,6 +8,8 @@ use Rattle.reset_service.proofs.reasons.put_nodes.Given as goal
 
 abbrev pub invariant-loop-id : goal.invariant-loop-id
 invariant-loop-id g l =
-    let m = meaning_of g.P.Application.app g.P.Application.text g.P.Application.from_text g.P.Application.names in
+    let m =
+    meaning_of g.P.Application.app g.P.Application.text g.P.Application.from_text g.P.Application.names
+    g.P.Invariant.counts in
     Appends (g.W.Write.contents l.initial.out) (g.W.Write.contents l.out)
     (flat_map (line_there m l.config) (take l.id-index l.ids))

@@ -11,7 +11,9 @@ use Rattle.reset_service.proofs.reasons.put_reason.Goals as goal
 
 pub returns-in_err-ids-clause-err : goal.returns-in_err-ids-clause-err
 returns-in_err-ids-clause-err g c =
-    let m = meaning_of g.P.Application.app g.P.Application.text g.P.Application.from_text g.P.Application.names in
+    let m =
+    meaning_of g.P.Application.app g.P.Application.text g.P.Application.from_text g.P.Application.names
+    g.P.Invariant.counts in
     let a = g.W.Write.contents c.args.out.now in
     let all = reason_text m c.args.config.now c.args.entry in
     let nothing : AppendsPrefix a a all = record { prefix = []; rest = all; cut = refl; appended = Appends-nil a } in
@@ -19,7 +21,9 @@ returns-in_err-ids-clause-err g c =
 
 pub returns-in_err-put_entry_text-clause-err : goal.returns-in_err-put_entry_text-clause-err
 returns-in_err-put_entry_text-clause-err g c =
-    let m = meaning_of g.P.Application.app g.P.Application.text g.P.Application.from_text g.P.Application.names in
+    let m =
+    meaning_of g.P.Application.app g.P.Application.text g.P.Application.from_text g.P.Application.names
+    g.P.Invariant.counts in
     let here = c.args.config.now in
     OnErr-always _ _
     (AppendsPrefix-first _ _ (entry_text c.args.entry) (refusal_lines m here c.args.entry ++ near_text m here c.args.entry)
@@ -27,7 +31,9 @@ returns-in_err-put_entry_text-clause-err g c =
 
 pub returns-in_err-put_refusal_lines-clause-err : goal.returns-in_err-put_refusal_lines-clause-err
 returns-in_err-put_refusal_lines-clause-err g c =
-    let m = meaning_of g.P.Application.app g.P.Application.text g.P.Application.from_text g.P.Application.names in
+    let m =
+    meaning_of g.P.Application.app g.P.Application.text g.P.Application.from_text g.P.Application.names
+    g.P.Invariant.counts in
     let here = c.args.config.now in
     let refusal = refusal_lines m here c.args.entry in
     let near = near_text m here c.args.entry in
@@ -37,7 +43,9 @@ returns-in_err-put_refusal_lines-clause-err g c =
 
 pub returns-in_err-put_nodes-clause-err : goal.returns-in_err-put_nodes-clause-err
 returns-in_err-put_nodes-clause-err g c =
-    let m = meaning_of g.P.Application.app g.P.Application.text g.P.Application.from_text g.P.Application.names in
+    let m =
+    meaning_of g.P.Application.app g.P.Application.text g.P.Application.from_text g.P.Application.names
+    g.P.Invariant.counts in
     let here = c.args.config.now in
     let refusal = refusal_lines m here c.args.entry in
     let near = near_text m here c.args.entry in
@@ -52,7 +60,9 @@ returns-in_err-put_nodes-clause-err g c =
 
 pub returns-clause-ok : goal.returns-clause-ok
 returns-clause-ok g c =
-    let m = meaning_of g.P.Application.app g.P.Application.text g.P.Application.from_text g.P.Application.names in
+    let m =
+    meaning_of g.P.Application.app g.P.Application.text g.P.Application.from_text g.P.Application.names
+    g.P.Invariant.counts in
     let here = c.args.config.now in
     let refusal = refusal_lines m here c.args.entry in
     let near = near_text m here c.args.entry in

@@ -10,7 +10,9 @@ use Rattle.reset_service.proofs.recorded.record_started.Goals as goal
 
 pub returns-in-Ok : goal.returns-in-Ok
 returns-in-Ok g c =
-    let m = meaning_of g.P.Application.app g.P.Application.text g.P.Application.from_text g.P.Application.names in
+    let m =
+    meaning_of g.P.Application.app g.P.Application.text g.P.Application.from_text g.P.Application.names
+    g.P.Invariant.counts in
     let follows = Records c.args.script.now _ m in
     record_weaker (follows c.in-Ok.config)
     (IsBegunFrom m c.args.network.topology c.args.network.modulus c.args.snapshot.now follows) _ _ _ _
@@ -19,7 +21,9 @@ returns-in-Ok g c =
 
 pub returns-in-Err : goal.returns-in-Err
 returns-in-Err g c =
-    let m = meaning_of g.P.Application.app g.P.Application.text g.P.Application.from_text g.P.Application.names in
+    let m =
+    meaning_of g.P.Application.app g.P.Application.text g.P.Application.from_text g.P.Application.names
+    g.P.Invariant.counts in
     let follows = Records c.args.script.now _ m in
     record_alone (IsBegunFrom m c.args.network.topology c.args.network.modulus c.args.snapshot.now follows)
     (λ o. (c.in-Err.fault ≢ NoMemory) × (o ≡ (start_fault_text c.in-Err.fault, BadInput)))

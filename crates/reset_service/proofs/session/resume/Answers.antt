@@ -9,7 +9,9 @@ returns-in-Ok g c = gone_on c.in-Ok.left refl c.in-Ok.ensures.done
 
 pub returns-in-Err-Past : goal.returns-in-Err-Past
 returns-in-Err-Past g c =
-    let m = meaning_of g.P.Application.app g.P.Application.text g.P.Application.from_text g.P.Application.names in
+    let m =
+    meaning_of g.P.Application.app g.P.Application.text g.P.Application.from_text g.P.Application.names
+    g.P.Invariant.counts in
     without_past m c.args.opening (g.R.Read.remaining c.args.input.now) (g.H.Write.contents c.args.log.now)
     (g.H.Write.contents c.resume_history.new.log) (g.W.Write.contents c.args.out.now)
     (g.W.Write.contents c.refuse_past.new.out) (g.F.Read.remaining c.args.past.now)

@@ -11,7 +11,9 @@ returns-in-Ok g c =
 
 pub returns-in-Err : goal.returns-in-Err
 returns-in-Err g c =
-    let m = meaning_of g.P.Application.app g.P.Application.text g.P.Application.from_text g.P.Application.names in
+    let m =
+    meaning_of g.P.Application.app g.P.Application.text g.P.Application.from_text g.P.Application.names
+    g.P.Invariant.counts in
     unstarted m c.args.network.topology c.args.network.modulus (HoldsFrom g.F.Read.remaining c.args.past m)
     (g.R.Read.remaining c.args.input.now) (g.H.Write.contents c.args.log.now) (g.W.Write.contents c.args.out.now)
     (g.W.Write.contents c.refuse_start.new.out) c.refuse_start.result c.args.snapshot.now c.in-Err.fault

@@ -14,7 +14,9 @@ use Rattle.reset_service.proofs.shown.show_after.Goals as goal
 
 pub returns-then-script-gt-MAX_TEXT : goal.returns-then-script-gt-MAX_TEXT
 returns-then-script-gt-MAX_TEXT g c =
-    let m = meaning_of g.P.Application.app g.P.Application.text g.P.Application.from_text g.P.Application.names in
+    let m =
+    meaning_of g.P.Application.app g.P.Application.text g.P.Application.from_text g.P.Application.names
+    g.P.Invariant.counts in
     let script = c.args.script.now in
     let long : 1048576 < length script = search rules in
     record_alone (λ h o. IsShown m c.args.run c.args.opening.now script h o × (o.1 ≡ BadInput → h ≡ []))
@@ -24,7 +26,9 @@ returns-then-script-gt-MAX_TEXT g c =
 
 pub returns-in-Ok-None : goal.returns-in-Ok-None
 returns-in-Ok-None g c =
-    let m = meaning_of g.P.Application.app g.P.Application.text g.P.Application.from_text g.P.Application.names in
+    let m =
+    meaning_of g.P.Application.app g.P.Application.text g.P.Application.from_text g.P.Application.names
+    g.P.Invariant.counts in
     let script = c.args.script.now in
     let opening = c.args.opening.now in
     let short : length script ≤ 1048576 = search rules in
@@ -40,7 +44,9 @@ returns-in-Ok-None g c =
 
 pub returns-in-Ok-Some : goal.returns-in-Ok-Some
 returns-in-Ok-Some g c =
-    let m = meaning_of g.P.Application.app g.P.Application.text g.P.Application.from_text g.P.Application.names in
+    let m =
+    meaning_of g.P.Application.app g.P.Application.text g.P.Application.from_text g.P.Application.names
+    g.P.Invariant.counts in
     let script = c.args.script.now in
     let short : length script ≤ 1048576 = search rules in
     let number = c.in-Ok-Some.number in

@@ -23,7 +23,9 @@ good_input whole Endless is = absurd (cc)
 
 pub returns-in-Err-TooMany : goal.returns-in-Err-TooMany
 returns-in-Err-TooMany g c =
-    let m = meaning_of g.P.Application.app g.P.Application.text g.P.Application.from_text g.P.Application.names in
+    let m =
+    meaning_of g.P.Application.app g.P.Application.text g.P.Application.from_text g.P.Application.names
+    g.P.Invariant.counts in
     let entries = entries_of_lines m c.args.opening.now 1 (lines_of c.args.script.now) in
     record_alone
     (λ h o. IsFoundBy m c.args.run c.args.opening.now.modulus entries c.args.left.now h o × (o.1 ≡ BadInput → h ≡ []))
@@ -34,7 +36,9 @@ returns-in-Err-TooMany g c =
 
 pub returns-in-Ok-None : goal.returns-in-Ok-None
 returns-in-Ok-None g c =
-    let m = meaning_of g.P.Application.app g.P.Application.text g.P.Application.from_text g.P.Application.names in
+    let m =
+    meaning_of g.P.Application.app g.P.Application.text g.P.Application.from_text g.P.Application.names
+    g.P.Invariant.counts in
     let modulus = c.args.opening.now.modulus in
     let entries = entries_of_lines m c.args.opening.now 1 (lines_of c.args.script.now) in
     let found = c.in-Ok.answer.0 in
@@ -51,7 +55,9 @@ returns-in-Ok-None g c =
 
 pub returns-in-Ok-Some : goal.returns-in-Ok-Some
 returns-in-Ok-Some g c =
-    let m = meaning_of g.P.Application.app g.P.Application.text g.P.Application.from_text g.P.Application.names in
+    let m =
+    meaning_of g.P.Application.app g.P.Application.text g.P.Application.from_text g.P.Application.names
+    g.P.Invariant.counts in
     let modulus = c.args.opening.now.modulus in
     let entries = entries_of_lines m c.args.opening.now 1 (lines_of c.args.script.now) in
     let found = c.in-Ok.answer.0 in

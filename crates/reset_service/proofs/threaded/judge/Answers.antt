@@ -7,7 +7,9 @@ use Rattle.reset_service.proofs.threaded.judge.Goals as goal
 
 pub returns-in-Ok-clause-ok : goal.returns-in-Ok-clause-ok
 returns-in-Ok-clause-ok g c =
-    let m = meaning_of g.P.Application.app g.P.Application.text g.P.Application.from_text g.P.Application.names in
+    let m =
+    meaning_of g.P.Application.app g.P.Application.text g.P.Application.from_text g.P.Application.names
+    g.P.Invariant.counts in
     let history = c.in_ok-history.history.items in
     let (text, whole, verdict) = c.in-Ok.ensures.told in
     kept_by m c.args.opening c.one_reading_a_text.ensures history c.args.book.now.config.modulus

@@ -12,7 +12,9 @@ use Rattle.reset_service.proofs.threaded.run_from.Goals as goal
 
 pub returns-in-Ok-clause-ok : goal.returns-in-Ok-clause-ok
 returns-in-Ok-clause-ok g c =
-    let m = meaning_of g.P.Application.app g.P.Application.text g.P.Application.from_text g.P.Application.names in
+    let m =
+    meaning_of g.P.Application.app g.P.Application.text g.P.Application.from_text g.P.Application.names
+    g.P.Invariant.counts in
     let run = c.args.run in
     let opening = c.args.opening in
     let o = c.in-Ok.outcome in
@@ -32,7 +34,9 @@ returns-in-Ok-clause-ok g c =
 
 pub returns-in-Err-clause-ok : goal.returns-in-Err-clause-ok
 returns-in-Err-clause-ok g c =
-    let m = meaning_of g.P.Application.app g.P.Application.text g.P.Application.from_text g.P.Application.names in
+    let m =
+    meaning_of g.P.Application.app g.P.Application.text g.P.Application.from_text g.P.Application.names
+    g.P.Invariant.counts in
     let graph = ap (λ b. b.config.graph) c.open_book-book.ensures ∙ ap (λ x. x.graph) c.in_ok-copy.ensures in
     stopped_told m c.args.run c.args.opening _ _ graph c.task_of-task.ensures c.stopped_by.result c.in-Err.fault.cause
     c.in-Err.ensures.err.strange c.in-Err.ensures.err.there c.in-Err.ensures.err.many c.stopped_by.ensures.told

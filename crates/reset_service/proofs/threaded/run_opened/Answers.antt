@@ -11,7 +11,9 @@ use Rattle.reset_service.proofs.threaded.run_opened.Goals as goal
 
 pub returns-in-Ok-clause-ok : goal.returns-in-Ok-clause-ok
 returns-in-Ok-clause-ok g c =
-    let m = meaning_of g.P.Application.app g.P.Application.text g.P.Application.from_text g.P.Application.names in
+    let m =
+    meaning_of g.P.Application.app g.P.Application.text g.P.Application.from_text g.P.Application.names
+    g.P.Invariant.counts in
     let snapshot = option_map (λ s. s.now) c.args.snapshot in
     ok_weaker c.run_from.result (λ told. IsSelected m c.args.run c.in-Ok.opening (told_history told) (told_output told))
     (λ told. IsOpenedFrom m c.args.network.topology c.args.network.modulus snapshot

@@ -12,7 +12,9 @@ use Rattle.reset_service.proofs.verified.verify_opened.Goals as goal
 
 pub returns-in-Ok : goal.returns-in-Ok
 returns-in-Ok g c =
-    let m = meaning_of g.P.Application.app g.P.Application.text g.P.Application.from_text g.P.Application.names in
+    let m =
+    meaning_of g.P.Application.app g.P.Application.text g.P.Application.from_text g.P.Application.names
+    g.P.Invariant.counts in
     let s = c.in-Ok.summary in
     record {
       leaves = read_leaves (g.R.Read.remaining c.args.history.now) (IsVerified m c.args.opening)
@@ -24,7 +26,9 @@ returns-in-Ok g c =
 
 pub returns-in-Err-Text : goal.returns-in-Err-Text
 returns-in-Err-Text g c =
-    let m = meaning_of g.P.Application.app g.P.Application.text g.P.Application.from_text g.P.Application.names in
+    let m =
+    meaning_of g.P.Application.app g.P.Application.text g.P.Application.from_text g.P.Application.names
+    g.P.Invariant.counts in
     let fault = c.in-Err-Text.fault in
     let memory : fault ≢ NoMemory = search rules in
     let device : fault ≢ ReadFailed = search rules in
@@ -38,7 +42,9 @@ returns-in-Err-Text g c =
 
 pub returns-in-Err-OtherModulus : goal.returns-in-Err-OtherModulus
 returns-in-Err-OtherModulus g c =
-    let m = meaning_of g.P.Application.app g.P.Application.text g.P.Application.from_text g.P.Application.names in
+    let m =
+    meaning_of g.P.Application.app g.P.Application.text g.P.Application.from_text g.P.Application.names
+    g.P.Invariant.counts in
     let modulus = c.in-Err-OtherModulus.modulus in
     record {
       leaves = read_leaves (g.R.Read.remaining c.args.history.now) (IsVerified m c.args.opening)
@@ -51,7 +57,9 @@ returns-in-Err-OtherModulus g c =
 
 pub returns-in-Err-Entries-NotEnabledAt : goal.returns-in-Err-Entries-NotEnabledAt
 returns-in-Err-Entries-NotEnabledAt g c =
-    let m = meaning_of g.P.Application.app g.P.Application.text g.P.Application.from_text g.P.Application.names in
+    let m =
+    meaning_of g.P.Application.app g.P.Application.text g.P.Application.from_text g.P.Application.names
+    g.P.Invariant.counts in
     let position = c.in-Err-Entries-NotEnabledAt.position in
     record {
       leaves = read_leaves (g.R.Read.remaining c.args.history.now) (IsVerified m c.args.opening)

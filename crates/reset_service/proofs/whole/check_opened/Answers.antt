@@ -1,32 +1,32 @@
 use Rattle.std.proofs.Common.{◌≡◌, ◌≢◌}
 use Rattle.std.specs.Prelude.{option_map}
-use Rattle.app_invariants.specs.Verdicts.{Count}
 use Rattle.script_replay.specs.Meaning.{meaning_of}
 use Rattle.script_replay.specs.declared.status.Status.TheVariants.{BadInput}
 use Rattle.script_replay.proofs.Runs.{leaves_weaker}
 use Rattle.reset_service.specs.Started.{start_fault_text}
+use Rattle.reset_service.specs.Explorations.{IsOpenedFrom}
 use Rattle.reset_service.specs.Explorations.IsOpenedFrom.{bad_snapshot, opened}
-use Rattle.reset_service.specs.Whole.{IsWholeFrom, whole_output}
+use Rattle.reset_service.specs.Whole.{WholeCheck}
 use Rattle.reset_service.specs.declared.started.StartFault.TheVariants.{NoMemory}
 use Rattle.reset_service.proofs.whole.check_opened.Goals as goal
 
 pub returns-in-Ok-clause-leaves : goal.returns-in-Ok-clause-leaves
 returns-in-Ok-clause-leaves g c =
-    let m = meaning_of g.P.Application.app g.P.Application.text g.P.Application.from_text g.P.Application.names in
-    let count : Count _ =
-    record { words = g.P.Invariant.counted; right = g.P.Invariant.right; number = g.P.Invariant.number } in
-    leaves_weaker (λ o. o ≡ whole_output count m c.args.repairs c.in-Ok.config c.args.script.now)
-    (IsWholeFrom count m c.args.repairs c.args.script.now c.args.network.topology c.args.network.modulus
-    (option_map (λ s. s.now) c.args.snapshot)) _ _
+    let m =
+    meaning_of g.P.Application.app g.P.Application.text g.P.Application.from_text g.P.Application.names
+    g.P.Invariant.counts in
+    let follows = WholeCheck c.args.repairs c.args.script.now _ m in
+    leaves_weaker (follows c.in-Ok.config)
+    (IsOpenedFrom m c.args.network.topology c.args.network.modulus (option_map (λ s. s.now) c.args.snapshot) follows) _ _
     c.check_after.result (λ o is. opened c.in-Ok.config c.in-Ok.ensures.ok is) c.check_after.ensures.leaves
 
 pub returns-in-Err-clause-leaves : goal.returns-in-Err-clause-leaves
 returns-in-Err-clause-leaves g c =
-    let m = meaning_of g.P.Application.app g.P.Application.text g.P.Application.from_text g.P.Application.names in
-    let count : Count _ =
-    record { words = g.P.Invariant.counted; right = g.P.Invariant.right; number = g.P.Invariant.number } in
+    let m =
+    meaning_of g.P.Application.app g.P.Application.text g.P.Application.from_text g.P.Application.names
+    g.P.Invariant.counts in
+    let follows = WholeCheck c.args.repairs c.args.script.now _ m in
     leaves_weaker (λ o. (c.in-Err.fault ≢ NoMemory) × (o ≡ (start_fault_text c.in-Err.fault, BadInput)))
-    (IsWholeFrom count m c.args.repairs c.args.script.now c.args.network.topology c.args.network.modulus
-    (option_map (λ s. s.now) c.args.snapshot)) _ _
+    (IsOpenedFrom m c.args.network.topology c.args.network.modulus (option_map (λ s. s.now) c.args.snapshot) follows) _ _
     c.refuse_start.result
     (λ o is. bad_snapshot c.in-Err.fault (c.in-Err.ensures.err is.0) is.1) c.refuse_start.ensures.leaves

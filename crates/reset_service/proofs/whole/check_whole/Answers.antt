@@ -4,7 +4,8 @@ use Rattle.script_replay.specs.Output.{bad_topology_text}
 use Rattle.script_replay.specs.Output.IsJudged.{bad_topology, good_topology}
 use Rattle.script_replay.specs.declared.status.Status.TheVariants.{BadInput}
 use Rattle.std.specs.Prelude.{option_map}
-use Rattle.reset_service.specs.Whole.{IsWholeOf, IsWholeText}
+use Rattle.reset_service.specs.Explorations.{IsOpenedOf, IsOpenedText}
+use Rattle.reset_service.specs.Whole.{WholeCheck}
 use Rattle.script_replay.proofs.Described.{all_up}
 use Rattle.script_replay.proofs.Reading.{nothing_given, some_read, text_given}
 use Rattle.script_replay.proofs.Runs.{leaves_unread, leaves_weaker}
@@ -21,7 +22,7 @@ returns-in-Err-clause-leaves g c =
       read.0,
       read.1,
       leaves_weaker (λ o. (c.in-Err.fault ≢ NoMemory) × (o ≡ (bad_topology_text c.in-Err.fault, BadInput)))
-          (IsWholeText c.args.repairs read.0 c.args.topology.now snapshot) _ _ c.refuse_topology.result
+          (IsOpenedText (WholeCheck c.args.repairs read.0) c.args.topology.now snapshot) _ _ c.refuse_topology.result
           (λ o is. bad_topology c.in-Err.fault (c.in-Err.ensures.err is.0) is.1) c.refuse_topology.ensures.leaves,
     )
 
@@ -31,9 +32,9 @@ returns-in-Ok-read_text-clause-leaves g c =
       c.deref.result.now,
       rw c.deref.ensures.value c.in-Ok-read_text.ensures.ok,
       leaves_weaker
-          (IsWholeOf c.args.repairs c.deref.result.now c.in-Ok.network.app c.in-Ok.network.topology
+          (IsOpenedOf (WholeCheck c.args.repairs c.deref.result.now) c.in-Ok.network.app c.in-Ok.network.topology
           c.in-Ok.network.modulus snapshot)
-          (IsWholeText c.args.repairs c.deref.result.now c.args.topology.now snapshot) _ _ c.check_app.result
+          (IsOpenedText (WholeCheck c.args.repairs c.deref.result.now) c.args.topology.now snapshot) _ _ c.check_app.result
           (λ o is. good_topology c.in-Ok.network.topology c.in-Ok.network.app c.in-Ok.network.modulus c.in-Ok.ensures.ok
           is) c.check_app.ensures.leaves,
     )
@@ -44,7 +45,7 @@ returns-in-Err-read_text-clause-leaves g c =
     let snapshot = option_map (λ s. s.now) c.args.snapshot in (
       read.0,
       read.1,
-      leaves_unread (IsWholeText c.args.repairs read.0 c.args.topology.now snapshot)
+      leaves_unread (IsOpenedText (WholeCheck c.args.repairs read.0) c.args.topology.now snapshot)
           (g.W.Write.contents c.args.out.now) c.in-Err-read_text.stop c.in-Err-read_text.ensures.err,
     )
 

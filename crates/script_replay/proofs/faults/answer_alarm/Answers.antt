@@ -8,7 +8,9 @@ use Rattle.script_replay.proofs.faults.answer_alarm.Goals as goal
 
 pub returns-then-is_node-clause-ok : goal.returns-then-is_node-clause-ok
 returns-then-is_node-clause-ok g c =
-    let m = meaning_of g.P.Application.app g.P.Application.text g.P.Application.from_text g.P.Application.names in
+    let m =
+    meaning_of g.P.Application.app g.P.Application.text g.P.Application.from_text g.P.Application.names
+    g.P.Invariant.counts in
     let text =
     alarm_node m c.args.config.now c.args.at c.alarm.result (sym c.is_node.ensures ∙ c.if-is_node.true)
     c.alarm.ensures.found c.alarm.ensures.none in
@@ -19,7 +21,9 @@ returns-then-is_node-clause-ok g c =
 
 pub returns-then-is_node-clause-err : goal.returns-then-is_node-clause-err
 returns-then-is_node-clause-err g c =
-    let m = meaning_of g.P.Application.app g.P.Application.text g.P.Application.from_text g.P.Application.names in
+    let m =
+    meaning_of g.P.Application.app g.P.Application.text g.P.Application.from_text g.P.Application.names
+    g.P.Invariant.counts in
     let text =
     alarm_node m c.args.config.now c.args.at c.alarm.result (sym c.is_node.ensures ∙ c.if-is_node.true)
     c.alarm.ensures.found c.alarm.ensures.none in

@@ -10,7 +10,8 @@ pub returns-in_err-put_faults-in-Ok-clause-err : goal.returns-in_err-put_faults-
 returns-in_err-put_faults-in-Ok-clause-err g c =
     let text =
     faults_lines-is
-    (meaning_of g.P.Application.app g.P.Application.text g.P.Application.from_text g.P.Application.names)
+    (meaning_of g.P.Application.app g.P.Application.text g.P.Application.from_text g.P.Application.names
+    g.P.Invariant.counts)
     c.args.repairs c.args.config.now c.deref.result.now (c.deref.ensures.value ∙ c.in-Ok.ensures) in
     let P : List ℕ → Type 0 =
     λ t. AppendsPrefix (g.W.Write.contents c.args.out.now) (g.W.Write.contents c.put_faults.new.out) t in
@@ -20,7 +21,8 @@ pub returns-in_ok-put_faults-in-Ok-clause-ok : goal.returns-in_ok-put_faults-in-
 returns-in_ok-put_faults-in-Ok-clause-ok g c =
     let text =
     faults_lines-is
-    (meaning_of g.P.Application.app g.P.Application.text g.P.Application.from_text g.P.Application.names)
+    (meaning_of g.P.Application.app g.P.Application.text g.P.Application.from_text g.P.Application.names
+    g.P.Invariant.counts)
     c.args.repairs c.args.config.now c.deref.result.now (c.deref.ensures.value ∙ c.in-Ok.ensures) in
     let P : List ℕ → Type 0 =
     λ t. Appends (g.W.Write.contents c.args.out.now) (g.W.Write.contents c.put_faults.new.out) t in
@@ -28,6 +30,8 @@ returns-in_ok-put_faults-in-Ok-clause-ok g c =
 
 pub returns-in_ok-put_faults-in-Ok-clause-status : goal.returns-in_ok-put_faults-in-Ok-clause-status
 returns-in_ok-put_faults-in-Ok-clause-status g c =
-    let m = meaning_of g.P.Application.app g.P.Application.text g.P.Application.from_text g.P.Application.names in
+    let m =
+    meaning_of g.P.Application.app g.P.Application.text g.P.Application.from_text g.P.Application.names
+    g.P.Invariant.counts in
     c.found_status.ensures
     ∙ faults_status-is m c.args.config.now c.deref-in-Ok.result.now (c.deref-in-Ok.ensures.value ∙ c.in-Ok.ensures)

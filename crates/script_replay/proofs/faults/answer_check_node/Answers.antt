@@ -11,7 +11,9 @@ use Rattle.script_replay.proofs.faults.answer_check_node.Goals as goal
 
 pub returns-in-Ok-clause-ok : goal.returns-in-Ok-clause-ok
 returns-in-Ok-clause-ok g c =
-    let m = meaning_of g.P.Application.app g.P.Application.text g.P.Application.from_text g.P.Application.names in
+    let m =
+    meaning_of g.P.Application.app g.P.Application.text g.P.Application.from_text g.P.Application.names
+    g.P.Invariant.counts in
     let text =
     faults_node m c.args.config.now c.args.at c.deref.result.now c.in-Ok.ensures.ok.0
     (c.deref.ensures.value ∙ c.in-Ok.ensures.ok.1) in
@@ -22,7 +24,9 @@ returns-in-Ok-clause-ok g c =
 
 pub returns-in-Ok-clause-err : goal.returns-in-Ok-clause-err
 returns-in-Ok-clause-err g c =
-    let m = meaning_of g.P.Application.app g.P.Application.text g.P.Application.from_text g.P.Application.names in
+    let m =
+    meaning_of g.P.Application.app g.P.Application.text g.P.Application.from_text g.P.Application.names
+    g.P.Invariant.counts in
     let text =
     faults_node m c.args.config.now c.args.at c.deref.result.now c.in-Ok.ensures.ok.0
     (c.deref.ensures.value ∙ c.in-Ok.ensures.ok.1) in
@@ -34,7 +38,9 @@ returns-in-Ok-clause-err g c =
 
 pub returns-in-Err-clause-ok : goal.returns-in-Err-clause-ok
 returns-in-Err-clause-ok g c =
-    let m = meaning_of g.P.Application.app g.P.Application.text g.P.Application.from_text g.P.Application.names in
+    let m =
+    meaning_of g.P.Application.app g.P.Application.text g.P.Application.from_text g.P.Application.names
+    g.P.Invariant.counts in
     let memory : c.in-Err.refusal ≢ NoMemory = search rules in
     let text =
     told_refused c.args.config.now c.args.at (node_faults_lines m c.args.config.now c.args.at) c.in-Err.refusal
@@ -46,7 +52,9 @@ returns-in-Err-clause-ok g c =
 
 pub returns-in-Err-clause-err : goal.returns-in-Err-clause-err
 returns-in-Err-clause-err g c =
-    let m = meaning_of g.P.Application.app g.P.Application.text g.P.Application.from_text g.P.Application.names in
+    let m =
+    meaning_of g.P.Application.app g.P.Application.text g.P.Application.from_text g.P.Application.names
+    g.P.Invariant.counts in
     let memory : c.in-Err.refusal ≢ NoMemory = search rules in
     let text =
     told_refused c.args.config.now c.args.at (node_faults_lines m c.args.config.now c.args.at) c.in-Err.refusal

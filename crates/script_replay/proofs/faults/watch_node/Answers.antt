@@ -8,7 +8,9 @@ use Rattle.script_replay.proofs.faults.watch_node.Goals as goal
 
 pub returns-in-None-clause-ok : goal.returns-in-None-clause-ok
 returns-in-None-clause-ok g c =
-    let m = meaning_of g.P.Application.app g.P.Application.text g.P.Application.from_text g.P.Application.names in
+    let m =
+    meaning_of g.P.Application.app g.P.Application.text g.P.Application.from_text g.P.Application.names
+    g.P.Invariant.counts in
     let is =
     told_alarm m.app c.args.config.now c.args.at c.alarm-told.result c.requires c.alarm-told.ensures.found
     c.alarm-told.ensures.none in
@@ -20,7 +22,9 @@ returns-in-None-clause-ok g c =
 
 pub returns-in-None-clause-err : goal.returns-in-None-clause-err
 returns-in-None-clause-err g c =
-    let m = meaning_of g.P.Application.app g.P.Application.text g.P.Application.from_text g.P.Application.names in
+    let m =
+    meaning_of g.P.Application.app g.P.Application.text g.P.Application.from_text g.P.Application.names
+    g.P.Invariant.counts in
     let is =
     told_alarm m.app c.args.config.now c.args.at c.alarm-told.result c.requires c.alarm-told.ensures.found
     c.alarm-told.ensures.none in
@@ -30,7 +34,9 @@ returns-in-None-clause-err g c =
 
 pub returns-in-None-clause-fault : goal.returns-in-None-clause-fault
 returns-in-None-clause-fault g c =
-    let m = meaning_of g.P.Application.app g.P.Application.text g.P.Application.from_text g.P.Application.names in
+    let m =
+    meaning_of g.P.Application.app g.P.Application.text g.P.Application.from_text g.P.Application.names
+    g.P.Invariant.counts in
     let is =
     told_alarm m.app c.args.config.now c.args.at c.alarm-told.result c.requires c.alarm-told.ensures.found
     c.alarm-told.ensures.none in
@@ -38,7 +44,9 @@ returns-in-None-clause-fault g c =
 
 pub returns-in-Some-clause-ok : goal.returns-in-Some-clause-ok
 returns-in-Some-clause-ok g c =
-    let m = meaning_of g.P.Application.app g.P.Application.text g.P.Application.from_text g.P.Application.names in
+    let m =
+    meaning_of g.P.Application.app g.P.Application.text g.P.Application.from_text g.P.Application.names
+    g.P.Invariant.counts in
     let is =
     told_alarm m.app c.args.config.now c.args.at c.alarm-told.result c.requires c.alarm-told.ensures.found
     c.alarm-told.ensures.none in
@@ -47,7 +55,9 @@ returns-in-Some-clause-ok g c =
 
 pub returns-in-Some-clause-err : goal.returns-in-Some-clause-err
 returns-in-Some-clause-err g c =
-    let m = meaning_of g.P.Application.app g.P.Application.text g.P.Application.from_text g.P.Application.names in
+    let m =
+    meaning_of g.P.Application.app g.P.Application.text g.P.Application.from_text g.P.Application.names
+    g.P.Invariant.counts in
     let is =
     told_alarm m.app c.args.config.now c.args.at c.alarm-told.result c.requires c.alarm-told.ensures.found
     c.alarm-told.ensures.none in
@@ -56,7 +66,9 @@ returns-in-Some-clause-err g c =
 
 pub returns-in-Some-clause-fault : goal.returns-in-Some-clause-fault
 returns-in-Some-clause-fault g c =
-    let m = meaning_of g.P.Application.app g.P.Application.text g.P.Application.from_text g.P.Application.names in
+    let m =
+    meaning_of g.P.Application.app g.P.Application.text g.P.Application.from_text g.P.Application.names
+    g.P.Invariant.counts in
     let is =
     told_alarm m.app c.args.config.now c.args.at c.alarm-told.result c.requires c.alarm-told.ensures.found
     c.alarm-told.ensures.none in

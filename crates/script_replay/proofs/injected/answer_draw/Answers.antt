@@ -11,7 +11,9 @@ use Rattle.script_replay.proofs.injected.answer_draw.Goals as goal
 
 pub returns-in_err-line-clause-err : goal.returns-in_err-line-clause-err
 returns-in_err-line-clause-err g c =
-    let m = meaning_of g.P.Application.app g.P.Application.text g.P.Application.from_text g.P.Application.names in
+    let m =
+    meaning_of g.P.Application.app g.P.Application.text g.P.Application.from_text g.P.Application.names
+    g.P.Invariant.counts in
     let text : List ℕ = (answered m c.args.config.now (Draw c.args.seed)).1 in
     let out = g.W.Write.contents c.args.out.now in
     let nothing : AppendsPrefix out out text =
@@ -20,14 +22,18 @@ returns-in_err-line-clause-err g c =
 
 pub returns-in_err-put_drawn-clause-err : goal.returns-in_err-put_drawn-clause-err
 returns-in_err-put_drawn-clause-err g c =
-    let m = meaning_of g.P.Application.app g.P.Application.text g.P.Application.from_text g.P.Application.names in
+    let m =
+    meaning_of g.P.Application.app g.P.Application.text g.P.Application.from_text g.P.Application.names
+    g.P.Invariant.counts in
     OnErr-always _ _
     (drawn_prefix m c.args.config.now c.drawn-fault.result _ c.drawn-fault.ensures _ _
     c.in_err-put_drawn.ensures.err)
 
 pub returns-clause-err : goal.returns-clause-err
 returns-clause-err g c =
-    let m = meaning_of g.P.Application.app g.P.Application.text g.P.Application.from_text g.P.Application.names in
+    let m =
+    meaning_of g.P.Application.app g.P.Application.text g.P.Application.from_text g.P.Application.names
+    g.P.Invariant.counts in
     let P : List ℕ → Type 0 =
     λ text. OnErr c.written.result
     (AppendsPrefix (g.W.Write.contents c.put_drawn.new.out) (g.W.Write.contents c.put_bytes.new.out) text) in

@@ -6,11 +6,15 @@ use Rattle.script_replay.proofs.laws.stretches_are_runs.Goals as goal
 
 pub returns-clause-run : goal.returns-clause-run
 returns-clause-run g c =
-    lines_make_run (meaning_of g.P.Application.app g.P.Application.text g.P.Application.from_text g.P.Application.names)
+    lines_make_run
+    (meaning_of g.P.Application.app g.P.Application.text g.P.Application.from_text g.P.Application.names
+    g.P.Invariant.counts)
 
 pub returns-clause-lawful : goal.returns-clause-lawful
 returns-clause-lawful g c = λ d n lines calm graph shaped sound.
-    let m = meaning_of g.P.Application.app g.P.Application.text g.P.Application.from_text g.P.Application.names in
+    let m =
+    meaning_of g.P.Application.app g.P.Application.text g.P.Application.from_text g.P.Application.names
+    g.P.Invariant.counts in
     let es = events_of_lines m d n lines in
     let ds = event_answers m.app d es in
     let last = (answers m d n lines).config in

@@ -8,7 +8,9 @@ use Rattle.script_replay.proofs.left.leave_script.Goals as goal
 
 pub returns-then-not-branch-clause-bad : goal.returns-then-not-branch-clause-bad
 returns-then-not-branch-clause-bad g c =
-    let m = meaning_of g.P.Application.app g.P.Application.text g.P.Application.from_text g.P.Application.names in
+    let m =
+    meaning_of g.P.Application.app g.P.Application.text g.P.Application.from_text g.P.Application.names
+    g.P.Invariant.counts in
     let (leads, first, bound) = c.loop-line.invariant in
     sym
     (stopped_bad m (answers m c.args.config.now 1 (lines_of c.args.script.now)) (bad_line_of m.names c.args.script.now)
@@ -18,7 +20,9 @@ returns-then-not-branch-clause-bad g c =
 
 pub returns-then-not-branch-clause-left : goal.returns-then-not-branch-clause-left
 returns-then-not-branch-clause-left g c =
-    let m = meaning_of g.P.Application.app g.P.Application.text g.P.Application.from_text g.P.Application.names in
+    let m =
+    meaning_of g.P.Application.app g.P.Application.text g.P.Application.from_text g.P.Application.names
+    g.P.Invariant.counts in
     let (leads, first, bound) = c.loop-line.invariant in
     stopped_at m (answers m c.args.config.now 1 (lines_of c.args.script.now)) (bad_line_of m.names c.args.script.now)
     c.loop-line.config c.pass_line.new.config c.loop-line.number (lines_of c.loop-line.rest.now)
@@ -27,7 +31,9 @@ returns-then-not-branch-clause-left g c =
 
 pub loop-line-preserved : goal.loop-line-preserved
 loop-line-preserved g c =
-    let m = meaning_of g.P.Application.app g.P.Application.text g.P.Application.from_text g.P.Application.names in
+    let m =
+    meaning_of g.P.Application.app g.P.Application.text g.P.Application.from_text g.P.Application.names
+    g.P.Invariant.counts in
     let (leads, first, bound) = c.loop-line.invariant in
     let all = answers m c.args.config.now 1 (lines_of c.args.script.now) in
     let bad = bad_line_of m.names c.args.script.now in
@@ -43,7 +49,9 @@ loop-line-preserved g c =
 
 pub returns-then-branch-clause-bad : goal.returns-then-branch-clause-bad
 returns-then-branch-clause-bad g c =
-    let m = meaning_of g.P.Application.app g.P.Application.text g.P.Application.from_text g.P.Application.names in
+    let m =
+    meaning_of g.P.Application.app g.P.Application.text g.P.Application.from_text g.P.Application.names
+    g.P.Invariant.counts in
     let (leads, first, bound) = c.loop-line.invariant in
     sym
     (good_last m (answers m c.args.config.now 1 (lines_of c.args.script.now)) (bad_line_of m.names c.args.script.now)
@@ -53,7 +61,9 @@ returns-then-branch-clause-bad g c =
 
 pub returns-then-branch-clause-left : goal.returns-then-branch-clause-left
 returns-then-branch-clause-left g c =
-    let m = meaning_of g.P.Application.app g.P.Application.text g.P.Application.from_text g.P.Application.names in
+    let m =
+    meaning_of g.P.Application.app g.P.Application.text g.P.Application.from_text g.P.Application.names
+    g.P.Invariant.counts in
     let (leads, first, bound) = c.loop-line.invariant in
     left_last m (answers m c.args.config.now 1 (lines_of c.args.script.now)) (bad_line_of m.names c.args.script.now)
     c.loop-line.config c.pass_line-2.new.config c.loop-line.number (lines_of c.loop-line.rest.now) []
@@ -62,7 +72,9 @@ returns-then-branch-clause-left g c =
 
 pub returns-else-branch-clause-bad : goal.returns-else-branch-clause-bad
 returns-else-branch-clause-bad g c =
-    let m = meaning_of g.P.Application.app g.P.Application.text g.P.Application.from_text g.P.Application.names in
+    let m =
+    meaning_of g.P.Application.app g.P.Application.text g.P.Application.from_text g.P.Application.names
+    g.P.Invariant.counts in
     let (leads, first, bound) = c.loop-line.invariant in
     sym
     (stopped_bad m (answers m c.args.config.now 1 (lines_of c.args.script.now)) (bad_line_of m.names c.args.script.now)
@@ -72,7 +84,9 @@ returns-else-branch-clause-bad g c =
 
 pub returns-else-branch-clause-left : goal.returns-else-branch-clause-left
 returns-else-branch-clause-left g c =
-    let m = meaning_of g.P.Application.app g.P.Application.text g.P.Application.from_text g.P.Application.names in
+    let m =
+    meaning_of g.P.Application.app g.P.Application.text g.P.Application.from_text g.P.Application.names
+    g.P.Invariant.counts in
     let (leads, first, bound) = c.loop-line.invariant in
     left_last m (answers m c.args.config.now 1 (lines_of c.args.script.now)) (bad_line_of m.names c.args.script.now)
     c.loop-line.config c.pass_line-2.new.config c.loop-line.number (lines_of c.loop-line.rest.now) []

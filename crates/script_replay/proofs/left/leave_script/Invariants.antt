@@ -9,7 +9,9 @@ use Rattle.script_replay.proofs.left.leave_script.Given as goal
 
 abbrev pub invariant-loop-line : goal.invariant-loop-line
 invariant-loop-line g l =
-    let m = meaning_of g.P.Application.app g.P.Application.text g.P.Application.from_text g.P.Application.names in
+    let m =
+    meaning_of g.P.Application.app g.P.Application.text g.P.Application.from_text g.P.Application.names
+    g.P.Invariant.counts in
     LeadsOn m (answers m l.initial.config 1 (lines_of l.script)) l.config l.number (lines_of l.rest)
     × (bad_line_of m.names l.script ≡ first_bad m.names l.number (lines_of l.rest))
     × (l.number + length l.rest ≤ length l.script + 1)

@@ -1,20 +1,27 @@
--- What was written, and the answers to the lines that are left, are the answers to all lines.
+-- What was written, and the answers to the lines that are left, are the answers to all lines; so it is with what is counted.
 use Rattle.std.proofs.Common.{◌≡◌, ◌≤◌, ◌+◌, ℕ, List, length}
 use Rattle.std.specs.Io.KnownBytes.{Appends}
 use Rattle.script_replay.specs.Lines.{lines_of}
 use Rattle.script_replay.specs.Marked.{marked_answer, marked_answers}
 use Rattle.script_replay.specs.Meaning.{meaning_of}
 use Rattle.script_replay.specs.Output.{answers_by, told_after}
+use Rattle.script_replay.specs.Tallies.{tally_of}
+use Rattle.script_replay.proofs.Tallying.{IsSmall}
 use Rattle.script_replay.proofs.marked.answer_marked_lines.Given as goal
 
 abbrev pub invariant-loop-line : goal.invariant-loop-line
 invariant-loop-line g l =
-    let m = meaning_of g.P.Application.app g.P.Application.text g.P.Application.from_text g.P.Application.names in
+    let m =
+    meaning_of g.P.Application.app g.P.Application.text g.P.Application.from_text g.P.Application.names
+    g.P.Invariant.counts in
     (done : List ℕ)
     × (marked_answers m l.marks l.initial.config l.script
     ≡ told_after done (answers_by (marked_answer m l.marks) l.config l.number (lines_of l.rest)))
     × Appends (g.W.Write.contents l.initial.out) (g.W.Write.contents l.out) done
     × (l.number + length l.rest ≤ length l.script + 1)
+    × (tally_of m l.marks l.initial.tally l.initial.config 1 (lines_of l.script)
+    ≡ tally_of m l.marks l.tally l.config l.number (lines_of l.rest))
+    × IsSmall l.tally l.number
 
 abbrev pub decreases-loop-line : goal.decreases-loop-line
 decreases-loop-line g l = length l.rest

@@ -10,7 +10,9 @@ use Rattle.script_replay.proofs.moves.answer_moves_of.Goals as goal
 
 pub returns-in-Ok-clause-ok : goal.returns-in-Ok-clause-ok
 returns-in-Ok-clause-ok g c =
-    let m = meaning_of g.P.Application.app g.P.Application.text g.P.Application.from_text g.P.Application.names in
+    let m =
+    meaning_of g.P.Application.app g.P.Application.text g.P.Application.from_text g.P.Application.names
+    g.P.Invariant.counts in
     let config = c.args.config.now in
     let there : is_node config.graph c.args.at ≡ true = sym c.is_node.ensures ∙ c.if-not-is_node.false in
     let text = moves_node m config c.args.at c.deref.result.now there (c.deref.ensures.value ∙ c.in-Ok.ensures) in
@@ -21,7 +23,9 @@ returns-in-Ok-clause-ok g c =
 
 pub returns-in-Ok-clause-err : goal.returns-in-Ok-clause-err
 returns-in-Ok-clause-err g c =
-    let m = meaning_of g.P.Application.app g.P.Application.text g.P.Application.from_text g.P.Application.names in
+    let m =
+    meaning_of g.P.Application.app g.P.Application.text g.P.Application.from_text g.P.Application.names
+    g.P.Invariant.counts in
     let config = c.args.config.now in
     let there : is_node config.graph c.args.at ≡ true = sym c.is_node.ensures ∙ c.if-not-is_node.false in
     let text = moves_node m config c.args.at c.deref.result.now there (c.deref.ensures.value ∙ c.in-Ok.ensures) in

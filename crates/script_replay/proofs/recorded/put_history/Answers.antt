@@ -9,7 +9,9 @@ use Rattle.script_replay.proofs.recorded.put_history.Goals as goal
 
 pub returns-in_err-put_bytes-clause-err : goal.returns-in_err-put_bytes-clause-err
 returns-in_err-put_bytes-clause-err g c =
-    let m = meaning_of g.P.Application.app g.P.Application.text g.P.Application.from_text g.P.Application.names in
+    let m =
+    meaning_of g.P.Application.app g.P.Application.text g.P.Application.from_text g.P.Application.names
+    g.P.Invariant.counts in
     let residual = c.from_residual-in_err-put_bytes in
     let failed : residual.result ≡ Err WriteFailed = search (rules, residual.ensures) in
     let kept =
@@ -21,7 +23,9 @@ returns-in_err-put_bytes-clause-err g c =
 
 pub returns-clause-ok : goal.returns-clause-ok
 returns-clause-ok g c =
-    let m = meaning_of g.P.Application.app g.P.Application.text g.P.Application.from_text g.P.Application.names in (
+    let m =
+    meaning_of g.P.Application.app g.P.Application.text g.P.Application.from_text g.P.Application.names
+    g.P.Invariant.counts in (
       c.deref.result.now,
       subst (IsHistory m c.args.opening.now c.args.script.now) (sym c.deref.ensures.value) c.in_ok-text.ensures,
       c.in_ok-put_bytes.ensures.ok,

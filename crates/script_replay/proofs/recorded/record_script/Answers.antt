@@ -8,7 +8,9 @@ use Rattle.script_replay.proofs.recorded.record_script.Goals as goal
 
 pub returns-in-Ok : goal.returns-in-Ok
 returns-in-Ok g c =
-    let m = meaning_of g.P.Application.app g.P.Application.text g.P.Application.from_text g.P.Application.names in
+    let m =
+    meaning_of g.P.Application.app g.P.Application.text g.P.Application.from_text g.P.Application.names
+    g.P.Invariant.counts in
     let (text, history, wrote) = c.in-Ok.ensures.ok in
     record_replayed (IsRecord m c.args.config.now c.args.script.now) text
     (script_output m Replay c.args.config.now c.args.script.now) _ _ _ _ c.run_script.result

@@ -9,7 +9,9 @@ use Rattle.script_replay.proofs.recording.record_lines.Goals as goal
 
 pub returns-in-Ok : goal.returns-in-Ok
 returns-in-Ok g c =
-    let m = meaning_of g.P.Application.app g.P.Application.text g.P.Application.from_text g.P.Application.names in
+    let m =
+    meaning_of g.P.Application.app g.P.Application.text g.P.Application.from_text g.P.Application.names
+    g.P.Invariant.counts in
     let (n, left, opening, limit, room) = c.loop-line.invariant in
     let all = entries_of_lines m c.args.book.now.config 1 (lines_of c.args.script.now) in
     let old = c.loop-line.book in
@@ -27,7 +29,9 @@ returns-in-Ok g c =
 
 pub loop-line-preserved : goal.loop-line-preserved
 loop-line-preserved g c =
-    let m = meaning_of g.P.Application.app g.P.Application.text g.P.Application.from_text g.P.Application.names in
+    let m =
+    meaning_of g.P.Application.app g.P.Application.text g.P.Application.from_text g.P.Application.names
+    g.P.Invariant.counts in
     let (n, left, opening, limit, room) = c.loop-line.invariant in
     let all = entries_of_lines m c.args.book.now.config 1 (lines_of c.args.script.now) in
     let old = c.loop-line.book in
@@ -50,14 +54,18 @@ loop-line-preserved g c =
 
 pub loop-line-init : goal.loop-line-init
 loop-line-init g c =
-    let m = meaning_of g.P.Application.app g.P.Application.text g.P.Application.from_text g.P.Application.names in
+    let m =
+    meaning_of g.P.Application.app g.P.Application.text g.P.Application.from_text g.P.Application.names
+    g.P.Invariant.counts in
     let all = entries_of_lines m c.args.book.now.config 1 (lines_of c.args.script.now) in
     let none = ap length c.requires.fresh in
     (1, sym (ap (λ es. es ++ all) c.requires.fresh), refl, c.requires.room, omega (arith, none))
 
 pub returns-clause-entries : goal.returns-clause-entries
 returns-clause-entries g c =
-    let m = meaning_of g.P.Application.app g.P.Application.text g.P.Application.from_text g.P.Application.names in
+    let m =
+    meaning_of g.P.Application.app g.P.Application.text g.P.Application.from_text g.P.Application.names
+    g.P.Invariant.counts in
     let (n, left, opening, limit, room) = c.loop-line.invariant in
     let all = entries_of_lines m c.args.book.now.config 1 (lines_of c.args.script.now) in
     let rest = c.loop-line.rest.now in
@@ -67,7 +75,9 @@ returns-clause-entries g c =
 
 pub returns-clause-opening : goal.returns-clause-opening
 returns-clause-opening g c =
-    let m = meaning_of g.P.Application.app g.P.Application.text g.P.Application.from_text g.P.Application.names in
+    let m =
+    meaning_of g.P.Application.app g.P.Application.text g.P.Application.from_text g.P.Application.names
+    g.P.Invariant.counts in
     let (n, left, opening, limit, room) = c.loop-line.invariant in
     let all = entries_of_lines m c.args.book.now.config 1 (lines_of c.args.script.now) in
     let rest = c.loop-line.rest.now in

@@ -8,7 +8,9 @@ use Rattle.script_replay.proofs.recording.record_lines.Given as goal
 
 abbrev pub invariant-loop-line : goal.invariant-loop-line
 invariant-loop-line g l =
-    let m = meaning_of g.P.Application.app g.P.Application.text g.P.Application.from_text g.P.Application.names in
+    let m =
+    meaning_of g.P.Application.app g.P.Application.text g.P.Application.from_text g.P.Application.names
+    g.P.Invariant.counts in
     (n : ℕ)
     × (entries_of_lines m l.initial.book.config 1 (lines_of l.script)
     ≡ l.book.entries ++ entries_of_lines m l.book.config n (lines_of l.rest))

@@ -11,7 +11,9 @@ use Rattle.script_replay.proofs.replays.answer_lines.Goals as goal
 
 pub returns-in-Ok : goal.returns-in-Ok
 returns-in-Ok g c =
-    let m = meaning_of g.P.Application.app g.P.Application.text g.P.Application.from_text g.P.Application.names in
+    let m =
+    meaning_of g.P.Application.app g.P.Application.text g.P.Application.from_text g.P.Application.names
+    g.P.Invariant.counts in
     let (done, left, wrote, bound) = c.loop-line.invariant in
     let all = answers m c.args.config.now 1 (lines_of c.args.script.now) in
     let a = answer_to m c.loop-line.config c.loop-line.number (line_of m.names (next_text c.in-Some.line)) in
@@ -30,7 +32,9 @@ returns-in-Ok g c =
 
 pub returns-in-Err-clause-leaves : goal.returns-in-Err-clause-leaves
 returns-in-Err-clause-leaves g c =
-    let m = meaning_of g.P.Application.app g.P.Application.text g.P.Application.from_text g.P.Application.names in
+    let m =
+    meaning_of g.P.Application.app g.P.Application.text g.P.Application.from_text g.P.Application.names
+    g.P.Invariant.counts in
     let (done, left, wrote, bound) = c.loop-line.invariant in
     left_stop (line_answer m) (answers m c.args.config.now 1 (lines_of c.args.script.now)) (g.W.Write.contents c.args.out.now)
     (g.W.Write.contents c.loop-line.out) (g.W.Write.contents c.answer_next.new.out) done c.loop-line.config
@@ -40,7 +44,9 @@ returns-in-Err-clause-leaves g c =
 
 pub loop-line-preserved : goal.loop-line-preserved
 loop-line-preserved g c =
-    let m = meaning_of g.P.Application.app g.P.Application.text g.P.Application.from_text g.P.Application.names in
+    let m =
+    meaning_of g.P.Application.app g.P.Application.text g.P.Application.from_text g.P.Application.names
+    g.P.Invariant.counts in
     let (done, left, wrote, bound) = c.loop-line.invariant in
     let a = answer_to m c.loop-line.config c.loop-line.number (line_of m.names (next_text c.in-Some.line)) in
     let ok = c.in-Ok-Good.ensures.ok in
@@ -56,7 +62,9 @@ loop-line-preserved g c =
 
 pub returns-clause-leaves : goal.returns-clause-leaves
 returns-clause-leaves g c =
-    let m = meaning_of g.P.Application.app g.P.Application.text g.P.Application.from_text g.P.Application.names in
+    let m =
+    meaning_of g.P.Application.app g.P.Application.text g.P.Application.from_text g.P.Application.names
+    g.P.Invariant.counts in
     let (done, left, wrote, bound) = c.loop-line.invariant in
     left_result (line_answer m) (answers m c.args.config.now 1 (lines_of c.args.script.now)) (g.W.Write.contents c.args.out.now)
     (g.W.Write.contents c.loop-line.out) (g.W.Write.contents c.answer_line.new.out) done c.loop-line.config
@@ -67,7 +75,9 @@ returns-clause-leaves g c =
 
 pub returns-clause-config : goal.returns-clause-config
 returns-clause-config g c =
-    let m = meaning_of g.P.Application.app g.P.Application.text g.P.Application.from_text g.P.Application.names in
+    let m =
+    meaning_of g.P.Application.app g.P.Application.text g.P.Application.from_text g.P.Application.names
+    g.P.Invariant.counts in
     let (done, left, wrote, bound) = c.loop-line.invariant in
     last_config (line_answer m) (answers m c.args.config.now 1 (lines_of c.args.script.now)) _ _ done c.loop-line.config
     c.answer_line.new.config

@@ -8,7 +8,9 @@ use Rattle.script_replay.proofs.replays.answer_lines.Given as goal
 
 abbrev pub invariant-loop-line : goal.invariant-loop-line
 invariant-loop-line g l =
-    let m = meaning_of g.P.Application.app g.P.Application.text g.P.Application.from_text g.P.Application.names in
+    let m =
+    meaning_of g.P.Application.app g.P.Application.text g.P.Application.from_text g.P.Application.names
+    g.P.Invariant.counts in
     (done : List ℕ)
     × (answers m l.initial.config 1 (lines_of l.script)
     ≡ told_after done (answers m l.config l.number (lines_of l.rest)))

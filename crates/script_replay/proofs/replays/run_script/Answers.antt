@@ -7,7 +7,9 @@ use Rattle.script_replay.proofs.replays.run_script.Goals as goal
 
 pub returns-in-Ok-clause-leaves : goal.returns-in-Ok-clause-leaves
 returns-in-Ok-clause-leaves g c =
-    let m = meaning_of g.P.Application.app g.P.Application.text g.P.Application.from_text g.P.Application.names in
+    let m =
+    meaning_of g.P.Application.app g.P.Application.text g.P.Application.from_text g.P.Application.names
+    g.P.Invariant.counts in
     short_output m c.args.purpose c.args.config.now c.args.script.now _ _ c.end_run.result c.if-script-gt-MAX_TEXT.false
     (ended_run m c.args.purpose (answers m c.args.config.now 1 (lines_of c.args.script.now)) c.answer_lines.new.config _ _ _
     c.in-Ok.answered c.end_run.result
@@ -15,7 +17,9 @@ returns-in-Ok-clause-leaves g c =
 
 pub returns-in-Err-clause-leaves : goal.returns-in-Err-clause-leaves
 returns-in-Err-clause-leaves g c =
-    let m = meaning_of g.P.Application.app g.P.Application.text g.P.Application.from_text g.P.Application.names in
+    let m =
+    meaning_of g.P.Application.app g.P.Application.text g.P.Application.from_text g.P.Application.names
+    g.P.Invariant.counts in
     short_output m c.args.purpose c.args.config.now c.args.script.now (g.W.Write.contents c.args.out.now)
     (g.W.Write.contents c.answer_lines.new.out)
     (Err c.in-Err.stop) c.if-script-gt-MAX_TEXT.false

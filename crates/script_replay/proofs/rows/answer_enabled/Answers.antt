@@ -11,7 +11,9 @@ use Rattle.script_replay.proofs.rows.answer_enabled.Goals as goal
 
 pub returns-in-Ok-clause-ok : goal.returns-in-Ok-clause-ok
 returns-in-Ok-clause-ok g c =
-    let m = meaning_of g.P.Application.app g.P.Application.text g.P.Application.from_text g.P.Application.names in
+    let m =
+    meaning_of g.P.Application.app g.P.Application.text g.P.Application.from_text g.P.Application.names
+    g.P.Invariant.counts in
     let text = enabled_node m c.args.config.now c.args.at c.in-Ok.rows c.in-Ok.ensures.ok.0 c.in-Ok.ensures.ok.1 in
     let P : List ℕ → Type 0 =
     λ t. Appends (g.W.Write.contents c.args.out.now) (g.W.Write.contents c.put_enabled.new.out) t in
@@ -20,7 +22,9 @@ returns-in-Ok-clause-ok g c =
 
 pub returns-in-Ok-clause-err : goal.returns-in-Ok-clause-err
 returns-in-Ok-clause-err g c =
-    let m = meaning_of g.P.Application.app g.P.Application.text g.P.Application.from_text g.P.Application.names in
+    let m =
+    meaning_of g.P.Application.app g.P.Application.text g.P.Application.from_text g.P.Application.names
+    g.P.Invariant.counts in
     let text = enabled_node m c.args.config.now c.args.at c.in-Ok.rows c.in-Ok.ensures.ok.0 c.in-Ok.ensures.ok.1 in
     let P : List ℕ → Type 0 =
     λ t. AppendsPrefix (g.W.Write.contents c.args.out.now) (g.W.Write.contents c.put_enabled.new.out) t in
@@ -30,7 +34,9 @@ returns-in-Ok-clause-err g c =
 
 pub returns-in-Err-clause-ok : goal.returns-in-Err-clause-ok
 returns-in-Err-clause-ok g c =
-    let m = meaning_of g.P.Application.app g.P.Application.text g.P.Application.from_text g.P.Application.names in
+    let m =
+    meaning_of g.P.Application.app g.P.Application.text g.P.Application.from_text g.P.Application.names
+    g.P.Invariant.counts in
     let memory : c.in-Err.refusal ≢ NoMemory = search rules in
     let text =
     told_refused c.args.config.now c.args.at (enabled_line m c.args.config.now c.args.at) c.in-Err.refusal
@@ -42,7 +48,9 @@ returns-in-Err-clause-ok g c =
 
 pub returns-in-Err-clause-err : goal.returns-in-Err-clause-err
 returns-in-Err-clause-err g c =
-    let m = meaning_of g.P.Application.app g.P.Application.text g.P.Application.from_text g.P.Application.names in
+    let m =
+    meaning_of g.P.Application.app g.P.Application.text g.P.Application.from_text g.P.Application.names
+    g.P.Invariant.counts in
     let memory : c.in-Err.refusal ≢ NoMemory = search rules in
     let text =
     told_refused c.args.config.now c.args.at (enabled_line m c.args.config.now c.args.at) c.in-Err.refusal

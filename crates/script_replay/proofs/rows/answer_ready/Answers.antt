@@ -11,7 +11,8 @@ pub returns-in-Ok-clause-err : goal.returns-in-Ok-clause-err
 returns-in-Ok-clause-err g c =
     let text =
     ready_line-is
-    (meaning_of g.P.Application.app g.P.Application.text g.P.Application.from_text g.P.Application.names)
+    (meaning_of g.P.Application.app g.P.Application.text g.P.Application.from_text g.P.Application.names
+    g.P.Invariant.counts)
     c.args.config.now c.deref.result.now (c.deref.ensures.value ∙ c.in-Ok.ensures.ok) in
     let P : List ℕ → Type 0 =
     λ t. AppendsPrefix (g.W.Write.contents c.args.out.now) (g.W.Write.contents c.put_ready.new.out) t in
@@ -23,7 +24,8 @@ pub returns-in-Ok-clause-ok : goal.returns-in-Ok-clause-ok
 returns-in-Ok-clause-ok g c =
     let text =
     ready_line-is
-    (meaning_of g.P.Application.app g.P.Application.text g.P.Application.from_text g.P.Application.names)
+    (meaning_of g.P.Application.app g.P.Application.text g.P.Application.from_text g.P.Application.names
+    g.P.Invariant.counts)
     c.args.config.now c.deref.result.now (c.deref.ensures.value ∙ c.in-Ok.ensures.ok) in
     let P : List ℕ → Type 0 =
     λ t. Appends (g.W.Write.contents c.args.out.now) (g.W.Write.contents c.put_ready.new.out) t in

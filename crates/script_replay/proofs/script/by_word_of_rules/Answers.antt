@@ -20,3 +20,14 @@ returns-in-moves-clause-found c =
     ap (λ w. w ∷ [])
     (text_from_reads c.args.word.now (codes "moves") (omega arith)
     (omega arith, (omega arith, (omega arith, (omega arith, (omega arith, tt))))))
+
+pub returns-in-invariant-clause-found : goal.returns-in-invariant-clause-found
+returns-in-invariant-clause-found c =
+    ap (λ w. w ∷ [])
+    (text_from_reads c.args.word.now (codes "invariant") (omega arith) (
+      omega arith,
+      (
+        omega arith,
+        (omega arith, (omega arith, (omega arith, (omega arith, (omega arith, (omega arith, (omega arith, tt))))))),
+      ),
+    ))

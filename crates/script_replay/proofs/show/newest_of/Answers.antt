@@ -12,7 +12,9 @@ use Rattle.script_replay.proofs.show.newest_of.Goals as goal
 
 pub returns-in_err-put_newest_head-clause-err : goal.returns-in_err-put_newest_head-clause-err
 returns-in_err-put_newest_head-clause-err g c =
-    let m = meaning_of g.P.Application.app g.P.Application.text g.P.Application.from_text g.P.Application.names in
+    let m =
+    meaning_of g.P.Application.app g.P.Application.text g.P.Application.from_text g.P.Application.names
+    g.P.Invariant.counts in
     let config = c.args.config.now in
     let local =
     ended (if has_joined config.graph (wave_of config) c.args.id then m.text (local_of m.app config c.args.id) else
@@ -21,7 +23,9 @@ returns-in_err-put_newest_head-clause-err g c =
 
 pub returns-in-Some-clause-ok : goal.returns-in-Some-clause-ok
 returns-in-Some-clause-ok g c =
-    let m = meaning_of g.P.Application.app g.P.Application.text g.P.Application.from_text g.P.Application.names in
+    let m =
+    meaning_of g.P.Application.app g.P.Application.text g.P.Application.from_text g.P.Application.names
+    g.P.Invariant.counts in
     let at = c.in-Some.ensures.found in
     let is = newest_joined m c.args.config.now c.args.id at.1 in
     OnOk-then c.put_local.result (g.W.Write.contents c.args.out.now) (g.W.Write.contents c.put_newest_head.new.out)
@@ -31,7 +35,9 @@ returns-in-Some-clause-ok g c =
 
 pub returns-in-Some-clause-err : goal.returns-in-Some-clause-err
 returns-in-Some-clause-err g c =
-    let m = meaning_of g.P.Application.app g.P.Application.text g.P.Application.from_text g.P.Application.names in
+    let m =
+    meaning_of g.P.Application.app g.P.Application.text g.P.Application.from_text g.P.Application.names
+    g.P.Invariant.counts in
     let at = c.in-Some.ensures.found in
     let is = newest_joined m c.args.config.now c.args.id at.1 in
     OnErr-then c.put_local.result (g.W.Write.contents c.args.out.now) (g.W.Write.contents c.put_newest_head.new.out)
@@ -41,7 +47,9 @@ returns-in-Some-clause-err g c =
 
 pub returns-in-None-clause-ok : goal.returns-in-None-clause-ok
 returns-in-None-clause-ok g c =
-    let m = meaning_of g.P.Application.app g.P.Application.text g.P.Application.from_text g.P.Application.names in
+    let m =
+    meaning_of g.P.Application.app g.P.Application.text g.P.Application.from_text g.P.Application.names
+    g.P.Invariant.counts in
     let is = newest_unjoined m c.args.config.now c.args.id (c.in-None.ensures.none c.requires) in
     OnOk-then c.put_bytes.result (g.W.Write.contents c.args.out.now) (g.W.Write.contents c.put_newest_head.new.out)
     (g.W.Write.contents c.put_bytes.new.out)
@@ -49,7 +57,9 @@ returns-in-None-clause-ok g c =
 
 pub returns-in-None-clause-err : goal.returns-in-None-clause-err
 returns-in-None-clause-err g c =
-    let m = meaning_of g.P.Application.app g.P.Application.text g.P.Application.from_text g.P.Application.names in
+    let m =
+    meaning_of g.P.Application.app g.P.Application.text g.P.Application.from_text g.P.Application.names
+    g.P.Invariant.counts in
     let is = newest_unjoined m c.args.config.now c.args.id (c.in-None.ensures.none c.requires) in
     OnErr-then c.put_bytes.result (g.W.Write.contents c.args.out.now) (g.W.Write.contents c.put_newest_head.new.out)
     (g.W.Write.contents c.put_bytes.new.out)

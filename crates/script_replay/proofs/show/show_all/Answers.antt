@@ -10,7 +10,9 @@ use Rattle.script_replay.proofs.show.show_all.Goals as goal
 
 pub returns-in_err-show_node-clause-err : goal.returns-in_err-show_node-clause-err
 returns-in_err-show_node-clause-err g c =
-    let m = meaning_of g.P.Application.app g.P.Application.text g.P.Application.from_text g.P.Application.names in
+    let m =
+    meaning_of g.P.Application.app g.P.Application.text g.P.Application.from_text g.P.Application.names
+    g.P.Invariant.counts in
     let config = c.args.config.now in
     let i = c.loop-id.id-index in
     let items : c.nodes-id-items.result.now ≡ config.graph.nodes =

@@ -10,5 +10,7 @@ abbrev pub invariant-loop-id : goal.invariant-loop-id
 invariant-loop-id g l =
     Appends (g.W.Write.contents l.initial.out) (g.W.Write.contents l.out)
     (flat_map
-    (shown (meaning_of g.P.Application.app g.P.Application.text g.P.Application.from_text g.P.Application.names)
+    (shown
+    (meaning_of g.P.Application.app g.P.Application.text g.P.Application.from_text g.P.Application.names
+    g.P.Invariant.counts)
     l.config) (take l.id-index l.config.graph.nodes))

@@ -10,7 +10,9 @@ use Rattle.script_replay.proofs.show.show_newest.Goals as goal
 
 pub returns-in_err-newest_of-clause-err : goal.returns-in_err-newest_of-clause-err
 returns-in_err-newest_of-clause-err g c =
-    let m = meaning_of g.P.Application.app g.P.Application.text g.P.Application.from_text g.P.Application.names in
+    let m =
+    meaning_of g.P.Application.app g.P.Application.text g.P.Application.from_text g.P.Application.names
+    g.P.Invariant.counts in
     let config = c.args.config.now in
     let i = c.loop-node.node-index in
     let items : c.nodes-node-items.result.now ≡ config.graph.nodes =
@@ -26,7 +28,9 @@ returns-in_err-newest_of-clause-err g c =
 
 pub loop-node-preserved : goal.loop-node-preserved
 loop-node-preserved g c =
-    let m = meaning_of g.P.Application.app g.P.Application.text g.P.Application.from_text g.P.Application.names in
+    let m =
+    meaning_of g.P.Application.app g.P.Application.text g.P.Application.from_text g.P.Application.names
+    g.P.Invariant.counts in
     let config = c.args.config.now in
     let i = c.loop-node.node-index in
     let items : c.nodes-node-items.result.now ≡ config.graph.nodes =

@@ -10,5 +10,7 @@ abbrev pub invariant-loop-node : goal.invariant-loop-node
 invariant-loop-node g l =
     Appends (g.W.Write.contents l.initial.out) (g.W.Write.contents l.out)
     (flat_map
-    (newest_line (meaning_of g.P.Application.app g.P.Application.text g.P.Application.from_text g.P.Application.names)
+    (newest_line
+    (meaning_of g.P.Application.app g.P.Application.text g.P.Application.from_text g.P.Application.names
+    g.P.Invariant.counts)
     l.config) (take l.node-index l.config.graph.nodes))

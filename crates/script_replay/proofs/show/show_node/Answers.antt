@@ -12,7 +12,9 @@ use Rattle.script_replay.proofs.show.show_node.Goals as goal
 
 pub returns-in_err-put_head-in-Some-clause-err : goal.returns-in_err-put_head-in-Some-clause-err
 returns-in_err-put_head-in-Some-clause-err g c =
-    let m = meaning_of g.P.Application.app g.P.Application.text g.P.Application.from_text g.P.Application.names in
+    let m =
+    meaning_of g.P.Application.app g.P.Application.text g.P.Application.from_text g.P.Application.names
+    g.P.Invariant.counts in
     let head = node_head c.args.id c.in-Some.tree c.in-Some.wave in
     let local = ended (m.text c.in-Some.local.now) in
     let at = c.in-Some.ensures.found in
@@ -25,7 +27,9 @@ returns-in_err-put_head-in-Some-clause-err g c =
 
 pub returns-in_ok-put_head-in-Some-clause-err : goal.returns-in_ok-put_head-in-Some-clause-err
 returns-in_ok-put_head-in-Some-clause-err g c =
-    let m = meaning_of g.P.Application.app g.P.Application.text g.P.Application.from_text g.P.Application.names in
+    let m =
+    meaning_of g.P.Application.app g.P.Application.text g.P.Application.from_text g.P.Application.names
+    g.P.Invariant.counts in
     let head = node_head c.args.id c.in-Some.tree c.in-Some.wave in
     let local = ended (m.text c.in-Some.local.now) in
     let at = c.in-Some.ensures.found in
@@ -38,19 +42,25 @@ returns-in_ok-put_head-in-Some-clause-err g c =
 
 pub returns-in-None-clause-ok : goal.returns-in-None-clause-ok
 returns-in-None-clause-ok g c =
-    let m = meaning_of g.P.Application.app g.P.Application.text g.P.Application.from_text g.P.Application.names in
+    let m =
+    meaning_of g.P.Application.app g.P.Application.text g.P.Application.from_text g.P.Application.names
+    g.P.Invariant.counts in
     rw (told_none c.args.config.now c.args.id (shown m c.args.config.now c.args.id) c.in-None.ensures.none)
     c.put_refusal.ensures.ok
 
 pub returns-in-None-clause-err : goal.returns-in-None-clause-err
 returns-in-None-clause-err g c =
-    let m = meaning_of g.P.Application.app g.P.Application.text g.P.Application.from_text g.P.Application.names in
+    let m =
+    meaning_of g.P.Application.app g.P.Application.text g.P.Application.from_text g.P.Application.names
+    g.P.Invariant.counts in
     rw (told_none c.args.config.now c.args.id (shown m c.args.config.now c.args.id) c.in-None.ensures.none)
     c.put_refusal.ensures.err
 
 pub returns-in_ok-put_head-in-Some-clause-ok : goal.returns-in_ok-put_head-in-Some-clause-ok
 returns-in_ok-put_head-in-Some-clause-ok g c =
-    let m = meaning_of g.P.Application.app g.P.Application.text g.P.Application.from_text g.P.Application.names in
+    let m =
+    meaning_of g.P.Application.app g.P.Application.text g.P.Application.from_text g.P.Application.names
+    g.P.Invariant.counts in
     let head = node_head c.args.id c.in-Some.tree c.in-Some.wave in
     let local = ended (m.text c.in-Some.local.now) in
     let at = c.in-Some.ensures.found in

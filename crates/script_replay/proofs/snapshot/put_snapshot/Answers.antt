@@ -10,7 +10,9 @@ use Rattle.script_replay.proofs.snapshot.put_snapshot.Goals as goal
 
 pub returns-in_err-put_bytes-clause-err : goal.returns-in_err-put_bytes-clause-err
 returns-in_err-put_bytes-clause-err g c =
-    let m = meaning_of g.P.Application.app g.P.Application.text g.P.Application.from_text g.P.Application.names in
+    let m =
+    meaning_of g.P.Application.app g.P.Application.text g.P.Application.from_text g.P.Application.names
+    g.P.Invariant.counts in
     let config = c.args.config.now in
     let P : List ℕ → Type 0 =
     λ t. AppendsPrefix (g.W.Write.contents c.args.out.now) (g.W.Write.contents c.put_bytes.new.out) t in
@@ -20,7 +22,9 @@ returns-in_err-put_bytes-clause-err g c =
 
 pub returns-in_err-show_all-clause-err : goal.returns-in_err-show_all-clause-err
 returns-in_err-show_all-clause-err g c =
-    let m = meaning_of g.P.Application.app g.P.Application.text g.P.Application.from_text g.P.Application.names in
+    let m =
+    meaning_of g.P.Application.app g.P.Application.text g.P.Application.from_text g.P.Application.names
+    g.P.Invariant.counts in
     let config = c.args.config.now in
     let nodes = flat_map (shown m config) config.graph.nodes in
     let P : List ℕ → Type 0 =
@@ -32,7 +36,9 @@ returns-in_err-show_all-clause-err g c =
 
 pub returns-clause-err : goal.returns-clause-err
 returns-clause-err g c =
-    let m = meaning_of g.P.Application.app g.P.Application.text g.P.Application.from_text g.P.Application.names in
+    let m =
+    meaning_of g.P.Application.app g.P.Application.text g.P.Application.from_text g.P.Application.names
+    g.P.Invariant.counts in
     let config = c.args.config.now in
     let nodes = flat_map (shown m config) config.graph.nodes in
     let links = links_text (links_of c.topology.result.now) in
@@ -47,7 +53,9 @@ returns-clause-err g c =
 
 pub returns-clause-ok : goal.returns-clause-ok
 returns-clause-ok g c =
-    let m = meaning_of g.P.Application.app g.P.Application.text g.P.Application.from_text g.P.Application.names in
+    let m =
+    meaning_of g.P.Application.app g.P.Application.text g.P.Application.from_text g.P.Application.names
+    g.P.Invariant.counts in
     let config = c.args.config.now in
     let nodes = flat_map (shown m config) config.graph.nodes in
     let links = links_text (links_of c.topology.result.now) in

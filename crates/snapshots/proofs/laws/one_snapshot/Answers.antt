@@ -12,7 +12,9 @@ returns-clause-items g c = λ graph modulus items a b. alike g.P.Application.app
 
 pub returns-clause-text : goal.returns-clause-text
 returns-clause-text g c = λ graph modulus text a b of_a of_b.
-    let m = meaning_of g.P.Application.app g.P.Application.text g.P.Application.from_text g.P.Application.names in
+    let m =
+    meaning_of g.P.Application.app g.P.Application.text g.P.Application.from_text g.P.Application.names
+    g.P.Invariant.counts in
     let P : List (Item g.row.P-Local.Denot) → Type 0 = λ items. AreNamed g.P.Application.app graph modulus items b in
     let same = one_list m graph 1 [] (lines_of text) of_a.0 of_b.0 of_a.1.said of_b.1.said in
     alike g.P.Application.app graph modulus of_a.0 a b of_a.2 (subst P (sym same) of_b.2)

@@ -17,6 +17,6 @@ pub returns : goal.returns
 returns g c = λ graph config can.
     let app = g.P.Application in
     let laws = g.met.P.Application g.world.𝓛 g.world.𝓜 g.world.𝓡 ((λ s x. x), (λ x. x), (λ x. x), λ x. x) in
-    read_back (meaning_of app.app app.text app.from_text app.names) app.IsLocal graph config can
+    read_back (meaning_of app.app app.text app.from_text app.names g.P.Invariant.counts) app.IsLocal graph config can
     (λ local is. (laws.one_text (app.text local) local).1 (is, refl))
     (λ local is. printed (app.text local) (laws.one_word local is).1)

@@ -8,7 +8,9 @@ use Rattle.snapshots.proofs.line.read_version.Goals as goal
 
 pub returns-in_err-version : goal.returns-in_err-version
 returns-in_err-version g c =
-    let m = meaning_of g.P.Application.app g.P.Application.text g.P.Application.from_text g.P.Application.names in
+    let m =
+    meaning_of g.P.Application.app g.P.Application.text g.P.Application.from_text g.P.Application.names
+    g.P.Invariant.counts in
     rw c.from_residual.ensures
     (no_version m c.args.number c.args.text.now
     (λ version first small is. c.in_err-version.ensures.only version small is))

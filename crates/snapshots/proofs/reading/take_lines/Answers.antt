@@ -9,7 +9,9 @@ use Rattle.snapshots.proofs.reading.take_lines.Goals as goal
 
 pub returns-in-Err-clause-err : goal.returns-in-Err-clause-err
 returns-in-Err-clause-err g c = λ other.
-    let m = meaning_of g.P.Application.app g.P.Application.text g.P.Application.from_text g.P.Application.names in
+    let m =
+    meaning_of g.P.Application.app g.P.Application.text g.P.Application.from_text g.P.Application.names
+    g.P.Invariant.counts in
     let (lines, items, split, count, room, said, kept) = c.loop-line.invariant in
     let P : ℕ → Type 0 = λ k. IsLineFault m c.args.topology.now k items c.in-Some.line.now c.in-Err.fault in
     of_a_line lines c.in-Some.line.now (lines_of c.in-Some.after.now) items
@@ -18,7 +20,9 @@ returns-in-Err-clause-err g c = λ other.
 
 pub loop-line-preserved : goal.loop-line-preserved
 loop-line-preserved g c =
-    let m = meaning_of g.P.Application.app g.P.Application.text g.P.Application.from_text g.P.Application.names in
+    let m =
+    meaning_of g.P.Application.app g.P.Application.text g.P.Application.from_text g.P.Application.names
+    g.P.Invariant.counts in
     let (lines, items, split, count, room, said, kept) = c.loop-line.invariant in
     let (line_said, says, allowed, now_kept) = c.in-Ok.ensures.ok items kept in
     let line = c.in-Some.line.now in
@@ -37,7 +41,9 @@ loop-line-preserved g c =
 
 pub returns-clause-ok : goal.returns-clause-ok
 returns-clause-ok g c =
-    let m = meaning_of g.P.Application.app g.P.Application.text g.P.Application.from_text g.P.Application.names in
+    let m =
+    meaning_of g.P.Application.app g.P.Application.text g.P.Application.from_text g.P.Application.names
+    g.P.Invariant.counts in
     let (lines, items, split, count, room, said, kept) = c.loop-line.invariant in
     on_ok_weaker c.take_line-2.result
     (λ h.
@@ -50,7 +56,9 @@ returns-clause-ok g c =
 
 pub returns-clause-err : goal.returns-clause-err
 returns-clause-err g c =
-    let m = meaning_of g.P.Application.app g.P.Application.text g.P.Application.from_text g.P.Application.names in
+    let m =
+    meaning_of g.P.Application.app g.P.Application.text g.P.Application.from_text g.P.Application.names
+    g.P.Invariant.counts in
     let (lines, items, split, count, room, said, kept) = c.loop-line.invariant in
     IfErr-weaker c.take_line-2.result _ _
     (λ f h other.

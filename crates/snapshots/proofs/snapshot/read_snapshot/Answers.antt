@@ -22,7 +22,9 @@ returns-in-Some-clause-err g c = λ other.
 
 pub configured-requires-clause-possible : goal.configured-requires-clause-possible
 configured-requires-clause-possible g c κs within =
-    let m = meaning_of g.P.Application.app g.P.Application.text g.P.Application.from_text g.P.Application.names in
+    let m =
+    meaning_of g.P.Application.app g.P.Application.text g.P.Application.from_text g.P.Application.names
+    g.P.Invariant.counts in
     let (items, kept, said) = c.in-Ok.ensures.ok in
     let graph = c.args.topology.now in
     subst (ArePossible graph) (sym kept.nodes)
@@ -30,7 +32,9 @@ configured-requires-clause-possible g c κs within =
 
 pub configured-requires-clause-links : goal.configured-requires-clause-links
 configured-requires-clause-links g c κs within =
-    let m = meaning_of g.P.Application.app g.P.Application.text g.P.Application.from_text g.P.Application.names in
+    let m =
+    meaning_of g.P.Application.app g.P.Application.text g.P.Application.from_text g.P.Application.names
+    g.P.Invariant.counts in
     let (items, kept, said) = c.in-Ok.ensures.ok in
     let graph = c.args.topology.now in
     subst (AreLinks graph) (sym kept.links)

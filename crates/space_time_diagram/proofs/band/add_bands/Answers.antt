@@ -1,7 +1,7 @@
 use Rattle.std.proofs.Common.{append-nil, arith, length, ap, sym, ◌∙◌, ◌+◌, ◌++◌}
 use Rattle.std.proofs.lemmas.List.{drop_all}
 use Rattle.space_time_diagram.specs.Bands.{bands_from}
-use Rattle.space_time_diagram.specs.Lanes.{lane_of}
+use Rattle.space_time_diagram.specs.Lanes.{own_lane}
 use Rattle.history.proofs.Replays.{next_allowed}
 use Rattle.space_time_diagram.proofs.PlayedBands.{bands_more, bands_none, rest_allowed}
 use Rattle.space_time_diagram.proofs.band.add_bands.Goals as goal
@@ -19,11 +19,10 @@ loop-entry-preserved g c =
     let loop = c.loop-entry in
     let es = c.args.entries.now in
     let short = c.loop-entry-test.true in
-    let pushed = rw (c.band_at.ensures, c.entry_node.ensures) at c.in_ok-push.ensures.items in (
+    let pushed = rw (c.own_lane-lane.ensures.lane, c.entry_node-node.ensures) at c.in_ok-add_band.ensures in (
       rw pushed
-          (bands_more app from_text (lane_of c.args.opening.now) (length es) (loop.place + 1) loop.config
-          c.play.new.config
-          es loop.entry-index _ loop.bands.items short c.entry-item.is c.in_ok-play.ensures ∙ loop.invariant.0),
+          (bands_more app from_text (own_lane c.args.nodes.now c.args.opening.now) (length es) (loop.place + 1)
+          loop.config c.play.new.config es loop.entry-index _ loop.bands.items short c.entry-item.is c.in_ok-play.ensures ∙ loop.invariant.0),
       rest_allowed app from_text loop.config c.play.new.config es loop.entry-index _ short c.entry-item.is
           c.in_ok-play.ensures loop.invariant.1,
       omega (arith, loop.invariant.2),
@@ -35,7 +34,7 @@ returns g c =
     let from_text = g.P.Application.from_text in
     let loop = c.loop-entry in
     let es = c.args.entries.now in
-    let lane = lane_of c.args.opening.now in
+    let lane = own_lane c.args.nodes.now c.args.opening.now in
     let none =
     ap (bands_from app from_text lane (length es) loop.config (loop.place + 1))
     (drop_all loop.entry-index es c.loop-entry-test.false)

@@ -1,51 +1,38 @@
-use Rattle.std.proofs.Common.{[], length, rules, ◌++◌}
-use Rattle.std.proofs.lemmas.Result.{on_err_weaker}
-use Rattle.std.specs.List.{flat_map}
+use Rattle.std.proofs.Common.{List, OnErr, OnOk, length, subst, sym, ℕ, ◌∙◌}
+use Rattle.std.specs.Io.KnownBytes.{Appends}
+use Rattle.action_tables.specs.Written.{AppendsPrefix}
 use Rattle.topology.specs.Components.{component}
-use Rattle.action_tables.proofs.Prefixes.{AppendsPrefix-first, OnErr-always}
-use Rattle.space_time_diagram.specs.Completions.{completion_end, completion_tag, completion_words, piece}
+use Rattle.topology.specs.Graph.{is_node}
 use Rattle.space_time_diagram.specs.Lanes.{lane_of}
-use Rattle.space_time_diagram.specs.Page.{right_end, row_y}
-use Rattle.space_time_diagram.proofs.Sequences.{fourth_failed, second_failed, third_failed}
+use Rattle.space_time_diagram.proofs.ComponentMembers.{line_where_some, nothing_where_none}
+use Rattle.space_time_diagram.proofs.Sequences.{nothing_yet}
 use Rattle.space_time_diagram.proofs.completion.put_completion.Goals as goal
 
-pub returns-in_err-put_tag-clause-err : goal.returns-in_err-put_tag-clause-err
-returns-in_err-put_tag-clause-err g c =
-    let r = c.args.report in
-    let tag = completion_tag (row_y r.finished) in
-    let words = completion_words r.number r.opened r.finished in
-    let pieces = flat_map (piece (lane_of c.args.opening.now)) (component c.args.topology.now c.args.node).nodes in
-    let last = completion_end (right_end (length c.args.opening.now.graph.ids)) r.number in
-    OnErr-always _ _ (AppendsPrefix-first _ _ tag (words ++ (pieces ++ (last ++ []))) (search rules))
+pub returns-then-has_member-clause-ok : goal.returns-then-has_member-clause-ok
+returns-then-has_member-clause-ok g c =
+    let nodes = c.args.nodes.now in
+    let out = g.W.Write.contents c.args.out.now in
+    subst (λ (t : List ℕ). OnOk c.put_completion_line.result (Appends out (g.W.Write.contents
+    c.put_completion_line.new.out) t))
+    (line_where_some (lane_of nodes c.args.opening.now) (length nodes) c.args.before c.args.report
+    (is_node (component c.args.topology.now c.args.node)) nodes (sym c.has_member.ensures ∙ c.if-has_member.true))
+    c.put_completion_line.ensures.ok
 
-pub returns-in_err-put_words-clause-err : goal.returns-in_err-put_words-clause-err
-returns-in_err-put_words-clause-err g c =
-    let r = c.args.report in
-    let tag = completion_tag (row_y r.finished) in
-    let words = completion_words r.number r.opened r.finished in
-    let pieces = flat_map (piece (lane_of c.args.opening.now)) (component c.args.topology.now c.args.node).nodes in
-    let last = completion_end (right_end (length c.args.opening.now.graph.ids)) r.number in
-    OnErr-always _ _ (second_failed _ (g.W.Write.contents c.put_tag.new.out) _ tag words (pieces ++ (last ++ []))
-    (search rules) (search rules))
+pub returns-then-has_member-clause-err : goal.returns-then-has_member-clause-err
+returns-then-has_member-clause-err g c =
+    let nodes = c.args.nodes.now in
+    let out = g.W.Write.contents c.args.out.now in
+    subst (λ (t : List ℕ). OnErr c.put_completion_line.result (AppendsPrefix out (g.W.Write.contents
+    c.put_completion_line.new.out) t))
+    (line_where_some (lane_of nodes c.args.opening.now) (length nodes) c.args.before c.args.report
+    (is_node (component c.args.topology.now c.args.node)) nodes (sym c.has_member.ensures ∙ c.if-has_member.true))
+    c.put_completion_line.ensures.err
 
-pub returns-in_err-put_pieces-clause-err : goal.returns-in_err-put_pieces-clause-err
-returns-in_err-put_pieces-clause-err g c =
-    let r = c.args.report in
-    let tag = completion_tag (row_y r.finished) in
-    let words = completion_words r.number r.opened r.finished in
-    let pieces = flat_map (piece (lane_of c.args.opening.now)) (component c.args.topology.now c.args.node).nodes in
-    let last = completion_end (right_end (length c.args.opening.now.graph.ids)) r.number in
-    OnErr-always _ _ (third_failed _ (g.W.Write.contents c.put_tag.new.out) (g.W.Write.contents c.put_words.new.out) _
-    tag words pieces (last ++ []) (search rules) (search rules) (search rules))
-
-pub returns-clause-err : goal.returns-clause-err
-returns-clause-err g c =
-    let r = c.args.report in
-    let tag = completion_tag (row_y r.finished) in
-    let words = completion_words r.number r.opened r.finished in
-    let pieces = flat_map (piece (lane_of c.args.opening.now)) (component c.args.topology.now c.args.node).nodes in
-    let last = completion_end (right_end (length c.args.opening.now.graph.ids)) r.number in
-    on_err_weaker _ (λ h. fourth_failed _ (g.W.Write.contents c.put_tag.new.out)
-    (g.W.Write.contents c.put_words.new.out) (g.W.Write.contents c.put_pieces.new.out) _ tag words pieces last []
-    (search rules) (search rules) (search rules) h)
-    (rw (c.right_end.ensures, c.len-lanes.ensures, c.topology.ensures) at c.put_end.ensures.err)
+pub returns-else-has_member-clause-ok : goal.returns-else-has_member-clause-ok
+returns-else-has_member-clause-ok g c =
+    let nodes = c.args.nodes.now in
+    let out = g.W.Write.contents c.args.out.now in
+    subst (λ (t : List ℕ). Appends out out t)
+    (nothing_where_none (lane_of nodes c.args.opening.now) (length nodes) c.args.before c.args.report
+    (is_node (component c.args.topology.now c.args.node)) nodes (sym c.has_member.ensures ∙ c.if-has_member.false))
+    (nothing_yet out)

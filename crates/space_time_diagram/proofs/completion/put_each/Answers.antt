@@ -19,6 +19,7 @@ pub returns-in_err-put_next-clause-err : goal.returns-in_err-put_next-clause-err
 returns-in_err-put_next-clause-err g c =
     OnErr-always _ _
     (AppendsPrefix-piece _ _ _
-    (told_completion g.P.Application.app g.P.Application.from_text c.args.opening.now c.args.entries.now)
+    (told_completion g.P.Application.app g.P.Application.from_text c.args.nodes.now c.args.before c.args.opening.now
+    c.args.entries.now)
     c.args.reports.now c.loop-report.report-index _ (omega arith)
     c.loop-report.invariant.0 c.in_err-put_next.ensures.err)

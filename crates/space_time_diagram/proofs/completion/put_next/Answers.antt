@@ -19,9 +19,9 @@ returns-in_err-put_completion-clause-err g c =
     OnErr-always _ _
     (subst (λ (nodes : List ℕ). AppendsPrefix (g.W.Write.contents c.args.out.now)
     (g.W.Write.contents c.put_completion.new.out)
-    (completion (lane_of opening) (length opening.graph.ids) nodes c.args.report))
-    (sym (told_there g.P.Application.app g.P.Application.from_text opening c.args.config.now c.play_all.new.config
-    c.args.entries.now c.args.played c.args.report.finished c.index-entries-report.result _ _ c.requires.later
+    (completion (lane_of c.args.nodes.now opening) (length c.args.nodes.now) c.args.before nodes c.args.report))
+    (sym (told_there g.P.Application.app g.P.Application.from_text c.args.nodes.now opening c.args.config.now
+    c.play_all.new.config c.args.entries.now c.args.played c.args.report.finished c.index-entries-report.result _ _ c.requires.later
     c.requires.within c.index-entries-report.is c.requires.here c.in_ok-play_all.ensures c.topology.ensures
     c.entry_node-node.ensures))
     c.in_err-put_completion.ensures.err)
@@ -37,9 +37,9 @@ returns-clause-ok g c =
     let opening = c.args.opening.now in
     subst (λ (nodes : List ℕ). Appends (g.W.Write.contents c.args.out.now)
     (g.W.Write.contents c.put_completion.new.out)
-    (completion (lane_of opening) (length opening.graph.ids) nodes c.args.report))
-    (sym (told_there g.P.Application.app g.P.Application.from_text opening c.args.config.now c.play_all.new.config
-    c.args.entries.now c.args.played c.args.report.finished c.index-entries-report.result _ _ c.requires.later
+    (completion (lane_of c.args.nodes.now opening) (length c.args.nodes.now) c.args.before nodes c.args.report))
+    (sym (told_there g.P.Application.app g.P.Application.from_text c.args.nodes.now opening c.args.config.now
+    c.play_all.new.config c.args.entries.now c.args.played c.args.report.finished c.index-entries-report.result _ _ c.requires.later
     c.requires.within c.index-entries-report.is c.requires.here c.in_ok-play_all.ensures c.topology.ensures
     c.entry_node-node.ensures))
     c.in_ok-put_completion.ensures.ok

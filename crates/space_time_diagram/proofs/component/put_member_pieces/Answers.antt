@@ -8,6 +8,7 @@ use Rattle.space_time_diagram.proofs.component.put_member_pieces.Goals as goal
 pub returns-in_err-put_member_piece-clause-err : goal.returns-in_err-put_member_piece-clause-err
 returns-in_err-put_member_piece-clause-err g c =
     OnErr-always _ _
-    (AppendsPrefix-piece _ _ _ (member_piece (lane_of c.args.opening.now) c.args.topology.now c.args.node)
-    c.args.others.now c.loop-other.other-index _ (omega arith)
+    (AppendsPrefix-piece _ _ _
+    (member_piece (lane_of c.args.nodes.now c.args.opening.now) c.args.topology.now c.args.node)
+    c.args.nodes.now c.loop-other.other-index _ (omega arith)
     c.loop-other.invariant c.in_err-put_member_piece.ensures.err)

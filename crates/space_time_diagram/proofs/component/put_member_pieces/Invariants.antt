@@ -9,4 +9,4 @@ use Rattle.space_time_diagram.proofs.component.put_member_pieces.Given as goal
 abbrev pub invariant-loop-other : goal.invariant-loop-other
 invariant-loop-other g l =
     Appends (g.W.Write.contents l.initial.out) (g.W.Write.contents l.out)
-    (flat_map (member_piece (lane_of l.opening) l.topology l.node) (take l.other-index l.others))
+    (flat_map (member_piece (lane_of l.nodes l.opening) l.topology l.node) (take l.other-index l.nodes))

@@ -7,4 +7,4 @@ use Rattle.space_time_diagram.proofs.heading.put_headings.Given as goal
 abbrev pub invariant-loop-number : goal.invariant-loop-number
 invariant-loop-number g l =
     Appends (g.W.Write.contents l.initial.out) (g.W.Write.contents l.out)
-    (headings (lane_of l.opening) l.ids l.number)
+    (headings (lane_of l.nodes l.opening) l.nodes l.number)

@@ -8,6 +8,5 @@ use Rattle.space_time_diagram.proofs.heading.put_lane_headings.Goals as goal
 pub returns-in_err-put_lane_heading-clause-err : goal.returns-in_err-put_lane_heading-clause-err
 returns-in_err-put_lane_heading-clause-err g c =
     OnErr-always _ _
-    (AppendsPrefix-piece _ _ _ (lane_heading (lane_of c.args.opening.now) c.args.y) c.args.ids.now c.loop-id.id-index _
-    (omega arith)
-    c.loop-id.invariant c.in_err-put_lane_heading.ensures.err)
+    (AppendsPrefix-piece _ _ _ (lane_heading (lane_of c.args.nodes.now c.args.opening.now) c.args.y)
+    c.args.nodes.now c.loop-id.id-index _ (omega arith) c.loop-id.invariant c.in_err-put_lane_heading.ensures.err)

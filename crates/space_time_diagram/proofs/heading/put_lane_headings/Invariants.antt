@@ -8,4 +8,4 @@ use Rattle.space_time_diagram.proofs.heading.put_lane_headings.Given as goal
 abbrev pub invariant-loop-id : goal.invariant-loop-id
 invariant-loop-id g l =
     Appends (g.W.Write.contents l.initial.out) (g.W.Write.contents l.out)
-    (lane_headings (lane_of l.opening) (take l.id-index l.ids) l.y)
+    (lane_headings (lane_of l.nodes l.opening) (take l.id-index l.nodes) l.y)

@@ -13,7 +13,9 @@ loop-init g c = ([], Consumes-nil (g.R.Read.remaining c.args.input.now), search 
 
 pub returns-in-Err-clause-cut : goal.returns-in-Err-clause-cut
 returns-in-Err-clause-cut g c s start =
-    let m = meaning_of g.P.Application.app g.P.Application.text g.P.Application.from_text g.P.Application.names in
+    let m =
+    meaning_of g.P.Application.app g.P.Application.text g.P.Application.from_text g.P.Application.names
+    g.P.Invariant.counts in
     let (given, consumed, sized, on) = c.loop.invariant in
     let (line, within) = on s start in
     let log = g.H.Write.contents c.loop.log in
@@ -29,7 +31,9 @@ returns-in-Err-clause-cut g c s start =
 
 pub returns-in_default-clause-cut : goal.returns-in_default-clause-cut
 returns-in_default-clause-cut g c s start =
-    let m = meaning_of g.P.Application.app g.P.Application.text g.P.Application.from_text g.P.Application.names in
+    let m =
+    meaning_of g.P.Application.app g.P.Application.text g.P.Application.from_text g.P.Application.names
+    g.P.Invariant.counts in
     let (given, consumed, sized, on) = c.loop.invariant in
     let (line, within) = on s start in
     let log = g.H.Write.contents c.loop.log in
@@ -48,7 +52,9 @@ returns-in_default-clause-cut g c s start =
 
 pub returns-then-self-gt-MOST_LINES-clause-cut : goal.returns-then-self-gt-MOST_LINES-clause-cut
 returns-then-self-gt-MOST_LINES-clause-cut g c s start =
-    let m = meaning_of g.P.Application.app g.P.Application.text g.P.Application.from_text g.P.Application.names in
+    let m =
+    meaning_of g.P.Application.app g.P.Application.text g.P.Application.from_text g.P.Application.names
+    g.P.Invariant.counts in
     let (given, consumed, sized, on) = c.loop.invariant in
     let (line, within) = on s start in
     let log = g.H.Write.contents c.loop.log in
@@ -67,7 +73,9 @@ returns-then-self-gt-MOST_LINES-clause-cut g c s start =
 
 pub returns-then-count-eq0-clause-done : goal.returns-then-count-eq0-clause-done
 returns-then-count-eq0-clause-done g c =
-    let m = meaning_of g.P.Application.app g.P.Application.text g.P.Application.from_text g.P.Application.names in
+    let m =
+    meaning_of g.P.Application.app g.P.Application.text g.P.Application.from_text g.P.Application.names
+    g.P.Invariant.counts in
     on_ok_weaker c.end.result
     (λ done s start. let (given, consumed, sized, on) = c.loop.invariant in
     let (line, within) = on s start in
@@ -95,7 +103,9 @@ returns-then-count-eq0-clause-done g c =
 
 pub returns-then-count-eq0-clause-cut : goal.returns-then-count-eq0-clause-cut
 returns-then-count-eq0-clause-cut g c =
-    let m = meaning_of g.P.Application.app g.P.Application.text g.P.Application.from_text g.P.Application.names in
+    let m =
+    meaning_of g.P.Application.app g.P.Application.text g.P.Application.from_text g.P.Application.names
+    g.P.Invariant.counts in
     on_err_weaker c.end.result
     (λ cut s start. let (given, consumed, sized, on) = c.loop.invariant in
     let (line, within) = on s start in
@@ -123,7 +133,9 @@ returns-then-count-eq0-clause-cut g c =
 
 pub returns-in-Ok-true-clause-done : goal.returns-in-Ok-true-clause-done
 returns-in-Ok-true-clause-done g c =
-    let m = meaning_of g.P.Application.app g.P.Application.text g.P.Application.from_text g.P.Application.names in
+    let m =
+    meaning_of g.P.Application.app g.P.Application.text g.P.Application.from_text g.P.Application.names
+    g.P.Invariant.counts in
     on_ok_weaker c.leave.result
     (λ done s start. let (given, consumed, sized, on) = c.loop.invariant in
     let (line, within) = on s start in
@@ -154,7 +166,9 @@ returns-in-Ok-true-clause-done g c =
 
 pub returns-in-Ok-true-clause-cut : goal.returns-in-Ok-true-clause-cut
 returns-in-Ok-true-clause-cut g c =
-    let m = meaning_of g.P.Application.app g.P.Application.text g.P.Application.from_text g.P.Application.names in
+    let m =
+    meaning_of g.P.Application.app g.P.Application.text g.P.Application.from_text g.P.Application.names
+    g.P.Invariant.counts in
     on_err_weaker c.leave.result
     (λ cut s start. let (given, consumed, sized, on) = c.loop.invariant in
     let (line, within) = on s start in
@@ -185,7 +199,9 @@ returns-in-Ok-true-clause-cut g c =
 
 pub returns-in-Err-take_bytes-clause-cut : goal.returns-in-Err-take_bytes-clause-cut
 returns-in-Err-take_bytes-clause-cut g c s start =
-    let m = meaning_of g.P.Application.app g.P.Application.text g.P.Application.from_text g.P.Application.names in
+    let m =
+    meaning_of g.P.Application.app g.P.Application.text g.P.Application.from_text g.P.Application.names
+    g.P.Invariant.counts in
     let (given, consumed, sized, on) = c.loop.invariant in
     let (line, within) = on s start in
     let log = g.H.Write.contents c.loop.log in
@@ -208,7 +224,9 @@ returns-in-Err-take_bytes-clause-cut g c s start =
 
 pub loop-preserved : goal.loop-preserved
 loop-preserved g c =
-    let m = meaning_of g.P.Application.app g.P.Application.text g.P.Application.from_text g.P.Application.names in
+    let m =
+    meaning_of g.P.Application.app g.P.Application.text g.P.Application.from_text g.P.Application.names
+    g.P.Invariant.counts in
     let (given, consumed, sized, on) = c.loop.invariant in
     let old = g.R.Read.remaining c.args.input.now in
     let here = g.R.Read.remaining c.loop.input in
@@ -234,7 +252,9 @@ loop-preserved g c =
 
 pub returns-clause-cut : goal.returns-clause-cut
 returns-clause-cut g c s start =
-    let m = meaning_of g.P.Application.app g.P.Application.text g.P.Application.from_text g.P.Application.names in
+    let m =
+    meaning_of g.P.Application.app g.P.Application.text g.P.Application.from_text g.P.Application.names
+    g.P.Invariant.counts in
     let (given, consumed, sized, on) = c.loop.invariant in
     let (line, within) = on s start in
     let log = g.H.Write.contents c.loop.log in

@@ -7,7 +7,9 @@ use Rattle.live_session.proofs.session.Session.end.Goals as goal
 
 pub returns-in-Ok-clause-done : goal.returns-in-Ok-clause-done
 returns-in-Ok-clause-done g c =
-    let m = meaning_of g.P.Application.app g.P.Application.text g.P.Application.from_text g.P.Application.names in
+    let m =
+    meaning_of g.P.Application.app g.P.Application.text g.P.Application.from_text g.P.Application.names
+    g.P.Invariant.counts in
     on_ok_weaker c.leave.result
     (λ done s given at. let (line, within) = at in
     done s given
@@ -16,7 +18,9 @@ returns-in-Ok-clause-done g c =
 
 pub returns-in-Ok-clause-cut : goal.returns-in-Ok-clause-cut
 returns-in-Ok-clause-cut g c =
-    let m = meaning_of g.P.Application.app g.P.Application.text g.P.Application.from_text g.P.Application.names in
+    let m =
+    meaning_of g.P.Application.app g.P.Application.text g.P.Application.from_text g.P.Application.names
+    g.P.Invariant.counts in
     on_err_weaker c.leave.result
     (λ cut s given at. let (line, within) = at in
     cut s given
@@ -25,7 +29,9 @@ returns-in-Ok-clause-cut g c =
 
 pub returns-in-Err-clause-cut : goal.returns-in-Err-clause-cut
 returns-in-Err-clause-cut g c s given at =
-    let m = meaning_of g.P.Application.app g.P.Application.text g.P.Application.from_text g.P.Application.names in
+    let m =
+    meaning_of g.P.Application.app g.P.Application.text g.P.Application.from_text g.P.Application.names
+    g.P.Invariant.counts in
     let (line, within) = at in
     let log = g.H.Write.contents c.args.log.now in
     let out = g.W.Write.contents c.args.out.now in

@@ -15,7 +15,9 @@ take_lines-requires-in-Ok-false-clause-few g c κs within =
 
 pub returns-in-Ok-clause-ok : goal.returns-in-Ok-clause-ok
 returns-in-Ok-clause-ok g c s given at =
-    let m = meaning_of g.P.Application.app g.P.Application.text g.P.Application.from_text g.P.Application.names in
+    let m =
+    meaning_of g.P.Application.app g.P.Application.text g.P.Application.from_text g.P.Application.names
+    g.P.Invariant.counts in
     let (line, within) = at in
     let old = c.args.self.now in
     begun_on m s (g.H.Write.contents c.args.log.now) (g.W.Write.contents c.args.out.now) given line c.args.bytes.now old
@@ -30,14 +32,18 @@ returns-in-Ok-clause-ok g c s given at =
 
 pub returns-in-Err-clause-cut : goal.returns-in-Err-clause-cut
 returns-in-Err-clause-cut g c s given more at =
-    let m = meaning_of g.P.Application.app g.P.Application.text g.P.Application.from_text g.P.Application.names in
+    let m =
+    meaning_of g.P.Application.app g.P.Application.text g.P.Application.from_text g.P.Application.names
+    g.P.Invariant.counts in
     let (line, within) = at in
     cut_before m s (g.H.Write.contents c.args.log.now) (g.W.Write.contents c.args.out.now) given line c.args.bytes.now
     more c.args.self.now within
 
 pub returns-in-Ok-true-clause-ok : goal.returns-in-Ok-true-clause-ok
 returns-in-Ok-true-clause-ok g c s given at =
-    let m = meaning_of g.P.Application.app g.P.Application.text g.P.Application.from_text g.P.Application.names in
+    let m =
+    meaning_of g.P.Application.app g.P.Application.text g.P.Application.from_text g.P.Application.names
+    g.P.Invariant.counts in
     let (line, within) = at in
     begun_ends_it m s (g.H.Write.contents c.args.log.now) (g.W.Write.contents c.args.out.now) given c.args.bytes.now
     c.in-Some.end.now c.in-Some.after.now c.in-Some.ensures.found line c.in-Ok-true.field-0 c.args.self.now
@@ -45,7 +51,9 @@ returns-in-Ok-true-clause-ok g c s given at =
 
 pub returns-in-Ok-false-clause-ok : goal.returns-in-Ok-false-clause-ok
 returns-in-Ok-false-clause-ok g c =
-    let m = meaning_of g.P.Application.app g.P.Application.text g.P.Application.from_text g.P.Application.names in
+    let m =
+    meaning_of g.P.Application.app g.P.Application.text g.P.Application.from_text g.P.Application.names
+    g.P.Invariant.counts in
     let log = g.H.Write.contents c.args.log.now in
     let out = g.W.Write.contents c.args.out.now in
     IfOk-weaker c.take_lines-in-Ok-false.result _ _
@@ -59,7 +67,9 @@ returns-in-Ok-false-clause-ok g c =
 
 pub returns-in-Ok-false-clause-cut : goal.returns-in-Ok-false-clause-cut
 returns-in-Ok-false-clause-cut g c =
-    let m = meaning_of g.P.Application.app g.P.Application.text g.P.Application.from_text g.P.Application.names in
+    let m =
+    meaning_of g.P.Application.app g.P.Application.text g.P.Application.from_text g.P.Application.names
+    g.P.Invariant.counts in
     let log = g.H.Write.contents c.args.log.now in
     let out = g.W.Write.contents c.args.out.now in
     on_err_weaker c.take_lines-in-Ok-false.result
@@ -73,7 +83,9 @@ returns-in-Ok-false-clause-cut g c =
 
 pub returns-in-Err-end_partial-clause-cut : goal.returns-in-Err-end_partial-clause-cut
 returns-in-Err-end_partial-clause-cut g c s given more at =
-    let m = meaning_of g.P.Application.app g.P.Application.text g.P.Application.from_text g.P.Application.names in
+    let m =
+    meaning_of g.P.Application.app g.P.Application.text g.P.Application.from_text g.P.Application.names
+    g.P.Invariant.counts in
     let (line, within) = at in
     cut_before m s (g.H.Write.contents c.args.log.now) (g.W.Write.contents c.args.out.now) given line c.args.bytes.now
     more c.args.self.now within

@@ -23,7 +23,9 @@ take_line-requires-clause-whole g c κs within =
 
 pub returns-in-Ok-true-clause-ok : goal.returns-in-Ok-true-clause-ok
 returns-in-Ok-true-clause-ok g c s given at =
-    let m = meaning_of g.P.Application.app g.P.Application.text g.P.Application.from_text g.P.Application.names in
+    let m =
+    meaning_of g.P.Application.app g.P.Application.text g.P.Application.from_text g.P.Application.names
+    g.P.Invariant.counts in
     let (passed, split, bound, fresh, on) = c.loop-line.invariant in
     let (line, within) = at in
     let start = g.H.Write.contents c.args.log.now in
@@ -37,7 +39,9 @@ returns-in-Ok-true-clause-ok g c s given at =
 
 pub returns-in-Err-clause-cut : goal.returns-in-Err-clause-cut
 returns-in-Err-clause-cut g c s given more at =
-    let m = meaning_of g.P.Application.app g.P.Application.text g.P.Application.from_text g.P.Application.names in
+    let m =
+    meaning_of g.P.Application.app g.P.Application.text g.P.Application.from_text g.P.Application.names
+    g.P.Invariant.counts in
     let (passed, split, bound, fresh, on) = c.loop-line.invariant in
     let (line, within) = at in
     lines_cut_short m s (g.H.Write.contents c.loop-line.log) (g.W.Write.contents c.loop-line.out) given passed
@@ -48,7 +52,9 @@ returns-in-Err-clause-cut g c s given more at =
 
 pub returns-in-Err-commit-clause-cut : goal.returns-in-Err-commit-clause-cut
 returns-in-Err-commit-clause-cut g c s given more at =
-    let m = meaning_of g.P.Application.app g.P.Application.text g.P.Application.from_text g.P.Application.names in
+    let m =
+    meaning_of g.P.Application.app g.P.Application.text g.P.Application.from_text g.P.Application.names
+    g.P.Invariant.counts in
     let (passed, split, bound, fresh, on) = c.loop-line.invariant in
     let (line, within) = at in
     let log = g.H.Write.contents c.loop-line.log in
@@ -72,7 +78,9 @@ loop-line-smaller-in-Ok g c = c.in-Some.ensures.shorter
 
 pub loop-line-preserved-in-Ok : goal.loop-line-preserved-in-Ok
 loop-line-preserved-in-Ok g c =
-    let m = meaning_of g.P.Application.app g.P.Application.text g.P.Application.from_text g.P.Application.names in
+    let m =
+    meaning_of g.P.Application.app g.P.Application.text g.P.Application.from_text g.P.Application.names
+    g.P.Invariant.counts in
     let (passed, split, bound, fresh, on) = c.loop-line.invariant in
     let log = g.H.Write.contents c.loop-line.log in
     let out = g.W.Write.contents c.loop-line.out in
@@ -108,7 +116,9 @@ loop-line-smaller g c = c.in-Some.ensures.shorter
 
 pub loop-line-preserved : goal.loop-line-preserved
 loop-line-preserved g c =
-    let m = meaning_of g.P.Application.app g.P.Application.text g.P.Application.from_text g.P.Application.names in
+    let m =
+    meaning_of g.P.Application.app g.P.Application.text g.P.Application.from_text g.P.Application.names
+    g.P.Invariant.counts in
     let (passed, split, bound, fresh, on) = c.loop-line.invariant in
     let log = g.H.Write.contents c.loop-line.log in
     let out = g.W.Write.contents c.loop-line.out in
@@ -130,7 +140,9 @@ loop-line-preserved g c =
 
 pub returns-in-Ok-go_on-clause-ok : goal.returns-in-Ok-go_on-clause-ok
 returns-in-Ok-go_on-clause-ok g c s given at =
-    let m = meaning_of g.P.Application.app g.P.Application.text g.P.Application.from_text g.P.Application.names in
+    let m =
+    meaning_of g.P.Application.app g.P.Application.text g.P.Application.from_text g.P.Application.names
+    g.P.Invariant.counts in
     let (passed, split, bound, fresh, on) = c.loop-line.invariant in
     let (line, within) = at in
     lines_rest m s (g.H.Write.contents c.loop-line.log) (g.W.Write.contents c.loop-line.out) given passed
@@ -149,7 +161,9 @@ returns-in-Ok-go_on-clause-ok g c s given at =
 
 pub returns-in-Err-go_on-clause-cut : goal.returns-in-Err-go_on-clause-cut
 returns-in-Err-go_on-clause-cut g c s given more at =
-    let m = meaning_of g.P.Application.app g.P.Application.text g.P.Application.from_text g.P.Application.names in
+    let m =
+    meaning_of g.P.Application.app g.P.Application.text g.P.Application.from_text g.P.Application.names
+    g.P.Invariant.counts in
     let (passed, split, bound, fresh, on) = c.loop-line.invariant in
     let (line, within) = at in
     lines_cut_short m s (g.H.Write.contents c.loop-line.log) (g.W.Write.contents c.loop-line.out) given passed

@@ -6,7 +6,9 @@ use Rattle.live_session.proofs.session.Session.take_lines.Given as goal
 
 abbrev pub invariant-loop-line : goal.invariant-loop-line
 invariant-loop-line g l =
-    let m = meaning_of g.P.Application.app g.P.Application.text g.P.Application.from_text g.P.Application.names in
+    let m =
+    meaning_of g.P.Application.app g.P.Application.text g.P.Application.from_text g.P.Application.names
+    g.P.Invariant.counts in
     (passed : List ℕ) × (l.bytes ≡ passed ++ l.rest)
     × (l.self.number + length l.rest ≤ l.initial.self.number + length l.bytes)
     × (l.self.partial.items ≡ [])

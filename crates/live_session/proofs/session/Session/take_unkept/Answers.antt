@@ -5,7 +5,9 @@ use Rattle.live_session.proofs.session.Session.take_unkept.Goals as goal
 
 pub returns-clause-taken : goal.returns-clause-taken
 returns-clause-taken g c =
-    let m = meaning_of g.P.Application.app g.P.Application.text g.P.Application.from_text g.P.Application.names in
+    let m =
+    meaning_of g.P.Application.app g.P.Application.text g.P.Application.from_text g.P.Application.names
+    g.P.Invariant.counts in
     let old = c.args.self.now in
     event_taken m c.args.event None None old
     (record {

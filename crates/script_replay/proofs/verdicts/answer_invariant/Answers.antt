@@ -1,0 +1,31 @@
+use Rattle.std.proofs.Common.{ℕ, List, subst, sym, ◌∙◌}
+use Rattle.std.specs.Prelude.{OnErr}
+use Rattle.std.specs.Io.KnownBytes.{Appends}
+use Rattle.action_tables.specs.Written.{AppendsPrefix}
+use Rattle.script_replay.specs.Meaning.{meaning_of}
+use Rattle.script_replay.proofs.VerdictTexts.{invariant_lines-is}
+use Rattle.script_replay.proofs.Written.{written_err, written_ok}
+use Rattle.script_replay.proofs.verdicts.answer_invariant.Goals as goal
+
+pub returns-in-Ok-clause-err : goal.returns-in-Ok-clause-err
+returns-in-Ok-clause-err g c =
+    let m =
+    meaning_of g.P.Application.app g.P.Application.text g.P.Application.from_text g.P.Application.names
+    g.P.Invariant.counts in
+    let text = invariant_lines-is m c.args.config.now c.deref.result.now (c.deref.ensures.value ∙ c.in-Ok.ensures) in
+    let P : List ℕ → Type 0 =
+    λ t. AppendsPrefix (g.W.Write.contents c.args.out.now) (g.W.Write.contents c.put_verdicts.new.out) t in
+    subst (λ t. OnErr c.written.result (P t)) (sym text)
+    (written_err c.put_verdicts.result c.written.result c.written.ensures.ok c.written.ensures.err _
+    c.put_verdicts.ensures.err)
+
+pub returns-in-Ok-clause-ok : goal.returns-in-Ok-clause-ok
+returns-in-Ok-clause-ok g c =
+    let m =
+    meaning_of g.P.Application.app g.P.Application.text g.P.Application.from_text g.P.Application.names
+    g.P.Invariant.counts in
+    let text = invariant_lines-is m c.args.config.now c.deref.result.now (c.deref.ensures.value ∙ c.in-Ok.ensures) in
+    let P : List ℕ → Type 0 =
+    λ t. Appends (g.W.Write.contents c.args.out.now) (g.W.Write.contents c.put_verdicts.new.out) t in
+    written_ok c.put_verdicts.result c.written.result c.written.ensures.ok c.written.ensures.err (subst P (sym text))
+    c.put_verdicts.ensures.ok
