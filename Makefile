@@ -8,7 +8,7 @@
 run:
 	@tools/run replay examples/first/one-wave/topology.toml examples/first/one-wave/script
 
-# Runs any subcommand before the proof: make try ARGS="check examples/first/one-wave/topology.toml". The files that it names
+# Runs any subcommand before the proof: make try ARGS="check examples/first/one-wave/topology.toml examples/first/one-wave/script". The files that it names
 # are copied; what it writes to files is lost.
 try:
 	@tools/run --unproved $(ARGS)

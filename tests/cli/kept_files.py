@@ -29,6 +29,7 @@ def histories(program, folder):
         yield name, (ran.stdout, ran.returncode, content(kept)) == (told, status, after)
         torn = status == 0 and not before.endswith(b"\n") and before != b""
         yield f"{name}: standard error", (b"cut off" in ran.stderr) == torn
+    yield from beginnings(program, folder, topology)
     full = ["fault wave 1 normal 0"] * 999_999
     kept = written(folder, "day", text_of([FIRST_LINE, *full]))
     lines = ["request 1", "request 1", "draw 1", "ready", "watch 1", "fault down 1 2", "show 1"]
@@ -37,6 +38,34 @@ def histories(program, folder):
         "resumed 999999 entries 0 reports", "applied", "refused BookFull", "refused BookFull", "ready 2",
         "refused BookFull", "refused BookFull", "node 1 tree 3 2 2 wave initiate 0 local -"])
     yield "a full history verifies", run(program, "verify", topology, kept).returncode == 0
+
+
+def beginnings(program, folder, topology):
+    """A file is taken for a new history only where it has a part of the first line that a session writes there, and one of
+    version 1 or 2, in which there is no line for a node that is down, doesn't go on. Others are left as they are."""
+    for cut in range(1, len(FIRST_LINE) + 1):
+        kept = written(folder, "day", FIRST_LINE[:cut].encode())
+        ran = run(program, "session", topology, "--history", kept, given=b"request 1\n")
+        told = (ran.stdout, ran.returncode, content(kept))
+        yield f"{cut} bytes of a first line", told == (b"applied\n", 0, text_of([FIRST_LINE, "request 1"]))
+    version = b"line 1: a session goes on with a history of version 3 alone"
+    first = b"line 1: no line of a history"
+    for text, told, reason in [
+        (b'{"important": "data", "many": [1, 2, 3]}', b"bad history BadLine 1\n", first),
+        (b"a file without a line feed " * 100, b"bad history BadLine 1\n", first),
+        (b"reset-history 3 8", b"bad history BadLine 1\n", first),
+        (FIRST_LINE.encode() + b"0", b"bad history BadLine 1\n", first),
+        (b"reset-history 1\nrequest 1\n", b"bad history BadVersion\n", version),
+        (b"reset-history 2 4294967296\nrequest 1\n", b"bad history BadVersion\n", version),
+        (b"reset-history 2 4294967296\n", b"bad history BadVersion\n", version),
+        (b"reset-history 2 8\nrequest 1\n", b"bad history OtherModulus 8\n", b"modulo 8"),
+        (b"reset-history 2\nrequest 1\n", b"bad history BadLine 1\n", first),
+        (b"reset-history 1 4294967296\n", b"bad history BadLine 1\n", first),
+    ]:
+        kept = written(folder, "day", text)
+        ran = run(program, "session", topology, "--history", kept, given=b"fault off 1\n")
+        yield f"{text[:30]!r}", (ran.stdout, ran.returncode, content(kept)) == (told, 2, text)
+        yield f"{text[:30]!r}: standard error", reason in ran.stderr and b"cut off" not in ran.stderr
 
 
 def faults(program, folder):
@@ -55,7 +84,10 @@ def faults(program, folder):
     yield "are of entries that are kept", content(kept) == text_of([FIRST_LINE, "request 1"])
     ran = run(program, "session", topology, "--history", "/dev/full", given=b"request 1\n")
     yield "a history that can't be written", (ran.stdout, ran.returncode, ran.stderr) == (b"", 3, b"write fault\n")
-    yield "nor one whose folder isn't there", run(program, "session", topology, "--history", f"{folder}/no/day").returncode == 3
+    for path, reason in [(f"{folder}/no/day", "No such file or directory"), (folder, "Is a directory")]:
+        ran = run(program, "session", topology, "--history", path)
+        why = f"write fault\nreset-service: {path}: {reason}\n".encode()
+        yield f"nor one at {path}", (ran.stdout, ran.returncode, ran.stderr) == (b"", 3, why)
     unread, pipe = os.pipe()
     os.close(unread)
     os.remove(kept)

@@ -1,22 +1,21 @@
 #!/usr/bin/env python3
-"""Runs the program named on the command line as `picture` with `--rows` and `--nodes`. A picture of entries P to Q has to be that of
-a history of these entries alone, from a snapshot of what those before them leave, with their numbers in the whole. A picture of
-some nodes has to be the whole one without the lanes of the others and what is drawn there. And each mistake has its line.
+"""Runs the program named on the command line as `picture` with `--rows` and `--nodes`, on histories that `drive` wrote. The
+bands, marks, lines and numbers have to be those that docs/formats.md gives to these entries and these nodes
+(drawings.py), after what the entries before them leave of an independent network (model.py); the width and the legend those
+of so many nodes. All rows and all nodes have to be the whole picture, byte for byte. And each mistake has its line.
 """
 import os
 import random
-import re
 import subprocess
 import sys
 import tempfile
 
+sys.dont_write_bytecode = True
+sys.path += [f"{sys.path[0]}/../oracle"]
+import answers
+import drawings
+
 RUNS = 60
-LANE, LEFT, RIGHT = 76, 48, 52  # the middle of lane 0, where it begins, and where no lane ends
-WIDTH = 56  # of a lane
-BAND = re.compile(r"<g transform='translate\((\d+) ")
-MARK = re.compile(r"<g class='mark \w+' transform='translate\((\d+) ")
-LINK = re.compile(r"<g class='link'>.*<path d='M(\d+) \d+H(\d+)'/>")
-PIECE = re.compile(r"<path d='M(\d+) 11h56'/>")
 MISTAKES = [
     *((["--rows", text], "bad rows BadRange") for text in (
         "", "3", "..", "1..", "..2", "0..3", "3..2", "1..1000001", "01..2", "1..02", "1...2", "1-2", "a..b", "1..2 ", "1..4294967296")),
@@ -39,79 +38,44 @@ class Rooms:
             file.write(text)
 
 
-def moved(text, by):
-    """A picture whose entries have numbers that are greater by so much."""
-    text = re.sub(r"(<g class='(?:mark \w+' transform='[^']*|link)'><title>)(\d+)", lambda it: f"{it[1]}{int(it[2]) + by}", text)
-    text = re.sub(r"(<text class='place'[^>]*>)(\d+)", lambda it: f"{it[1]}{int(it[2]) + by}", text)
-    return re.sub(r"((?:opened|complete) at )(\d+)", lambda it: f"{it[1]}{int(it[2]) + by}", text)
+def of_nodes(count):
+    """The width of a picture of so many nodes, and what its legend says of them."""
+    return f"width='{350 + 56 * count}'", f", nodes: {count}</text>"
 
 
-def of_nodes(text, nodes):
-    """A picture without the lanes of other nodes."""
-    lane_of = {int(node): (int(x) - LANE) // WIDTH for x, node in re.findall(r"<text class='lane' x='(\d+)' y='\d+'>(\d+)</text>", text)}
-    kept = sorted(lane_of[it] for it in nodes)
-    places = {lane: place for place, lane in enumerate(kept)}
-
-    def at(x, zero):
-        return places.get((int(x) - zero) // WIDTH)
-
-    def line_of(line):
-        if line.startswith("<g class='completion' transform"):
-            pieces = [at(x, LEFT) for x in PIECE.findall(line)]
-            pieces = "".join(f"<path d='M{LEFT + WIDTH * it} 11h56'/>" for it in pieces if it is not None)
-            head, tail = re.fullmatch(r"(.*?</title>)(?:<path[^>]*>)*(.*)", line).groups()
-            return head + pieces + re.sub(r" x='\d+'", f" x='{RIGHT + WIDTH * len(kept)}'", tail) if pieces else None
-        for form, zero in ((BAND, LANE), (MARK, LANE), (re.compile(r"<text class='lane' x='(\d+)'"), LANE)):
-            found = form.match(line)
-            if found:
-                lane = at(found[1], zero)
-                return None if lane is None else line[:found.start(1)] + str(LANE + WIDTH * lane) + line[found.end(1):]
-        found = LINK.match(line)
-        if found:
-            ends = [at(it, LANE) for it in found.groups()]
-            if None in ends:
-                return None
-            first, second = (str(LANE + WIDTH * it) for it in ends)
-            return line.replace(f"M{found[1]} ", f"M{first} ").replace(f"H{found[2]}'", f"H{second}'").replace(
-                f"cx='{found[2]}'", f"cx='{second}'")
-        return line
-
-    lines = [line_of(line) for line in text.split("\n")]
-    text = "\n".join(line for line in lines if line is not None)
-    count = len(lane_of)
-    width, narrow = 350 + WIDTH * count, 350 + WIDTH * len(kept)
-    text = text.replace(f"viewBox='0 0 {width} ", f"viewBox='0 0 {narrow} ").replace(f"width='{width}'", f"width='{narrow}'", 1)
-    return text.replace(f", nodes: {count}</text>", f", nodes: {len(kept)}</text>", 1)
+def judged(drawn, topology, entries, rows, nodes):
+    """Whether a picture is that of these rows and these nodes."""
+    first, last = rows
+    network = answers.booted(topology.encode())
+    for line in entries[:first - 1]:
+        network.answer(line.split(" "))
+    wanted = drawings.Drawing(network, entries[first - 1:last], nodes, first - 1)
+    return drawings.parts_of(drawn) == wanted.parts() and all(it in drawn for it in of_nodes(len(wanted.middle)))
 
 
 def pictures(rooms, seed):
     rng = random.Random(f"parts {seed}")
-    count = rng.randint(1, 12)
+    count = rng.randint(3, 12)
     app = rng.choice(["idle", "token", "mutex", "routes"])
-    topology = rooms.run("topology", rng.choice(["path", "ring", "star", "tree", "random"]), str(max(count, 3)), "--app", app)[0]
+    topology = rooms.run("topology", rng.choice(["path", "ring", "star", "tree", "random"]), str(count), "--app", app)[0]
     rooms.write("topology", topology)
     drove = rooms.run("drive", "topology", "--steps", str(rng.randint(40, 160)), "--seed", str(seed), "--faults",
                       str(rng.choice([0, 50, 200])), "--history", "whole")
     assert drove[1] == 0, drove
     with open(os.path.join(rooms.folder, "whole"), encoding="utf-8") as file:
-        first, *entries = file.read().splitlines()
+        entries = file.read().splitlines()[1:]
+    ids = list(range(1, count + 1))
     p = rng.randint(1, len(entries))
     q = rng.randint(p, len(entries) + 5)
-    snapshot = rooms.run("verify", "topology", "whole", "--at", str(p - 1))
-    rooms.write("from", snapshot[0])
-    rooms.write("part", "".join(f"{it}\n" for it in [first, *entries[p - 1:q]]))
-    alone = rooms.run("picture", "topology", "part", "--from", "from")
-    asked = rooms.run("picture", "topology", "whole", "--rows", f"{p}..{q}")
-    yield f"seed {seed}: rows {p}..{q}", asked == (moved(alone[0], p - 1), 0, "") and alone[1] == 0
-    ids = list(range(1, max(count, 3) + 1))
-    nodes = rng.sample(ids, rng.randint(1, len(ids)))
-    named = ",".join(str(it) for it in nodes)
+    nodes = rng.sample(ids, rng.randint(1, count))
+    by_rows, by_nodes = ["--rows", f"{p}..{q}"], ["--nodes", ",".join(str(it) for it in nodes)]
+    for words, rows, lanes in ((by_rows, (p, q), None), (by_nodes, (1, len(entries)), nodes),
+                               ([*by_nodes, *by_rows], (p, q), nodes)):
+        drawn, *ended = rooms.run("picture", "topology", "whole", *words)
+        yield f"seed {seed}: {' '.join(words)}", ended == [0, ""] and judged(drawn, topology, entries, rows, lanes)
     whole = rooms.run("picture", "topology", "whole")
-    yield f"seed {seed}: nodes {named}", rooms.run("picture", "topology", "whole", "--nodes", named) == (of_nodes(whole[0], nodes), 0, "")
-    both = rooms.run("picture", "topology", "whole", "--nodes", named, "--rows", f"{p}..{q}")
-    yield f"seed {seed}: both", both == (of_nodes(asked[0], nodes), 0, "")
     all_of_them = rooms.run("picture", "topology", "whole", "--nodes", ",".join(str(it) for it in ids), "--rows", f"1..{len(entries)}")
-    yield f"seed {seed}: all", all_of_them == whole
+    yield f"seed {seed}: all", all_of_them == whole and judged(whole[0], topology, entries, (1, len(entries)), None)
 
 
 def limits(rooms):

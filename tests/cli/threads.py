@@ -18,15 +18,21 @@ import subprocess
 import sys
 import tempfile
 
-NEVER_QUIET = """\
-error: '--until quiet' would never end, since the application of the topology always has something to do; give '--turns <N>'
-
-Usage: reset-service threads [OPTIONS] --history <FILE> <TOPOLOGY>
-
-For more information, try '--help'.
-"""
+NEVER_QUIET = "'--until quiet' would never end, since the application of the topology always has something to do; give '--turns <N>'"
+LIMITS = [  # words that don't say for how long the nodes take turns, and what is said of them
+    ([], "either '--turns <N>' or '--until quiet' has to be given"),
+    (["--turns", "4", "--until", "quiet"], "the argument '--turns <N>' cannot be used with '--until <quiet>'"),
+    (["--until", "loud"], "invalid value for '--until <quiet>'\n  [possible values: quiet]"),
+    (["--turns", "4", "--until", "loud"], "invalid value for '--until <quiet>'\n  [possible values: quiet]"),
+]
 RUNS = 10  # of each topology and application
 APPS = ["idle", "token", "mutex", "routes"]
+
+
+def mistake(reason):
+    """What is written to standard error where words are wrong for this reason."""
+    usage = "Usage: reset-service threads [OPTIONS] --history <FILE> <TOPOLOGY>"
+    return f"error: {reason}\n\n{usage}\n\nFor more information, try '--help'.\n"
 
 
 def ring(nodes):
@@ -295,7 +301,10 @@ def selected(program):
                  (2, "bad topology TooManyForThreads\n", ""), stood)
     for app in ("token", "mutex"):
         write("restless", topology_text([(3, 7)], app))
-        program.want(f"{app} until quiet", until_quiet(program, "restless"), (2, "", NEVER_QUIET), stood)
+        program.want(f"{app} until quiet", until_quiet(program, "restless"), (2, "", mistake(NEVER_QUIET)), stood)
+    for words, reason in LIMITS:
+        answer = program.run("threads", "topology", *words, "--history", "history")
+        program.want(f"threads {' '.join(words)}", answer, (2, "", mistake(reason)), stood)
     program.want("the least of those that are up", until_quiet(program, "topology", "--from", "snapshot", "--resets", "2"),
                  (0, "threads 1 nodes 6 entries 2 reports\n", ""), stood)
 

@@ -319,7 +319,7 @@ lowercase='claim follow adopt request relay open join finish mend act fault draw
   watch moves move invariant snapshot plan applied complete refused disturbed drawn quiet unjoined link faults report verified drove
   resumed help explain exit normal initiate reset entry
   tree wave app local bad node session threads idle token mutex routes pass take enter leave pull memory read write thread lists line not
-  configurations steps ends whole longest completions endless repair repairs root father distance K row'
+  configurations steps ends whole longest completions endless repair repairs root father distance K row history more'
 
 # Standard output has each phrase of the word, and there is one.
 names_all() { # WORD
@@ -332,7 +332,7 @@ names_all() { # WORD
   [ ! -s stderr ]
 }
 
-for word in $names BookFull $lowercase; do
+for word in $names BookFull BadRange EndsAfter TooLongForPicture TooManyForPicture UnknownShape $lowercase; do
   run explain "$word" <&-
   judge "explain $word" 0 names_all "$word"
   cp stdout "explained-$word"

@@ -373,8 +373,11 @@ def tables():
     return found
 
 
-def guards(words):
-    """The guards of the rows of an event of the tree or of the wave, as lines."""
+def guards(network, words):
+    """The guards of the rows of an event of the tree or of the wave, or of the row of an action, as lines."""
+    if words[0] == "act":
+        title = next(name for name, app in APPLICATIONS.items() if app is network.app)
+        return [tables()[title][int(words[2])]]
     if words[0] not in EVENT_ROWS:
         return []
     table, first, last = EVENT_ROWS[words[0]]
@@ -383,7 +386,7 @@ def guards(words):
 
 def reasons(network, words, answer):
     """Why an entry is refused, in lines."""
-    asked = guards(words) if answer == "refused NotEnabled" else []
+    asked = guards(network, words) if answer == "refused NotEnabled" else []
     return [f"entry {' '.join(words)}", answer, *asked, *map(network.show, nodes_near(network, words))]
 
 

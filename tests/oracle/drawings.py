@@ -1,5 +1,6 @@
 """An independent model of the picture of a history: where docs/formats.md has bands, marks, lines of completions and
 the nodes' numbers, from a network of model.py and its entries. What is compared is read from the SVG of the program.
+Some nodes alone may have lanes, and entries may have come before.
 """
 import re
 import xml.etree.ElementTree
@@ -20,11 +21,13 @@ def row_y(place):
 class Drawing:
     """The parts of a picture, each a list in the order in which they are painted."""
 
-    def __init__(self, network, entries):
-        """From the network before the entries, which are played on it."""
-        ids = network.ids
+    def __init__(self, network, entries, nodes=None, before=0):
+        """From the network before the entries, which are played on it: lanes of these nodes or of all, and the number of
+        the first entry is one more than before."""
+        ids = [i for i in network.ids if nodes is None or i in nodes]
         order = sorted(ids, key=lambda i: (network.tree[i][2], i))
         self.middle = {i: 76 + 56 * at for at, i in enumerate(order)}
+        self.before = before
         self.last = row_y(len(entries)) + 22
         self.bands = [self.band(network, i, 0) for i in ids]
         self.marks, self.links, self.completions, opened = [], [], [], {}
@@ -48,18 +51,23 @@ class Drawing:
         return self.middle[i], y, title, [(*it, self.last - y) for it in parts]
 
     def add(self, network, place, words, told, opened):
-        fault, title, y = words[0] == "fault", f"{place}: {' '.join(words)}", row_y(place)
+        fault, title, y = words[0] == "fault", f"{self.before + place}: {' '.join(words)}", row_y(place)
         node = int(words[2] if fault else words[1])
-        x = self.middle[node]
-        self.marks.append((x, y, title, words[0] if fault else KINDS.get(words[0], words[0])))
-        self.bands.append(self.band(network, node, place))
-        if fault and words[1] in ("down", "up"):
-            end = self.middle[int(words[3])]
-            self.links.append((title, f"M{x} {y}H{end}", end, y))
+        if node in self.middle:
+            x = self.middle[node]
+            self.marks.append((x, y, title, words[0] if fault else KINDS.get(words[0], words[0])))
+            self.bands.append(self.band(network, node, place))
+            if fault and words[1] in ("down", "up") and int(words[3]) in self.middle:
+                end = self.middle[int(words[3])]
+                self.links.append((title, f"M{x} {y}H{end}", end, y))
         if told.startswith("complete "):
-            session, since = told.split(" ")[1], opened.get(words[1])
-            title = f"session {session}: " + (f"opened at {since}, " if since else "") + f"complete at {place}"
-            pieces = sorted(f"M{self.middle[i] - 28} 11h56" for i in distances(network.graph, node))
+            self.add_completion(y, told.split(" ")[1], opened.get(words[1]), place, distances(network.graph, node))
+
+    def add_completion(self, y, session, opened, place, component):
+        since = f"opened at {self.before + opened}, " if opened else ""
+        title = f"session {session}: {since}complete at {self.before + place}"
+        pieces = sorted(f"M{self.middle[i] - 28} 11h56" for i in component if i in self.middle)
+        if pieces:
             self.completions.append((y, title, pieces, f"session {session} complete"))
 
     def parts(self):

@@ -22,8 +22,9 @@ Examples:
 
 Exit status:
   0  good, refused commands included
-  1  the subcommand `check` found faults, or `verify` or `picture` an entry that isn't allowed, or
-     `replay --strict` a refusal
+  1  the subcommand `check` found faults, or with `--whole` an invariant that fails; `verify`, `picture`,
+     `page` or `session` found an entry that isn't allowed, `replay --strict` a refusal, or `explore` an
+     order that never ends
   2  a bad topology, script, history or command line
   3  a file or a standard stream could not be read or written, or a thread could not be started
   4  out of memory
@@ -96,7 +97,7 @@ Runs a script on a topology, and checks the network that it leaves.
 
 The script is run as `replay` runs it. Then each link whose ends contradict each other is named
 in a line `link AT OTHER FAMILY ROW`: the node, its neighbour (or the node itself), which table
-(tree, wave or app) and which of its rows; `reset-service tables` prints the tables. The last line is
+(tree, wave or app) and which of its rows; `reset-service tables` prints the tables. After these comes
 `faults COUNT`, and the exit status is 1 where COUNT isn't 0. After a bad line nothing is checked.
 
 With `--repair` each row of tree and wave that fails is followed by the command that repairs it, as
@@ -182,8 +183,12 @@ Answers commands as they come, and keeps what happened in a file.
 Each line of standard input is a command, which is answered at once, as `replay` answers it, so that
 the next line can depend on the answer. With --history each event that is applied and each fault that
 is done is appended to FILE as an entry, and synced to the disk, before its answer is written. Where
-FILE isn't empty, it is verified first, and the session goes on after its last entry. `verify` and
-`picture` accept FILE.",
+FILE isn't empty, it is verified first, and the session goes on after its last entry. `verify`,
+`picture` and `page` accept FILE.
+
+The commands are those that `reset-service replay --help` lists, and three more: `help`, which lists
+them all, `explain WORD`, which says what a word of an answer means, and `exit`, which ends the session
+as the end of the input does. A bad line is answered by `bad line N`, and the session goes on.",
     after_help: "\
 Example:
   reset-service session examples/first/one-wave/topology.toml --history history < examples/first/one-wave/script
@@ -191,7 +196,8 @@ Example:
 };
 
 pub const SESSION_HISTORY_HELP: &str =
-    "The file that entries are appended to; what it has is verified, and the session goes on after it";
+    "The file that entries are appended to, after what it has is verified; \
+nothing is kept where this is left out";
 
 pub const NO_SYNC_HELP: &str =
     "Leaves it to the system when an entry reaches the disk, which is faster";
@@ -201,18 +207,21 @@ pub const PAGE_HELP: Help = Help {
     long_about: "\
 Writes a page that plays a history forward and back, in HTML, on standard output.
 
-The page is one file that needs no other: a browser shows it without a network.",
+The page is one file that needs no other: a browser shows it without a network. At most 100,000 entries
+are played: a longer history is answered by `bad history TooLongForPage`, and the exit status is 2.",
     after_help: "\
 Example:
   reset-service page examples/history/verified-wave/topology.toml examples/history/verified-wave/history > page.html",
 };
 
-pub const TITLE_HELP: &str = "The title of the page";
+pub const TITLE_HELP: &str = "The title of the page; `Reset history` where this is left out";
 
 pub const ROWS_HELP: &str =
-    "Draws these entries alone, the first and the last counted from 1, as in 17..40";
+    "Draws these entries alone, the first and the last counted from 1, as in 17..40; \
+all where this is left out";
 
-pub const DRAWN_NODES_HELP: &str = "Draws these nodes alone, as in 1,2,5";
+pub const DRAWN_NODES_HELP: &str =
+    "Draws these nodes alone, as in 1,2,5; all where this is left out";
 
 pub const FROM_HELP: &str =
     "A file with a snapshot, which it starts from in place of the booted configuration";
@@ -243,8 +252,8 @@ A history is what happened to a network, from the booted configuration of its to
 event that a node took, and each fault. For each reset that was completed there is a line `report
 NUMBER opened POSITION finished POSITION`: the number of the session, and the entries that opened
 and finished it, counted from 1 (`-` where it wasn't opened since the last fault). The last line is
-`verified E entries R reports`. That every node has joined a reset is sure of a report before the
-first fault, and after a fault of a reset that opens where `check` tells no row of tree or wave.
+`verified E entries R reports`. A report is certain to mean that every node joined if no fault came
+before it since the booted configuration, or since a `check` that printed no row of tree or wave.
 
 Where an entry isn't allowed where it stands, the answer is `not enabled at POSITION` of the first
 such entry, and the exit status is 1; in the file it is one line further down. With `--why` there
@@ -423,7 +432,7 @@ pub const APP_HELP: &str = "idle, token, mutex or routes; idle where this is lef
 pub const EXPLAIN_HELP: Help = Help {
     about: "Explains a word that the program prints or reads, and says what to do",
     long_about: "\
-Explains a word that the program prints or reads, and says what to do: a refusal, a fault of a
+Explains a word that the program prints or reads, and says what to do: a refusal, an error of a
 topology or of a history, a command of a script, or a row that `check` names. Without a word it
 lists the words that it knows.",
     after_help: "\

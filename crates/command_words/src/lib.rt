@@ -29,4 +29,4 @@ pub use session_words::SessionWords;
 pub use shape_words::ShapeWords;
 pub use thread_words::ThreadWords;
 pub use verify_words::VerifyWords;
-pub use words::{Job, LineFault, Paths, read_words};
+pub use words::{Job, LineFault, read_words};

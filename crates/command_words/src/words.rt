@@ -26,15 +26,15 @@ use std::alloc::{AllocError, Global};
 use std::convert::AsStr;
 use std::{error, fmt};
 
-/// The files of a run.
-#[derive(Clone, Copy, Debug, PartialEq, Eq)]
-pub struct Paths<'a> {
-    /// The path of the topology.
-    pub topology: &'a str,
-    /// The path of the script, or of the history.
-    pub input: &'a str,
-    /// The path of the snapshot that it starts from, if one is given.
-    pub from: Option<&'a str>,
+// The files that several subcommands name.
+#[derive(Clone, Copy)]
+struct Paths<'a> {
+    // The path of the topology.
+    topology: &'a str,
+    // The path of the script, or of the history.
+    input: &'a str,
+    // The path of the snapshot that a run starts from, if one is given.
+    from: Option<&'a str>,
 }
 
 /// What the program is to do.

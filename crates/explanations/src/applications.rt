@@ -6,9 +6,9 @@ pub const APPLICATIONS: [(&str, &str); 10] = [
         "\
 `invariant`: says of each part of the network, whose leader is G, `invariant G holds` or\n\
 `invariant G fails WHAT COUNT`: what its nodes do together, by the newest session. `check --whole`\n\
-prints the same lines of what a script leaves. WHAT is `tokens`,\n\
-which is to be 1, `in without its turn`, the nodes that are in and shouldn't be, or\n\
-`routes without a way`, the entries that lead nowhere. A reset of the part makes it hold again.\n",
+prints the same lines of what a script leaves. WHAT is `tokens`, which is to be 1,\n\
+`in without its turn`, the nodes that are in and shouldn't be, or `routes without a way`, the\n\
+entries that lead nowhere. A reset of the part makes it hold again.\n",
     ),
     (
         "idle",

@@ -1,12 +1,12 @@
-// What the refusals of events and of faults mean, and the faults of texts, and what to do: words, each with its text.
+// What the refusals of events and of faults mean, and the errors of texts, and what to do: words, each with its text.
 
-pub const REFUSALS: [(&str, &str); 43] = [
+pub const REFUSALS: [(&str, &str); 45] = [
     // Refusals of events and of faults.
     (
         "StrangeNode",
         "\
 The number isn't a node of the topology, or it is one that is down, or a link of the topology's text\n\
-ends at a number that isn't among its nodes. Name a node that `show` tells, bring it up by\n\
+ends at a number that isn't among its nodes. Name a node that `show` prints, bring it up by\n\
 `fault on I`, or add it to `nodes`.\n",
     ),
     (
@@ -77,7 +77,7 @@ The node that should come up is up already.\n",
 The history that the session keeps has 1,000,000 entries, and takes no more. Begin another one by\n\
 `snapshot`, and a session with `--from` and a new file.\n",
     ),
-    // Faults of topologies and of their texts.
+    // Errors of topologies and of their texts.
     (
         "TextTooLong",
         "\
@@ -128,7 +128,8 @@ A topology has at most 1,024 nodes.\n",
     (
         "BadId",
         "\
-A node's number is from 1 to 65535.\n",
+A node's number is from 1 to 65535. Those of `--nodes` are separated by commas without spaces, with none\n\
+at the end: `1,2`, not `1, 2` or `1,2,`.\n",
     ),
     (
         "TwiceNode",
@@ -167,7 +168,7 @@ one link.\n",
 The rows of `picture --rows` are two numbers with two dots between them, as in 17..40: the first entry\n\
 that is drawn, from 1 on, and the last.\n",
     ),
-    // Faults of scripts, histories and devices.
+    // Errors of scripts, histories and devices.
     (
         "TooLong",
         "\
@@ -178,6 +179,12 @@ A script has at most 1,048,576 bytes, a history at most 1,000,000 entries, and a
         "TooLongForPicture",
         "\
 `picture` draws at most 2,000 entries; of a longer history `--rows 1..2000` draws the first ones.\n",
+    ),
+    (
+        "TooLongForPage",
+        "\
+`page` plays at most 100,000 entries; of a longer history `head -n 100001 HISTORY` prints the first\n\
+ones, with the first line of the file, as a history of their own.\n",
     ),
     (
         "BadLine",
@@ -205,10 +212,10 @@ the M of its first line `reset-history 3 M`, a topology's its `modulus`; where t
     (
         "line",
         "\
-`bad line N`: the line with this number is no command, and the run ended there. Commands are in\n\
-small letters and have all their words, as `reset-service replay --help` lists them, with one\n\
-space between two; numbers have no zero in front, and cases are at most 255. `cat -A` shows what\n\
-the eye misses. Of a history see `BadLine`, as an answer of `check` see `link`.\n",
+`bad line N`: the line with this number is no command. The run of a script ended there; a session goes\n\
+on. Commands are in small letters and have all their words, as `reset-service replay --help` lists\n\
+them, with one space between two; numbers have no zero in front, and cases are at most 255. `cat -A`\n\
+shows what the eye misses. Of a history see `BadLine`, as an answer of `check` see `link`.\n",
     ),
     (
         "not",
@@ -219,7 +226,16 @@ why, ask `verify --why`; `verify --at` prints the whole network as it was before
     (
         "EndsAfter",
         "\
-`bad history EndsAfter N`: `verify --at P` was asked what P entries leave, and the history has N.\n",
+`bad history EndsAfter N`: the history has N entries, fewer than the P of `verify --at P` or of\n\
+`picture --rows P..Q`.\n",
+    ),
+    (
+        "history",
+        "\
+`history is an input`: the FILE of `--history` is the topology, the script or the snapshot too.\n\
+`history is the output`: standard output goes to it. Nothing was written; name another FILE. Status 2.\n\
+`history: the last line had no end and was cut off`: a crash left a part of a line in the FILE of a\n\
+session, which goes on after the lines before it.\n",
     ),
     (
         "read",

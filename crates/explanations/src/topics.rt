@@ -21,12 +21,12 @@ errors of topologies, snapshots, scripts and histories
   TextTooLong NotToml MissingKey UnknownKey WrongKind UnknownApp
   UnknownShape NoNodes TooManyNodes BadId TwiceNode TooManyLinks SelfLink
   TwiceLink TooManyForThreads TooManyForPicture BadRange TooLong
-  TooLongForPicture BadLine BadVersion OtherModulus
+  TooLongForPicture TooLongForPage BadLine BadVersion OtherModulus
 what a run may end by
-  line not EndsAfter read write thread memory lists
+  line not EndsAfter history read write thread memory lists
 plans and explorations
-  plan repair repairs configurations steps ends whole longest completions
-  endless
+  plan repair repairs configurations more steps ends whole longest
+  completions endless
 registers
   node tree root father distance K wave normal initiate reset session
   local app

@@ -1,12 +1,13 @@
 // What the other words mean that the program prints and reads, and what to do: words, each with its text.
 
-pub const WORDS: [(&str, &str); 65] = [
+pub const WORDS: [(&str, &str); 66] = [
     // Answers to commands.
     (
         "bad",
         "\
-`bad topology`, `bad script`, `bad history` and `bad line`: the text isn't one that the program
-takes. The word behind it says why: `explain` it. Status 2.\n",
+`bad topology`, `bad snapshot`, `bad script`, `bad history`, `bad rows`, `bad nodes` and `bad line`: the\n\
+text isn't one that the program takes. The word behind it says why: `explain` it, and of `bad line N`\n\
+the word `line`. Status 2, but a session goes on after a bad line.\n",
     ),
     (
         "node",
@@ -87,8 +88,8 @@ application each link is looked at by itself: two tokens far apart are no fault,
     (
         "verified",
         "\
-The history could happen from the booted configuration: so many entries, of which so many\n\
-complete a reset.\n",
+The history could happen from the booted configuration, or from the snapshot of `--from`: so many\n\
+entries, of which so many complete a reset.\n",
     ),
     (
         "entry",
@@ -239,7 +240,8 @@ answer: at this node, toward that neighbour, this row of the application's link 
         "snapshot",
         "\
 `snapshot`: writes the whole configuration, the lines of `show` and a line `link A B` for each link. Put\n\
-these into a file, and `--from FILE` starts `replay`, `check`, `plan`, `verify` or `picture` there.\n",
+these into a file, and `--from FILE` starts `replay`, `check`, `plan`, `explore`, `session`, `verify`,\n\
+`picture`, `page`, `record`, `threads` or `drive` there.\n",
     ),
     (
         "plan",
@@ -270,6 +272,14 @@ it knows. In a session a command, and else a subcommand.\n",
         "\
 `configurations N`: how many configurations are reached by some order of the enabled events, the\n\
 first one among them. `more than N configurations` stands alone where `--most` is too small.\n",
+    ),
+    (
+        "more",
+        "\
+`more than N configurations`: `explore` reached more than the N of `--most`, which is 1,000,000 where it\n\
+isn't given. Give a greater N, up to 100,000,000, or a smaller network or `modulus`.\n\
+`more than 1000000 entries`: the file of its `--history` would have more entries than a history may\n\
+have; without it the result is printed. Status 2, and no history is left.\n",
     ),
     (
         "steps",

@@ -2,18 +2,15 @@
 
 ghost use Rattle.std.specs.Prelude.{◌≡◌, ◌∷◌, ◌↔◌, ℕ, All, Contains, IfNone, IfOk, IfSome, IsTrue, List, filter};
 ghost use Rattle.std.specs.Prelude.{MatchOption};
-ghost use Rattle.std.specs.Fmt.{decimal};
 ghost use Rattle.topology.specs.Faults.{IsFirst};
 ghost use Rattle.topology.specs.Graph.{has};
-ghost use Rattle.topology.specs.Id.{IsId};
 ghost use Rattle.reset_service.specs.Chosen.{AreRows, NamesNodes, NamesRows};
 
 use action_tables::{read_number, split_number};
+use app_interface::read_id;
+use history::MAX_ENTRIES;
 use std::alloc::{AllocError, Global};
 use topology::NodeId;
-
-// The greatest row that may be asked for.
-pub const MAX_ROW: u32 = 1_000_000;
 
 // The first and the last row that a text names, if it names any.
 pub fn read_rows(text: &[u8]) -> Option<(u32, u32)>
@@ -44,7 +41,7 @@ fn after_dot(text: &[u8]) -> Option<&[u8]>
 fn are_rows(first: u32, last: u32) -> bool
     ensures { IsTrue result ↔ AreRows (first, last) }
 {
-    1 <= first && first <= last && last <= MAX_ROW
+    1 <= first && first <= last && last as usize <= MAX_ENTRIES
 }
 
 // The identifiers that a text names, if it names any.
@@ -54,37 +51,20 @@ pub fn read_ids(alloc: Global, text: &[u8]) -> Result<Option<Vec<u32>>, AllocErr
 {
     let mut ids = Vec::new(alloc);
     let mut rest = text;
-    while let Some((id, after)) = split_number(rest, b',') {
-        if !is_id(id) {
-            return Ok(None);
+    while let Some((number, after)) = split_number(rest, b',') {
+        match NodeId::new(number) {
+            Some(id) => ids.push(id.get())?,
+            None => return Ok(None),
         }
-        ids.push(id)?;
         rest = after;
     }
     match read_id(rest) {
         Some(last) => {
-            ids.push(last)?;
+            ids.push(last.get())?;
             Ok(Some(ids))
         }
         None => Ok(None),
     }
-}
-
-// The identifier that a word spells.
-fn read_id(word: &[u8]) -> Option<u32>
-    ensures found { IfSome result (λ id. word.now ≡ decimal id) }
-    ensures valid { IfSome result IsId }
-    ensures only { IfNone result ((id : ℕ) → IsId id → word.now ≡ decimal id → ⊥) }
-{
-    let id = read_number(word)?;
-    if is_id(id) { Some(id) } else { None }
-}
-
-// Whether a number is an identifier.
-fn is_id(number: u32) -> bool
-    ensures { IsTrue result ↔ IsId number }
-{
-    NodeId::new(number).is_some()
 }
 
 // The first of the identifiers that are named which isn't one of these.
@@ -93,7 +73,7 @@ pub fn first_strange(ids: &[u32], named: &[u32]) -> Option<u32>
         (IsFirst (λ id. Contains ids.now id → ⊥) named.now) }
 {
     for id in named {
-        if !has(ids, *id) {
+        if !ids.contains(id) {
             return Some(*id);
         }
     }
@@ -106,16 +86,9 @@ pub fn named_lanes(alloc: Global, ids: &[u32], named: &[u32]) -> Result<Vec<u32>
 {
     let mut lanes = Vec::new(alloc);
     for id in ids {
-        if has(named, *id) {
+        if named.contains(id) {
             lanes.push(*id)?;
         }
     }
     Ok(lanes)
-}
-
-// Whether an identifier is one of these.
-fn has(ids: &[u32], id: u32) -> bool
-    ensures { result ≡ has ids.now id }
-{
-    ids.iter().any(|other| *other == id)
 }

@@ -241,7 +241,7 @@ fn draw<P: Invariant, W: Write>(
     }
 }
 
-// The same of entries that aren't too many.
+// Draws at most `MAX_MARKS` entries that are a run from this configuration on, with their reports.
 fn draw_few<P: Application, W: Write>(
     alloc: Global,
     opening: &Config<P>,

@@ -35,9 +35,8 @@ mod whole;
 
 pub use asked::{Question, verify_asked};
 pub use command_words::{
-    CheckWords, DriveWords, ExploreWords, Job, LineFault, PageWords, Paths, PictureWords,
-    PlanWords, RecordWords, ReplayWords, SessionWords, ShapeWords, ThreadWords, VerifyWords,
-    read_words,
+    CheckWords, DriveWords, ExploreWords, Job, LineFault, PageWords, PictureWords, PlanWords,
+    RecordWords, ReplayWords, SessionWords, ShapeWords, ThreadWords, VerifyWords, read_words,
 };
 pub use driven::{Drive, drive_from, drive_text};
 pub use explained::{explain, explain_topics};

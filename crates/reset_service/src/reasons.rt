@@ -1,6 +1,6 @@
 // Why an entry of a history isn't allowed where it stands.
 
-ghost use Rattle.std.specs.Prelude.{◌≡◌, ◌++◌, if◌then◌else◌, IfErr, IfOk, None, OnErr, OnOk, map};
+ghost use Rattle.std.specs.Prelude.{◌≡◌, ◌++◌, if◌then◌else◌, IfErr, IfOk, None, OnErr, OnOk, map, option_map};
 ghost use Rattle.std.specs.Io.KnownBytes.{Appends};
 ghost use Rattle.std.specs.List.{flat_map};
 ghost use Rattle.action_tables.specs.RowText.{as_printed};
@@ -17,8 +17,9 @@ ghost use Rattle.script_replay.specs.Meaning.{meaning_of};
 ghost use Rattle.script_replay.specs.Output.{refusal_text};
 ghost use Rattle.script_replay.specs.Stops.{IsOutputStop};
 ghost use Rattle.reset_service.specs.Asked.{asked_reason};
-ghost use Rattle.reset_service.specs.Reasons.{entry_text, guard_line, guards_of, line_there, near_text, nodes_near};
-ghost use Rattle.reset_service.specs.Reasons.{reason_text, refusal_lines, refused_text};
+ghost use Rattle.reset_service.specs.Reasons.{action_guard, action_row, case_name, entry_text, guard_line, guards_of};
+ghost use Rattle.reset_service.specs.Reasons.{line_there, named_line, named_lines, near_text, nodes_near, reason_text};
+ghost use Rattle.reset_service.specs.Reasons.{refusal_lines, refused_text, row_line};
 
 use action_tables::{CaseRow, Part, WriteFault, put_bytes, put_parts};
 use app_interface::Application;
@@ -126,14 +127,17 @@ fn put_refused<P: Application, W: Write>(
     requires { entered P.app P.from_text config.old (Step event) ≡ None }
     ensures same { OnOk result (config.new ≡ config.old) }
     ensures ok { OnOk result (Appends (W.contents out.old) (W.contents out.new)
-        (refused_text config.old event (outcome_of P.app config.old event))) }
+        (refused_text P.names config.old event (outcome_of P.app config.old event))) }
     ensures err { OnErr result (AppendsPrefix (W.contents out.old) (W.contents out.new)
-        (refused_text config.old event (outcome_of P.app config.old event))) }
+        (refused_text P.names config.old event (outcome_of P.app config.old event))) }
     ensures stop { IfErr result IsOutputStop }
 {
     match config.step(alloc, event) {
         Err(StepRefusal::NoMemory) => Err(RunStop::NoMemory),
-        Err(StepRefusal::NotEnabled) => Ok(put_not_met(event, out)?),
+        Err(StepRefusal::NotEnabled) => {
+            put_not_met(event, out)?;
+            Ok(put_action_guard(case_name::<P>(event), out)?)
+        }
         Err(refusal) => Ok(put_refusal(out, refusal)?),
         // Never: it isn't allowed.
         Ok(_) => Ok(()),
@@ -193,15 +197,84 @@ fn put_guards_among<W: Write>(
 }
 
 // Writes what a row asks for, if it has one of the numbers.
-#[tactic(auto, unfolding(crate::specs::Reasons::guard_line))]
 fn put_guard<W: Write>(row: &CaseRow<'_>, numbers: &[u8], out: &mut W) -> Result<(), WriteFault>
     ensures ok { OnOk result (Appends (W.contents out.old) (W.contents out.new) (guard_line numbers.now (as_printed row.now))) }
     ensures err { OnErr result
         (AppendsPrefix (W.contents out.old) (W.contents out.new) (guard_line numbers.now (as_printed row.now))) }
 {
-    if !numbers.contains(&row.number) {
-        return Ok(());
+    if numbers.contains(&row.number) {
+        put_row(row, out)
+    } else {
+        Ok(())
     }
+}
+
+// The name of the case of an action.
+fn case_name<P: Application>(event: Event) -> Option<&'static str>
+    ensures { option_map (λ name. name.now) result ≡ case_name P.names event }
+{
+    match event {
+        Event::Act { case, .. } => P::case_name(case),
+        _ => None,
+    }
+}
+
+// Writes what the row of an action asks for, which has this name.
+fn put_action_guard<W: Write>(name: Option<&str>, out: &mut W) -> Result<(), WriteFault>
+    ensures ok { OnOk result (Appends (W.contents out.old) (W.contents out.new)
+        (action_guard (option_map (λ name. name.now) name.entry))) }
+    ensures err { OnErr result (AppendsPrefix (W.contents out.old) (W.contents out.new)
+        (action_guard (option_map (λ name. name.now) name.entry))) }
+{
+    match name {
+        Some(name) => put_action_row(name, out),
+        None => Ok(()),
+    }
+}
+
+// Writes what the row of this name asks for, in whichever table of the applications it is.
+fn put_action_row<W: Write>(name: &str, out: &mut W) -> Result<(), WriteFault>
+    ensures ok { OnOk result (Appends (W.contents out.old) (W.contents out.new) (action_row name.now)) }
+    ensures err { OnErr result (AppendsPrefix (W.contents out.old) (W.contents out.new) (action_row name.now)) }
+{
+    put_named(&app_token::app_rows(), name, out)?;
+    put_named(&app_mutex::app_rows(), name, out)?;
+    put_named(&app_routes::app_rows(), name, out)
+}
+
+// Writes what those of the rows ask for that have this name.
+fn put_named<W: Write>(rows: &[CaseRow<'_>], name: &str, out: &mut W) -> Result<(), WriteFault>
+    ensures ok { OnOk result (Appends (W.contents out.old) (W.contents out.new)
+        (named_lines name.now (map as_printed rows.now))) }
+    ensures err { OnErr result (AppendsPrefix (W.contents out.old) (W.contents out.new)
+        (named_lines name.now (map as_printed rows.now))) }
+{
+    for row in rows {
+        put_if_named(row, name, out)?;
+    }
+    Ok(())
+}
+
+// Writes what a row asks for, if it has this name.
+fn put_if_named<W: Write>(row: &CaseRow<'_>, name: &str, out: &mut W) -> Result<(), WriteFault>
+    ensures ok { OnOk result (Appends (W.contents out.old) (W.contents out.new) (named_line name.now (as_printed row.now))) }
+    ensures err { OnErr result
+        (AppendsPrefix (W.contents out.old) (W.contents out.new) (named_line name.now (as_printed row.now))) }
+{
+    if row.name == name {
+        put_row(row, out)
+    } else {
+        Ok(())
+    }
+}
+
+// Writes what a row asks for.
+#[tactic(auto, unfolding(crate::specs::Reasons::row_line))]
+fn put_row<W: Write>(row: &CaseRow<'_>, out: &mut W) -> Result<(), WriteFault>
+    ensures ok { OnOk result (Appends (W.contents out.old) (W.contents out.new) (row_line (as_printed row.now))) }
+    ensures err { OnErr result
+        (AppendsPrefix (W.contents out.old) (W.contents out.new) (row_line (as_printed row.now))) }
+{
     put_parts(
         out,
         &[

@@ -9,7 +9,8 @@ ghost use Rattle.script_replay.specs.Meaning.{meaning_of};
 ghost use Rattle.script_replay.specs.Output.{Leaves, if_good, line_answer};
 ghost use Rattle.script_replay.specs.Script.{is_silent};
 ghost use Rattle.script_replay.specs.Stops.{IsOutputStop};
-ghost use Rattle.script_replay.specs.Tallies.{counted, counted_answer, no_answers, script_tally, tally_of};
+ghost use Rattle.script_replay.specs.Tallies.{answered, answered_at, answered_in, counted, no_answers};
+ghost use Rattle.script_replay.specs.Tallies.{script_tally};
 
 use crate::input::split_line;
 use crate::replays::{answer_line, refuse_script};
@@ -71,9 +72,8 @@ fn answer_marked_lines<P: Invariant, W: Write>(
     ensures leaves { let a = marked_answers (meaning_of P.app P.text P.from_text P.names P.counts)
         marks config.old script.now in
         Leaves (λ output. output ≡ (a.text, a.status)) (W.contents out.old) (W.contents out.new) result }
-    ensures tally { OnOk result (tally.new
-        ≡ tally_of (meaning_of P.app P.text P.from_text P.names P.counts)
-        marks tally.old config.old 1 (lines_of script.now)) }
+    ensures tally { OnOk result (tally.new ≡ counted tally.old
+        (answered (meaning_of P.app P.text P.from_text P.names P.counts) marks config.old 1 (lines_of script.now))) }
     ensures stop { IfErr result IsOutputStop }
 {
     let mut rest = script;
@@ -109,8 +109,8 @@ fn answer_marked<P: Invariant, W: Write>(
     ensures err { OnErr result
         (AppendsPrefix (W.contents out.old) (W.contents out.new)
         (marked_answer (meaning_of P.app P.text P.from_text P.names P.counts) marks config.old number line.now).text) }
-    ensures tally { OnOk result (tally.new ≡ counted_answer tally.old number line.now
-        (line_answer (meaning_of P.app P.text P.from_text P.names P.counts) config.old number line.now)) }
+    ensures tally { OnOk result (tally.new ≡ counted tally.old
+        (answered_in (meaning_of P.app P.text P.from_text P.names P.counts) config.old number line.now)) }
     ensures stop { IfErr result IsOutputStop }
 {
     let mut text = Vec::new(alloc);
@@ -128,8 +128,7 @@ fn answer_marked<P: Invariant, W: Write>(
 fn count_answer(tally: &mut Tally, number: u64, line: &[u8], status: Status, is_refused: bool)
     requires room { tally.old.commands < number }
     requires few { tally.old.refused ≤ tally.old.commands }
-    ensures { tally.new
-        ≡ (if is_silent line.now then tally.old else if_good status (counted tally.old number is_refused) tally.old) }
+    ensures { tally.new ≡ counted tally.old (answered_at number line.now status is_refused) }
 {
     if is_silent(line) {
         return;

@@ -1,6 +1,6 @@
 // How the commands of a script were answered.
 
-ghost use Rattle.std.specs.Prelude.{◌≡◌, ◌<◌, ◌≤◌};
+ghost use Rattle.std.specs.Prelude.{◌≡◌, ◌∷◌, ◌<◌, ◌≤◌, []};
 ghost use Rattle.script_replay.specs.Tallies.{counted, no_answers};
 
 /// How the commands of a script were answered.
@@ -30,7 +30,7 @@ impl Tally {
     pub(crate) fn count(&mut self, line: u64, is_refused: bool)
         requires room { self.old.commands < line }
         requires few { self.old.refused ≤ self.old.commands }
-        ensures { self.new ≡ counted self.old line is_refused }
+        ensures { self.new ≡ counted self.old (record { line = line; refused = is_refused } ∷ []) }
     {
         self.commands += 1;
         if is_refused {

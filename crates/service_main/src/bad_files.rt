@@ -2,21 +2,26 @@
 
 ghost use Rattle.std.specs.Prelude.{◌≡◌, ◌⊎◌, Err};
 
+use crate::beginnings::{Beginning, beginning_of};
 use crate::files::{open_file, read_file, read_snapshot};
 use crate::kept_file::open_kept;
-use crate::places::history_fault;
+use crate::places::{end_of_links, folder_of, history_fault};
 use crate::streams::Streams;
 use diagnoses::{
     Source, put_history_fault, put_said, put_script_fault, put_snapshot_fault, put_topology_fault,
 };
 use reset_service::{Job, RunStop, Status};
 use std::alloc::Global;
+use std::fs::OpenOptions;
 use std::io::Read;
 use std::rt::Files;
 use std::{fs, io};
 
 // What is said of a pipe, or of another file whose bytes are gone.
 const NOT_AGAIN: &[u8] = b"it can't be read a second time";
+
+// What is said of a history of version 1 or 2 that a session was to go on with.
+const OLDER: &[u8] = b"line 1: a session goes on with a history of version 3 alone";
 
 // The files that a job reads, in the order in which it judges them, and the one that its history goes to.
 #[derive(Clone, Copy)]
@@ -110,7 +115,7 @@ fn inputs_of(job: Job<'_>) -> Option<Inputs<'_>> {
     }
 }
 
-/// Writes what was wrong with the files of a job that ended so, if it was bad input or a read fault. The run keeps
+/// Writes what was wrong with the files of a job that ended so, if it was bad input, a read fault or a write fault. The run keeps
 /// its result, unless an allocation fails here: then nothing is written, and the result is `NoMemory`.
 pub fn say_why<R: Files + AllocGlobal>(
     rt: &R,
@@ -124,6 +129,7 @@ pub fn say_why<R: Files + AllocGlobal>(
     let told = match ended {
         Ok(Status::BadInput) => put_bad_input(rt, streams, job, said),
         Err(RunStop::ReadFailed) => put_unread(rt, job, said),
+        Err(RunStop::WriteFailed) => put_unwritten(rt, job, said),
         _ => return ended,
     };
     match told {
@@ -158,6 +164,46 @@ fn put_unread<R: Files + AllocGlobal>(
         }
     }
     Ok(())
+}
+
+// Writes why the file of a history can't be opened for it, if that is so: a disk that is full isn't told by a path.
+fn put_unwritten<R: Files + AllocGlobal>(
+    rt: &R,
+    job: Job<'_>,
+    said: &mut Vec<u8>,
+) -> Result<(), RunStop> {
+    let written = inputs_of(job).and_then(|inputs| inputs.written);
+    let Some(path) = written else {
+        return Ok(());
+    };
+    match fault_of_place(rt, path) {
+        Some(error) => put_error(rt.alloc(), path, error, said),
+        None => Ok(()),
+    }
+}
+
+// Why a path can't be written to, if its links, what is there or its folder tell that.
+fn fault_of_place<R: Files + AllocGlobal>(rt: &R, path: &str) -> Option<io::Error> {
+    let place = match end_of_links(rt, path) {
+        Ok(place) => place,
+        Err(error) => return Some(error),
+    };
+    match fs::metadata(rt, place.as_str()) {
+        Ok(found) if found.is_file() || found.is_dir() => {}
+        Ok(_) => return None,
+        Err(_) => return fault_of_folder(rt, place.as_str()),
+    }
+    let mut options = OpenOptions::new();
+    options.write(true);
+    options.open(rt, place.as_str()).err()
+}
+
+// Why nothing can be in the folder of a path, if so.
+fn fault_of_folder<R: Files + AllocGlobal>(rt: &R, path: &str) -> Option<io::Error> {
+    match folder_of(rt, path) {
+        Ok(folder) => fs::metadata(rt, folder.as_str()).err(),
+        Err(error) => Some(error),
+    }
 }
 
 // Why a file can't be opened or read, if so. One that is no regular file isn't opened again, as that may block.
@@ -307,7 +353,7 @@ fn put_bad_history<R: Files + AllocGlobal>(
     put_history_fault(rt.alloc(), topology, name, &mut history, said)
 }
 
-// Of a session's history the whole lines alone are judged.
+// Of a session's history the whole lines alone are judged, and a new one isn't.
 fn put_bad_kept<R: Files + AllocGlobal>(
     rt: &R,
     streams: Streams,
@@ -315,8 +361,12 @@ fn put_bad_kept<R: Files + AllocGlobal>(
     name: &str,
     said: &mut Vec<u8>,
 ) -> Result<bool, RunStop> {
-    let whole = open_kept(rt, name, false, streams.errors)?.whole();
-    let mut history = open_file(rt, name)?.take(whole);
+    let log = open_kept(rt, name, false, streams.errors)?;
+    if beginning_of(rt, topology.text, name, &log)? == Beginning::Older {
+        put_said(said, name, OLDER)?;
+        return Ok(true);
+    }
+    let mut history = open_file(rt, name)?.take(log.judged());
     put_history_fault(rt.alloc(), topology, name, &mut history, said)
 }
 

@@ -40,9 +40,13 @@ struct Ends {
 }
 
 impl<'a, R: Files + AllocGlobal> KeptFile<'a, R> {
-    /// How many bytes its whole lines have.
-    pub fn whole(&self) -> u64 {
-        self.ends.whole
+    /// How many of its bytes have to be a history: those of its whole lines or, where it has none, all.
+    pub fn judged(&self) -> u64 {
+        if self.ends.whole > 0 {
+            self.ends.whole
+        } else {
+            self.ends.torn
+        }
     }
 
     // Creates the file, or cuts off what stands after its whole lines, and goes there.

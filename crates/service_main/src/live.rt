@@ -1,5 +1,6 @@
 // The subcommand `session`: its input is the standard input, and its history a file that it appends to.
 
+use crate::beginnings::{Beginning, beginning_of};
 use crate::files::{open_file, read_file, read_snapshot};
 use crate::kept_file::{KeptFile, open_kept};
 use crate::places::{history_fault, refuse_history};
@@ -8,6 +9,9 @@ use reset_service::{Past, RunStop, SessionWords, Status, session_text};
 use std::io;
 use std::io::{Read, Write};
 use std::rt::Files;
+
+// The text of a history of a version that there isn't.
+const NO_VERSION: &[u8] = b"reset-history 0\n";
 
 /// Holds a session on standard input.
 pub fn run_session<R: Files + Input + Eprint + AllocGlobal, W: Write>(
@@ -54,7 +58,8 @@ fn hold_session<R: AllocGlobal, I: Read, W: Write>(
     session_text(rt.alloc(), topology, snapshot, past, input, &mut log, out)
 }
 
-// A session with a history in the file of this path: a new one, or one that goes on.
+// A session with a history in the file of this path: a new one, or one that goes on. One of an older version doesn't go on,
+// and is answered as one of a version that there isn't.
 fn keep_session<R: Files + AllocGlobal, I: Read, W: Write>(
     rt: &R,
     topology: &[u8],
@@ -64,12 +69,14 @@ fn keep_session<R: Files + AllocGlobal, I: Read, W: Write>(
     log: &mut KeptFile<'_, R>,
     out: &mut W,
 ) -> Result<Status, RunStop> {
-    if log.whole() == 0 {
-        let past: Past<&[u8]> = Past::New;
-        return session_text(rt.alloc(), topology, snapshot, past, input, log, out);
-    }
-    let kept = open_file(rt, path)?.take(log.whole());
-    let past = Past::Kept(kept);
+    let past: Past<&[u8]> = match beginning_of(rt, topology, path, log)? {
+        Beginning::New => Past::New,
+        Beginning::Older => Past::Kept(NO_VERSION),
+        Beginning::Kept => {
+            let kept = Past::Kept(open_file(rt, path)?.take(log.judged()));
+            return session_text(rt.alloc(), topology, snapshot, kept, input, log, out);
+        }
+    };
     session_text(rt.alloc(), topology, snapshot, past, input, log, out)
 }
 

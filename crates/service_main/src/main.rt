@@ -6,6 +6,7 @@
 #![tactic(auto)]
 
 mod bad_files;
+mod beginnings;
 mod counts;
 mod files;
 mod history_file;

@@ -92,13 +92,19 @@ fn is_link<R: Files>(rt: &R, path: &str) -> bool {
     }
 }
 
-/// Opens the folder of a file, to be synced when the file is in it. There is none where it can't be opened.
-pub fn open_folder<R: Files + AllocGlobal>(rt: &R, path: &str) -> io::Result<Option<R::File>> {
+/// The path of the folder of a file.
+pub fn folder_of<R: AllocGlobal>(rt: &R, path: &str) -> io::Result<PathBuf> {
     let mut folder = PathBuf::from_str(rt.alloc(), path)?;
     folder.pop();
     if folder.as_str().is_empty() {
         folder.push(".")?;
     }
+    Ok(folder)
+}
+
+/// Opens the folder of a file, to be synced when the file is in it. There is none where it can't be opened.
+pub fn open_folder<R: Files + AllocGlobal>(rt: &R, path: &str) -> io::Result<Option<R::File>> {
+    let folder = folder_of(rt, path)?;
     match fs::open(rt, folder.as_str()) {
         Ok(folder) => Ok(Some(folder)),
         Err(_) => Ok(None),

@@ -14,20 +14,20 @@ use std::sync::Wait;
 use std::thread::Threads;
 use topology::AppName;
 
-// The messages for words that clap takes, in the form in which clap says what is wrong with others.
-const NO_LIMIT: &str = "\
-error: either '--turns <N>' or '--until quiet' has to be given\n\
-\n\
-Usage: reset-service threads [OPTIONS] --history <FILE> <TOPOLOGY>\n\
-\n\
-For more information, try '--help'.\n";
+// What is wrong with words that clap takes, in the form in which clap says it of others.
+const NO_LIMIT: &str = "either '--turns <N>' or '--until quiet' has to be given";
+
+const TWO_LIMITS: &str = "the argument '--turns <N>' cannot be used with '--until <quiet>'";
+
+const NO_SUCH_END: &str = "invalid value for '--until <quiet>'\n  [possible values: quiet]";
 
 const NEVER_QUIET: &str = "\
-error: '--until quiet' would never end, since the application of the topology always has something to do; give '--turns <N>'\n\
-\n\
+'--until quiet' would never end, since the application of the topology always has something to do; give '--turns <N>'";
+
+const USAGE: &str = "\
 Usage: reset-service threads [OPTIONS] --history <FILE> <TOPOLOGY>\n\
 \n\
-For more information, try '--help'.\n";
+For more information, try '--help'.";
 
 /// Runs a thread for each node, and writes what the nodes did to the file for the history.
 pub fn run_threads<R: Files + Eprint + AllocGlobal + Threads + Wait + Sync, W: Write>(
@@ -35,17 +35,16 @@ pub fn run_threads<R: Files + Eprint + AllocGlobal + Threads + Wait + Sync, W: W
     words: ThreadWords<'_>,
     out: &mut W,
 ) -> Result<Status, RunStop> {
-    let Some(limit) = limit_of(words) else {
-        let _ = eprint!(rt; "{NO_LIMIT}");
-        return Ok(Status::BadInput);
+    let limit = match limit_of(words) {
+        Ok(limit) => limit,
+        Err(mistake) => return Ok(refuse_words(rt, mistake)),
     };
     if let Some(fault) = history_fault(rt, words.history, &[Some(words.topology), words.from]) {
         return Ok(refuse_history(rt, fault));
     }
     let topology = read_file(rt, words.topology)?;
     if limit == TurnLimit::UntilQuiet && is_restless(rt.alloc(), &topology) {
-        let _ = eprint!(rt; "{NEVER_QUIET}");
-        return Ok(Status::BadInput);
+        return Ok(refuse_words(rt, NEVER_QUIET));
     }
     let snapshot = read_snapshot(rt, words.from)?;
     let mut kept = create_history(rt, words.history)?;
@@ -54,12 +53,20 @@ pub fn run_threads<R: Files + Eprint + AllocGlobal + Threads + Wait + Sync, W: W
     kept.end(rt, out, ended)
 }
 
-// For how long the nodes take turns, where the words say it in one way.
-fn limit_of(words: ThreadWords<'_>) -> Option<TurnLimit> {
+// Says what is wrong with the words.
+fn refuse_words<R: Eprint>(rt: &R, mistake: &str) -> Status {
+    let _ = eprintln!(rt; "error: {mistake}\n\n{USAGE}");
+    Status::BadInput
+}
+
+// For how long the nodes take turns, or what is wrong with the words for that.
+fn limit_of(words: ThreadWords<'_>) -> Result<TurnLimit, &'static str> {
     match (words.turns, words.until) {
-        (Some(turns), None) => Some(TurnLimit::AtMost(turns)),
-        (None, Some("quiet")) => Some(TurnLimit::UntilQuiet),
-        _ => None,
+        (Some(turns), None) => Ok(TurnLimit::AtMost(turns)),
+        (None, None) => Err(NO_LIMIT),
+        (_, Some(until)) if until != "quiet" => Err(NO_SUCH_END),
+        (Some(_), Some(_)) => Err(TWO_LIMITS),
+        (None, Some(_)) => Ok(TurnLimit::UntilQuiet),
     }
 }
 

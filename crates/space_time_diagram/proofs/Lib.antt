@@ -11,3 +11,4 @@ mod Sequences
 mod KeptRegisters
 mod ShownRegisters
 mod LaneOrder
+mod LineParts

@@ -5,7 +5,7 @@ use Rattle.std.specs.Fmt.{decimal}
 use Rattle.std.specs.List.{concat, flat_map}
 use Rattle.std.specs.Option.{option_map, option_map_or}
 use Rattle.topology.specs.Components.{component}
-use Rattle.topology.specs.Graph.{is_node}
+use Rattle.topology.specs.Graph.{Graph, is_node}
 use Rattle.app_interface.specs.Application.{App}
 use Rattle.reset_model.specs.Configuration.{Configuration}
 use Rattle.history.specs.Entries.{replayed}
@@ -29,11 +29,14 @@ AreInTurn from last (r ∷ rs) =
 abbrev pub node_at : List Entry → ℕ → ℕ
 node_at es place = option_map_or entry_node (slice_get es (place - 1)) 0
 
--- those of these nodes that are in the component that the node of the entry at a position has right after it
+-- those of these nodes that are in the component of a node
+abbrev pub members : List ℕ → Graph → ℕ → List ℕ
+members nodes g i = filter (is_node (component g i)) nodes
+
+-- those that are in the component that the node of the entry at a position has right after it
 abbrev pub told_nodes : {L : Type 0} → App L → (List ℕ → Option L) → List ℕ → Configuration L → List Entry → ℕ → List ℕ
 told_nodes app from_text nodes c es place =
-    option_map_or (λ after. filter (is_node (component after.graph (node_at es place))) nodes)
-    (replayed app from_text c (take place es)) []
+    option_map_or (λ after. members nodes after.graph (node_at es place)) (replayed app from_text c (take place es)) []
 
 -- the tag of a completion, whose row is at y
 unfoldable pub completion_tag : ℕ → List ℕ
@@ -48,6 +51,11 @@ completion_words session (Some opened) finished =
 completion_words session None finished =
     concat (codes "<title>session " ∷ decimal session ∷ codes ": complete at " ∷ decimal finished
     ∷ codes "</title>" ∷ [])
+
+-- those of a report, if so many entries came before the first
+abbrev pub report_words : ℕ → Report → List ℕ
+report_words before r =
+    completion_words r.number (option_map (λ opened. before + opened) r.opened) (before + r.finished)
 
 -- a piece of its line, below its row, across the lane that begins at x
 unfoldable pub piece_text : ℕ → List ℕ
@@ -68,8 +76,7 @@ completion_end x session =
 abbrev pub completion_line : (ℕ → ℕ) → ℕ → ℕ → List ℕ → Report → List ℕ
 completion_line lane lanes before nodes r =
     concat (completion_tag (row_y r.finished)
-    ∷ completion_words r.number (option_map (λ opened. before + opened) r.opened) (before + r.finished)
-    ∷ flat_map (piece lane) nodes ∷ completion_end (right_end lanes) r.number ∷ [])
+    ∷ report_words before r ∷ flat_map (piece lane) nodes ∷ completion_end (right_end lanes) r.number ∷ [])
 
 -- the same, and nothing where it would be across no lane
 abbrev pub completion : (ℕ → ℕ) → ℕ → ℕ → List ℕ → Report → List ℕ

@@ -1,15 +1,13 @@
 // The lines of completions.
 
-ghost use Rattle.std.specs.Prelude.{◌≡◌, ◌+◌, ◌<◌, ◌≤◌, IfSome, IsSome, OnErr, OnOk, Some, filter, length, take};
+ghost use Rattle.std.specs.Prelude.{◌≡◌, ◌+◌, ◌<◌, ◌≤◌, IfSome, IsSome, OnErr, OnOk, Some, length, take};
 ghost use Rattle.std.specs.Io.KnownBytes.{Appends};
 ghost use Rattle.std.specs.Option.{option_map};
 ghost use Rattle.action_tables.specs.Written.{AppendsPrefix};
-ghost use Rattle.topology.specs.Components.{component};
-ghost use Rattle.topology.specs.Graph.{is_node};
 ghost use Rattle.history.specs.Entries.{replayed};
 ghost use Rattle.space_time_diagram.specs.Completions.{AreInTurn, IsOpenedBefore, completion, completion_end};
 ghost use Rattle.space_time_diagram.specs.Completions.{completion_line, completion_tag, completion_words, completions};
-ghost use Rattle.space_time_diagram.specs.Completions.{told_completion};
+ghost use Rattle.space_time_diagram.specs.Completions.{members, report_words, told_completion};
 ghost use Rattle.space_time_diagram.specs.Lanes.{lane_of};
 
 use crate::band::entry_node;
@@ -141,10 +139,10 @@ fn put_completion<P: Application, W: Write>(
     requires opened { IsOpenedBefore report }
     ensures ok { OnOk result (Appends (W.contents out.old) (W.contents out.new)
         (completion (lane_of nodes.now opening.now) (length nodes.now) before
-        (filter (is_node (component topology.now node)) nodes.now) report)) }
+        (members nodes.now topology.now node) report)) }
     ensures err { OnErr result (AppendsPrefix (W.contents out.old) (W.contents out.new)
         (completion (lane_of nodes.now opening.now) (length nodes.now) before
-        (filter (is_node (component topology.now node)) nodes.now) report)) }
+        (members nodes.now topology.now node) report)) }
 {
     if has_member(topology, node, nodes) {
         put_completion_line(out, opening, nodes, before, topology, node, report)
@@ -169,10 +167,10 @@ fn put_completion_line<P: Application, W: Write>(
     requires opened { IsOpenedBefore report }
     ensures ok { OnOk result (Appends (W.contents out.old) (W.contents out.new)
         (completion_line (lane_of nodes.now opening.now) (length nodes.now) before
-        (filter (is_node (component topology.now node)) nodes.now) report)) }
+        (members nodes.now topology.now node) report)) }
     ensures err { OnErr result (AppendsPrefix (W.contents out.old) (W.contents out.new)
         (completion_line (lane_of nodes.now opening.now) (length nodes.now) before
-        (filter (is_node (component topology.now node)) nodes.now) report)) }
+        (members nodes.now topology.now node) report)) }
 {
     let number = report.number as u64;
     put_tag(out, row_y(report.finished))?;
@@ -186,12 +184,8 @@ fn put_title<W: Write>(out: &mut W, before: u64, report: Report) -> Result<(), W
     requires early { before ≤ MAX_BEFORE }
     requires within { report.finished ≤ MAX_MARKS }
     requires opened { IsOpenedBefore report }
-    ensures ok { OnOk result (Appends (W.contents out.old) (W.contents out.new)
-        (completion_words report.number (option_map (λ opened. before + opened) report.opened)
-        (before + report.finished))) }
-    ensures err { OnErr result (AppendsPrefix (W.contents out.old) (W.contents out.new)
-        (completion_words report.number (option_map (λ opened. before + opened) report.opened)
-        (before + report.finished))) }
+    ensures ok { OnOk result (Appends (W.contents out.old) (W.contents out.new) (report_words before report)) }
+    ensures err { OnErr result (AppendsPrefix (W.contents out.old) (W.contents out.new) (report_words before report)) }
 {
     let opened = opening_number(before, report.opened);
     put_words(

@@ -1,12 +1,12 @@
 // The lanes of a component.
 
-ghost use Rattle.std.specs.Prelude.{◌≡◌, ◌≤◌, IfNone, IfSome, OnErr, OnOk, filter, length};
+ghost use Rattle.std.specs.Prelude.{◌≡◌, ◌≤◌, IfNone, IfSome, OnErr, OnOk, length};
 ghost use Rattle.std.specs.Io.KnownBytes.{Appends};
 ghost use Rattle.std.specs.List.{flat_map, list_any};
 ghost use Rattle.action_tables.specs.Written.{AppendsPrefix};
 ghost use Rattle.topology.specs.Components.{component, leader};
 ghost use Rattle.topology.specs.Graph.{IsNode, is_node};
-ghost use Rattle.space_time_diagram.specs.Completions.{piece, piece_text};
+ghost use Rattle.space_time_diagram.specs.Completions.{members, piece, piece_text};
 ghost use Rattle.space_time_diagram.specs.Lanes.{lane_of};
 ghost use Rattle.space_time_diagram.specs.Members.{member_piece};
 
@@ -35,14 +35,14 @@ pub fn put_pieces<P: Application, W: Write>(
 ) -> Result<(), WriteFault>
     requires { length nodes.now ≤ MAX_LANES }
     ensures ok { OnOk result (Appends (W.contents out.old) (W.contents out.new)
-        (flat_map (piece (lane_of nodes.now opening.now)) (filter (is_node (component topology.now node)) nodes.now))) }
+        (flat_map (piece (lane_of nodes.now opening.now)) (members nodes.now topology.now node))) }
     ensures err { OnErr result (AppendsPrefix (W.contents out.old) (W.contents out.new)
-        (flat_map (piece (lane_of nodes.now opening.now)) (filter (is_node (component topology.now node)) nodes.now))) }
+        (flat_map (piece (lane_of nodes.now opening.now)) (members nodes.now topology.now node))) }
 {
     put_member_pieces(out, opening, nodes, topology, node)
 }
 
-// Writes them node by node.
+// Writes for each of the nodes the piece on its lane, if it is in the component of the first one.
 fn put_member_pieces<P: Application, W: Write>(
     out: &mut W,
     opening: &Config<P>,

@@ -6,8 +6,8 @@ use Rattle.topology.specs.Graph.{has}
 use Rattle.reset_service.proofs.Choosing.{among, first_at, not_among}
 use Rattle.reset_service.proofs.chosen.first_strange.Goals as goal
 
-pub returns-then-not-has : goal.returns-then-not-has
-returns-then-not-has c =
+pub returns-then-not-contains : goal.returns-then-not-contains
+returns-then-not-contains c =
     let ids = c.args.ids.now in
     let named = c.args.named.now in
     let k = c.loop-id.id-index in

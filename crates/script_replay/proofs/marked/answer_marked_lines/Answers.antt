@@ -1,13 +1,13 @@
 use Rattle.std.proofs.Common.{◌≢◌, ◌++◌, sym, ◌∙◌, rules, arith}
 use Rattle.std.proofs.KnownBytes.{Appends-trans}
 use Rattle.script_replay.specs.Lines.{lines_of}
-use Rattle.script_replay.specs.Marked.{marked_answer, marked_answers}
+use Rattle.script_replay.specs.Marked.{is_refused, marked_answer, marked_answers}
 use Rattle.script_replay.specs.Meaning.{meaning_of}
 use Rattle.script_replay.specs.declared.status.Status.TheVariants.{Good}
 use Rattle.script_replay.specs.Output.{line_answer}
-use Rattle.script_replay.specs.Tallies.{tally_of}
+use Rattle.script_replay.specs.Tallies.{answered, counted}
 use Rattle.script_replay.proofs.Runs.{left_bad, left_ended, left_good, left_result, left_stop}
-use Rattle.script_replay.proofs.Tallying.{answer_small, tally_ends, tally_goes_on, tally_result}
+use Rattle.script_replay.proofs.Tallying.{counted_small, tally_ends, tally_goes_on, tally_result}
 use Rattle.script_replay.proofs.marked.answer_marked_lines.Goals as goal
 
 pub returns-in-Ok-clause-leaves : goal.returns-in-Ok-clause-leaves
@@ -37,7 +37,7 @@ returns-in-Ok-clause-tally g c =
     let stopped : c.in-Ok.ended ≢ Good = search rules in
     let bad : a.status ≢ Good = λ good. stopped (c.in-Ok.ensures.ok.0 ∙ good) in
     tally_ends m c.args.marks
-    (tally_of m c.args.marks c.args.tally.now c.args.config.now 1 (lines_of c.args.script.now)) c.loop-line.tally
+    (counted c.args.tally.now (answered m c.args.marks c.args.config.now 1 (lines_of c.args.script.now))) c.loop-line.tally
     c.answer_marked.new.tally c.loop-line.config c.loop-line.number (lines_of c.loop-line.rest.now)
     (lines_of c.in-Some.after.now) c.in-Some.line.now counts c.in-Some.ensures.found bad c.in-Ok.ensures.tally
 
@@ -72,13 +72,14 @@ loop-line-preserved g c =
       Appends-trans _ _ _ done a.text wrote ok.2,
       omega (arith, bound, shorter),
       tally_goes_on m c.args.marks
-          (tally_of m c.args.marks c.args.tally.now c.args.config.now 1 (lines_of c.args.script.now)) c.loop-line.tally
+          (counted c.args.tally.now (answered m c.args.marks c.args.config.now 1 (lines_of c.args.script.now))) c.loop-line.tally
           c.answer_marked.new.tally c.loop-line.config c.answer_marked.new.config c.loop-line.number
           (lines_of c.loop-line.rest.now) (lines_of c.in-Some.after.now) c.in-Some.line.now counts
           c.in-Some.ensures.found (sym ok.0 ∙ c.in-Ok-Good.field-0-is) ok.1 c.in-Ok-Good.ensures.tally,
       rw c.in-Ok-Good.ensures.tally
-          (answer_small c.loop-line.tally c.loop-line.number c.in-Some.line.now
-          (line_answer m c.loop-line.config c.loop-line.number c.in-Some.line.now) small),
+          (counted_small c.loop-line.tally c.loop-line.number c.in-Some.line.now
+          (line_answer m c.loop-line.config c.loop-line.number c.in-Some.line.now).status
+          (is_refused (line_answer m c.loop-line.config c.loop-line.number c.in-Some.line.now).text) small),
     )
 
 pub returns-clause-leaves : goal.returns-clause-leaves
@@ -102,6 +103,6 @@ returns-clause-tally g c =
     g.P.Invariant.counts in
     let (done, left, wrote, bound, counts, small) = c.loop-line.invariant in
     tally_result m c.args.marks
-    (tally_of m c.args.marks c.args.tally.now c.args.config.now 1 (lines_of c.args.script.now)) c.loop-line.tally
+    (counted c.args.tally.now (answered m c.args.marks c.args.config.now 1 (lines_of c.args.script.now))) c.loop-line.tally
     c.answer_marked-2.new.tally c.loop-line.config c.loop-line.number (lines_of c.loop-line.rest.now) c.loop-line.rest.now
     c.answer_marked-2.result counts c.in_default.ensures.only c.answer_marked-2.ensures.tally

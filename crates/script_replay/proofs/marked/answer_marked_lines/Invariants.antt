@@ -5,7 +5,7 @@ use Rattle.script_replay.specs.Lines.{lines_of}
 use Rattle.script_replay.specs.Marked.{marked_answer, marked_answers}
 use Rattle.script_replay.specs.Meaning.{meaning_of}
 use Rattle.script_replay.specs.Output.{answers_by, told_after}
-use Rattle.script_replay.specs.Tallies.{tally_of}
+use Rattle.script_replay.specs.Tallies.{answered, counted}
 use Rattle.script_replay.proofs.Tallying.{IsSmall}
 use Rattle.script_replay.proofs.marked.answer_marked_lines.Given as goal
 
@@ -19,8 +19,8 @@ invariant-loop-line g l =
     ≡ told_after done (answers_by (marked_answer m l.marks) l.config l.number (lines_of l.rest)))
     × Appends (g.W.Write.contents l.initial.out) (g.W.Write.contents l.out) done
     × (l.number + length l.rest ≤ length l.script + 1)
-    × (tally_of m l.marks l.initial.tally l.initial.config 1 (lines_of l.script)
-    ≡ tally_of m l.marks l.tally l.config l.number (lines_of l.rest))
+    × (counted l.initial.tally (answered m l.marks l.initial.config 1 (lines_of l.script))
+    ≡ counted l.tally (answered m l.marks l.config l.number (lines_of l.rest)))
     × IsSmall l.tally l.number
 
 abbrev pub decreases-loop-line : goal.decreases-loop-line
