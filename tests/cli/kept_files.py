@@ -192,7 +192,8 @@ def links(program, folder):
         shutil.rmtree(place)
         os.makedirs(place)
         os.symlink("day", f"{place}/day")
-        yield f"{name} over a link to itself", in_shell(program, folder, f"{command} links/day")[1:] == (3, b"write fault\n")
+        why = b"reset-service: links/day: Too many levels of symbolic links\n" if name == "session" else b""
+        yield f"{name} over a link to itself", in_shell(program, folder, f"{command} links/day")[1:] == (3, b"write fault\n" + why)
     os.remove(f"{place}/day")
     os.symlink("real", f"{place}/day")
     written(place, "real", old)

@@ -184,23 +184,24 @@ fn put_unwritten<R: Files + AllocGlobal>(
 
 // Why a path can't be written to, if its links, what is there or its folder tell that.
 fn fault_of_place<R: Files + AllocGlobal>(rt: &R, path: &str) -> Option<io::Error> {
+    match fs::metadata(rt, path) {
+        Ok(found) if found.is_file() || found.is_dir() => {}
+        Ok(_) => return None,
+        Err(error) if error.kind() == io::ErrorKind::NotFound => return fault_of_folder(rt, path),
+        Err(error) => return Some(error),
+    }
+    let mut options = OpenOptions::new();
+    options.write(true);
+    options.open(rt, path).err()
+}
+
+// Why nothing can be in the folder that a path leads to, over any links, if so.
+fn fault_of_folder<R: Files + AllocGlobal>(rt: &R, path: &str) -> Option<io::Error> {
     let place = match end_of_links(rt, path) {
         Ok(place) => place,
         Err(error) => return Some(error),
     };
-    match fs::metadata(rt, place.as_str()) {
-        Ok(found) if found.is_file() || found.is_dir() => {}
-        Ok(_) => return None,
-        Err(_) => return fault_of_folder(rt, place.as_str()),
-    }
-    let mut options = OpenOptions::new();
-    options.write(true);
-    options.open(rt, place.as_str()).err()
-}
-
-// Why nothing can be in the folder of a path, if so.
-fn fault_of_folder<R: Files + AllocGlobal>(rt: &R, path: &str) -> Option<io::Error> {
-    match folder_of(rt, path) {
+    match folder_of(rt, place.as_str()) {
         Ok(folder) => fs::metadata(rt, folder.as_str()).err(),
         Err(error) => Some(error),
     }
