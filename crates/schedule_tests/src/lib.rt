@@ -1,5 +1,7 @@
-//! Tests of `explore` of `schedules`.
+//! Tests of `explore` and `search` of `schedules`.
 #![tactic(auto)]
 
 #[cfg(test)]
 mod orders;
+#[cfg(test)]
+mod searches;
