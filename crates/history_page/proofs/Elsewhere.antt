@@ -18,35 +18,28 @@ use Rattle.topology.proofs.Reasons.{none_holds}
 use Rattle.tree_layer.specs.TreeRows.{claimed}
 use Rattle.tree_layer.specs.TreeTable as tree
 use Rattle.tree_layer.specs.TreeTable.{tree_table}
-use Rattle.tree_layer.specs.declared.regs.TreeRegs.{TreeRegs}
-use Rattle.wave_layer.specs.declared.regs.WaveRegs.{WaveRegs}
 use Rattle.wave_layer.specs.declared.regs.Phase.TheVariants.{Normal}
-use Rattle.reset_model.specs.declared.plan.Effect.{Effect}
-use Rattle.reset_model.specs.declared.plan.Effect.TheVariants as effect
-use Rattle.reset_model.specs.declared.step.StepRefusal.TheVariants.{StrangeNode}
 use Rattle.reset_model.specs.Configuration.{Configuration, IsShaped, local_of, tree_of, wave_of}
-use Rattle.reset_model.specs.Configuration.{with_local, with_tree, with_wave}
-use Rattle.reset_model.specs.Planned.{Planned, after_effect, planned, written}
 use Rattle.reset_model.specs.Steps.{event_node}
 use Rattle.reset_model.specs.Topologies.{comes_up, with_topology}
-use Rattle.reset_model.specs.View.{Neighbour, near_of, near_trees, view_of}
+use Rattle.reset_model.specs.View.{Neighbour, near_of, near_trees}
 use Rattle.reset_model.proofs.OtherGraphs.{local_there, tree_there, wave_there}
-use Rattle.reset_model.proofs.Positions.{value_at-put_at_other}
 use Rattle.reset_model.proofs.ViewedOutcomes.{tree_view-is}
 use Rattle.reset_machine.proofs.NearSeen.{same_neighbour}
 use Rattle.link_predicates.specs.Faults.{fault_of, first_enabled, link_faults, node_faults}
 use Rattle.link_predicates.specs.declared.fault.Family.TheVariants.{Tree}
 use Rattle.link_predicates.specs.declared.fault.LinkFault.{LinkFault}
-use Rattle.fault_inject.specs.Effects.{damaged, injected, refusals, with_read}
+use Rattle.fault_inject.specs.Effects.{damaged, injected, refusals}
 use Rattle.fault_inject.specs.declared.fault.Fault.{Fault}
 use Rattle.fault_inject.specs.declared.fault.Fault.TheVariants.{SetTree, SetWave, SetLocal, LinkDown, LinkUp}
 use Rattle.fault_inject.specs.declared.fault.Fault.TheVariants.{NodeDown, NodeUp}
 use Rattle.fault_inject.specs.declared.refusal.FaultRefusal.{FaultRefusal}
 use Rattle.history.specs.declared.entry.Entry.{Entry}
 use Rattle.history.specs.declared.entry.Entry.TheVariants.{Step, Disturbed}
-use Rattle.history.specs.Entries.{entered, left_by_fault, left_by_step}
+use Rattle.history.specs.Entries.{entered, left_by_fault}
 use Rattle.history_page.specs.Entries.{concerned}
 use Rattle.history_page.specs.Failing.{failing}
+use Rattle.history_page.proofs.Written.{IsWrittenAt, damaged_written, entered_written}
 
 -- ---- lists
 
@@ -125,67 +118,17 @@ module _ {L : Type 0} (app : App L) where
   -- ---- a write at another node
 
   module _ (c : Configuration L) (i j : ℕ) (other : j ≢ i) (stranger : are_linked c.graph j i ≡ false) where
-    written_around : (d : Configuration L) → d.graph ≡ c.graph → d.modulus ≡ c.modulus
-        → ((k : ℕ) → k ≢ i → near_of app d k ≡ near_of app c k) → failing app d j ≡ failing app c j
-    written_around d graph modulus near =
-        same_failing c d j (ap (λ (g : Graph). is_node g j) graph)
+    written_elsewhere : (d : Configuration L) → IsWrittenAt app c d i → failing app d j ≡ failing app c j
+    written_elsewhere d wrote =
+        same_failing c d j (ap (λ (g : Graph). is_node g j) wrote.graph)
         (λ up. record {
-          ids = ap (λ (g : Graph). g.ids) graph;
-          modulus = modulus;
-          links = λ k. ap (λ (g : Graph). are_linked g j k) graph;
-          own = near j other;
-          near = λ k linked. near k (λ same. false≢true (sym stranger ∙ ap (are_linked c.graph j) (sym same) ∙ linked));
+          ids = ap (λ (g : Graph). g.ids) wrote.graph;
+          modulus = wrote.modulus;
+          links = λ k. ap (λ (g : Graph). are_linked g j k) wrote.graph;
+          own = wrote.near j other;
+          near = λ k linked. wrote.near k
+              (λ same. false≢true (sym stranger ∙ ap (are_linked c.graph j) (sym same) ∙ linked));
         })
-
-    abbrev here : ℕ → TreeRegs → WaveRegs → L → Neighbour L
-    here k t w l = record { id = k; tree = t; wave = w; local = l }
-
-    tree_stays : (regs : TreeRegs) (k : ℕ) → k ≢ i → tree_of (with_tree c i regs) k ≡ tree_of c k
-    tree_stays regs k away =
-        value_at-put_at_other (record { root = 0; father = 0; dist = 0 }) c.graph.ids c.trees i k regs away
-
-    wave_stays : (regs : WaveRegs) (k : ℕ) → k ≢ i → wave_of (with_wave c i regs) k ≡ wave_of c k
-    wave_stays regs k away =
-        value_at-put_at_other (record { phase = Normal; session = 0 }) c.graph.ids c.waves i k regs away
-
-    local_stays : (local : L) (k : ℕ) → k ≢ i → local_of app (with_local c i local) k ≡ local_of app c k
-    local_stays local k away = value_at-put_at_other (app.start c.graph k) c.graph.ids c.locals i k local away
-
-    pub with_tree_elsewhere : (regs : TreeRegs) → failing app (with_tree c i regs) j ≡ failing app c j
-    with_tree_elsewhere regs =
-        written_around (with_tree c i regs) refl refl
-        (λ k away. ap (λ t. here k t (wave_of c k) (local_of app c k)) (tree_stays regs k away))
-
-    pub with_wave_elsewhere : (regs : WaveRegs) → failing app (with_wave c i regs) j ≡ failing app c j
-    with_wave_elsewhere regs =
-        written_around (with_wave c i regs) refl refl
-        (λ k away. ap (λ w. here k (tree_of c k) w (local_of app c k)) (wave_stays regs k away))
-
-    pub with_local_elsewhere : (local : L) → failing app (with_local c i local) j ≡ failing app c j
-    with_local_elsewhere local =
-        written_around (with_local c i local) refl refl
-        (λ k away. ap (λ l. here k (tree_of c k) (wave_of c k) l) (local_stays local k away))
-
-    pub effect_elsewhere : (does : Effect L) → failing app (after_effect c i does) j ≡ failing app c j
-    effect_elsewhere (effect.Tree regs) = with_tree_elsewhere regs
-    effect_elsewhere (effect.Wave regs None) = with_wave_elsewhere regs
-    effect_elsewhere (effect.Wave regs (Some local)) =
-        written_around (with_wave (with_local c i local) i regs) refl refl
-        (λ k away. ap₂ (λ w l. here k (tree_of c k) w l) (wave_stays regs k away) (local_stays local k away))
-    effect_elsewhere (effect.Local local) = with_local_elsewhere local
-
-    step_elsewhere : (p : Planned L) (after : Configuration L) → left_by_step (written c i p) ≡ Some after
-        → failing app after j ≡ failing app c j
-    step_elsewhere (Ok does) after is =
-        let same : after_effect c i does.0 ≡ after = cc in
-        subst (λ d. failing app d j ≡ failing app c j) same (effect_elsewhere does.0)
-    step_elsewhere (Err f) after is = absurd (cc)
-
-    pub event_elsewhere : (up : Bool) (p : Planned L) (after : Configuration L)
-        → left_by_step (cond (not up) (Err StrangeNode) (written c i p)) ≡ Some after
-        → failing app after j ≡ failing app c j
-    event_elsewhere true p after is = step_elsewhere p after is
-    event_elsewhere false p after is = absurd (cc)
 
   -- ---- another graph of the same identifiers
 
@@ -295,21 +238,20 @@ module _ {L : Type 0} (app : App L) where
         stranger : are_linked c.graph j i ≡ false
         stranger = graph.symmetric j i ∙ away.linked
 
+      -- a write at a node that concerns others
+      wrote_elsewhere : (i : ℕ) (d : Configuration L) → IsWrittenAt app c d i
+          → has (i ∷ (neighbours_of c.graph i ++ [])) j ≡ false → failing app d j ≡ failing app c j
+      wrote_elsewhere i d wrote e =
+          let away = elsewhere i [] e in written_elsewhere c i j (other i [] away) (stranger i [] away) d wrote
+
       damaged_elsewhere : (f : Fault) → first_of (refusals from_text c f) ≡ None
           → has (concerned c.graph (Disturbed f)) j ≡ false → failing app (damaged app from_text c f) j ≡ failing app c j
       damaged_elsewhere (SetTree at regs) none e =
-          let away = elsewhere at [] e in
-          with_tree_elsewhere c at j (other at [] away) (stranger at [] away) regs
+          wrote_elsewhere at _ (damaged_written app from_text c (SetTree at regs) at refl) e
       damaged_elsewhere (SetWave at regs) none e =
-          let away = elsewhere at [] e in
-          with_wave_elsewhere c at j (other at [] away) (stranger at [] away) regs
-      damaged_elsewhere (SetLocal at text) none e = by_text (from_text text)
-        where
-          by_text : (o : Option L) → failing app (with_read c at o) j ≡ failing app c j
-          by_text None = refl
-          by_text (Some local) =
-              let away = elsewhere at [] e in
-              with_local_elsewhere c at j (other at [] away) (stranger at [] away) local
+          wrote_elsewhere at _ (damaged_written app from_text c (SetWave at regs) at refl) e
+      damaged_elsewhere (SetLocal at text) none e =
+          wrote_elsewhere at _ (damaged_written app from_text c (SetLocal at text) at refl) e
       damaged_elsewhere (LinkDown a b) none e =
           let away = elsewhere a [] e in
           let linked : are_linked c.graph a b ≡ true =
@@ -342,8 +284,5 @@ module _ {L : Type 0} (app : App L) where
       pub entered_elsewhere : (entry : Entry) (after : Configuration L) → entered app from_text c entry ≡ Some after
           → has (concerned c.graph entry) j ≡ false → failing app after j ≡ failing app c j
       entered_elsewhere (Step e) after is none =
-          let i = event_node e in
-          let away = elsewhere i [] none in
-          event_elsewhere c i j (other i [] away) (stranger i [] away) (is_node c.graph i)
-          (planned app (view_of app c i) e) after is
+          wrote_elsewhere (event_node e) after (entered_written app from_text c (Step e) after (event_node e) refl is) none
       entered_elsewhere (Disturbed f) after is none = injected_elsewhere f after is none

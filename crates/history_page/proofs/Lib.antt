@@ -5,4 +5,6 @@ pub mod PutEntries
 pub mod Sequences
 pub mod Neighbours
 pub mod Plain
+pub mod Written
 pub mod Elsewhere
+pub mod Known

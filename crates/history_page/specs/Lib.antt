@@ -5,3 +5,4 @@ pub mod Opening
 pub mod Entries
 pub mod Page
 pub mod Cursor
+pub mod Known

@@ -2,7 +2,9 @@
 
 ghost use Rattle.std.specs.Prelude.{◌≡◌, ◌<◌, ◌++◌, All, IfOk, OnOk, length, map, slice_index};
 ghost use Rattle.topology.specs.Graph.{neighbours_of};
+ghost use Rattle.history.specs.declared.entry.Entry.TheVariants.{Disturbed};
 ghost use Rattle.history_page.specs.Entries.{concerned, entry_node, fault_node, newcomers};
+ghost use Rattle.history_page.specs.Known.{written_at};
 
 use fault_inject::Fault;
 use history::Entry;
@@ -27,6 +29,29 @@ fn fault_node(fault: &Fault) -> u32
         Fault::SetTree { at, .. } | Fault::SetWave { at, .. } | Fault::SetLocal { at, .. } => *at,
         Fault::NodeDown { at } | Fault::NodeUp { at } => *at,
         Fault::LinkDown { a, .. } | Fault::LinkUp { a, .. } => *a,
+    }
+}
+
+// The node at which alone an entry writes. None where it is a fault of a link or of a node, which changes the links.
+pub fn written_at(entry: &Entry) -> Option<u32>
+    ensures { result ≡ written_at entry.now }
+{
+    match entry {
+        Entry::Step(event) => Some(event.node()),
+        Entry::Disturbed(fault) => damaged_at(fault),
+    }
+}
+
+// The node at which alone a fault writes.
+fn damaged_at(fault: &Fault) -> Option<u32>
+    ensures { result ≡ written_at (Disturbed fault.now) }
+{
+    match fault {
+        Fault::SetTree { at, .. } | Fault::SetWave { at, .. } | Fault::SetLocal { at, .. } => Some(
+            *at,
+        ),
+        Fault::NodeDown { .. } | Fault::NodeUp { .. } => None,
+        Fault::LinkDown { .. } | Fault::LinkUp { .. } => None,
     }
 }
 

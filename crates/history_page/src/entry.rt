@@ -11,9 +11,10 @@ ghost use Rattle.history.specs.Reports.{reports_of};
 ghost use Rattle.history_page.specs.Entries.{entries_text, entry_data, entry_fields, event_fields, fault_fields};
 ghost use Rattle.history_page.specs.Entries.{opening_text, report_text};
 ghost use Rattle.history_page.specs.Cursor.{told_count};
+ghost use Rattle.history_page.specs.Known.{IsKnown};
 
-use crate::changes::{add_changes, note};
-use crate::concerned::entry_node;
+use crate::changes::{Noted, add_changes, note};
+use crate::concerned::{entry_node, written_at};
 use crate::field::{Field, add_fields};
 use crate::line::{add_parts, put_line};
 use crate::page::PageStop;
@@ -29,10 +30,12 @@ use std::io::Write;
 pub fn put_entries<P: Application, W: Write>(
     alloc: Global,
     config: &mut Config<P>,
+    known: &mut [Noted],
     entries: &[Entry],
     reports: &[Report],
     out: &mut W,
 ) -> Result<(), PageStop>
+    requires known { IsKnown P.app config.old known.old }
     requires run { IsSome (replayed P.app P.from_text config.old entries.now) }
     requires reports { reports.now ≡ reports_of P.app P.from_text config.old entries.now }
     ensures ok { OnOk result (Appends (W.contents out.old) (W.contents out.new)
@@ -45,7 +48,7 @@ pub fn put_entries<P: Application, W: Write>(
     for entry in entries {
         place += 1;
         let told = told_now(rest, place);
-        let line = next_line(alloc, config, entry, told)?;
+        let line = next_line(alloc, config, known, entry, told)?;
         put_line(out, &line)?;
         rest = told_later(rest, place);
     }
@@ -76,20 +79,25 @@ fn told_later(reports: &[Report], place: usize) -> &[Report]
 fn next_line<P: Application>(
     alloc: Global,
     config: &mut Config<P>,
+    known: &mut [Noted],
     entry: &Entry,
     reports: &[Report],
 ) -> Result<Vec<u8>, AllocError>
-    requires { IsSome (entered P.app P.from_text config.old entry.now) }
+    requires allowed { IsSome (entered P.app P.from_text config.old entry.now) }
+    requires known { IsKnown P.app config.old known.old }
     ensures played { OnOk result (entered P.app P.from_text config.old entry.now ≡ Some config.new) }
     ensures line { IfOk result
         (λ line. line.items ≡ entry_data P.app P.text config.old config.new entry.now reports.now) }
+    ensures known { OnOk result (IsKnown P.app config.new known.new) }
 {
-    let before = note(alloc, config, entry)?;
+    config.lemma_is_graph();
+    let before = note(alloc, config, known, entry)?;
     play(alloc, config, entry)?;
+    config.lemma_is_graph();
     let mut line = Vec::new(alloc);
     add_command(&mut line, entry)?;
     add_fields(&mut line, config, entry_node(entry), entry_fields(entry))?;
-    add_changes(alloc, &mut line, config, &before)?;
+    add_changes(alloc, &mut line, config, written_at(entry), &before, known)?;
     add_reports(&mut line, reports)?;
     Ok(line)
 }

@@ -11,6 +11,7 @@ ghost use Rattle.history_page.specs.Page.{data_text, end_data, page_text};
 ghost use Rattle.history_page.specs.declared.page.PageStop.TheVariants.{NoMemory, WriteFailed};
 
 use crate::boot::{put_boot_lines, put_first_lines};
+use crate::changes::note_all;
 use crate::entry::put_entries;
 use crate::frame::HEAD;
 use crate::line::{add_parts, put_line};
@@ -52,7 +53,7 @@ impl From<AllocError> for PageStop {
 /// script, and without references to anything outside of it. It names the application, and has this title, in UTF-8, or
 /// none where that is empty.
 ///
-/// What it holds at a time is a configuration and the line of one entry.
+/// What it holds at a time is a configuration, what fails at its nodes, and the line of one entry.
 pub fn put_page<P: Application, W: Write>(
     alloc: Global,
     opening: &Config<P>,
@@ -143,8 +144,9 @@ fn put_copied<P: Application, W: Write>(
     ensures err { OnErr result (AppendsPrefix (W.contents out.old) (W.contents out.new)
         (entries_text P.app P.text P.from_text opening.now [] entries.now)) }
 {
+    let mut known = note_all(alloc, opening)?;
     let mut config = opening.copy(alloc)?;
-    let put = put_entries(alloc, &mut config, entries, reports, out);
+    let put = put_entries(alloc, &mut config, &mut known, entries, reports, out);
     drop(config);
     put
 }

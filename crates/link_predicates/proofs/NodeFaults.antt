@@ -1,7 +1,7 @@
 -- The faults of one link after another are those of all of them.
 use Rattle.std.proofs.Common.{◌≡◌, ℕ, ◌+◌, ◌<◌, ◌==◌, Bool, true, false, List, [], ◌∷◌, ◌++◌, Option, Some, None}
 use Rattle.std.proofs.Common.{length, take, drop, get_or, slice_index, find, flat_map, map, refl}
-use Rattle.std.proofs.Common.{append-nil, cond, filter, sym, ap, ◌∙◌, add-one, true≢false}
+use Rattle.std.proofs.Common.{append-nil, cond, filter, sym, ap, ap₂, ◌∙◌, add-one, true≢false}
 use Rattle.std.specs.Option.{IfNone, IfSome, is_some, option_map, option_or}
 use Rattle.std.proofs.Math.Seq.{take-suc}
 use Rattle.std.proofs.lemmas.List.{at_drop_more, flat_map_more}
@@ -9,13 +9,14 @@ use Rattle.std.proofs.lemmas.List.Elements.{filter_more}
 use Rattle.std.proofs.lemmas.List.Folds.{find-append}
 use Rattle.std.proofs.lemmas.List.Quantifiers.{position-Some}
 use Rattle.app_interface.specs.Application.{App}
-use Rattle.topology.specs.Graph.{Graph, IsGraph, IsNode, neighbours_of, node_at, node_bound}
+use Rattle.topology.specs.Graph.{Graph, IsGraph, IsNode, are_linked, neighbours_of, node_at, node_bound}
 use Rattle.reset_model.specs.Configuration.{Configuration}
 use Rattle.reset_machine.proofs.NearSeen.{at_indexes, one_more}
 use Rattle.reset_model.proofs.NodePositions.{no_node_placed, node_placed}
 use Rattle.reset_model.proofs.Positions.{id_at-position}
 use Rattle.reset_model.specs.View.{Neighbour, near_of}
-use Rattle.link_predicates.specs.Faults.{alarm_of, app_row, fault_of, is_of_app, link_faults, own_row, tree_row}
+use Rattle.link_predicates.specs.Ends.{AreEnds}
+use Rattle.link_predicates.specs.Faults.{alarm_of, app_row, end_faults, fault_of, is_of_app, link_faults, own_row, tree_row}
 use Rattle.link_predicates.specs.Faults.{wave_row}
 use Rattle.link_predicates.specs.declared.fault.Family.TheVariants.{Tree, Wave, App as OfApp}
 use Rattle.link_predicates.specs.declared.fault.LinkFault.{LinkFault}
@@ -32,6 +33,28 @@ found_node g id (Some index) found =
 pub no_node : (g : Graph) → IsGraph g → (id : ℕ) (o : Option ℕ) → o ≡ node_at g id → IfNone o (IsNode g id → ⊥)
 no_node g graph id None found = no_node_placed g graph id (sym found)
 no_node g graph id (Some index) found = tt
+
+-- what is no node has no link
+pub unlinked : (g : Graph) → IsGraph g → (i j : ℕ) → (IsNode g i → ⊥) → are_linked g i j ≡ false
+unlinked g graph i j down = at (are_linked g i j) refl
+  where
+    at : (b : Bool) → are_linked g i j ≡ b → b ≡ false
+    at false is = refl
+    at true is = absurd (down (graph.ends i j is))
+
+-- the faults at an end of a link, by the places of its ends, and where there is no such link
+module _ {L : Type 0} (app : App L) (c : Configuration L) (i j : ℕ) where
+  pub end_found : (index near : ℕ) → AreEnds c.graph i j index near
+      → link_faults app (node_bound c.graph) c.modulus (near_of app c (slice_index c.graph.ids index))
+      (near_of app c (slice_index c.graph.ids near)) ≡ end_faults app c i j
+  end_found index near are =
+      let at : ℕ → ℕ → List LinkFault =
+      λ a b. link_faults app (node_bound c.graph) c.modulus (near_of app c a) (near_of app c b) in
+      ap₂ at are.own are.other ∙ sym (ap (λ b. cond b (at i j) []) are.linked)
+
+  pub end_missing : are_linked c.graph i j ≡ false → [] ≡ end_faults app c i j
+  end_missing none =
+      sym (ap (λ b. cond b (link_faults app (node_bound c.graph) c.modulus (near_of app c i) (near_of app c j)) []) none)
 
 -- what is told of the identifiers that are up, with one more identifier: one that is up, and one that is down
 module _ {A : Type 0} (f : ℕ → List A) (p : ℕ → Bool) (xs : List ℕ) (k : ℕ) (found : List A) (short : k < length xs)

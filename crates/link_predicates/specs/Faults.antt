@@ -5,7 +5,7 @@ use Rattle.std.specs.List.{flat_map, list_all}
 use Rattle.action_tables.specs.Numbers.{is_among}
 use Rattle.action_tables.specs.Table.{enabled_of}
 use Rattle.app_interface.specs.Application.{App}
-use Rattle.topology.specs.Graph.{neighbours_of, node_bound}
+use Rattle.topology.specs.Graph.{are_linked, neighbours_of, node_bound}
 use Rattle.tree_layer.specs.TreeTable.{tree_table}
 use Rattle.tree_layer.specs.TreeTable as tree
 use Rattle.wave_layer.specs.WaveTable.{wave_table}
@@ -74,6 +74,12 @@ link_faults app K m own other =
     fault_of own.id other.id Tree (tree_row K own other)
     ++ (fault_of own.id other.id Wave (wave_row m own other)
     ++ fault_of own.id other.id OfApp (app_row app K own other))
+
+-- at node i's end of its link to j; none where they aren't linked
+abbrev pub end_faults : {L : Type 0} → App L → Configuration L → ℕ → ℕ → List LinkFault
+end_faults app c i j =
+    if are_linked c.graph i j then link_faults app (node_bound c.graph) c.modulus (near_of app c i) (near_of app c j)
+    else []
 
 -- at a node: its own fault, then those of its links, by ascending neighbour
 abbrev pub node_faults : {L : Type 0} → App L → Configuration L → ℕ → List LinkFault

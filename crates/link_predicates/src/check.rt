@@ -1,11 +1,12 @@
 // The checker, and the alarm of an application.
 
 ghost use Rattle.std.specs.Prelude.{◌≡◌, ◌≢◌, ◌<◌, ◌++◌, None, Some, IfErr, IfNone, IfOk, IfSome, OnOk, find, flat_map};
-ghost use Rattle.std.specs.Prelude.{length, map, slice_index};
-ghost use Rattle.topology.specs.Graph.{IsNode, neighbours_of, node_bound};
+ghost use Rattle.std.specs.Prelude.{false, length, map, slice_index};
+ghost use Rattle.topology.specs.Graph.{AreLinked, IsNode, are_linked, neighbours_of, node_bound};
 ghost use Rattle.reset_model.specs.View.{near_of};
-ghost use Rattle.link_predicates.specs.Faults.{alarm_of, app_row, fault_of, faults, is_of_app, link_faults};
-ghost use Rattle.link_predicates.specs.Faults.{node_faults, own_row};
+ghost use Rattle.link_predicates.specs.Ends.{AreEnds};
+ghost use Rattle.link_predicates.specs.Faults.{alarm_of, app_row, end_faults, fault_of, faults, is_of_app};
+ghost use Rattle.link_predicates.specs.Faults.{link_faults, node_faults, own_row};
 ghost use Rattle.link_predicates.specs.declared.fault.Family.TheVariants.{Tree};
 
 use crate::end::{End, Limits, end_at};
@@ -55,6 +56,23 @@ pub fn check_all<P: Application>(
     Ok(found)
 }
 
+/// The faults at a node's end of its link to another. None where there is no such link.
+pub fn check_link<P: Application>(
+    alloc: Global,
+    config: &Config<P>,
+    at: u32,
+    other: u32,
+) -> Result<Vec<LinkFault>, AllocError>
+    ensures { IfOk result (λ found. found.items ≡ end_faults P.app config.now at other) }
+{
+    let Some((index, near)) = ends_of(config, at, other) else {
+        return Ok(Vec::new(alloc));
+    };
+    let mut found = Vec::new(alloc);
+    add_end(&mut found, config, index, near)?;
+    Ok(found)
+}
+
 /// The first fault of the application at the node with this identifier. None where there is none,
 /// and where there is no such node.
 pub fn alarm<P: Application>(config: &Config<P>, at: u32) -> Option<LinkFault>
@@ -75,6 +93,22 @@ fn index_of<P: Application>(config: &Config<P>, at: u32) -> Option<usize>
 {
     config.lemma_is_graph();
     config.topology().node_at(at)
+}
+
+// The indexes of two linked nodes. None where there is no such link.
+fn ends_of<P: Application>(config: &Config<P>, at: u32, other: u32) -> Option<(usize, usize)>
+    ensures found { IfSome result (λ ends. AreEnds config.now.graph at other ends.0 ends.1) }
+    ensures none { IfNone result (are_linked config.now.graph at other ≡ false) }
+{
+    let topology = config.topology();
+    config.lemma_is_graph();
+    match topology.node_at(at) {
+        Some(index) => match topology.neighbour_at(index, other) {
+            Some(near) => Some((index, near)),
+            None => None,
+        },
+        None => None,
+    }
 }
 
 // The first fault of the application at the node with this index.
@@ -179,6 +213,33 @@ fn add_links<P: Application>(
         }
     }
     Ok(())
+}
+
+// Adds the faults at an end of the link between the nodes with these indexes.
+fn add_end<P: Application>(
+    found: &mut Vec<LinkFault>,
+    config: &Config<P>,
+    index: usize,
+    near: usize,
+) -> Result<(), AllocError>
+    requires within { index < length config.now.graph.ids }
+    requires near { near < length config.now.graph.ids }
+    requires linked { let ids = config.now.graph.ids in
+        AreLinked config.now.graph (slice_index ids index) (slice_index ids near) }
+    ensures { OnOk result
+        (found.new.items
+        ≡ found.old.items ++ link_faults P.app (node_bound config.now.graph) config.now.modulus
+        (near_of P.app config.now (slice_index config.now.graph.ids index))
+        (near_of P.app config.now (slice_index config.now.graph.ids near))) }
+{
+    config.lemma_is_graph();
+    let limits = limits_of(config);
+    let own = end_at(config, index);
+    let other = end_at(config, near);
+    if is_quiet(&limits, &own, &other) {
+        return Ok(());
+    }
+    add_link(found, &limits, &own, &other)
 }
 
 // Adds the faults at a node's end of a link. It is seldom called: most ends are quiet.

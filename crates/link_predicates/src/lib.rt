@@ -9,6 +9,6 @@ mod laws;
 mod quiet;
 mod rows;
 
-pub use check::{alarm, check_all, check_node};
+pub use check::{alarm, check_all, check_link, check_node};
 pub use fault::{Family, LinkFault};
 pub use laws::{faultless_is_pictured, faultless_is_sound, joined_are_silent, repairs_are_enabled};

@@ -13,10 +13,14 @@ loop-entry-init g c = (
   none_put g.P.Application.app g.P.Application.text g.P.Application.from_text c.args.config.now c.args.entries.now
       (g.W.Write.contents c.args.out.now) c.args.reports.now c.requires.run c.requires.reports,
   refl,
+  c.requires.known,
 )
 
-pub next_line-requires-after_bounds : goal.next_line-requires-after_bounds
-next_line-requires-after_bounds g c κs within =
+pub next_line-requires-clause-known : goal.next_line-requires-clause-known
+next_line-requires-clause-known g c κs within = c.loop-entry.invariant.2
+
+pub next_line-requires-clause-allowed : goal.next_line-requires-clause-allowed
+next_line-requires-clause-allowed g c κs within =
     next_allowed g.P.Application.app g.P.Application.text g.P.Application.from_text c.args.config.now
     c.loop-entry.config c.args.entries.now _ _ c.loop-entry.entry-index c.loop-entry.rest.now c.entry-item.result
     c.loop-entry.invariant.0 c.loop-entry-test.true c.entry-item.is
@@ -57,6 +61,7 @@ loop-entry-preserved g c =
           c.in_ok-line.ensures.played (omega (arith, loop.invariant.1))
           (subst Whole is c.in_ok-put_line.ensures.ok)),
       omega (arith, loop.invariant.1),
+      c.in_ok-line.ensures.known,
     )
 
 pub returns-clause-ok : goal.returns-clause-ok
