@@ -178,6 +178,8 @@ bad_words explore a --most 100000001
 bad_words explore a --most -1
 bad_words explore a --most x
 bad_words explore a --most 1 --most 1
+bad_words explore a --until
+bad_words explore a --until check --until invariant
 bad_words explore a --history
 bad_words explore a --history b --history c
 bad_words session
@@ -319,7 +321,7 @@ lowercase='claim follow adopt request relay open join finish mend act fault draw
   watch moves move invariant snapshot plan applied complete refused disturbed drawn quiet unjoined link faults report verified drove
   resumed help explain exit normal initiate reset entry
   tree wave app local bad node session threads idle token mutex routes pass take enter leave pull memory read write thread lists line not
-  configurations steps ends whole longest completions endless repair repairs root father distance K row history more'
+  configurations steps ends whole longest completions endless found repair repairs root father distance K row history more'
 
 # Standard output has each phrase of the word, and there is one.
 names_all() { # WORD

@@ -65,6 +65,7 @@ RUNS = [
     ("plan from a snapshot", ["plan", "topology.toml", "--from", "snapshot"], None),
     ("explore", ["explore", "topology.toml", "script"], None),
     ("explore from a snapshot", ["explore", "topology.toml", "--from", "snapshot", "--acts"], None),
+    ("search", ["explore", "topology.toml", "script", "--until", "check"], None),
     ("check from a snapshot", ["check", "topology.toml", "script", "--from", "snapshot"], None),
     ("verify", ["verify", "topology.toml", "history"], None),
     ("verify and why", ["verify", "topology.toml", "refused", "--why"], None),

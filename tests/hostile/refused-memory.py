@@ -201,11 +201,12 @@ def plan_runs():
 
 
 def exploration_runs():
-    """Those of explorations: of a network that ends, at the limit and beyond it, and of one that goes round."""
+    """Those of explorations: of a network that ends, at the limit and beyond it, of one that goes round, and searches."""
     whole, round_ = (example_folders.named(it) for it in ("every-order", "mends-go-round"))
     asked = [os.path.join(whole, it) for it in ("topology.toml", "script")]
-    for words in [asked, [*asked, "--most", "37"], [*asked, "--most", "36"], [asked[0], "--acts"],
-                  [os.path.join(round_, it) for it in ("topology.toml", "script")]]:
+    circle = [os.path.join(round_, it) for it in ("topology.toml", "script")]
+    for words in [asked, [*asked, "--most", "37"], [*asked, "--most", "36"], [asked[0], "--acts"], circle,
+                  [*asked, "--until", "check"], [*circle, "--until", "check"], [*asked, "--until", "invariant"]]:
         yield "explorations", ["explore", *words], None
 
 

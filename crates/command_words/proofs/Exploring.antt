@@ -37,7 +37,7 @@ explore_fit = (
         inr (inr (refl, refl, refl, refl)),
         (
           inl (refl, refl, refl, refl),
-          (inl (refl, refl, refl, refl), (inr (inl (refl, refl)), tt)),
+          (inl (refl, refl, refl, refl), (inl (refl, refl, refl, refl), (inr (inl (refl, refl)), tt))),
         ),
       ),
     ),

@@ -84,16 +84,17 @@ plan_command =
     (with_rule (with_rule (new_app (codes "plan")) (path (codes "TOPOLOGY"))) (optional (path (codes "SCRIPT"))))
     from_option
 
--- `explore TOPOLOGY [SCRIPT] [--from SNAPSHOT] [--acts] [--most N] [--history FILE]`
+-- `explore TOPOLOGY [SCRIPT] [--from SNAPSHOT] [--acts] [--most N] [--until WHAT] [--history FILE]`
 unfoldable pub explore_command : App
 explore_command =
     with_rule
     (with_rule
     (with_rule
     (with_rule
+    (with_rule
     (with_rule (with_rule (new_app (codes "explore")) (path (codes "TOPOLOGY"))) (optional (path (codes "SCRIPT"))))
     from_option) (flag (codes "acts"))) (optional (number_option (codes "most") 1 100000000)))
-    (optional (file_option (codes "history")))
+    (optional (file_option (codes "until")))) (optional (file_option (codes "history")))
 
 -- `session TOPOLOGY [--from SNAPSHOT] [--history FILE] [--no-sync]`
 unfoldable pub session_command : App
@@ -273,6 +274,7 @@ HasExploreWords found words = (name_in found ≡ Some (codes "explore"))
     × (value_in found (codes "from") ≡ option_map (λ from. from.now) words.from)
     × (words.acts ≡ is_on (value_in found (codes "acts")))
     × IsNumberOr 1000000 1 100000000 (value_in found (codes "most")) words.most
+    × (value_in found (codes "until") ≡ option_map (λ until. until.now) words.until)
     × (value_in found (codes "history") ≡ option_map (λ history. history.now) words.history)
 
 -- it is the subcommand `session` with these values, and the history is synced unless the words say that it isn't

@@ -16,8 +16,9 @@ use crate::help::{
     NODES_HELP, NUMBER_HELP, PAGE_HELP, PICTURE_HELP, PLAN_HELP, PLAN_SCRIPT_HELP, RECORD_HELP,
     REPAIR_HELP, REPLAY_HELP, RESETS_HELP, ROWS_HELP, SCRIPT_HELP, SELECT_HELP, SESSION_HELP,
     SESSION_HISTORY_HELP, SHAPE_HELP, SHAPE_NAME_HELP, SHAPE_SEED_HELP, SHOWN_HISTORY_HELP,
-    STEPS_HELP, STRICT_HELP, TABLES_ABOUT, TABLES_LONG_ABOUT, THREADS_HELP, TITLE_HELP,
-    TOPOLOGY_HELP, TURNS_HELP, UNTIL_HELP, VERIFY_HELP, VERSION, WHOLE_HELP, WHY_HELP, WORD_HELP,
+    STEPS_HELP, STRICT_HELP, TABLES_ABOUT, TABLES_LONG_ABOUT, TARGET_HELP, THREADS_HELP,
+    TITLE_HELP, TOPOLOGY_HELP, TURNS_HELP, UNTIL_HELP, VERIFY_HELP, VERSION, WHOLE_HELP, WHY_HELP,
+    WORD_HELP,
 };
 use clap::builder::ValueParser;
 use clap::{Arg, ArgAction, Command};
@@ -119,7 +120,7 @@ fn plan_words<'a>(alloc: Global) -> Result<Command<'a>, AllocError>
 }
 
 // The subcommand with the path of a topology and, where they are given, those of a script and of a snapshot, the flag of
-// the application's actions, a number of configurations and the path of a file for the history.
+// the application's actions, a number of configurations, what is looked for and the path of a file for the history.
 fn explore_words<'a>(alloc: Global) -> Result<Command<'a>, AllocError>
     ensures { IfOk result (IsCommand explore_command) }
 {
@@ -132,6 +133,7 @@ fn explore_words<'a>(alloc: Global) -> Result<Command<'a>, AllocError>
     let line = with_argument(line, from_word(alloc));
     let line = with_argument(line, flag_word(alloc, "acts", ACTS_HELP));
     let line = with_argument(line, most_word(alloc));
+    let line = with_argument(line, target_word(alloc));
     with_argument(line, shown_history_word(alloc))
 }
 
@@ -362,6 +364,13 @@ fn app_word<'a>(alloc: Global) -> Arg<'a>
     ensures { IsWord (optional (file_option (codes "app"))) result }
 {
     option_word(alloc, "app", "A", false, APP_HELP)
+}
+
+// What a search looks for, which may be left out.
+fn target_word<'a>(alloc: Global) -> Arg<'a>
+    ensures { IsWord (optional (file_option (codes "until"))) result }
+{
+    option_word(alloc, "until", "WHAT", false, TARGET_HELP)
 }
 
 // The path of the file for the history that shows what was found.

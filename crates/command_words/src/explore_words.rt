@@ -13,6 +13,8 @@ pub struct ExploreWords<'a> {
     pub acts: bool,
     /// How many configurations are visited at most, from 1 to 100,000,000.
     pub most: u32,
+    /// What the search stops at, if it is to look for something.
+    pub until: Option<&'a str>,
     /// The path of the file for the history that shows what was found, if one is to be written.
     pub history: Option<&'a str>,
 }

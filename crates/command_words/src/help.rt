@@ -126,7 +126,8 @@ repairs, after which no row of tree and wave fails, and then a comment `# S step
 steps of a reset of each component, after which each node is normal, in one session of its component,
 and has its start state. There is one command a line, and each is applied when `replay` comes to it.
 There are no repairs where `check` prints no row of tree or wave, and at most K + 4 for each node;
-there are at most 5 steps for each node. A bad line of the script is answered as by `replay`, and the
+there are at most 5 steps for each node. Many damaged nodes may make a plan of over 1 MiB, which is more
+than a script may have: a session takes it. A bad line of the script is answered as by `replay`, and the
 exit status is 2.",
     after_help: "\
 Example:
@@ -154,9 +155,16 @@ With --history a history that shows this is written to FILE, from the opening on
 script, and then those of a longest order, or of one that goes round. Then `endless` is printed as
 `endless from P to Q`: after P entries and after Q the configuration is the same. `verify`, `picture`
 and `page` accept FILE. It is written to FILE.part, which takes the place of FILE at the end: a run
-that stops, or that leaves no history, leaves FILE as it was.",
+that stops, or that leaves no history, leaves FILE as it was.
+
+With `--until check` it looks for a configuration in which `check` finds a row, and with
+`--until invariant` for one in which the application's invariant fails, and stops at the first by number
+of steps. It prints `found after N` alone, how many steps the shortest order to one has, and the history is
+that of this order. Where no order leads to one, it prints `found nowhere` and `configurations N`, and
+writes no history.",
     after_help: "\
-The exit status is 0 where every order ends and every end is whole, and else 1.
+The exit status is 0 where every order ends and every end is whole, and else 1. With --until it is 0
+where nothing is found, and else 1.
 
 Example:
   reset-service explore examples/reset/every-order/topology.toml examples/reset/every-order/script --history history
@@ -170,6 +178,9 @@ pub const ACTS_HELP: &str = "Explores the application's actions too";
 
 pub const MOST_HELP: &str =
     "How many configurations are visited at most, from 1 to 100000000; 1000000 where this is left out";
+
+pub const TARGET_HELP: &str =
+    "What is looked for: `check`, a row that fails, or `invariant`, where the application's invariant fails";
 
 pub const SHOWN_HISTORY_HELP: &str =
     "The file that a history which shows the result is written to, \

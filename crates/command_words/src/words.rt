@@ -233,7 +233,7 @@ fn plan_words_of<'a>(values: &ArgMatches<'a>) -> PlanWords<'a>
 }
 
 // The words of matches that have a topology, and may have a script, a snapshot, the flag of the application's actions,
-// a number of configurations and a file for the history.
+// a number of configurations, what is looked for and a file for the history.
 fn explore_words_of<'a>(values: &ArgMatches<'a>) -> ExploreWords<'a>
     requires { HasExplore (rows_of (found_of values.now)) }
     ensures topology { first_of (codes "TOPOLOGY") (rows_of (found_of values.now)) ≡ Some result.topology.now }
@@ -243,6 +243,7 @@ fn explore_words_of<'a>(values: &ArgMatches<'a>) -> ExploreWords<'a>
     ensures acts { result.acts ≡ is_on (first_of (codes "acts") (rows_of (found_of values.now))) }
     ensures most { IsNumberOr 1000000 1 100000000 (first_of (codes "most") (rows_of (found_of values.now)))
         result.most }
+    ensures until { first_of (codes "until") (rows_of (found_of values.now)) ≡ option_map (λ until. until.now) result.until }
     ensures history { first_of (codes "history") (rows_of (found_of values.now))
         ≡ option_map (λ history. history.now) result.history }
 {
@@ -251,6 +252,7 @@ fn explore_words_of<'a>(values: &ArgMatches<'a>) -> ExploreWords<'a>
     let from = values.get_str("from");
     let acts = values.get_flag("acts");
     let most = values.get_one::<u32>("most").unwrap_or(1_000_000);
+    let until = values.get_str("until");
     let history = values.get_str("history");
     ExploreWords {
         topology,
@@ -258,6 +260,7 @@ fn explore_words_of<'a>(values: &ArgMatches<'a>) -> ExploreWords<'a>
         from,
         acts,
         most,
+        until,
         history,
     }
 }

@@ -199,8 +199,8 @@ Of a snapshot: the line is neither one that `snapshot` writes nor a comment, or 
         "BadVersion",
         "\
 The first line names a version of histories that this program doesn't read. It reads versions 1,\n\
-2 and 3: `reset-history 1`, `reset-history 2 M` and `reset-history 3 M`. Of snapshots it reads\n\
-version 1: `reset-snapshot 1`.\n",
+2 and 3: `reset-history 1`, `reset-history 2 M` and `reset-history 3 M`; a session goes on with one of\n\
+version 3 alone. Of snapshots it reads version 1: `reset-snapshot 1`.\n",
     ),
     (
         "OtherModulus",

@@ -26,7 +26,7 @@ what a run may end by
   line not EndsAfter history read write thread memory lists
 plans and explorations
   plan repair repairs configurations more steps ends whole longest
-  completions endless
+  completions endless found
 registers
   node tree root father distance K wave normal initiate reset session
   local app

@@ -1,6 +1,6 @@
 // What the other words mean that the program prints and reads, and what to do: words, each with its text.
 
-pub const WORDS: [(&str, &str); 66] = [
+pub const WORDS: [(&str, &str); 67] = [
     // Answers to commands.
     (
         "bad",
@@ -248,7 +248,8 @@ these into a file, and `--from FILE` starts `replay`, `check`, `plan`, `explore`
         "\
 `reset-service plan TOPOLOGY [SCRIPT]`: writes a script that repairs the network that SCRIPT leaves,\n\
 after `# R repairs`, and then restarts each part of it, after `# S steps of a reset`. Run it by\n\
-`replay` after SCRIPT: each of its commands is applied. With `--from SNAPSHOT` it starts there.\n",
+`replay` after SCRIPT: each of its commands is applied. With `--from SNAPSHOT` it starts there. One of over\n\
+1 MiB, of many damaged nodes, is carried out by `session`, which has no limit.\n",
     ),
     (
         "help",
@@ -313,6 +314,12 @@ that ends leaves a network that needs no repair.\n",
         "\
 `endless`: some order never ends. `endless from P to Q`: it is in the history, and the configuration\n\
 after P entries is the one after Q. `plan` writes repairs that end.\n",
+    ),
+    (
+        "found",
+        "\
+`found after N`: with `--until` some order of N steps leads to what is looked for, and no order leads\n\
+there by fewer. `found nowhere`: no order does, and the next line says how many configurations there are.\n",
     ),
     (
         "repair",

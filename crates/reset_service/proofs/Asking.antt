@@ -1,11 +1,10 @@
 -- What a history is answered with of which more is asked than what it comes to.
 use Rattle.std.proofs.Common.{◌≡◌, ◌≢◌, ℕ, zero, suc, ◌<◌, ◌≤◌, [], ◌∷◌, ◌++◌, ◌∙◌, Bool, true, false, if◌then◌else◌, nat_lt, List, None, Some, IsSome}
-use Rattle.std.proofs.Common.{Option, Ok, Err, Result, ap, arith, length, ltb-false, ltb-true, refl, subst, sym, take}
+use Rattle.std.proofs.Common.{Option, Ok, Err, Result, ap, arith, length, ltb-false, ltb-true, refl, subst, take}
 use Rattle.std.proofs.lemmas.List.{take_all}
 use Rattle.reset_model.specs.Configuration.{Configuration}
 use Rattle.history.specs.Entries.{replayed}
 use Rattle.history.specs.Verdict.{IsJudgementOf, IsVerdict}
-use Rattle.history.specs.declared.entry.Entry.{Entry}
 use Rattle.history.specs.declared.text.BookFault.{BookFault}
 use Rattle.history.specs.declared.text.BookFault.TheVariants as book
 use Rattle.history.specs.declared.verification.JudgeFault.{JudgeFault}

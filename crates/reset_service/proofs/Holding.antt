@@ -1,32 +1,25 @@
 -- What a session on a network does.
-use Rattle.std.proofs.Common.{◌≡◌, ◌≢◌, ◌≤◌, ℕ, List, ◌++◌, length, Option, Some, None, Result, Ok, Err, IfOk, OnErr, refl, sym}
-use Rattle.std.proofs.Common.{ap, ◌∙◌, subst, ◌⊎◌, inl, inr}
+use Rattle.std.proofs.Common.{◌≡◌, ◌≢◌, ℕ, List, Option, Some, None, Result, Ok, Err, IfOk, OnErr, refl, sym}
+use Rattle.std.proofs.Common.{subst, inl, inr}
 use Rattle.std.specs.Io.KnownBytes.{Appends, Keeps}
 use Rattle.std.proofs.KnownBytes.{Keeps-refl, Keeps-trans}
 use Rattle.topology.specs.Graph.{Graph}
-use Rattle.topology.specs.TopologyText.{IsReadFault}
-use Rattle.topology.specs.declared.text.AppName.{AppName}
-use Rattle.topology.specs.declared.text.ReadFault.{ReadFault}
-use Rattle.topology.specs.declared.text.ReadFault.TheVariants as read
 use Rattle.reset_model.specs.Configuration.{Configuration}
-use Rattle.reset_model.specs.Outcome.{IsBoot}
 use Rattle.history.specs.HistoryText.{IsReadWhole}
 use Rattle.history.specs.declared.verification.ReaderFault.{ReaderFault}
 use Rattle.script_replay.specs.Meaning.{Meaning}
-use Rattle.script_replay.specs.Output.{Describes, HasPrefix, Leaves, bad_topology_text}
+use Rattle.script_replay.specs.Output.{HasPrefix, Leaves}
 use Rattle.script_replay.specs.declared.status.RunStop.{RunStop}
 use Rattle.script_replay.specs.declared.status.RunStop.TheVariants.{ReadFailed, WriteFailed, NoMemory, ThreadFailed, NotClosed}
 use Rattle.script_replay.specs.declared.status.Status.{Status}
-use Rattle.script_replay.specs.declared.status.Status.TheVariants.{Good, BadInput}
+use Rattle.script_replay.specs.declared.status.Status.TheVariants.{BadInput}
 use Rattle.script_replay.proofs.Runs.{leaves_weaker}
-use Rattle.snapshots.specs.Named.{IsSnapshotOf}
 use Rattle.live_session.specs.Course.{IsCutShort, IsDone, course}
-use Rattle.live_session.specs.Kept.{HasBegun, HasResumed, IsCutAtBeginning, IsCutOnItsWay, IsNoPast}
-use Rattle.reset_service.specs.Held.{HoldsFrom, HoldsKept, HoldsNew, HoldsOn, HoldsText, HoldsUnkept, IsPastOutput, SessionRun}
+use Rattle.live_session.specs.Kept.{HasBegun, IsCutAtBeginning, IsNoPast}
+use Rattle.reset_service.specs.Held.{HoldsKept, HoldsNew, HoldsOn, HoldsUnkept, IsPastOutput, SessionRun}
 use Rattle.reset_service.specs.Held.{status_of}
-use Rattle.reset_service.specs.Held.HoldsKept.{gone_on, cut, no_past}
-use Rattle.reset_service.specs.Held.HoldsOn.{bad_snapshot, booted, no_memory, started}
-use Rattle.reset_service.specs.Held.HoldsText.{bad_topology, good_topology}
+use Rattle.reset_service.specs.Held.HoldsKept.{no_past}
+use Rattle.reset_service.specs.Held.HoldsOn.{bad_snapshot}
 use Rattle.reset_service.specs.Started.{IsStartFault, start_fault_text}
 use Rattle.reset_service.specs.declared.started.StartFault.{StartFault}
 use Rattle.reset_service.specs.declared.started.StartFault.TheVariants as start

@@ -6,10 +6,7 @@ use Rattle.app_token.specs.OneToken.{HasOneToken}
 use Rattle.topology.specs.Graph.{Graph, IsGraph}
 use Rattle.topology.specs.declared.text.AppName.{AppName}
 use Rattle.topology.specs.declared.text.AppName.TheVariants.{Idle, Token, Mutex, Routes}
-use Rattle.reset_model.specs.Configuration.{Configuration}
 use Rattle.history.specs.HistoryText.{IsReadAs}
-use Rattle.history.specs.Stretches.{IsStretch, Stretch}
-use Rattle.history.specs.declared.entry.Entry.{Entry}
 use Rattle.script_replay.specs.Meaning.{Meaning, idle_meaning, token_meaning, mutex_meaning, routes_meaning}
 use Rattle.script_replay.specs.Output.{Describes}
 use Rattle.script_replay.specs.Output.IsJudged.{bad_topology, good_topology}

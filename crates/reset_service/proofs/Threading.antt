@@ -1,15 +1,11 @@
 -- What a run of node threads comes to, and what it leaves to its two writers.
-use Rattle.std.proofs.Common.{◌≡◌, ◌<◌, ◌≤◌, ℕ, suc, true, List, [], ◌∷◌, Option, Result, Ok, Err}
-use Rattle.std.proofs.Common.{IfOk, IsSome, length, refl, sym, ap, ◌∙◌, subst, inl, inr}
+use Rattle.std.proofs.Common.{◌≡◌, ◌≤◌, ℕ, suc, true, List, [], ◌∷◌, Option, Result, Ok, Err}
+use Rattle.std.proofs.Common.{IfOk, IsSome, length, refl, ap, ◌∙◌, subst, inl, inr}
 use Rattle.std.specs.Prelude.{IsErrAnd}
 use Rattle.std.specs.List.{list_all}
 use Rattle.std.specs.Io.KnownBytes.{Appends}
 use Rattle.std.proofs.KnownBytes.{Keeps-refl}
 use Rattle.action_tables.specs.Written.{AppendsPrefix}
-use Rattle.topology.specs.Graph.{Graph}
-use Rattle.topology.specs.TopologyText.{IsReadFault}
-use Rattle.topology.specs.declared.text.AppName.{AppName}
-use Rattle.topology.specs.declared.text.ReadFault.{ReadFault}
 use Rattle.reset_model.specs.declared.event.Event.{Event}
 use Rattle.reset_model.specs.Configuration.{Configuration}
 use Rattle.history.specs.Entries.{replayed}
@@ -22,22 +18,17 @@ use Rattle.history.specs.declared.entry.Entry.TheVariants.{Step, Disturbed}
 use Rattle.history.specs.declared.entry.Summary.{Summary}
 use Rattle.history.specs.declared.text.BookFault.{BookFault}
 use Rattle.node_threads.specs.Locked.{is_step}
-use Rattle.node_threads.specs.declared.run.RunCause.{RunCause}
-use Rattle.node_threads.specs.declared.run.RunCause.TheVariants.{TooManyForThreads}
 use Rattle.script_replay.specs.Meaning.{Meaning}
-use Rattle.script_replay.specs.Output.{Describes, bad_topology_text}
-use Rattle.script_replay.specs.Output.IsJudged.{bad_topology, good_topology}
 use Rattle.script_replay.specs.Stops.{IsRunStop}
-use Rattle.reset_service.specs.Threaded.{IsKept, IsKeptOf, IsThreaded, LeavesBoth, threads_line}
+use Rattle.reset_service.specs.Threaded.{IsKept, LeavesBoth, threads_line}
 use Rattle.reset_service.specs.Threaded.{told_history, told_output}
-use Rattle.reset_service.specs.Threaded.IsKept.{too_many, kept}
+use Rattle.reset_service.specs.Threaded.IsKept.{kept}
 use Rattle.script_replay.specs.declared.status.RunStop.{RunStop}
 use Rattle.script_replay.specs.declared.status.RunStop.TheVariants.{ReadFailed, WriteFailed, NoMemory}
 use Rattle.script_replay.specs.declared.status.RunStop.TheVariants.{ThreadFailed, NotClosed}
 use Rattle.script_replay.specs.declared.status.Status.{Status}
-use Rattle.script_replay.specs.declared.status.Status.TheVariants.{BadInput, Good}
+use Rattle.script_replay.specs.declared.status.Status.TheVariants.{Good}
 use Rattle.reset_service.specs.declared.told.Told.{Told}
-use Rattle.reset_service.specs.declared.told.Told.TheVariants.{TooManyNodes}
 
 abbrev Output : Type 0
 Output = List ℕ × Status

@@ -1,6 +1,6 @@
 -- What a check writes, and then the verdicts.
-use Rattle.std.proofs.Common.{◌≡◌, ◌≢◌, ◌⊎◌, inl, inr, ℕ, ◌≤◌, Bool, true, false, cond, List, [], ◌++◌, Option, Result, Ok, Err}
-use Rattle.std.proofs.Common.{IfOk, IfErr, length, refl, sym, ap, ap₂, subst, ◌∙◌, arith, nat_lt}
+use Rattle.std.proofs.Common.{◌≡◌, ◌≢◌, inl, inr, ℕ, ◌≤◌, Bool, true, false, cond, List, ◌++◌, Option, Result, Ok, Err}
+use Rattle.std.proofs.Common.{IfOk, IfErr, length, refl, ap, subst, ◌∙◌, arith, nat_lt}
 use Rattle.std.specs.Prelude.{OnErr}
 use Rattle.std.specs.List.{flat_map}
 use Rattle.std.specs.Io.KnownBytes.{Appends}
@@ -20,7 +20,7 @@ use Rattle.script_replay.specs.declared.status.Status.{Status}
 use Rattle.script_replay.specs.declared.status.Status.TheVariants.{Good, FaultsFound, NotEnabled, BadInput}
 use Rattle.script_replay.proofs.Runs.{leaves_stop}
 use Rattle.script_replay.specs.VerdictText.{Judged, verdict_line}
-use Rattle.reset_service.specs.Whole.{after_check, all_hold, whole_output}
+use Rattle.reset_service.specs.Whole.{after_check, all_hold}
 
 abbrev Output : Type 0
 Output = List ℕ × Status

@@ -2,21 +2,24 @@
 use Rattle.std.specs.Prelude.{◌≡◌, ◌==◌, ◌<◌, ◌≤◌, ℕ, Bool, if◌then◌else◌, List, [], ◌∷◌, ◌++◌, length, codes, Option, Some, None}
 use Rattle.std.specs.Fmt.{decimal}
 use Rattle.std.specs.List.{concat}
-use Rattle.app_interface.specs.Application.{App}
 use Rattle.topology.specs.Graph.{Graph}
 use Rattle.topology.specs.declared.text.AppName.{AppName}
 use Rattle.topology.specs.declared.text.AppName.TheVariants.{Idle, Token, Mutex, Routes}
 use Rattle.reset_model.specs.Configuration.{Configuration}
 use Rattle.history.specs.HistoryText.{ended}
 use Rattle.schedules.specs.Explored.{HasMoreThan, IsExplored}
+use Rattle.schedules.specs.Search.{AreFew, IsSearch}
 use Rattle.schedules.specs.declared.schedules.Runs.{Runs}
 use Rattle.schedules.specs.declared.schedules.Runs.TheVariants.{Ending, Endless}
 use Rattle.schedules.specs.declared.schedules.Schedules.{Schedules}
+use Rattle.schedules.specs.declared.finding.Search.{Search}
+use Rattle.schedules.specs.declared.finding.Target.{Target}
 use Rattle.script_replay.specs.Left.{bad_line_of, left_by}
 use Rattle.script_replay.specs.Meaning.{Meaning, idle_meaning, token_meaning, mutex_meaning, routes_meaning}
 use Rattle.script_replay.specs.Output.{IsJudged, bad_line_text, too_long_text}
 use Rattle.script_replay.specs.declared.status.Status.{Status}
 use Rattle.script_replay.specs.declared.status.Status.TheVariants.{Good, FaultsFound, BadInput}
+use Rattle.reset_service.specs.Searched.{search_status, search_text}
 use Rattle.reset_service.specs.Started.{FollowUp, IsOpening, IsOpeningFault, start_fault_text}
 use Rattle.reset_service.specs.declared.explored.Exploring.{Exploring}
 use Rattle.reset_service.specs.declared.started.StartFault.{StartFault}
@@ -55,11 +58,13 @@ too_many_text most = concat (codes "more than " ∷ decimal most ∷ ended (code
 
 -- ---- what is written
 
--- what an exploration finds from this configuration
-pub data IsFound {L : Type 0} (app : App L) (run : Exploring) (c : Configuration L) (output : List ℕ × Status) : Type 0 where
-  too_many : HasMoreThan app run.acts c run.most → output ≡ (too_many_text run.most, BadInput) → IsFound app run c output
-  explored : (found : Schedules) → IsExplored app run.acts c found → found.configurations ≤ run.most
-      → output ≡ (schedules_text found, status_of found) → IsFound app run c output
+-- what an exploration finds from this configuration: what the orders come to, or what is looked for
+pub data IsFound {L : Type 0} (m : Meaning L) (run : Exploring) (c : Configuration L) (output : List ℕ × Status) : Type 0 where
+  too_many : HasMoreThan m.app run.acts c run.most → output ≡ (too_many_text run.most, BadInput) → IsFound m run c output
+  explored : (found : Schedules) → run.until ≡ None → IsExplored m.app run.acts c found → found.configurations ≤ run.most
+      → output ≡ (schedules_text found, status_of found) → IsFound m run c output
+  searched : (target : Target) (found : Search) → run.until ≡ Some target → IsSearch m.counts m.app run.acts target c found
+      → AreFew run.most found → output ≡ (search_text found, search_status found) → IsFound m run c output
 
 -- what is written for a script on a configuration, and the status: what an exploration finds from the configuration that
 -- its lines leave, where all of them are good
@@ -68,7 +73,7 @@ pub data IsExploration {L : Type 0} (m : Meaning L) (run : Exploring) (c : Confi
   too_long : 1048576 < length script → output ≡ (too_long_text, BadInput) → IsExploration m run c script output
   bad_line : (n : ℕ) → length script ≤ 1048576 → bad_line_of m.names script ≡ Some n
       → output ≡ (bad_line_text n, BadInput) → IsExploration m run c script output
-  explored : length script ≤ 1048576 → bad_line_of m.names script ≡ None → IsFound m.app run (left_by m c script) output
+  explored : length script ≤ 1048576 → bad_line_of m.names script ≡ None → IsFound m run (left_by m c script) output
       → IsExploration m run c script output
 
 abbrev pub Explores : Exploring → List ℕ → FollowUp

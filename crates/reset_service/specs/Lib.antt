@@ -17,6 +17,7 @@ pub mod Planned
 pub mod Started
 pub mod Page
 pub mod Begun
+pub mod Searched
 pub mod Explorations
 pub mod Selected
 pub mod Shown

@@ -8,9 +8,13 @@ use Rattle.history.specs.HistoryText.{ended, history_text}
 use Rattle.history.specs.Stretches.{steps}
 use Rattle.history.specs.declared.entry.Entry.{Entry}
 use Rattle.schedules.specs.Explored.{HasMoreThan, IsExplored}
+use Rattle.schedules.specs.Search.{AreFew, IsSearch}
 use Rattle.schedules.specs.Witnessed.{IsShownBy}
 use Rattle.schedules.specs.declared.schedules.Runs.{Runs}
 use Rattle.schedules.specs.declared.schedules.Schedules.{Schedules}
+use Rattle.schedules.specs.declared.finding.Search.{Search}
+use Rattle.schedules.specs.declared.finding.Search.TheVariants.{Reached, Unreached}
+use Rattle.schedules.specs.declared.finding.Target.{Target}
 use Rattle.schedules.specs.declared.witness.Witness.{Witness}
 use Rattle.schedules.specs.declared.witness.Witness.TheVariants.{Longest, Endless}
 use Rattle.script_replay.specs.Left.{bad_line_of, left_by}
@@ -21,6 +25,7 @@ use Rattle.script_replay.specs.Recorded.{entries_of_lines}
 use Rattle.script_replay.specs.declared.status.Status.{Status}
 use Rattle.script_replay.specs.declared.status.Status.TheVariants.{BadInput}
 use Rattle.reset_service.specs.Explorations.{IsOpenedText, counts_text, on_next_line, runs_text, status_of, too_many_text}
+use Rattle.reset_service.specs.Searched.{search_status, search_text}
 use Rattle.reset_service.specs.Started.{FollowUp}
 use Rattle.reset_service.specs.declared.explored.Exploring.{Exploring}
 use Rattle.reset_service.specs.declared.shown.ShownHistory.{ShownHistory}
@@ -63,18 +68,33 @@ IsHistoryOf modulus entries events None = 1000000 < length entries + length even
 IsHistoryOf modulus entries events (Some h) = (length entries + length events ≤ 1000000)
     × (h.text.items ≡ history_text modulus (entries ++ steps events)) × (h.before ≡ length entries)
 
+-- with this answer the history is left that shows an order: that of the entries and of its events after them, unless they
+-- are too many
+pub data IsKeptWith (answer : List ℕ × Status) (modulus : ℕ) (entries : List Entry) (events : List Event)
+    (history : List ℕ) (output : List ℕ × Status) : Type 0 where
+  long : 1000000 < length entries + length events → history ≡ [] → output ≡ (long_history_text, BadInput)
+      → IsKeptWith answer modulus entries events history output
+  kept : length entries + length events ≤ 1000000 → history ≡ history_text modulus (entries ++ steps events)
+      → output ≡ answer → IsKeptWith answer modulus entries events history output
+
+-- what a search leaves that found this: the history of a shortest order, or none
+abbrev pub IsLeftBy : Search → ℕ → List Entry → List ℕ → List ℕ × Status → Type 0
+IsLeftBy (Reached events) modulus entries history output =
+    IsKeptWith (search_text (Reached events), search_status (Reached events)) modulus entries events.items history output
+IsLeftBy (Unreached n) modulus entries history output =
+    (history ≡ []) × (output ≡ (search_text (Unreached n), search_status (Unreached n)))
+
 -- what an exploration from this configuration leaves, to which the entries led from one with this modulus
 pub data IsFoundBy {L : Type 0} (m : Meaning L) (run : Exploring) (modulus : ℕ) (entries : List Entry) (c : Configuration L)
     (history : List ℕ) (output : List ℕ × Status) : Type 0 where
   too_many : HasMoreThan m.app run.acts c run.most → history ≡ [] → output ≡ (too_many_text run.most, BadInput)
       → IsFoundBy m run modulus entries c history output
-  long : (found : Schedules) (w : Witness) → IsExplored m.app run.acts c found → IsShownBy m.app run.acts c found.runs w
-      → 1000000 < length entries + length (shown_events w) → history ≡ [] → output ≡ (long_history_text, BadInput)
+  explored : (found : Schedules) (w : Witness) → run.until ≡ None → IsExplored m.app run.acts c found
+      → found.configurations ≤ run.most → IsShownBy m.app run.acts c found.runs w
+      → IsKeptWith (shown_text (length entries) found w, status_of found) modulus entries (shown_events w) history output
       → IsFoundBy m run modulus entries c history output
-  shown : (found : Schedules) (w : Witness) → IsExplored m.app run.acts c found → found.configurations ≤ run.most
-      → IsShownBy m.app run.acts c found.runs w → length entries + length (shown_events w) ≤ 1000000
-      → history ≡ history_text modulus (entries ++ steps (shown_events w))
-      → output ≡ (shown_text (length entries) found w, status_of found)
+  searched : (target : Target) (found : Search) → run.until ≡ Some target → IsSearch m.counts m.app run.acts target c found
+      → AreFew run.most found → IsLeftBy found modulus entries history output
       → IsFoundBy m run modulus entries c history output
 
 -- what is left for a script on a configuration: what an exploration leaves from the configuration that its lines leave,

@@ -14,7 +14,6 @@ use Rattle.script_replay.specs.declared.status.Status.TheVariants.{BadInput}
 use Rattle.snapshots.specs.FaultText.{bad_snapshot_text}
 use Rattle.snapshots.specs.Named.{IsSnapshotOf}
 use Rattle.snapshots.specs.Reading.{IsFirstFault}
-use Rattle.snapshots.specs.declared.fault.SnapshotFault.{SnapshotFault}
 use Rattle.reset_service.specs.Pictured.{IsPicture}
 use Rattle.reset_service.specs.Planned.{IsPlan}
 use Rattle.reset_service.specs.Verified.{IsVerified}

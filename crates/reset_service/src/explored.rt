@@ -1,6 +1,6 @@
 // Explorations of all orders of the events, as texts.
 
-ghost use Rattle.std.specs.Prelude.{◌≡◌, ℕ, List, option_map, IfErr, OnErr, OnOk};
+ghost use Rattle.std.specs.Prelude.{◌≡◌, ℕ, List, None, option_map, IfErr, OnErr, OnOk};
 ghost use Rattle.std.specs.Io.KnownBytes.{Appends};
 ghost use Rattle.topology.specs.TopologyText.{IsReadFault};
 ghost use Rattle.action_tables.specs.Written.{AppendsPrefix};
@@ -14,16 +14,17 @@ ghost use Rattle.reset_service.specs.Explorations.{IsOpenedText, counts_text, ru
 ghost use Rattle.reset_service.specs.Explorations.{status_of, too_many_text};
 
 use crate::planned::refuse_line;
+use crate::searched::search_here;
 use crate::started::{open_network, refuse_start};
 use action_tables::{Part, WriteFault, put_bytes, put_parts};
-use app_interface::{Application, Idle};
+use app_interface::Idle;
 use app_invariants::Invariant;
 use app_mutex::EdgeReversal;
 use app_routes::Routes;
 use app_token::Token;
 use progress::Progress;
 use reset_machine::Config;
-use schedules::{ExploreFault, Runs, Schedules, explore};
+use schedules::{ExploreFault, Runs, Schedules, Target, explore};
 use script_replay::{
     Network, RunStop, Status, leave_script, read_network, read_text, refuse_input, refuse_topology,
 };
@@ -31,13 +32,15 @@ use std::alloc::Global;
 use std::io::{Read, Write};
 use topology::{AppName, MAX_TEXT, ReadFault};
 
-/// How far an exploration goes.
+/// How far an exploration goes, and what it looks for.
 #[derive(Clone, Copy, Debug, PartialEq, Eq)]
 pub struct Exploring {
     /// Whether the application's actions are taken too.
     pub acts: bool,
     /// How many configurations are visited at most.
     pub most: u32,
+    /// What it stops at, if it looks for something.
+    pub until: Option<Target>,
 }
 
 /// Writes what an exploration finds from the configuration that the script of a reader leaves, of the booted
@@ -45,6 +48,9 @@ pub struct Exploring {
 /// configurations some order of the enabled events but requests leads to, how many steps and ends there are and how many
 /// of these are whole, and how long the longest order is and how many resets one completes, or that one never ends. The
 /// answers of the script aren't written.
+///
+/// Where it looks for something it writes in place of all this how many steps a shortest order to such a configuration has,
+/// or that none leads to one, and how many configurations there are.
 ///
 /// The topology is judged before the reader is touched, and the snapshot before the script. A script that is too long, or
 /// has a bad line, is answered as `replay` ends with it. Where there are more configurations than the limit, that is
@@ -154,15 +160,35 @@ fn explore_after<P: Invariant, W: Write>(
     }
 }
 
-// Explores from this configuration.
-fn explore_here<P: Application, W: Write>(
+// Explores from this configuration, or looks for what is asked for.
+fn explore_here<P: Invariant, W: Write>(
     alloc: Global,
     config: &Config<P>,
     run: Exploring,
     progress: &Progress,
     out: &mut W,
 ) -> Result<Status, RunStop>
-    ensures leaves { Leaves (IsFound P.app run config.now) (W.contents out.old) (W.contents out.new) result }
+    ensures leaves { Leaves (IsFound (meaning_of P.app P.text P.from_text P.names P.counts) run config.now)
+        (W.contents out.old) (W.contents out.new) result }
+    ensures stop { IfErr result IsOutputStop }
+{
+    match run.until {
+        None => explore_all(alloc, config, run, progress, out),
+        Some(target) => search_here(alloc, config, run, target, progress, out),
+    }
+}
+
+// Explores all orders from this configuration.
+fn explore_all<P: Invariant, W: Write>(
+    alloc: Global,
+    config: &Config<P>,
+    run: Exploring,
+    progress: &Progress,
+    out: &mut W,
+) -> Result<Status, RunStop>
+    requires { run.until ≡ None }
+    ensures leaves { Leaves (IsFound (meaning_of P.app P.text P.from_text P.names P.counts) run config.now)
+        (W.contents out.old) (W.contents out.new) result }
     ensures stop { IfErr result IsOutputStop }
 {
     match explore(alloc, config, run.acts, run.most, progress) {

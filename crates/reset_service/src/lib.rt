@@ -23,6 +23,7 @@ mod pictured;
 mod planned;
 mod reasons;
 mod recorded;
+mod searched;
 mod session;
 mod shaped;
 mod shown;
@@ -53,6 +54,7 @@ pub use parted::{Part, picture_part};
 pub use pictured::{picture_from, picture_text};
 pub use planned::{plan_from, plan_text};
 pub use recorded::record_from;
+pub use schedules::Target;
 pub use script_replay::{
     BufferedOutput, Marks, READ_LIMIT, RunStop, Status, Tally, check_repairs_text, check_text,
     one_joined_output, one_output, one_record, read_text, record_text, recordings_are_replays,

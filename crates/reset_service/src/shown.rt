@@ -1,6 +1,6 @@
 // Explorations of all orders of the events that leave a history, which shows what was found.
 
-ghost use Rattle.std.specs.Prelude.{◌≡◌, ◌<◌, ◌≤◌, ◌+◌, ℕ, List, [], length, option_map, IfErr, IfOk, OnErr, OnOk, Ok};
+ghost use Rattle.std.specs.Prelude.{◌≡◌, ◌<◌, ◌≤◌, ◌+◌, ℕ, List, [], None, length, option_map, IfErr, IfOk, OnErr, OnOk, Ok};
 ghost use Rattle.std.specs.Io.KnownBytes.{Appends};
 ghost use Rattle.topology.specs.TopologyText.{IsReadFault};
 ghost use Rattle.action_tables.specs.Written.{AppendsPrefix};
@@ -19,6 +19,7 @@ ghost use Rattle.reset_service.specs.Shown.{IsWithin, round_text, shown_events, 
 
 use crate::explored::{Exploring, answer_too_many, put_found_counts, put_runs, status_of};
 use crate::planned::refuse_line;
+use crate::searched::show_search;
 use crate::started::{open_network, refuse_start};
 use action_tables::{Part, WriteFault, put_bytes, put_parts};
 use app_interface::Idle;
@@ -41,9 +42,11 @@ use topology::{AppName, MAX_TEXT, ReadFault};
 
 /// As `explore_text`, and writes to one writer, before the answer goes to the other, a history from the opening on that
 /// shows what was found: the entries of the script, and then those of a longest order or, where some order never ends, of
-/// one that goes round. The line of that one names the entries after which the configuration is the same.
+/// one that goes round. The line of that one names the entries after which the configuration is the same. Where something is
+/// looked for, the order is a shortest one to such a configuration.
 ///
-/// Bad input, too many configurations, and an order that is too long for a history leave no history.
+/// Bad input, too many configurations, an order that is too long for a history, and a search that finds nothing leave no
+/// history.
 pub fn explore_history<R: Read, H: Write, W: Write>(
     alloc: Global,
     topology: &[u8],
@@ -160,7 +163,7 @@ fn show_after<P: Invariant, H: Write, W: Write>(
     }
 }
 
-// Explores from what a script left of an opening.
+// Explores from what a script left of an opening, or looks for what is asked for.
 fn show_here<P: Invariant, H: Write, W: Write>(
     alloc: Global,
     opening: &Config<P>,
@@ -172,6 +175,34 @@ fn show_here<P: Invariant, H: Write, W: Write>(
     out: &mut W,
 ) -> Result<Status, RunStop>
     requires { length script.now ≤ MAX_TEXT }
+    ensures { LeavesRecord
+        (λ h o. IsFoundBy (meaning_of P.app P.text P.from_text P.names P.counts) run opening.now.modulus
+        (entries_of_lines (meaning_of P.app P.text P.from_text P.names P.counts)
+        opening.now 1 (lines_of script.now)) left.now h o
+        × (o.1 ≡ Status.BadInput → h ≡ []))
+        (H.contents history.old) (H.contents history.new) (W.contents out.old) (W.contents out.new) result }
+{
+    match run.until {
+        None => show_all(alloc, opening, left, script, run, progress, history, out),
+        Some(target) => show_search(
+            alloc, opening, left, script, run, target, progress, history, out,
+        ),
+    }
+}
+
+// Explores all orders from what a script left of an opening.
+fn show_all<P: Invariant, H: Write, W: Write>(
+    alloc: Global,
+    opening: &Config<P>,
+    left: &Config<P>,
+    script: &[u8],
+    run: Exploring,
+    progress: &Progress,
+    history: &mut H,
+    out: &mut W,
+) -> Result<Status, RunStop>
+    requires script { length script.now ≤ MAX_TEXT }
+    requires all { run.until ≡ None }
     ensures { LeavesRecord
         (λ h o. IsFoundBy (meaning_of P.app P.text P.from_text P.names P.counts) run opening.now.modulus
         (entries_of_lines (meaning_of P.app P.text P.from_text P.names P.counts)
@@ -211,9 +242,9 @@ pub struct ShownHistory {
     pub before: usize,
 }
 
-// The history of the entries of a script and of the events after them, or None where they are more than a history may
-// have.
-fn history_of<P: Invariant>(
+/// The history of the entries of a script and of the events after them, or None where they are more than a history may
+/// have.
+pub fn history_of<P: Invariant>(
     alloc: Global,
     opening: &Config<P>,
     script: &[u8],
@@ -382,8 +413,8 @@ fn put_round<W: Write>(
     )
 }
 
-// Answers that a history would have too many entries.
-fn answer_long_history<W: Write>(out: &mut W) -> Result<Status, RunStop>
+/// Answers that a history would have too many entries.
+pub fn answer_long_history<W: Write>(out: &mut W) -> Result<Status, RunStop>
     ensures leaves { Leaves (λ output. output ≡ (long_history_text, Status.BadInput))
         (W.contents out.old) (W.contents out.new) result }
     ensures stop { IfErr result IsOutputStop }

@@ -15,18 +15,20 @@ mod live;
 mod places;
 mod progress_line;
 mod progress_text;
+mod run_explore;
 mod run_threads;
 mod status;
 mod streams;
 mod verbose;
 
-use crate::bad_files::say_why;
+use crate::bad_files::{say_all_down, say_why};
 use crate::counts::say_counts;
 use crate::files::{open_file, read_file, read_snapshot};
 use crate::history_file::create_history;
 use crate::live::run_session;
 use crate::places::{history_fault, refuse_history};
 use crate::progress_line::{BelowLine, ProgressLine, Work};
+use crate::run_explore::run_explore;
 use crate::run_threads::run_threads;
 use crate::status::exit_code;
 use crate::streams::Streams;
@@ -34,13 +36,13 @@ use crate::verbose::{is_set, says_always, without_flags};
 use action_tables::put_bytes;
 use progress::Progress;
 use reset_service::{
-    BufferedOutput, CheckWords, Drive, DriveWords, ExploreWords, Exploring, Job, LineFault, Marks,
-    PageWords, Part, PictureWords, PlanWords, Question, RecordWords, ReplayWords, RunStop,
-    ShapeWords, Status, Tally, VerifyWords, check_from, check_repairs_from, check_repairs_text,
-    check_text, check_whole, drive_from, drive_text, explain, explain_topics, explore_history,
-    explore_text, page_from, page_text, picture_from, picture_part, picture_text, plan_from,
-    plan_text, print_tables, read_words, record_from, record_text, replay, replay_from,
-    replay_joined, replay_marked, verify_asked, verify_from, verify_text, write_shape,
+    BufferedOutput, CheckWords, Drive, DriveWords, Job, LineFault, Marks, PageWords, Part,
+    PictureWords, PlanWords, Question, RecordWords, ReplayWords, RunStop, ShapeWords, Status,
+    Tally, VerifyWords, check_from, check_repairs_from, check_repairs_text, check_text,
+    check_whole, drive_from, drive_text, explain, explain_topics, page_from, page_text,
+    picture_from, picture_part, picture_text, plan_from, plan_text, print_tables, read_words,
+    record_from, record_text, replay, replay_from, replay_joined, replay_marked, verify_asked,
+    verify_from, verify_text, write_shape,
 };
 use std::env::Env;
 use std::io::{IsTerminal, Read, Write};
@@ -99,6 +101,10 @@ fn run<R: Clock + Env + Files + Input + Print + Eprint + AllocGlobal + Threads +
         Ok(job) => {
             let mut tally = Tally::new();
             let ended = do_job(rt, streams, job, given.has_progress, &mut tally);
+            let is_run = matches!(ended, Ok(Status::Good | Status::FaultsFound));
+            if is_run && say_all_down(rt, job, said).is_err() {
+                said.clear();
+            }
             if streams.errors.is_terminal() {
                 let _ = say_counts(job, tally, said);
             }
@@ -295,75 +301,6 @@ fn put_plan<R: AllocGlobal, S: Read, W: Write>(
         None => plan_text(rt.alloc(), topology, script, out),
         Some(snapshot) => plan_from(rt.alloc(), topology, &snapshot, script, out),
     }
-}
-
-// Where no script is given, the exploration is of what a run starts from.
-fn run_explore<R: Files + Eprint + AllocGlobal, W: Write>(
-    rt: &R,
-    words: ExploreWords<'_>,
-    progress: &Progress,
-    out: &mut W,
-) -> Result<Status, RunStop> {
-    if let Some(path) = words.history {
-        let inputs = [Some(words.topology), words.script, words.from];
-        if let Some(fault) = history_fault(rt, path, &inputs) {
-            return Ok(refuse_history(rt, fault));
-        }
-    }
-    let topology = read_file(rt, words.topology)?;
-    let snapshot = read_snapshot(rt, words.from)?;
-    let snapshot = snapshot.as_deref();
-    match words.script {
-        Some(path) => put_explored(
-            rt,
-            words,
-            &topology,
-            snapshot,
-            &mut open_file(rt, path)?,
-            progress,
-            out,
-        ),
-        None => put_explored(
-            rt,
-            words,
-            &topology,
-            snapshot,
-            &mut b"".as_slice(),
-            progress,
-            out,
-        ),
-    }
-}
-
-fn put_explored<R: Files + Eprint + AllocGlobal, S: Read, W: Write>(
-    rt: &R,
-    words: ExploreWords<'_>,
-    topology: &[u8],
-    snapshot: Option<&[u8]>,
-    script: &mut S,
-    progress: &Progress,
-    out: &mut W,
-) -> Result<Status, RunStop> {
-    let run = Exploring {
-        acts: words.acts,
-        most: words.most,
-    };
-    let Some(path) = words.history else {
-        return explore_text(rt.alloc(), topology, snapshot, script, run, progress, out);
-    };
-    let mut kept = create_history(rt, path)?;
-    let history = &mut kept.file;
-    let ended = explore_history(
-        rt.alloc(),
-        topology,
-        snapshot,
-        script,
-        run,
-        progress,
-        history,
-        out,
-    );
-    kept.end(rt, out, ended)
 }
 
 fn run_verify<R: Files + AllocGlobal, W: Write>(

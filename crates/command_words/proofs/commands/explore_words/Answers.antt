@@ -9,4 +9,5 @@ returns c =
     let three = c.with_argument-line-3.ensures _ _ two c.from_word.ensures in
     let four = c.with_argument-line-4.ensures _ _ three c.flag_word.ensures in
     let five = c.with_argument-line-5.ensures _ _ four c.most_word.ensures in
-    c.with_argument.ensures _ _ five c.shown_history_word.ensures
+    let six = c.with_argument-line-6.ensures _ _ five c.target_word.ensures in
+    c.with_argument.ensures _ _ six c.shown_history_word.ensures

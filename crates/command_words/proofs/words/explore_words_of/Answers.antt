@@ -39,6 +39,10 @@ returns-clause-most c =
     (codes "most") 1 100000000 (omega arith) (found_of c.args.values.now) c.get_one.result c.get_one.ensures.value 1000000
     c.get_one.ensures.none c.requires.2)
 
+pub returns-clause-until : goal.returns-clause-until
+returns-clause-until c =
+    sym (first_value-rows (found_of c.args.values.now) (codes "until")) ∙ sym c.get_str-until.ensures
+
 pub returns-clause-history : goal.returns-clause-history
 returns-clause-history c =
     sym (first_value-rows (found_of c.args.values.now) (codes "history")) ∙ sym c.get_str-history.ensures

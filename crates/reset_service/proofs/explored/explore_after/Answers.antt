@@ -25,9 +25,9 @@ returns-in-Ok-None-clause-leaves g c =
     let script = c.args.script.now in
     let short : length script ≤ 1048576 = search rules in
     let good : bad_line_of m.names script ≡ None = sym c.in-Ok-None.ensures.bad ∙ c.in-Ok-None.field-0-is in
-    leaves_weaker (IsFound m.app c.args.run c.leave_script.new.config)
+    leaves_weaker (IsFound m c.args.run c.leave_script.new.config)
     (IsExploration m c.args.run c.args.config.now script) _ _ c.explore_here.result
-    (λ o is. explored short good (subst (λ left. IsFound m.app c.args.run left o) c.in-Ok-None.ensures.left is))
+    (λ o is. explored short good (subst (λ left. IsFound m c.args.run left o) c.in-Ok-None.ensures.left is))
     c.explore_here.ensures.leaves
 
 pub returns-in-Ok-Some-clause-leaves : goal.returns-in-Ok-Some-clause-leaves

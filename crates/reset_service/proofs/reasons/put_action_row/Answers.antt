@@ -1,4 +1,4 @@
-use Rattle.std.proofs.Common.{List, OnErr, OnOk, ◌++◌, subst}
+use Rattle.std.proofs.Common.{List, ◌++◌, subst}
 use Rattle.std.specs.Io.KnownBytes.{Appends}
 use Rattle.std.proofs.KnownBytes.{Appends-trans}
 use Rattle.std.proofs.lemmas.Result.{on_err_weaker, on_ok_weaker}

@@ -1,4 +1,4 @@
-use Rattle.std.proofs.Common.{List, ℕ, OnErr, OnOk, subst, sym}
+use Rattle.std.proofs.Common.{OnErr, OnOk, subst, sym}
 use Rattle.std.specs.Io.KnownBytes.{Appends}
 use Rattle.std.proofs.KnownBytes.{Appends-nil}
 use Rattle.action_tables.specs.Written.{AppendsPrefix}

@@ -1,4 +1,4 @@
-use Rattle.std.proofs.Common.{◌≡◌, ◌++◌, Err, List, Option, ap, subst, sym, ℕ}
+use Rattle.std.proofs.Common.{◌≡◌, ◌++◌, Err, List, Option, subst, sym, ℕ}
 use Rattle.std.specs.Io.KnownBytes.{Appends}
 use Rattle.std.proofs.KnownBytes.{Appends-trans}
 use Rattle.topology.specs.Graph.{node_bound}

@@ -1,4 +1,3 @@
-use Rattle.std.proofs.Common.{◌≡◌, List, Option, Result, Ok, Err, sym, subst}
 use Rattle.app_invariants.specs.Verdicts.{verdicts_of}
 use Rattle.script_replay.specs.Lines.{lines_of}
 use Rattle.script_replay.specs.Meaning.{meaning_of}

@@ -1,19 +1,17 @@
-use Rattle.std.proofs.Common.{◌≡◌, ◌≢◌, ◌<◌, ◌+◌, ◌++◌, ℕ, Bool, true, false, List, [], length, Option, Some, None, ap, cond, refl, subst, sym, ◌∙◌}
-use Rattle.history.specs.HistoryText.{history_text}
-use Rattle.history.specs.Stretches.{steps}
+use Rattle.std.proofs.Common.{◌≡◌, ◌≢◌, ◌<◌, ◌+◌, ℕ, Bool, true, false, List, [], length, Some, ap, refl, subst, sym, ◌∙◌}
 use Rattle.script_replay.specs.Lines.{lines_of}
 use Rattle.script_replay.specs.Meaning.{meaning_of}
 use Rattle.script_replay.specs.Recorded.{entries_of_lines}
 use Rattle.script_replay.specs.declared.status.Status.{Status}
-use Rattle.script_replay.specs.declared.status.Status.TheVariants.{Good, BadInput, FaultsFound}
+use Rattle.script_replay.specs.declared.status.Status.TheVariants.{BadInput}
 use Rattle.script_replay.proofs.LeftRecords.{record_alone, record_weaker}
 use Rattle.schedules.specs.declared.schedules.Runs.{Runs}
 use Rattle.schedules.specs.declared.schedules.Runs.TheVariants.{Ending, Endless}
-use Rattle.schedules.specs.declared.schedules.Schedules.{Schedules}
 use Rattle.reset_service.specs.Explorations.{status_by, status_of, too_many_text}
 use Rattle.reset_service.specs.Shown.{IsFoundBy, IsHistoryOf, long_history_text, shown_events, shown_text}
-use Rattle.reset_service.specs.Shown.IsFoundBy.{long, shown, too_many}
-use Rattle.reset_service.proofs.shown.show_here.Goals as goal
+use Rattle.reset_service.specs.Shown.IsFoundBy.{explored, too_many}
+use Rattle.reset_service.specs.Shown.IsKeptWith.{kept as is_kept, long}
+use Rattle.reset_service.proofs.shown.show_all.Goals as goal
 
 -- what was found isn't bad input
 good_input : (whole : Bool) (runs : Runs) → status_by whole runs ≢ BadInput
@@ -49,7 +47,10 @@ returns-in-Ok-None g c =
     record_alone
     (λ h o. IsFoundBy m c.args.run modulus entries c.args.left.now h o × (o.1 ≡ BadInput → h ≡ []))
     (λ o. o ≡ (long_history_text, BadInput))
-    (λ o is. (long found witness c.in-Ok.ensures.exact c.in-Ok.ensures.shown many refl is, λ _. refl))
+    (λ o is. (
+      explored found witness c.requires.all c.in-Ok.ensures.exact c.in-Ok.ensures.few c.in-Ok.ensures.shown (long many refl is),
+      λ _. refl,
+    ))
     (g.H.Write.contents c.args.history.now) _ _ c.answer_long_history.result c.answer_long_history.ensures.stop
     c.answer_long_history.ensures.leaves
 
@@ -70,8 +71,8 @@ returns-in-Ok-Some g c =
     (λ h o. (h ≡ kept.text.items) × (o ≡ (shown_text kept.before found witness, status_of found)))
     (λ h o. IsFoundBy m c.args.run modulus entries c.args.left.now h o × (o.1 ≡ BadInput → h ≡ [])) _ _ _ _ c.put_found.result
     (λ h o left. (
-      shown found witness c.in-Ok.ensures.exact c.in-Ok.ensures.few c.in-Ok.ensures.shown is.0 (left.0 ∙ is.1)
-          (left.1 ∙ ap (λ n. (shown_text n found witness, status_of found)) is.2),
+      explored found witness c.requires.all c.in-Ok.ensures.exact c.in-Ok.ensures.few c.in-Ok.ensures.shown
+          (is_kept is.0 (left.0 ∙ is.1) (left.1 ∙ ap (λ n. (shown_text n found witness, status_of found)) is.2)),
       λ bad. absurd (good_input _ found.runs (sym (ap (λ (p : List ℕ × Status). p.1) left.1) ∙ bad)),
     ))
     c.put_found.ensures
