@@ -102,6 +102,60 @@ def faults(program, folder):
     yield "a session starts from a snapshot", started.stdout == b"node 1 tree 1 1 0 wave normal 5 local -\n"
 
 
+def shared(program, folder):
+    """Two sessions on one file: the one that writes second finds that it has grown, and neither writes over the other's lines."""
+    topology, kept = written(folder, "topology.toml", PATH), os.path.join(folder, "shared")
+    words = [program, "session", topology, "--history", kept]
+    first = subprocess.Popen(words, stdin=subprocess.PIPE, stdout=subprocess.PIPE, stderr=subprocess.PIPE)
+    yield "the first session keeps an entry", asked(first, WAVE[0]) == b"applied\n"
+    second = subprocess.Popen(words, stdin=subprocess.PIPE, stdout=subprocess.PIPE, stderr=subprocess.PIPE)
+    yield "the second goes on after it", second.stdout.readline() == b"resumed 1 entries 0 reports\n"
+    yield "and keeps the next", asked(second, WAVE[1]) == b"applied\n"
+    told, errors = first.communicate(text_of(["fault down 1 2", "request 3"]), timeout=LONGEST)
+    said = b"history: another program has written to it, moved it or removed it\nwrite fault\n"
+    yield "the first can't write over it", (told, errors, first.returncode) == (b"", said, 3)
+    told, errors = second.communicate(text_of(WAVE[2:]), timeout=LONGEST)
+    yield "and the second goes on", (told.splitlines()[-1], errors, second.returncode) == (b"complete 1", b"", 0)
+    yield "the history has the lines of the second", content(kept) == text_of([FIRST_LINE, *WAVE])
+
+
+def moved(program, folder):
+    """A file that is replaced or removed under a session: the next entry is neither lost nor answered."""
+    topology, kept = written(folder, "topology.toml", PATH), os.path.join(folder, "moved")
+    for name, change in [("removed", lambda: os.remove(kept)), ("moved", lambda: os.rename(kept, kept + ".old")),
+                         ("replaced", lambda: os.replace(written(folder, "other", text_of([FIRST_LINE, WAVE[0]])), kept))]:
+        if os.path.exists(kept):
+            os.remove(kept)
+        session = subprocess.Popen([program, "session", topology, "--history", kept], stdin=subprocess.PIPE,
+                                   stdout=subprocess.PIPE, stderr=subprocess.PIPE)
+        yield f"before it is {name}", asked(session, WAVE[0]) == b"applied\n"
+        change()
+        told, errors = session.communicate(text_of([WAVE[1]]), timeout=LONGEST)
+        yield f"after it is {name}", (told, session.returncode) == (b"", 3) and b"moved it or removed it" in errors
+        left = content(kept) if os.path.exists(kept) else None
+        yield f"what is there once it is {name}", left == (text_of([FIRST_LINE, WAVE[0]]) if name == "replaced" else None)
+
+
+def pipes(program, folder):
+    """A history in a pipe is read by who reads the pipe, and a write to one that nobody reads fails."""
+    topology, pipe = written(folder, "topology.toml", PATH), os.path.join(folder, "pipe")
+    os.mkfifo(pipe)
+    words = [program, "session", topology, "--history", pipe]
+    session = subprocess.Popen(words, stdin=subprocess.PIPE, stdout=subprocess.PIPE, stderr=subprocess.PIPE)
+    with open(pipe, "rb") as reader:
+        yield "an entry in a pipe is answered", asked(session, WAVE[0]) == b"applied\n"
+        yield "and can be read", [reader.readline(), reader.readline()] == text_of([FIRST_LINE, WAVE[0]]).splitlines(True)
+    told, errors = session.communicate(text_of([WAVE[1]]), timeout=LONGEST)
+    yield "one that nobody reads isn't", (told, errors, session.returncode) == (b"", b"write fault\n", 3)
+
+
+def asked(session, line):
+    """The first line of the answer of a session that runs."""
+    session.stdin.write(f"{line}\n".encode())
+    session.stdin.flush()
+    return session.stdout.readline()
+
+
 def fills(program, folder):
     """A file that may not grow any more, as on a disk that is full."""
     topology, kept = written(folder, "topology.toml", PATH), os.path.join(folder, "filled")
@@ -137,6 +191,7 @@ def streams(program, folder):
          (b"resumed 8 entries 0 reports\ncomplete 1\n", 0, b""), whole),
         ("all closed", None, f"{session} <&- >&- 2>&-", (b"", 3, b""), fresh),
         ("input and output closed", None, f"{session} <&- >&-", (b"", 3, b"read fault\n"), fresh),
+        ("input from the history", whole, f"{session} <day", (b"", 2, b"history is an input\n"), whole),
         ("output to the history", whole, f"{session} <in >>day", (b"", 2, b"history is the output\n"), whole),
         ("output over the history", whole, f"{session} <in >day", (b"", 2, b"history is the output\n"), b""),
         ("a history in output", whole, f"{session[:-3]}/dev/stdout <in >>day", (b"", 2, b"history is the output\n"), whole),
@@ -202,4 +257,4 @@ def links(program, folder):
     yield "and the link", os.listdir(place) and os.readlink(f"{place}/day") == "real" and len(os.listdir(place)) == 2
 
 
-PARTS = (histories, faults, streams, links)
+PARTS = (histories, faults, shared, moved, pipes, streams, links)

@@ -181,6 +181,11 @@ class Run:
         return ran.stdout.decode("latin-1"), ran.returncode, ran.stderr.decode("latin-1")
 
 
+def note_of(text):
+    """What standard error says of a snapshot with this text, where the run ends well."""
+    return "" if text else "reset-service: snapshot: it is empty, so all nodes are down\n"
+
+
 def fault_of_text(run, text, lists):
     """What is wrong with the answer to a script from this snapshot, or None."""
     run.put("snapshot", text)
@@ -188,7 +193,7 @@ def fault_of_text(run, text, lists):
     try:
         network = read(text, *lists)
         lines = [it for words in (["show"], ["snapshot"], ["check"]) for it in network.answer(words)]
-        wanted = "".join(f"{it}\n" for it in lines), 0, ""
+        wanted = "".join(f"{it}\n" for it in lines), 0, note_of(text)
     except Bad as fault:
         wanted = f"bad snapshot {fault}\n", 2, ""
     return None if told == wanted else f"{told} in place of {wanted}"
@@ -206,10 +211,10 @@ def fault_of_start(run, lines, network):
     run.put("none", "")
     checked = run.answers("check", "topology.toml", "none", "--from", "snapshot")
     wanted = "".join(f"{it}\n" for it in network.ask_check())
-    if checked != (wanted, int(wanted != "faults 0\n"), ""):
+    if checked != (wanted, int(wanted != "faults 0\n"), note_of(text)):
         return f"check: {checked} in place of {wanted}"
     plan = run.answers("plan", "topology.toml", "--from", "snapshot")
-    if plan != run.answers("plan", "topology.toml", "damage") or plan[1]:
+    if plan[:2] != run.answers("plan", "topology.toml", "damage")[:2] or plan[1:] != (0, note_of(text)):
         return f"plan: {plan}"
     steps = [it for it in plan[0].split("\n")[:-1] if not it.startswith("#")]
     run.put("history", "".join(f"{it}\n" for it in [f"reset-history 3 {network.modulus}", *steps]))

@@ -174,7 +174,8 @@ def from_snapshots(program):
     program.judge("64 of 65 nodes", [] if answer[0] == 0 and answer[1].startswith("threads 64 nodes ") else [f"{answer}"])
     write("snapshot", "")
     program.want("no node", program.threads("topology", 10, start=("--from", "snapshot")),
-                 (0, "threads 0 nodes 0 entries 0 reports\n", ""), f"reset-history 3 {SESSIONS}\n".encode())
+                 (0, "threads 0 nodes 0 entries 0 reports\n", "reset-service: snapshot: it is empty, so all nodes are down\n"),
+                 f"reset-history 3 {SESSIONS}\n".encode())
 
 
 def own_entries(node, turns, least):

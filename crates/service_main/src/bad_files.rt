@@ -6,7 +6,9 @@ use crate::beginnings::{Beginning, beginning_of};
 use crate::files::{open_file, read_file, read_snapshot};
 use crate::kept_file::open_kept;
 use crate::places::{end_of_links, folder_of, history_fault};
+use crate::run_explore::is_known;
 use crate::streams::Streams;
+use action_tables::WriteFault;
 use diagnoses::{
     Source, put_history_fault, put_said, put_script_fault, put_snapshot_fault, put_topology_fault,
 };
@@ -19,6 +21,9 @@ use std::{fs, io};
 
 // What is said of a pipe, or of another file whose bytes are gone.
 const NOT_AGAIN: &[u8] = b"it can't be read a second time";
+
+// What is said of a snapshot without a line.
+const ALL_DOWN: &[u8] = b"it is empty, so all nodes are down";
 
 // What is said of a history of version 1 or 2 that a session was to go on with.
 const OLDER: &[u8] = b"line 1: a session goes on with a history of version 3 alone";
@@ -67,7 +72,9 @@ impl<'a> Inputs<'a> {
         let Some(path) = self.written else {
             return false;
         };
-        let inputs = [Some(self.topology), self.script, self.snapshot];
+        // the commands of a session are its input
+        let commands = self.kept.map(|_| "/dev/stdin");
+        let inputs = [Some(self.topology), self.script, self.snapshot, commands];
         history_fault(rt, path, &inputs).is_some()
     }
 }
@@ -85,7 +92,7 @@ fn inputs_of(job: Job<'_>) -> Option<Inputs<'_>> {
             Some(Inputs::new(words.topology, words.from).with_history(words.history))
         }
         Job::Plan(words) => Some(Inputs::new(words.topology, words.from).with_script(words.script)),
-        Job::Explore(words) => Some(
+        Job::Explore(words) if is_known(words) => Some(
             Inputs::new(words.topology, words.from)
                 .with_script(words.script)
                 .with_written(words.history),
@@ -111,7 +118,7 @@ fn inputs_of(job: Job<'_>) -> Option<Inputs<'_>> {
         Job::Drive(words) => {
             Some(Inputs::new(words.topology, words.from).with_written(Some(words.history)))
         }
-        Job::Joined | Job::Shape(_) | Job::Explain(_) | Job::Tables => None,
+        Job::Explore(_) | Job::Joined | Job::Shape(_) | Job::Explain(_) | Job::Tables => None,
     }
 }
 
@@ -138,6 +145,18 @@ pub fn say_why<R: Files + AllocGlobal>(
             said.clear();
             Err(RunStop::NoMemory)
         }
+    }
+}
+
+/// Writes of the snapshot that a job starts from, if it is empty: then all nodes are down, which is more often a mistake in how
+/// it was made.
+pub fn say_all_down<R: Files>(rt: &R, job: Job<'_>, said: &mut Vec<u8>) -> Result<(), WriteFault> {
+    let Some(path) = inputs_of(job).and_then(|inputs| inputs.snapshot) else {
+        return Ok(());
+    };
+    match fs::metadata(rt, path) {
+        Ok(found) if found.is_file() && found.len() == 0 => put_said(said, path, ALL_DOWN),
+        _ => Ok(()),
     }
 }
 

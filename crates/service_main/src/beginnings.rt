@@ -5,8 +5,9 @@ use crate::kept_file::KeptFile;
 use reset_service::RunStop;
 use script_replay::read_network;
 use std::alloc::Global;
-use std::io::Read;
+use std::io::{ErrorKind, Read};
 use std::rt::Files;
+use topology::ReadFault;
 
 // More bytes than any first line has.
 const START: u64 = 64;
@@ -38,14 +39,17 @@ pub fn beginning_of<R: Files + AllocGlobal>(
     let mut start = Vec::new(rt.alloc());
     match open_file(rt, path)?.take(START).read_to_end(&mut start) {
         Ok(_) => beginning_by(rt.alloc(), topology, &start),
+        Err(error) if error.kind() == ErrorKind::OutOfMemory => Err(RunStop::NoMemory),
         Err(_) => Err(RunStop::ReadFailed),
     }
 }
 
 // The same by its first bytes. On a network that is bad no history goes on, whatever it begins with.
 fn beginning_by(alloc: Global, topology: &[u8], start: &[u8]) -> Result<Beginning, RunStop> {
-    let Ok(network) = read_network(alloc, topology) else {
-        return Ok(Beginning::Kept);
+    let network = match read_network(alloc, topology) {
+        Ok(network) => network,
+        Err(ReadFault::NoMemory) => return Err(RunStop::NoMemory),
+        Err(_) => return Ok(Beginning::Kept),
     };
     let modulus = network.modulus.get();
     let own = format!(in alloc; "reset-history 3 {modulus}\n")?;

@@ -6,17 +6,22 @@ use crate::places::{end_of_links, open_folder, sync_folder};
 use action_tables::put_bytes;
 use reset_service::RunStop;
 use std::fs::{OpenFile, OpenOptions};
-use std::io;
 use std::io::{ErrorKind, Read, Seek, SeekFrom, Stderr, Write};
+use std::os::unix::fs::MetadataExt;
 use std::rt::Files;
+use std::{fs, io};
 
 // The most bytes at the end of a file that are searched for the end of its last whole line: a line has fewer.
 const TAIL: usize = 4096;
 
 const CUT_OFF: &[u8] = b"history: the last line had no end and was cut off\n";
 
+const CHANGED: &[u8] = b"history: another program has written to it, moved it or removed it\n";
+
 /// A file that a history is appended to. It is created by the first write or flush, and one that is there goes on after
-/// its last whole line: what stands after that, which only a crash leaves, is cut off by the first write or flush.
+/// its last whole line: what stands after that, which only a crash leaves, is cut off by the first write or flush. Where
+/// another program has written to it, moved it or removed it meanwhile, a write fails: nothing is written over, or kept where
+/// nobody finds it.
 #[derive(Drop)]
 pub struct KeptFile<'a, R: Files + AllocGlobal> {
     rt: &'a R,
@@ -24,6 +29,8 @@ pub struct KeptFile<'a, R: Files + AllocGlobal> {
     // None until it is created.
     file: Option<R::File>,
     ends: Ends,
+    // How long it is after what was written so far, or None where it is no regular file.
+    length: Option<u64>,
     // Whether the next write goes after the whole lines.
     is_placed: bool,
     // Whether a flush makes safe on the disk what was written.
@@ -52,9 +59,13 @@ impl<'a, R: Files + AllocGlobal> KeptFile<'a, R> {
     // Creates the file, or cuts off what stands after its whole lines, and goes there.
     fn place(&mut self) -> io::Result<()> {
         match &mut self.file {
-            Some(file) => cut_off(file, self.ends, &mut self.errors)?,
+            Some(file) => {
+                see_that_it_is_as_left(self.rt, self.path, file, self.length, &mut self.errors)?;
+                cut_off(file, self.ends, &mut self.errors)?;
+            }
             None => self.file = Some(create_kept(self.rt, self.path, self.syncs)?),
         }
+        self.length = Some(self.ends.whole);
         self.is_placed = true;
         Ok(())
     }
@@ -65,10 +76,15 @@ impl<R: Files + AllocGlobal> Write for KeptFile<'_, R> {
         if !self.is_placed {
             self.place()?;
         }
-        match &mut self.file {
-            Some(file) => file.write(buf),
-            None => Err(io::Error::from(ErrorKind::NotFound)),
-        }
+        let Some(file) = &mut self.file else {
+            return Err(io::Error::from(ErrorKind::NotFound));
+        };
+        see_that_it_is_as_left(self.rt, self.path, file, self.length, &mut self.errors)?;
+        let count = file.write(buf)?;
+        self.length = self
+            .length
+            .map(|length| length.saturating_add(count as u64));
+        Ok(count)
     }
 
     fn flush(&mut self) -> io::Result<()> {
@@ -92,6 +108,31 @@ fn cut_off<F: Seek + OpenFile>(file: &mut F, ends: Ends, errors: &mut Stderr) ->
     Ok(())
 }
 
+// Sees that a regular file is as long as it was left, and still at its path. If not, that is said, and an error.
+fn see_that_it_is_as_left<R: Files>(
+    rt: &R,
+    path: &str,
+    file: &R::File,
+    length: Option<u64>,
+    errors: &mut Stderr,
+) -> io::Result<()> {
+    let Some(length) = length else {
+        return Ok(());
+    };
+    let found = file.metadata()?;
+    match fs::metadata(rt, path) {
+        Ok(there) if there.ino() == found.ino() && there.dev() == found.dev() => {
+            if found.len() == length {
+                return Ok(());
+            }
+        }
+        Err(error) if error.kind() == ErrorKind::OutOfMemory => return Err(error),
+        _ => {}
+    }
+    let _ = put_bytes(errors, CHANGED);
+    Err(io::Error::from(ErrorKind::AlreadyExists))
+}
+
 // Creates the file to which a path leads. One that has come there meanwhile is left as it is.
 fn create_kept<R: Files + AllocGlobal>(rt: &R, path: &str, syncs: bool) -> io::Result<R::File> {
     let place = end_of_links(rt, path)?;
@@ -112,8 +153,13 @@ pub fn open_kept<'a, R: Files + AllocGlobal>(
     syncs: bool,
     errors: Stderr,
 ) -> Result<KeptFile<'a, R>, RunStop> {
+    // A pipe that is opened for reading too would be its own reader, and what nobody reads would be taken for kept.
+    let is_read = match fs::metadata(rt, path) {
+        Ok(there) => there.is_file(),
+        Err(_) => true,
+    };
     let mut options = OpenOptions::new();
-    options.read(true).write(true);
+    options.read(is_read).write(true);
     let found = match options.open(rt, path) {
         Ok(file) => found_file(file)?,
         Err(error) if error.kind() == ErrorKind::NotFound => Found {
@@ -124,11 +170,13 @@ pub fn open_kept<'a, R: Files + AllocGlobal>(
         Err(error) if error.kind() == ErrorKind::OutOfMemory => return Err(RunStop::NoMemory),
         Err(_) => return Err(RunStop::WriteFailed),
     };
+    let length = found.length();
     Ok(KeptFile {
         rt,
         path,
         file: found.file,
         ends: found.ends,
+        length,
         is_placed: !found.is_regular,
         syncs: syncs && found.is_regular,
         errors,
@@ -141,6 +189,17 @@ struct Found<F: Drop> {
     file: Option<F>,
     ends: Ends,
     is_regular: bool,
+}
+
+impl<F: Drop> Found<F> {
+    // How long it is, if it is a regular file.
+    fn length(&self) -> Option<u64> {
+        if self.is_regular {
+            Some(self.ends.whole.saturating_add(self.ends.torn))
+        } else {
+            None
+        }
+    }
 }
 
 fn found_file<F: Read + Seek + OpenFile + Drop>(mut file: F) -> Result<Found<F>, RunStop> {

@@ -26,7 +26,8 @@ pub fn run_session<R: Files + Input + Eprint + AllocGlobal, W: Write>(
     let Some(path) = words.history else {
         return hold_session(rt, &topology, text_of(&snapshot), &mut input, out);
     };
-    if let Some(fault) = history_fault(rt, path, &[Some(words.topology), words.from]) {
+    let inputs = [Some(words.topology), words.from, Some("/dev/stdin")];
+    if let Some(fault) = history_fault(rt, path, &inputs) {
         return Ok(refuse_history(rt, fault));
     }
     let held = hold_descriptors(rt)?;
