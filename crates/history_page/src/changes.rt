@@ -1,4 +1,4 @@
-// What fails at nodes: noted, kept from one entry to the next, and told where it changes.
+// What fails at nodes: noted, kept from one entry to the next, and written where it changes.
 
 ghost use Rattle.std.specs.Prelude.{◌≡◌, ◌≢◌, ◌++◌, [], All, IfOk, IsTrue, OnOk, length};
 ghost use Rattle.reset_model.specs.Configuration.{put_at};
