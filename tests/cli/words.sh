@@ -321,7 +321,10 @@ lowercase='claim follow adopt request relay open join finish mend act fault draw
   watch moves move invariant snapshot plan applied complete refused disturbed drawn quiet unjoined link faults report verified drove
   resumed help explain exit normal initiate reset entry
   tree wave app local bad node session threads idle token mutex routes pass take enter leave pull memory read write thread lists line not
-  configurations steps ends whole longest completions endless found repair repairs root father distance K row history more'
+  configurations steps ends whole longest completions endless found repair repairs root father distance K row history more
+  holds fails tokens hold free in out token-links mutex-links routes-links opened finished entries reports nowhere table no error
+  reset-service script nodes links modulus rows reset-snapshot reset-history
+  replay explore verify picture page record drive topology tables'
 
 # Standard output has each phrase of the word, and there is one.
 names_all() { # WORD

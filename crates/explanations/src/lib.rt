@@ -1,6 +1,7 @@
 //! What the words mean that the program prints and reads, and the help that a line of a session asks for.
 #![tactic(auto)]
 
+mod answers;
 mod applications;
 mod explained;
 mod help;

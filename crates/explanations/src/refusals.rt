@@ -1,6 +1,6 @@
 // What the refusals of events and of faults mean, and the errors of texts, and what to do: words, each with its text.
 
-pub const REFUSALS: [(&str, &str); 45] = [
+pub const REFUSALS: [(&str, &str); 55] = [
     // Refusals of events and of faults.
     (
         "StrangeNode",
@@ -168,6 +168,47 @@ one link.\n",
 The rows of `picture --rows` are two numbers with two dots between them, as in 17..40: the first entry\n\
 that is drawn, from 1 on, and the last.\n",
     ),
+    // Texts, their keys and their first lines.
+    (
+        "script",
+        "\
+A text with one command a line; an empty line, or one that begins with `#`, does nothing. `bad script\n\
+TooLong`: it has more bytes than a script may have.\n",
+    ),
+    (
+        "nodes",
+        "\
+The key of a topology that lists its nodes, as in `nodes = [1, 2, 3]`. `bad nodes`: `picture --nodes` can't\n\
+draw the ones that it was given; the word behind it says why.\n",
+    ),
+    (
+        "links",
+        "\
+The key of a topology that lists its links, as in `links = [[1, 2], [2, 3]]`. A link joins both of its\n\
+ends, whichever is named first.\n",
+    ),
+    (
+        "modulus",
+        "\
+The key of a topology with the number of sessions that there are, from 2 to 4294967296, which it is where\n\
+the key is left out. With 8, session 0 comes after session 7.\n",
+    ),
+    (
+        "rows",
+        "\
+`bad rows BadRange`: what `picture --rows` was given isn't two numbers as in 17..40.\n",
+    ),
+    (
+        "reset-snapshot",
+        "\
+`reset-snapshot 1`: the first line of a snapshot, with the version of its form.\n",
+    ),
+    (
+        "reset-history",
+        "\
+`reset-history 3 M`: the first line of a history, with the version of its form, and M, the number of\n\
+sessions that there are. Each line after it is an entry.\n",
+    ),
     // Errors of scripts, histories and devices.
     (
         "TooLong",
@@ -265,5 +306,22 @@ right.\n",
         "\
 `lists differ`: what the node threads kept isn't what each of them was told. No run is known\n\
 that ends so; please report it.\n",
+    ),
+    (
+        "no",
+        "\
+`no such word`: `explain` knows nothing of it. Without a word it lists those that it knows. Status 2.\n",
+    ),
+    (
+        "error",
+        "\
+`error: ..`: the program doesn't take these words of the command line; what follows says why. Status 2,\n\
+and nothing was done.\n",
+    ),
+    (
+        "reset-service",
+        "\
+`reset-service: FILE: REASON`: which file was bad, where, and why. The word `--verbose` asks for it, and\n\
+so does RESET_VERBOSE=1 in the environment; `plan`, `explore`, `session` and `page` say it in any case.\n",
     ),
 ];

@@ -12,7 +12,8 @@ of sessions alone
   help explain exit
 answers
   applied complete refused disturbed drawn move quiet unjoined link faults
-  verified report entry row drove threads resumed bad
+  holds fails tokens verified report opened finished entry entries reports
+  row drove threads resumed table bad
 refusals
   StrangeNode StrangeNeighbour NoSuchCase WantsNeighbour TakesNoNeighbour
   Disagrees NotEnabled BadValue BadLocal NoSuchLink LinkIsThere NodeIsUp
@@ -23,15 +24,21 @@ errors of topologies, snapshots, scripts and histories
   TwiceLink TooManyForThreads TooManyForPicture BadRange TooLong
   TooLongForPicture TooLongForPage BadLine BadVersion OtherModulus
 what a run may end by
-  line not EndsAfter history read write thread memory lists
+  line not no error EndsAfter history read write thread memory lists
+  reset-service
 plans and explorations
   plan repair repairs configurations more steps ends whole longest
-  completions endless found
+  completions endless found nowhere
+other subcommands
+  replay explore verify picture page record drive topology tables
+texts, their keys and their first lines
+  script nodes links modulus rows reset-snapshot reset-history
 registers
   node tree root father distance K wave normal initiate reset session
   local app
-applications and their actions
-  idle token pass take mutex enter leave routes pull
+applications, their actions, local states and link tables
+  idle token pass take hold free token-links mutex enter leave in out
+  mutex-links routes pull routes-links
 rows of the tables, each one word (a shell wants quotes around it)
   tree 1 to tree 8, wave 1 to wave 11, app 1 to app 3
 ";
