@@ -194,6 +194,8 @@ bad_words session a --no-sync=false
 bad_words session a --no-sync false
 bad_words session a --sync
 bad_words session --history b --no-sync
+bad_words session a --no-sync
+bad_words session a --from b --no-sync
 bad_words page
 bad_words page a
 bad_words page a b c
@@ -258,7 +260,15 @@ Usage: reset-service [COMMAND]
 For more information, try '"'--help'"'.
 '
 
-# The help texts, and the error above, were kept as the program printed them and read beside docs/formats.md:
+run session topology.toml --no-sync <&-
+judge 'session, a flag without its option' 2 wrote '' "error: the argument '--no-sync' cannot be used without '--history <FILE>'
+
+Usage: reset-service session [OPTIONS] <TOPOLOGY>
+
+For more information, try '--help'.
+"
+
+# The help texts, and the errors above, were kept as the program printed them and read beside docs/formats.md:
 # they show that a text has changed, and not that it is right.
 helps program.txt --help
 helps program.txt help

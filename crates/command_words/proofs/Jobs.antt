@@ -11,8 +11,9 @@ use Rattle.clap.specs.Words.{HasKind, Text, IsAmong, ReadsOne, first_of, kind_of
 use Rattle.clap.specs.declared.error.Error.{Error}
 use Rattle.clap.specs.declared.parser.matches.Found.{Found}
 use Rattle.clap.proofs.WalkLemmas.{one_text-rows}
-use Rattle.command_words.specs.Words.{HasFlag, HasJob, HasNumber, IsFaultOf, IsNumberOr, IsNumberOrNone, IsNumberWithin, MayHaveNumber}
-use Rattle.command_words.specs.Words.{StandsFor, Writes, faults_of, is_on}
+use Rattle.command_words.specs.Faults.{IsFaultOf, StandsFor, faults_of}
+use Rattle.command_words.specs.Words.{HasFlag, HasJob, HasNumber, IsNumberOr, IsNumberOrNone, IsNumberWithin, MayHaveNumber}
+use Rattle.command_words.specs.Words.{Writes, is_on}
 use Rattle.command_words.specs.declared.words.Job.{Job}
 use Rattle.command_words.specs.declared.words.LineFault.{LineFault}
 use Rattle.command_words.specs.declared.words.LineFault.TheVariants.{BadWords, NoMemory}

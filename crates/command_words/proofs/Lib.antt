@@ -9,3 +9,4 @@ pub mod SessionAndPage
 pub mod Verification
 pub mod Replaying
 pub mod Subcommands
+pub mod MissingHistory

@@ -21,7 +21,7 @@ use Rattle.clap.specs.Walk.{walk}
 use Rattle.clap.specs.Walk.{walk_from}
 use Rattle.clap.proofs.OnLiterals.{clap_on_literals}
 use Rattle.command_words.specs.Words.{HasDrive, HasJob, HasPlan, HasRecord, HasShape, HasThreads}
-use Rattle.command_words.specs.Words.{drive_command, explain_command, explore_command, faults_of}
+use Rattle.command_words.specs.Words.{drive_command, explain_command, explore_command}
 use Rattle.command_words.specs.Words.{page_command, picture_command, plan_command, program, record_command}
 use Rattle.command_words.specs.Words.{session_command}
 use Rattle.command_words.specs.Words.{tables_command, texts_command, threads_command, topology_command, verify_command, replay_command, check_command}
@@ -439,7 +439,7 @@ unfolding program plan_command record_command threads_command drive_command topo
 program_is_free = refl
 
 pub faults_are : (a : App) (words : List Text) (P : Kinds → Type 0) → a ≡ program
-    → (is_simple_and_free a ≡ true → P (fault_of a words)) → P (faults_of words)
+    → (is_simple_and_free a ≡ true → P (fault_of a words)) → P (fault_of program words)
 faults_are a words P is kinds =
     subst P (ap (λ (x : App). fault_of x words) is) (kinds (ap is_simple_and_free is ∙ program_is_free))
 

@@ -1,10 +1,10 @@
 -- What the words of the command line ask for, by clap's own definition of what a command makes of words.
-use Rattle.std.specs.Prelude.{◌≡◌, ◌≢◌, ◌≤◌, ◌⊎◌, ⊤, ℕ, Bool, not, true, false, List, codes, Option, Some, None, IsSome}
+use Rattle.std.specs.Prelude.{◌≡◌, ◌≤◌, ◌⊎◌, ⊤, ℕ, Bool, not, true, false, List, codes, Option, Some, None, IsSome}
 use Rattle.std.specs.Prelude.{IfSome, IsSomeAnd}
 use Rattle.std.specs.Prelude.{option_and_then, option_map}
 use Rattle.std.specs.Str.{bytes_eq}
 use Rattle.std.specs.Str.Parse.{IsNumeral, digits_value, without_leading_plus}
-use Rattle.clap.specs.Words.{App, Kinds, Row, Rule, Text, IsAmong, app_of, fault_of, first_of, kind_of}
+use Rattle.clap.specs.Words.{App, Row, Rule, Text, app_of, first_of}
 use Rattle.clap.specs.Words.{new_app, new_rule, one_of, rule_of, subcommand_of, with_rule, with_subcommand}
 use Rattle.clap.specs.Simple.{on_top}
 use Rattle.clap.specs.declared.builder.action.ArgAction.TheVariants.{SetTrue}
@@ -12,13 +12,9 @@ use Rattle.clap.specs.declared.builder.arg.Arg.{Arg}
 use Rattle.clap.specs.declared.builder.command.Command.{Command}
 use Rattle.clap.specs.declared.builder.command.Command.TheViews.{out-Command as fields_of}
 use Rattle.clap.specs.declared.builder.value_parser.ValueParser.TheVariants.{Unsigned}
-use Rattle.clap.specs.declared.error.Error.{Error}
-use Rattle.clap.specs.declared.error.ErrorKind.TheVariants.{OutOfMemory}
 use Rattle.command_words.specs.declared.words.Job.{Job}
 use Rattle.command_words.specs.declared.words.Job.TheVariants.{Joined, Replay, Check, Verify, Picture, Record, Threads}
 use Rattle.command_words.specs.declared.words.Job.TheVariants.{Drive, Plan, Explore, Session, Page, Shape, Explain, Tables}
-use Rattle.command_words.specs.declared.words.LineFault.{LineFault}
-use Rattle.command_words.specs.declared.words.LineFault.TheVariants.{BadWords, NoMemory}
 use Rattle.command_words.specs.declared.check_words.CheckWords.{CheckWords}
 use Rattle.command_words.specs.declared.drive_words.DriveWords.{DriveWords}
 use Rattle.command_words.specs.declared.explore_words.ExploreWords.{ExploreWords}
@@ -376,15 +372,6 @@ AskedBy found Tables = name_in found ≡ Some (codes "tables")
 abbrev pub AskFor : List Text → Job → Type 0
 AskFor words = AskedBy (subcommand_of program words)
 
--- the kinds that clap's error at the words may have, a request for help included: none where it takes them
-abbrev pub faults_of : List Text → Kinds
-faults_of = fault_of program
-
--- the fault is one that clap has at the words, or an allocation failed
-abbrev pub IsFaultOf : List Text → LineFault → Type 0
-IsFaultOf words (BadWords error) = IsAmong (kind_of error) (faults_of words)
-IsFaultOf words NoMemory = ⊤
-
 -- ---- what private clauses cite
 
 -- the command is this one, with no argument that its subcommands take too
@@ -478,13 +465,3 @@ HasJob (Some s) = HasScriptJob s
     ⊎ (((s.0 ≡ codes "explore") × HasExplore s.1)
     ⊎ (((s.0 ≡ codes "page") × HasTexts (codes "HISTORY") s.1)
     ⊎ ((s.0 ≡ codes "verify") × HasVerify s.1))))))))))))
-
--- clap's error as a fault
-abbrev pub StandsFor : Error → LineFault → Type 0
-StandsFor error (BadWords kept) = (kept ≡ error) × (kind_of error ≢ OutOfMemory)
-StandsFor error NoMemory = kind_of error ≡ OutOfMemory
-
--- what a fault is told as; of words that are a mistake clap has the text
-abbrev pub line_fault_text : LineFault → Option Text
-line_fault_text (BadWords error) = None
-line_fault_text NoMemory = Some (codes "out of memory")

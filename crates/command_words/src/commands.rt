@@ -137,9 +137,9 @@ fn explore_words<'a>(alloc: Global) -> Result<Command<'a>, AllocError>
     with_argument(line, shown_history_word(alloc))
 }
 
-// The subcommand with the path of a topology and, where they are given, those of a snapshot and of a file for the
-// history, and the flag that leaves out its sync.
-fn session_words<'a>(alloc: Global) -> Result<Command<'a>, AllocError>
+/// The subcommand with the path of a topology and, where they are given, those of a snapshot and of a file for the
+/// history, and the flag that leaves out its sync.
+pub fn session_words<'a>(alloc: Global) -> Result<Command<'a>, AllocError>
     ensures { IfOk result (IsCommand session_command) }
 {
     let line = Ok(bare_words(alloc, "session", &SESSION_HELP));

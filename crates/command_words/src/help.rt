@@ -211,7 +211,7 @@ pub const SESSION_HISTORY_HELP: &str =
 nothing is kept where this is left out";
 
 pub const NO_SYNC_HELP: &str =
-    "Leaves it to the system when an entry reaches the disk, which is faster";
+    "Leaves it to the system when an entry of --history reaches the disk, which is faster";
 
 pub const PAGE_HELP: Help = Help {
     about: "Writes a page that plays a history forward and back, in HTML",

@@ -1,14 +1,16 @@
 // What the words of the command line ask for.
 
 ghost use Rattle.std.specs.Prelude.{◌≡◌, [], codes, map, not, option_map, IfErr, IfOk, Some};
-ghost use Rattle.clap.specs.Words.{first_of, found_of, rows_of, subcommand_rows_of};
+ghost use Rattle.clap.specs.Words.{first_of, found_of, kind_of, rows_of, subcommand_rows_of};
+ghost use Rattle.clap.specs.declared.error.ErrorKind.TheVariants.{MissingRequiredArgument};
 ghost use Rattle.command_words.specs.declared.words.LineFault.TheVariants.{NoMemory};
-ghost use Rattle.command_words.specs.Words.{faults_of, AskFor, AskedBy, HasCheck, HasDrive, HasExplore, HasJob, HasPlan, HasRecord};
-ghost use Rattle.command_words.specs.Words.{HasReplay, HasSession, HasShape, HasTexts, HasThreads, HasVerify, IsFaultOf};
-ghost use Rattle.command_words.specs.Words.{IsNumberOr, IsNumberOrNone, IsNumberWithin, StandsFor, is_on, line_fault_text};
+ghost use Rattle.command_words.specs.Faults.{IsFaultOf, StandsFor, faults_of, is_without_history, line_fault_text};
+ghost use Rattle.command_words.specs.Words.{AskFor, AskedBy, HasCheck, HasDrive, HasExplore, HasJob, HasPlan, HasRecord};
+ghost use Rattle.command_words.specs.Words.{HasReplay, HasSession, HasShape, HasTexts, HasThreads, HasVerify};
+ghost use Rattle.command_words.specs.Words.{IsNumberOr, IsNumberOrNone, IsNumberWithin, is_on};
 
 use crate::check_words::CheckWords;
-use crate::commands::command_line;
+use crate::commands::{command_line, session_words};
 use crate::drive_words::DriveWords;
 use crate::explore_words::ExploreWords;
 use crate::page_words::PageWords;
@@ -25,6 +27,10 @@ use clap::{ArgMatches, Error};
 use std::alloc::{AllocError, Global};
 use std::convert::AsStr;
 use std::{error, fmt};
+
+// What is wrong with a flag that clap takes, in the form in which clap says it of others. Clap could hold it to its option by
+// a rule, but its definition of what a command makes of words knows no such rules.
+const NOTHING_TO_SYNC: &str = "the argument '--no-sync' cannot be used without '--history <FILE>'";
 
 // The files that several subcommands name.
 #[derive(Clone, Copy)]
@@ -121,7 +127,30 @@ pub fn read_words<'a, S: AsStr>(alloc: Global, words: &'a [S]) -> Result<Job<'a>
     ensures fault { IfErr result (IsFaultOf (map S.text words.entry.now)) }
 {
     let matches = command_line(alloc)?.try_get_matches_from(words)?;
-    Ok(job_of(&matches))
+    let job = job_of(&matches);
+    if is_without_history(job) {
+        let error = missing_history(alloc)?;
+        return Err(LineFault::from(error));
+    }
+    Ok(job)
+}
+
+// Whether a session is told not to sync its history, and has none.
+fn is_without_history(job: Job<'_>) -> bool
+    ensures { result ≡ is_without_history job.entry }
+{
+    match job {
+        Job::Session(words) => !words.sync && words.history.is_none(),
+        _ => false,
+    }
+}
+
+// The error of a session that is told not to sync its history, and has none.
+fn missing_history(alloc: Global) -> Result<Error, AllocError>
+    ensures { IfOk result (λ error. kind_of error ≡ MissingRequiredArgument) }
+{
+    let mut command = session_words(alloc)?.bin_name("reset-service session")?;
+    command.error(ErrorKind::MissingRequiredArgument, NOTHING_TO_SYNC)
 }
 
 // The job of matches, in which a subcommand has the values that it needs.
