@@ -1,8 +1,8 @@
 #!/usr/bin/env python3
-"""Runs the program named on the command line on files that are missing or bad, and compares what standard error says of
-them, where it is asked to: the file, the place in it and the reason, as `docs/formats.md` has them ("Diagnoses"). Standard
-output and the status have to be those of the same run without `--verbose`, and the fixed lines of standard error stay
-before what is said.
+"""Runs the program named on the command line on files that are missing, bad or not to be written to, and compares what
+standard error says of them, where it is asked to: the file, the place in it and the reason, as `docs/formats.md` has them
+("Diagnoses"). Standard output and the status have to be those of the same run without `--verbose`, and the fixed lines of
+standard error stay before what is said.
 """
 import os
 import subprocess
@@ -162,13 +162,13 @@ class Room:
         with open(os.path.join(self.folder, name), "wb") as file:
             file.write(text if isinstance(text, bytes) else text.encode("latin-1"))
 
-    def run(self, words, variable=None, given=b""):
+    def run(self, words, variable=None, given=b"", **how):
         """Standard output, standard error and the status."""
         environment = {name: value for name, value in os.environ.items() if name != "RESET_VERBOSE"}
         if variable is not None:
             environment["RESET_VERBOSE"] = variable
-        ran = subprocess.run([self.program, *words], input=given, capture_output=True, cwd=self.folder, env=environment,
-                             timeout=LONGEST)
+        streams = {"stdout": subprocess.PIPE, "stderr": subprocess.PIPE, **how}
+        ran = subprocess.run([self.program, *words], input=given, cwd=self.folder, env=environment, timeout=LONGEST, **streams)
         for name in ("kept", "kept.part"):
             if os.path.exists(os.path.join(self.folder, name)):
                 os.remove(os.path.join(self.folder, name))
@@ -260,6 +260,49 @@ def files(room):
                                    said("nosuch1", "No such file or directory"), 3, fixed)
     room.put("bad", b"x = \n")
     yield "before a bad topology is judged", told(room, ["replay", "bad", "nosuch"], missing, 3, fixed)
+
+
+def unwritten(room):
+    """Files that can't be written to, of each subcommand that writes a history, and a standard output that is full."""
+    fixed = "write fault\n"
+    runs = [["record", "topology", "script"], ["threads", "topology", "--turns", "1"],
+            ["drive", "topology", "--steps", "9", "--seed", "1"], ["explore", "idle", "script"], ["session", "topology"]]
+    room.put("idle", PATH.replace(b"token", b"idle"))
+    long = "x" * 300
+    for words in runs:
+        for title, file, reason in [("no folder", "nosuch/x", "No such file or directory"), ("a name too long", long, "File name too long"),
+                                    ("a folder", "folder", "Is a directory"), ("a file for a folder", "script/x", "Not a directory"),
+                                    ("a loop", "loop", "Too many levels of symbolic links")]:
+            yield f"{words[0]}, {title}", told(room, [*words, "--history", file], said(file, reason), 3, fixed)
+    full = said("/dev/full", "No space left on device")
+    for words in runs[:4]:
+        yield f"{words[0]}, a full disk", told(room, [*words, "--history", "/dev/full"], full, 3, fixed)
+    yield "a session, a full disk", room.run(["session", "topology", "--history", "/dev/full"], given=b"request 3\n") == (
+        b"", fixed + full, 3)
+    for words in [["replay", "topology", "script"], ["tables"], ["plan", "topology"], ["verify", "topology", "history"]]:
+        with open("/dev/full", "wb") as output:
+            ran = room.run(["--verbose", *words], stdout=output)
+        yield f"{words[0]}, a full output", ran[1:] == (fixed + said("standard output", "No space left on device"), 3)
+    room.put("kept.part", b"")
+    yield "a file beside it, of which another line says it", room.run(["--verbose", *runs[0], "--history", "kept"]) == (
+        b"", "kept.part is there: a run is writing it, or was cut off and left it\n" + fixed, 3)
+    yield from forbidden(room, runs)
+
+
+def forbidden(room, runs):
+    """The same of a folder and a file that a user other than root may not write to."""
+    nobody = {"user": 65534} if os.geteuid() == 0 else {}
+    os.chmod(room.folder, 0o755)
+    shut = os.path.join(room.folder, "shut")
+    os.mkdir(shut)
+    room.put("shut/there", HISTORY)
+    os.chmod(os.path.join(shut, "there"), 0o444)
+    os.chmod(shut, 0o555)
+    for file in ("shut/new", "shut/there"):
+        for words in runs:
+            ran = room.run(["--verbose", *words, "--history", file], **nobody)
+            yield f"{words[0]}, {file}", ran[1:] == ("write fault\n" + said(file, "Permission denied"), 3)
+    os.chmod(shut, 0o755)
 
 
 def order(room):
@@ -365,7 +408,7 @@ def main():
     passed = failed = 0
     with tempfile.TemporaryDirectory(prefix="diagnoses-") as folder:
         room = Room(os.path.abspath(sys.argv[1]), folder)
-        for part in (bad_texts, long_texts, files, order, silent, asked, pipes):
+        for part in (bad_texts, long_texts, files, unwritten, order, silent, asked, pipes):
             for name, good in part(room):
                 if good:
                     passed += 1

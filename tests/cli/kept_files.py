@@ -68,6 +68,11 @@ def beginnings(program, folder, topology):
         yield f"{text[:30]!r}: standard error", reason in ran.stderr and b"cut off" not in ran.stderr
 
 
+def fault(name, reason):
+    """What standard error says of a session whose write to a file failed."""
+    return f"write fault\nreset-service: {name}: {reason}\n".encode()
+
+
 def faults(program, folder):
     topology, kept = written(folder, "topology.toml", PATH), os.path.join(folder, "day")
     bad = run(program, "session", written(folder, "bad.toml", b'nodes = []\nlinks = []\napp = "idle"\n'), "--history", kept)
@@ -80,21 +85,21 @@ def faults(program, folder):
     with open("/dev/full", "wb") as full:
         ran = subprocess.run([program, "session", topology, "--history", kept], input=b"request 1\n", stdout=full,
                              stderr=subprocess.PIPE, timeout=LONGEST)
-    yield "answers that can't be written", (ran.returncode, ran.stderr) == (3, b"write fault\n")
+    yield "answers that can't be written", (ran.returncode, ran.stderr) == (3, fault("standard output", "No space left on device"))
     yield "are of entries that are kept", content(kept) == text_of([FIRST_LINE, "request 1"])
     ran = run(program, "session", topology, "--history", "/dev/full", given=b"request 1\n")
-    yield "a history that can't be written", (ran.stdout, ran.returncode, ran.stderr) == (b"", 3, b"write fault\n")
+    why = fault("/dev/full", "No space left on device")
+    yield "a history that can't be written", (ran.stdout, ran.returncode, ran.stderr) == (b"", 3, why)
     for path, reason in [(f"{folder}/no/day", "No such file or directory"), (folder, "Is a directory")]:
         ran = run(program, "session", topology, "--history", path)
-        why = f"write fault\nreset-service: {path}: {reason}\n".encode()
-        yield f"nor one at {path}", (ran.stdout, ran.returncode, ran.stderr) == (b"", 3, why)
+        yield f"nor one at {path}", (ran.stdout, ran.returncode, ran.stderr) == (b"", 3, fault(path, reason))
     unread, pipe = os.pipe()
     os.close(unread)
     os.remove(kept)
     ran = subprocess.run([program, "session", topology, "--history", kept], input=b"request 1\n", stdout=pipe,
                          stderr=subprocess.PIPE, timeout=LONGEST)
     os.close(pipe)
-    yield "a pipe that nobody reads", (ran.returncode, ran.stderr) == (3, b"write fault\n")
+    yield "a pipe that nobody reads", (ran.returncode, ran.stderr) == (3, fault("standard output", "Broken pipe"))
     yield "gets no answer that isn't kept", content(kept) == text_of([FIRST_LINE, "request 1"])
     yield from fills(program, folder)
     started = run(program, "session", topology, "--from", written(folder, "shot", b"node 1 tree 1 1 0 wave normal 5 local -\n"),
@@ -146,7 +151,7 @@ def pipes(program, folder):
         yield "an entry in a pipe is answered", asked(session, WAVE[0]) == b"applied\n"
         yield "and can be read", [reader.readline(), reader.readline()] == text_of([FIRST_LINE, WAVE[0]]).splitlines(True)
     told, errors = session.communicate(text_of([WAVE[1]]), timeout=LONGEST)
-    yield "one that nobody reads isn't", (told, errors, session.returncode) == (b"", b"write fault\n", 3)
+    yield "one that nobody reads isn't", (told, errors, session.returncode) == (b"", fault(pipe, "Broken pipe"), 3)
 
 
 def asked(session, line):
@@ -166,7 +171,7 @@ def fills(program, folder):
                              stdout=subprocess.PIPE, stderr=subprocess.PIPE, restore_signals=False,
                              preexec_fn=lambda: resource.setrlimit(resource.RLIMIT_FSIZE, (limit, limit)))
         whole = content(kept)[:content(kept).rfind(b"\n") + 1]
-        good = (ran.returncode, ran.stderr) == (3, b"write fault\n") and len(content(kept)) == limit
+        good = (ran.returncode, ran.stderr) == (3, fault(kept, "File too large")) and len(content(kept)) == limit
         yield f"a disk that is full after {limit} bytes", good and text_of([FIRST_LINE, *WAVE * 100]).startswith(whole)
         yield "answers nothing that it hasn't kept", ran.stdout.count(b"\n") <= max(whole.count(b"\n") - 1, 0)
         entries = max(whole.count(b"\n") - 1, 0)
@@ -181,9 +186,10 @@ def streams(program, folder):
     fresh, whole = text_of([FIRST_LINE]), text_of([FIRST_LINE, *WAVE])
     told = b"applied\n" * 8 + b"complete 1\n"
     session = '"$program" session t.toml --history day'
+    closed = fault("standard output", "Bad file descriptor")
     for name, before, command, wanted, after in [
-        ("output closed", None, f"{session} <in >&-", (b"", 3, b"write fault\n"), whole),
-        ("output closed, goes on", whole, f"{session} <in >&-", (b"", 3, b"write fault\n"), whole),
+        ("output closed", None, f"{session} <in >&-", (b"", 3, closed), whole),
+        ("output closed, goes on", whole, f"{session} <in >&-", (b"", 3, closed), whole),
         ("input closed", None, f"{session} <&-", (b"", 3, b"read fault\n"), fresh),
         ("input closed, goes on", whole, f"{session} <&-", (b"resumed 9 entries 1 reports\n", 3, b"read fault\n"), whole),
         ("errors closed", None, f"{session} <in 2>&-", (told, 0, b""), whole),

@@ -418,7 +418,9 @@ for words in --help "replay $files" "check $files" "plan $files" "verify $exampl
   timeout 60 "$program" $words >/dev/full 2>stderr
   status=$?
   : >stdout
-  judge "$words, no room for the output" 3 wrote '' $'write fault\n'
+  reason=
+  [[ $words == plan* ]] && reason=$'reset-service: standard output: No space left on device\n'
+  judge "$words, no room for the output" 3 wrote '' $'write fault\n'"$reason"
 done
 
 # ---- files

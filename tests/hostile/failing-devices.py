@@ -19,6 +19,9 @@ LONGEST = 60  # seconds
 READ_FAULT = (b"", 3, b"read fault\n")
 WAYS = [("read", "EIO"), ("read", "EINTR"), ("read", "one"), ("read", "ones"),
         ("write", "EIO"), ("write", "EINTR"), ("write", "zero"), ("write", "one"), ("write", "ones")]
+# the subcommands that say in any case why a write failed, and what the system says of one that did
+ALWAYS = ("plan", "explore", "page")
+REASONS = {"EIO": b"Input/output error", "EINTR": b"Interrupted system call"}
 ALONE = b"reset-history 3 4294967296\nrequest 7\nopen 7\nfinish 7\n"
 
 
@@ -124,14 +127,20 @@ def parts_in(room):
 
 # ---- each call in turn
 
-def wrong_of(answer, whole, call, how):
+def write_fault(words, reason):
+    """What standard error says where no answers can be written for this reason, or for none of the system's."""
+    is_said = words and words[0] in ALWAYS and reason
+    return b"write fault\n" + (b"reset-service: standard output: %s\n" % reason if is_said else b"")
+
+
+def wrong_of(answer, whole, words, call, how):
     """What is wrong with an answer, where this is the one without a fault."""
     if how in ("one", "ones"):
         good = answer == whole
     elif call == "read":
         good = answer == READ_FAULT
     else:
-        good = answer[1:] == (3, b"write fault\n") and whole[0].startswith(answer[0]) and answer[0] != whole[0]
+        good = answer[1:] == (3, write_fault(words, REASONS.get(how))) and whole[0].startswith(answer[0]) and answer[0] != whole[0]
     return None if good else f"status {answer[1]}, {answer[0][-200:]!r}, {answer[2][-200:]!r}"
 
 
@@ -145,7 +154,7 @@ def tried(job):
         for at in range(1, count + 2):
             answer, calls, later = program.run(words, given, call, how, at)
             made += 1
-            fault = wrong_of(answer, whole, call, how) if at <= count else None if answer == whole else str(answer)
+            fault = wrong_of(answer, whole, words, call, how) if at <= count else None if answer == whole else str(answer)
             if fault or later:
                 wrong.append(f"{title}, {call} {at} of {count}, {how}: {fault}, {later} writes after it")
             wrong += [f"{title}, {call} {at} of {count}, {how}: {it} is left" for it in parts_in(room)]
@@ -185,9 +194,10 @@ def by_themselves(program):
         yield f"endless {title}", command, (line, 2, said)
     for title, words, given in RUNS:
         command = f'"$program" {" ".join(words)} <{given or "/dev/null"}'
-        yield f"{title}, a full device", f"{command} >/dev/full", fault
-        yield f"{title}, output closed", f"{command} >&-", fault
-        yield f"{title}, a pipe that nobody reads", f"{command} >&$pipe", fault
+        for name, output, reason in [("a full device", "/dev/full", b"No space left on device"),
+                                     ("output closed", "&-", b"Bad file descriptor"),
+                                     ("a pipe that nobody reads", "&$pipe", b"Broken pipe")]:
+            yield f"{title}, {name}", f"{command} >{output}", (b"", 3, write_fault(words, reason))
         if given:
             yield f"{title}, input closed", f'"$program" {" ".join(words)} <&-', READ_FAULT
             yield f"{title}, input that can't be read", f'"$program" {" ".join(words)} 0>written', READ_FAULT

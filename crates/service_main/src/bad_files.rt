@@ -5,16 +5,16 @@ ghost use Rattle.std.specs.Prelude.{◌≡◌, ◌⊎◌, Err};
 use crate::beginnings::{Beginning, beginning_of};
 use crate::files::{open_file, read_file, read_snapshot};
 use crate::kept_file::open_kept;
-use crate::places::{end_of_links, folder_of, history_fault};
+use crate::places::history_fault;
 use crate::run_explore::is_known;
 use crate::streams::Streams;
+use crate::write_errors::{Target, WriteErrors};
 use action_tables::WriteFault;
 use diagnoses::{
     Source, put_history_fault, put_said, put_script_fault, put_snapshot_fault, put_topology_fault,
 };
 use reset_service::{Job, RunStop, Status};
 use std::alloc::Global;
-use std::fs::OpenOptions;
 use std::io::Read;
 use std::rt::Files;
 use std::{fs, io};
@@ -129,6 +129,7 @@ pub fn say_why<R: Files + AllocGlobal>(
     streams: Streams,
     job: Job<'_>,
     ended: Result<Status, RunStop>,
+    errors: &WriteErrors,
     said: &mut Vec<u8>,
 ) -> Result<Status, RunStop>
     ensures { (result ≡ ended) ⊎ (result ≡ Err RunStop.NoMemory) }
@@ -136,7 +137,7 @@ pub fn say_why<R: Files + AllocGlobal>(
     let told = match ended {
         Ok(Status::BadInput) => put_bad_input(rt, streams, job, said),
         Err(RunStop::ReadFailed) => put_unread(rt, job, said),
-        Err(RunStop::WriteFailed) => put_unwritten(rt, job, said),
+        Err(RunStop::WriteFailed) => put_unwritten(rt.alloc(), job, errors, said),
         _ => return ended,
     };
     match told {
@@ -185,44 +186,23 @@ fn put_unread<R: Files + AllocGlobal>(
     Ok(())
 }
 
-// Writes why the file of a history can't be opened for it, if that is so: a disk that is full isn't told by a path.
-fn put_unwritten<R: Files + AllocGlobal>(
-    rt: &R,
+// Writes what couldn't be written to, and why, where the system said why.
+fn put_unwritten(
+    alloc: Global,
     job: Job<'_>,
+    errors: &WriteErrors,
     said: &mut Vec<u8>,
 ) -> Result<(), RunStop> {
-    let written = inputs_of(job).and_then(|inputs| inputs.written);
-    let Some(path) = written else {
+    let Some(failed) = errors.first() else {
         return Ok(());
     };
-    match fault_of_place(rt, path) {
-        Some(error) => put_error(rt.alloc(), path, error, said),
-        None => Ok(()),
-    }
-}
-
-// Why a path can't be written to, if its links, what is there or its folder tell that.
-fn fault_of_place<R: Files + AllocGlobal>(rt: &R, path: &str) -> Option<io::Error> {
-    match fs::metadata(rt, path) {
-        Ok(found) if found.is_file() || found.is_dir() => {}
-        Ok(_) => return None,
-        Err(error) if error.kind() == io::ErrorKind::NotFound => return fault_of_folder(rt, path),
-        Err(error) => return Some(error),
-    }
-    let mut options = OpenOptions::new();
-    options.write(true);
-    options.open(rt, path).err()
-}
-
-// Why nothing can be in the folder that a path leads to, over any links, if so.
-fn fault_of_folder<R: Files + AllocGlobal>(rt: &R, path: &str) -> Option<io::Error> {
-    let place = match end_of_links(rt, path) {
-        Ok(place) => place,
-        Err(error) => return Some(error),
+    let name = match failed.target {
+        Target::Output => Some("standard output"),
+        Target::History => inputs_of(job).and_then(|inputs| inputs.written),
     };
-    match folder_of(rt, place.as_str()) {
-        Ok(folder) => fs::metadata(rt, folder.as_str()).err(),
-        Err(error) => Some(error),
+    match name {
+        Some(name) => put_error(alloc, name, failed.error, said),
+        None => Ok(()),
     }
 }
 
@@ -381,7 +361,8 @@ fn put_bad_kept<R: Files + AllocGlobal>(
     name: &str,
     said: &mut Vec<u8>,
 ) -> Result<bool, RunStop> {
-    let log = open_kept(rt, name, false, streams.errors)?;
+    let errors = WriteErrors::new();
+    let log = open_kept(rt, name, false, streams.errors, &errors)?;
     if beginning_of(rt, topology.text, name, &log)? == Beginning::Older {
         put_said(said, name, OLDER)?;
         return Ok(true);

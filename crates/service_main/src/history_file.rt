@@ -5,6 +5,7 @@ ghost use Rattle.script_replay.specs.Stops.{IsOutputStop};
 
 use crate::places::{end_of_links, names, open_folder, sync_folder};
 use crate::streams::{HeldDescriptors, hold_descriptors};
+use crate::write_errors::{Target, WatchedWriter, WriteErrors};
 use reset_service::{RunStop, Status};
 use std::fs::{File, Metadata, OpenFile, OpenOptions, Permissions};
 use std::io::Write;
@@ -14,14 +15,14 @@ use std::{fs, io};
 
 /// The file of a history.
 #[derive(Drop)]
-pub struct HistoryFile<R: Files> {
+pub struct HistoryFile<'a, R: Files> {
     place: PathBuf,
     // The path of the file beside it, or None where the history is written to what is at the place.
     part: Option<String>,
     // The folder of both, if it can be opened. At the end no memory may be wanted for it, as the answers are whole then.
     folder: Option<R::File>,
     /// What the history is written to.
-    pub file: R::File,
+    pub file: WatchedWriter<'a, R::File>,
     // So the file has no descriptor of a standard stream.
     held: HeldDescriptors<R::File>,
 }
@@ -29,34 +30,36 @@ pub struct HistoryFile<R: Files> {
 /// Opens a file for a history. Where a regular file or nothing is where the path leads, over any links, that is a
 /// file `PLACE.part` beside it, which must not be there yet, so that no file is written over. A device or a pipe is written to
 /// itself, and so is a file that has no path.
-pub fn create_history<R: Files + Eprint + AllocGlobal>(
+pub fn create_history<'a, R: Files + Eprint + AllocGlobal>(
     rt: &R,
     path: &str,
-) -> Result<HistoryFile<R>, RunStop>
+    errors: &'a WriteErrors,
+) -> Result<HistoryFile<'a, R>, RunStop>
     ensures { IfErr result IsOutputStop }
 {
-    let held = hold_descriptors(rt)?;
+    let held = hold_descriptors(rt, errors)?;
     let place = match end_of_links(rt, path) {
         Ok(place) => place,
-        Err(error) => return Err(write_stop(error)),
+        Err(error) => return Err(errors.stop_of(error)),
     };
     match fs::metadata(rt, path) {
         Ok(there) if there.is_file() && names(rt, place.as_str(), &there) => {
-            create_beside(rt, held, place, Some(there))
+            create_beside(rt, held, place, Some(there), errors)
         }
         Err(error) if error.kind() == io::ErrorKind::NotFound && !path.is_empty() => {
-            create_beside(rt, held, place, None)
+            create_beside(rt, held, place, None, errors)
         }
-        _ => create_directly(rt, held, path),
+        _ => create_directly(rt, held, path, errors),
     }
 }
 
 // Opens what is at the path itself.
-fn create_directly<R: Files + AllocGlobal>(
+fn create_directly<'a, R: Files + AllocGlobal>(
     rt: &R,
     held: HeldDescriptors<R::File>,
     path: &str,
-) -> Result<HistoryFile<R>, RunStop>
+    errors: &'a WriteErrors,
+) -> Result<HistoryFile<'a, R>, RunStop>
     ensures { IfErr result IsOutputStop }
 {
     let place = PathBuf::from_str(rt.alloc(), path)?;
@@ -65,36 +68,37 @@ fn create_directly<R: Files + AllocGlobal>(
             place,
             part: None,
             folder: None,
-            file,
+            file: WatchedWriter::new(Target::History, errors, file),
             held,
         }),
-        Err(error) => Err(write_stop(error)),
+        Err(error) => Err(errors.stop_of(error)),
     }
 }
 
 // Opens the file beside a place at which this file is, if one is. The new one gets its permissions.
-fn create_beside<R: Files + Eprint + AllocGlobal>(
+fn create_beside<'a, R: Files + Eprint + AllocGlobal>(
     rt: &R,
     held: HeldDescriptors<R::File>,
     place: PathBuf,
     there: Option<Metadata>,
-) -> Result<HistoryFile<R>, RunStop>
+    errors: &'a WriteErrors,
+) -> Result<HistoryFile<'a, R>, RunStop>
     ensures { IfErr result IsOutputStop }
 {
     if there.is_some() {
-        see_that_it_opens(rt, place.as_str())?;
+        see_that_it_opens(rt, place.as_str(), errors)?;
     }
     let part = format!(in rt.alloc(); "{}.part", place.as_str())?;
     let folder = match open_folder(rt, place.as_str()) {
         Ok(folder) => folder,
-        Err(error) => return Err(write_stop(error)),
+        Err(error) => return Err(errors.stop_of(error)),
     };
-    let file = create_part(rt, &part)?;
+    let file = create_part(rt, &part, errors)?;
     let history = HistoryFile {
         place,
         part: Some(part),
         folder,
-        file,
+        file: WatchedWriter::new(Target::History, errors, file),
         held,
     };
     match there {
@@ -104,44 +108,51 @@ fn create_beside<R: Files + Eprint + AllocGlobal>(
 }
 
 // A file that can't be written to can't be replaced either.
-fn see_that_it_opens<R: Files>(rt: &R, path: &str) -> Result<(), RunStop>
+fn see_that_it_opens<R: Files>(rt: &R, path: &str, errors: &WriteErrors) -> Result<(), RunStop>
     ensures { IfErr result IsOutputStop }
 {
     let mut options = OpenOptions::new();
     options.write(true);
     match options.open(rt, path) {
         Ok(_) => Ok(()),
-        Err(error) => Err(write_stop(error)),
+        Err(error) => Err(errors.stop_of(error)),
     }
 }
 
-// Creates the file of this path, which must not be there.
-fn create_part<R: Files + Eprint>(rt: &R, part: &str) -> Result<R::File, RunStop>
+// Creates the file of this path, which must not be there: if it is, that is said, and no other reason.
+fn create_part<R: Files + Eprint>(
+    rt: &R,
+    part: &str,
+    errors: &WriteErrors,
+) -> Result<R::File, RunStop>
     ensures { IfErr result IsOutputStop }
 {
     match File::create_new(rt, part) {
         Ok(file) => Ok(file),
-        Err(error) => {
-            if error.kind() == io::ErrorKind::AlreadyExists {
-                let _ = eprintln!(rt;
-                    "{part} is there: a run is writing it, or was cut off and left it"
-                );
-            }
-            Err(write_stop(error))
+        Err(error) if error.kind() == io::ErrorKind::AlreadyExists => {
+            let _ = eprintln!(rt;
+                "{part} is there: a run is writing it, or was cut off and left it"
+            );
+            Err(RunStop::WriteFailed)
         }
+        Err(error) => Err(errors.stop_of(error)),
     }
 }
 
-impl<R: Files + AllocGlobal> HistoryFile<R> {
+impl<'a, R: Files + AllocGlobal> HistoryFile<'a, R> {
     // The file with these permissions.
-    fn with_permissions(self, rt: &R, permissions: Permissions) -> Result<HistoryFile<R>, RunStop>
+    fn with_permissions(
+        self,
+        rt: &R,
+        permissions: Permissions,
+    ) -> Result<HistoryFile<'a, R>, RunStop>
         ensures { IfErr result IsOutputStop }
     {
-        match self.file.set_permissions(permissions) {
+        match self.file.out.set_permissions(permissions) {
             Ok(()) => Ok(self),
             Err(error) => {
                 discard(rt, &self.part);
-                Err(write_stop(error))
+                Err(self.file.errors.stop_of(error))
             }
         }
     }
@@ -164,8 +175,9 @@ impl<R: Files + AllocGlobal> HistoryFile<R> {
             file,
             held,
         } = self;
+        let errors = file.errors;
         let left = match ended {
-            Ok(_) => is_left(&file, &part),
+            Ok(_) => is_left(&file.out, &part),
             Err(_) => Ok(false),
         };
         drop(file);
@@ -181,7 +193,7 @@ impl<R: Files + AllocGlobal> HistoryFile<R> {
             Ok(false) => discard(rt, &part),
             Err(error) => {
                 discard(rt, &part);
-                return Err(write_stop(error));
+                return Err(errors.stop_of(error));
             }
         }
         ended
@@ -221,13 +233,4 @@ fn is_left<F: OpenFile>(file: &F, part: &Option<String>) -> io::Result<bool> {
         file.sync_data()?;
     }
     Ok(has_bytes)
-}
-
-fn write_stop(error: io::Error) -> RunStop
-    ensures { IsOutputStop result }
-{
-    match error.kind() {
-        io::ErrorKind::OutOfMemory => RunStop::NoMemory,
-        _ => RunStop::WriteFailed,
-    }
 }

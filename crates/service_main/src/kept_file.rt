@@ -3,6 +3,7 @@
 ghost use Rattle.std.specs.Prelude.{◌<◌, ◌≤◌, IfOk, IfSome, length};
 
 use crate::places::{end_of_links, open_folder, sync_folder};
+use crate::write_errors::{Target, WriteErrors};
 use action_tables::put_bytes;
 use reset_service::RunStop;
 use std::fs::{OpenFile, OpenOptions};
@@ -37,6 +38,8 @@ pub struct KeptFile<'a, R: Files + AllocGlobal> {
     syncs: bool,
     // Where it is said that something was cut off.
     errors: Stderr,
+    // Where it is kept why a write failed.
+    failed: &'a WriteErrors,
 }
 
 // How many bytes the whole lines of a file have, and how many stand after them.
@@ -69,10 +72,11 @@ impl<'a, R: Files + AllocGlobal> KeptFile<'a, R> {
         self.is_placed = true;
         Ok(())
     }
-}
 
-impl<R: Files + AllocGlobal> Write for KeptFile<'_, R> {
-    fn write(&mut self, buf: &[u8]) -> io::Result<usize> {
+    // Writes after what was written so far.
+    fn append(&mut self, buf: &[u8]) -> io::Result<usize>
+        ensures { WritesAtMost result buf.now }
+    {
         if !self.is_placed {
             self.place()?;
         }
@@ -87,13 +91,36 @@ impl<R: Files + AllocGlobal> Write for KeptFile<'_, R> {
         Ok(count)
     }
 
-    fn flush(&mut self) -> io::Result<()> {
+    // Makes safe on the disk what was written so far, where that is wanted.
+    fn sync(&mut self) -> io::Result<()> {
         if !self.is_placed {
             self.place()?;
         }
         match &self.file {
             Some(file) if self.syncs => file.sync_data(),
             _ => Ok(()),
+        }
+    }
+}
+
+impl<R: Files + AllocGlobal> Write for KeptFile<'_, R> {
+    fn write(&mut self, buf: &[u8]) -> io::Result<usize> {
+        match self.append(buf) {
+            Ok(count) => Ok(count),
+            Err(error) => {
+                self.failed.keep(Target::History, error);
+                Err(error)
+            }
+        }
+    }
+
+    fn flush(&mut self) -> io::Result<()> {
+        match self.sync() {
+            Ok(()) => Ok(()),
+            Err(error) => {
+                self.failed.keep(Target::History, error);
+                Err(error)
+            }
         }
     }
 }
@@ -152,6 +179,7 @@ pub fn open_kept<'a, R: Files + AllocGlobal>(
     path: &'a str,
     syncs: bool,
     errors: Stderr,
+    failed: &'a WriteErrors,
 ) -> Result<KeptFile<'a, R>, RunStop> {
     // A pipe that is opened for reading too would be its own reader, and what nobody reads would be taken for kept.
     let is_read = match fs::metadata(rt, path) {
@@ -167,8 +195,7 @@ pub fn open_kept<'a, R: Files + AllocGlobal>(
             ends: Ends { whole: 0, torn: 0 },
             is_regular: true,
         },
-        Err(error) if error.kind() == ErrorKind::OutOfMemory => return Err(RunStop::NoMemory),
-        Err(_) => return Err(RunStop::WriteFailed),
+        Err(error) => return Err(failed.stop_of(error)),
     };
     let length = found.length();
     Ok(KeptFile {
@@ -180,6 +207,7 @@ pub fn open_kept<'a, R: Files + AllocGlobal>(
         is_placed: !found.is_regular,
         syncs: syncs && found.is_regular,
         errors,
+        failed,
     })
 }
 

@@ -5,6 +5,7 @@ use crate::files::{open_file, read_file, read_snapshot};
 use crate::kept_file::{KeptFile, open_kept};
 use crate::places::{history_fault, refuse_history};
 use crate::streams::{HintedInput, Streams, hold_descriptors};
+use crate::write_errors::WriteErrors;
 use reset_service::{Past, RunStop, SessionWords, Status, session_text};
 use std::io;
 use std::io::{Read, Write};
@@ -18,6 +19,7 @@ pub fn run_session<R: Files + Input + Eprint + AllocGlobal, W: Write>(
     rt: &R,
     streams: Streams,
     words: SessionWords<'_>,
+    errors: &WriteErrors,
     out: &mut W,
 ) -> Result<Status, RunStop> {
     let topology = read_file(rt, words.topology)?;
@@ -30,8 +32,8 @@ pub fn run_session<R: Files + Input + Eprint + AllocGlobal, W: Write>(
     if let Some(fault) = history_fault(rt, path, &inputs) {
         return Ok(refuse_history(rt, fault));
     }
-    let held = hold_descriptors(rt)?;
-    let mut log = open_kept(rt, path, words.sync, streams.errors)?;
+    let held = hold_descriptors(rt, errors)?;
+    let mut log = open_kept(rt, path, words.sync, streams.errors, errors)?;
     let ended = keep_session(
         rt,
         &topology,

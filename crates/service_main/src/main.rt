@@ -20,6 +20,7 @@ mod run_threads;
 mod status;
 mod streams;
 mod verbose;
+mod write_errors;
 
 use crate::bad_files::{say_all_down, say_why};
 use crate::counts::say_counts;
@@ -33,6 +34,7 @@ use crate::run_threads::run_threads;
 use crate::status::exit_code;
 use crate::streams::Streams;
 use crate::verbose::{is_set, says_always, without_flags};
+use crate::write_errors::{Target, WatchedWriter, WriteErrors};
 use action_tables::put_bytes;
 use progress::Progress;
 use reset_service::{
@@ -100,7 +102,8 @@ fn run<R: Clock + Env + Files + Input + Print + Eprint + AllocGlobal + Threads +
     match read_words(rt.alloc(), words.as_slice()) {
         Ok(job) => {
             let mut tally = Tally::new();
-            let ended = do_job(rt, streams, job, given.has_progress, &mut tally);
+            let errors = WriteErrors::new();
+            let ended = do_job(rt, streams, job, given.has_progress, &mut tally, &errors);
             let is_run = matches!(ended, Ok(Status::Good | Status::FaultsFound));
             if is_run && say_all_down(rt, job, said).is_err() {
                 said.clear();
@@ -109,7 +112,7 @@ fn run<R: Clock + Env + Files + Input + Print + Eprint + AllocGlobal + Threads +
                 let _ = say_counts(job, tally, said);
             }
             if is_verbose || says_always(job) {
-                return say_why(rt, streams, job, ended, said);
+                return say_why(rt, streams, job, ended, &errors, said);
             }
             ended
         }
@@ -152,11 +155,13 @@ fn do_job<R: Clock + Files + Input + Print + Eprint + AllocGlobal + Threads + Wa
     job: Job<'_>,
     has_progress: bool,
     tally: &mut Tally,
+    errors: &WriteErrors,
 ) -> Result<Status, RunStop> {
     let progress = Progress::new();
     let line = ProgressLine::new(streams.errors, has_progress);
     let above = line.as_ref().filter(|line| line.is_on_terminal);
     let writer = BelowLine::new(rt, above, io::writer(rt));
+    let writer = WatchedWriter::new(Target::Output, errors, writer);
     let mut out = BufferedOutput::new(rt.alloc(), writer)?;
     let ended = match (long_name(&job), &line) {
         (Some(name), Some(line)) => {
@@ -168,10 +173,10 @@ fn do_job<R: Clock + Files + Input + Print + Eprint + AllocGlobal + Threads + Wa
             line.during(
                 rt,
                 work,
-                || job_output(rt, streams, job, &progress, tally, &mut out),
+                || job_output(rt, streams, job, &progress, tally, errors, &mut out),
             )
         }
-        _ => job_output(rt, streams, job, &progress, tally, &mut out),
+        _ => job_output(rt, streams, job, &progress, tally, errors, &mut out),
     };
     out.end(ended)
 }
@@ -194,6 +199,7 @@ fn job_output<R: Files + Input + Eprint + AllocGlobal + Threads + Wait + Sync, W
     job: Job<'_>,
     progress: &Progress,
     tally: &mut Tally,
+    errors: &WriteErrors,
     out: &mut W,
 ) -> Result<Status, RunStop> {
     match job {
@@ -201,14 +207,14 @@ fn job_output<R: Files + Input + Eprint + AllocGlobal + Threads + Wait + Sync, W
         Job::Replay(words) => run_replay(rt, streams, words, tally, out),
         Job::Check(words) => run_check(rt, words, out),
         Job::Plan(words) => run_plan(rt, words, out),
-        Job::Explore(words) => run_explore(rt, words, progress, out),
-        Job::Session(words) => run_session(rt, streams, words, out),
+        Job::Explore(words) => run_explore(rt, words, progress, errors, out),
+        Job::Session(words) => run_session(rt, streams, words, errors, out),
         Job::Verify(words) => run_verify(rt, words, out),
         Job::Picture(words) => run_picture(rt, words, out),
         Job::Page(words) => run_page(rt, words, out),
-        Job::Record(words) => run_record(rt, words, out),
-        Job::Threads(words) => run_threads(rt, words, out),
-        Job::Drive(words) => run_drive(rt, words, progress, out),
+        Job::Record(words) => run_record(rt, words, errors, out),
+        Job::Threads(words) => run_threads(rt, words, errors, out),
+        Job::Drive(words) => run_drive(rt, words, progress, errors, out),
         Job::Shape(words) => put_shape(rt, words, out),
         Job::Explain(Some(word)) => explain(word, out),
         Job::Explain(None) => explain_topics(out),
@@ -367,6 +373,7 @@ fn run_page<R: Files + AllocGlobal, W: Write>(
 fn run_record<R: Files + Eprint + AllocGlobal, W: Write>(
     rt: &R,
     words: RecordWords<'_>,
+    errors: &WriteErrors,
     out: &mut W,
 ) -> Result<Status, RunStop> {
     let inputs = [Some(words.topology), Some(words.script), words.from];
@@ -376,7 +383,7 @@ fn run_record<R: Files + Eprint + AllocGlobal, W: Write>(
     let topology = read_file(rt, words.topology)?;
     let snapshot = read_snapshot(rt, words.from)?;
     let mut script = open_file(rt, words.script)?;
-    let mut kept = create_history(rt, words.history)?;
+    let mut kept = create_history(rt, words.history, errors)?;
     let history = &mut kept.file;
     let ended = match snapshot {
         None => record_text(rt.alloc(), &topology, &mut script, history, out),
@@ -389,6 +396,7 @@ fn run_drive<R: Files + Eprint + AllocGlobal, W: Write>(
     rt: &R,
     words: DriveWords<'_>,
     progress: &Progress,
+    errors: &WriteErrors,
     out: &mut W,
 ) -> Result<Status, RunStop> {
     if let Some(fault) = history_fault(rt, words.history, &[Some(words.topology), words.from]) {
@@ -396,7 +404,7 @@ fn run_drive<R: Files + Eprint + AllocGlobal, W: Write>(
     }
     let topology = read_file(rt, words.topology)?;
     let snapshot = read_snapshot(rt, words.from)?;
-    let mut kept = create_history(rt, words.history)?;
+    let mut kept = create_history(rt, words.history, errors)?;
     let history = &mut kept.file;
     let run = Drive {
         steps: words.steps,

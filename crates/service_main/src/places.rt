@@ -82,6 +82,8 @@ pub fn end_of_links<R: Files + AllocGlobal>(rt: &R, path: &str) -> io::Result<Pa
         place.pop();
         place.push(target.as_str())?;
     }
+    // the system says it in its own words
+    fs::metadata(rt, path)?;
     Err(io::Error::from(io::ErrorKind::InvalidInput))
 }
 

@@ -3,6 +3,7 @@
 use crate::files::{open_file, read_file, read_snapshot};
 use crate::history_file::create_history;
 use crate::places::{history_fault, refuse_history};
+use crate::write_errors::WriteErrors;
 use progress::Progress;
 use reset_service::{
     ExploreWords, Exploring, RunStop, Status, Target, explore_history, explore_text,
@@ -24,6 +25,7 @@ pub fn run_explore<R: Files + Eprint + AllocGlobal, W: Write>(
     rt: &R,
     words: ExploreWords<'_>,
     progress: &Progress,
+    errors: &WriteErrors,
     out: &mut W,
 ) -> Result<Status, RunStop> {
     let Some(run) = exploring_by(words) else {
@@ -51,6 +53,7 @@ pub fn run_explore<R: Files + Eprint + AllocGlobal, W: Write>(
                 snapshot,
                 &mut script,
                 progress,
+                errors,
                 out,
             )
         }
@@ -64,6 +67,7 @@ pub fn run_explore<R: Files + Eprint + AllocGlobal, W: Write>(
                 snapshot,
                 &mut script,
                 progress,
+                errors,
                 out,
             )
         }
@@ -98,12 +102,13 @@ fn put_explored<R: Files + Eprint + AllocGlobal, S: Read, W: Write>(
     snapshot: Option<&[u8]>,
     script: &mut S,
     progress: &Progress,
+    errors: &WriteErrors,
     out: &mut W,
 ) -> Result<Status, RunStop> {
     let Some(path) = history else {
         return explore_text(rt.alloc(), topology, snapshot, script, run, progress, out);
     };
-    let mut kept = create_history(rt, path)?;
+    let mut kept = create_history(rt, path, errors)?;
     let history = &mut kept.file;
     let ended = explore_history(
         rt.alloc(),

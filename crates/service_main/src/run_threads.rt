@@ -3,6 +3,7 @@
 use crate::files::{read_file, read_snapshot};
 use crate::history_file::create_history;
 use crate::places::{history_fault, refuse_history};
+use crate::write_errors::WriteErrors;
 use reset_service::{
     RunStop, Status, ThreadRun, ThreadWords, TurnLimit, threads_from, threads_run, threads_text,
 };
@@ -33,6 +34,7 @@ For more information, try '--help'.";
 pub fn run_threads<R: Files + Eprint + AllocGlobal + Threads + Wait + Sync, W: Write>(
     rt: &R,
     words: ThreadWords<'_>,
+    errors: &WriteErrors,
     out: &mut W,
 ) -> Result<Status, RunStop> {
     let limit = match limit_of(words) {
@@ -47,7 +49,7 @@ pub fn run_threads<R: Files + Eprint + AllocGlobal + Threads + Wait + Sync, W: W
         return Ok(refuse_words(rt, NEVER_QUIET));
     }
     let snapshot = read_snapshot(rt, words.from)?;
-    let mut kept = create_history(rt, words.history)?;
+    let mut kept = create_history(rt, words.history, errors)?;
     let snapshot = snapshot.as_deref();
     let ended = keep_run(rt, words, limit, &topology, snapshot, &mut kept.file, out);
     kept.end(rt, out, ended)

@@ -3,6 +3,7 @@
 ghost use Rattle.std.specs.Prelude.{IfErr};
 ghost use Rattle.script_replay.specs.Stops.{IsOutputStop};
 
+use crate::write_errors::WriteErrors;
 use action_tables::put_bytes;
 use reset_service::RunStop;
 use std::io::{IsTerminal, Read, Stderr, Stdin};
@@ -32,12 +33,15 @@ pub struct HeldDescriptors<F: Drop> {
 }
 
 /// Takes the descriptors of the standard streams that are closed.
-pub fn hold_descriptors<R: Files>(rt: &R) -> Result<HeldDescriptors<R::File>, RunStop>
+pub fn hold_descriptors<R: Files>(
+    rt: &R,
+    errors: &WriteErrors,
+) -> Result<HeldDescriptors<R::File>, RunStop>
     ensures { IfErr result IsOutputStop }
 {
-    let first = hold_one(rt)?;
-    let second = hold_one(rt)?;
-    let third = hold_one(rt)?;
+    let first = hold_one(rt, errors)?;
+    let second = hold_one(rt, errors)?;
+    let third = hold_one(rt, errors)?;
     Ok(HeldDescriptors {
         first,
         second,
@@ -45,13 +49,12 @@ pub fn hold_descriptors<R: Files>(rt: &R) -> Result<HeldDescriptors<R::File>, Ru
     })
 }
 
-fn hold_one<R: Files>(rt: &R) -> Result<R::File, RunStop>
+fn hold_one<R: Files>(rt: &R, errors: &WriteErrors) -> Result<R::File, RunStop>
     ensures { IfErr result IsOutputStop }
 {
     match fs::open(rt, "/") {
         Ok(folder) => Ok(folder),
-        Err(error) if error.kind() == io::ErrorKind::OutOfMemory => Err(RunStop::NoMemory),
-        Err(_) => Err(RunStop::WriteFailed),
+        Err(error) => Err(errors.stop_of(error)),
     }
 }
 
