@@ -1,5 +1,6 @@
 // The file in which a session keeps its history.
 
+ghost use Rattle.std.specs.Io.{WritesAtMost};
 ghost use Rattle.std.specs.Prelude.{◌<◌, ◌≤◌, IfOk, IfSome, length};
 
 use crate::places::{end_of_links, open_folder, sync_folder};
