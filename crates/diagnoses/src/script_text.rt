@@ -5,10 +5,7 @@ use crate::commands::{Sought, after_name, is_of_sessions, meant_command, usage_f
 use crate::misuse::{Misuse, misuse_of};
 use crate::said::{Source, put_end, put_head, put_line_number, put_said};
 use action_tables::{Part, cut, put_bytes, put_parts};
-use app_interface::Idle;
-use app_mutex::EdgeReversal;
-use app_routes::Routes;
-use app_token::Token;
+use applications::with_application;
 use history::MAX_LINE;
 use script_replay::{RunStop, read_network};
 use std::alloc::{AllocError, Global};
@@ -47,12 +44,7 @@ fn bad_line_in(
     app: AppName,
     script: &[u8],
 ) -> Result<Option<NumberedLine<'_>>, AllocError> {
-    match app {
-        AppName::Idle => first_bad_line::<Idle>(alloc, script),
-        AppName::Token => first_bad_line::<Token>(alloc, script),
-        AppName::Mutex => first_bad_line::<EdgeReversal>(alloc, script),
-        AppName::Routes => first_bad_line::<Routes>(alloc, script),
-    }
+    with_application!(app, P => first_bad_line::<P>(alloc, script))
 }
 
 fn put_bad_line<W: Write>(

@@ -5,16 +5,13 @@ ghost use Rattle.std.specs.Prelude.{◌≡◌};
 use crate::graph_faults::{put_of_link, put_of_node};
 use crate::said::{Source, put_end, put_head, put_line_number, put_said};
 use action_tables::{WriteFault, put_bytes};
-use app_interface::Idle;
 use app_invariants::Invariant;
-use app_mutex::EdgeReversal;
-use app_routes::Routes;
-use app_token::Token;
+use applications::with_application;
 use script_replay::{Network, RunStop, read_network};
 use snapshots::{MAX_SNAPSHOT, SnapshotFault, read_snapshot};
 use std::alloc::Global;
 use std::io::Write;
-use topology::{AppName, ReadFault};
+use topology::ReadFault;
 
 /// Writes what is wrong with a snapshot of a topology, and where; returns whether it wrote. Of a bad topology nothing is
 /// said here.
@@ -68,12 +65,7 @@ fn put_bad_snapshot<W: Write>(
 fn fault_of(alloc: Global, network: &Network, text: &[u8]) -> Option<SnapshotFault>
     requires { network.now.topology.nodes ≡ network.now.topology.ids }
 {
-    match network.app {
-        AppName::Idle => fault_on::<Idle>(alloc, network, text),
-        AppName::Token => fault_on::<Token>(alloc, network, text),
-        AppName::Mutex => fault_on::<EdgeReversal>(alloc, network, text),
-        AppName::Routes => fault_on::<Routes>(alloc, network, text),
-    }
+    with_application!(network.app, P => fault_on::<P>(alloc, network, text))
 }
 
 fn fault_on<P: Invariant>(alloc: Global, network: &Network, text: &[u8]) -> Option<SnapshotFault>

@@ -16,9 +16,9 @@ use Rattle.reset_model.specs.EventText.{event_line}
 use Rattle.reset_model.specs.declared.event.Event.{Event}
 use Rattle.reset_model.specs.declared.event.Event.TheVariants.{Claim, Follow, Adopt, Request, Relay, Open, Join, Finish}
 use Rattle.reset_model.specs.declared.event.Event.TheVariants.{Mend, Act}
+use Rattle.applications.specs.Meaning.{Meaning}
 use Rattle.history.specs.HistoryText.{ended, entries_text, entry_line}
 use Rattle.history.specs.declared.entry.Entry.{Entry}
-use Rattle.script_replay.specs.Meaning.{Meaning}
 use Rattle.script_replay.specs.Script.{line_of}
 use Rattle.script_replay.specs.declared.script.Line.TheVariants.{Bad}
 use Rattle.live_session.specs.Course.{Course, Exchange, answers_text, config_after, course_of, entries_of, exchange}

@@ -4,8 +4,8 @@ use Rattle.std.proofs.Common.{append-nil, append_assoc, Option, Some, None}
 use Rattle.std.specs.Io.KnownBytes.{Appends}
 use Rattle.std.proofs.KnownBytes.{Appends-trans, Appends-kept}
 use Rattle.reset_model.specs.Configuration.{Configuration}
+use Rattle.applications.specs.Meaning.{Meaning}
 use Rattle.history.specs.declared.entry.Entry.{Entry}
-use Rattle.script_replay.specs.Meaning.{Meaning}
 use Rattle.script_replay.specs.Script.{line_of}
 use Rattle.live_session.specs.Course.{Course, Exchange, IsCutShort, answers_text, config_after, course, course_of}
 use Rattle.live_session.specs.Course.{exchange, is_exit, kept_lines, kept_text, led_by, rested, room_after}

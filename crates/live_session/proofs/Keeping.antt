@@ -4,10 +4,10 @@ use Rattle.std.proofs.Common.{Result, Ok, Err, IfOk, OnErr}
 use Rattle.std.specs.Io.KnownBytes.{Appends, Keeps}
 use Rattle.std.proofs.KnownBytes.{Appends-trans}
 use Rattle.reset_model.specs.Configuration.{Configuration}
+use Rattle.applications.specs.Meaning.{Meaning}
 use Rattle.history.specs.HistoryText.{IsReadWhole, ended, entries_text, first_line}
 use Rattle.history.specs.Reports.{reports_of}
 use Rattle.history.specs.declared.entry.Entry.{Entry}
-use Rattle.script_replay.specs.Meaning.{Meaning}
 use Rattle.live_session.specs.Course.{IsCutShort, IsDone, answers_text, course, entries_of}
 use Rattle.live_session.specs.Kept.{HasBegun, HasGoneOn, HasResumed, IsCutAtBeginning, IsCutGoingOn, IsCutOnItsWay, IsPast}
 use Rattle.live_session.specs.Kept.{exchanges_of, resumed_text}

@@ -2,7 +2,7 @@
 use Rattle.std.proofs.Common.{◌≡◌, ℕ, Bool, true, false, ◌&&◌, if◌then◌else◌, List, [], ◌++◌, refl, sym, ap, ◌∙◌, subst, Option, unwrap_or}
 use Rattle.explanations.specs.Help.{helped}
 use Rattle.reset_model.specs.Configuration.{Configuration}
-use Rattle.script_replay.specs.Meaning.{Meaning}
+use Rattle.applications.specs.Meaning.{Meaning}
 use Rattle.script_replay.specs.Output.{answer_to, answered, bad_line_text}
 use Rattle.script_replay.specs.Recorded.{line_entries}
 use Rattle.script_replay.specs.Script.{line_of}

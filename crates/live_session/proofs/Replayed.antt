@@ -5,6 +5,7 @@ use Rattle.std.specs.List.{flat_map}
 use Rattle.std.specs.Option.{option_and_then}
 use Rattle.app_interface.specs.Application.{App}
 use Rattle.topology.specs.Graph.{IsNode, is_node}
+use Rattle.applications.specs.Meaning.{Meaning}
 use Rattle.fault_inject.specs.Effects.{injected}
 use Rattle.fault_inject.specs.declared.fault.Fault.{Fault}
 use Rattle.fault_inject.specs.declared.refusal.FaultRefusal.{FaultRefusal}
@@ -17,7 +18,6 @@ use Rattle.reset_model.specs.declared.event.Event.TheVariants.{Request}
 use Rattle.history.specs.Entries.{entered, left_by_fault, left_by_step, replayed}
 use Rattle.history.specs.declared.entry.Entry.{Entry}
 use Rattle.history.specs.declared.entry.Entry.TheVariants as entry
-use Rattle.script_replay.specs.Meaning.{Meaning}
 use Rattle.script_replay.specs.Output.{answer_to, answered, disturbed, drawn, stepped}
 use Rattle.script_replay.specs.Recorded.{event_entries, event_entry, fault_entry, line_entries}
 use Rattle.script_replay.specs.Script.{line_of}

@@ -6,10 +6,10 @@ use Rattle.std.proofs.KnownBytes.{Appends-nil}
 use Rattle.action_tables.specs.Cuts.{HasNo}
 use Rattle.reset_model.specs.EventText.{Fits, event_line}
 use Rattle.reset_model.specs.declared.event.Event.{Event}
+use Rattle.applications.specs.Meaning.{Meaning}
 use Rattle.history.specs.HistoryText.{ended}
 use Rattle.history.specs.declared.entry.Entry.{Entry}
 use Rattle.script_replay.specs.Lines.{lines_of}
-use Rattle.script_replay.specs.Meaning.{Meaning}
 use Rattle.script_replay.specs.Script.{line_of}
 use Rattle.script_replay.specs.declared.script.Command.TheVariants.{Step}
 use Rattle.script_replay.specs.declared.script.Line.TheVariants.{Asks}

@@ -3,12 +3,12 @@ use Rattle.std.proofs.Common.{◌≡◌, ℕ, ◌-◌, Bool, false, List, [], �
 use Rattle.std.proofs.Common.{append-nil, arith, Option, Some, None, Result, Ok, Err, IfOk, OnOk}
 use Rattle.std.specs.List.{flat_map}
 use Rattle.topology.specs.Graph.{IsNode}
+use Rattle.applications.specs.Meaning.{Meaning}
 use Rattle.history.specs.declared.entry.Entry.{Entry}
 use Rattle.link_predicates.specs.Faults.{alarm_of}
 use Rattle.link_predicates.specs.declared.fault.LinkFault.{LinkFault}
 use Rattle.reset_model.specs.Configuration.{Configuration}
 use Rattle.reset_model.specs.declared.event.Event.TheVariants.{Request}
-use Rattle.script_replay.specs.Meaning.{Meaning}
 use Rattle.script_replay.specs.Recorded.{event_entries, line_entries}
 use Rattle.script_replay.specs.declared.script.Command.TheVariants.{Watch}
 use Rattle.script_replay.specs.declared.script.Line.TheVariants.{Asks}

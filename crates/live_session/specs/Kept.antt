@@ -5,13 +5,13 @@ use Rattle.std.specs.List.{concat}
 use Rattle.std.specs.Io.KnownBytes.{Appends, Keeps}
 use Rattle.action_tables.specs.Written.{AppendsPrefix}
 use Rattle.reset_model.specs.Configuration.{Configuration}
+use Rattle.applications.specs.Meaning.{Meaning}
 use Rattle.history.specs.Entries.{replayed}
 use Rattle.history.specs.HistoryText.{IsReadAs, IsReadWhole, ended, entries_text, first_line, history_text}
 use Rattle.history.specs.Reports.{reports_of}
 use Rattle.history.specs.Verdict.{IsVerdict}
 use Rattle.history.specs.declared.entry.Entry.{Entry}
 use Rattle.history.specs.declared.verification.ReaderFault.{ReaderFault}
-use Rattle.script_replay.specs.Meaning.{Meaning}
 use Rattle.live_session.specs.declared.kept.ResumeStop.{ResumeStop}
 use Rattle.live_session.specs.declared.kept.ResumeStop.TheVariants.{Past, Run}
 use Rattle.live_session.specs.Course.{Exchange, IsCutShort, answers_text, course, entries_of}

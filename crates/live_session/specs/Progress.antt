@@ -5,10 +5,10 @@ use Rattle.action_tables.specs.Cuts.{HasNo}
 use Rattle.action_tables.specs.Written.{AppendsPrefix}
 use Rattle.reset_model.specs.Configuration.{Configuration}
 use Rattle.reset_model.specs.declared.event.Event.{Event}
+use Rattle.applications.specs.Meaning.{Meaning}
 use Rattle.history.specs.declared.entry.Entry.{Entry}
 use Rattle.history.specs.declared.entry.Entry.TheVariants as entry
 use Rattle.script_replay.specs.Lines.{lines_of}
-use Rattle.script_replay.specs.Meaning.{Meaning}
 use Rattle.script_replay.specs.Script.{line_of}
 use Rattle.script_replay.specs.declared.script.Line.{Line}
 use Rattle.live_session.specs.Course.{Course, Exchange, IsCutShort, IsDone}

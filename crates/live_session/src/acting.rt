@@ -3,10 +3,10 @@
 ghost use Rattle.std.specs.Prelude.{◌≡◌, ◌<◌, ◌++◌, ◌∷◌, [], false, IfOk, None, Ok, OnOk, Some};
 ghost use Rattle.reset_model.specs.EventText.{event_line};
 ghost use Rattle.reset_model.specs.Planned.{outcome_of};
+ghost use Rattle.applications.specs.Meaning.{meaning_of};
 ghost use Rattle.fault_inject.specs.Effects.{injected};
 ghost use Rattle.history.specs.HistoryText.{ended};
 ghost use Rattle.history.specs.declared.entry.Entry.TheVariants.{Step, Disturbed};
-ghost use Rattle.script_replay.specs.Meaning.{meaning_of};
 ghost use Rattle.script_replay.specs.Output.{answered, disturbed, drawn, drawn_text, stepped};
 ghost use Rattle.script_replay.specs.Recorded.{event_entry, fault_entry, line_entries};
 ghost use Rattle.script_replay.specs.declared.script.Command.TheVariants.{Watch};

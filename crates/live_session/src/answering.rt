@@ -2,8 +2,8 @@
 
 ghost use Rattle.std.specs.Prelude.{◌≡◌, ◌++◌, ℕ, List, IfOk, None, OnOk, Some};
 ghost use Rattle.reset_model.specs.EventText.{event_line};
+ghost use Rattle.applications.specs.Meaning.{meaning_of};
 ghost use Rattle.history.specs.HistoryText.{ended};
-ghost use Rattle.script_replay.specs.Meaning.{meaning_of};
 ghost use Rattle.script_replay.specs.Output.{answered};
 ghost use Rattle.script_replay.specs.Script.{line_of};
 ghost use Rattle.script_replay.specs.declared.script.Command.TheVariants.{Step};

@@ -3,7 +3,7 @@
 ghost use Rattle.std.specs.Prelude.{◌-◌, length, IfErr, IfOk, OnErr, OnOk};
 ghost use Rattle.std.specs.Io.KnownBytes.{Appends, Keeps};
 ghost use Rattle.action_tables.specs.Written.{AppendsPrefix};
-ghost use Rattle.script_replay.specs.Meaning.{meaning_of};
+ghost use Rattle.applications.specs.Meaning.{meaning_of};
 ghost use Rattle.live_session.specs.Kept.{HasBegun, HasResumed, IsCutAtBeginning};
 ghost use Rattle.history.specs.HistoryText.{ended, first_line};
 ghost use Rattle.live_session.specs.Kept.{HasGoneOn, IsCutGoingOn, IsStopped, resumed_text};

@@ -2,9 +2,9 @@
 
 ghost use Rattle.std.specs.Prelude.{◌≡◌, ◌++◌, ℕ, List, Option, Some};
 ghost use Rattle.reset_model.specs.Configuration.{Configuration};
+ghost use Rattle.applications.specs.Meaning.{meaning_of};
 ghost use Rattle.history.specs.Entries.{replayed};
 ghost use Rattle.history.specs.declared.entry.Entry.{Entry};
-ghost use Rattle.script_replay.specs.Meaning.{meaning_of};
 ghost use Rattle.live_session.specs.Course.{course, entries_of};
 
 use app_invariants::Invariant;

@@ -2,9 +2,9 @@
 
 ghost use Rattle.std.specs.Prelude.{◌≡◌, ◌+◌, ◌<◌, ◌≤◌, ◌^◌, ◌++◌, [], false, ℕ, List, length, IfOk, None, OnErr, OnOk};
 ghost use Rattle.std.specs.Prelude.{Some};
+ghost use Rattle.applications.specs.Meaning.{meaning_of};
 ghost use Rattle.history.specs.HistoryText.{IsReadWhole, ended};
 ghost use Rattle.script_replay.specs.Parts.{HasFitting, next_text};
-ghost use Rattle.script_replay.specs.Meaning.{meaning_of};
 ghost use Rattle.reset_model.specs.EventText.{Fits, event_line};
 ghost use Rattle.live_session.specs.Course.{IsCutShort, IsDone, course, is_exit};
 

@@ -3,6 +3,7 @@ use Rattle.std.proofs.Common.{◌≡◌, ◌≢◌, ℕ, zero, suc, ◌<◌, ◌
 use Rattle.std.proofs.Common.{Option, Ok, Err, Result, ap, arith, length, ltb-false, ltb-true, refl, subst, take}
 use Rattle.std.proofs.lemmas.List.{take_all}
 use Rattle.reset_model.specs.Configuration.{Configuration}
+use Rattle.applications.specs.Meaning.{Meaning}
 use Rattle.history.specs.Entries.{replayed}
 use Rattle.history.specs.Verdict.{IsJudgementOf, IsVerdict}
 use Rattle.history.specs.declared.text.BookFault.{BookFault}
@@ -12,7 +13,6 @@ use Rattle.history.specs.declared.verification.JudgeFault.TheVariants as judge
 use Rattle.history.specs.declared.verification.ReaderFault.TheVariants.{OtherModulus, Text}
 use Rattle.history.specs.declared.verification.Refused.{Refused}
 use Rattle.history.specs.declared.verification.Resumed.{Resumed}
-use Rattle.script_replay.specs.Meaning.{Meaning}
 use Rattle.script_replay.specs.Output.{snapshot_text}
 use Rattle.script_replay.specs.declared.status.Status.{Status}
 use Rattle.script_replay.specs.declared.status.Status.TheVariants.{BadInput, Good, NotEnabled}

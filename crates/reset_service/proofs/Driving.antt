@@ -4,10 +4,11 @@ use Rattle.std.proofs.Common.{subst₂}
 use Rattle.topology.specs.Graph.{Graph}
 use Rattle.topology.specs.TopologyText.{IsReadFault}
 use Rattle.topology.specs.declared.text.AppName.{AppName}
-use Rattle.topology.specs.declared.text.AppName.TheVariants.{Idle, Token, Mutex, Routes}
 use Rattle.topology.specs.declared.text.ReadFault.{ReadFault}
 use Rattle.reset_model.specs.Configuration.{Configuration}
 use Rattle.reset_model.proofs.OneBoot.{one_boot}
+use Rattle.applications.specs.Meaning.{Meaning}
+use Rattle.applications.proofs.Choosing.{agree, follows, some_for}
 use Rattle.history.specs.Book.{BookView, IsBook}
 use Rattle.history.specs.Entries.{replayed}
 use Rattle.history.specs.HistoryText.{IsReadAs, history_text}
@@ -16,7 +17,6 @@ use Rattle.scheduler.specs.Driven.{driven}
 use Rattle.scheduler.specs.Told.{IsTold}
 use Rattle.scheduler.specs.declared.history_text.DrivenHistory.{DrivenHistory}
 use Rattle.reset_service.specs.Drove.{IsDrove, IsDroveFrom, IsDroveOf, IsDroveText, drove_line, new_book}
-use Rattle.script_replay.specs.Meaning.{Meaning, idle_meaning, token_meaning, mutex_meaning, routes_meaning}
 use Rattle.script_replay.specs.Output.{Describes, IsJudged, bad_topology_text}
 use Rattle.script_replay.specs.Output.IsJudged.{bad_topology, good_topology}
 use Rattle.reset_service.specs.Threaded.{told_history, told_output}
@@ -97,10 +97,11 @@ module _ (steps seed faults : ℕ) where
   verified_of : (app : AppName) (g : Graph) (modulus : ℕ) (history line : List ℕ)
       → IsDroveOf steps seed faults app g modulus history (line, Good)
       → (written : List ℕ) × IsVerifiedOf app g modulus history (written, Good)
-  verified_of Idle = verified_from idle_meaning
-  verified_of Token = verified_from token_meaning
-  verified_of Mutex = verified_from mutex_meaning
-  verified_of Routes = verified_from routes_meaning
+  verified_of app g modulus history line is =
+      some_for (λ L m written. IsVerifiedFrom m g modulus history (written, Good)) app
+      (follows (λ L m. IsDroveFrom m steps seed faults g modulus history (line, Good))
+      (λ L m. (written : List ℕ) × IsVerifiedFrom m g modulus history (written, Good))
+      (λ L m. verified_from m g modulus history line) app is)
 
   pub drove_verified : (topology history line : List ℕ) → IsDroveText steps seed faults topology history (line, Good)
       → (written : List ℕ) × IsVerification topology history (written, Good)
@@ -137,10 +138,9 @@ module _ (steps seed faults : ℕ) where
   one_of : (app : AppName) (g : Graph) (modulus : ℕ) (h k : List ℕ) (o p : Output)
       → IsDroveOf steps seed faults app g modulus h o → IsDroveOf steps seed faults app g modulus k p
       → AreOne h k o p
-  one_of Idle = one_from idle_meaning
-  one_of Token = one_from token_meaning
-  one_of Mutex = one_from mutex_meaning
-  one_of Routes = one_from routes_meaning
+  one_of app g modulus h k o p =
+      agree (λ L m. IsDroveFrom m steps seed faults g modulus h o) (λ L m. IsDroveFrom m steps seed faults g modulus k p)
+      (AreOne h k o p) (λ L m. one_from m g modulus h k o p) app
 
   pub one_driven : (topology h k : List ℕ) (o p : Output) → IsDroveText steps seed faults topology h o
       → IsDroveText steps seed faults topology k p → AreOne h k o p

@@ -5,9 +5,9 @@ use Rattle.std.specs.Io.KnownBytes.{Appends, Keeps}
 use Rattle.std.proofs.KnownBytes.{Keeps-refl, Keeps-trans}
 use Rattle.topology.specs.Graph.{Graph}
 use Rattle.reset_model.specs.Configuration.{Configuration}
+use Rattle.applications.specs.Meaning.{Meaning}
 use Rattle.history.specs.HistoryText.{IsReadWhole}
 use Rattle.history.specs.declared.verification.ReaderFault.{ReaderFault}
-use Rattle.script_replay.specs.Meaning.{Meaning}
 use Rattle.script_replay.specs.Output.{HasPrefix, Leaves}
 use Rattle.script_replay.specs.declared.status.RunStop.{RunStop}
 use Rattle.script_replay.specs.declared.status.RunStop.TheVariants.{ReadFailed, WriteFailed, NoMemory, ThreadFailed, NotClosed}

@@ -7,14 +7,10 @@ use Rattle.std.proofs.lemmas.List.{length-append, length-map}
 use Rattle.std.proofs.lemmas.List.Elements.{All-contains, All-contains_itself, All-weaker}
 use Rattle.app_interface.specs.Application.{App}
 use Rattle.app_interface.specs.Invariant.{Keeps, StartsByComponent}
-use Rattle.app_mutex.specs.Turns.{HoldsTurns}
-use Rattle.app_routes.specs.Ways.{HasRoutes}
-use Rattle.app_token.specs.OneToken.{HasOneToken}
 use Rattle.topology.specs.Components.{component}
 use Rattle.topology.specs.Graph.{Graph, IsConnected, IsGraph, IsNode}
 use Rattle.topology.proofs.Components.{component_is, reached_itself}
 use Rattle.topology.specs.declared.text.AppName.{AppName}
-use Rattle.topology.specs.declared.text.AppName.TheVariants.{Idle, Token, Mutex, Routes}
 use Rattle.reset_model.specs.declared.event.Event.{Event}
 use Rattle.reset_model.specs.Configuration.{Configuration, IsShaped, local_of, value_at}
 use Rattle.reset_model.specs.BySteps.{IsBySteps}
@@ -22,6 +18,9 @@ use Rattle.reset_model.specs.Outcome.{IsBoot}
 use Rattle.reset_model.specs.Refinement.{abstract_of}
 use Rattle.reset_model.specs.Sound.{IsSound}
 use Rattle.reset_model.specs.SoundSteps.{HoldsAt}
+use Rattle.applications.specs.Choice.{ForInvariant}
+use Rattle.applications.specs.Meaning.{Meaning}
+use Rattle.applications.proofs.Choosing.{follows, invariant_follows, some_for}
 use Rattle.history.specs.Entries.{replayed}
 use Rattle.history.specs.HistoryText.{IsReadAs}
 use Rattle.history.specs.Reports.{reports_of}
@@ -29,7 +28,6 @@ use Rattle.history.specs.Stretches.{IsIn, IsReport, IsStretch, IsTrueReport, Str
 use Rattle.history.specs.declared.entry.Entry.{Entry}
 use Rattle.history.specs.declared.entry.Entry.TheVariants.{Step}
 use Rattle.history.specs.declared.entry.Report.{Report}
-use Rattle.script_replay.specs.Meaning.{Meaning, idle_meaning, token_meaning, mutex_meaning, routes_meaning}
 use Rattle.script_replay.specs.Output.{Describes, IsJudged}
 use Rattle.script_replay.specs.Output.IsJudged.{bad_topology, good_topology}
 use Rattle.reset_service.specs.Threaded.{IsKept, IsKeptFrom, IsKeptOf, IsThreaded, TellsRun, TellsRunOf}
@@ -187,10 +185,11 @@ verified_from m g modulus history line (c, boot, kept events few read some is) =
 verified_of : (app : AppName) (g : Graph) (modulus : ℕ) (history line : List ℕ)
     → IsKeptOf app g modulus history (line, Good)
     → (written : List ℕ) × IsVerifiedOf app g modulus history (written, Good)
-verified_of Idle = verified_from idle_meaning
-verified_of Token = verified_from token_meaning
-verified_of Mutex = verified_from mutex_meaning
-verified_of Routes = verified_from routes_meaning
+verified_of app g modulus history line is =
+    some_for (λ L m written. IsVerifiedFrom m g modulus history (written, Good)) app
+    (follows (λ L m. IsKeptFrom m g modulus history (line, Good))
+    (λ L m. (written : List ℕ) × IsVerifiedFrom m g modulus history (written, Good))
+    (λ L m. verified_from m g modulus history line) app is)
 
 pub threads_verified : (topology history line : List ℕ) → IsThreaded topology history (line, Good)
     → (written : List ℕ) × IsVerification topology history (written, Good)
@@ -211,14 +210,13 @@ Known m Inv =
     (g : Graph) (modulus : ℕ) (history line : List ℕ) → IsGraph g
     → IsKeptFrom m g modulus history (line, Good) → TellsRun m Inv g modulus history line
 
-module _ (idle : Known idle_meaning (λ g v. Unit {0})) (token : Known token_meaning HasOneToken)
-    (mutex : Known mutex_meaning HoldsTurns) (routes : Known routes_meaning HasRoutes) where
+module _ (known : (app : AppName) → ForInvariant (λ L m Inv. Known m Inv) app) where
   tells_of : (app : AppName) (g : Graph) → IsGraph g → (modulus : ℕ) (history line : List ℕ)
       → IsKeptOf app g modulus history (line, Good) → TellsRunOf app g modulus history line
-  tells_of Idle g graph modulus history line = idle g modulus history line graph
-  tells_of Token g graph modulus history line = token g modulus history line graph
-  tells_of Mutex g graph modulus history line = mutex g modulus history line graph
-  tells_of Routes g graph modulus history line = routes g modulus history line graph
+  tells_of app g graph modulus history line =
+      invariant_follows (λ L m Inv. Known m Inv) (λ L m Inv. TellsRun m Inv g modulus history line)
+      (λ L m. IsKeptFrom m g modulus history (line, Good))
+      (λ L m Inv knows kept. knows g modulus history line graph kept) app (known app)
 
   pub threads_run : (topology history line : List ℕ) → IsThreaded topology history (line, Good)
       → (g : Graph) × (app : AppName) × (modulus : ℕ) × Describes topology g app modulus

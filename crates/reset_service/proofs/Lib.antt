@@ -1,3 +1,4 @@
+pub mod ByName
 pub mod Driving
 pub mod Picturing
 pub mod Choosing

@@ -2,12 +2,12 @@
 use Rattle.std.proofs.Common.{◌≡◌, ◌≤◌, ℕ, List, length, refl}
 use Rattle.std.proofs.lemmas.Bool.{le-ltb}
 use Rattle.reset_model.specs.Configuration.{Configuration}
+use Rattle.applications.specs.Meaning.{Meaning}
 use Rattle.history.specs.declared.entry.Entry.{Entry}
 use Rattle.history_page.specs.Page.{data_text, page_text}
 use Rattle.history_page.specs.declared.frame.TheConstants.{HEAD}
 use Rattle.history_page.specs.declared.moments.TheConstants.{MOMENTS}
 use Rattle.history_page.specs.declared.views.TheConstants.{VIEWS}
-use Rattle.script_replay.specs.Meaning.{Meaning}
 use Rattle.reset_service.specs.Page.{Frame, page_output}
 use Rattle.script_replay.specs.declared.status.Status.TheVariants.{Good}
 

@@ -6,13 +6,13 @@ use Rattle.std.proofs.Common.{subst}
 use Rattle.std.proofs.lemmas.List.{drop-take, length-drop, take_all}
 use Rattle.app_interface.specs.Application.{App}
 use Rattle.reset_model.specs.Configuration.{Configuration}
+use Rattle.applications.specs.Meaning.{Meaning}
 use Rattle.history.specs.Entries.{IsFirstRefused, replayed}
 use Rattle.history.specs.HistoryText.{IsReadAs}
 use Rattle.history.specs.declared.entry.Entry.{Entry}
 use Rattle.history.specs.declared.text.BookFault.{BookFault}
 use Rattle.history.proofs.Plays.{replayed_nil}
 use Rattle.history.proofs.Replays.{allowed_between}
-use Rattle.script_replay.specs.Meaning.{Meaning}
 use Rattle.script_replay.specs.declared.status.Status.{Status}
 use Rattle.script_replay.specs.declared.status.Status.TheVariants.{BadInput, Good, NotEnabled}
 use Rattle.reset_service.specs.Chosen.{IsNamed, NamesNothing}

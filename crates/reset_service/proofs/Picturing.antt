@@ -3,10 +3,10 @@ use Rattle.std.proofs.Common.{◌≡◌, ◌≤◌, ℕ, List, length, ap, refl}
 use Rattle.std.proofs.Common.{None}
 use Rattle.std.proofs.lemmas.Bool.{le-ltb}
 use Rattle.reset_model.specs.Configuration.{Configuration}
+use Rattle.applications.specs.Meaning.{Meaning}
 use Rattle.history.specs.Reports.{reports_of}
 use Rattle.history.specs.declared.entry.Entry.{Entry}
 use Rattle.space_time_diagram.specs.Diagram.{diagram_text}
-use Rattle.script_replay.specs.Meaning.{Meaning}
 use Rattle.script_replay.specs.declared.status.Status.{Status}
 use Rattle.script_replay.specs.declared.status.Status.TheVariants.{Good}
 use Rattle.reset_service.specs.Parted.{IsHistoryDrawn, IsRunDrawn, IsSelectionDrawn}

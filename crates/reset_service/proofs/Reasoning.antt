@@ -27,10 +27,10 @@ use Rattle.reset_model.specs.Steps.{is_of_tree}
 use Rattle.reset_model.specs.declared.event.Event.{Event}
 use Rattle.reset_model.specs.declared.plan.Seen.{Seen}
 use Rattle.reset_model.specs.declared.plan.Seen.TheVariants.{Tree, Wave}
+use Rattle.applications.specs.Meaning.{Meaning}
 use Rattle.fault_inject.specs.declared.refusal.FaultRefusal.{FaultRefusal}
 use Rattle.history.specs.Entries.{left_by_fault}
 use Rattle.reset_model.specs.declared.step.StepRefusal.TheVariants.{StrangeNode}
-use Rattle.script_replay.specs.Meaning.{Meaning}
 use Rattle.script_replay.specs.Output.{at_node, disturbed, refusal_text, shown}
 use Rattle.script_replay.proofs.Nodes.{no_node_there, node_there}
 use Rattle.reset_service.specs.Reasons.{guard_line, guards_of, line_there, mutex_rows, printed_rows, routes_rows, token_rows}

@@ -2,10 +2,10 @@
 use Rattle.std.proofs.Common.{◌≤◌, ℕ, List, arith, length, refl}
 use Rattle.topology.specs.Graph.{Graph}
 use Rattle.topology.specs.declared.text.AppName.{AppName}
-use Rattle.topology.specs.declared.text.AppName.TheVariants.{Idle, Token, Mutex, Routes}
 use Rattle.reset_model.specs.Configuration.{Configuration}
+use Rattle.applications.specs.Meaning.{Meaning}
+use Rattle.applications.proofs.Choosing.{follows, some_for}
 use Rattle.history.specs.Reports.{reports_of}
-use Rattle.script_replay.specs.Meaning.{Meaning, idle_meaning, token_meaning, mutex_meaning, routes_meaning}
 use Rattle.script_replay.specs.Output.{Describes, IsJudged}
 use Rattle.script_replay.specs.Output.IsJudged.{bad_topology, good_topology}
 use Rattle.script_replay.specs.Recorded.{IsHistory, IsRecordFrom, IsRecordOf, IsRecorded}
@@ -33,10 +33,11 @@ module _ (script history : List ℕ) (output : Output) (short : length script �
 
   verified_of : (app : AppName) (g : Graph) (modulus : ℕ) → IsRecordOf app g modulus script history output
       → (written : List ℕ) × IsVerifiedOf app g modulus history (written, Good)
-  verified_of Idle = verified_from idle_meaning
-  verified_of Token = verified_from token_meaning
-  verified_of Mutex = verified_from mutex_meaning
-  verified_of Routes = verified_from routes_meaning
+  verified_of app g modulus is =
+      some_for (λ L m written. IsVerifiedFrom m g modulus history (written, Good)) app
+      (follows (λ L m. IsRecordFrom m g modulus script history output)
+      (λ L m. (written : List ℕ) × IsVerifiedFrom m g modulus history (written, Good))
+      (λ L m. verified_from m g modulus) app is)
 
   pub recordings_verified : (topology : List ℕ) (g : Graph) (app : AppName) (modulus : ℕ)
       → Describes topology g app modulus → IsRecorded topology script history output

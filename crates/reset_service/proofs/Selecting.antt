@@ -5,9 +5,10 @@ use Rattle.std.specs.Option.{option_or}
 use Rattle.topology.specs.Graph.{Graph, IsNode}
 use Rattle.topology.specs.TopologyText.{IsReadFault}
 use Rattle.topology.specs.declared.text.AppName.{AppName}
-use Rattle.topology.specs.declared.text.AppName.TheVariants.{Idle, Token, Mutex, Routes}
 use Rattle.topology.specs.declared.text.ReadFault.{ReadFault}
 use Rattle.reset_model.specs.Configuration.{Configuration}
+use Rattle.applications.specs.Meaning.{Meaning}
+use Rattle.applications.proofs.Choosing.{follows}
 use Rattle.history.specs.Book.{BookView}
 use Rattle.history.specs.HistoryText.{IsReadAs}
 use Rattle.history.specs.Stretches.{steps}
@@ -16,7 +17,6 @@ use Rattle.node_threads.specs.Requests.{AsksAtMost, requests_at, requests_in}
 use Rattle.node_threads.specs.declared.tasks.Task.{Task}
 use Rattle.node_threads.specs.declared.run.RunCause.{RunCause}
 use Rattle.node_threads.specs.declared.run.RunCause.TheVariants.{StrangeNode, TooManyForThreads}
-use Rattle.script_replay.specs.Meaning.{Meaning, idle_meaning, token_meaning, mutex_meaning, routes_meaning}
 use Rattle.script_replay.specs.Output.{Describes, IsJudged, bad_topology_text}
 use Rattle.script_replay.specs.Output.IsJudged.{bad_topology, good_topology}
 use Rattle.script_replay.specs.declared.status.RunStop.{RunStop}
@@ -24,8 +24,8 @@ use Rattle.script_replay.specs.declared.status.Status.{Status}
 use Rattle.script_replay.specs.declared.status.Status.TheVariants.{BadInput, Good}
 use Rattle.reset_service.specs.Begun.{IsBegunFrom, IsBegunOf, IsBegunText, RunsThreads}
 use Rattle.reset_service.specs.Begun.IsBegunFrom.{bad_snapshot as begun_badly, begun as begun_well}
-use Rattle.reset_service.specs.Explorations.{IsOpenedFrom, IsOpenedOf}
-use Rattle.reset_service.specs.Explorations.IsOpenedFrom.{bad_snapshot, opened}
+use Rattle.reset_service.specs.Opened.{IsOpenedFrom, IsOpenedOf}
+use Rattle.reset_service.specs.Opened.IsOpenedFrom.{bad_snapshot, opened}
 use Rattle.reset_service.specs.Selected.{AsksAsRun, IsSelected, IsSelectedText, IsToldOf, RunsSelected, task_of}
 use Rattle.reset_service.specs.Selected.IsSelected.{ran, strange_node}
 use Rattle.reset_service.specs.Selected.IsToldOf.{many, strange}
@@ -138,10 +138,9 @@ module _ (run : ThreadRun) (none : run.selected ≡ None) where
 
   booted_of : (app : AppName) (g : Graph) (modulus : ℕ) (history : List ℕ) (output : Output)
       → IsOpenedOf (RunsSelected run history) app g modulus None output → IsKeptOf app g modulus history output
-  booted_of Idle = booted idle_meaning
-  booted_of Token = booted token_meaning
-  booted_of Mutex = booted mutex_meaning
-  booted_of Routes = booted routes_meaning
+  booted_of app g modulus history output =
+      follows (λ L m. IsOpenedFrom m g modulus None (RunsSelected run history L m) output)
+      (λ L m. IsKeptFrom m g modulus history output) (λ L m. booted m g modulus history output) app
 
   booted_text : (topology history : List ℕ) (output : Output)
       → IsJudged (λ app g modulus. IsOpenedOf (RunsSelected run history) app g modulus None) topology output
@@ -170,10 +169,10 @@ module _ (run : ThreadRun) (none : run.selected ≡ None) where
       → (output.1 ≡ BadInput → history ≡ [])
       → IsOpenedOf (RunsSelected run history) app g modulus (Some snapshot) output
       → IsBegunOf RunsThreads app g modulus snapshot history output
-  begun_of Idle = begun_by idle_meaning
-  begun_of Token = begun_by token_meaning
-  begun_of Mutex = begun_by mutex_meaning
-  begun_of Routes = begun_by routes_meaning
+  begun_of app g modulus snapshot history output unkept =
+      follows (λ L m. IsOpenedFrom m g modulus (Some snapshot) (RunsSelected run history L m) output)
+      (λ L m. IsBegunFrom m g modulus snapshot (RunsThreads L m) history output)
+      (λ L m. begun_by m g modulus snapshot history output unkept) app
 
   pub plain_begun : (topology snapshot history : List ℕ) (output : Output)
       → IsSelectedText run topology (Some snapshot) history output

@@ -1,13 +1,11 @@
 -- Histories that are verified tell steps.
 use Rattle.std.proofs.Common.{◌≡◌, ℕ, List, Ok, ap, subst}
-use Rattle.app_mutex.specs.Turns.{HoldsTurns}
-use Rattle.app_routes.specs.Ways.{HasRoutes}
-use Rattle.app_token.specs.OneToken.{HasOneToken}
 use Rattle.topology.specs.Graph.{Graph, IsGraph}
 use Rattle.topology.specs.declared.text.AppName.{AppName}
-use Rattle.topology.specs.declared.text.AppName.TheVariants.{Idle, Token, Mutex, Routes}
+use Rattle.applications.specs.Choice.{ForInvariant}
+use Rattle.applications.specs.Meaning.{Meaning}
+use Rattle.applications.proofs.Choosing.{invariant_follows}
 use Rattle.history.specs.HistoryText.{IsReadAs}
-use Rattle.script_replay.specs.Meaning.{Meaning, idle_meaning, token_meaning, mutex_meaning, routes_meaning}
 use Rattle.script_replay.specs.Output.{Describes}
 use Rattle.script_replay.specs.Output.IsJudged.{bad_topology, good_topology}
 use Rattle.reset_service.specs.Stepped.{TellsSteps, TellsStepsOf}
@@ -45,14 +43,13 @@ module _ {L : Type 0} (m : Meaning L) (Inv : Graph → (ℕ → L) → Type 0) w
 
 -- ---- by the application's name
 
-module _ (idle : AreSteps idle_meaning (λ g v. Unit {0})) (token : AreSteps token_meaning HasOneToken)
-    (mutex : AreSteps mutex_meaning HoldsTurns) (routes : AreSteps routes_meaning HasRoutes) where
+module _ (known : (app : AppName) → ForInvariant (λ L m Inv. AreSteps m Inv) app) where
   tells_of : (app : AppName) (g : Graph) → IsGraph g → (modulus : ℕ) (history written : List ℕ)
       → IsVerifiedOf app g modulus history (written, Good) → TellsStepsOf app g modulus history
-  tells_of Idle = tells_steps idle_meaning (λ g v. Unit {0}) idle
-  tells_of Token = tells_steps token_meaning HasOneToken token
-  tells_of Mutex = tells_steps mutex_meaning HoldsTurns mutex
-  tells_of Routes = tells_steps routes_meaning HasRoutes routes
+  tells_of app g graph modulus history written =
+      invariant_follows (λ L m Inv. AreSteps m Inv) (λ L m Inv. TellsSteps m Inv g modulus history)
+      (λ L m. IsVerifiedFrom m g modulus history (written, Good))
+      (λ L m Inv are. tells_steps m Inv are g graph modulus history written) app (known app)
 
   pub verified_steps : (topology history written : List ℕ) → IsVerification topology history (written, Good)
       → (g : Graph) × (app : AppName) × (modulus : ℕ) × Describes topology g app modulus

@@ -8,6 +8,7 @@ use Rattle.std.proofs.KnownBytes.{Keeps-refl}
 use Rattle.action_tables.specs.Written.{AppendsPrefix}
 use Rattle.reset_model.specs.declared.event.Event.{Event}
 use Rattle.reset_model.specs.Configuration.{Configuration}
+use Rattle.applications.specs.Meaning.{Meaning}
 use Rattle.history.specs.Entries.{replayed}
 use Rattle.history.specs.HistoryText.{IsReadAs}
 use Rattle.history.specs.Reports.{reports_of}
@@ -18,7 +19,6 @@ use Rattle.history.specs.declared.entry.Entry.TheVariants.{Step, Disturbed}
 use Rattle.history.specs.declared.entry.Summary.{Summary}
 use Rattle.history.specs.declared.text.BookFault.{BookFault}
 use Rattle.node_threads.specs.Locked.{is_step}
-use Rattle.script_replay.specs.Meaning.{Meaning}
 use Rattle.script_replay.specs.Stops.{IsRunStop}
 use Rattle.reset_service.specs.Threaded.{IsKept, LeavesBoth, threads_line}
 use Rattle.reset_service.specs.Threaded.{told_history, told_output}

@@ -4,16 +4,17 @@ use Rattle.std.proofs.lemmas.List.{length-map, length-replicate}
 use Rattle.action_tables.specs.Modulus.{IsModulus}
 use Rattle.topology.specs.Graph.{Graph, IsGraph}
 use Rattle.topology.specs.declared.text.AppName.{AppName}
-use Rattle.topology.specs.declared.text.AppName.TheVariants.{Idle, Token, Mutex, Routes}
 use Rattle.reset_model.specs.Configuration.{Configuration, IsShaped}
 use Rattle.reset_model.specs.Outcome.{IsBoot}
 use Rattle.reset_model.specs.Sound.{IsSound}
 use Rattle.reset_model.proofs.SoundConfigurations.{boot_tree_picture, boot_wave_picture, pictures_sound}
+use Rattle.applications.specs.Choice.{ForApp}
+use Rattle.applications.specs.Meaning.{Meaning}
+use Rattle.applications.proofs.Choosing.{both_follow}
 use Rattle.history.specs.HistoryText.{IsReadAs}
 use Rattle.history.specs.Reports.{reports_of}
 use Rattle.history.specs.Stretches.{IsIn, IsStretch, IsTrueReport, Stretch}
 use Rattle.history.specs.declared.entry.Entry.{Entry}
-use Rattle.script_replay.specs.Meaning.{Meaning, idle_meaning, token_meaning, mutex_meaning, routes_meaning}
 use Rattle.script_replay.specs.Output.{Describes}
 use Rattle.script_replay.specs.Output.IsJudged.{bad_topology, good_topology}
 use Rattle.reset_service.specs.Verified.{IsVerification, IsVerified, IsVerifiedFrom, IsVerifiedOf}
@@ -81,14 +82,13 @@ module _ {L : Type 0} (m : Meaning L) where
   tells g graph known modulus history written (c, boot, verified) =
       tells_from g graph modulus c boot known history written verified
 
-module _ (idle : AreTrue idle_meaning) (token : AreTrue token_meaning) (mutex : AreTrue mutex_meaning)
-    (routes : AreTrue routes_meaning) where
+module _ (known : (app : AppName) → ForApp (λ L m. AreTrue m) app) where
   tells_of : (app : AppName) (g : Graph) → IsGraph g → (modulus : ℕ) (history written : List ℕ)
       → IsVerifiedOf app g modulus history (written, Good) → TellsTrueReportsOf app g modulus history written
-  tells_of Idle g graph = tells idle_meaning g graph idle
-  tells_of Token g graph = tells token_meaning g graph token
-  tells_of Mutex g graph = tells mutex_meaning g graph mutex
-  tells_of Routes g graph = tells routes_meaning g graph routes
+  tells_of app g graph modulus history written =
+      both_follow (λ L m. AreTrue m) (λ L m. IsVerifiedFrom m g modulus history (written, Good))
+      (λ L m. TellsTrueReports m g modulus history written)
+      (λ L m are_true. tells m g graph are_true modulus history written) app (known app)
 
   pub verified_reports : (topology history written : List ℕ) → IsVerification topology history (written, Good)
       → (g : Graph) × (app : AppName) × (modulus : ℕ) × Describes topology g app modulus

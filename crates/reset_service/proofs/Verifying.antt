@@ -3,9 +3,10 @@ use Rattle.std.proofs.Common.{◌≡◌, ◌≢◌, ℕ, List, Option, Result, O
 use Rattle.std.proofs.Common.{IsSome, length, refl, sym, ap, ap₂, ◌∙◌, subst}
 use Rattle.topology.specs.Graph.{Graph}
 use Rattle.topology.specs.declared.text.AppName.{AppName}
-use Rattle.topology.specs.declared.text.AppName.TheVariants.{Idle, Token, Mutex, Routes}
 use Rattle.reset_model.specs.Configuration.{Configuration}
 use Rattle.reset_model.proofs.OneBoot.{one_boot}
+use Rattle.applications.specs.Meaning.{Meaning}
+use Rattle.applications.proofs.Choosing.{agree}
 use Rattle.history.proofs.FirstRefused.{not_allowed, one_first_refused}
 use Rattle.history.specs.Entries.{IsFirstRefused, replayed}
 use Rattle.history.specs.HistoryText.{IsReadAs, IsReadWhole}
@@ -20,7 +21,6 @@ use Rattle.history.specs.declared.text.BookFault.TheVariants.{BadLine, BadVersio
 use Rattle.history.specs.declared.text.BookFault.TheVariants as book
 use Rattle.history.specs.declared.verification.ReaderFault.{ReaderFault}
 use Rattle.history.specs.declared.verification.ReaderFault.TheVariants.{Entries, OtherModulus, Text}
-use Rattle.script_replay.specs.Meaning.{Meaning, idle_meaning, token_meaning, mutex_meaning, routes_meaning}
 use Rattle.script_replay.specs.Output.{Leaves}
 use Rattle.reset_service.specs.Verified.{IsVerification, IsVerified, IsVerifiedFrom, IsVerifiedOf, LeavesOfReader}
 use Rattle.reset_service.specs.Verified.{bad_history_text, not_enabled_text, other_modulus_text, verified_text}
@@ -179,10 +179,9 @@ module _ (one_reading : OneReading) {L : Type 0} (m : Meaning L) where
 
 one_of : OneReading → (app : AppName) (g : Graph) (modulus : ℕ) (history : List ℕ) (o p : Output)
     → IsVerifiedOf app g modulus history o → IsVerifiedOf app g modulus history p → o ≡ p
-one_of reading Idle = one_from reading idle_meaning
-one_of reading Token = one_from reading token_meaning
-one_of reading Mutex = one_from reading mutex_meaning
-one_of reading Routes = one_from reading routes_meaning
+one_of reading app g modulus history o p =
+    agree (λ L m. IsVerifiedFrom m g modulus history o) (λ L m. IsVerifiedFrom m g modulus history p) (o ≡ p)
+    (λ L m. one_from reading m g modulus history o p) app
 
 pub one_verification : OneReading → (topology history : List ℕ) (o p : Output) → IsVerification topology history o
     → IsVerification topology history p → o ≡ p

@@ -9,8 +9,8 @@ use Rattle.action_tables.specs.Written.{AppendsPrefix}
 use Rattle.action_tables.proofs.Prefixes.{AppendsPrefix-first, AppendsPrefix-then}
 use Rattle.app_invariants.specs.Verdicts.{verdicts_of}
 use Rattle.reset_model.specs.Configuration.{Configuration}
+use Rattle.applications.specs.Meaning.{Meaning}
 use Rattle.script_replay.specs.Lines.{lines_of}
-use Rattle.script_replay.specs.Meaning.{Meaning}
 use Rattle.script_replay.specs.Output.{HasPrefix, Leaves, answers, output_for, script_output, too_long_text}
 use Rattle.script_replay.specs.Stops.{IsOutputStop}
 use Rattle.script_replay.specs.declared.status.Purpose.TheVariants as purpose

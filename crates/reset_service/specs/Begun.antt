@@ -3,10 +3,10 @@ use Rattle.std.specs.Prelude.{◌≡◌, ◌≤◌, ℕ, List, [], length}
 use Rattle.topology.specs.Graph.{Graph}
 use Rattle.topology.specs.TopologyText.{IsReadFault}
 use Rattle.topology.specs.declared.text.AppName.{AppName}
-use Rattle.topology.specs.declared.text.AppName.TheVariants.{Idle, Token, Mutex, Routes}
 use Rattle.topology.specs.declared.text.ReadFault.{ReadFault}
 use Rattle.reset_model.specs.Configuration.{Configuration}
-use Rattle.script_replay.specs.Meaning.{Meaning, idle_meaning, token_meaning, mutex_meaning, routes_meaning}
+use Rattle.applications.specs.Choice.{ForApp}
+use Rattle.applications.specs.Meaning.{Meaning}
 use Rattle.script_replay.specs.Output.{IsJudged}
 use Rattle.script_replay.specs.Recorded.{IsRecord}
 use Rattle.script_replay.specs.declared.status.Status.{Status}
@@ -33,10 +33,8 @@ Sequel = (L : Type 0) → Meaning L → Configuration L → List ℕ → List �
 
 -- the same for the application of a name
 abbrev pub IsBegunOf : Sequel → AppName → Graph → ℕ → List ℕ → List ℕ → List ℕ × Status → Type 0
-IsBegunOf Follows Idle g modulus snapshot = IsBegunFrom idle_meaning g modulus snapshot (Follows _ idle_meaning)
-IsBegunOf Follows Token g modulus snapshot = IsBegunFrom token_meaning g modulus snapshot (Follows _ token_meaning)
-IsBegunOf Follows Mutex g modulus snapshot = IsBegunFrom mutex_meaning g modulus snapshot (Follows _ mutex_meaning)
-IsBegunOf Follows Routes g modulus snapshot = IsBegunFrom routes_meaning g modulus snapshot (Follows _ routes_meaning)
+IsBegunOf Follows app g modulus snapshot history output =
+    ForApp (λ L m. IsBegunFrom m g modulus snapshot (Follows L m) history output) app
 
 -- the texts of a topology and of a snapshot leave this history, this output and this status: the topology is judged
 -- first, and a bad one leaves no history

@@ -2,16 +2,16 @@
 use Rattle.std.specs.Prelude.{◌≡◌, ℕ, List, [], length, codes, IsSome, Ok}
 use Rattle.topology.specs.Graph.{Graph}
 use Rattle.topology.specs.declared.text.AppName.{AppName}
-use Rattle.topology.specs.declared.text.AppName.TheVariants.{Idle, Token, Mutex, Routes}
 use Rattle.reset_model.specs.Configuration.{Configuration}
 use Rattle.reset_model.specs.Outcome.{IsBoot}
+use Rattle.applications.specs.Choice.{ForApp}
+use Rattle.applications.specs.Meaning.{Meaning}
 use Rattle.history.specs.Book.{BookView}
 use Rattle.history.specs.Entries.{replayed}
 use Rattle.history.specs.HistoryText.{IsReadAs, history_text}
 use Rattle.history.specs.Reports.{reports_of}
 use Rattle.history.specs.declared.entry.Entry.{Entry}
 use Rattle.scheduler.specs.Driven.{driven}
-use Rattle.script_replay.specs.Meaning.{Meaning, idle_meaning, token_meaning, mutex_meaning, routes_meaning}
 use Rattle.script_replay.specs.Output.{IsJudged}
 use Rattle.script_replay.specs.declared.status.Status.{Status}
 use Rattle.script_replay.specs.declared.status.Status.TheVariants.{Good, BadInput}
@@ -46,10 +46,8 @@ IsDroveFrom {L = L} m steps seed faults g modulus history output =
 
 -- the same for the application of a name
 abbrev pub IsDroveOf : (steps seed faults : ℕ) → AppName → Graph → ℕ → List ℕ → List ℕ × Status → Type 0
-IsDroveOf steps seed faults Idle = IsDroveFrom idle_meaning steps seed faults
-IsDroveOf steps seed faults Token = IsDroveFrom token_meaning steps seed faults
-IsDroveOf steps seed faults Mutex = IsDroveFrom mutex_meaning steps seed faults
-IsDroveOf steps seed faults Routes = IsDroveFrom routes_meaning steps seed faults
+IsDroveOf steps seed faults app g modulus history output =
+    ForApp (λ L m. IsDroveFrom m steps seed faults g modulus history output) app
 
 -- a run of the scheduler on the topology of a text leaves this history, this output and this status: a bad topology is
 -- answered first, and leaves no history

@@ -1,11 +1,9 @@
 -- What an exploration of all orders of the events is written as.
-use Rattle.std.specs.Prelude.{◌≡◌, ◌==◌, ◌<◌, ◌≤◌, ℕ, Bool, if◌then◌else◌, List, [], ◌∷◌, ◌++◌, length, codes, Option, Some, None}
+use Rattle.std.specs.Prelude.{◌≡◌, ◌==◌, ◌<◌, ◌≤◌, ℕ, Bool, if◌then◌else◌, List, [], ◌∷◌, ◌++◌, length, codes, Some, None}
 use Rattle.std.specs.Fmt.{decimal}
 use Rattle.std.specs.List.{concat}
-use Rattle.topology.specs.Graph.{Graph}
-use Rattle.topology.specs.declared.text.AppName.{AppName}
-use Rattle.topology.specs.declared.text.AppName.TheVariants.{Idle, Token, Mutex, Routes}
 use Rattle.reset_model.specs.Configuration.{Configuration}
+use Rattle.applications.specs.Meaning.{Meaning}
 use Rattle.history.specs.HistoryText.{ended}
 use Rattle.schedules.specs.Explored.{HasMoreThan, IsExplored}
 use Rattle.schedules.specs.Search.{AreFew, IsSearch}
@@ -15,14 +13,12 @@ use Rattle.schedules.specs.declared.schedules.Schedules.{Schedules}
 use Rattle.schedules.specs.declared.finding.Search.{Search}
 use Rattle.schedules.specs.declared.finding.Target.{Target}
 use Rattle.script_replay.specs.Left.{bad_line_of, left_by}
-use Rattle.script_replay.specs.Meaning.{Meaning, idle_meaning, token_meaning, mutex_meaning, routes_meaning}
-use Rattle.script_replay.specs.Output.{IsJudged, bad_line_text, too_long_text}
+use Rattle.script_replay.specs.Output.{bad_line_text, too_long_text}
 use Rattle.script_replay.specs.declared.status.Status.{Status}
 use Rattle.script_replay.specs.declared.status.Status.TheVariants.{Good, FaultsFound, BadInput}
 use Rattle.reset_service.specs.Searched.{search_status, search_text}
-use Rattle.reset_service.specs.Started.{FollowUp, IsOpening, IsOpeningFault, start_fault_text}
+use Rattle.reset_service.specs.Started.{FollowUp}
 use Rattle.reset_service.specs.declared.explored.Exploring.{Exploring}
-use Rattle.reset_service.specs.declared.started.StartFault.{StartFault}
 
 -- ---- the text
 
@@ -78,26 +74,3 @@ pub data IsExploration {L : Type 0} (m : Meaning L) (run : Exploring) (c : Confi
 
 abbrev pub Explores : Exploring → List ℕ → FollowUp
 Explores run script L m c output = IsExploration m run c script output
-
--- ---- where a run starts
-
--- what is written where the snapshot, if one is given, is judged before what follows
-pub data IsOpenedFrom {L : Type 0} (m : Meaning L) (g : Graph) (modulus : ℕ) (snapshot : Option (List ℕ))
-    (Follows : Configuration L → List ℕ × Status → Type 0) (output : List ℕ × Status) : Type 0 where
-  bad_snapshot : (f : StartFault) → IsOpeningFault m g snapshot f → output ≡ (start_fault_text f, BadInput)
-      → IsOpenedFrom m g modulus snapshot Follows output
-  opened : (c : Configuration L) → IsOpening m g modulus snapshot c → Follows c output
-      → IsOpenedFrom m g modulus snapshot Follows output
-
--- the same for the application of a name
-abbrev pub IsOpenedOf : FollowUp → AppName → Graph → ℕ → Option (List ℕ) → List ℕ × Status → Type 0
-IsOpenedOf Follows Idle g modulus snapshot = IsOpenedFrom idle_meaning g modulus snapshot (Follows _ idle_meaning)
-IsOpenedOf Follows Token g modulus snapshot = IsOpenedFrom token_meaning g modulus snapshot (Follows _ token_meaning)
-IsOpenedOf Follows Mutex g modulus snapshot = IsOpenedFrom mutex_meaning g modulus snapshot (Follows _ mutex_meaning)
-IsOpenedOf Follows Routes g modulus snapshot =
-    IsOpenedFrom routes_meaning g modulus snapshot (Follows _ routes_meaning)
-
--- what is written for the text of a topology, and of a snapshot where one is given: the topology is judged first
-abbrev pub IsOpenedText : FollowUp → List ℕ → Option (List ℕ) → List ℕ × Status → Type 0
-IsOpenedText Follows topology snapshot =
-    IsJudged (λ app g modulus. IsOpenedOf Follows app g modulus snapshot) topology

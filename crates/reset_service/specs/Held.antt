@@ -4,17 +4,17 @@ use Rattle.std.specs.Io.KnownBytes.{Keeps}
 use Rattle.topology.specs.Graph.{Graph}
 use Rattle.topology.specs.TopologyText.{IsReadFault}
 use Rattle.topology.specs.declared.text.AppName.{AppName}
-use Rattle.topology.specs.declared.text.AppName.TheVariants.{Idle, Token, Mutex, Routes}
 use Rattle.topology.specs.declared.text.ReadFault.{ReadFault}
 use Rattle.reset_model.specs.Configuration.{Configuration}
 use Rattle.reset_model.specs.Outcome.{IsBoot}
+use Rattle.applications.specs.Choice.{ForApp}
+use Rattle.applications.specs.Meaning.{Meaning}
 use Rattle.history.specs.HistoryText.{IsReadWhole}
 use Rattle.history.specs.Verdict.{IsVerdict}
 use Rattle.history.specs.declared.entry.VerifyFault.TheVariants.{NotEnabledAt}
 use Rattle.history.specs.declared.entry.VerifyFault.TheVariants as verify
 use Rattle.history.specs.declared.verification.ReaderFault.{ReaderFault}
 use Rattle.history.specs.declared.verification.ReaderFault.TheVariants.{Text, OtherModulus, Entries}
-use Rattle.script_replay.specs.Meaning.{Meaning, idle_meaning, token_meaning, mutex_meaning, routes_meaning}
 use Rattle.script_replay.specs.Output.{Describes, Leaves, bad_topology_text}
 use Rattle.script_replay.specs.declared.status.RunStop.{RunStop}
 use Rattle.script_replay.specs.declared.status.RunStop.TheVariants as stop
@@ -103,13 +103,8 @@ pub data HoldsOn {L : Type 0} (m : Meaning L) (g : Graph) (modulus : ℕ) (snaps
 -- the same for the application of a name
 abbrev pub HoldsOf : {F : Type 0} → (F → Option (List ℕ)) → Past F → Option (List ℕ) → AppName → Graph → ℕ → SessionRun
     → Type 0
-HoldsOf remaining past snapshot Idle g modulus = HoldsOn idle_meaning g modulus snapshot (HoldsFrom remaining past idle_meaning)
-HoldsOf remaining past snapshot Token g modulus =
-    HoldsOn token_meaning g modulus snapshot (HoldsFrom remaining past token_meaning)
-HoldsOf remaining past snapshot Mutex g modulus =
-    HoldsOn mutex_meaning g modulus snapshot (HoldsFrom remaining past mutex_meaning)
-HoldsOf remaining past snapshot Routes g modulus =
-    HoldsOn routes_meaning g modulus snapshot (HoldsFrom remaining past routes_meaning)
+HoldsOf remaining past snapshot app g modulus run =
+    ForApp (λ L m. HoldsOn m g modulus snapshot (HoldsFrom remaining past m) run) app
 
 -- a session on the network of a topology text: a bad one is answered by its first fault, and leaves no history
 pub data HoldsText (topology : List ℕ) (Follows : AppName → Graph → ℕ → SessionRun → Type 0) (r : SessionRun) : Type 0

@@ -18,6 +18,7 @@ pub mod Started
 pub mod Page
 pub mod Begun
 pub mod Searched
+pub mod Opened
 pub mod Explorations
 pub mod Selected
 pub mod Shown

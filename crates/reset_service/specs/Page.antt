@@ -1,21 +1,18 @@
 -- What a page of a history writes.
-use Rattle.std.specs.Prelude.{◌≡◌, ◌≢◌, ℕ, nat_lt, if◌then◌else◌, List, length, codes, IsSome, Ok, Err}
-use Rattle.topology.specs.Graph.{Graph}
+use Rattle.std.specs.Prelude.{◌≡◌, ◌≢◌, ℕ, nat_lt, if◌then◌else◌, List, Option, length, codes, IsSome, Ok, Err}
 use Rattle.topology.specs.TopologyTable.{app_word}
-use Rattle.topology.specs.declared.text.AppName.{AppName}
-use Rattle.topology.specs.declared.text.AppName.TheVariants.{Idle, Token, Mutex, Routes}
 use Rattle.reset_model.specs.Configuration.{Configuration}
-use Rattle.reset_model.specs.Outcome.{IsBoot}
+use Rattle.applications.specs.Meaning.{Meaning}
 use Rattle.history.specs.Entries.{IsFirstRefused, replayed}
 use Rattle.history.specs.HistoryText.{IsReadAs, ended}
 use Rattle.history.specs.declared.entry.Entry.{Entry}
 use Rattle.history.specs.declared.text.BookFault.{BookFault}
 use Rattle.history_page.specs.Page.{data_text}
-use Rattle.script_replay.specs.Meaning.{Meaning, idle_meaning, token_meaning, mutex_meaning, routes_meaning}
 use Rattle.script_replay.specs.Output.{IsJudged}
 use Rattle.script_replay.specs.declared.status.Status.{Status}
 use Rattle.script_replay.specs.declared.status.Status.TheVariants.{Good, NotEnabled, BadInput}
-use Rattle.reset_service.specs.Started.{FollowUp, IsStartedOf}
+use Rattle.reset_service.specs.Opened.{IsOpenedOf}
+use Rattle.reset_service.specs.Started.{FollowUp}
 use Rattle.reset_service.specs.Verified.{bad_history_text, not_enabled_text, other_modulus_text}
 
 -- the line of a history that has more entries than a page plays
@@ -55,29 +52,12 @@ pub data IsPage {L : Type 0} (around : Frame) (title name : List ℕ) (m : Meani
   read : (es : List Entry) → IsReadAs history (Ok (c.modulus, es)) → IsPageOfEntries around title name m c es output
       → IsPage around title name m c history output
 
--- the same from the booted configuration of a graph, with sessions modulo this number
-abbrev pub IsPageFrom : {L : Type 0} → Frame → List ℕ → List ℕ → Meaning L → Graph → ℕ → List ℕ → List ℕ × Status
-    → Type 0
-IsPageFrom {L = L} around title name m g modulus history output =
-    (c : Configuration L) × IsBoot m.app g modulus c × IsPage around title name m c history output
-
--- the same for the application of a name
-abbrev pub IsPageOf : Frame → List ℕ → AppName → Graph → ℕ → List ℕ → List ℕ × Status → Type 0
-IsPageOf around title Idle = IsPageFrom around title (app_word Idle) idle_meaning
-IsPageOf around title Token = IsPageFrom around title (app_word Token) token_meaning
-IsPageOf around title Mutex = IsPageFrom around title (app_word Mutex) mutex_meaning
-IsPageOf around title Routes = IsPageFrom around title (app_word Routes) routes_meaning
-
--- what is written for the texts of a topology and of a history, and the status: the topology is judged first
-abbrev pub IsPageText : Frame → List ℕ → List ℕ → List ℕ → List ℕ × Status → Type 0
-IsPageText around title topology history =
-    IsJudged (λ app g modulus. IsPageOf around title app g modulus history) topology
-
--- what may follow a snapshot: the page of a history
+-- what may follow a topology and a snapshot: the page of a history
 abbrev pub Plays : Frame → List ℕ → List ℕ → List ℕ → FollowUp
 Plays around title name history L m c output = IsPage around title name m c history output
 
--- what is written for the texts of a topology, of a snapshot and of a history, which are judged in this order
-abbrev pub IsPageTextFrom : Frame → List ℕ → List ℕ → List ℕ → List ℕ → List ℕ × Status → Type 0
-IsPageTextFrom around title topology snapshot history =
-    IsJudged (λ app g modulus. IsStartedOf (Plays around title (app_word app) history) app g modulus snapshot) topology
+-- what is written for the texts of a topology, of a snapshot where one is given, and of a history, which are judged in
+-- this order
+abbrev pub IsPageText : Frame → (title topology : List ℕ) → Option (List ℕ) → List ℕ → List ℕ × Status → Type 0
+IsPageText around title topology snapshot history =
+    IsJudged (λ app g modulus. IsOpenedOf (Plays around title (app_word app) history) app g modulus snapshot) topology

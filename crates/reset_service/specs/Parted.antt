@@ -4,10 +4,10 @@ use Rattle.std.specs.Prelude.{IsSome, Ok, Option, Some, None}
 use Rattle.topology.specs.Faults.{IsFirst}
 use Rattle.topology.specs.Graph.{Graph}
 use Rattle.reset_model.specs.Configuration.{Configuration}
+use Rattle.applications.specs.Meaning.{Meaning}
 use Rattle.history.specs.Entries.{replayed}
 use Rattle.history.specs.HistoryText.{IsReadAs, ended}
 use Rattle.history.specs.declared.entry.Entry.{Entry}
-use Rattle.script_replay.specs.Meaning.{Meaning}
 use Rattle.script_replay.specs.Output.{numbered}
 use Rattle.script_replay.specs.declared.status.Status.{Status}
 use Rattle.script_replay.specs.declared.status.Status.TheVariants.{BadInput, Good}

@@ -1,19 +1,14 @@
 -- What drawing a history writes.
 use Rattle.std.specs.Prelude.{◌≡◌, ◌≢◌, ◌<◌, ◌≤◌, ℕ, nat_lt, if◌then◌else◌, List, length, codes, IsSome, Ok}
 use Rattle.std.specs.Prelude.{Err}
-use Rattle.topology.specs.Graph.{Graph}
-use Rattle.topology.specs.declared.text.AppName.{AppName}
-use Rattle.topology.specs.declared.text.AppName.TheVariants.{Idle, Token, Mutex, Routes}
 use Rattle.reset_model.specs.Configuration.{Configuration}
-use Rattle.reset_model.specs.Outcome.{IsBoot}
+use Rattle.applications.specs.Meaning.{Meaning}
 use Rattle.history.specs.Entries.{IsFirstRefused, replayed}
 use Rattle.history.specs.HistoryText.{IsReadAs, ended}
 use Rattle.history.specs.Reports.{reports_of}
 use Rattle.history.specs.declared.entry.Entry.{Entry}
 use Rattle.history.specs.declared.text.BookFault.{BookFault}
 use Rattle.space_time_diagram.specs.Diagram.{diagram_text}
-use Rattle.script_replay.specs.Meaning.{Meaning, idle_meaning, token_meaning, mutex_meaning, routes_meaning}
-use Rattle.script_replay.specs.Output.{IsJudged}
 use Rattle.reset_service.specs.Verified.{bad_history_text, not_enabled_text, other_modulus_text}
 use Rattle.script_replay.specs.declared.status.Status.{Status}
 use Rattle.script_replay.specs.declared.status.Status.TheVariants.{Good, NotEnabled, BadInput}
@@ -55,19 +50,3 @@ pub data IsPicture {L : Type 0} (m : Meaning L) (c : Configuration L) (history :
       → modulus ≢ c.modulus → output ≡ (other_modulus_text modulus, BadInput) → IsPicture m c history output
   read : (es : List Entry) → length c.graph.ids ≤ 64 → IsReadAs history (Ok (c.modulus, es)) → IsDrawing m c es output
       → IsPicture m c history output
-
--- the same from the booted configuration of a graph, with sessions modulo this number
-abbrev pub IsPictureFrom : {L : Type 0} → Meaning L → Graph → ℕ → List ℕ → List ℕ × Status → Type 0
-IsPictureFrom {L = L} m g modulus history output =
-    (c : Configuration L) × IsBoot m.app g modulus c × IsPicture m c history output
-
--- the same for the application of a name
-abbrev pub IsPictureOf : AppName → Graph → ℕ → List ℕ → List ℕ × Status → Type 0
-IsPictureOf Idle = IsPictureFrom idle_meaning
-IsPictureOf Token = IsPictureFrom token_meaning
-IsPictureOf Mutex = IsPictureFrom mutex_meaning
-IsPictureOf Routes = IsPictureFrom routes_meaning
-
--- what the texts of a topology and of a history are drawn as, and the status: the topology is judged before the history
-abbrev pub IsPictureText : List ℕ → List ℕ → List ℕ × Status → Type 0
-IsPictureText topology history = IsJudged (λ app g modulus. IsPictureOf app g modulus history) topology

@@ -2,18 +2,14 @@
 use Rattle.std.specs.Prelude.{◌≡◌, ◌<◌, ◌≤◌, ℕ, List, [], ◌∷◌, ◌++◌, length, codes, Some, None}
 use Rattle.std.specs.Fmt.{decimal}
 use Rattle.std.specs.List.{concat, flat_map}
-use Rattle.topology.specs.Graph.{Graph}
-use Rattle.topology.specs.declared.text.AppName.{AppName}
-use Rattle.topology.specs.declared.text.AppName.TheVariants.{Idle, Token, Mutex, Routes}
 use Rattle.reset_model.specs.Configuration.{Configuration}
 use Rattle.reset_model.specs.EventText.{event_line}
-use Rattle.reset_model.specs.Outcome.{IsBoot}
 use Rattle.reset_model.specs.declared.event.Event.{Event}
+use Rattle.applications.specs.Meaning.{Meaning}
 use Rattle.recovery.specs.Recovered.{Recovers}
 use Rattle.history.specs.HistoryText.{ended}
 use Rattle.script_replay.specs.Left.{bad_line_of, left_by}
-use Rattle.script_replay.specs.Meaning.{Meaning, idle_meaning, token_meaning, mutex_meaning, routes_meaning}
-use Rattle.script_replay.specs.Output.{IsJudged, bad_line_text, too_long_text}
+use Rattle.script_replay.specs.Output.{bad_line_text, too_long_text}
 use Rattle.script_replay.specs.declared.status.Status.{Status}
 use Rattle.script_replay.specs.declared.status.Status.TheVariants.{Good, BadInput}
 
@@ -39,19 +35,3 @@ pub data IsPlan {L : Type 0} (m : Meaning L) (c : Configuration L) (script : Lis
   planned : (repairs reset : List Event) → length script ≤ 1048576 → bad_line_of m.names script ≡ None
       → Recovers m.app (left_by m c script) repairs reset → output ≡ (recovery_text repairs reset, Good)
       → IsPlan m c script output
-
--- the same from the booted configuration of a graph, with sessions modulo this number
-abbrev pub IsPlanFrom : {L : Type 0} → Meaning L → Graph → ℕ → List ℕ → List ℕ × Status → Type 0
-IsPlanFrom {L = L} m g modulus script output =
-    (c : Configuration L) × IsBoot m.app g modulus c × IsPlan m c script output
-
--- the same for the application of a name
-abbrev pub IsPlanOf : AppName → Graph → ℕ → List ℕ → List ℕ × Status → Type 0
-IsPlanOf Idle = IsPlanFrom idle_meaning
-IsPlanOf Token = IsPlanFrom token_meaning
-IsPlanOf Mutex = IsPlanFrom mutex_meaning
-IsPlanOf Routes = IsPlanFrom routes_meaning
-
--- what is written for the texts of a topology and of a script: the topology is judged before the script
-abbrev pub IsPlanText : List ℕ → List ℕ → List ℕ × Status → Type 0
-IsPlanText topology script = IsJudged (λ app g modulus. IsPlanOf app g modulus script) topology

@@ -20,12 +20,12 @@ use Rattle.reset_model.specs.declared.event.Event.TheVariants.{Mend, Act}
 use Rattle.reset_model.specs.declared.plan.Seen.{Seen}
 use Rattle.reset_model.specs.declared.plan.Seen.TheVariants.{Tree, Wave}
 use Rattle.reset_model.specs.declared.step.StepRefusal.TheVariants.{NotEnabled}
+use Rattle.applications.specs.Meaning.{Meaning}
 use Rattle.fault_inject.specs.Effects.{injected}
 use Rattle.history.specs.HistoryText.{ended, entry_line}
 use Rattle.history.specs.declared.entry.Entry.{Entry}
 use Rattle.history.specs.declared.entry.Entry.TheVariants.{Step, Disturbed}
 use Rattle.history_page.specs.Entries.{entry_node}
-use Rattle.script_replay.specs.Meaning.{Meaning}
 use Rattle.script_replay.specs.Output.{disturbed, refusal_text, shown}
 
 -- the node of an entry, and its neighbours

@@ -4,16 +4,16 @@ use Rattle.std.specs.Option.{option_or}
 use Rattle.topology.specs.Graph.{Graph, IsNode}
 use Rattle.reset_model.specs.Configuration.{Configuration}
 use Rattle.reset_model.specs.declared.event.Event.{Event}
+use Rattle.applications.specs.Meaning.{Meaning}
 use Rattle.history.specs.HistoryText.{IsReadAs}
 use Rattle.history.specs.Stretches.{steps}
 use Rattle.node_threads.specs.Requests.{requests_at, requests_in}
 use Rattle.node_threads.specs.declared.tasks.Task.{Task}
 use Rattle.node_threads.specs.declared.run.RunCause.{RunCause}
 use Rattle.node_threads.specs.declared.run.RunCause.TheVariants as cause
-use Rattle.script_replay.specs.Meaning.{Meaning}
 use Rattle.script_replay.specs.declared.status.Status.{Status}
 use Rattle.script_replay.specs.declared.status.Status.TheVariants.{BadInput, Good}
-use Rattle.reset_service.specs.Explorations.{IsOpenedText}
+use Rattle.reset_service.specs.Opened.{IsOpenedText}
 use Rattle.reset_service.specs.Started.{FollowUp}
 use Rattle.reset_service.specs.Threaded.{IsKept, strange_node_text}
 use Rattle.reset_service.specs.declared.threaded.ThreadRun.{ThreadRun}

@@ -4,6 +4,7 @@ use Rattle.std.specs.Fmt.{decimal}
 use Rattle.std.specs.List.{concat}
 use Rattle.reset_model.specs.declared.event.Event.{Event}
 use Rattle.reset_model.specs.Configuration.{Configuration}
+use Rattle.applications.specs.Meaning.{Meaning}
 use Rattle.history.specs.HistoryText.{ended, history_text}
 use Rattle.history.specs.Stretches.{steps}
 use Rattle.history.specs.declared.entry.Entry.{Entry}
@@ -19,12 +20,12 @@ use Rattle.schedules.specs.declared.witness.Witness.{Witness}
 use Rattle.schedules.specs.declared.witness.Witness.TheVariants.{Longest, Endless}
 use Rattle.script_replay.specs.Left.{bad_line_of, left_by}
 use Rattle.script_replay.specs.Lines.{lines_of}
-use Rattle.script_replay.specs.Meaning.{Meaning}
 use Rattle.script_replay.specs.Output.{bad_line_text, too_long_text}
 use Rattle.script_replay.specs.Recorded.{entries_of_lines}
 use Rattle.script_replay.specs.declared.status.Status.{Status}
 use Rattle.script_replay.specs.declared.status.Status.TheVariants.{BadInput}
-use Rattle.reset_service.specs.Explorations.{IsOpenedText, counts_text, on_next_line, runs_text, status_of, too_many_text}
+use Rattle.reset_service.specs.Opened.{IsOpenedText}
+use Rattle.reset_service.specs.Explorations.{counts_text, on_next_line, runs_text, status_of, too_many_text}
 use Rattle.reset_service.specs.Searched.{search_status, search_text}
 use Rattle.reset_service.specs.Started.{FollowUp}
 use Rattle.reset_service.specs.declared.explored.Exploring.{Exploring}

@@ -1,16 +1,13 @@
--- Runs that start from a snapshot in place of the booted configuration.
+-- Where a run starts: the booted configuration, or the one that a snapshot names.
 use Rattle.std.specs.Prelude.{◌≡◌, ◌<◌, ◌≤◌, ℕ, List, codes, length, Option, Some, None}
 use Rattle.topology.specs.Graph.{Graph}
-use Rattle.topology.specs.declared.text.AppName.{AppName}
-use Rattle.topology.specs.declared.text.AppName.TheVariants.{Idle, Token, Mutex, Routes}
 use Rattle.reset_model.specs.Configuration.{Configuration}
 use Rattle.reset_model.specs.Outcome.{IsBoot}
+use Rattle.applications.specs.Meaning.{Meaning}
 use Rattle.history.specs.HistoryText.{ended}
-use Rattle.script_replay.specs.Meaning.{Meaning, idle_meaning, token_meaning, mutex_meaning, routes_meaning}
-use Rattle.script_replay.specs.Output.{IsJudged, script_output}
+use Rattle.script_replay.specs.Output.{script_output}
 use Rattle.script_replay.specs.declared.status.Purpose.{Purpose}
 use Rattle.script_replay.specs.declared.status.Status.{Status}
-use Rattle.script_replay.specs.declared.status.Status.TheVariants.{BadInput}
 use Rattle.snapshots.specs.FaultText.{bad_snapshot_text}
 use Rattle.snapshots.specs.Named.{IsSnapshotOf}
 use Rattle.snapshots.specs.Reading.{IsFirstFault}
@@ -42,30 +39,9 @@ abbrev pub IsOpeningFault : {L : Type 0} → Meaning L → Graph → Option (Lis
 IsOpeningFault m g None f = ⊥
 IsOpeningFault m g (Some snapshot) f = IsStartFault m g snapshot f
 
--- what is written where the snapshot is judged before what follows it
-pub data IsStartedFrom {L : Type 0} (m : Meaning L) (g : Graph) (modulus : ℕ) (snapshot : List ℕ)
-    (Follows : Configuration L → List ℕ × Status → Type 0) (output : List ℕ × Status) : Type 0 where
-  bad_snapshot : (f : StartFault) → IsStartFault m g snapshot f → output ≡ (start_fault_text f, BadInput)
-      → IsStartedFrom m g modulus snapshot Follows output
-  started : (c : Configuration L) → length snapshot ≤ 67108864 → IsSnapshotOf m g modulus snapshot c → Follows c output
-      → IsStartedFrom m g modulus snapshot Follows output
-
--- what follows a snapshot, for any application
+-- what follows a configuration that a run starts from, for any application
 abbrev pub FollowUp : Type 1
 FollowUp = (L : Type 0) → Meaning L → Configuration L → List ℕ × Status → Type 0
-
--- the same for the application of a name
-abbrev pub IsStartedOf : FollowUp → AppName → Graph → ℕ → List ℕ → List ℕ × Status → Type 0
-IsStartedOf Follows Idle g modulus snapshot = IsStartedFrom idle_meaning g modulus snapshot (Follows _ idle_meaning)
-IsStartedOf Follows Token g modulus snapshot = IsStartedFrom token_meaning g modulus snapshot (Follows _ token_meaning)
-IsStartedOf Follows Mutex g modulus snapshot = IsStartedFrom mutex_meaning g modulus snapshot (Follows _ mutex_meaning)
-IsStartedOf Follows Routes g modulus snapshot =
-    IsStartedFrom routes_meaning g modulus snapshot (Follows _ routes_meaning)
-
--- what is written for the texts of a topology and of a snapshot: the topology is judged first
-abbrev pub IsStartedText : FollowUp → List ℕ → List ℕ → List ℕ × Status → Type 0
-IsStartedText Follows topology snapshot =
-    IsJudged (λ app g modulus. IsStartedOf Follows app g modulus snapshot) topology
 
 -- what may follow: the answers to a script, a plan for what it leaves, and what a history is verified and drawn as
 abbrev pub Answers : Purpose → List ℕ → FollowUp

@@ -5,18 +5,16 @@ use Rattle.std.specs.Fmt.{decimal}
 use Rattle.std.specs.List.{concat}
 use Rattle.std.specs.Io.KnownBytes.{Appends, Keeps}
 use Rattle.action_tables.specs.Written.{AppendsPrefix}
-use Rattle.app_mutex.specs.Turns.{HoldsTurns}
-use Rattle.app_routes.specs.Ways.{HasRoutes}
-use Rattle.app_token.specs.OneToken.{HasOneToken}
 use Rattle.topology.specs.Graph.{Graph, IsNode}
 use Rattle.topology.specs.declared.text.AppName.{AppName}
-use Rattle.topology.specs.declared.text.AppName.TheVariants.{Idle, Token, Mutex, Routes}
 use Rattle.reset_model.specs.declared.event.Event.{Event}
 use Rattle.reset_model.specs.Configuration.{Configuration}
 use Rattle.reset_model.specs.BySteps.{IsBySteps}
 use Rattle.reset_model.specs.Outcome.{IsBoot}
 use Rattle.reset_model.specs.SoundSteps.{HoldsAt}
 use Rattle.reset_model.specs.Sound.{IsSound}
+use Rattle.applications.specs.Choice.{ForApp, ForInvariant}
+use Rattle.applications.specs.Meaning.{Meaning}
 use Rattle.history.specs.Entries.{replayed}
 use Rattle.history.specs.HistoryText.{IsReadAs, ended}
 use Rattle.history.specs.Reports.{reports_of}
@@ -24,7 +22,6 @@ use Rattle.history.specs.Stretches.{IsStretch, IsTrueReport, Stretch, steps}
 use Rattle.reset_service.specs.Counts.{counts_line}
 use Rattle.reset_service.specs.Drove.{drove_line}
 use Rattle.reset_service.specs.Started.{start_fault_text}
-use Rattle.script_replay.specs.Meaning.{Meaning, idle_meaning, token_meaning, mutex_meaning, routes_meaning}
 use Rattle.script_replay.specs.Output.{IsJudged, bad_topology_text}
 use Rattle.script_replay.specs.declared.status.RunStop.{RunStop}
 use Rattle.script_replay.specs.declared.status.RunStop.TheVariants as stop
@@ -72,10 +69,7 @@ IsKeptFrom {L = L} m g modulus history output =
 
 -- the same for the application of a name
 abbrev pub IsKeptOf : AppName → Graph → ℕ → List ℕ → List ℕ × Status → Type 0
-IsKeptOf Idle = IsKeptFrom idle_meaning
-IsKeptOf Token = IsKeptFrom token_meaning
-IsKeptOf Mutex = IsKeptFrom mutex_meaning
-IsKeptOf Routes = IsKeptFrom routes_meaning
+IsKeptOf app g modulus history output = ForApp (λ L m. IsKeptFrom m g modulus history output) app
 
 -- a run of node threads on the topology of a text leaves this history, this output and this status: a bad topology is
 -- answered first, and leaves no history
@@ -133,10 +127,7 @@ pub record TellsRun {L : Type 0} (m : Meaning L) (Inv : Graph → (ℕ → L) �
 
 -- the same for the application of a name, with its fact
 abbrev pub TellsRunOf : AppName → Graph → ℕ → List ℕ → List ℕ → Type 0
-TellsRunOf Idle = TellsRun idle_meaning (λ g v. Unit {0})
-TellsRunOf Token = TellsRun token_meaning HasOneToken
-TellsRunOf Mutex = TellsRun mutex_meaning HoldsTurns
-TellsRunOf Routes = TellsRun routes_meaning HasRoutes
+TellsRunOf app g modulus history line = ForInvariant (λ L m Inv. TellsRun m Inv g modulus history line) app
 
 -- ---- what private clauses cite: what a run comes to before anything is written
 

@@ -5,10 +5,11 @@ use Rattle.std.specs.Fmt.{decimal}
 use Rattle.std.specs.List.{concat, flat_map}
 use Rattle.topology.specs.Graph.{Graph}
 use Rattle.topology.specs.declared.text.AppName.{AppName}
-use Rattle.topology.specs.declared.text.AppName.TheVariants.{Idle, Token, Mutex, Routes}
 use Rattle.reset_model.specs.Configuration.{Configuration}
 use Rattle.reset_model.specs.Outcome.{IsBoot}
 use Rattle.reset_model.specs.Sound.{IsSound}
+use Rattle.applications.specs.Choice.{ForApp}
+use Rattle.applications.specs.Meaning.{Meaning}
 use Rattle.history.specs.Entries.{IsFirstRefused, replayed}
 use Rattle.history.specs.HistoryText.{IsReadAs, IsReadWhole, ended}
 use Rattle.history.specs.Reports.{reports_of}
@@ -17,7 +18,6 @@ use Rattle.history.specs.declared.entry.Entry.{Entry}
 use Rattle.history.specs.declared.entry.Report.{Report}
 use Rattle.history.specs.declared.text.BookFault.{BookFault}
 use Rattle.history.specs.declared.text.BookFault.TheVariants.{BadLine, BadVersion, TooLong, NoMemory, ReadFailed}
-use Rattle.script_replay.specs.Meaning.{Meaning, idle_meaning, token_meaning, mutex_meaning, routes_meaning}
 use Rattle.script_replay.specs.Output.{IsJudged, Leaves, numbered}
 use Rattle.script_replay.specs.declared.status.RunStop.{RunStop}
 use Rattle.script_replay.specs.declared.status.Status.{Status}
@@ -82,10 +82,7 @@ IsVerifiedFrom {L = L} m g modulus history output =
 
 -- the same for the application of a name
 abbrev pub IsVerifiedOf : AppName → Graph → ℕ → List ℕ → List ℕ × Status → Type 0
-IsVerifiedOf Idle = IsVerifiedFrom idle_meaning
-IsVerifiedOf Token = IsVerifiedFrom token_meaning
-IsVerifiedOf Mutex = IsVerifiedFrom mutex_meaning
-IsVerifiedOf Routes = IsVerifiedFrom routes_meaning
+IsVerifiedOf app g modulus history output = ForApp (λ L m. IsVerifiedFrom m g modulus history output) app
 
 -- what a verification writes, and its status: the topology is judged before the history
 abbrev pub IsVerification : List ℕ → List ℕ → List ℕ × Status → Type 0
@@ -116,7 +113,5 @@ pub record TellsTrueReports {L : Type 0} (m : Meaning L) (g : Graph) (modulus : 
 
 -- the same for the application of a name
 abbrev pub TellsTrueReportsOf : AppName → Graph → ℕ → List ℕ → List ℕ → Type 0
-TellsTrueReportsOf Idle = TellsTrueReports idle_meaning
-TellsTrueReportsOf Token = TellsTrueReports token_meaning
-TellsTrueReportsOf Mutex = TellsTrueReports mutex_meaning
-TellsTrueReportsOf Routes = TellsTrueReports routes_meaning
+TellsTrueReportsOf app g modulus history written =
+    ForApp (λ L m. TellsTrueReports m g modulus history written) app

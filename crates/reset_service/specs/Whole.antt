@@ -4,8 +4,8 @@ use Rattle.std.specs.List.{flat_map, list_all}
 use Rattle.std.specs.Option.{is_none}
 use Rattle.app_invariants.specs.Verdicts.{verdicts_of}
 use Rattle.reset_model.specs.Configuration.{Configuration}
+use Rattle.applications.specs.Meaning.{Meaning}
 use Rattle.script_replay.specs.Lines.{lines_of}
-use Rattle.script_replay.specs.Meaning.{Meaning}
 use Rattle.script_replay.specs.Output.{answers, script_output}
 use Rattle.script_replay.specs.VerdictText.{Judged, verdict_line}
 use Rattle.script_replay.specs.declared.status.Purpose.TheVariants as purpose

@@ -2,25 +2,24 @@
 
 ghost use Rattle.std.specs.Prelude.{◌≡◌, ◌++◌, ℕ, IfErr, List, None, option_map};
 ghost use Rattle.topology.specs.TopologyText.{IsReadFault};
+ghost use Rattle.applications.specs.Choice.{ForApp};
+ghost use Rattle.applications.specs.Meaning.{meaning_of};
 ghost use Rattle.history.specs.Entries.{entered};
 ghost use Rattle.history.specs.HistoryText.{IsReadWhole};
 ghost use Rattle.history.specs.Verdict.{IsJudgementOf};
-ghost use Rattle.script_replay.specs.Meaning.{meaning_of};
 ghost use Rattle.script_replay.specs.Output.{Leaves, snapshot_text};
 ghost use Rattle.script_replay.specs.Stops.{IsOutputStop};
 ghost use Rattle.reset_service.specs.Asked.{AnswersTo, IsAnswered, allowed_output, asked_reason, ends_after_text};
 ghost use Rattle.reset_service.specs.Asked.{asked_of, left_output};
-ghost use Rattle.reset_service.specs.Explorations.{IsOpenedFrom, IsOpenedOf, IsOpenedText};
+ghost use Rattle.reset_service.specs.Opened.{IsOpenedFrom, IsOpenedText};
 ghost use Rattle.reset_service.specs.Verified.{LeavesOfReader, not_enabled_text};
 
 use crate::reasons::put_asked_reason;
 use crate::started::{open_network, refuse_start};
 use crate::verified::{answer_summary, put_not_enabled, refuse_history, refuse_modulus};
-use app_interface::{Application, Idle};
+use app_interface::Application;
 use app_invariants::Invariant;
-use app_mutex::EdgeReversal;
-use app_routes::Routes;
-use app_token::Token;
+use applications::with_application;
 use history::{BookFault, JudgeFault, Refused, Resumed, judge_first, judge_reader};
 use reset_machine::Config;
 use script_replay::{
@@ -28,7 +27,7 @@ use script_replay::{
 };
 use std::alloc::Global;
 use std::io::{Read, Write};
-use topology::{AppName, ReadFault};
+use topology::ReadFault;
 
 /// What is asked of a verification, beside what its history comes to.
 #[derive(Clone, Copy)]
@@ -63,6 +62,7 @@ pub fn verify_asked<R: Read, W: Write>(
 }
 
 // Judges a history on a network, with the application that it names.
+#[tactic(auto, using(applications::proofs::Choosing::by_name))]
 fn ask_app<R: Read, W: Write>(
     alloc: Global,
     network: Network,
@@ -72,25 +72,15 @@ fn ask_app<R: Read, W: Write>(
     out: &mut W,
 ) -> Result<Status, RunStop>
     requires { network.topology.nodes ≡ network.topology.ids }
-    ensures leaves { LeavesOfReader (R.remaining history.old)
-        (λ text. IsOpenedOf (AnswersTo question text) network.app network.topology network.modulus
-        (option_map (λ s. s.now) snapshot.entry))
-        (W.contents out.old) (W.contents out.new) result }
+    ensures leaves { ForApp (λ L m. LeavesOfReader (R.remaining history.old)
+        (λ text. IsOpenedFrom m network.topology network.modulus (option_map (λ s. s.now) snapshot.entry)
+        (AnswersTo question text L m))
+        (W.contents out.old) (W.contents out.new) result) network.app }
 {
-    match network.app {
-        AppName::Idle => {
-            ask_opened::<Idle, R, W>(alloc, network, snapshot, history, question, out)
-        }
-        AppName::Token => {
-            ask_opened::<Token, R, W>(alloc, network, snapshot, history, question, out)
-        }
-        AppName::Mutex => {
-            ask_opened::<EdgeReversal, R, W>(alloc, network, snapshot, history, question, out)
-        }
-        AppName::Routes => {
-            ask_opened::<Routes, R, W>(alloc, network, snapshot, history, question, out)
-        }
-    }
+    with_application!(
+        network.app,
+        P => ask_opened::<P, R, W>(alloc, network, snapshot, history, question, out)
+    )
 }
 
 fn ask_opened<P: Invariant, R: Read, W: Write>(

@@ -1,10 +1,10 @@
 // The pictures of a history that a reader gives, or of some rows of it.
 
 ghost use Rattle.std.specs.Prelude.{◌≡◌, ◌≤◌, ℕ, IfErr, IfOk, IfSome, IsSome, List, None, Ok, Some, length};
+ghost use Rattle.applications.specs.Meaning.{meaning_of};
 ghost use Rattle.history.specs.Entries.{replayed};
 ghost use Rattle.history.specs.HistoryText.{IsReadAs};
 ghost use Rattle.history.specs.Reports.{reports_of};
-ghost use Rattle.script_replay.specs.Meaning.{meaning_of};
 ghost use Rattle.script_replay.specs.Output.{Leaves};
 ghost use Rattle.script_replay.specs.Stops.{IsOutputStop};
 ghost use Rattle.space_time_diagram.specs.Diagram.{diagram_text};

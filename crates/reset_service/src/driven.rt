@@ -1,19 +1,17 @@
 // Runs of the seeded scheduler, from a booted configuration or a snapshot.
 
 ghost use Rattle.std.specs.Prelude.{◌≡◌, [], IfErr, IfOk};
-ghost use Rattle.reset_service.specs.Begun.{Drives, IsBegunFrom, IsBegunOf, IsBegunText};
-ghost use Rattle.reset_service.specs.Drove.{IsDrove, IsDroveFrom, IsDroveOf, IsDroveText};
-ghost use Rattle.script_replay.specs.Meaning.{meaning_of};
+ghost use Rattle.applications.specs.Choice.{ForApp};
+ghost use Rattle.applications.specs.Meaning.{meaning_of};
+ghost use Rattle.reset_service.specs.Begun.{Drives, IsBegunFrom, IsBegunText};
+ghost use Rattle.reset_service.specs.Drove.{IsDrove, IsDroveFrom, IsDroveText};
 ghost use Rattle.script_replay.specs.Stops.{IsRunStop};
 ghost use Rattle.reset_service.specs.Threaded.{LeavesBoth, told_history, told_output};
 
 use crate::started::{StartFault, start};
 use crate::told::{Told, put_history, put_told, status_of};
-use app_interface::Idle;
 use app_invariants::Invariant;
-use app_mutex::EdgeReversal;
-use app_routes::Routes;
-use app_token::Token;
+use applications::with_application;
 use history::books_read_back;
 use progress::Progress;
 use reset_machine::Config;
@@ -21,7 +19,7 @@ use scheduler::driven_history;
 use script_replay::{Network, RunStop, Status, read_network};
 use std::alloc::{AllocError, Global};
 use std::io::Write;
-use topology::{AppName, ReadFault};
+use topology::ReadFault;
 
 /// How a seeded scheduler is to drive a network.
 #[derive(Clone, Copy, Debug, PartialEq, Eq)]
@@ -76,24 +74,20 @@ fn drive_topology(
 }
 
 // Drives a network with the application that it names.
+#[tactic(auto, using(applications::proofs::Choosing::by_name))]
 fn drive_app(
     alloc: Global,
     network: Network,
     run: Drive,
     progress: &Progress,
 ) -> Result<Told, RunStop>
-    ensures ok { IfOk result
-        (λ told. IsDroveOf run.steps run.seed run.faults network.app network.topology network.modulus
-        (told_history told) (told_output told)) }
+    ensures ok { ForApp (λ L m. IfOk result
+        (λ told. IsDroveFrom m run.steps run.seed run.faults network.topology network.modulus
+        (told_history told) (told_output told))) network.app }
     ensures undriven { IfOk result (λ told. (told_output told).1 ≡ Status.BadInput → told_history told ≡ []) }
     ensures stop { IfErr result IsRunStop }
 {
-    match network.app {
-        AppName::Idle => drive_booted::<Idle>(alloc, network, run, progress),
-        AppName::Token => drive_booted::<Token>(alloc, network, run, progress),
-        AppName::Mutex => drive_booted::<EdgeReversal>(alloc, network, run, progress),
-        AppName::Routes => drive_booted::<Routes>(alloc, network, run, progress),
-    }
+    with_application!(network.app, P => drive_booted::<P>(alloc, network, run, progress))
 }
 
 fn drive_booted<P: Invariant>(
@@ -155,6 +149,7 @@ fn drive_topology_from(
 }
 
 // Drives a network from a snapshot, with the application that it names.
+#[tactic(auto, using(applications::proofs::Choosing::by_name))]
 fn drive_app_from(
     alloc: Global,
     network: Network,
@@ -163,17 +158,12 @@ fn drive_app_from(
     progress: &Progress,
 ) -> Result<Told, RunStop>
     requires { network.topology.nodes ≡ network.topology.ids }
-    ensures ok { IfOk result
-        (λ told. IsBegunOf (Drives run.steps run.seed run.faults) network.app network.topology network.modulus
-        snapshot.now (told_history told) (told_output told)) }
+    ensures ok { ForApp (λ L m. IfOk result
+        (λ told. IsBegunFrom m network.topology network.modulus snapshot.now
+        (Drives run.steps run.seed run.faults L m) (told_history told) (told_output told))) network.app }
     ensures stop { IfErr result IsRunStop }
 {
-    match network.app {
-        AppName::Idle => drive_started::<Idle>(alloc, network, snapshot, run, progress),
-        AppName::Token => drive_started::<Token>(alloc, network, snapshot, run, progress),
-        AppName::Mutex => drive_started::<EdgeReversal>(alloc, network, snapshot, run, progress),
-        AppName::Routes => drive_started::<Routes>(alloc, network, snapshot, run, progress),
-    }
+    with_application!(network.app, P => drive_started::<P>(alloc, network, snapshot, run, progress))
 }
 
 fn drive_started<P: Invariant>(

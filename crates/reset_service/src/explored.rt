@@ -4,24 +4,23 @@ ghost use Rattle.std.specs.Prelude.{◌≡◌, ℕ, List, None, option_map, IfEr
 ghost use Rattle.std.specs.Io.KnownBytes.{Appends};
 ghost use Rattle.topology.specs.TopologyText.{IsReadFault};
 ghost use Rattle.action_tables.specs.Written.{AppendsPrefix};
+ghost use Rattle.applications.specs.Choice.{ForApp};
+ghost use Rattle.applications.specs.Meaning.{meaning_of};
 ghost use Rattle.schedules.specs.declared.schedules.Schedules.{Schedules};
 ghost use Rattle.script_replay.specs.Lines.{GaveText, IsReadFrom};
-ghost use Rattle.script_replay.specs.Meaning.{meaning_of};
 ghost use Rattle.script_replay.specs.Output.{Leaves};
 ghost use Rattle.script_replay.specs.Stops.{IsOutputStop};
-ghost use Rattle.reset_service.specs.Explorations.{Explores, IsExploration, IsFound, IsOpenedFrom, IsOpenedOf};
-ghost use Rattle.reset_service.specs.Explorations.{IsOpenedText, counts_text, runs_text, schedules_text};
+ghost use Rattle.reset_service.specs.Opened.{IsOpenedFrom, IsOpenedText};
+ghost use Rattle.reset_service.specs.Explorations.{Explores, IsExploration, IsFound};
+ghost use Rattle.reset_service.specs.Explorations.{counts_text, runs_text, schedules_text};
 ghost use Rattle.reset_service.specs.Explorations.{status_of, too_many_text};
 
 use crate::planned::refuse_line;
 use crate::searched::search_here;
 use crate::started::{open_network, refuse_start};
 use action_tables::{Part, WriteFault, put_bytes, put_parts};
-use app_interface::Idle;
 use app_invariants::Invariant;
-use app_mutex::EdgeReversal;
-use app_routes::Routes;
-use app_token::Token;
+use applications::with_application;
 use progress::Progress;
 use reset_machine::Config;
 use schedules::{ExploreFault, Runs, Schedules, Target, explore};
@@ -30,7 +29,7 @@ use script_replay::{
 };
 use std::alloc::Global;
 use std::io::{Read, Write};
-use topology::{AppName, MAX_TEXT, ReadFault};
+use topology::{MAX_TEXT, ReadFault};
 
 /// How far an exploration goes, and what it looks for.
 #[derive(Clone, Copy, Debug, PartialEq, Eq)]
@@ -81,6 +80,7 @@ pub fn explore_text<R: Read, W: Write>(
 }
 
 // Explores what a script leaves of a network, with the application that it names.
+#[tactic(auto, using(applications::proofs::Choosing::by_name))]
 fn explore_app<W: Write>(
     alloc: Global,
     network: Network,
@@ -91,26 +91,15 @@ fn explore_app<W: Write>(
     out: &mut W,
 ) -> Result<Status, RunStop>
     requires { network.topology.nodes ≡ network.topology.ids }
-    ensures leaves { Leaves
-        (IsOpenedOf (Explores run script.now) network.app network.topology network.modulus
-        (option_map (λ s. s.now) snapshot.entry))
-        (W.contents out.old) (W.contents out.new) result }
+    ensures leaves { ForApp (λ L m. Leaves
+        (IsOpenedFrom m network.topology network.modulus (option_map (λ s. s.now) snapshot.entry) (Explores run script.now L m))
+        (W.contents out.old) (W.contents out.new) result) network.app }
     ensures stop { IfErr result IsOutputStop }
 {
-    match network.app {
-        AppName::Idle => explore_opened::<Idle, W>(
-            alloc, network, snapshot, script, run, progress, out,
-        ),
-        AppName::Token => explore_opened::<Token, W>(
-            alloc, network, snapshot, script, run, progress, out,
-        ),
-        AppName::Mutex => {
-            explore_opened::<EdgeReversal, W>(alloc, network, snapshot, script, run, progress, out)
-        }
-        AppName::Routes => explore_opened::<Routes, W>(
-            alloc, network, snapshot, script, run, progress, out,
-        ),
-    }
+    with_application!(
+        network.app,
+        P => explore_opened::<P, W>(alloc, network, snapshot, script, run, progress, out)
+    )
 }
 
 fn explore_opened<P: Invariant, W: Write>(

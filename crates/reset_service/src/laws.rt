@@ -6,8 +6,8 @@ ghost use Rattle.topology.specs.declared.text.AppName.{AppName};
 ghost use Rattle.reset_model.specs.Configuration.{Configuration};
 ghost use Rattle.reset_model.specs.Outcome.{IsBoot};
 ghost use Rattle.reset_model.specs.SoundSteps.{HoldsAt};
+ghost use Rattle.applications.specs.Meaning.{meaning_of};
 ghost use Rattle.reset_service.specs.Drove.{IsDroveText};
-ghost use Rattle.script_replay.specs.Meaning.{meaning_of};
 ghost use Rattle.script_replay.specs.Output.{Describes};
 ghost use Rattle.script_replay.specs.Recorded.{IsRecorded};
 ghost use Rattle.reset_service.specs.Stepped.{TellsStepsOf};
@@ -15,11 +15,9 @@ ghost use Rattle.reset_service.specs.Threaded.{IsKeptFrom, IsThreaded, TellsRun,
 ghost use Rattle.reset_service.specs.Verified.{IsVerification, TellsTrueReportsOf};
 ghost use Rattle.script_replay.specs.declared.status.Status.{Status};
 
-use app_interface::{Application, Idle};
+use app_interface::Application;
 use app_invariants::Invariant;
-use app_mutex::EdgeReversal;
-use app_routes::Routes;
-use app_token::Token;
+use applications::{EdgeReversal, Idle, Routes, Token};
 use history::{one_reading_a_text, reports_are_completions, reports_are_true, stretches_are_steps};
 
 /// A topology and a history are answered with one thing at most, status included.

@@ -2,27 +2,25 @@
 
 ghost use Rattle.std.specs.Prelude.{◌≡◌, ℕ, List, option_map, IfErr, OnOk};
 ghost use Rattle.topology.specs.TopologyText.{IsReadFault};
+ghost use Rattle.applications.specs.Choice.{ForApp};
+ghost use Rattle.applications.specs.Meaning.{meaning_of};
 ghost use Rattle.script_replay.specs.Lines.{GaveText, IsReadFrom};
 ghost use Rattle.script_replay.specs.Marked.{marked_output};
-ghost use Rattle.script_replay.specs.Meaning.{meaning_of};
 ghost use Rattle.script_replay.specs.Output.{Leaves};
 ghost use Rattle.script_replay.specs.Stops.{IsOutputStop};
 ghost use Rattle.script_replay.specs.declared.tally.Tally.{Tally};
-ghost use Rattle.reset_service.specs.Explorations.{IsOpenedFrom, IsOpenedOf, IsOpenedText};
+ghost use Rattle.reset_service.specs.Opened.{IsOpenedFrom, IsOpenedText};
 ghost use Rattle.reset_service.specs.Marked.{MarkedReplay};
 
 use crate::started::{open_network, refuse_start};
-use app_interface::Idle;
 use app_invariants::Invariant;
-use app_mutex::EdgeReversal;
-use app_routes::Routes;
-use app_token::Token;
+use applications::with_application;
 use script_replay::{
     Marks, Network, RunStop, Status, Tally, read_network, read_text, refuse_topology, run_marked,
 };
 use std::alloc::Global;
 use std::io::{Read, Write};
-use topology::{AppName, ReadFault};
+use topology::ReadFault;
 
 /// Replays the script of a reader as `replay` or, where a snapshot is given, `replay_from` does, with marks: the number of its
 /// line before each answer, or an end at the first refusal, which is `Status::NotEnabled`. Leaves in `tally` how the commands
@@ -54,6 +52,7 @@ pub fn replay_marked<R: Read, W: Write>(
 }
 
 // Replays a script on a network, with the application that it names.
+#[tactic(auto, using(applications::proofs::Choosing::by_name))]
 fn replay_app<W: Write>(
     alloc: Global,
     network: Network,
@@ -64,26 +63,16 @@ fn replay_app<W: Write>(
     out: &mut W,
 ) -> Result<Status, RunStop>
     requires { network.topology.nodes ≡ network.topology.ids }
-    ensures leaves { (answered : Tally) × OnOk result (tally.new ≡ answered) × Leaves
-        (IsOpenedOf (MarkedReplay marks script.now answered) network.app network.topology network.modulus
-        (option_map (λ s. s.now) snapshot.entry))
-        (W.contents out.old) (W.contents out.new) result }
+    ensures leaves { ForApp (λ L m. (answered : Tally) × OnOk result (tally.new ≡ answered) × Leaves
+        (IsOpenedFrom m network.topology network.modulus (option_map (λ s. s.now) snapshot.entry)
+        (MarkedReplay marks script.now answered L m))
+        (W.contents out.old) (W.contents out.new) result) network.app }
     ensures stop { IfErr result IsOutputStop }
 {
-    match network.app {
-        AppName::Idle => replay_opened::<Idle, W>(
-            alloc, network, snapshot, script, marks, tally, out,
-        ),
-        AppName::Token => replay_opened::<Token, W>(
-            alloc, network, snapshot, script, marks, tally, out,
-        ),
-        AppName::Mutex => {
-            replay_opened::<EdgeReversal, W>(alloc, network, snapshot, script, marks, tally, out)
-        }
-        AppName::Routes => replay_opened::<Routes, W>(
-            alloc, network, snapshot, script, marks, tally, out,
-        ),
-    }
+    with_application!(
+        network.app,
+        P => replay_opened::<P, W>(alloc, network, snapshot, script, marks, tally, out)
+    )
 }
 
 fn replay_opened<P: Invariant, W: Write>(

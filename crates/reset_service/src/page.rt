@@ -1,34 +1,32 @@
 // The page that plays a history, from a booted configuration or a snapshot.
 
-ghost use Rattle.std.specs.Prelude.{◌≡◌, ℕ, IfErr, IsSome, List, Ok};
-ghost use Rattle.topology.specs.TopologyTable.{app_word};
+ghost use Rattle.std.specs.Prelude.{◌≡◌, ℕ, IfErr, IsSome, List, None, Ok, Some, option_map};
 ghost use Rattle.topology.specs.TopologyText.{IsReadFault};
+ghost use Rattle.applications.specs.Choice.{ForApp};
+ghost use Rattle.applications.specs.Meaning.{meaning_of};
 ghost use Rattle.history.specs.Entries.{replayed};
 ghost use Rattle.history.specs.HistoryText.{IsReadAs};
 ghost use Rattle.history.specs.Reports.{reports_of};
 ghost use Rattle.history_page.specs.Page.{data_text, page_text};
-ghost use Rattle.script_replay.specs.Meaning.{meaning_of};
 ghost use Rattle.script_replay.specs.Output.{Leaves};
 ghost use Rattle.script_replay.specs.Stops.{IsOutputStop};
-ghost use Rattle.reset_service.specs.Page.{IsPage, IsPageFrom, IsPageOf, IsPageOfEntries, IsPageText, IsPageTextFrom};
+ghost use Rattle.reset_service.specs.Opened.{IsOpenedFrom};
+ghost use Rattle.reset_service.specs.Page.{IsPage, IsPageOfEntries, IsPageText};
 ghost use Rattle.reset_service.specs.Page.{Plays, page_output};
-ghost use Rattle.reset_service.specs.Started.{IsStartedFrom, IsStartedOf};
 ghost use Rattle.reset_service.specs.Verified.{LeavesOfReader};
 
-use crate::started::{refuse_start, start};
+use crate::started::{open_network, refuse_start};
 use crate::verified::{refuse_entry, refuse_history, refuse_modulus};
-use app_interface::{Application, Idle};
+use app_interface::Application;
 use app_invariants::Invariant;
-use app_mutex::EdgeReversal;
-use app_routes::Routes;
-use app_token::Token;
+use applications::{app_word, with_application};
 use history::{BookFault, BookText, Entry, Report, VerifyFault, read_book, verify};
 use history_page::{HEAD, MOMENTS, PageStop, VIEWS, put_page};
 use reset_machine::Config;
 use script_replay::{Network, RunStop, Status, read_network, refuse_input, refuse_topology};
 use std::alloc::Global;
 use std::io::{Read, Write};
-use topology::{AppName, ReadFault};
+use topology::ReadFault;
 
 /// The most entries of a history that a page plays.
 pub const MAX_PLAYED: usize = 100_000;
@@ -46,14 +44,11 @@ pub fn page_text<R: Read, W: Write>(
     out: &mut W,
 ) -> Result<Status, RunStop>
     ensures leaves { LeavesOfReader (R.remaining history.old)
-        (IsPageText (page_text HEAD.now MOMENTS.now VIEWS.now) title.now topology.now)
+        (IsPageText (page_text HEAD.now MOMENTS.now VIEWS.now) title.now topology.now None)
         (W.contents out.old) (W.contents out.new) result }
     ensures untouched { (f : ReadFault) → IsReadFault topology.now f → history.new ≡ history.old }
 {
-    match read_network(alloc, topology) {
-        Ok(network) => play_app(alloc, network, history, title, out),
-        Err(fault) => refuse_topology(fault, out),
-    }
+    play_opening(alloc, topology, None, history, title, out)
 }
 
 /// As `page_text`, from the configuration that a snapshot of the topology names in place of the booted one. The
@@ -67,112 +62,80 @@ pub fn page_from<R: Read, W: Write>(
     out: &mut W,
 ) -> Result<Status, RunStop>
     ensures leaves { LeavesOfReader (R.remaining history.old)
-        (IsPageTextFrom (page_text HEAD.now MOMENTS.now VIEWS.now) title.now topology.now snapshot.now)
+        (IsPageText (page_text HEAD.now MOMENTS.now VIEWS.now) title.now topology.now (Some snapshot.now))
+        (W.contents out.old) (W.contents out.new) result }
+    ensures untouched { (f : ReadFault) → IsReadFault topology.now f → history.new ≡ history.old }
+{
+    play_opening(alloc, topology, Some(snapshot), history, title, out)
+}
+
+// Plays a history from the booted configuration of a topology text, or from that which a snapshot of it names.
+fn play_opening<R: Read, W: Write>(
+    alloc: Global,
+    topology: &[u8],
+    snapshot: Option<&[u8]>,
+    history: &mut R,
+    title: &[u8],
+    out: &mut W,
+) -> Result<Status, RunStop>
+    ensures leaves { LeavesOfReader (R.remaining history.old)
+        (IsPageText (page_text HEAD.now MOMENTS.now VIEWS.now) title.now topology.now
+        (option_map (λ s. s.now) snapshot.entry))
         (W.contents out.old) (W.contents out.new) result }
     ensures untouched { (f : ReadFault) → IsReadFault topology.now f → history.new ≡ history.old }
 {
     match read_network(alloc, topology) {
-        Ok(network) => play_app_from(alloc, network, snapshot, history, title, out),
+        Ok(network) => {
+            let word = app_word(network.app);
+            play_app(alloc, network, snapshot, history, word, title, out)
+        }
         Err(fault) => refuse_topology(fault, out),
     }
 }
 
-// Plays a history from a snapshot of a network, with the application that it names.
-fn play_app_from<R: Read, W: Write>(
-    alloc: Global,
-    network: Network,
-    snapshot: &[u8],
-    history: &mut R,
-    title: &[u8],
-    out: &mut W,
-) -> Result<Status, RunStop>
-    requires { network.topology.nodes ≡ network.topology.ids }
-    ensures leaves { LeavesOfReader (R.remaining history.old)
-        (λ text. IsStartedOf (Plays (page_text HEAD.now MOMENTS.now VIEWS.now) title.now (app_word network.app)
-        text) network.app network.topology network.modulus
-        snapshot.now) (W.contents out.old) (W.contents out.new) result }
-{
-    match network.app {
-        AppName::Idle => play_started::<Idle, R, W>(
-            alloc, network, snapshot, history, b"idle", title, out,
-        ),
-        AppName::Token => {
-            play_started::<Token, R, W>(alloc, network, snapshot, history, b"token", title, out)
-        }
-        AppName::Mutex => {
-            play_started::<EdgeReversal, R, W>(
-                alloc, network, snapshot, history, b"mutex", title, out,
-            )
-        }
-        AppName::Routes => {
-            play_started::<Routes, R, W>(alloc, network, snapshot, history, b"routes", title, out)
-        }
-    }
-}
-
-fn play_started<P: Invariant, R: Read, W: Write>(
-    alloc: Global,
-    network: Network,
-    snapshot: &[u8],
-    history: &mut R,
-    app: &[u8],
-    title: &[u8],
-    out: &mut W,
-) -> Result<Status, RunStop>
-    requires { network.topology.nodes ≡ network.topology.ids }
-    ensures leaves { LeavesOfReader (R.remaining history.old)
-        (λ text. IsStartedFrom (meaning_of P.app P.text P.from_text P.names P.counts) network.topology network.modulus
-        snapshot.now
-        (Plays (page_text HEAD.now MOMENTS.now VIEWS.now) title.now app.now text P.Local
-        (meaning_of P.app P.text P.from_text P.names P.counts)))
-        (W.contents out.old) (W.contents out.new) result }
-{
-    match start::<P>(alloc, network, snapshot) {
-        Ok(opening) => play_from(alloc, &opening, history, app, title, out),
-        Err(fault) => refuse_start(fault, out),
-    }
-}
-
-// Plays a history from the booted configuration of a network, with the application that it names.
+// Plays a history on a network, with the application that it names, whose word this is.
+#[tactic(auto, using(applications::proofs::Choosing::by_name))]
 fn play_app<R: Read, W: Write>(
     alloc: Global,
     network: Network,
+    snapshot: Option<&[u8]>,
     history: &mut R,
+    word: &[u8],
     title: &[u8],
     out: &mut W,
 ) -> Result<Status, RunStop>
-    ensures leaves { LeavesOfReader (R.remaining history.old)
-        (IsPageOf (page_text HEAD.now MOMENTS.now VIEWS.now) title.now network.app network.topology network.modulus)
-        (W.contents out.old) (W.contents out.new) result }
+    requires { network.topology.nodes ≡ network.topology.ids }
+    ensures leaves { ForApp (λ L m. LeavesOfReader (R.remaining history.old)
+        (λ text. IsOpenedFrom m network.topology network.modulus (option_map (λ s. s.now) snapshot.entry)
+        (Plays (page_text HEAD.now MOMENTS.now VIEWS.now) title.now word.now text L m))
+        (W.contents out.old) (W.contents out.new) result) network.app }
 {
-    match network.app {
-        AppName::Idle => play_booted::<Idle, R, W>(alloc, network, history, b"idle", title, out),
-        AppName::Token => play_booted::<Token, R, W>(alloc, network, history, b"token", title, out),
-        AppName::Mutex => play_booted::<EdgeReversal, R, W>(
-            alloc, network, history, b"mutex", title, out,
-        ),
-        AppName::Routes => play_booted::<Routes, R, W>(
-            alloc, network, history, b"routes", title, out,
-        ),
-    }
+    with_application!(
+        network.app,
+        P => play_opened::<P, R, W>(alloc, network, snapshot, history, word, title, out)
+    )
 }
 
-fn play_booted<P: Invariant, R: Read, W: Write>(
+fn play_opened<P: Invariant, R: Read, W: Write>(
     alloc: Global,
     network: Network,
+    snapshot: Option<&[u8]>,
     history: &mut R,
-    app: &[u8],
+    word: &[u8],
     title: &[u8],
     out: &mut W,
 ) -> Result<Status, RunStop>
+    requires { network.topology.nodes ≡ network.topology.ids }
     ensures leaves { LeavesOfReader (R.remaining history.old)
-        (IsPageFrom (page_text HEAD.now MOMENTS.now VIEWS.now) title.now app.now
-        (meaning_of P.app P.text P.from_text P.names P.counts) network.topology
-        network.modulus) (W.contents out.old) (W.contents out.new) result }
+        (λ text. IsOpenedFrom (meaning_of P.app P.text P.from_text P.names P.counts) network.topology network.modulus
+        (option_map (λ s. s.now) snapshot.entry)
+        (Plays (page_text HEAD.now MOMENTS.now VIEWS.now) title.now word.now text P.Local
+        (meaning_of P.app P.text P.from_text P.names P.counts)))
+        (W.contents out.old) (W.contents out.new) result }
 {
-    match Config::<P>::boot(alloc, network.topology, network.modulus) {
-        Ok(opening) => play_from(alloc, &opening, history, app, title, out),
-        Err(_) => Err(RunStop::NoMemory),
+    match open_network::<P>(alloc, network, snapshot) {
+        Ok(opening) => play_from(alloc, &opening, history, word, title, out),
+        Err(fault) => refuse_start(fault, out),
     }
 }
 
@@ -181,17 +144,17 @@ fn play_from<P: Invariant, R: Read, W: Write>(
     alloc: Global,
     opening: &Config<P>,
     history: &mut R,
-    app: &[u8],
+    word: &[u8],
     title: &[u8],
     out: &mut W,
 ) -> Result<Status, RunStop>
     ensures leaves { LeavesOfReader (R.remaining history.old)
-        (IsPage (page_text HEAD.now MOMENTS.now VIEWS.now) title.now app.now
+        (IsPage (page_text HEAD.now MOMENTS.now VIEWS.now) title.now word.now
         (meaning_of P.app P.text P.from_text P.names P.counts) opening.now)
         (W.contents out.old) (W.contents out.new) result }
 {
     match read_book(alloc, history) {
-        Ok(book) => play_book(alloc, opening, &book, app, title, out),
+        Ok(book) => play_book(alloc, opening, &book, word, title, out),
         Err(BookFault::NoMemory) => Err(RunStop::NoMemory),
         Err(BookFault::ReadFailed) => Err(RunStop::ReadFailed),
         Err(fault) => refuse_history(fault, out),
@@ -203,13 +166,13 @@ fn play_book<P: Invariant, W: Write>(
     alloc: Global,
     opening: &Config<P>,
     book: &BookText,
-    app: &[u8],
+    word: &[u8],
     title: &[u8],
     out: &mut W,
 ) -> Result<Status, RunStop>
     ensures leaves { Leaves
         (λ output. (text : List ℕ) → IsReadAs text (Ok (book.now.modulus, book.now.entries.items))
-        → IsPage (page_text HEAD.now MOMENTS.now VIEWS.now) title.now app.now
+        → IsPage (page_text HEAD.now MOMENTS.now VIEWS.now) title.now word.now
         (meaning_of P.app P.text P.from_text P.names P.counts) opening.now text output)
         (W.contents out.old) (W.contents out.new) result }
     ensures stop { IfErr result IsOutputStop }
@@ -217,7 +180,7 @@ fn play_book<P: Invariant, W: Write>(
     if book.modulus != opening.modulus().get() {
         return refuse_modulus(book.modulus, out);
     }
-    play_entries(alloc, opening, &book.entries, app, title, out)
+    play_entries(alloc, opening, &book.entries, word, title, out)
 }
 
 // Plays entries from this configuration on.
@@ -225,18 +188,18 @@ fn play_entries<P: Invariant, W: Write>(
     alloc: Global,
     opening: &Config<P>,
     entries: &[Entry],
-    app: &[u8],
+    word: &[u8],
     title: &[u8],
     out: &mut W,
 ) -> Result<Status, RunStop>
     ensures leaves { Leaves
-        (IsPageOfEntries (page_text HEAD.now MOMENTS.now VIEWS.now) title.now app.now
+        (IsPageOfEntries (page_text HEAD.now MOMENTS.now VIEWS.now) title.now word.now
         (meaning_of P.app P.text P.from_text P.names P.counts) opening.now
         entries.now) (W.contents out.old) (W.contents out.new) result }
     ensures stop { IfErr result IsOutputStop }
 {
     match verify(alloc, opening.copy(alloc)?, entries) {
-        Ok(summary) => play(alloc, opening, entries, &summary.reports, app, title, out),
+        Ok(summary) => play(alloc, opening, entries, &summary.reports, word, title, out),
         Err(VerifyFault::NotEnabledAt(position)) => refuse_entry(position, out),
         Err(VerifyFault::NoMemory) => Err(RunStop::NoMemory),
     }
@@ -248,14 +211,14 @@ fn play<P: Invariant, W: Write>(
     opening: &Config<P>,
     entries: &[Entry],
     reports: &[Report],
-    app: &[u8],
+    word: &[u8],
     title: &[u8],
     out: &mut W,
 ) -> Result<Status, RunStop>
     requires run { IsSome (replayed P.app P.from_text opening.now entries.now) }
     requires reports { reports.now ≡ reports_of P.app P.from_text opening.now entries.now }
     ensures leaves { Leaves
-        (λ output. output ≡ page_output (page_text HEAD.now MOMENTS.now VIEWS.now) title.now app.now
+        (λ output. output ≡ page_output (page_text HEAD.now MOMENTS.now VIEWS.now) title.now word.now
         (meaning_of P.app P.text P.from_text P.names P.counts)
         opening.now entries.now) (W.contents out.old) (W.contents out.new) result }
     ensures stop { IfErr result IsOutputStop }
@@ -263,7 +226,7 @@ fn play<P: Invariant, W: Write>(
     if entries.len() > MAX_PLAYED {
         refuse_input(out, b"bad history TooLongForPage\n")
     } else {
-        play_few(alloc, opening, entries, reports, app, title, out)
+        play_few(alloc, opening, entries, reports, word, title, out)
     }
 }
 
@@ -273,7 +236,7 @@ fn play_few<P: Application, W: Write>(
     opening: &Config<P>,
     entries: &[Entry],
     reports: &[Report],
-    app: &[u8],
+    word: &[u8],
     title: &[u8],
     out: &mut W,
 ) -> Result<Status, RunStop>
@@ -283,13 +246,13 @@ fn play_few<P: Application, W: Write>(
         (λ output. output
         ≡ (
           page_text HEAD.now MOMENTS.now VIEWS.now
-              (data_text P.app P.text P.from_text title.now app.now opening.now entries.now),
+              (data_text P.app P.text P.from_text title.now word.now opening.now entries.now),
           Status.Good,
         ))
         (W.contents out.old) (W.contents out.new) result }
     ensures stop { IfErr result IsOutputStop }
 {
-    match put_page(alloc, opening, app, title, entries, reports, out) {
+    match put_page(alloc, opening, word, title, entries, reports, out) {
         Ok(()) => Ok(Status::Good),
         Err(PageStop::WriteFailed) => Err(RunStop::WriteFailed),
         Err(PageStop::NoMemory) => Err(RunStop::NoMemory),

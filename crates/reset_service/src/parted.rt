@@ -2,22 +2,20 @@
 
 ghost use Rattle.std.specs.Prelude.{◌≡◌, IfErr, IfSome, Some, option_map};
 ghost use Rattle.topology.specs.TopologyText.{IsReadFault};
-ghost use Rattle.script_replay.specs.Meaning.{meaning_of};
+ghost use Rattle.applications.specs.Choice.{ForApp};
+ghost use Rattle.applications.specs.Meaning.{meaning_of};
 ghost use Rattle.script_replay.specs.Output.{Leaves};
 ghost use Rattle.script_replay.specs.Stops.{IsOutputStop};
 ghost use Rattle.reset_service.specs.Chosen.{AreRows, IsNamed, NamesRows};
-ghost use Rattle.reset_service.specs.Explorations.{IsOpenedFrom, IsOpenedOf, IsOpenedText};
+ghost use Rattle.reset_service.specs.Opened.{IsOpenedFrom, IsOpenedText};
 ghost use Rattle.reset_service.specs.Parted.{DrawsPart, IsPartDrawn, IsSelectionDrawn, strange_text};
 ghost use Rattle.reset_service.specs.Verified.{LeavesOfReader};
 
 use crate::chosen::{first_strange, named_lanes, read_ids, read_rows};
 use crate::drawn::{draw_all, draw_history};
 use crate::started::{open_network, refuse_start};
-use app_interface::Idle;
 use app_invariants::Invariant;
-use app_mutex::EdgeReversal;
-use app_routes::Routes;
-use app_token::Token;
+use applications::with_application;
 use reset_machine::Config;
 use script_replay::{
     Network, RunStop, Status, put_numbered, read_network, refuse_input, refuse_topology,
@@ -25,7 +23,7 @@ use script_replay::{
 use space_time_diagram::MAX_LANES;
 use std::alloc::Global;
 use std::io::{Read, Write};
-use topology::{AppName, ReadFault};
+use topology::ReadFault;
 
 /// The part of a history that a picture shows.
 #[derive(Clone, Copy)]
@@ -63,6 +61,7 @@ pub fn picture_part<R: Read, W: Write>(
 }
 
 // Draws a part of a history on a network, with the application that it names.
+#[tactic(auto, using(applications::proofs::Choosing::by_name))]
 fn draw_app<R: Read, W: Write>(
     alloc: Global,
     network: Network,
@@ -72,22 +71,15 @@ fn draw_app<R: Read, W: Write>(
     out: &mut W,
 ) -> Result<Status, RunStop>
     requires { network.topology.nodes ≡ network.topology.ids }
-    ensures leaves { LeavesOfReader (R.remaining history.old)
-        (λ text. IsOpenedOf
-        (DrawsPart (option_map (λ t. t.now) part.entry.rows) (option_map (λ t. t.now) part.entry.nodes) text)
-        network.app network.topology network.modulus (option_map (λ s. s.now) snapshot.entry))
-        (W.contents out.old) (W.contents out.new) result }
+    ensures leaves { ForApp (λ L m. LeavesOfReader (R.remaining history.old)
+        (λ text. IsOpenedFrom m network.topology network.modulus (option_map (λ s. s.now) snapshot.entry)
+        (DrawsPart (option_map (λ t. t.now) part.entry.rows) (option_map (λ t. t.now) part.entry.nodes) text L m))
+        (W.contents out.old) (W.contents out.new) result) network.app }
 {
-    match network.app {
-        AppName::Idle => draw_opened::<Idle, R, W>(alloc, network, snapshot, history, part, out),
-        AppName::Token => draw_opened::<Token, R, W>(alloc, network, snapshot, history, part, out),
-        AppName::Mutex => {
-            draw_opened::<EdgeReversal, R, W>(alloc, network, snapshot, history, part, out)
-        }
-        AppName::Routes => {
-            draw_opened::<Routes, R, W>(alloc, network, snapshot, history, part, out)
-        }
-    }
+    with_application!(
+        network.app,
+        P => draw_opened::<P, R, W>(alloc, network, snapshot, history, part, out)
+    )
 }
 
 fn draw_opened<P: Invariant, R: Read, W: Write>(

@@ -1,26 +1,26 @@
 // Plans that recover a network, as scripts.
 
-ghost use Rattle.std.specs.Prelude.{◌≡◌, ℕ, List, IfErr, OnErr, OnOk};
+ghost use Rattle.std.specs.Prelude.{◌≡◌, ℕ, List, None, Some, option_map, IfErr, OnErr, OnOk};
 ghost use Rattle.std.specs.List.{flat_map};
 ghost use Rattle.std.specs.Io.KnownBytes.{Appends};
 ghost use Rattle.topology.specs.TopologyText.{IsReadFault};
 ghost use Rattle.action_tables.specs.Written.{AppendsPrefix};
+ghost use Rattle.applications.specs.Choice.{ForApp};
+ghost use Rattle.applications.specs.Meaning.{meaning_of};
 ghost use Rattle.recovery.specs.Recovered.{Recovers};
 ghost use Rattle.script_replay.specs.Lines.{GaveText, IsReadFrom};
-ghost use Rattle.script_replay.specs.Meaning.{meaning_of};
 ghost use Rattle.script_replay.specs.Output.{Leaves, bad_line_text};
 ghost use Rattle.script_replay.specs.Stops.{IsOutputStop};
-ghost use Rattle.reset_service.specs.Started.{IsStartedFrom, IsStartedOf, IsStartedText, Plans};
-ghost use Rattle.reset_service.specs.Planned.{IsPlan, IsPlanFrom, IsPlanOf, IsPlanText, command_text, counted_text};
+ghost use Rattle.reset_service.specs.Opened.{IsOpenedFrom, IsOpenedText};
+ghost use Rattle.reset_service.specs.Started.{Plans};
+ghost use Rattle.reset_service.specs.Planned.{IsPlan, command_text, counted_text};
 ghost use Rattle.reset_service.specs.Planned.{recovery_text};
 
-use crate::started::{refuse_start, start};
+use crate::started::{open_network, refuse_start};
 use action_tables::{Part, WriteFault, put_bytes, put_parts};
-use app_interface::{Application, Idle};
+use app_interface::Application;
 use app_invariants::Invariant;
-use app_mutex::EdgeReversal;
-use app_routes::Routes;
-use app_token::Token;
+use applications::with_application;
 use recovery::{Recovery, plan};
 use reset_machine::{Config, Event, write_event};
 use script_replay::{
@@ -29,7 +29,7 @@ use script_replay::{
 };
 use std::alloc::Global;
 use std::io::{Read, Write};
-use topology::{AppName, MAX_TEXT, ReadFault};
+use topology::{MAX_TEXT, ReadFault};
 
 /// Writes a plan that recovers the network of a topology text, once the script of a reader was run on its booted
 /// configuration: a comment with the number of the repairs, these, a comment with the number of the steps of a reset,
@@ -46,17 +46,11 @@ pub fn plan_text<R: Read, W: Write>(
     out: &mut W,
 ) -> Result<Status, RunStop>
     ensures leaves { (text : List ℕ) × IsReadFrom (R.remaining script.old) text
-        × Leaves (IsPlanText topology.now text) (W.contents out.old) (W.contents out.new) result }
+        × Leaves (IsOpenedText (Plans text) topology.now None) (W.contents out.old) (W.contents out.new) result }
     ensures taken { OnOk result (GaveText (R.remaining script.old) (R.remaining script.new)) }
     ensures untouched { (f : ReadFault) → IsReadFault topology.now f → script.new ≡ script.old }
 {
-    match read_network(alloc, topology) {
-        Ok(network) => match read_text(alloc, script) {
-            Ok(text) => plan_app(alloc, network, &text, out),
-            Err(stop) => Err(stop),
-        },
-        Err(fault) => refuse_topology(fault, out),
-    }
+    plan_opening(alloc, topology, None, script, out)
 }
 
 /// As `plan_text`, from the configuration that a snapshot of the topology names in place of the booted one. The topology
@@ -69,94 +63,74 @@ pub fn plan_from<R: Read, W: Write>(
     out: &mut W,
 ) -> Result<Status, RunStop>
     ensures leaves { (text : List ℕ) × IsReadFrom (R.remaining script.old) text
-        × Leaves (IsStartedText (Plans text) topology.now snapshot.now) (W.contents out.old) (W.contents out.new) result }
+        × Leaves (IsOpenedText (Plans text) topology.now (Some snapshot.now))
+        (W.contents out.old) (W.contents out.new) result }
+    ensures taken { OnOk result (GaveText (R.remaining script.old) (R.remaining script.new)) }
+    ensures untouched { (f : ReadFault) → IsReadFault topology.now f → script.new ≡ script.old }
+{
+    plan_opening(alloc, topology, Some(snapshot), script, out)
+}
+
+// Plans for what the script of a reader leaves of the booted configuration of a topology text, or of that which a
+// snapshot of it names.
+fn plan_opening<R: Read, W: Write>(
+    alloc: Global,
+    topology: &[u8],
+    snapshot: Option<&[u8]>,
+    script: &mut R,
+    out: &mut W,
+) -> Result<Status, RunStop>
+    ensures leaves { (text : List ℕ) × IsReadFrom (R.remaining script.old) text
+        × Leaves (IsOpenedText (Plans text) topology.now (option_map (λ s. s.now) snapshot.entry))
+        (W.contents out.old) (W.contents out.new) result }
     ensures taken { OnOk result (GaveText (R.remaining script.old) (R.remaining script.new)) }
     ensures untouched { (f : ReadFault) → IsReadFault topology.now f → script.new ≡ script.old }
 {
     match read_network(alloc, topology) {
         Ok(network) => match read_text(alloc, script) {
-            Ok(text) => plan_app_from(alloc, network, snapshot, &text, out),
+            Ok(text) => plan_app(alloc, network, snapshot, &text, out),
             Err(stop) => Err(stop),
         },
         Err(fault) => refuse_topology(fault, out),
     }
 }
 
-// Plans for what a script leaves of a snapshot of a network, with the application that it names.
-fn plan_app_from<W: Write>(
-    alloc: Global,
-    network: Network,
-    snapshot: &[u8],
-    script: &[u8],
-    out: &mut W,
-) -> Result<Status, RunStop>
-    requires { network.topology.nodes ≡ network.topology.ids }
-    ensures leaves { Leaves
-        (IsStartedOf (Plans script.now) network.app network.topology network.modulus snapshot.now)
-        (W.contents out.old) (W.contents out.new) result }
-    ensures stop { IfErr result IsOutputStop }
-{
-    match network.app {
-        AppName::Idle => plan_started::<Idle, W>(alloc, network, snapshot, script, out),
-        AppName::Token => plan_started::<Token, W>(alloc, network, snapshot, script, out),
-        AppName::Mutex => plan_started::<EdgeReversal, W>(alloc, network, snapshot, script, out),
-        AppName::Routes => plan_started::<Routes, W>(alloc, network, snapshot, script, out),
-    }
-}
-
-fn plan_started<P: Invariant, W: Write>(
-    alloc: Global,
-    network: Network,
-    snapshot: &[u8],
-    script: &[u8],
-    out: &mut W,
-) -> Result<Status, RunStop>
-    requires { network.topology.nodes ≡ network.topology.ids }
-    ensures leaves { Leaves
-        (IsStartedFrom (meaning_of P.app P.text P.from_text P.names P.counts) network.topology network.modulus
-        snapshot.now (Plans script.now P.Local (meaning_of P.app P.text P.from_text P.names P.counts)))
-        (W.contents out.old) (W.contents out.new) result }
-    ensures stop { IfErr result IsOutputStop }
-{
-    match start::<P>(alloc, network, snapshot) {
-        Ok(mut config) => plan_after(alloc, &mut config, script, out),
-        Err(fault) => refuse_start(fault, out),
-    }
-}
-
 // Plans for what a script leaves of a network, with the application that it names.
+#[tactic(auto, using(applications::proofs::Choosing::by_name))]
 fn plan_app<W: Write>(
     alloc: Global,
     network: Network,
+    snapshot: Option<&[u8]>,
     script: &[u8],
     out: &mut W,
 ) -> Result<Status, RunStop>
-    ensures leaves { Leaves (IsPlanOf network.app network.topology network.modulus script.now)
-        (W.contents out.old) (W.contents out.new) result }
+    requires { network.topology.nodes ≡ network.topology.ids }
+    ensures leaves { ForApp (λ L m. Leaves
+        (IsOpenedFrom m network.topology network.modulus (option_map (λ s. s.now) snapshot.entry) (Plans script.now L m))
+        (W.contents out.old) (W.contents out.new) result) network.app }
     ensures stop { IfErr result IsOutputStop }
 {
-    match network.app {
-        AppName::Idle => plan_booted::<Idle, W>(alloc, network, script, out),
-        AppName::Token => plan_booted::<Token, W>(alloc, network, script, out),
-        AppName::Mutex => plan_booted::<EdgeReversal, W>(alloc, network, script, out),
-        AppName::Routes => plan_booted::<Routes, W>(alloc, network, script, out),
-    }
+    with_application!(network.app, P => plan_opened::<P, W>(alloc, network, snapshot, script, out))
 }
 
-fn plan_booted<P: Invariant, W: Write>(
+fn plan_opened<P: Invariant, W: Write>(
     alloc: Global,
     network: Network,
+    snapshot: Option<&[u8]>,
     script: &[u8],
     out: &mut W,
 ) -> Result<Status, RunStop>
+    requires { network.topology.nodes ≡ network.topology.ids }
     ensures leaves { Leaves
-        (IsPlanFrom (meaning_of P.app P.text P.from_text P.names P.counts) network.topology network.modulus script.now)
+        (IsOpenedFrom (meaning_of P.app P.text P.from_text P.names P.counts) network.topology network.modulus
+        (option_map (λ s. s.now) snapshot.entry)
+        (Plans script.now P.Local (meaning_of P.app P.text P.from_text P.names P.counts)))
         (W.contents out.old) (W.contents out.new) result }
     ensures stop { IfErr result IsOutputStop }
 {
-    match Config::<P>::boot(alloc, network.topology, network.modulus) {
+    match open_network::<P>(alloc, network, snapshot) {
         Ok(mut config) => plan_after(alloc, &mut config, script, out),
-        Err(_) => Err(RunStop::NoMemory),
+        Err(fault) => refuse_start(fault, out),
     }
 }
 

@@ -2,23 +2,21 @@
 
 ghost use Rattle.std.specs.Prelude.{◌≡◌, ℕ, List, OnOk};
 ghost use Rattle.topology.specs.TopologyText.{IsReadFault};
+ghost use Rattle.applications.specs.Choice.{ForApp};
+ghost use Rattle.applications.specs.Meaning.{meaning_of};
 ghost use Rattle.script_replay.specs.Lines.{GaveText, IsReadFrom};
-ghost use Rattle.script_replay.specs.Meaning.{meaning_of};
 ghost use Rattle.script_replay.specs.Recorded.{LeavesRecord};
-ghost use Rattle.reset_service.specs.Begun.{IsBegunFrom, IsBegunOf, IsBegunText, Records};
+ghost use Rattle.reset_service.specs.Begun.{IsBegunFrom, IsBegunText, Records};
 
 use crate::started::{refuse_start, start};
-use app_interface::Idle;
 use app_invariants::Invariant;
-use app_mutex::EdgeReversal;
-use app_routes::Routes;
-use app_token::Token;
+use applications::with_application;
 use script_replay::{
     Network, RunStop, Status, read_network, read_text, record_script, refuse_topology,
 };
 use std::alloc::Global;
 use std::io::{Read, Write};
-use topology::{AppName, ReadFault};
+use topology::ReadFault;
 
 /// As `record_text`, from the configuration that a snapshot of the topology names in place of the booted one. The
 /// topology is judged first, and the snapshot before the script. A snapshot that can't be started from leaves no
@@ -47,6 +45,7 @@ pub fn record_from<R: Read, H: Write, W: Write>(
 }
 
 // Records a script from a snapshot of a network, with the application that it names.
+#[tactic(auto, using(applications::proofs::Choosing::by_name))]
 fn record_app<H: Write, W: Write>(
     alloc: Global,
     network: Network,
@@ -56,24 +55,14 @@ fn record_app<H: Write, W: Write>(
     out: &mut W,
 ) -> Result<Status, RunStop>
     requires { network.topology.nodes ≡ network.topology.ids }
-    ensures { LeavesRecord
-        (IsBegunOf (Records script.now) network.app network.topology network.modulus snapshot.now)
-        (H.contents history.old) (H.contents history.new) (W.contents out.old) (W.contents out.new) result }
+    ensures { ForApp (λ L m. LeavesRecord
+        (IsBegunFrom m network.topology network.modulus snapshot.now (Records script.now L m))
+        (H.contents history.old) (H.contents history.new) (W.contents out.old) (W.contents out.new) result) network.app }
 {
-    match network.app {
-        AppName::Idle => {
-            record_started::<Idle, H, W>(alloc, network, snapshot, script, history, out)
-        }
-        AppName::Token => {
-            record_started::<Token, H, W>(alloc, network, snapshot, script, history, out)
-        }
-        AppName::Mutex => {
-            record_started::<EdgeReversal, H, W>(alloc, network, snapshot, script, history, out)
-        }
-        AppName::Routes => {
-            record_started::<Routes, H, W>(alloc, network, snapshot, script, history, out)
-        }
-    }
+    with_application!(
+        network.app,
+        P => record_started::<P, H, W>(alloc, network, snapshot, script, history, out)
+    )
 }
 
 fn record_started<P: Invariant, H: Write, W: Write>(

@@ -3,8 +3,8 @@
 ghost use Rattle.std.specs.Prelude.{◌≡◌, ◌≤◌, ℕ, List, [], Some, length, IfErr, OnErr, OnOk};
 ghost use Rattle.std.specs.Io.KnownBytes.{Appends};
 ghost use Rattle.action_tables.specs.Written.{AppendsPrefix};
+ghost use Rattle.applications.specs.Meaning.{meaning_of};
 ghost use Rattle.script_replay.specs.Lines.{lines_of};
-ghost use Rattle.script_replay.specs.Meaning.{meaning_of};
 ghost use Rattle.script_replay.specs.Output.{Leaves};
 ghost use Rattle.script_replay.specs.Recorded.{LeavesRecord, entries_of_lines};
 ghost use Rattle.script_replay.specs.Stops.{IsOutputStop};

@@ -1,7 +1,8 @@
 // Sessions on the network of a topology.
 
 ghost use Rattle.std.specs.Prelude.{◌≡◌, option_map};
-ghost use Rattle.script_replay.specs.Meaning.{meaning_of};
+ghost use Rattle.applications.specs.Choice.{ForApp};
+ghost use Rattle.applications.specs.Meaning.{meaning_of};
 ghost use Rattle.script_replay.specs.Output.{Leaves};
 ghost use Rattle.topology.specs.TopologyText.{IsReadFault};
 ghost use Rattle.reset_service.specs.Held.{HoldsFrom, HoldsKept, HoldsNew, HoldsOf, HoldsOn, HoldsText, HoldsUnkept};
@@ -9,18 +10,16 @@ ghost use Rattle.reset_service.specs.Held.{IsPastOutput, session_run, status_of}
 
 use crate::started::{refuse_start, start};
 use crate::verified::{refuse_entry, refuse_history, refuse_modulus};
-use app_interface::{Application, Idle};
+use app_interface::Application;
 use app_invariants::Invariant;
-use app_mutex::EdgeReversal;
-use app_routes::Routes;
-use app_token::Token;
+use applications::with_application;
 use history::{BookFault, ReaderFault, VerifyFault};
 use live_session::{ResumeStop, begin_history, resume_history, run_session};
 use reset_machine::Config;
 use script_replay::{Network, RunStop, Status, read_network, refuse_topology};
 use std::alloc::Global;
 use std::io::{Read, Write};
-use topology::{AppName, ReadFault};
+use topology::ReadFault;
 
 /// The history that a session keeps.
 #[derive(Drop)]
@@ -57,6 +56,7 @@ pub fn session_text<F: Read + Drop, R: Read, H: Write, W: Write>(
 }
 
 // A session on a network, with the application that it names.
+#[tactic(auto, using(applications::proofs::Choosing::by_name))]
 fn session_app<F: Read + Drop, R: Read, H: Write, W: Write>(
     alloc: Global,
     network: Network,
@@ -67,24 +67,15 @@ fn session_app<F: Read + Drop, R: Read, H: Write, W: Write>(
     out: &mut W,
 ) -> Result<Status, RunStop>
     requires { network.topology.nodes ≡ network.topology.ids }
-    ensures { HoldsOf F.remaining past (option_map (λ text. text.now) snapshot.entry) network.app network.topology network.modulus
+    ensures { ForApp (λ L m. HoldsOn m network.topology network.modulus (option_map (λ text. text.now) snapshot.entry)
+        (HoldsFrom F.remaining past m)
         (session_run (R.remaining input.old) (H.contents log.old) (H.contents log.new) (W.contents out.old)
-        (W.contents out.new) result) }
+        (W.contents out.new) result)) network.app }
 {
-    match network.app {
-        AppName::Idle => {
-            session_on::<Idle, F, R, H, W>(alloc, network, snapshot, past, input, log, out)
-        }
-        AppName::Token => {
-            session_on::<Token, F, R, H, W>(alloc, network, snapshot, past, input, log, out)
-        }
-        AppName::Mutex => {
-            session_on::<EdgeReversal, F, R, H, W>(alloc, network, snapshot, past, input, log, out)
-        }
-        AppName::Routes => {
-            session_on::<Routes, F, R, H, W>(alloc, network, snapshot, past, input, log, out)
-        }
-    }
+    with_application!(
+        network.app,
+        P => session_on::<P, F, R, H, W>(alloc, network, snapshot, past, input, log, out)
+    )
 }
 
 fn session_on<P: Invariant, F: Read + Drop, R: Read, H: Write, W: Write>(

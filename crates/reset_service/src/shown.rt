@@ -4,16 +4,18 @@ ghost use Rattle.std.specs.Prelude.{◌≡◌, ◌<◌, ◌≤◌, ◌+◌, ℕ,
 ghost use Rattle.std.specs.Io.KnownBytes.{Appends};
 ghost use Rattle.topology.specs.TopologyText.{IsReadFault};
 ghost use Rattle.action_tables.specs.Written.{AppendsPrefix};
+ghost use Rattle.applications.specs.Choice.{ForApp};
+ghost use Rattle.applications.specs.Meaning.{meaning_of};
 ghost use Rattle.history.specs.HistoryText.{IsReadAs, ended, entries_text};
 ghost use Rattle.history.specs.Stretches.{steps};
 ghost use Rattle.history.specs.declared.entry.Entry.{Entry};
 ghost use Rattle.reset_model.specs.EventText.{event_line};
 ghost use Rattle.script_replay.specs.Lines.{GaveText, IsReadFrom, lines_of};
-ghost use Rattle.script_replay.specs.Meaning.{meaning_of};
 ghost use Rattle.script_replay.specs.Output.{Leaves};
 ghost use Rattle.script_replay.specs.Recorded.{IsHistory, LeavesRecord, entries_of_lines};
 ghost use Rattle.script_replay.specs.Stops.{IsOutputStop};
-ghost use Rattle.reset_service.specs.Explorations.{IsOpenedFrom, IsOpenedOf, status_of};
+ghost use Rattle.reset_service.specs.Opened.{IsOpenedFrom};
+ghost use Rattle.reset_service.specs.Explorations.{status_of};
 ghost use Rattle.reset_service.specs.Shown.{IsFoundBy, IsHistoryOf, IsShown, IsShownText, Shows, long_history_text};
 ghost use Rattle.reset_service.specs.Shown.{IsWithin, round_text, shown_events, shown_runs_text, shown_text};
 
@@ -22,11 +24,8 @@ use crate::planned::refuse_line;
 use crate::searched::show_search;
 use crate::started::{open_network, refuse_start};
 use action_tables::{Part, WriteFault, put_bytes, put_parts};
-use app_interface::Idle;
 use app_invariants::Invariant;
-use app_mutex::EdgeReversal;
-use app_routes::Routes;
-use app_token::Token;
+use applications::with_application;
 use history::{MAX_ENTRIES, one_reading_a_text, read_book};
 use progress::Progress;
 use reset_machine::{Config, Event, write_event};
@@ -38,7 +37,7 @@ use script_replay::{
 use std::alloc::{AllocError, Global};
 use std::io;
 use std::io::{Read, Write};
-use topology::{AppName, MAX_TEXT, ReadFault};
+use topology::{MAX_TEXT, ReadFault};
 
 /// As `explore_text`, and writes to one writer, before the answer goes to the other, a history from the opening on that
 /// shows what was found: the entries of the script, and then those of a longest order or, where some order never ends, of
@@ -73,6 +72,7 @@ pub fn explore_history<R: Read, H: Write, W: Write>(
 }
 
 // Explores what a script leaves of a network, with the application that it names.
+#[tactic(auto, using(applications::proofs::Choosing::by_name))]
 fn show_app<H: Write, W: Write>(
     alloc: Global,
     network: Network,
@@ -84,33 +84,15 @@ fn show_app<H: Write, W: Write>(
     out: &mut W,
 ) -> Result<Status, RunStop>
     requires { network.topology.nodes ≡ network.topology.ids }
-    ensures { LeavesRecord
-        (λ h o. IsOpenedOf (Shows run script.now h) network.app network.topology network.modulus
-        (option_map (λ s. s.now) snapshot.entry) o × (o.1 ≡ Status.BadInput → h ≡ []))
-        (H.contents history.old) (H.contents history.new) (W.contents out.old) (W.contents out.new) result }
+    ensures { ForApp (λ L m. LeavesRecord
+        (λ h o. IsOpenedFrom m network.topology network.modulus (option_map (λ s. s.now) snapshot.entry)
+        (Shows run script.now h L m) o × (o.1 ≡ Status.BadInput → h ≡ []))
+        (H.contents history.old) (H.contents history.new) (W.contents out.old) (W.contents out.new) result) network.app }
 {
-    match network.app {
-        AppName::Idle => {
-            show_opened::<Idle, H, W>(
-                alloc, network, snapshot, script, run, progress, history, out,
-            )
-        }
-        AppName::Token => {
-            show_opened::<Token, H, W>(
-                alloc, network, snapshot, script, run, progress, history, out,
-            )
-        }
-        AppName::Mutex => {
-            show_opened::<EdgeReversal, H, W>(
-                alloc, network, snapshot, script, run, progress, history, out,
-            )
-        }
-        AppName::Routes => {
-            show_opened::<Routes, H, W>(
-                alloc, network, snapshot, script, run, progress, history, out,
-            )
-        }
-    }
+    with_application!(
+        network.app,
+        P => show_opened::<P, H, W>(alloc, network, snapshot, script, run, progress, history, out)
+    )
 }
 
 fn show_opened<P: Invariant, H: Write, W: Write>(

@@ -1,25 +1,23 @@
 // Where a run starts from a snapshot.
 
-ghost use Rattle.std.specs.Prelude.{◌≡◌, ◌≢◌, ◌≤◌, ℕ, List, IfErr, IfOk, length, option_map, OnErr, OnOk, false, true};
+ghost use Rattle.std.specs.Prelude.{◌≡◌, ◌≢◌, ◌≤◌, ℕ, List, IfErr, IfOk, Some, length, option_map, OnErr, OnOk, false, true};
 ghost use Rattle.std.specs.Io.KnownBytes.{Appends};
 ghost use Rattle.action_tables.specs.Written.{AppendsPrefix};
 ghost use Rattle.topology.specs.TopologyText.{IsReadFault};
+ghost use Rattle.applications.specs.Choice.{ForApp};
+ghost use Rattle.applications.specs.Meaning.{meaning_of};
 ghost use Rattle.script_replay.specs.Lines.{GaveText, IsReadFrom};
-ghost use Rattle.script_replay.specs.Meaning.{meaning_of};
 ghost use Rattle.script_replay.specs.Output.{Leaves};
 ghost use Rattle.script_replay.specs.Stops.{IsOutputStop};
 ghost use Rattle.script_replay.specs.declared.status.Purpose.{Purpose};
 ghost use Rattle.snapshots.specs.Named.{IsSnapshotOf};
-ghost use Rattle.reset_service.specs.Started.{Answers, IsOpening, IsOpeningFault, IsStartFault, IsStartedFrom};
-ghost use Rattle.reset_service.specs.Started.{IsStartedOf, IsStartedText};
+ghost use Rattle.reset_service.specs.Opened.{IsOpenedFrom, IsOpenedText};
+ghost use Rattle.reset_service.specs.Started.{Answers, IsOpening, IsOpeningFault, IsStartFault};
 ghost use Rattle.reset_service.specs.Started.{start_fault_text};
 
 use action_tables::{WriteFault, put_bytes};
-use app_interface::Idle;
 use app_invariants::Invariant;
-use app_mutex::EdgeReversal;
-use app_routes::Routes;
-use app_token::Token;
+use applications::with_application;
 use reset_machine::Config;
 use script_replay::{
     Network, Purpose, RunStop, Status, read_network, read_text, refuse_input, refuse_topology,
@@ -28,7 +26,7 @@ use script_replay::{
 use snapshots::{MAX_SNAPSHOT, SnapshotFault, put_snapshot_fault, read_snapshot};
 use std::alloc::Global;
 use std::io::{Read, Write};
-use topology::{AppName, ReadFault};
+use topology::ReadFault;
 
 // Why a run can't start from a text.
 #[derive(Clone, Copy, Debug, PartialEq, Eq)]
@@ -144,7 +142,7 @@ pub fn replay_from<R: Read, W: Write>(
     out: &mut W,
 ) -> Result<Status, RunStop>
     ensures leaves { (text : List ℕ) × IsReadFrom (R.remaining script.old) text
-        × Leaves (IsStartedText (Answers Purpose.Replay text) topology.now snapshot.now)
+        × Leaves (IsOpenedText (Answers Purpose.Replay text) topology.now (Some snapshot.now))
         (W.contents out.old) (W.contents out.new) result }
     ensures taken { OnOk result (GaveText (R.remaining script.old) (R.remaining script.new)) }
     ensures untouched { (f : ReadFault) → IsReadFault topology.now f → script.new ≡ script.old }
@@ -162,7 +160,7 @@ pub fn check_from<R: Read, W: Write>(
     out: &mut W,
 ) -> Result<Status, RunStop>
     ensures leaves { (text : List ℕ) × IsReadFrom (R.remaining script.old) text
-        × Leaves (IsStartedText (Answers (Purpose.Check false) text) topology.now snapshot.now)
+        × Leaves (IsOpenedText (Answers (Purpose.Check false) text) topology.now (Some snapshot.now))
         (W.contents out.old) (W.contents out.new) result }
     ensures taken { OnOk result (GaveText (R.remaining script.old) (R.remaining script.new)) }
     ensures untouched { (f : ReadFault) → IsReadFault topology.now f → script.new ≡ script.old }
@@ -181,7 +179,7 @@ pub fn check_repairs_from<R: Read, W: Write>(
     out: &mut W,
 ) -> Result<Status, RunStop>
     ensures leaves { (text : List ℕ) × IsReadFrom (R.remaining script.old) text
-        × Leaves (IsStartedText (Answers (Purpose.Check true) text) topology.now snapshot.now)
+        × Leaves (IsOpenedText (Answers (Purpose.Check true) text) topology.now (Some snapshot.now))
         (W.contents out.old) (W.contents out.new) result }
     ensures taken { OnOk result (GaveText (R.remaining script.old) (R.remaining script.new)) }
     ensures untouched { (f : ReadFault) → IsReadFault topology.now f → script.new ≡ script.old }
@@ -200,7 +198,7 @@ fn run_from<R: Read, W: Write>(
     out: &mut W,
 ) -> Result<Status, RunStop>
     ensures leaves { (text : List ℕ) × IsReadFrom (R.remaining script.old) text
-        × Leaves (IsStartedText (Answers purpose text) topology.now snapshot.now)
+        × Leaves (IsOpenedText (Answers purpose text) topology.now (Some snapshot.now))
         (W.contents out.old) (W.contents out.new) result }
     ensures taken { OnOk result (GaveText (R.remaining script.old) (R.remaining script.new)) }
     ensures untouched { (f : ReadFault) → IsReadFault topology.now f → script.new ≡ script.old }
@@ -215,6 +213,7 @@ fn run_from<R: Read, W: Write>(
 }
 
 // Runs a script from a snapshot of a network, with the application that it names.
+#[tactic(auto, using(applications::proofs::Choosing::by_name))]
 fn run_app<W: Write>(
     alloc: Global,
     purpose: Purpose,
@@ -224,19 +223,15 @@ fn run_app<W: Write>(
     out: &mut W,
 ) -> Result<Status, RunStop>
     requires { network.topology.nodes ≡ network.topology.ids }
-    ensures leaves { Leaves
-        (IsStartedOf (Answers purpose script.now) network.app network.topology network.modulus snapshot.now)
-        (W.contents out.old) (W.contents out.new) result }
+    ensures leaves { ForApp (λ L m. Leaves
+        (IsOpenedFrom m network.topology network.modulus (Some snapshot.now) (Answers purpose script.now L m))
+        (W.contents out.old) (W.contents out.new) result) network.app }
     ensures stop { IfErr result IsOutputStop }
 {
-    match network.app {
-        AppName::Idle => run_started::<Idle, W>(alloc, purpose, network, snapshot, script, out),
-        AppName::Token => run_started::<Token, W>(alloc, purpose, network, snapshot, script, out),
-        AppName::Mutex => {
-            run_started::<EdgeReversal, W>(alloc, purpose, network, snapshot, script, out)
-        }
-        AppName::Routes => run_started::<Routes, W>(alloc, purpose, network, snapshot, script, out),
-    }
+    with_application!(
+        network.app,
+        P => run_started::<P, W>(alloc, purpose, network, snapshot, script, out)
+    )
 }
 
 fn run_started<P: Invariant, W: Write>(
@@ -249,12 +244,12 @@ fn run_started<P: Invariant, W: Write>(
 ) -> Result<Status, RunStop>
     requires { network.topology.nodes ≡ network.topology.ids }
     ensures leaves { Leaves
-        (IsStartedFrom (meaning_of P.app P.text P.from_text P.names P.counts) network.topology network.modulus
-        snapshot.now (Answers purpose script.now P.Local (meaning_of P.app P.text P.from_text P.names P.counts)))
+        (IsOpenedFrom (meaning_of P.app P.text P.from_text P.names P.counts) network.topology network.modulus
+        (Some snapshot.now) (Answers purpose script.now P.Local (meaning_of P.app P.text P.from_text P.names P.counts)))
         (W.contents out.old) (W.contents out.new) result }
     ensures stop { IfErr result IsOutputStop }
 {
-    match start::<P>(alloc, network, snapshot) {
+    match open_network::<P>(alloc, network, Some(snapshot)) {
         Ok(mut config) => run_script(alloc, purpose, &mut config, script, out),
         Err(fault) => refuse_start(fault, out),
     }

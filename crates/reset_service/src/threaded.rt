@@ -2,23 +2,22 @@
 
 ghost use Rattle.std.specs.Prelude.{◌≡◌, ◌≤◌, ℕ, List, [], length, option_map, IfErr, IfOk, IsTrue, None, Ok};
 ghost use Rattle.std.specs.List.{list_all};
+ghost use Rattle.applications.specs.Choice.{ForApp};
+ghost use Rattle.applications.specs.Meaning.{meaning_of};
 ghost use Rattle.history.specs.HistoryText.{IsReadAs};
 ghost use Rattle.history.specs.declared.entry.Entry.{Entry};
 ghost use Rattle.node_threads.specs.Locked.{is_step};
-ghost use Rattle.script_replay.specs.Meaning.{meaning_of};
 ghost use Rattle.reset_service.specs.Begun.{IsBegunText, RunsThreads};
-ghost use Rattle.reset_service.specs.Explorations.{IsOpenedFrom, IsOpenedOf};
+ghost use Rattle.reset_service.specs.Opened.{IsOpenedFrom};
 ghost use Rattle.reset_service.specs.Selected.{IsSelected, IsSelectedText, IsToldOf, RunsSelected, task_of};
 ghost use Rattle.reset_service.specs.Threaded.{IsKept, IsThreaded, LeavesBoth, told_history, told_output};
 ghost use Rattle.script_replay.specs.Stops.{IsRunStop};
 
 use crate::started::{StartFault, open_network};
 use crate::told::{Kept, Told, put_history, put_told, status_of};
-use app_interface::{Application, Idle};
+use app_interface::Application;
 use app_invariants::Invariant;
-use app_mutex::EdgeReversal;
-use app_routes::Routes;
-use app_token::Token;
+use applications::with_application;
 use history::{
     Book, BookFault, MAX_ENTRIES, ReaderFault, VerifyFault, one_reading_a_text, verify_reader,
 };
@@ -29,7 +28,7 @@ use std::alloc::Global;
 use std::io::Write;
 use std::sync::Wait;
 use std::thread::Threads;
-use topology::{AppName, ReadFault};
+use topology::ReadFault;
 
 // A gate that nobody watches.
 struct NoGate;
@@ -182,6 +181,7 @@ fn run_selected<R: Threads + Wait + Sync>(
 }
 
 // Runs the threads of a network, with the application that it names.
+#[tactic(auto, using(applications::proofs::Choosing::by_name))]
 fn run_app<R: Threads + Wait + Sync>(
     rt: &R,
     alloc: Global,
@@ -190,17 +190,13 @@ fn run_app<R: Threads + Wait + Sync>(
     run: ThreadRun,
 ) -> Result<Told, RunStop>
     requires { network.topology.nodes ≡ network.topology.ids }
-    ensures ok { IfOk result (λ told. IsOpenedOf (RunsSelected run (told_history told)) network.app network.topology
-        network.modulus (option_map (λ s. s.now) snapshot.entry) (told_output told)) }
+    ensures ok { ForApp (λ L m. IfOk result (λ told. IsOpenedFrom m network.topology network.modulus
+        (option_map (λ s. s.now) snapshot.entry) (RunsSelected run (told_history told) L m) (told_output told)))
+        network.app }
     ensures unkept { IfOk result (λ told. (told_output told).1 ≡ Status.BadInput → told_history told ≡ []) }
     ensures stop { IfErr result IsRunStop }
 {
-    match network.app {
-        AppName::Idle => run_opened::<Idle, R>(rt, alloc, network, snapshot, run),
-        AppName::Token => run_opened::<Token, R>(rt, alloc, network, snapshot, run),
-        AppName::Mutex => run_opened::<EdgeReversal, R>(rt, alloc, network, snapshot, run),
-        AppName::Routes => run_opened::<Routes, R>(rt, alloc, network, snapshot, run),
-    }
+    with_application!(network.app, P => run_opened::<P, R>(rt, alloc, network, snapshot, run))
 }
 
 fn run_opened<P: Invariant, R: Threads + Wait + Sync>(

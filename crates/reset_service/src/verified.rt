@@ -1,34 +1,33 @@
 // The verification of a history from a booted configuration.
 
-ghost use Rattle.std.specs.Prelude.{◌≡◌, ◌+◌, ◌≤◌, ◌++◌, length, IfErr, OnErr, OnOk};
+ghost use Rattle.std.specs.Prelude.{◌≡◌, ◌+◌, ◌≤◌, ◌++◌, Some, length, IfErr, OnErr, OnOk};
 ghost use Rattle.std.specs.List.{flat_map};
 ghost use Rattle.std.specs.Io.KnownBytes.{Appends};
 ghost use Rattle.topology.specs.TopologyText.{IsReadFault};
 ghost use Rattle.action_tables.specs.Written.{AppendsPrefix};
-ghost use Rattle.script_replay.specs.Meaning.{meaning_of};
+ghost use Rattle.applications.specs.Choice.{ForApp};
+ghost use Rattle.applications.specs.Meaning.{meaning_of};
 ghost use Rattle.script_replay.specs.Output.{Leaves};
 ghost use Rattle.reset_service.specs.Verified.{bad_history_text, not_enabled_text, other_modulus_text};
 ghost use Rattle.reset_service.specs.Verified.{position_text, report_line, verified_text, IsVerification};
-ghost use Rattle.reset_service.specs.Verified.{IsVerified, IsVerifiedFrom, IsVerifiedOf, LeavesOfReader};
+ghost use Rattle.reset_service.specs.Verified.{IsVerified, IsVerifiedFrom, LeavesOfReader};
 ghost use Rattle.reset_service.specs.declared.line.TheConstants.{ROOM};
 ghost use Rattle.script_replay.specs.Stops.{IsOutputStop};
-ghost use Rattle.reset_service.specs.Started.{IsStartedFrom, IsStartedOf, IsStartedText, Verifies};
+ghost use Rattle.reset_service.specs.Opened.{IsOpenedFrom, IsOpenedText};
+ghost use Rattle.reset_service.specs.Started.{Verifies};
 
 use crate::counts::put_counts;
 use crate::line::LineBuffer;
-use crate::started::{refuse_start, start};
+use crate::started::{open_network, refuse_start};
 use action_tables::{WriteFault, put_bytes};
-use app_interface::Idle;
 use app_invariants::Invariant;
-use app_mutex::EdgeReversal;
-use app_routes::Routes;
-use app_token::Token;
+use applications::with_application;
 use history::{BookFault, ReaderFault, Report, Summary, VerifyFault, verify_reader};
 use reset_machine::Config;
 use script_replay::{Network, RunStop, Status, put_numbered, read_network, refuse_topology};
 use std::alloc::Global;
 use std::io::{Read, Write};
-use topology::{AppName, ReadFault};
+use topology::ReadFault;
 
 /// Verifies the history that a reader gives, from the booted configuration of a topology text, and writes
 /// its reports, one a line, and then how many entries and reports it has.
@@ -63,7 +62,7 @@ pub fn verify_from<R: Read, W: Write>(
     out: &mut W,
 ) -> Result<Status, RunStop>
     ensures leaves { LeavesOfReader (R.remaining history.old)
-        (λ text. IsStartedText (Verifies text) topology.now snapshot.now) (W.contents out.old) (W.contents out.new) result }
+        (λ text. IsOpenedText (Verifies text) topology.now (Some snapshot.now)) (W.contents out.old) (W.contents out.new) result }
     ensures untouched { (f : ReadFault) → IsReadFault topology.now f → history.new ≡ history.old }
 {
     match read_network(alloc, topology) {
@@ -73,6 +72,7 @@ pub fn verify_from<R: Read, W: Write>(
 }
 
 // Verifies a history from a snapshot of a network, with the application that it names.
+#[tactic(auto, using(applications::proofs::Choosing::by_name))]
 fn verify_app_from<R: Read, W: Write>(
     alloc: Global,
     network: Network,
@@ -81,18 +81,15 @@ fn verify_app_from<R: Read, W: Write>(
     out: &mut W,
 ) -> Result<Status, RunStop>
     requires { network.topology.nodes ≡ network.topology.ids }
-    ensures leaves { LeavesOfReader (R.remaining history.old)
-        (λ text. IsStartedOf (Verifies text) network.app network.topology network.modulus snapshot.now)
-        (W.contents out.old) (W.contents out.new) result }
+    ensures leaves { ForApp (λ L m. LeavesOfReader (R.remaining history.old)
+        (λ text. IsOpenedFrom m network.topology network.modulus (Some snapshot.now)
+        (Verifies text L m))
+        (W.contents out.old) (W.contents out.new) result) network.app }
 {
-    match network.app {
-        AppName::Idle => verify_started::<Idle, R, W>(alloc, network, snapshot, history, out),
-        AppName::Token => verify_started::<Token, R, W>(alloc, network, snapshot, history, out),
-        AppName::Mutex => {
-            verify_started::<EdgeReversal, R, W>(alloc, network, snapshot, history, out)
-        }
-        AppName::Routes => verify_started::<Routes, R, W>(alloc, network, snapshot, history, out),
-    }
+    with_application!(
+        network.app,
+        P => verify_started::<P, R, W>(alloc, network, snapshot, history, out)
+    )
 }
 
 fn verify_started<P: Invariant, R: Read, W: Write>(
@@ -104,32 +101,28 @@ fn verify_started<P: Invariant, R: Read, W: Write>(
 ) -> Result<Status, RunStop>
     requires { network.topology.nodes ≡ network.topology.ids }
     ensures leaves { LeavesOfReader (R.remaining history.old)
-        (λ text. IsStartedFrom (meaning_of P.app P.text P.from_text P.names P.counts) network.topology network.modulus
-        snapshot.now (Verifies text P.Local (meaning_of P.app P.text P.from_text P.names P.counts)))
+        (λ text. IsOpenedFrom (meaning_of P.app P.text P.from_text P.names P.counts) network.topology network.modulus
+        (Some snapshot.now) (Verifies text P.Local (meaning_of P.app P.text P.from_text P.names P.counts)))
         (W.contents out.old) (W.contents out.new) result }
 {
-    match start::<P>(alloc, network, snapshot) {
+    match open_network::<P>(alloc, network, Some(snapshot)) {
         Ok(opening) => verify_opened(alloc, opening, history, out),
         Err(fault) => refuse_start(fault, out),
     }
 }
 
 // Verifies a history from the booted configuration of a network, with the application that it names.
+#[tactic(auto, using(applications::proofs::Choosing::by_name))]
 fn verify_app<R: Read, W: Write>(
     alloc: Global,
     network: Network,
     history: &mut R,
     out: &mut W,
 ) -> Result<Status, RunStop>
-    ensures leaves { LeavesOfReader (R.remaining history.old)
-        (IsVerifiedOf network.app network.topology network.modulus) (W.contents out.old) (W.contents out.new) result }
+    ensures leaves { ForApp (λ L m. LeavesOfReader (R.remaining history.old)
+        (IsVerifiedFrom m network.topology network.modulus) (W.contents out.old) (W.contents out.new) result) network.app }
 {
-    match network.app {
-        AppName::Idle => verify_booted::<Idle, R, W>(alloc, network, history, out),
-        AppName::Token => verify_booted::<Token, R, W>(alloc, network, history, out),
-        AppName::Mutex => verify_booted::<EdgeReversal, R, W>(alloc, network, history, out),
-        AppName::Routes => verify_booted::<Routes, R, W>(alloc, network, history, out),
-    }
+    with_application!(network.app, P => verify_booted::<P, R, W>(alloc, network, history, out))
 }
 
 fn verify_booted<P: Invariant, R: Read, W: Write>(

@@ -6,19 +6,17 @@ ghost use Rattle.std.specs.Io.KnownBytes.{Appends};
 ghost use Rattle.action_tables.specs.Written.{AppendsPrefix};
 ghost use Rattle.app_invariants.specs.Verdicts.{verdicts_of};
 ghost use Rattle.topology.specs.TopologyText.{IsReadFault};
+ghost use Rattle.applications.specs.Choice.{ForApp};
+ghost use Rattle.applications.specs.Meaning.{meaning_of};
 ghost use Rattle.script_replay.specs.Lines.{GaveText, IsReadFrom};
-ghost use Rattle.script_replay.specs.Meaning.{meaning_of};
 ghost use Rattle.script_replay.specs.Output.{Leaves};
 ghost use Rattle.script_replay.specs.Stops.{IsOutputStop};
-ghost use Rattle.reset_service.specs.Explorations.{IsOpenedFrom, IsOpenedOf, IsOpenedText};
+ghost use Rattle.reset_service.specs.Opened.{IsOpenedFrom, IsOpenedText};
 ghost use Rattle.reset_service.specs.Whole.{WholeCheck, after_check, all_hold, whole_output};
 
 use crate::started::{open_network, refuse_start};
-use app_interface::Idle;
 use app_invariants::{Invariant, Verdict, judge_components};
-use app_mutex::EdgeReversal;
-use app_routes::Routes;
-use app_token::Token;
+use applications::with_application;
 use reset_machine::Config;
 use script_replay::{
     Network, Purpose, RunStop, Status, put_verdicts, read_network, read_text, refuse_topology,
@@ -26,7 +24,7 @@ use script_replay::{
 };
 use std::alloc::{AllocError, Global};
 use std::io::{Read, Write};
-use topology::{AppName, ReadFault};
+use topology::ReadFault;
 
 /// Checks as `check_text` or, where a snapshot is given, `check_from` does, and then writes of each component, by ascending
 /// leader, whether the application's invariant holds of the newest states there: `invariant 9 holds`, or what is wrong, as
@@ -56,6 +54,7 @@ pub fn check_whole<R: Read, W: Write>(
 }
 
 // Checks what a script leaves of a network, with the application that it names.
+#[tactic(auto, using(applications::proofs::Choosing::by_name))]
 fn check_app<W: Write>(
     alloc: Global,
     network: Network,
@@ -65,22 +64,15 @@ fn check_app<W: Write>(
     out: &mut W,
 ) -> Result<Status, RunStop>
     requires { network.topology.nodes ≡ network.topology.ids }
-    ensures leaves { Leaves
-        (IsOpenedOf (WholeCheck repairs script.now) network.app network.topology network.modulus
-        (option_map (λ s. s.now) snapshot.entry))
-        (W.contents out.old) (W.contents out.new) result }
+    ensures leaves { ForApp (λ L m. Leaves
+        (IsOpenedFrom m network.topology network.modulus (option_map (λ s. s.now) snapshot.entry) (WholeCheck repairs script.now L m))
+        (W.contents out.old) (W.contents out.new) result) network.app }
     ensures stop { IfErr result IsOutputStop }
 {
-    match network.app {
-        AppName::Idle => check_opened::<Idle, W>(alloc, network, snapshot, script, repairs, out),
-        AppName::Token => check_opened::<Token, W>(alloc, network, snapshot, script, repairs, out),
-        AppName::Mutex => {
-            check_opened::<EdgeReversal, W>(alloc, network, snapshot, script, repairs, out)
-        }
-        AppName::Routes => check_opened::<Routes, W>(
-            alloc, network, snapshot, script, repairs, out,
-        ),
-    }
+    with_application!(
+        network.app,
+        P => check_opened::<P, W>(alloc, network, snapshot, script, repairs, out)
+    )
 }
 
 fn check_opened<P: Invariant, W: Write>(

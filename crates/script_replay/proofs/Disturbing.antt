@@ -3,10 +3,10 @@ use Rattle.std.proofs.Common.{◌≡◌, ℕ, List, Option, refl, subst, Result,
 use Rattle.std.specs.Io.KnownBytes.{Appends}
 use Rattle.action_tables.specs.Written.{AppendsPrefix}
 use Rattle.action_tables.proofs.Prefixes.{AppendsPrefix-first, AppendsPrefix-then}
+use Rattle.applications.specs.Meaning.{Meaning}
 use Rattle.fault_inject.specs.Effects.{injected}
 use Rattle.fault_inject.specs.declared.fault.Fault.{Fault}
 use Rattle.reset_model.specs.Configuration.{Configuration}
-use Rattle.script_replay.specs.Meaning.{Meaning}
 use Rattle.fault_inject.specs.Drawn.{drawn_fault, next_words, seeded}
 use Rattle.script_replay.specs.Output.{disturbed, disturbed_by_drawn, drawn, drawn_text}
 

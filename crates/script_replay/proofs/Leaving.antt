@@ -1,9 +1,9 @@
 -- Lines that are run for what they leave.
 use Rattle.std.proofs.Common.{◌≡◌, ◌≢◌, ◌+◌, ◌∙◌, ◌++◌, ℕ, Bool, true, false, List, [], ◌∷◌, Option, None, Some, ap, refl}
-use Rattle.std.proofs.Common.{subst, sym, true≢false}
+use Rattle.std.proofs.Common.{sym, true≢false}
 use Rattle.reset_model.specs.Configuration.{Configuration}
+use Rattle.applications.specs.Meaning.{Meaning}
 use Rattle.script_replay.specs.Left.{first_bad, unless_bad}
-use Rattle.script_replay.specs.Meaning.{Meaning}
 use Rattle.script_replay.specs.Output.{Answer, answer_to, answers, answers_by, if_good, line_answer, told_after}
 use Rattle.script_replay.specs.Parts.{IsPassed}
 use Rattle.script_replay.specs.Script.{line_of}

@@ -8,12 +8,12 @@ use Rattle.action_tables.specs.Written.{AppendsPrefix}
 use Rattle.topology.specs.Graph.{Graph}
 use Rattle.topology.specs.TopologyText.{IsReadFault}
 use Rattle.topology.specs.declared.text.AppName.{AppName}
-use Rattle.topology.specs.declared.text.AppName.TheVariants.{Idle, Token, Mutex, Routes}
 use Rattle.topology.specs.declared.text.ReadFault.{ReadFault}
 use Rattle.reset_model.specs.Configuration.{Configuration}
 use Rattle.reset_model.proofs.OneBoot.{one_boot}
+use Rattle.applications.specs.Meaning.{Meaning}
+use Rattle.applications.proofs.Choosing.{agree, follows}
 use Rattle.history.specs.HistoryText.{history_text}
-use Rattle.script_replay.specs.Meaning.{Meaning, idle_meaning, token_meaning, mutex_meaning, routes_meaning}
 use Rattle.script_replay.specs.Output.{Describes, IsJudged, IsOutput, IsReplay, IsReplayOf, Leaves, bad_topology_text}
 use Rattle.script_replay.specs.Output.IsJudged.{bad_topology, good_topology}
 use Rattle.script_replay.specs.Output.IsReplay.{replayed}
@@ -128,10 +128,9 @@ replay_from m g modulus script h o (c, boot, is) = replayed c boot is.output_is
 
 replay_of : (app : AppName) (g : Graph) (modulus : ℕ) (script h : List ℕ) (o : Output)
     → IsRecordOf app g modulus script h o → IsReplayOf app purposes.Replay g modulus script o
-replay_of Idle = replay_from idle_meaning
-replay_of Token = replay_from token_meaning
-replay_of Mutex = replay_from mutex_meaning
-replay_of Routes = replay_from routes_meaning
+replay_of app g modulus script h o =
+    follows (λ L m. IsRecordFrom m g modulus script h o) (λ L m. IsReplay m purposes.Replay g modulus script o)
+    (λ L m. replay_from m g modulus script h o) app
 
 pub recordings_replay : (topology script h : List ℕ) (o : Output) → IsRecorded topology script h o
     → IsOutput purposes.Replay topology script o
@@ -169,10 +168,9 @@ one_from m g modulus script h k o p (c, boot, is) (d, other, is') =
 
 one_of : (app : AppName) (g : Graph) (modulus : ℕ) (script h k : List ℕ) (o p : Output)
     → IsRecordOf app g modulus script h o → IsRecordOf app g modulus script k p → AreOne h k o p
-one_of Idle = one_from idle_meaning
-one_of Token = one_from token_meaning
-one_of Mutex = one_from mutex_meaning
-one_of Routes = one_from routes_meaning
+one_of app g modulus script h k o p =
+    agree (λ L m. IsRecordFrom m g modulus script h o) (λ L m. IsRecordFrom m g modulus script k p) (AreOne h k o p)
+    (λ L m. one_from m g modulus script h k o p) app
 
 pub one_recorded : (topology script h k : List ℕ) (o p : Output) → IsRecorded topology script h o
     → IsRecorded topology script k p → AreOne h k o p

@@ -22,3 +22,4 @@ pub mod LinkTexts
 pub mod Described
 pub mod Tallying
 pub mod VerdictTexts
+pub mod ByName

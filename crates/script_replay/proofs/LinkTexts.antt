@@ -11,7 +11,7 @@ use Rattle.topology.specs.Graph.{Graph, IsGraph, IsNode, are_linked, has, neighb
 use Rattle.topology.proofs.Membership.{has-Contains, has-filter}
 use Rattle.topology.proofs.RowLemmas.{pair_antisymmetric, pair_total}
 use Rattle.reset_model.specs.Configuration.{Configuration}
-use Rattle.script_replay.specs.Meaning.{Meaning}
+use Rattle.applications.specs.Meaning.{Meaning}
 use Rattle.script_replay.specs.Output.{link_line, links_of, links_text, shown, snapshot_text}
 use Rattle.script_replay.specs.Parts.{line_from, links_from}
 use Rattle.script_replay.proofs.FlatMaps.{flat_map_twice}

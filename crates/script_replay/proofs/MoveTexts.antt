@@ -4,8 +4,8 @@ use Rattle.std.specs.List.{flat_map}
 use Rattle.topology.specs.Graph.{is_node}
 use Rattle.reset_model.specs.Configuration.{Configuration}
 use Rattle.reset_model.specs.declared.event.Event.{Event}
+use Rattle.applications.specs.Meaning.{Meaning}
 use Rattle.scheduler.specs.Driven.{enabled_events}
-use Rattle.script_replay.specs.Meaning.{Meaning}
 use Rattle.script_replay.specs.Output.{at_node, move_line, moves_lines, moves_text}
 use Rattle.script_replay.proofs.FlatMaps.{flat_map_twice}
 use Rattle.script_replay.proofs.Nodes.{node_of, told_node}

@@ -15,10 +15,10 @@ use Rattle.reset_machine.specs.declared.enabled.Enabled.{Enabled}
 use Rattle.reset_model.specs.Configuration.{Configuration, tree_of, wave_of, local_of}
 use Rattle.reset_model.specs.WavePicture.{HasJoined}
 use Rattle.app_interface.specs.Application.{App}
+use Rattle.applications.specs.Meaning.{Meaning}
 use Rattle.link_predicates.specs.Faults.{alarm_of, faults, node_faults}
 use Rattle.link_predicates.specs.declared.fault.LinkFault.{LinkFault}
 use Rattle.history.specs.HistoryText.{ended}
-use Rattle.script_replay.specs.Meaning.{Meaning}
 use Rattle.reset_model.specs.Refinement.{has_joined}
 use Rattle.script_replay.specs.Output.{after_alarm, alarm_line, alarm_text, at_node, enabled_line, faults_status}
 use Rattle.script_replay.specs.Output.{found_status, newest_head, newest_line, node_head, enabled_text, faults_lines}

@@ -6,6 +6,7 @@ use Rattle.std.specs.List.{flat_map}
 use Rattle.std.proofs.lemmas.Bool.Decides.{nat_tests}
 use Rattle.std.proofs.lemmas.List.{length-append}
 use Rattle.topology.specs.Graph.{IsNode, is_node}
+use Rattle.applications.specs.Meaning.{Meaning}
 use Rattle.fault_inject.specs.declared.fault.Fault.{Fault}
 use Rattle.fault_inject.specs.declared.refusal.FaultRefusal.{FaultRefusal}
 use Rattle.link_predicates.specs.Faults.{alarm_of}
@@ -22,7 +23,6 @@ use Rattle.history.specs.declared.entry.Entry.{Entry}
 use Rattle.history.specs.declared.entry.Entry.TheVariants as entry
 use Rattle.history.specs.declared.entry.Receipt.{Receipt}
 use Rattle.script_replay.specs.Lines.{lines_of}
-use Rattle.script_replay.specs.Meaning.{Meaning}
 use Rattle.script_replay.specs.Output.{after_alarm, alarm_line, answer_to, answered, if_good, refusal_text}
 use Rattle.script_replay.specs.Output.{stepped, watched, Answer}
 use Rattle.script_replay.specs.Parts.{IsNoted, with_entries}

@@ -8,15 +8,15 @@ use Rattle.topology.specs.Graph.{Graph}
 use Rattle.topology.specs.TopologyText.{Description, IsReadFault, description_of}
 use Rattle.topology.specs.declared.fault.TopoFault.{TopoFault}
 use Rattle.topology.specs.declared.text.AppName.{AppName}
-use Rattle.topology.specs.declared.text.AppName.TheVariants.{Idle, Token, Mutex, Routes}
 use Rattle.topology.specs.declared.text.ReadFault.{ReadFault}
 use Rattle.topology.specs.declared.text.ReadFault.TheVariants.{Topology}
 use Rattle.topology.proofs.OneResult.{one_first_fault, one_graph}
 use Rattle.reset_model.proofs.OneBoot.{one_boot}
+use Rattle.applications.specs.Meaning.{Meaning}
+use Rattle.applications.proofs.Choosing.{agree}
 use Rattle.history.specs.HistoryText.{ended}
 use Rattle.script_replay.specs.Lines.{HasNoSeparator, IsCut, lines_of, separator}
 use Rattle.script_replay.specs.Lines.IsCut.{at_separator, topology_alone}
-use Rattle.script_replay.specs.Meaning.{Meaning, idle_meaning, token_meaning, mutex_meaning, routes_meaning}
 use Rattle.script_replay.specs.Output.{Describes, IsJoinedOutput, IsJudged, IsOutput, IsReplay, IsReplayOf}
 use Rattle.script_replay.specs.Output.{bad_topology_text, script_output}
 use Rattle.script_replay.specs.Output.IsJoinedOutput.{cut, too_long}
@@ -135,10 +135,9 @@ one_replay m purpose g modulus script o p (replayed c boot is) (replayed d other
 
 one_replay_of : (app : AppName) (purpose : Purpose) (g : Graph) (modulus : ℕ) (script : List ℕ) (o p : Output)
     → IsReplayOf app purpose g modulus script o → IsReplayOf app purpose g modulus script p → o ≡ p
-one_replay_of Idle = one_replay idle_meaning
-one_replay_of Token = one_replay token_meaning
-one_replay_of Mutex = one_replay mutex_meaning
-one_replay_of Routes = one_replay routes_meaning
+one_replay_of app purpose g modulus script o p =
+    agree (λ L m. IsReplay m purpose g modulus script o) (λ L m. IsReplay m purpose g modulus script p) (o ≡ p)
+    (λ L m. one_replay m purpose g modulus script o p) app
 
 -- one thing is written where a topology is judged first, if one thing follows a good one
 pub one_judged : (Follows : AppName → Graph → ℕ → Output → Type 0)

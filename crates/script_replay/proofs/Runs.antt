@@ -8,8 +8,8 @@ use Rattle.std.proofs.KnownBytes.{Appends-trans, Keeps-refl}
 use Rattle.action_tables.specs.Written.{AppendsPrefix}
 use Rattle.action_tables.proofs.Prefixes.{AppendsPrefix-first, AppendsPrefix-then}
 use Rattle.reset_model.specs.Configuration.{Configuration}
+use Rattle.applications.specs.Meaning.{Meaning}
 use Rattle.script_replay.specs.Lines.{lines_of}
-use Rattle.script_replay.specs.Meaning.{Meaning}
 use Rattle.script_replay.specs.Output.{answers, answers_by, ending, if_good, output_for, script_output, told_after}
 use Rattle.script_replay.specs.Output.{too_long_text, Answer, Answering, Leaves, HasPrefix}
 use Rattle.script_replay.specs.declared.status.Status.{Status}

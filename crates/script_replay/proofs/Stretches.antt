@@ -3,6 +3,7 @@ use Rattle.std.proofs.Common.{◌≡◌, ℕ, ◌+◌, Bool, true, false, if◌t
 use Rattle.std.proofs.Common.{Result, Ok, Err, refl, sym, subst, ◌∙◌}
 use Rattle.std.proofs.lemmas.List.Elements.{All-head, All-tail}
 use Rattle.topology.specs.Graph.{IsGraph, is_node}
+use Rattle.applications.specs.Meaning.{Meaning}
 use Rattle.link_predicates.specs.Faults.{alarm_of}
 use Rattle.link_predicates.specs.declared.fault.LinkFault.{LinkFault}
 use Rattle.reset_model.specs.Configuration.{Configuration, IsShaped}
@@ -15,7 +16,6 @@ use Rattle.reset_model.specs.declared.step.StepRefusal.TheVariants.{StrangeNode}
 use Rattle.reset_model.proofs.RunShadows.{step_graph}
 use Rattle.reset_model.proofs.RunSteps.{applied_done, refused_done}
 use Rattle.reset_model.proofs.Shapes.{outcome_shaped}
-use Rattle.script_replay.specs.Meaning.{Meaning}
 use Rattle.script_replay.specs.Output.{after_alarm, answer_to, answered, answers, answers_by, if_good, refusal_text}
 use Rattle.script_replay.specs.Output.{stepped, told_after, watched, Answer}
 use Rattle.script_replay.specs.Script.{line_of}

@@ -4,8 +4,8 @@ use Rattle.std.proofs.Common.{if◌then◌else◌, filter, Option, Some, None, R
 use Rattle.std.specs.List.{find}
 use Rattle.std.specs.Option.{option_map, option_or}
 use Rattle.reset_model.specs.Configuration.{Configuration}
+use Rattle.applications.specs.Meaning.{Meaning}
 use Rattle.script_replay.specs.Marked.{is_refused, marked_answer}
-use Rattle.script_replay.specs.Meaning.{Meaning}
 use Rattle.script_replay.specs.Output.{if_good, line_answer}
 use Rattle.script_replay.specs.Script.{is_silent}
 use Rattle.script_replay.specs.Tallies.{Answered, answered, answered_at, answered_in, counted}

@@ -1,9 +1,9 @@
 -- The lines that tell of an application's invariant.
-use Rattle.std.proofs.Common.{◌≡◌, ℕ, List, sym, ap}
+use Rattle.std.proofs.Common.{◌≡◌, List, sym, ap}
 use Rattle.std.specs.List.{flat_map}
 use Rattle.app_invariants.specs.Verdicts.{verdicts_of}
 use Rattle.reset_model.specs.Configuration.{Configuration}
-use Rattle.script_replay.specs.Meaning.{Meaning}
+use Rattle.applications.specs.Meaning.{Meaning}
 use Rattle.script_replay.specs.Output.{invariant_lines}
 use Rattle.script_replay.specs.VerdictText.{Judged, verdict_line}
 

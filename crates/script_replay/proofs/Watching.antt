@@ -4,12 +4,12 @@ use Rattle.std.proofs.Common.{OnOk, OnErr}
 use Rattle.std.specs.Io.KnownBytes.{Appends}
 use Rattle.action_tables.specs.Written.{AppendsPrefix}
 use Rattle.action_tables.proofs.Prefixes.{AppendsPrefix-first}
+use Rattle.applications.specs.Meaning.{Meaning}
 use Rattle.link_predicates.specs.Faults.{alarm_of}
 use Rattle.link_predicates.specs.declared.fault.LinkFault.{LinkFault}
 use Rattle.reset_model.specs.Configuration.{Configuration}
 use Rattle.reset_model.specs.Planned.{outcome_of}
 use Rattle.reset_model.specs.declared.event.Event.TheVariants.{Request}
-use Rattle.script_replay.specs.Meaning.{Meaning}
 use Rattle.script_replay.specs.Output.{after_alarm, alarm_text, stepped, watched}
 use Rattle.script_replay.proofs.Nodes.{watched-is}
 

@@ -1,8 +1,8 @@
 -- What a script leaves that is run for its end alone: its answers are told nowhere.
 use Rattle.std.specs.Prelude.{ℕ, ◌+◌, List, [], ◌∷◌, Option, Some, None}
 use Rattle.reset_model.specs.Configuration.{Configuration}
+use Rattle.applications.specs.Meaning.{Meaning}
 use Rattle.script_replay.specs.Lines.{lines_of}
-use Rattle.script_replay.specs.Meaning.{Meaning}
 use Rattle.script_replay.specs.Output.{answers}
 use Rattle.script_replay.specs.Script.{line_of}
 use Rattle.script_replay.specs.declared.script.Line.{Line}

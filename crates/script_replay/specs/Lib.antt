@@ -1,4 +1,3 @@
-pub mod Meaning
 pub mod Script
 pub mod Output
 pub mod Parts

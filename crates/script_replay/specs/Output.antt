@@ -12,7 +12,6 @@ use Rattle.topology.specs.TopologyText.{Description, IsReadFault, description_of
 use Rattle.topology.specs.declared.fault.TopoFault.{TopoFault}
 use Rattle.topology.specs.declared.text.ReadFault.{ReadFault}
 use Rattle.topology.specs.declared.text.AppName.{AppName}
-use Rattle.topology.specs.declared.text.AppName.TheVariants.{Idle, Token, Mutex, Routes}
 use Rattle.tree_layer.specs.declared.regs.TreeRegs.{TreeRegs}
 use Rattle.wave_layer.specs.Names.{phase_name}
 use Rattle.wave_layer.specs.declared.regs.WaveRegs.{WaveRegs}
@@ -30,6 +29,8 @@ use Rattle.reset_model.specs.Outcome.{IsBoot}
 use Rattle.reset_model.specs.Planned.{outcome_of}
 use Rattle.reset_machine.specs.Enabled.{enabled_rows, ready_of}
 use Rattle.reset_model.specs.Refinement.{has_joined}
+use Rattle.applications.specs.Choice.{ForApp}
+use Rattle.applications.specs.Meaning.{Meaning}
 use Rattle.fault_inject.specs.Drawn.{drawn_fault, next_words, seeded}
 use Rattle.fault_inject.specs.Effects.{injected}
 use Rattle.fault_inject.specs.FaultText as fault
@@ -46,7 +47,6 @@ use Rattle.action_tables.specs.Written.{AppendsPrefix}
 use Rattle.history.specs.HistoryText.{ended}
 use Rattle.scheduler.specs.Driven.{enabled_events}
 use Rattle.script_replay.specs.Lines.{lines_of, IsCut}
-use Rattle.script_replay.specs.Meaning.{Meaning, idle_meaning, token_meaning, mutex_meaning, routes_meaning}
 use Rattle.script_replay.specs.Script.{line_of}
 use Rattle.script_replay.specs.VerdictText.{verdict_line}
 use Rattle.script_replay.specs.declared.script.Command.{Command}
@@ -357,10 +357,7 @@ pub data IsReplay {L : Type 0} (m : Meaning L) (purpose : Purpose) (g : Graph) (
 
 -- the same for the application of a name
 abbrev pub IsReplayOf : AppName → Purpose → Graph → ℕ → List ℕ → List ℕ × Status → Type 0
-IsReplayOf Idle = IsReplay idle_meaning
-IsReplayOf Token = IsReplay token_meaning
-IsReplayOf Mutex = IsReplay mutex_meaning
-IsReplayOf Routes = IsReplay routes_meaning
+IsReplayOf app purpose g modulus script output = ForApp (λ L m. IsReplay m purpose g modulus script output) app
 
 -- a topology text describes a graph, and names an application and the number modulo which sessions are counted
 abbrev pub Describes : List ℕ → Graph → AppName → ℕ → Type 0

@@ -4,10 +4,10 @@ use Rattle.std.specs.Io.KnownBytes.{Consumes}
 use Rattle.topology.specs.Graph.{Graph, neighbours_of}
 use Rattle.reset_model.specs.Configuration.{Configuration}
 use Rattle.reset_model.specs.EventText.{event_line, Fits}
+use Rattle.applications.specs.Meaning.{Meaning}
 use Rattle.history.specs.Book.{BookView}
 use Rattle.history.specs.declared.entry.Entry.{Entry}
 use Rattle.script_replay.specs.Left.{unless_bad}
-use Rattle.script_replay.specs.Meaning.{Meaning}
 use Rattle.script_replay.specs.Output.{answer_to, link_line}
 use Rattle.script_replay.specs.Recorded.{line_entries}
 use Rattle.script_replay.specs.declared.next_line.NextLine.{NextLine}

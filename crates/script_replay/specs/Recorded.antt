@@ -5,13 +5,14 @@ use Rattle.std.specs.List.{flat_map}
 use Rattle.topology.specs.Graph.{Graph}
 use Rattle.topology.specs.TopologyText.{IsReadFault}
 use Rattle.topology.specs.declared.text.AppName.{AppName}
-use Rattle.topology.specs.declared.text.AppName.TheVariants.{Idle, Token, Mutex, Routes}
 use Rattle.topology.specs.declared.text.ReadFault.{ReadFault}
 use Rattle.action_tables.specs.Written.{AppendsPrefix}
 use Rattle.reset_model.specs.Configuration.{Configuration}
 use Rattle.reset_model.specs.Outcome.{IsBoot}
 use Rattle.reset_model.specs.Planned.{Outcome, outcome_of}
 use Rattle.reset_model.specs.declared.event.Event.{Event}
+use Rattle.applications.specs.Choice.{ForApp}
+use Rattle.applications.specs.Meaning.{Meaning}
 use Rattle.fault_inject.specs.Effects.{injected}
 use Rattle.fault_inject.specs.declared.fault.Fault.{Fault}
 use Rattle.fault_inject.specs.declared.refusal.FaultRefusal.{FaultRefusal}
@@ -20,7 +21,6 @@ use Rattle.history.specs.HistoryText.{IsReadAs, history_text}
 use Rattle.history.specs.declared.entry.Entry.{Entry}
 use Rattle.history.specs.declared.entry.Entry.TheVariants as entry
 use Rattle.script_replay.specs.Lines.{lines_of}
-use Rattle.script_replay.specs.Meaning.{Meaning, idle_meaning, token_meaning, mutex_meaning, routes_meaning}
 use Rattle.script_replay.specs.Output.{IsJudged, line_answer, drawn, if_good, script_output}
 use Rattle.script_replay.specs.Script.{line_of}
 use Rattle.script_replay.specs.Stretches.{watch_events}
@@ -90,10 +90,7 @@ IsRecordFrom {L = L} m g modulus script history output =
 
 -- the same for the application of a name
 abbrev pub IsRecordOf : AppName → Graph → ℕ → List ℕ → List ℕ → List ℕ × Status → Type 0
-IsRecordOf Idle = IsRecordFrom idle_meaning
-IsRecordOf Token = IsRecordFrom token_meaning
-IsRecordOf Mutex = IsRecordFrom mutex_meaning
-IsRecordOf Routes = IsRecordFrom routes_meaning
+IsRecordOf app g modulus script history output = ForApp (λ L m. IsRecordFrom m g modulus script history output) app
 
 -- a script on the topology of a text leaves this history, this output and this status: a bad topology is answered
 -- first, and leaves no history

@@ -2,6 +2,7 @@
 use Rattle.std.specs.Prelude.{ℕ, ◌+◌, if◌then◌else◌, List, [], ◌∷◌, ◌++◌, All, Option, Some, None, Result, Ok, Err}
 use Rattle.topology.specs.Graph.{Graph, is_node}
 use Rattle.app_interface.specs.Application.{App}
+use Rattle.applications.specs.Meaning.{Meaning}
 use Rattle.link_predicates.specs.Faults.{alarm_of}
 use Rattle.link_predicates.specs.declared.fault.LinkFault.{LinkFault}
 use Rattle.reset_model.specs.Completion.{applied}
@@ -15,7 +16,6 @@ use Rattle.reset_model.specs.declared.step.Done.{Done}
 use Rattle.reset_model.specs.declared.step.Done.TheVariants.{Did, Refused}
 use Rattle.reset_model.specs.declared.step.Reply.{Reply}
 use Rattle.reset_model.specs.declared.step.StepRefusal.{StepRefusal}
-use Rattle.script_replay.specs.Meaning.{Meaning}
 use Rattle.script_replay.specs.Output.{line_answer, answers, if_good, stepped}
 use Rattle.script_replay.specs.Script.{line_of}
 use Rattle.script_replay.specs.declared.script.Command.TheVariants.{Step, Inject, Draw, Watch}

@@ -4,7 +4,7 @@ ghost use Rattle.std.specs.Prelude.{◌≡◌, Err, IfErr, OnOk, OnErr};
 ghost use Rattle.std.specs.Io.KnownBytes.{Appends, Keeps};
 ghost use Rattle.action_tables.specs.Written.{AppendsPrefix};
 ghost use Rattle.reset_model.specs.Planned.{outcome_of};
-ghost use Rattle.script_replay.specs.Meaning.{meaning_of};
+ghost use Rattle.applications.specs.Meaning.{meaning_of};
 ghost use Rattle.script_replay.specs.Output.{answered, stepped, bad_line_text, bad_topology_text, graph_fault_text};
 ghost use Rattle.script_replay.specs.Output.{numbered, refusal_text, reply_text, numbered_twice};
 ghost use Rattle.script_replay.specs.Stops.{IsOutputStop};

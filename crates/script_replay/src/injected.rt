@@ -3,8 +3,8 @@
 ghost use Rattle.std.specs.Prelude.{◌≡◌, Err, IfErr, IfOk, OnErr, OnOk};
 ghost use Rattle.std.specs.Io.KnownBytes.{Appends, Keeps};
 ghost use Rattle.action_tables.specs.Written.{AppendsPrefix};
+ghost use Rattle.applications.specs.Meaning.{meaning_of};
 ghost use Rattle.fault_inject.specs.Effects.{injected};
-ghost use Rattle.script_replay.specs.Meaning.{meaning_of};
 ghost use Rattle.script_replay.specs.Output.{answered, disturbed, drawn, drawn_text, fault_refusal_text};
 ghost use Rattle.script_replay.specs.declared.script.Command.TheVariants.{Draw};
 ghost use Rattle.script_replay.specs.Stops.{IsOutputStop};

@@ -6,7 +6,7 @@ ghost use Rattle.topology.specs.Graph.{Graph, IsGraph};
 ghost use Rattle.reset_model.specs.Configuration.{Configuration, IsShaped};
 ghost use Rattle.reset_model.specs.Outcome.{IsBoot};
 ghost use Rattle.reset_model.specs.Sound.{IsSound};
-ghost use Rattle.script_replay.specs.Meaning.{meaning_of};
+ghost use Rattle.applications.specs.Meaning.{meaning_of};
 ghost use Rattle.script_replay.specs.Output.{IsJoinedOutput, IsOutput};
 ghost use Rattle.script_replay.specs.Recorded.{IsRecorded};
 ghost use Rattle.script_replay.specs.Stretches.{AreUndisturbed, MakeRun, MakeSteps};

@@ -2,9 +2,9 @@
 
 ghost use Rattle.std.specs.Prelude.{◌≡◌, ◌≤◌, length, IfOk, OnOk};
 ghost use Rattle.reset_model.specs.Planned.{outcome_of};
+ghost use Rattle.applications.specs.Meaning.{meaning_of};
 ghost use Rattle.fault_inject.specs.Effects.{injected};
 ghost use Rattle.script_replay.specs.Left.{bad_line_of, left_by};
-ghost use Rattle.script_replay.specs.Meaning.{meaning_of};
 ghost use Rattle.script_replay.specs.Output.{answered, disturbed, stepped};
 ghost use Rattle.script_replay.specs.Parts.{IsPassed};
 ghost use Rattle.script_replay.specs.Script.{line_of};

@@ -3,9 +3,9 @@
 ghost use Rattle.std.specs.Prelude.{◌≡◌, ◌++◌, ◌<◌, ◌≤◌, [], length, if◌then◌else◌, IfErr, IfOk, OnErr, OnOk};
 ghost use Rattle.std.specs.Io.KnownBytes.{Appends};
 ghost use Rattle.action_tables.specs.Written.{AppendsPrefix};
+ghost use Rattle.applications.specs.Meaning.{meaning_of};
 ghost use Rattle.script_replay.specs.Lines.{lines_of};
 ghost use Rattle.script_replay.specs.Marked.{is_refusal, is_refused, marked_answer, marked_answers, marked_output, number_text};
-ghost use Rattle.script_replay.specs.Meaning.{meaning_of};
 ghost use Rattle.script_replay.specs.Output.{Leaves, if_good, line_answer};
 ghost use Rattle.script_replay.specs.Script.{is_silent};
 ghost use Rattle.script_replay.specs.Stops.{IsOutputStop};

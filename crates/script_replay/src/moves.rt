@@ -4,8 +4,8 @@ ghost use Rattle.std.specs.Prelude.{◌≡◌, ◌++◌, Err, IfErr, IfOk, OnErr
 ghost use Rattle.std.specs.List.{flat_map};
 ghost use Rattle.std.specs.Io.KnownBytes.{Appends, Keeps};
 ghost use Rattle.action_tables.specs.Written.{AppendsPrefix};
+ghost use Rattle.applications.specs.Meaning.{meaning_of};
 ghost use Rattle.scheduler.specs.Driven.{enabled_events};
-ghost use Rattle.script_replay.specs.Meaning.{meaning_of};
 ghost use Rattle.script_replay.specs.Output.{at_node, move_line, moves_lines, moves_text};
 ghost use Rattle.script_replay.specs.Stops.{IsOutputStop};
 

@@ -3,9 +3,10 @@
 ghost use Rattle.std.specs.Prelude.{◌≡◌, ℕ, List, Option, Err, IfErr, OnOk};
 ghost use Rattle.std.specs.Io.KnownBytes.{Appends};
 ghost use Rattle.topology.specs.TopologyText.{IsReadFault};
+ghost use Rattle.applications.specs.Choice.{ForApp};
+ghost use Rattle.applications.specs.Meaning.{meaning_of};
 ghost use Rattle.script_replay.specs.Lines.{GaveText, IsReadFrom};
-ghost use Rattle.script_replay.specs.Meaning.{meaning_of};
-ghost use Rattle.script_replay.specs.Recorded.{IsHistory, IsRecord, IsRecordFrom, IsRecordOf, IsRecorded, LeavesRecord};
+ghost use Rattle.script_replay.specs.Recorded.{IsHistory, IsRecord, IsRecordFrom, IsRecorded, LeavesRecord};
 
 use crate::input::read_text;
 use crate::network::{Network, read_network};
@@ -13,15 +14,12 @@ use crate::recording::history_of;
 use crate::replays::{refuse_topology, run_script};
 use crate::status::{Purpose, RunStop, Status};
 use action_tables::put_bytes;
-use app_interface::Idle;
 use app_invariants::Invariant;
-use app_mutex::EdgeReversal;
-use app_routes::Routes;
-use app_token::Token;
+use applications::with_application;
 use reset_machine::Config;
 use std::alloc::Global;
 use std::io::{Read, Write};
-use topology::{AppName, ReadFault};
+use topology::ReadFault;
 
 /// Writes to one writer the history of the script of a reader, from the booted configuration of a topology text on, and
 /// then to the other what `replay` writes: each event that was applied and each fault that was done, in order, is an
@@ -52,6 +50,7 @@ pub fn record_text<R: Read, H: Write, W: Write>(
 }
 
 // Records a script on the booted configuration of a network, with the application that it names.
+#[tactic(auto, using(applications::proofs::Choosing::by_name))]
 fn record_app<H: Write, W: Write>(
     alloc: Global,
     network: Network,
@@ -59,17 +58,13 @@ fn record_app<H: Write, W: Write>(
     history: &mut H,
     out: &mut W,
 ) -> Result<Status, RunStop>
-    ensures { LeavesRecord (IsRecordOf network.app network.topology network.modulus script.now)
-        (H.contents history.old) (H.contents history.new) (W.contents out.old) (W.contents out.new) result }
+    ensures { ForApp (λ L m. LeavesRecord (IsRecordFrom m network.topology network.modulus script.now)
+        (H.contents history.old) (H.contents history.new) (W.contents out.old) (W.contents out.new) result) network.app }
 {
-    match network.app {
-        AppName::Idle => record_booted::<Idle, H, W>(alloc, network, script, history, out),
-        AppName::Token => record_booted::<Token, H, W>(alloc, network, script, history, out),
-        AppName::Mutex => {
-            record_booted::<EdgeReversal, H, W>(alloc, network, script, history, out)
-        }
-        AppName::Routes => record_booted::<Routes, H, W>(alloc, network, script, history, out),
-    }
+    with_application!(
+        network.app,
+        P => record_booted::<P, H, W>(alloc, network, script, history, out)
+    )
 }
 
 fn record_booted<P: Invariant, H: Write, W: Write>(

@@ -2,10 +2,10 @@
 
 ghost use Rattle.std.specs.Prelude.{◌≡◌, ◌<◌, ◌≤◌, [], length, IfOk, Ok, OnOk, Some};
 ghost use Rattle.reset_model.specs.Planned.{outcome_of};
+ghost use Rattle.applications.specs.Meaning.{meaning_of};
 ghost use Rattle.fault_inject.specs.Effects.{injected};
 ghost use Rattle.history.specs.HistoryText.{IsReadAs, history_text};
 ghost use Rattle.script_replay.specs.Lines.{lines_of};
-ghost use Rattle.script_replay.specs.Meaning.{meaning_of};
 ghost use Rattle.script_replay.specs.Output.{answered, disturbed, stepped};
 ghost use Rattle.script_replay.specs.Parts.{IsNoted, with_entries};
 ghost use Rattle.script_replay.specs.Recorded.{IsHistory, entries_of_lines, event_entries, fault_entries, line_entries};

@@ -4,10 +4,11 @@ ghost use Rattle.std.specs.Prelude.{◌≡◌, ◌≢◌, ℕ, ◌≤◌, List, 
 ghost use Rattle.std.specs.Io.KnownBytes.{Appends};
 ghost use Rattle.topology.specs.TopologyText.{IsReadFault};
 ghost use Rattle.action_tables.specs.Written.{AppendsPrefix};
+ghost use Rattle.applications.specs.Choice.{ForApp};
+ghost use Rattle.applications.specs.Meaning.{meaning_of};
 ghost use Rattle.script_replay.specs.Lines.{lines_of, GaveText, IsReadFrom};
-ghost use Rattle.script_replay.specs.Meaning.{meaning_of};
 ghost use Rattle.script_replay.specs.Output.{answers, bad_topology_text, ending, line_answer, script_output};
-ghost use Rattle.script_replay.specs.Output.{too_long_text, IsJoinedOutput, IsOutput, IsReplay, IsReplayOf, Leaves};
+ghost use Rattle.script_replay.specs.Output.{too_long_text, IsJoinedOutput, IsOutput, IsReplay, Leaves};
 ghost use Rattle.script_replay.specs.Parts.{next_text, HasFitting};
 ghost use Rattle.script_replay.specs.Stops.{IsOutputStop};
 
@@ -19,15 +20,12 @@ use crate::next_line::{NextLine, next_line};
 use crate::script::{Line, read_line};
 use crate::status::{Purpose, RunStop, Status};
 use action_tables::put_bytes;
-use app_interface::Idle;
 use app_invariants::Invariant;
-use app_mutex::EdgeReversal;
-use app_routes::Routes;
-use app_token::Token;
+use applications::with_application;
 use reset_machine::Config;
 use std::alloc::Global;
 use std::io::{Read, Write};
-use topology::{AppName, MAX_TEXT, ReadFault};
+use topology::{MAX_TEXT, ReadFault};
 
 /// Replays a script on the booted configuration of a topology text, with sessions modulo the number that it names, and
 /// writes the answers.
@@ -153,6 +151,7 @@ fn replay_whole<W: Write>(alloc: Global, joined: &[u8], out: &mut W) -> Result<S
 }
 
 // Runs a script on the booted configuration of a network, with the application that it names.
+#[tactic(auto, using(applications::proofs::Choosing::by_name))]
 fn run_app<W: Write>(
     alloc: Global,
     purpose: Purpose,
@@ -160,16 +159,11 @@ fn run_app<W: Write>(
     script: &[u8],
     out: &mut W,
 ) -> Result<Status, RunStop>
-    ensures leaves { Leaves (IsReplayOf network.app purpose network.topology network.modulus script.now)
-        (W.contents out.old) (W.contents out.new) result }
+    ensures leaves { ForApp (λ L m. Leaves (IsReplay m purpose network.topology network.modulus script.now)
+        (W.contents out.old) (W.contents out.new) result) network.app }
     ensures stop { IfErr result IsOutputStop }
 {
-    match network.app {
-        AppName::Idle => run_booted::<Idle, W>(alloc, purpose, network, script, out),
-        AppName::Token => run_booted::<Token, W>(alloc, purpose, network, script, out),
-        AppName::Mutex => run_booted::<EdgeReversal, W>(alloc, purpose, network, script, out),
-        AppName::Routes => run_booted::<Routes, W>(alloc, purpose, network, script, out),
-    }
+    with_application!(network.app, P => run_booted::<P, W>(alloc, purpose, network, script, out))
 }
 
 fn run_booted<P: Invariant, W: Write>(

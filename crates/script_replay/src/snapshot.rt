@@ -5,7 +5,7 @@ ghost use Rattle.std.specs.List.{flat_map};
 ghost use Rattle.std.specs.Io.KnownBytes.{Appends};
 ghost use Rattle.action_tables.specs.Written.{AppendsPrefix};
 ghost use Rattle.topology.specs.Graph.{neighbours_of};
-ghost use Rattle.script_replay.specs.Meaning.{meaning_of};
+ghost use Rattle.applications.specs.Meaning.{meaning_of};
 ghost use Rattle.script_replay.specs.Output.{link_line, links_of, links_text, snapshot_text};
 ghost use Rattle.script_replay.specs.Parts.{line_from, links_from};
 

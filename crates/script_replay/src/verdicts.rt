@@ -4,7 +4,7 @@ ghost use Rattle.std.specs.Prelude.{◌≡◌, Err, IfErr, OnErr, OnOk};
 ghost use Rattle.std.specs.List.{flat_map};
 ghost use Rattle.std.specs.Io.KnownBytes.{Appends, Keeps};
 ghost use Rattle.action_tables.specs.Written.{AppendsPrefix};
-ghost use Rattle.script_replay.specs.Meaning.{meaning_of};
+ghost use Rattle.applications.specs.Meaning.{meaning_of};
 ghost use Rattle.script_replay.specs.Output.{invariant_lines};
 ghost use Rattle.script_replay.specs.Stops.{IsOutputStop};
 ghost use Rattle.script_replay.specs.VerdictText.{verdict_line};

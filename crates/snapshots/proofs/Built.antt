@@ -21,7 +21,7 @@ use Rattle.topology.specs.declared.fault.TopoFault.TheVariants.{NoMemory, NoSuch
 use Rattle.topology.proofs.FirstItems.{apart_push, no_first, no_first_repeat}
 use Rattle.topology.proofs.Joining.{joins_from_ordered}
 use Rattle.topology.proofs.Membership.{Contains-has}
-use Rattle.script_replay.specs.Meaning.{Meaning}
+use Rattle.applications.specs.Meaning.{Meaning}
 use Rattle.snapshots.specs.Items.{links_in}
 use Rattle.snapshots.specs.Parts.{AreLinks}
 use Rattle.snapshots.specs.Reading.{Say, said_refusals, with_said}

@@ -13,8 +13,8 @@ use Rattle.wave_layer.specs.Names.{phase_name}
 use Rattle.reset_model.specs.Words.{words_of}
 use Rattle.reset_model.proofs.EventLines.{words_of-decimal}
 use Rattle.reset_model.proofs.WordLines.{IsWord-decimal, line-words, words_of-more, words_of-some}
+use Rattle.applications.specs.Meaning.{Meaning}
 use Rattle.history.specs.HistoryText.{ended}
-use Rattle.script_replay.specs.Meaning.{Meaning}
 use Rattle.script_replay.specs.Output.{link_line, node_head}
 use Rattle.snapshots.specs.Items.{Spells, TreeFits}
 use Rattle.snapshots.specs.Words.{AreWordsOf, IsReadOf, StateFits, state_words, tree_words, wave_words}

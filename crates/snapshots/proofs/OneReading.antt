@@ -10,7 +10,7 @@ use Rattle.wave_layer.specs.Names.{phase_name}
 use Rattle.reset_model.specs.Words.{words_of}
 use Rattle.reset_model.proofs.EventLines.{same_number}
 use Rattle.reset_model.proofs.WordLines.{line-words}
-use Rattle.script_replay.specs.Meaning.{Meaning}
+use Rattle.applications.specs.Meaning.{Meaning}
 use Rattle.script_replay.specs.Script.{is_silent}
 use Rattle.snapshots.specs.Items.{Spells}
 use Rattle.snapshots.specs.Reading.{Say, Says, with_said}

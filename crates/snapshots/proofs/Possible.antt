@@ -6,7 +6,7 @@ use Rattle.std.proofs.lemmas.List.Elements.{All-append, All-cons, All-nil}
 use Rattle.std.proofs.lemmas.List.Folds.{list_any-append}
 use Rattle.topology.specs.Changing.{first_of}
 use Rattle.topology.specs.Graph.{Graph, has}
-use Rattle.script_replay.specs.Meaning.{Meaning}
+use Rattle.applications.specs.Meaning.{Meaning}
 use Rattle.snapshots.specs.Items.{has_node, nodes_in}
 use Rattle.snapshots.specs.Parts.{AreDistinct, ArePossible}
 use Rattle.snapshots.specs.Reading.{Say, said_refusals, with_said}

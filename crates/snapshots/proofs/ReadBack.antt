@@ -18,6 +18,7 @@ use Rattle.topology.specs.Changing.{first_of}
 use Rattle.topology.specs.Faults.{ends_of}
 use Rattle.topology.specs.Graph.{Graph, IsNode, are_linked, has, is_node}
 use Rattle.topology.proofs.Membership.{Contains-has, has-Contains}
+use Rattle.applications.specs.Meaning.{Meaning}
 use Rattle.history.specs.HistoryText.{ended}
 use Rattle.tree_layer.specs.declared.regs.TreeRegs.{TreeRegs}
 use Rattle.wave_layer.specs.declared.regs.Phase.{Phase}
@@ -27,7 +28,6 @@ use Rattle.wave_layer.specs.Names.{phase_name}
 use Rattle.reset_model.specs.Configuration.{Configuration, local_of, tree_of, wave_of}
 use Rattle.reset_model.proofs.PlainLines.{joined, letters, number}
 use Rattle.script_replay.specs.Lines.{lines_of}
-use Rattle.script_replay.specs.Meaning.{Meaning}
 use Rattle.script_replay.specs.Output.{link_line, links_of, links_text, node_head, shown, snapshot_text}
 use Rattle.script_replay.proofs.TextLines.{lines_cut}
 use Rattle.snapshots.specs.Items.{version_line, has_node, is_of_links, link_in, links_in, list_links, node_in, nodes_in}

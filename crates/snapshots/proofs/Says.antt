@@ -2,7 +2,7 @@
 use Rattle.std.proofs.Common.{◌≡◌, ℕ, ◌+◌, List, [], ◌∷◌, ◌++◌, length, Option, None, sym, ap, ◌∙◌, subst, arith}
 use Rattle.topology.specs.Changing.{first_of}
 use Rattle.topology.specs.Graph.{Graph}
-use Rattle.script_replay.specs.Meaning.{Meaning}
+use Rattle.applications.specs.Meaning.{Meaning}
 use Rattle.snapshots.specs.Reading.{Say, Says, said_refusals, with_said}
 use Rattle.snapshots.specs.declared.item.Item.{Item}
 

@@ -3,8 +3,8 @@ use Rattle.std.specs.Prelude.{◌≡◌, ℕ, ◌<◌, ◌^◌, ◌==◌, Bool, 
 use Rattle.std.specs.Fmt.{decimal}
 use Rattle.std.specs.List.{flat_map, list_any}
 use Rattle.tree_layer.specs.declared.regs.TreeRegs.{TreeRegs}
+use Rattle.applications.specs.Meaning.{Meaning}
 use Rattle.history.specs.HistoryText.{ended}
-use Rattle.script_replay.specs.Meaning.{Meaning}
 use Rattle.script_replay.specs.Output.{link_line, node_head}
 use Rattle.snapshots.specs.declared.item.Item.{Item}
 use Rattle.snapshots.specs.declared.item.Item.TheVariants.{Version, Node, Link, NoLink}

@@ -5,7 +5,7 @@ use Rattle.app_interface.specs.Application.{App}
 use Rattle.topology.specs.Building.{joins}
 use Rattle.topology.specs.Graph.{Graph, IsGraph, are_linked, is_node}
 use Rattle.reset_model.specs.Configuration.{Configuration, IsShaped, local_of, tree_of, wave_of}
-use Rattle.script_replay.specs.Meaning.{Meaning}
+use Rattle.applications.specs.Meaning.{Meaning}
 use Rattle.snapshots.specs.Items.{has_node, links_in, list_links, nodes_in}
 use Rattle.snapshots.specs.Reading.{IsTextOf}
 use Rattle.snapshots.specs.declared.item.Item.{Item}

@@ -2,7 +2,7 @@
 use Rattle.std.specs.Prelude.{◌≡◌, ℕ, ◌<◌, ◌≤◌, ◌^◌, ◌++◌, length}
 use Rattle.topology.specs.Graph.{Graph, IsGraph, IsNode}
 use Rattle.reset_model.specs.Configuration.{Configuration, IsShaped, local_of, tree_of, wave_of}
-use Rattle.script_replay.specs.Meaning.{Meaning}
+use Rattle.applications.specs.Meaning.{Meaning}
 use Rattle.script_replay.specs.Output.{links_of, node_head}
 use Rattle.snapshots.specs.Items.{TreeFits}
 

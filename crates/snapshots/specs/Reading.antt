@@ -6,8 +6,8 @@ use Rattle.topology.specs.Building.{joins}
 use Rattle.topology.specs.Changing.{Reason, first_of, when}
 use Rattle.topology.specs.Faults.{ends_of}
 use Rattle.topology.specs.Graph.{Graph, has}
+use Rattle.applications.specs.Meaning.{Meaning}
 use Rattle.script_replay.specs.Lines.{lines_of}
-use Rattle.script_replay.specs.Meaning.{Meaning}
 use Rattle.script_replay.specs.Script.{is_silent}
 use Rattle.snapshots.specs.Items.{Spells, has_node, links_in, nodes_in}
 use Rattle.snapshots.specs.declared.item.Item.{Item}

@@ -5,7 +5,7 @@ use Rattle.tree_layer.specs.declared.regs.TreeRegs.{TreeRegs}
 use Rattle.wave_layer.specs.declared.regs.WaveRegs.{WaveRegs}
 use Rattle.wave_layer.specs.Names.{phase_name}
 use Rattle.reset_model.specs.Words.{words_of}
-use Rattle.script_replay.specs.Meaning.{Meaning}
+use Rattle.applications.specs.Meaning.{Meaning}
 use Rattle.snapshots.specs.Items.{TreeFits}
 use Rattle.snapshots.specs.declared.item.Item.{Item}
 use Rattle.snapshots.specs.declared.item.Item.TheVariants.{Version, Node, Link, NoLink}

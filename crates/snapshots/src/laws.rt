@@ -3,7 +3,7 @@
 ghost use Rattle.std.specs.Prelude.{ℕ, List};
 ghost use Rattle.topology.specs.Graph.{Graph};
 ghost use Rattle.reset_model.specs.Configuration.{Configuration};
-ghost use Rattle.script_replay.specs.Meaning.{meaning_of};
+ghost use Rattle.applications.specs.Meaning.{meaning_of};
 ghost use Rattle.script_replay.specs.Output.{snapshot_text};
 ghost use Rattle.snapshots.specs.Alike.{AreAlike};
 ghost use Rattle.snapshots.specs.Named.{AreNamed, IsSnapshotOf};

@@ -2,7 +2,7 @@
 
 ghost use Rattle.std.specs.Prelude.{◌≡◌, ◌≢◌, ◌∷◌, Option, Some, IfErr, IfNone, IfOk, IfSome, codes};
 ghost use Rattle.reset_model.specs.Words.{words_of};
-ghost use Rattle.script_replay.specs.Meaning.{meaning_of};
+ghost use Rattle.applications.specs.Meaning.{meaning_of};
 ghost use Rattle.script_replay.specs.Script.{is_silent};
 ghost use Rattle.snapshots.specs.Items.{Spells};
 ghost use Rattle.snapshots.specs.Reading.{Says};

@@ -1,7 +1,7 @@
 // Reading a snapshot.
 
 ghost use Rattle.std.specs.Prelude.{◌≡◌, ◌≢◌, IfErr, IfOk};
-ghost use Rattle.script_replay.specs.Meaning.{meaning_of};
+ghost use Rattle.applications.specs.Meaning.{meaning_of};
 ghost use Rattle.snapshots.specs.Named.{IsSnapshotOf};
 ghost use Rattle.snapshots.specs.Reading.{IsFirstFault};
 

@@ -1,4 +1,4 @@
-use Rattle.script_replay.specs.Meaning.{meaning_of}
+use Rattle.applications.specs.Meaning.{meaning_of}
 use Rattle.live_session.proofs.Watched.{asked_entries, quiet_entries}
 use Rattle.live_session.proofs.acting.asks_for_reset.Goals as goal
 

@@ -1,5 +1,5 @@
 use Rattle.std.proofs.Common.{rules, ◌≡◌, false}
-use Rattle.script_replay.specs.Meaning.{meaning_of}
+use Rattle.applications.specs.Meaning.{meaning_of}
 use Rattle.script_replay.specs.declared.script.Line.TheVariants.{Asks}
 use Rattle.live_session.specs.Course.{asks_for_change}
 use Rattle.live_session.proofs.Questions.{question_answered}

@@ -1,5 +1,5 @@
 use Rattle.std.proofs.Common.{◌∙◌}
-use Rattle.script_replay.specs.Meaning.{meaning_of}
+use Rattle.applications.specs.Meaning.{meaning_of}
 use Rattle.live_session.proofs.Keeping.{begun, cut_beginning}
 use Rattle.live_session.proofs.kept.begin_history.Goals as goal
 

@@ -1,7 +1,7 @@
 use Rattle.std.proofs.Common.{◌≡◌, ◌∙◌, length, subst, IfOk, OnErr}
 use Rattle.std.specs.Io.KnownBytes.{Appends}
 use Rattle.action_tables.specs.Written.{AppendsPrefix}
-use Rattle.script_replay.specs.Meaning.{meaning_of}
+use Rattle.applications.specs.Meaning.{meaning_of}
 use Rattle.live_session.specs.Kept.{HasGoneOn, IsCutGoingOn, resumed_text}
 use Rattle.live_session.specs.Kept.IsCutGoingOn.{within_line}
 use Rattle.live_session.proofs.Keeping.{cut_going_on, gone_on}

@@ -1,5 +1,5 @@
 use Rattle.std.proofs.Common.{ap, length}
-use Rattle.script_replay.specs.Meaning.{meaning_of}
+use Rattle.applications.specs.Meaning.{meaning_of}
 use Rattle.live_session.proofs.Keeping.{cut_resumed, resumed_on}
 use Rattle.live_session.proofs.kept.resume_history.Goals as goal
 

@@ -1,6 +1,6 @@
 use Rattle.std.proofs.Common.{◌∙◌}
+use Rattle.applications.specs.Meaning.{meaning_of}
 use Rattle.script_replay.specs.Lines.{lines_of}
-use Rattle.script_replay.specs.Meaning.{meaning_of}
 use Rattle.live_session.specs.Course.{course, entries_of}
 use Rattle.live_session.proofs.Replayed.{course_replayed, replayed_on}
 use Rattle.live_session.proofs.laws.sessions_are_histories.Goals as goal

@@ -1,5 +1,5 @@
 use Rattle.std.proofs.Common.{[], ◌∙◌, refl}
-use Rattle.script_replay.specs.Meaning.{meaning_of}
+use Rattle.applications.specs.Meaning.{meaning_of}
 use Rattle.live_session.specs.Progress.{Start}
 use Rattle.live_session.proofs.Taken.{begins}
 use Rattle.live_session.proofs.session.run_session.Goals as goal

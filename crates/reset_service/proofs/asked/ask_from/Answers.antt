@@ -1,9 +1,9 @@
 use Rattle.std.proofs.Common.{◌≡◌, ◌≢◌, ◌++◌, Ok, Err, rules}
+use Rattle.applications.specs.Meaning.{meaning_of}
 use Rattle.history.specs.Verdict.{IsJudgementOf, IsVerdict}
 use Rattle.history.specs.declared.text.BookFault.TheVariants.{NoMemory, ReadFailed}
 use Rattle.history.specs.declared.verification.JudgeFault.TheVariants.{Refused}
 use Rattle.history.specs.declared.verification.ReaderFault.TheVariants.{OtherModulus, Text}
-use Rattle.script_replay.specs.Meaning.{meaning_of}
 use Rattle.script_replay.specs.declared.status.Status.TheVariants.{BadInput, NotEnabled}
 use Rattle.reset_service.specs.Asked.{IsAnswered, allowed_output, asked_of, asked_reason}
 use Rattle.reset_service.specs.Verified.{bad_history_text, not_enabled_text, other_modulus_text}

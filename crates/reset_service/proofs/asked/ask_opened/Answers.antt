@@ -1,10 +1,10 @@
 use Rattle.std.proofs.Common.{◌≡◌, ◌≢◌}
 use Rattle.std.specs.Prelude.{option_map}
-use Rattle.script_replay.specs.Meaning.{meaning_of}
+use Rattle.applications.specs.Meaning.{meaning_of}
 use Rattle.script_replay.specs.declared.status.Status.TheVariants.{BadInput}
 use Rattle.reset_service.specs.Asked.{AnswersTo}
-use Rattle.reset_service.specs.Explorations.{IsOpenedFrom}
-use Rattle.reset_service.specs.Explorations.IsOpenedFrom.{bad_snapshot, opened}
+use Rattle.reset_service.specs.Opened.{IsOpenedFrom}
+use Rattle.reset_service.specs.Opened.IsOpenedFrom.{bad_snapshot, opened}
 use Rattle.reset_service.specs.Started.{start_fault_text}
 use Rattle.reset_service.specs.declared.started.StartFault.TheVariants.{NoMemory}
 use Rattle.reset_service.proofs.Verifying.{read_anyway, read_weaker}

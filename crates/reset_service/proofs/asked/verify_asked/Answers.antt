@@ -4,10 +4,11 @@ use Rattle.topology.specs.declared.text.ReadFault.TheVariants.{NoMemory}
 use Rattle.script_replay.specs.Output.{bad_topology_text}
 use Rattle.script_replay.specs.Output.IsJudged.{bad_topology, good_topology}
 use Rattle.script_replay.specs.declared.status.Status.TheVariants.{BadInput}
-use Rattle.reset_service.specs.Explorations.{IsOpenedOf, IsOpenedText}
+use Rattle.reset_service.specs.Opened.{IsOpenedOf, IsOpenedText}
 use Rattle.reset_service.specs.Asked.{AnswersTo}
 use Rattle.script_replay.proofs.Described.{all_up}
 use Rattle.reset_service.proofs.Verifying.{read_anyway, read_weaker}
+use Rattle.reset_service.proofs.ByName.{opened_read}
 use Rattle.reset_service.proofs.asked.verify_asked.Goals as goal
 
 pub ask_app-requires : goal.ask_app-requires
@@ -23,7 +24,7 @@ returns-in-Ok-clause-leaves g c =
     (λ text. IsOpenedOf (AnswersTo c.args.question text) network.app network.topology network.modulus snapshot) _ _
     c.ask_app.result
     (λ text o is. good_topology network.topology network.app network.modulus c.in-Ok.ensures.ok is)
-    c.ask_app.ensures.leaves
+    (opened_read (AnswersTo c.args.question) c.in-Ok.network.app _ _ _ _ _ _ _ c.ask_app.ensures.leaves)
 
 pub returns-in-Err-clause-leaves : goal.returns-in-Err-clause-leaves
 returns-in-Err-clause-leaves g c =

@@ -1,6 +1,6 @@
 use Rattle.std.proofs.Common.{◌≡◌, ◌∙◌, ap, sym, arith}
+use Rattle.applications.specs.Meaning.{meaning_of}
 use Rattle.space_time_diagram.specs.Diagram.{diagram_text}
-use Rattle.script_replay.specs.Meaning.{meaning_of}
 use Rattle.script_replay.specs.declared.status.Status.TheVariants.{Good}
 use Rattle.script_replay.proofs.Runs.{leaves_weaker}
 use Rattle.reset_service.specs.Pictured.{drawing_of}

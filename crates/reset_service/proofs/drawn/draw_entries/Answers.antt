@@ -1,8 +1,8 @@
 use Rattle.std.proofs.Common.{◌≡◌, ℕ, IsSome, List, Ok, subst}
+use Rattle.applications.specs.Meaning.{meaning_of}
 use Rattle.history.specs.Entries.{IsFirstRefused, replayed}
 use Rattle.history.specs.HistoryText.{IsReadAs}
 use Rattle.script_replay.proofs.Runs.{leaves_weaker}
-use Rattle.script_replay.specs.Meaning.{meaning_of}
 use Rattle.script_replay.specs.declared.status.Status.TheVariants.{NotEnabled}
 use Rattle.reset_service.specs.Parted.{IsHistoryDrawn, IsRunDrawn}
 use Rattle.reset_service.specs.Parted.IsHistoryDrawn.{verified}

@@ -1,8 +1,8 @@
 use Rattle.std.proofs.Common.{◌≡◌, ◌≤◌, ◌<◌, ◌-◌, ◌∙◌, Some, ap, arith, drop, length, min, refl, rules}
 use Rattle.std.proofs.Common.{take}
+use Rattle.applications.specs.Meaning.{meaning_of}
 use Rattle.history.proofs.Replays.{allowed_between}
 use Rattle.script_replay.proofs.Runs.{leaves_weaker}
-use Rattle.script_replay.specs.Meaning.{meaning_of}
 use Rattle.script_replay.specs.declared.status.Status.TheVariants.{BadInput}
 use Rattle.reset_service.specs.Asked.{ends_after_text}
 use Rattle.reset_service.specs.Parted.{IsRunDrawn}

@@ -1,5 +1,5 @@
+use Rattle.applications.specs.Meaning.{meaning_of}
 use Rattle.reset_service.specs.Drove.{IsDrove, IsDroveFrom}
-use Rattle.script_replay.specs.Meaning.{meaning_of}
 use Rattle.reset_service.specs.Threaded.{told_history, told_output}
 use Rattle.reset_service.proofs.Threading.{ok_weaker}
 use Rattle.reset_service.proofs.driven.drive_booted.Goals as goal

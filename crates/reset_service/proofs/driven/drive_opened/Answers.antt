@@ -1,9 +1,9 @@
 use Rattle.std.proofs.Common.{refl}
+use Rattle.applications.specs.Meaning.{meaning_of}
 use Rattle.fault_inject.specs.Drawn.{seeded}
 use Rattle.scheduler.specs.Driven.{driven}
 use Rattle.scheduler.specs.Told.{new_book}
 use Rattle.scheduler.proofs.Steps.{steps_keep}
-use Rattle.script_replay.specs.Meaning.{meaning_of}
 use Rattle.reset_service.proofs.Driving.{told_drove}
 use Rattle.reset_service.proofs.driven.drive_opened.Goals as goal
 

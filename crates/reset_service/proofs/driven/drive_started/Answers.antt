@@ -1,5 +1,5 @@
 use Rattle.std.proofs.Common.{◌≢◌, refl, rules}
-use Rattle.script_replay.specs.Meaning.{meaning_of}
+use Rattle.applications.specs.Meaning.{meaning_of}
 use Rattle.reset_service.specs.Begun.{Drives, IsBegunFrom}
 use Rattle.reset_service.specs.Begun.IsBegunFrom.{bad_snapshot, begun}
 use Rattle.reset_service.specs.Threaded.{told_history, told_output}

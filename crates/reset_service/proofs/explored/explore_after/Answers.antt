@@ -1,6 +1,6 @@
 use Rattle.std.proofs.Common.{◌≡◌, ◌<◌, ◌≤◌, ◌∙◌, None, Some, length, rules, subst, sym}
+use Rattle.applications.specs.Meaning.{meaning_of}
 use Rattle.script_replay.specs.Left.{bad_line_of}
-use Rattle.script_replay.specs.Meaning.{meaning_of}
 use Rattle.script_replay.specs.Output.{bad_line_text, too_long_text}
 use Rattle.script_replay.specs.declared.status.Status.TheVariants.{BadInput}
 use Rattle.script_replay.proofs.Runs.{leaves_weaker}

@@ -1,4 +1,4 @@
-use Rattle.script_replay.specs.Meaning.{meaning_of}
+use Rattle.applications.specs.Meaning.{meaning_of}
 use Rattle.reset_service.proofs.KeptRuns.{tells_run}
 use Rattle.reset_service.proofs.laws.kept_histories_are_runs.Goals as goal
 

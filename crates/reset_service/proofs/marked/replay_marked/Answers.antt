@@ -1,14 +1,15 @@
-use Rattle.std.proofs.Common.{◌≡◌, ◌≢◌, refl}
+use Rattle.std.proofs.Common.{◌≡◌, ◌≢◌, OnOk, refl}
 use Rattle.topology.specs.declared.text.ReadFault.TheVariants.{NoMemory}
 use Rattle.script_replay.specs.Output.{bad_topology_text}
 use Rattle.script_replay.specs.Output.IsJudged.{bad_topology, good_topology}
 use Rattle.script_replay.specs.declared.status.Status.TheVariants.{BadInput}
 use Rattle.std.specs.Prelude.{option_map}
-use Rattle.reset_service.specs.Explorations.{IsOpenedOf, IsOpenedText}
+use Rattle.reset_service.specs.Opened.{IsOpenedOf, IsOpenedText}
 use Rattle.reset_service.specs.Marked.{MarkedReplay}
 use Rattle.script_replay.proofs.Described.{all_up}
 use Rattle.script_replay.proofs.Reading.{nothing_given, some_read, text_given}
 use Rattle.script_replay.proofs.Runs.{OnOk-always, leaves_unread, leaves_weaker}
+use Rattle.reset_service.proofs.ByName.{tallied_for}
 use Rattle.reset_service.proofs.marked.replay_marked.Goals as goal
 
 pub replay_app-requires : goal.replay_app-requires
@@ -32,7 +33,13 @@ returns-in-Err-clause-leaves g c =
 pub returns-in-Ok-read_text-clause-leaves : goal.returns-in-Ok-read_text-clause-leaves
 returns-in-Ok-read_text-clause-leaves g c =
     let snapshot = option_map (λ s. s.now) c.args.snapshot in
-    let (answered, tally, left) = c.replay_app.ensures.leaves in (
+    let network = c.in-Ok.network in
+    let (answered, tally, left) =
+    tallied_for (λ t. OnOk c.replay_app.result (c.replay_app.new.tally ≡ t))
+    (MarkedReplay c.args.marks c.deref.result.now) network.app network.topology network.modulus snapshot
+    (g.W.Write.contents c.args.out.now) (g.W.Write.contents c.replay_app.new.out) c.replay_app.result
+    c.replay_app.ensures.leaves
+    in (
       c.deref.result.now,
       answered,
       rw c.deref.ensures.value c.in-Ok-read_text.ensures.ok,

@@ -1,13 +1,13 @@
 use Rattle.std.proofs.Common.{◌≡◌, ◌≢◌, refl}
 use Rattle.std.specs.Prelude.{option_map}
+use Rattle.applications.specs.Meaning.{meaning_of}
 use Rattle.script_replay.specs.Marked.{marked_output}
-use Rattle.script_replay.specs.Meaning.{meaning_of}
 use Rattle.script_replay.specs.Tallies.{script_tally}
 use Rattle.script_replay.specs.declared.status.Status.TheVariants.{BadInput}
 use Rattle.script_replay.proofs.Runs.{OnOk-always, leaves_weaker}
 use Rattle.reset_service.specs.Started.{start_fault_text}
-use Rattle.reset_service.specs.Explorations.{IsOpenedFrom}
-use Rattle.reset_service.specs.Explorations.IsOpenedFrom.{bad_snapshot, opened}
+use Rattle.reset_service.specs.Opened.{IsOpenedFrom}
+use Rattle.reset_service.specs.Opened.IsOpenedFrom.{bad_snapshot, opened}
 use Rattle.reset_service.specs.Marked.{MarkedReplay}
 use Rattle.reset_service.specs.declared.started.StartFault.TheVariants.{NoMemory}
 use Rattle.reset_service.proofs.marked.replay_opened.Goals as goal

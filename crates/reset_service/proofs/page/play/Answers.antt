@@ -1,6 +1,6 @@
 use Rattle.std.proofs.Common.{◌≡◌, ◌∙◌, sym, arith}
+use Rattle.applications.specs.Meaning.{meaning_of}
 use Rattle.history_page.specs.Page.{data_text}
-use Rattle.script_replay.specs.Meaning.{meaning_of}
 use Rattle.reset_service.specs.Page.{page_output}
 use Rattle.script_replay.specs.declared.status.Status.TheVariants.{Good}
 use Rattle.reset_service.proofs.Paging.{page_frame, page_few}
@@ -13,7 +13,7 @@ returns-else-entries-gt-MAX_PLAYED-clause-leaves g c =
     meaning_of g.P.Application.app g.P.Application.text g.P.Application.from_text g.P.Application.names
     g.P.Invariant.counts in
     let title = c.args.title.now in
-    let name = c.args.app.now in
+    let name = c.args.word.now in
     let opening = c.args.opening.now in
     let es = c.args.entries.now in
     leaves_weaker (λ o. o ≡ (page_frame (data_text m.app m.text m.from_text title name opening es), Good))

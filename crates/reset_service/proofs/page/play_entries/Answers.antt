@@ -1,6 +1,6 @@
 use Rattle.std.proofs.Common.{◌≡◌, subst}
+use Rattle.applications.specs.Meaning.{meaning_of}
 use Rattle.history.specs.Entries.{IsFirstRefused}
-use Rattle.script_replay.specs.Meaning.{meaning_of}
 use Rattle.reset_service.specs.Page.{IsPageOfEntries}
 use Rattle.reset_service.specs.Page.IsPageOfEntries.{not_enabled}
 use Rattle.reset_service.specs.Verified.{not_enabled_text}
@@ -18,7 +18,7 @@ returns-in-Err-NotEnabledAt-clause-leaves g c =
     let es = c.args.entries.now in
     let first = c.in-Err-NotEnabledAt.ensures.err position c.in-Err-NotEnabledAt.field-0-is in
     leaves_weaker (λ o. o ≡ (not_enabled_text position, NotEnabled))
-    (IsPageOfEntries page_frame c.args.title.now c.args.app.now m c.args.opening.now es) _ _
+    (IsPageOfEntries page_frame c.args.title.now c.args.word.now m c.args.opening.now es) _ _
     c.refuse_entry.result
     (λ o is. not_enabled position
     (subst (λ x. IsFirstRefused m.app m.from_text x es position) c.in_ok-copy.ensures first) is)

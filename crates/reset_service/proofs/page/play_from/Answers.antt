@@ -1,7 +1,7 @@
 use Rattle.std.proofs.Common.{◌≡◌, ◌≢◌, ℕ, Err, List, Ok, rules}
+use Rattle.applications.specs.Meaning.{meaning_of}
 use Rattle.history.specs.HistoryText.{IsReadAs}
 use Rattle.history.specs.declared.text.BookFault.TheVariants.{NoMemory, ReadFailed}
-use Rattle.script_replay.specs.Meaning.{meaning_of}
 use Rattle.reset_service.specs.Page.{IsPage}
 use Rattle.reset_service.specs.Page.IsPage.{bad_history}
 use Rattle.reset_service.specs.Verified.{bad_history_text}
@@ -21,10 +21,10 @@ returns-in-Ok g c =
     let es = c.in-Ok.book.entries.items in
     record {
       leaves = read_leaves (g.R.Read.remaining c.args.history.now)
-          (IsPage page_frame c.args.title.now c.args.app.now m opening)
+          (IsPage page_frame c.args.title.now c.args.word.now m opening)
           (λ text. IsReadAs text (Ok (modulus, es)))
           (λ o. (text : List ℕ) → IsReadAs text (Ok (modulus, es)) → IsPage page_frame c.args.title.now
-          c.args.app.now m opening text o) _ _ c.play_book.result
+          c.args.word.now m opening text o) _ _ c.play_book.result
           (λ text o reads is. is text reads) c.in-Ok.ensures.ok c.play_book.ensures.leaves;
     }
 
@@ -39,7 +39,7 @@ returns-in-Err g c =
     let device : fault ≢ ReadFailed = search rules in
     record {
       leaves = read_leaves (g.R.Read.remaining c.args.history.now)
-          (IsPage page_frame c.args.title.now c.args.app.now m opening) (λ text. IsReadAs text (Err fault))
+          (IsPage page_frame c.args.title.now c.args.word.now m opening) (λ text. IsReadAs text (Err fault))
           (λ o. o ≡ (bad_history_text fault, BadInput)) _ _ c.refuse_history.result
           (λ text o bad is. bad_history fault bad is) (c.in-Err.ensures.err memory device)
           c.refuse_history.ensures.leaves;
@@ -52,7 +52,7 @@ returns-in-Err-NoMemory g c =
     g.P.Invariant.counts in
     record {
       leaves = read_unread (g.R.Read.remaining c.args.history.now)
-          (IsPage page_frame c.args.title.now c.args.app.now m c.args.opening.now)
+          (IsPage page_frame c.args.title.now c.args.word.now m c.args.opening.now)
           (g.W.Write.contents c.args.out.now) stop.NoMemory tt;
     }
 
@@ -63,6 +63,6 @@ returns-in-Err-ReadFailed g c =
     g.P.Invariant.counts in
     record {
       leaves = read_unread (g.R.Read.remaining c.args.history.now)
-          (IsPage page_frame c.args.title.now c.args.app.now m c.args.opening.now)
+          (IsPage page_frame c.args.title.now c.args.word.now m c.args.opening.now)
           (g.W.Write.contents c.args.out.now) stop.ReadFailed tt;
     }

@@ -2,7 +2,7 @@ use Rattle.std.proofs.Common.{◌≡◌, ◌<◌, ◌≤◌, ◌∙◌, ap, arit
 use Rattle.std.proofs.Common.{subst}
 use Rattle.topology.specs.Faults.{IsFirst}
 use Rattle.topology.specs.Graph.{has}
-use Rattle.script_replay.specs.Meaning.{meaning_of}
+use Rattle.applications.specs.Meaning.{meaning_of}
 use Rattle.script_replay.specs.declared.status.RunStop.TheVariants.{NoMemory}
 use Rattle.script_replay.specs.declared.status.Status.TheVariants.{BadInput}
 use Rattle.reset_service.specs.Chosen.{lanes_of}

@@ -1,7 +1,7 @@
 use Rattle.std.proofs.Common.{◌≡◌, ℕ, ap, List, Some}
 use Rattle.std.specs.Borrow.{Bor}
 use Rattle.std.specs.Prelude.{option_map}
-use Rattle.script_replay.specs.Meaning.{meaning_of}
+use Rattle.applications.specs.Meaning.{meaning_of}
 use Rattle.script_replay.specs.declared.status.Status.TheVariants.{BadInput}
 use Rattle.reset_service.specs.Chosen.{NamesRows}
 use Rattle.reset_service.specs.Parted.{IsPartDrawn, bad_rows_text}

@@ -5,9 +5,10 @@ use Rattle.script_replay.proofs.Described.{all_up}
 use Rattle.script_replay.specs.Output.{bad_topology_text}
 use Rattle.script_replay.specs.Output.IsJudged.{bad_topology, good_topology}
 use Rattle.script_replay.specs.declared.status.Status.TheVariants.{BadInput}
-use Rattle.reset_service.specs.Explorations.{IsOpenedOf, IsOpenedText}
+use Rattle.reset_service.specs.Opened.{IsOpenedOf, IsOpenedText}
 use Rattle.reset_service.specs.Parted.{DrawsPart}
 use Rattle.reset_service.proofs.Verifying.{read_anyway, read_weaker}
+use Rattle.reset_service.proofs.ByName.{opened_read}
 use Rattle.reset_service.proofs.parted.picture_part.Goals as goal
 
 pub draw_app-requires : goal.draw_app-requires
@@ -25,7 +26,7 @@ returns-in-Ok-clause-leaves g c =
     (λ text. IsOpenedOf (DrawsPart rows nodes text) network.app network.topology network.modulus snapshot) _ _
     c.draw_app.result
     (λ text o is. good_topology network.topology network.app network.modulus c.in-Ok.ensures.ok is)
-    c.draw_app.ensures.leaves
+    (opened_read (DrawsPart rows nodes) c.in-Ok.network.app _ _ _ _ _ _ _ c.draw_app.ensures.leaves)
 
 pub returns-in-Err-clause-leaves : goal.returns-in-Err-clause-leaves
 returns-in-Err-clause-leaves g c =

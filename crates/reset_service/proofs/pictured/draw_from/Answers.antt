@@ -1,5 +1,5 @@
 use Rattle.std.proofs.Common.{None}
-use Rattle.script_replay.specs.Meaning.{meaning_of}
+use Rattle.applications.specs.Meaning.{meaning_of}
 use Rattle.reset_service.specs.Parted.{IsSelectionDrawn}
 use Rattle.reset_service.specs.Pictured.{IsPicture}
 use Rattle.reset_service.proofs.Picturing.{of_selection}

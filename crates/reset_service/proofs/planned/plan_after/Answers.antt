@@ -1,8 +1,8 @@
 use Rattle.std.proofs.Common.{◌≡◌, ◌<◌, ◌≤◌, ◌∙◌, List, None, Some, length, rules, subst, sym}
 use Rattle.reset_model.specs.declared.event.Event.{Event}
+use Rattle.applications.specs.Meaning.{meaning_of}
 use Rattle.recovery.specs.Recovered.{Recovers}
 use Rattle.script_replay.specs.Left.{bad_line_of}
-use Rattle.script_replay.specs.Meaning.{meaning_of}
 use Rattle.script_replay.specs.Output.{bad_line_text, too_long_text}
 use Rattle.script_replay.specs.declared.status.Status.TheVariants.{BadInput, Good}
 use Rattle.script_replay.proofs.Runs.{leaves_weaker}

@@ -2,7 +2,7 @@ use Rattle.std.proofs.Common.{OnErr, OnOk, subst, sym}
 use Rattle.std.specs.Io.KnownBytes.{Appends}
 use Rattle.std.proofs.KnownBytes.{Appends-nil}
 use Rattle.action_tables.specs.Written.{AppendsPrefix}
-use Rattle.script_replay.specs.Meaning.{meaning_of}
+use Rattle.applications.specs.Meaning.{meaning_of}
 use Rattle.reset_service.proofs.Reasoning.{line_of_node, line_of_none}
 use Rattle.reset_service.proofs.reasons.put_node.Goals as goal
 

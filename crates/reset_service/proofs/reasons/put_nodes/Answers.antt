@@ -1,7 +1,7 @@
 use Rattle.std.proofs.Common.{arith}
 use Rattle.action_tables.proofs.Prefixes.{OnErr-always}
 use Rattle.action_tables.proofs.Pieces.{AppendsPrefix-piece}
-use Rattle.script_replay.specs.Meaning.{meaning_of}
+use Rattle.applications.specs.Meaning.{meaning_of}
 use Rattle.reset_service.specs.Reasons.{line_there}
 use Rattle.reset_service.proofs.reasons.put_nodes.Goals as goal
 

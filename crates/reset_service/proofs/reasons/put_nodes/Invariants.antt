@@ -2,7 +2,7 @@
 use Rattle.std.proofs.Common.{take}
 use Rattle.std.specs.Io.KnownBytes.{Appends}
 use Rattle.std.specs.List.{flat_map}
-use Rattle.script_replay.specs.Meaning.{meaning_of}
+use Rattle.applications.specs.Meaning.{meaning_of}
 use Rattle.reset_service.specs.Reasons.{line_there}
 use Rattle.reset_service.proofs.reasons.put_nodes.Given as goal
 

@@ -5,8 +5,9 @@ use Rattle.script_replay.specs.declared.status.Status.TheVariants.{BadInput}
 use Rattle.script_replay.proofs.Described.{all_up}
 use Rattle.script_replay.proofs.LeftRecords.{record_alone, record_unread, record_weaker}
 use Rattle.script_replay.proofs.Reading.{nothing_given, some_read, text_given}
-use Rattle.reset_service.specs.Begun.{IsBegunOf, IsBegunText, Records}
+use Rattle.reset_service.specs.Begun.{IsBegunFrom, IsBegunOf, IsBegunText, Records}
 use Rattle.reset_service.proofs.Beginning.{begun, unbegun}
+use Rattle.script_replay.proofs.ByName.{record_for}
 use Rattle.reset_service.proofs.recorded.record_from.Goals as goal
 
 pub record_app-requires : goal.record_app-requires
@@ -36,7 +37,9 @@ returns-in-Ok-read_text-clause-leaves g c = (
       (IsBegunText (Records c.deref.result.now) c.args.topology.now c.args.snapshot.now) _ _ _ _ c.record_app.result
       (begun (Records c.deref.result.now) c.args.topology.now c.args.snapshot.now c.in-Ok.network.topology
       c.in-Ok.network.app c.in-Ok.network.modulus c.in-Ok.ensures.ok)
-      c.record_app.ensures,
+      (record_for
+      (λ L m. IsBegunFrom m c.in-Ok.network.topology c.in-Ok.network.modulus c.args.snapshot.now
+      (Records c.deref.result.now L m)) c.in-Ok.network.app _ _ _ _ _ c.record_app.ensures),
 )
 
 pub returns-in-Err-read_text-clause-leaves : goal.returns-in-Err-read_text-clause-leaves

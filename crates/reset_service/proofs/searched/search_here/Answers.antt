@@ -1,5 +1,5 @@
 use Rattle.std.proofs.Common.{◌≡◌}
-use Rattle.script_replay.specs.Meaning.{meaning_of}
+use Rattle.applications.specs.Meaning.{meaning_of}
 use Rattle.script_replay.specs.declared.status.Status.TheVariants.{BadInput}
 use Rattle.script_replay.proofs.Runs.{leaves_weaker}
 use Rattle.reset_service.specs.Explorations.{IsFound, too_many_text}

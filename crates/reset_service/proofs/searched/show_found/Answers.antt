@@ -1,8 +1,8 @@
 use Rattle.std.proofs.Common.{◌≡◌, ◌≢◌, ◌+◌, ◌<◌, ℕ, List, [], length, Some, ap, refl, subst, sym, ◌∙◌}
+use Rattle.applications.specs.Meaning.{meaning_of}
 use Rattle.schedules.specs.declared.finding.Search.{Search}
 use Rattle.schedules.specs.declared.finding.Search.TheVariants.{Reached, Unreached}
 use Rattle.script_replay.specs.Lines.{lines_of}
-use Rattle.script_replay.specs.Meaning.{meaning_of}
 use Rattle.script_replay.specs.Recorded.{entries_of_lines}
 use Rattle.script_replay.specs.declared.status.Status.{Status}
 use Rattle.script_replay.specs.declared.status.Status.TheVariants.{BadInput}

@@ -1,6 +1,6 @@
 use Rattle.std.proofs.Common.{◌≡◌, [], refl}
+use Rattle.applications.specs.Meaning.{meaning_of}
 use Rattle.script_replay.specs.Lines.{lines_of}
-use Rattle.script_replay.specs.Meaning.{meaning_of}
 use Rattle.script_replay.specs.Recorded.{entries_of_lines}
 use Rattle.script_replay.specs.declared.status.Status.TheVariants.{BadInput}
 use Rattle.script_replay.proofs.LeftRecords.{record_alone, record_weaker}

@@ -1,4 +1,4 @@
-use Rattle.script_replay.specs.Meaning.{meaning_of}
+use Rattle.applications.specs.Meaning.{meaning_of}
 use Rattle.reset_service.proofs.Holding.{new}
 use Rattle.reset_service.proofs.session.begin.Goals as goal
 

@@ -1,5 +1,5 @@
 use Rattle.std.proofs.Common.{refl}
-use Rattle.script_replay.specs.Meaning.{meaning_of}
+use Rattle.applications.specs.Meaning.{meaning_of}
 use Rattle.reset_service.specs.Held.HoldsKept.{cut, gone_on}
 use Rattle.reset_service.proofs.Holding.{without_past}
 use Rattle.reset_service.proofs.session.resume.Goals as goal

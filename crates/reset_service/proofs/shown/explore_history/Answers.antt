@@ -7,8 +7,9 @@ use Rattle.script_replay.specs.declared.status.Status.TheVariants.{BadInput}
 use Rattle.script_replay.proofs.Described.{all_up}
 use Rattle.script_replay.proofs.LeftRecords.{record_alone, record_unread, record_weaker}
 use Rattle.script_replay.proofs.Reading.{nothing_given, some_read, text_given}
-use Rattle.reset_service.specs.Explorations.{IsOpenedOf}
+use Rattle.reset_service.specs.Opened.{IsOpenedOf}
 use Rattle.reset_service.specs.Shown.{IsShownText, Shows}
+use Rattle.reset_service.proofs.ByName.{shown_for}
 use Rattle.reset_service.proofs.shown.explore_history.Goals as goal
 
 pub show_app-requires : goal.show_app-requires
@@ -44,7 +45,8 @@ returns-in-Ok-read_text-clause-leaves g c =
             opened = good_topology c.in-Ok.network.topology c.in-Ok.network.app c.in-Ok.network.modulus c.in-Ok.ensures.ok is.0;
             unkept = is.1;
           })
-          c.show_app.ensures,
+          (shown_for (Shows c.args.run text) (λ h o. o.1 ≡ BadInput → h ≡ []) c.in-Ok.network.app _ _ _ _ _ _ _ _
+          c.show_app.ensures),
     )
 
 pub returns-in-Err-read_text-clause-leaves : goal.returns-in-Err-read_text-clause-leaves

@@ -1,6 +1,6 @@
 use Rattle.std.proofs.Common.{◌≡◌, ◌≢◌, ◌<◌, ◌+◌, ℕ, Bool, true, false, List, [], length, Some, ap, refl, subst, sym, ◌∙◌}
+use Rattle.applications.specs.Meaning.{meaning_of}
 use Rattle.script_replay.specs.Lines.{lines_of}
-use Rattle.script_replay.specs.Meaning.{meaning_of}
 use Rattle.script_replay.specs.Recorded.{entries_of_lines}
 use Rattle.script_replay.specs.declared.status.Status.{Status}
 use Rattle.script_replay.specs.declared.status.Status.TheVariants.{BadInput}

@@ -1,12 +1,14 @@
-use Rattle.std.proofs.Common.{◌≡◌, ◌≢◌}
+use Rattle.std.proofs.Common.{◌≡◌, ◌≢◌, Some}
 use Rattle.topology.specs.declared.text.ReadFault.TheVariants.{NoMemory}
 use Rattle.script_replay.specs.Output.{bad_topology_text}
 use Rattle.script_replay.specs.Output.IsJudged.{bad_topology, good_topology}
 use Rattle.script_replay.specs.declared.status.Status.TheVariants.{BadInput}
-use Rattle.reset_service.specs.Started.{Answers, IsStartedOf, IsStartedText}
+use Rattle.reset_service.specs.Opened.{IsOpenedOf, IsOpenedText}
+use Rattle.reset_service.specs.Started.{Answers}
 use Rattle.script_replay.proofs.Described.{all_up}
 use Rattle.script_replay.proofs.Reading.{nothing_given, some_read, text_given}
 use Rattle.script_replay.proofs.Runs.{leaves_unread, leaves_weaker}
+use Rattle.reset_service.proofs.ByName.{opened_left}
 use Rattle.reset_service.proofs.started.run_from.Goals as goal
 
 pub run_app-requires : goal.run_app-requires
@@ -19,7 +21,7 @@ returns-in-Err-clause-leaves g c =
       read.0,
       read.1,
       leaves_weaker (λ o. (c.in-Err.fault ≢ NoMemory) × (o ≡ (bad_topology_text c.in-Err.fault, BadInput)))
-          (IsStartedText (Answers c.args.purpose read.0) c.args.topology.now c.args.snapshot.now) _ _ c.refuse_topology.result
+          (IsOpenedText (Answers c.args.purpose read.0) c.args.topology.now (Some c.args.snapshot.now)) _ _ c.refuse_topology.result
           (λ o is. bad_topology c.in-Err.fault (c.in-Err.ensures.err is.0) is.1) c.refuse_topology.ensures.leaves,
     )
 
@@ -28,11 +30,11 @@ returns-in-Ok-read_text-clause-leaves g c = (
   c.deref.result.now,
   rw c.deref.ensures.value c.in-Ok-read_text.ensures.ok,
   leaves_weaker
-      (IsStartedOf (Answers c.args.purpose c.deref.result.now) c.in-Ok.network.app c.in-Ok.network.topology
-      c.in-Ok.network.modulus c.args.snapshot.now)
-      (IsStartedText (Answers c.args.purpose c.deref.result.now) c.args.topology.now c.args.snapshot.now) _ _ c.run_app.result
+      (IsOpenedOf (Answers c.args.purpose c.deref.result.now) c.in-Ok.network.app c.in-Ok.network.topology
+      c.in-Ok.network.modulus (Some c.args.snapshot.now))
+      (IsOpenedText (Answers c.args.purpose c.deref.result.now) c.args.topology.now (Some c.args.snapshot.now)) _ _ c.run_app.result
       (λ o is. good_topology c.in-Ok.network.topology c.in-Ok.network.app c.in-Ok.network.modulus c.in-Ok.ensures.ok
-      is) c.run_app.ensures.leaves,
+      is) (opened_left (Answers c.args.purpose c.deref.result.now) c.in-Ok.network.app _ _ _ _ _ _ c.run_app.ensures.leaves),
 )
 
 pub returns-in-Err-read_text-clause-leaves : goal.returns-in-Err-read_text-clause-leaves
@@ -40,7 +42,7 @@ returns-in-Err-read_text-clause-leaves g c =
     let read = some_read (g.R.Read.remaining c.args.script.now) in (
       read.0,
       read.1,
-      leaves_unread (IsStartedText (Answers c.args.purpose read.0) c.args.topology.now c.args.snapshot.now)
+      leaves_unread (IsOpenedText (Answers c.args.purpose read.0) c.args.topology.now (Some c.args.snapshot.now))
           (g.W.Write.contents c.args.out.now) c.in-Err-read_text.stop c.in-Err-read_text.ensures.err,
     )
 

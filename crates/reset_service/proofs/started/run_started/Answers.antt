@@ -1,9 +1,10 @@
-use Rattle.std.proofs.Common.{◌≡◌, ◌≢◌}
-use Rattle.script_replay.specs.Meaning.{meaning_of}
+use Rattle.std.proofs.Common.{◌≡◌, ◌≢◌, Some}
+use Rattle.applications.specs.Meaning.{meaning_of}
 use Rattle.script_replay.specs.declared.status.Status.TheVariants.{BadInput}
 use Rattle.script_replay.proofs.Runs.{leaves_weaker}
-use Rattle.reset_service.specs.Started.{Answers, IsStartedFrom, start_fault_text}
-use Rattle.reset_service.specs.Started.IsStartedFrom.{bad_snapshot, started}
+use Rattle.reset_service.specs.Opened.{IsOpenedFrom}
+use Rattle.reset_service.specs.Started.{Answers, start_fault_text}
+use Rattle.reset_service.specs.Opened.IsOpenedFrom.{bad_snapshot, opened}
 use Rattle.reset_service.specs.declared.started.StartFault.TheVariants.{NoMemory}
 use Rattle.reset_service.proofs.started.run_started.Goals as goal
 
@@ -14,8 +15,8 @@ returns-in-Ok-clause-leaves g c =
     g.P.Invariant.counts in
     let follows = Answers c.args.purpose c.args.script.now _ m in
     leaves_weaker (follows c.in-Ok.config)
-    (IsStartedFrom m c.args.network.topology c.args.network.modulus c.args.snapshot.now follows) _ _ c.run_script.result
-    (λ o is. started c.in-Ok.config c.in-Ok.ensures.short c.in-Ok.ensures.ok is) c.run_script.ensures.leaves
+    (IsOpenedFrom m c.args.network.topology c.args.network.modulus (Some c.args.snapshot.now) follows) _ _ c.run_script.result
+    (λ o is. opened c.in-Ok.config c.in-Ok.ensures.ok is) c.run_script.ensures.leaves
 
 pub returns-in-Err-clause-leaves : goal.returns-in-Err-clause-leaves
 returns-in-Err-clause-leaves g c =
@@ -24,6 +25,6 @@ returns-in-Err-clause-leaves g c =
     g.P.Invariant.counts in
     let follows = Answers c.args.purpose c.args.script.now _ m in
     leaves_weaker (λ o. (c.in-Err.fault ≢ NoMemory) × (o ≡ (start_fault_text c.in-Err.fault, BadInput)))
-    (IsStartedFrom m c.args.network.topology c.args.network.modulus c.args.snapshot.now follows) _ _
+    (IsOpenedFrom m c.args.network.topology c.args.network.modulus (Some c.args.snapshot.now) follows) _ _
     c.refuse_start.result
     (λ o is. bad_snapshot c.in-Err.fault (c.in-Err.ensures.err is.0) is.1) c.refuse_start.ensures.leaves

@@ -1,7 +1,7 @@
 use Rattle.std.proofs.Common.{Ok, ◌∙◌, ap, length, subst}
 use Rattle.topology.specs.Graph.{Graph}
+use Rattle.applications.specs.Meaning.{meaning_of}
 use Rattle.history.specs.Verdict.{IsVerdict}
-use Rattle.script_replay.specs.Meaning.{meaning_of}
 use Rattle.reset_service.proofs.Threading.{kept_by, same_entries}
 use Rattle.reset_service.proofs.threaded.judge.Goals as goal
 

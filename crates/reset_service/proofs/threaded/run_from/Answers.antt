@@ -1,6 +1,6 @@
 use Rattle.std.proofs.Common.{◌≡◌, ◌∙◌, ℕ, List, Ok, ap}
 use Rattle.topology.specs.Graph.{Graph}
-use Rattle.script_replay.specs.Meaning.{meaning_of}
+use Rattle.applications.specs.Meaning.{meaning_of}
 use Rattle.history.specs.HistoryText.{IsReadAs}
 use Rattle.history.specs.declared.entry.Entry.{Entry}
 use Rattle.reset_service.specs.Selected.{IsSelected}

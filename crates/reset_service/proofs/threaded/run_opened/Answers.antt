@@ -1,8 +1,8 @@
 use Rattle.std.proofs.Common.{◌≢◌, refl, rules}
 use Rattle.std.specs.Prelude.{option_map}
-use Rattle.script_replay.specs.Meaning.{meaning_of}
-use Rattle.reset_service.specs.Explorations.{IsOpenedFrom}
-use Rattle.reset_service.specs.Explorations.IsOpenedFrom.{bad_snapshot, opened}
+use Rattle.applications.specs.Meaning.{meaning_of}
+use Rattle.reset_service.specs.Opened.{IsOpenedFrom}
+use Rattle.reset_service.specs.Opened.IsOpenedFrom.{bad_snapshot, opened}
 use Rattle.reset_service.specs.Selected.{IsSelected, RunsSelected}
 use Rattle.reset_service.specs.Threaded.{told_history, told_output}
 use Rattle.reset_service.specs.declared.started.StartFault.TheVariants.{NoMemory}

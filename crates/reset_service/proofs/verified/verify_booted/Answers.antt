@@ -1,4 +1,4 @@
-use Rattle.script_replay.specs.Meaning.{meaning_of}
+use Rattle.applications.specs.Meaning.{meaning_of}
 use Rattle.script_replay.specs.declared.status.RunStop.TheVariants.{NoMemory}
 use Rattle.reset_service.specs.Verified.{IsVerified, IsVerifiedFrom}
 use Rattle.reset_service.proofs.Verifying.{read_unread, read_weaker}

@@ -1,9 +1,9 @@
 use Rattle.std.proofs.Common.{◌≡◌, ◌≢◌, Ok, Err, rules}
+use Rattle.applications.specs.Meaning.{meaning_of}
 use Rattle.history.specs.Verdict.{IsVerdict}
 use Rattle.history.specs.declared.entry.VerifyFault.TheVariants.{NotEnabledAt}
 use Rattle.history.specs.declared.text.BookFault.TheVariants.{NoMemory, ReadFailed}
 use Rattle.history.specs.declared.verification.ReaderFault.TheVariants.{Entries, OtherModulus, Text}
-use Rattle.script_replay.specs.Meaning.{meaning_of}
 use Rattle.reset_service.specs.Verified.{IsVerified, bad_history_text, not_enabled_text, other_modulus_text}
 use Rattle.reset_service.specs.Verified.{verified_text}
 use Rattle.script_replay.specs.declared.status.Status.TheVariants.{BadInput, Good, NotEnabled}

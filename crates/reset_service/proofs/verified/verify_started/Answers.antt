@@ -1,8 +1,9 @@
-use Rattle.std.proofs.Common.{◌≡◌, ◌≢◌}
-use Rattle.script_replay.specs.Meaning.{meaning_of}
+use Rattle.std.proofs.Common.{◌≡◌, ◌≢◌, Some}
+use Rattle.applications.specs.Meaning.{meaning_of}
 use Rattle.script_replay.specs.declared.status.Status.TheVariants.{BadInput}
-use Rattle.reset_service.specs.Started.{Verifies, IsStartedFrom, start_fault_text}
-use Rattle.reset_service.specs.Started.IsStartedFrom.{bad_snapshot, started}
+use Rattle.reset_service.specs.Opened.{IsOpenedFrom}
+use Rattle.reset_service.specs.Started.{Verifies, start_fault_text}
+use Rattle.reset_service.specs.Opened.IsOpenedFrom.{bad_snapshot, opened}
 use Rattle.reset_service.specs.declared.started.StartFault.TheVariants.{NoMemory}
 use Rattle.reset_service.proofs.Verifying.{read_anyway, read_weaker}
 use Rattle.reset_service.proofs.verified.verify_started.Goals as goal
@@ -12,11 +13,11 @@ returns-in-Ok g c =
     let m =
     meaning_of g.P.Application.app g.P.Application.text g.P.Application.from_text g.P.Application.names
     g.P.Invariant.counts in
-    let here = IsStartedFrom m c.args.network.topology c.args.network.modulus c.args.snapshot.now in
+    let here = IsOpenedFrom m c.args.network.topology c.args.network.modulus (Some c.args.snapshot.now) in
     record {
       leaves = read_weaker (g.R.Read.remaining c.args.history.now) (λ text. here (Verifies text _ m))
           (λ text. Verifies text _ m c.in-Ok.opening) _ _ c.verify_opened.result
-          (λ text o is. started c.in-Ok.opening c.in-Ok.ensures.short c.in-Ok.ensures.ok is) c.verify_opened.ensures.leaves;
+          (λ text o is. opened c.in-Ok.opening c.in-Ok.ensures.ok is) c.verify_opened.ensures.leaves;
     }
 
 pub returns-in-Err : goal.returns-in-Err
@@ -24,7 +25,7 @@ returns-in-Err g c =
     let m =
     meaning_of g.P.Application.app g.P.Application.text g.P.Application.from_text g.P.Application.names
     g.P.Invariant.counts in
-    let here = IsStartedFrom m c.args.network.topology c.args.network.modulus c.args.snapshot.now in
+    let here = IsOpenedFrom m c.args.network.topology c.args.network.modulus (Some c.args.snapshot.now) in
     record {
       leaves = read_anyway (g.R.Read.remaining c.args.history.now) (λ text. here (Verifies text _ m))
           (λ o. (c.in-Err.fault ≢ NoMemory) × (o ≡ (start_fault_text c.in-Err.fault, BadInput))) _ _ c.refuse_start.result

@@ -1,6 +1,6 @@
 use Rattle.app_invariants.specs.Verdicts.{verdicts_of}
+use Rattle.applications.specs.Meaning.{meaning_of}
 use Rattle.script_replay.specs.Lines.{lines_of}
-use Rattle.script_replay.specs.Meaning.{meaning_of}
 use Rattle.script_replay.specs.Output.{answers, script_output}
 use Rattle.script_replay.specs.declared.status.Purpose.TheVariants as purpose
 use Rattle.reset_service.specs.Whole.{after_check}

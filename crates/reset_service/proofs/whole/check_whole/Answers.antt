@@ -4,11 +4,12 @@ use Rattle.script_replay.specs.Output.{bad_topology_text}
 use Rattle.script_replay.specs.Output.IsJudged.{bad_topology, good_topology}
 use Rattle.script_replay.specs.declared.status.Status.TheVariants.{BadInput}
 use Rattle.std.specs.Prelude.{option_map}
-use Rattle.reset_service.specs.Explorations.{IsOpenedOf, IsOpenedText}
+use Rattle.reset_service.specs.Opened.{IsOpenedOf, IsOpenedText}
 use Rattle.reset_service.specs.Whole.{WholeCheck}
 use Rattle.script_replay.proofs.Described.{all_up}
 use Rattle.script_replay.proofs.Reading.{nothing_given, some_read, text_given}
 use Rattle.script_replay.proofs.Runs.{leaves_unread, leaves_weaker}
+use Rattle.reset_service.proofs.ByName.{opened_left}
 use Rattle.reset_service.proofs.whole.check_whole.Goals as goal
 
 pub check_app-requires : goal.check_app-requires
@@ -36,7 +37,7 @@ returns-in-Ok-read_text-clause-leaves g c =
           c.in-Ok.network.modulus snapshot)
           (IsOpenedText (WholeCheck c.args.repairs c.deref.result.now) c.args.topology.now snapshot) _ _ c.check_app.result
           (λ o is. good_topology c.in-Ok.network.topology c.in-Ok.network.app c.in-Ok.network.modulus c.in-Ok.ensures.ok
-          is) c.check_app.ensures.leaves,
+          is) (opened_left (WholeCheck c.args.repairs c.deref.result.now) c.in-Ok.network.app _ _ _ _ _ _ c.check_app.ensures.leaves),
     )
 
 pub returns-in-Err-read_text-clause-leaves : goal.returns-in-Err-read_text-clause-leaves

@@ -2,7 +2,7 @@ use Rattle.std.proofs.Common.{ℕ, List, subst, sym, ◌∙◌}
 use Rattle.std.specs.Io.KnownBytes.{Appends}
 use Rattle.action_tables.specs.Written.{AppendsPrefix}
 use Rattle.action_tables.proofs.Prefixes.{OnErr-always}
-use Rattle.script_replay.specs.Meaning.{meaning_of}
+use Rattle.applications.specs.Meaning.{meaning_of}
 use Rattle.script_replay.proofs.Nodes.{faults_lines-is, faults_status-is}
 use Rattle.script_replay.proofs.faults.answer_check.Goals as goal
 

@@ -1,6 +1,6 @@
 use Rattle.std.proofs.Common.{◌∙◌}
 use Rattle.std.proofs.lemmas.Result.{on_err_weaker}
-use Rattle.script_replay.specs.Meaning.{meaning_of}
+use Rattle.applications.specs.Meaning.{meaning_of}
 use Rattle.script_replay.proofs.Nodes.{told_alarm}
 use Rattle.script_replay.proofs.Watching.{asked_config, asked_err, asked_ok, quiet_config, quiet_text, watched_prefix}
 use Rattle.script_replay.proofs.Written.{written_err, written_ok}

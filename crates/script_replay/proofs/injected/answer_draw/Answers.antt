@@ -2,7 +2,7 @@ use Rattle.std.proofs.Common.{ℕ, List, [], refl, subst, OnErr}
 use Rattle.std.proofs.KnownBytes.{Appends-nil}
 use Rattle.action_tables.specs.Written.{AppendsPrefix}
 use Rattle.action_tables.proofs.Prefixes.{OnErr-always}
-use Rattle.script_replay.specs.Meaning.{meaning_of}
+use Rattle.applications.specs.Meaning.{meaning_of}
 use Rattle.script_replay.specs.Output.{answered}
 use Rattle.script_replay.specs.declared.script.Command.TheVariants.{Draw}
 use Rattle.script_replay.proofs.Disturbing.{drawn_err, drawn_prefix}

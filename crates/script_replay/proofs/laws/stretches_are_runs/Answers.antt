@@ -1,4 +1,4 @@
-use Rattle.script_replay.specs.Meaning.{meaning_of}
+use Rattle.applications.specs.Meaning.{meaning_of}
 use Rattle.script_replay.specs.Output.{answers}
 use Rattle.script_replay.specs.Stretches.{event_answers, events_of_lines}
 use Rattle.script_replay.proofs.Stretches.{lines_make_run}

@@ -1,7 +1,7 @@
-use Rattle.std.proofs.Common.{arith, [], refl, sym, ◌∙◌}
+use Rattle.std.proofs.Common.{arith, [], refl, sym}
+use Rattle.applications.specs.Meaning.{meaning_of}
 use Rattle.script_replay.specs.Left.{bad_line_of}
 use Rattle.script_replay.specs.Lines.{lines_of}
-use Rattle.script_replay.specs.Meaning.{meaning_of}
 use Rattle.script_replay.specs.Output.{answers}
 use Rattle.script_replay.proofs.Leaving.{good_last, left_last, passed_bad, passed_on, stopped_at, stopped_bad}
 use Rattle.script_replay.proofs.left.leave_script.Goals as goal

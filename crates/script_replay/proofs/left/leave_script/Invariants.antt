@@ -1,8 +1,8 @@
 -- The lines that are left lead where all lines lead, and the first bad line is among them.
 use Rattle.std.proofs.Common.{◌≡◌, ◌≤◌, ◌+◌, length}
+use Rattle.applications.specs.Meaning.{meaning_of}
 use Rattle.script_replay.specs.Left.{bad_line_of, first_bad}
 use Rattle.script_replay.specs.Lines.{lines_of}
-use Rattle.script_replay.specs.Meaning.{meaning_of}
 use Rattle.script_replay.specs.Output.{answers}
 use Rattle.script_replay.proofs.Leaving.{LeadsOn}
 use Rattle.script_replay.proofs.left.leave_script.Given as goal

@@ -1,8 +1,8 @@
 use Rattle.std.proofs.Common.{◌≢◌, ◌++◌, sym, ◌∙◌, rules, arith}
 use Rattle.std.proofs.KnownBytes.{Appends-trans}
+use Rattle.applications.specs.Meaning.{meaning_of}
 use Rattle.script_replay.specs.Lines.{lines_of}
 use Rattle.script_replay.specs.Marked.{is_refused, marked_answer, marked_answers}
-use Rattle.script_replay.specs.Meaning.{meaning_of}
 use Rattle.script_replay.specs.declared.status.Status.TheVariants.{Good}
 use Rattle.script_replay.specs.Output.{line_answer}
 use Rattle.script_replay.specs.Tallies.{answered, counted}

@@ -1,9 +1,9 @@
 -- What was written, and the answers to the lines that are left, are the answers to all lines; so it is with what is counted.
 use Rattle.std.proofs.Common.{◌≡◌, ◌≤◌, ◌+◌, ℕ, List, length}
 use Rattle.std.specs.Io.KnownBytes.{Appends}
+use Rattle.applications.specs.Meaning.{meaning_of}
 use Rattle.script_replay.specs.Lines.{lines_of}
 use Rattle.script_replay.specs.Marked.{marked_answer, marked_answers}
-use Rattle.script_replay.specs.Meaning.{meaning_of}
 use Rattle.script_replay.specs.Output.{answers_by, told_after}
 use Rattle.script_replay.specs.Tallies.{answered, counted}
 use Rattle.script_replay.proofs.Tallying.{IsSmall}

@@ -3,7 +3,7 @@ use Rattle.std.specs.Prelude.{OnErr}
 use Rattle.std.specs.Io.KnownBytes.{Appends}
 use Rattle.topology.specs.Graph.{is_node}
 use Rattle.action_tables.specs.Written.{AppendsPrefix}
-use Rattle.script_replay.specs.Meaning.{meaning_of}
+use Rattle.applications.specs.Meaning.{meaning_of}
 use Rattle.script_replay.proofs.MoveTexts.{moves_node}
 use Rattle.script_replay.proofs.Written.{written_err, written_ok}
 use Rattle.script_replay.proofs.moves.answer_moves_of.Goals as goal

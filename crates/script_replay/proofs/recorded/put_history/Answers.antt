@@ -1,5 +1,5 @@
 use Rattle.std.proofs.Common.{◌≡◌, Err, refl, rules, subst, sym}
-use Rattle.script_replay.specs.Meaning.{meaning_of}
+use Rattle.applications.specs.Meaning.{meaning_of}
 use Rattle.script_replay.specs.Output.{script_output}
 use Rattle.script_replay.specs.Recorded.{IsHistory, IsRecord}
 use Rattle.script_replay.specs.declared.status.Purpose.TheVariants.{Replay}

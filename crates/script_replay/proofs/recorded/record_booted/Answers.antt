@@ -1,4 +1,4 @@
-use Rattle.script_replay.specs.Meaning.{meaning_of}
+use Rattle.applications.specs.Meaning.{meaning_of}
 use Rattle.script_replay.specs.Recorded.{IsRecord, IsRecordFrom}
 use Rattle.script_replay.proofs.LeftRecords.{record_weaker}
 use Rattle.script_replay.proofs.recorded.record_booted.Goals as goal

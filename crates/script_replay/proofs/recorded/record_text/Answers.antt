@@ -1,10 +1,11 @@
 use Rattle.std.proofs.Common.{◌≡◌, ◌≢◌}
 use Rattle.topology.specs.declared.text.ReadFault.TheVariants.{NoMemory}
 use Rattle.script_replay.specs.Output.{bad_topology_text}
-use Rattle.script_replay.specs.Recorded.{IsRecordOf, IsRecorded}
+use Rattle.script_replay.specs.Recorded.{IsRecordFrom, IsRecordOf, IsRecorded}
 use Rattle.script_replay.specs.declared.status.Status.TheVariants.{BadInput}
 use Rattle.script_replay.proofs.LeftRecords.{record_alone, record_unread, record_weaker, recorded, unrecorded}
 use Rattle.script_replay.proofs.Reading.{nothing_given, some_read, text_given}
+use Rattle.script_replay.proofs.ByName.{record_for}
 use Rattle.script_replay.proofs.recorded.record_text.Goals as goal
 
 pub returns-in-Err-clause-leaves : goal.returns-in-Err-clause-leaves
@@ -28,7 +29,8 @@ returns-in-Ok-read_text-clause-leaves g c = (
       (IsRecorded c.args.topology.now c.deref.result.now) _ _ _ _ c.record_app.result
       (recorded c.args.topology.now c.deref.result.now c.in-Ok.network.topology c.in-Ok.network.app
       c.in-Ok.network.modulus c.in-Ok.ensures.ok)
-      c.record_app.ensures,
+      (record_for (λ L m. IsRecordFrom m c.in-Ok.network.topology c.in-Ok.network.modulus c.deref.result.now)
+      c.in-Ok.network.app _ _ _ _ _ c.record_app.ensures),
 )
 
 pub returns-in-Err-read_text-clause-leaves : goal.returns-in-Err-read_text-clause-leaves

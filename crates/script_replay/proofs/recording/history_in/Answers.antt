@@ -1,5 +1,5 @@
 use Rattle.std.proofs.Common.{◌∙◌}
-use Rattle.script_replay.specs.Meaning.{meaning_of}
+use Rattle.applications.specs.Meaning.{meaning_of}
 use Rattle.script_replay.proofs.Noting.{history_kept}
 use Rattle.script_replay.proofs.recording.history_in.Goals as goal
 

@@ -1,7 +1,7 @@
 use Rattle.std.proofs.Common.{ap, subst}
 use Rattle.std.specs.Prelude.{IfOk}
+use Rattle.applications.specs.Meaning.{meaning_of}
 use Rattle.history.specs.Book.{BookView}
-use Rattle.script_replay.specs.Meaning.{meaning_of}
 use Rattle.script_replay.specs.Recorded.{IsHistory}
 use Rattle.script_replay.proofs.recording.kept_history.Goals as goal
 

@@ -1,8 +1,8 @@
 use Rattle.std.proofs.Common.{◌≡◌, None, Some, refl, subst}
 use Rattle.std.proofs.lemmas.Result.{on_ok_weaker}
 use Rattle.topology.specs.Graph.{IsNode}
+use Rattle.applications.specs.Meaning.{meaning_of}
 use Rattle.link_predicates.specs.Faults.{alarm_of}
-use Rattle.script_replay.specs.Meaning.{meaning_of}
 use Rattle.script_replay.proofs.Noting.{alarm_noted, quiet_noted}
 use Rattle.script_replay.proofs.recording.record_watch.Goals as goal
 

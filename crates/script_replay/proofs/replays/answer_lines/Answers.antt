@@ -1,7 +1,7 @@
 use Rattle.std.proofs.Common.{◌≢◌, ◌++◌, sym, ap, ◌∙◌, rules, arith}
 use Rattle.std.proofs.KnownBytes.{Appends-trans}
+use Rattle.applications.specs.Meaning.{meaning_of}
 use Rattle.script_replay.specs.Lines.{lines_of}
-use Rattle.script_replay.specs.Meaning.{meaning_of}
 use Rattle.script_replay.specs.Parts.{next_text}
 use Rattle.script_replay.specs.Script.{line_of}
 use Rattle.script_replay.specs.Output.{answer_to, answers, line_answer, Answer}

@@ -1,8 +1,8 @@
 -- What was written, and the answers to the lines that are left, are the answers to all lines.
 use Rattle.std.proofs.Common.{◌≡◌, ◌≤◌, ◌+◌, ℕ, List, length}
 use Rattle.std.specs.Io.KnownBytes.{Appends}
+use Rattle.applications.specs.Meaning.{meaning_of}
 use Rattle.script_replay.specs.Lines.{lines_of}
-use Rattle.script_replay.specs.Meaning.{meaning_of}
 use Rattle.script_replay.specs.Output.{answers, told_after}
 use Rattle.script_replay.proofs.replays.answer_lines.Given as goal
 

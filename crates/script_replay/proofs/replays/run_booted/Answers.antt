@@ -1,5 +1,5 @@
 use Rattle.std.proofs.Common.{◌≡◌}
-use Rattle.script_replay.specs.Meaning.{meaning_of}
+use Rattle.applications.specs.Meaning.{meaning_of}
 use Rattle.script_replay.specs.Output.{IsReplay, script_output}
 use Rattle.script_replay.specs.Output.IsReplay.{replayed}
 use Rattle.script_replay.proofs.Runs.{leaves_weaker}

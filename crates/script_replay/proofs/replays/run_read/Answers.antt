@@ -1,10 +1,11 @@
 use Rattle.std.proofs.Common.{◌≡◌, ◌≢◌}
-use Rattle.script_replay.specs.Output.{IsOutput, IsReplayOf, bad_topology_text}
+use Rattle.script_replay.specs.Output.{IsOutput, IsReplay, IsReplayOf, bad_topology_text}
 use Rattle.script_replay.specs.Output.IsJudged.{bad_topology, good_topology}
 use Rattle.script_replay.specs.declared.status.Status.TheVariants.{BadInput}
 use Rattle.topology.specs.declared.text.ReadFault.TheVariants.{NoMemory}
 use Rattle.script_replay.proofs.Runs.{leaves_unread, leaves_weaker}
 use Rattle.script_replay.proofs.Reading.{nothing_given, some_read, text_given}
+use Rattle.script_replay.proofs.ByName.{left_for}
 use Rattle.script_replay.proofs.replays.run_read.Goals as goal
 
 pub returns-in-Err-clause-leaves : goal.returns-in-Err-clause-leaves
@@ -26,7 +27,9 @@ returns-in-Ok-read_text-clause-leaves g c = (
       c.deref.result.now)
       (IsOutput c.args.purpose c.args.topology.now c.deref.result.now) _ _ c.run_app.result
       (λ o is. good_topology c.in-Ok.network.topology c.in-Ok.network.app c.in-Ok.network.modulus c.in-Ok.ensures.ok
-      is) c.run_app.ensures.leaves,
+      is)
+      (left_for (λ L m. IsReplay m c.args.purpose c.in-Ok.network.topology c.in-Ok.network.modulus c.deref.result.now)
+      c.in-Ok.network.app _ _ _ c.run_app.ensures.leaves),
 )
 
 pub returns-in-Err-read_text-clause-leaves : goal.returns-in-Err-read_text-clause-leaves

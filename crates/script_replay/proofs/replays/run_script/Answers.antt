@@ -1,6 +1,6 @@
 use Rattle.std.proofs.Common.{Err}
+use Rattle.applications.specs.Meaning.{meaning_of}
 use Rattle.script_replay.specs.Lines.{lines_of}
-use Rattle.script_replay.specs.Meaning.{meaning_of}
 use Rattle.script_replay.specs.Output.{answers}
 use Rattle.script_replay.proofs.Runs.{ended_run, prefix_for, short_output}
 use Rattle.script_replay.proofs.replays.run_script.Goals as goal

@@ -3,7 +3,7 @@ use Rattle.std.specs.Prelude.{OnErr}
 use Rattle.std.specs.Io.KnownBytes.{Appends}
 use Rattle.action_tables.specs.Written.{AppendsPrefix}
 use Rattle.reset_model.specs.declared.step.StepRefusal.TheVariants.{NoMemory}
-use Rattle.script_replay.specs.Meaning.{meaning_of}
+use Rattle.applications.specs.Meaning.{meaning_of}
 use Rattle.script_replay.specs.Output.{enabled_line}
 use Rattle.script_replay.proofs.Nodes.{enabled_node, told_refused}
 use Rattle.script_replay.proofs.Written.{written_err, written_ok}

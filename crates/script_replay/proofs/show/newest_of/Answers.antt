@@ -2,8 +2,8 @@ use Rattle.std.specs.Prelude.{codes}
 use Rattle.std.proofs.Common.{if◌then◌else◌, sym}
 use Rattle.action_tables.proofs.Prefixes.{AppendsPrefix-first, OnErr-always, OnErr-then, OnOk-then}
 use Rattle.reset_model.specs.Configuration.{local_of}
+use Rattle.applications.specs.Meaning.{meaning_of}
 use Rattle.history.specs.HistoryText.{ended}
-use Rattle.script_replay.specs.Meaning.{meaning_of}
 use Rattle.reset_model.specs.Configuration.{wave_of}
 use Rattle.reset_model.specs.Refinement.{has_joined}
 use Rattle.script_replay.specs.Output.{newest_head}

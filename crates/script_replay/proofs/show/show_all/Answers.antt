@@ -3,7 +3,7 @@ use Rattle.topology.specs.Graph.{Graph}
 use Rattle.action_tables.specs.Written.{AppendsPrefix}
 use Rattle.action_tables.proofs.Prefixes.{OnErr-always}
 use Rattle.action_tables.proofs.Pieces.{AppendsPrefix-piece}
-use Rattle.script_replay.specs.Meaning.{meaning_of}
+use Rattle.applications.specs.Meaning.{meaning_of}
 use Rattle.script_replay.specs.Output.{at_node, shown}
 use Rattle.script_replay.proofs.Nodes.{told_at}
 use Rattle.script_replay.proofs.show.show_all.Goals as goal

@@ -4,7 +4,7 @@ use Rattle.topology.specs.Graph.{Graph}
 use Rattle.action_tables.specs.Written.{AppendsPrefix}
 use Rattle.action_tables.proofs.Prefixes.{OnErr-always}
 use Rattle.action_tables.proofs.Pieces.{Appends-piece, AppendsPrefix-piece}
-use Rattle.script_replay.specs.Meaning.{meaning_of}
+use Rattle.applications.specs.Meaning.{meaning_of}
 use Rattle.script_replay.specs.Output.{newest_line}
 use Rattle.script_replay.proofs.show.show_newest.Goals as goal
 

@@ -4,8 +4,8 @@ use Rattle.std.proofs.KnownBytes.{Appends-trans}
 use Rattle.std.proofs.lemmas.Result.{on_ok_weaker}
 use Rattle.action_tables.specs.Written.{AppendsPrefix}
 use Rattle.action_tables.proofs.Prefixes.{AppendsPrefix-first, OnErr-always, OnErr-then}
+use Rattle.applications.specs.Meaning.{meaning_of}
 use Rattle.history.specs.HistoryText.{ended}
-use Rattle.script_replay.specs.Meaning.{meaning_of}
 use Rattle.script_replay.specs.Output.{node_head, shown}
 use Rattle.script_replay.proofs.Nodes.{shown_node, told_none}
 use Rattle.script_replay.proofs.show.show_node.Goals as goal

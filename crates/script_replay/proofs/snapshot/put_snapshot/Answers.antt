@@ -3,7 +3,7 @@ use Rattle.std.proofs.Common.{ℕ, List, ◌++◌, refl, sym, subst}
 use Rattle.std.specs.List.{flat_map}
 use Rattle.action_tables.specs.Written.{AppendsPrefix}
 use Rattle.action_tables.proofs.Prefixes.{AppendsPrefix-first, AppendsPrefix-then, OnErr-always, OnErr-then, OnOk-then}
-use Rattle.script_replay.specs.Meaning.{meaning_of}
+use Rattle.applications.specs.Meaning.{meaning_of}
 use Rattle.script_replay.specs.Output.{links_of, links_text, shown, snapshot_text}
 use Rattle.script_replay.proofs.LinkTexts.{snapshot_text-is}
 use Rattle.script_replay.proofs.snapshot.put_snapshot.Goals as goal

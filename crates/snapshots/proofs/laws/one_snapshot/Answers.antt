@@ -1,6 +1,6 @@
 use Rattle.std.proofs.Common.{List, [], subst, sym}
+use Rattle.applications.specs.Meaning.{meaning_of}
 use Rattle.script_replay.specs.Lines.{lines_of}
-use Rattle.script_replay.specs.Meaning.{meaning_of}
 use Rattle.snapshots.specs.Named.{AreNamed}
 use Rattle.snapshots.specs.declared.item.Item.{Item}
 use Rattle.snapshots.proofs.Alike.{alike}

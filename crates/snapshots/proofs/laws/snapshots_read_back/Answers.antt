@@ -3,7 +3,7 @@ use Rattle.std.specs.Char.{is_ascii_graphic}
 use Rattle.std.specs.List.{list_all}
 use Rattle.std.proofs.lemmas.Bool.{and_parts}
 use Rattle.action_tables.specs.Cuts.{HasNo}
-use Rattle.script_replay.specs.Meaning.{meaning_of}
+use Rattle.applications.specs.Meaning.{meaning_of}
 use Rattle.snapshots.proofs.ReadBack.{read_back}
 use Rattle.snapshots.proofs.laws.snapshots_read_back.Goals as goal
 

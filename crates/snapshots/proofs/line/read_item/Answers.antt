@@ -1,4 +1,4 @@
-use Rattle.script_replay.specs.Meaning.{meaning_of}
+use Rattle.applications.specs.Meaning.{meaning_of}
 use Rattle.snapshots.proofs.ItemWords.{line_found, line_only}
 use Rattle.snapshots.proofs.line.read_item.Goals as goal
 

@@ -1,6 +1,6 @@
 use Rattle.std.specs.Prelude.{codes}
 use Rattle.std.proofs.Common.{◌≢◌, rules}
-use Rattle.script_replay.specs.Meaning.{meaning_of}
+use Rattle.applications.specs.Meaning.{meaning_of}
 use Rattle.snapshots.proofs.ItemWords.{no_link}
 use Rattle.snapshots.proofs.line.read_link.Goals as goal
 

@@ -1,5 +1,5 @@
 use Rattle.std.proofs.Common.{Err, ap}
-use Rattle.script_replay.specs.Meaning.{meaning_of}
+use Rattle.applications.specs.Meaning.{meaning_of}
 use Rattle.snapshots.proofs.ItemWords.{no_local, no_node}
 use Rattle.snapshots.proofs.line.read_node.Goals as goal
 

@@ -2,7 +2,7 @@ use Rattle.std.specs.Prelude.{codes}
 use Rattle.std.proofs.Common.{◌∷◌, ◌∙◌, ap}
 use Rattle.reset_model.specs.Words.{words_of}
 use Rattle.reset_model.proofs.EventLines.{words_of-decimal}
-use Rattle.script_replay.specs.Meaning.{meaning_of}
+use Rattle.applications.specs.Meaning.{meaning_of}
 use Rattle.snapshots.proofs.ItemWords.{no_version}
 use Rattle.snapshots.proofs.line.read_version.Goals as goal
 

@@ -1,7 +1,7 @@
 use Rattle.std.specs.Prelude.{codes}
 use Rattle.std.proofs.Common.{◌≡◌, ◌≢◌, ℕ, List, ◌∷◌, ◌∙◌, ap, rules, subst, sym}
 use Rattle.reset_model.specs.Words.{words_of}
-use Rattle.script_replay.specs.Meaning.{meaning_of}
+use Rattle.applications.specs.Meaning.{meaning_of}
 use Rattle.snapshots.specs.Words.{AreWordsOf, IsReadOf}
 use Rattle.snapshots.proofs.ItemWords.{no_command}
 use Rattle.snapshots.proofs.line.read_words.Goals as goal

@@ -1,7 +1,7 @@
 use Rattle.std.proofs.Common.{◌++◌, ◌∷◌, ◌∙◌, [], ℕ, ap, arith, append_assoc, subst, sym, length-append}
 use Rattle.std.proofs.lemmas.Result.{IfErr-weaker, on_ok_weaker}
+use Rattle.applications.specs.Meaning.{meaning_of}
 use Rattle.script_replay.specs.Lines.{lines_of}
-use Rattle.script_replay.specs.Meaning.{meaning_of}
 use Rattle.snapshots.specs.Reading.{IsLineFault, with_said}
 use Rattle.snapshots.specs.Reading.IsFirstFault.{of_a_line}
 use Rattle.snapshots.proofs.Says.{say_last, say_more}

@@ -1,7 +1,7 @@
 -- The lines that were passed say the items that are kept.
 use Rattle.std.proofs.Common.{◌≡◌, ◌≤◌, ◌+◌, ◌++◌, [], ℕ, List, length}
+use Rattle.applications.specs.Meaning.{meaning_of}
 use Rattle.script_replay.specs.Lines.{lines_of}
-use Rattle.script_replay.specs.Meaning.{meaning_of}
 use Rattle.snapshots.specs.Parts.{AreKept}
 use Rattle.snapshots.specs.Reading.{Say}
 use Rattle.snapshots.specs.declared.item.Item.{Item}

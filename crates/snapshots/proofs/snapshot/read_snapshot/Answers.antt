@@ -1,8 +1,8 @@
 use Rattle.std.proofs.Common.{◌≡◌, ◌∙◌, [], ap₂, not, refl, subst, sym}
 use Rattle.std.specs.List.{find}
 use Rattle.topology.specs.Faults.{ends_of}
+use Rattle.applications.specs.Meaning.{meaning_of}
 use Rattle.script_replay.specs.Lines.{lines_of}
-use Rattle.script_replay.specs.Meaning.{meaning_of}
 use Rattle.snapshots.specs.Items.{has_node}
 use Rattle.snapshots.specs.Parts.{AreLinks, ArePossible}
 use Rattle.snapshots.specs.Reading.{down_end}

@@ -2,8 +2,8 @@ use Rattle.std.proofs.Common.{rules, ◌≡◌, ◌<◌, ◌++◌, ◌∙◌, []
 use Rattle.std.specs.Io.KnownBytes.{Consumes}
 use Rattle.std.proofs.KnownBytes.{Consumes-nil, Consumes-trans}
 use Rattle.std.proofs.lemmas.Result.{on_err_weaker, on_ok_weaker}
+use Rattle.applications.specs.Meaning.{meaning_of}
 use Rattle.history.proofs.ReadLines.{all_given, some_whole, whole_before}
-use Rattle.script_replay.specs.Meaning.{meaning_of}
 use Rattle.live_session.specs.Progress.{Comes}
 use Rattle.live_session.proofs.Taken.{committed, cut_within, cut_within_commit, ended_with, written_within}
 use Rattle.live_session.proofs.session.Session.converse.Goals as goal

@@ -1,7 +1,7 @@
 -- What the reader gave is answered, or held back.
 use Rattle.std.proofs.Common.{◌≡◌, [], ℕ, List, length}
 use Rattle.std.specs.Io.KnownBytes.{Consumes}
-use Rattle.script_replay.specs.Meaning.{meaning_of}
+use Rattle.applications.specs.Meaning.{meaning_of}
 use Rattle.live_session.specs.Progress.{IsAt, Start}
 use Rattle.live_session.proofs.session.Session.converse.Given as goal
 

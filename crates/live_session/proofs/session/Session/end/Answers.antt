@@ -1,6 +1,6 @@
 use Rattle.std.proofs.Common.{[], append-nil, subst}
 use Rattle.std.proofs.lemmas.Result.{on_err_weaker, on_ok_weaker}
-use Rattle.script_replay.specs.Meaning.{meaning_of}
+use Rattle.applications.specs.Meaning.{meaning_of}
 use Rattle.live_session.specs.Progress.{IsCut}
 use Rattle.live_session.proofs.Taken.{cut_within, last_taken}
 use Rattle.live_session.proofs.session.Session.end.Goals as goal

@@ -1,5 +1,5 @@
 use Rattle.std.proofs.Common.{refl}
-use Rattle.script_replay.specs.Meaning.{meaning_of}
+use Rattle.applications.specs.Meaning.{meaning_of}
 use Rattle.live_session.specs.Course.{rested}
 use Rattle.live_session.proofs.Going.{cut_writing, goes_out_done}
 use Rattle.live_session.proofs.session.Session.leave.Goals as goal

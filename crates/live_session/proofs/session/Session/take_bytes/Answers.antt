@@ -1,7 +1,7 @@
 use Rattle.std.proofs.Common.{◌++◌, arith, refl}
 use Rattle.std.proofs.lemmas.Result.{IfOk-weaker, on_err_weaker}
+use Rattle.applications.specs.Meaning.{meaning_of}
 use Rattle.history.specs.HistoryText.{ended}
-use Rattle.script_replay.specs.Meaning.{meaning_of}
 use Rattle.live_session.proofs.LineBreaks.{rest_unbroken}
 use Rattle.live_session.proofs.Taken.{begun_comes, begun_cut, begun_ends_it, begun_goes_on, begun_on, cut_before}
 use Rattle.live_session.proofs.session.Session.take_bytes.Goals as goal

@@ -1,5 +1,5 @@
 use Rattle.std.proofs.Common.{◌+◌, refl, Some}
-use Rattle.script_replay.specs.Meaning.{meaning_of}
+use Rattle.applications.specs.Meaning.{meaning_of}
 use Rattle.live_session.proofs.Taken.{event_taken}
 use Rattle.live_session.proofs.session.Session.take_kept.Goals as goal
 

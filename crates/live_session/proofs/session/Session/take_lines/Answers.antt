@@ -1,6 +1,6 @@
 use Rattle.std.proofs.Common.{[], ◌++◌, ◌∙◌, ap, arith, refl}
+use Rattle.applications.specs.Meaning.{meaning_of}
 use Rattle.history.specs.HistoryText.{ended}
-use Rattle.script_replay.specs.Meaning.{meaning_of}
 use Rattle.script_replay.specs.Parts.{next_text}
 use Rattle.live_session.proofs.LineBreaks.{line_with_feed}
 use Rattle.live_session.proofs.Taken.{lines_begin, lines_cut_commit, lines_cut_short, lines_end, lines_go_on, lines_rest}

@@ -1,6 +1,6 @@
 -- The bytes that were passed are answered, or held back.
 use Rattle.std.proofs.Common.{◌≡◌, ◌≤◌, ◌+◌, ◌++◌, [], ℕ, List, length}
-use Rattle.script_replay.specs.Meaning.{meaning_of}
+use Rattle.applications.specs.Meaning.{meaning_of}
 use Rattle.live_session.specs.Progress.{IsWithin, Start}
 use Rattle.live_session.proofs.session.Session.take_lines.Given as goal
 

@@ -1,0 +1,39 @@
+use Rattle.std.proofs.Common.{◌≡◌, ◌≢◌}
+use Rattle.std.specs.Prelude.{option_map}
+use Rattle.applications.specs.Meaning.{meaning_of}
+use Rattle.script_replay.specs.declared.status.Status.TheVariants.{BadInput}
+use Rattle.reset_service.specs.Opened.{IsOpenedFrom}
+use Rattle.reset_service.specs.Opened.IsOpenedFrom.{bad_snapshot, opened}
+use Rattle.reset_service.specs.Page.{Plays}
+use Rattle.reset_service.specs.Started.{start_fault_text}
+use Rattle.reset_service.specs.declared.started.StartFault.TheVariants.{NoMemory}
+use Rattle.reset_service.proofs.Paging.{page_frame}
+use Rattle.reset_service.proofs.Verifying.{read_anyway, read_weaker}
+use Rattle.reset_service.proofs.page.play_opened.Goals as goal
+
+pub returns-in-Ok : goal.returns-in-Ok
+returns-in-Ok g c =
+    let m =
+    meaning_of g.P.Application.app g.P.Application.text g.P.Application.from_text g.P.Application.names
+    g.P.Invariant.counts in
+    let here =
+    IsOpenedFrom m c.args.network.topology c.args.network.modulus (option_map (λ s. s.now) c.args.snapshot) in
+    record {
+      leaves = read_weaker (g.R.Read.remaining c.args.history.now) (λ text. here (Plays page_frame c.args.title.now c.args.word.now text _ m))
+          (λ text. Plays page_frame c.args.title.now c.args.word.now text _ m c.in-Ok.opening) _ _ c.play_from.result
+          (λ text o is. opened c.in-Ok.opening c.in-Ok.ensures.ok is) c.play_from.ensures.leaves;
+    }
+
+pub returns-in-Err : goal.returns-in-Err
+returns-in-Err g c =
+    let m =
+    meaning_of g.P.Application.app g.P.Application.text g.P.Application.from_text g.P.Application.names
+    g.P.Invariant.counts in
+    let here =
+    IsOpenedFrom m c.args.network.topology c.args.network.modulus (option_map (λ s. s.now) c.args.snapshot) in
+    record {
+      leaves = read_anyway (g.R.Read.remaining c.args.history.now) (λ text. here (Plays page_frame c.args.title.now c.args.word.now text _ m))
+          (λ o. (c.in-Err.fault ≢ NoMemory) × (o ≡ (start_fault_text c.in-Err.fault, BadInput))) _ _
+          c.refuse_start.result
+          (λ text o is. bad_snapshot c.in-Err.fault (c.in-Err.ensures.err is.0) is.1) c.refuse_start.ensures.leaves;
+    }

@@ -1,0 +1,38 @@
+use Rattle.std.proofs.Common.{◌≡◌, ◌≢◌}
+use Rattle.std.specs.Prelude.{option_map}
+use Rattle.topology.specs.declared.text.ReadFault.TheVariants.{NoMemory}
+use Rattle.script_replay.proofs.Described.{all_up}
+use Rattle.script_replay.specs.Output.{bad_topology_text}
+use Rattle.script_replay.specs.Output.IsJudged.{bad_topology, good_topology}
+use Rattle.script_replay.specs.declared.status.Status.TheVariants.{BadInput}
+use Rattle.reset_service.specs.Opened.{IsOpenedOf}
+use Rattle.reset_service.specs.Page.{IsPageText, Plays}
+use Rattle.reset_service.proofs.Paging.{page_frame}
+use Rattle.reset_service.proofs.Verifying.{read_anyway, read_weaker}
+use Rattle.reset_service.proofs.ByName.{opened_read}
+use Rattle.reset_service.proofs.page.play_opening.Goals as goal
+
+pub play_app-requires : goal.play_app-requires
+play_app-requires g c =
+    all_up c.args.topology.now c.in-Ok.network.topology c.in-Ok.network.app c.in-Ok.network.modulus c.in-Ok.ensures.ok
+
+pub returns-in-Ok-clause-leaves : goal.returns-in-Ok-clause-leaves
+returns-in-Ok-clause-leaves g c =
+    let snapshot = option_map (λ s. s.now) c.args.snapshot in
+    let network = c.in-Ok.network in
+    read_weaker (g.R.Read.remaining c.args.history.now)
+    (IsPageText page_frame c.args.title.now c.args.topology.now snapshot)
+    (λ text. IsOpenedOf (Plays page_frame c.args.title.now c.app_word-word.result.now text) network.app network.topology
+    network.modulus snapshot) _ _
+    c.play_app.result
+    (λ text o is. good_topology network.topology network.app network.modulus c.in-Ok.ensures.ok (rw c.app_word-word.ensures at is))
+    (opened_read (Plays page_frame c.args.title.now c.app_word-word.result.now) c.in-Ok.network.app _ _ _ _ _ _ _ c.play_app.ensures.leaves)
+
+pub returns-in-Err-clause-leaves : goal.returns-in-Err-clause-leaves
+returns-in-Err-clause-leaves g c =
+    let snapshot = option_map (λ s. s.now) c.args.snapshot in
+    read_anyway (g.R.Read.remaining c.args.history.now)
+    (IsPageText page_frame c.args.title.now c.args.topology.now snapshot)
+    (λ o. (c.in-Err.fault ≢ NoMemory) × (o ≡ (bad_topology_text c.in-Err.fault, BadInput))) _ _
+    c.refuse_topology.result
+    (λ text o is. bad_topology c.in-Err.fault (c.in-Err.ensures.err is.0) is.1) c.refuse_topology.ensures.leaves

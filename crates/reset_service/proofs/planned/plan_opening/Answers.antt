@@ -1,0 +1,59 @@
+use Rattle.std.proofs.Common.{◌≡◌, ◌≢◌}
+use Rattle.topology.specs.declared.text.ReadFault.TheVariants.{NoMemory}
+use Rattle.script_replay.specs.Output.{bad_topology_text}
+use Rattle.script_replay.specs.Output.IsJudged.{bad_topology, good_topology}
+use Rattle.script_replay.specs.declared.status.Status.TheVariants.{BadInput}
+use Rattle.std.specs.Prelude.{option_map}
+use Rattle.reset_service.specs.Opened.{IsOpenedOf, IsOpenedText}
+use Rattle.reset_service.specs.Started.{Plans}
+use Rattle.script_replay.proofs.Described.{all_up}
+use Rattle.script_replay.proofs.Reading.{nothing_given, some_read, text_given}
+use Rattle.script_replay.proofs.Runs.{leaves_unread, leaves_weaker}
+use Rattle.reset_service.proofs.ByName.{opened_left}
+use Rattle.reset_service.proofs.planned.plan_opening.Goals as goal
+
+pub plan_app-requires : goal.plan_app-requires
+plan_app-requires g c =
+    all_up c.args.topology.now c.in-Ok.network.topology c.in-Ok.network.app c.in-Ok.network.modulus c.in-Ok.ensures.ok
+
+pub returns-in-Err-clause-leaves : goal.returns-in-Err-clause-leaves
+returns-in-Err-clause-leaves g c =
+    let read = some_read (g.R.Read.remaining c.args.script.now) in
+    let snapshot = option_map (λ s. s.now) c.args.snapshot in (
+      read.0,
+      read.1,
+      leaves_weaker (λ o. (c.in-Err.fault ≢ NoMemory) × (o ≡ (bad_topology_text c.in-Err.fault, BadInput)))
+          (IsOpenedText (Plans read.0) c.args.topology.now snapshot) _ _ c.refuse_topology.result
+          (λ o is. bad_topology c.in-Err.fault (c.in-Err.ensures.err is.0) is.1) c.refuse_topology.ensures.leaves,
+    )
+
+pub returns-in-Ok-read_text-clause-leaves : goal.returns-in-Ok-read_text-clause-leaves
+returns-in-Ok-read_text-clause-leaves g c =
+    let snapshot = option_map (λ s. s.now) c.args.snapshot in (
+      c.deref.result.now,
+      rw c.deref.ensures.value c.in-Ok-read_text.ensures.ok,
+      leaves_weaker
+          (IsOpenedOf (Plans c.deref.result.now) c.in-Ok.network.app c.in-Ok.network.topology
+          c.in-Ok.network.modulus snapshot)
+          (IsOpenedText (Plans c.deref.result.now) c.args.topology.now snapshot) _ _ c.plan_app.result
+          (λ o is. good_topology c.in-Ok.network.topology c.in-Ok.network.app c.in-Ok.network.modulus c.in-Ok.ensures.ok
+          is) (opened_left (Plans c.deref.result.now) c.in-Ok.network.app _ _ _ _ _ _ c.plan_app.ensures.leaves),
+    )
+
+pub returns-in-Err-read_text-clause-leaves : goal.returns-in-Err-read_text-clause-leaves
+returns-in-Err-read_text-clause-leaves g c =
+    let read = some_read (g.R.Read.remaining c.args.script.now) in
+    let snapshot = option_map (λ s. s.now) c.args.snapshot in (
+      read.0,
+      read.1,
+      leaves_unread (IsOpenedText (Plans read.0) c.args.topology.now snapshot)
+          (g.W.Write.contents c.args.out.now) c.in-Err-read_text.stop c.in-Err-read_text.ensures.err,
+    )
+
+pub returns-in-Err-clause-taken : goal.returns-in-Err-clause-taken
+returns-in-Err-clause-taken g c = nothing_given c.refuse_topology.result (g.R.Read.remaining c.args.script.now)
+
+pub returns-in-Ok-read_text-clause-taken : goal.returns-in-Ok-read_text-clause-taken
+returns-in-Ok-read_text-clause-taken g c =
+    text_given c.plan_app.result _ _ c.in-Ok-read_text.text.items c.in-Ok-read_text.ensures.taken
+    c.in-Ok-read_text.ensures.most
