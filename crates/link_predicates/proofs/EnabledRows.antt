@@ -1,7 +1,6 @@
--- A row is among the enabled ones exactly where its guard holds.
-use Rattle.std.proofs.Common.{◌≡◌, ◌≢◌, ◌⊎◌, ◌<◌, ◌≤◌, suc, nat_eq, nat_lt, ℕ, Bool, true, false, cond, ◌&&◌, ◌||◌}
-use Rattle.std.proofs.Common.{◌==◌, List, [], ◌∷◌, map, filter, Option, Some, None, Result, Ok, Err, refl, sym, ap, ◌∙◌}
-use Rattle.std.specs.List.{list_any}
+-- The first of some rows that is enabled, by their guards.
+use Rattle.std.proofs.Common.{◌≡◌, ◌≢◌, ◌⊎◌, ◌<◌, ◌≤◌, suc, nat_eq, nat_lt, ℕ, Bool, true, false, cond}
+use Rattle.std.proofs.Common.{List, [], ◌∷◌, Option, Some, None, Result, Ok, Err, refl, sym, ap, ◌∙◌}
 use Rattle.action_tables.specs.Numbers.{is_among}
 use Rattle.std.proofs.lemmas.Option.{none-some}
 use Rattle.action_tables.specs.Table.{Row, enabled_of}
@@ -10,35 +9,10 @@ use Rattle.tree_layer.specs.declared.regs.TreeRefusal.TheVariants.{NotEnabled}
 use Rattle.wave_layer.specs.declared.regs.WaveRegs.{WaveRegs}
 use Rattle.wave_layer.specs.declared.regs.Phase.TheVariants.{Normal}
 use Rattle.reset_model.specs.LocalSteps.{fired_tree}
+use Rattle.reset_model.proofs.EnabledRows.{among_enabled, row_holds}
 use Rattle.reset_model.specs.declared.plan.Fired.{Fired}
 use Rattle.reset_model.specs.declared.step.StepRefusal.{StepRefusal}
 use Rattle.link_predicates.specs.Faults.{first_enabled}
-
-and_true : (b : Bool) → (b && true) ≡ b
-and_true true = refl
-and_true false = refl
-
-and_false : (b : Bool) → (b && false) ≡ false
-and_false true = refl
-and_false false = refl
-
-pub among_enabled : {E : Type 0} (n : ℕ) (rows : List (Row E))
-    → is_among n (enabled_of rows) ≡ list_any (λ row. row.number == n && row.holds) rows
-unfolding enabled_of
-among_enabled n [] = refl
-among_enabled n (row ∷ rows) =
-    let rest = among_enabled n rows in
-    let later = filter (λ r. r.holds) rows in
-    let any = list_any (λ r. r.number == n && r.holds) rows in
-    elim row.holds
-    as (λ b. is_among n (map (λ r. r.number) (cond b (row ∷ later) later)) ≡ ((row.number == n && b) || any)) [
-      | true ↦ ap (λ b. (row.number == n) || b) rest ∙ ap (λ b. b || any) (sym (and_true (row.number == n)))
-      | false ↦ rest ∙ ap (λ b. b || any) (sym (and_false (row.number == n)))
-    ]
-
--- some of the rows has this number, and its guard holds
-abbrev pub row_holds : {E : Type 0} → ℕ → List (Row E) → Bool
-row_holds n rows = list_any (λ row. row.number == n && row.holds) rows
 
 -- the first of four numbers whose test holds
 abbrev pub first_of : ℕ → ℕ → ℕ → ℕ → Bool → Bool → Bool → Bool → Option ℕ

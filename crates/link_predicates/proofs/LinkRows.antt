@@ -20,7 +20,8 @@ use Rattle.reset_model.specs.declared.step.StepRefusal.{StepRefusal}
 use Rattle.reset_model.specs.declared.step.StepRefusal.TheVariants.{NotEnabled}
 use Rattle.reset_model.proofs.TreePlans.{IsTreeFired, adopt_is, near_some}
 use Rattle.link_predicates.specs.Faults.{first_enabled, mending_row}
-use Rattle.link_predicates.proofs.EnabledRows.{Eq, Lt, Tells, fired_if, first_by, first_of, no_wave, row_holds}
+use Rattle.reset_model.proofs.EnabledRows.{row_holds}
+use Rattle.link_predicates.proofs.EnabledRows.{Eq, Lt, Tells, fired_if, first_by, first_of, no_wave}
 
 -- the first of two numbers whose test holds
 abbrev pub first_of_two : ℕ → ℕ → Bool → Bool → Option ℕ

@@ -15,7 +15,8 @@ use Rattle.reset_model.specs.declared.step.StepRefusal.TheVariants.{NotEnabled}
 use Rattle.reset_model.specs.Configuration.{Configuration, tree_of}
 use Rattle.reset_model.specs.View.{Neighbour, near_of}
 use Rattle.link_predicates.specs.Faults.{first_enabled, own_row}
-use Rattle.link_predicates.proofs.EnabledRows.{Tells, fired_if, first_by, first_of, no_wave, row_holds}
+use Rattle.reset_model.proofs.EnabledRows.{row_holds}
+use Rattle.link_predicates.proofs.EnabledRows.{Tells, fired_if, first_by, first_of, no_wave}
 
 abbrev pub seeing : ℕ → ℕ → TreeRegs → List (ℕ × TreeRegs) → LocalView
 seeing id bound own near = record { id = id; bound = bound; own = own; near = near }

@@ -9,7 +9,8 @@ use Rattle.tree_layer.specs.declared.regs.TreeRegs.{TreeRegs}
 use Rattle.tree_layer.specs.TreeTable.{LocalView, tree_table}
 use Rattle.reset_model.specs.View.{Neighbour}
 use Rattle.link_predicates.specs.Faults.{first_enabled, mending_row, tree_row, wave_row}
-use Rattle.link_predicates.proofs.EnabledRows.{Eq, Lt, first_by, first_of, row_holds}
+use Rattle.reset_model.proofs.EnabledRows.{row_holds}
+use Rattle.link_predicates.proofs.EnabledRows.{Eq, Lt, first_by, first_of}
 use Rattle.link_predicates.proofs.LinkRows.{first_of_two}
 use Rattle.link_predicates.proofs.OwnRows.{first_own, seeing}
 

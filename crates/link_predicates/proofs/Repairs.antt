@@ -22,7 +22,8 @@ use Rattle.link_predicates.specs.Faults.{app_row, fault_of, faults, link_faults,
 use Rattle.link_predicates.specs.Faults.{repair_of, tree_row, wave_row}
 use Rattle.link_predicates.specs.declared.fault.Family.TheVariants.{Tree, Wave, App as OfApp}
 use Rattle.link_predicates.specs.declared.fault.LinkFault.{LinkFault}
-use Rattle.link_predicates.proofs.EnabledRows.{Tells, first_by, first_of, row_holds}
+use Rattle.reset_model.proofs.EnabledRows.{row_holds}
+use Rattle.link_predicates.proofs.EnabledRows.{Tells, first_by, first_of}
 use Rattle.link_predicates.proofs.Faultless.{links, near_list, there_linked}
 use Rattle.link_predicates.proofs.LinkRows.{Denies, IsOtherFather, adopt_tells, first_of_two, follow_tells, mending_tells, rows}
 use Rattle.link_predicates.proofs.LinkRows.{seen}

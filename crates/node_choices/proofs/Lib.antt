@@ -1,4 +1,5 @@
 mod Trying
+mod EnabledRows
 mod Allowing
 mod Choices
 mod Fitting

@@ -1,11 +1,14 @@
 // What a node sees, by layers, so that all its events are tried on what is gathered once.
 
-ghost use Rattle.std.specs.Prelude.{◌≡◌, IfOk, is_ok};
+ghost use Rattle.std.specs.Prelude.{◌≡◌, ◌&&◌, IfOk, is_ok};
+ghost use Rattle.node_choices.specs.Sight.{IsOfLayer, enabled_in, some_among};
 ghost use Rattle.reset_model.specs.LocalSteps.{cases_of, first_fired};
+ghost use Rattle.reset_model.specs.Planned.{sees};
 ghost use Rattle.reset_model.specs.Steps.{named_node};
 ghost use Rattle.reset_model.specs.View.{children_of, near_trees, near_waves};
 
 use crate::case::is_taken;
+use action_tables::CaseSet;
 use app_interface::Application;
 use reset_machine::{Event, Near, View};
 use reset_model::Arguments;
@@ -13,15 +16,18 @@ use reset_model::neighbourhood::{sees, tree_seen, wave_seen};
 use reset_model::plan::{Seen, first_fired};
 use std::alloc::{AllocError, Global};
 use std::marker::Model;
-use tree_layer::TreeRegs;
-use wave_layer::WaveRegs;
+use tree_layer::{TreeRegs, tree_enabled};
+use wave_layer::{WaveRegs, wave_enabled};
 
-/// A view, with what it says of the tree and of the wave.
+/// A view, with what it says of the tree and of the wave, and the rows that are enabled in each: so an event of which no
+/// row is enabled isn't tried.
 #[derive(Drop)]
 pub struct Sight<'a, P: Application> {
     view: &'a View<P>,
     tree: Seen<'a>,
     wave: Seen<'a>,
+    tree_rows: CaseSet,
+    wave_rows: CaseSet,
 }
 
 impl<'a, P: Application> Model for Sight<'a, P> {
@@ -32,7 +38,7 @@ impl<'a, P: Application> Model for Sight<'a, P> {
 
     ghost view = { λ s. s.view.now };
 
-    ghost invariant = { λ s. IsSight s.view.now s.tree s.wave };
+    ghost invariant = { λ s. IsSight s.view.now s.tree s.wave s.tree_rows s.wave_rows };
 }
 
 impl<'a, P: Application> Sight<'a, P> {
@@ -48,10 +54,16 @@ impl<'a, P: Application> Sight<'a, P> {
         requires children { children.now ≡ near_waves (children_of view.now) }
         ensures { result ≡ view.now }
     {
+        let tree = tree_seen(view, trees);
+        let wave = wave_seen(view, children);
+        let tree_rows = enabled_in(&tree);
+        let wave_rows = enabled_in(&wave);
         Sight {
             view,
-            tree: tree_seen(view, trees),
-            wave: wave_seen(view, children),
+            tree,
+            wave,
+            tree_rows,
+            wave_rows,
         }
     }
 
@@ -76,27 +88,61 @@ impl<'a, P: Application> Sight<'a, P> {
         if self.view.id() != event.node() {
             return Ok(false);
         }
-        if !sees(self.view, event.named()) {
-            return Ok(false);
-        }
         match event {
             Event::Claim { .. } | Event::Follow { .. } | Event::Adopt { .. } => {
-                Ok(fires(&self.tree, event))
+                Ok(fires(self.view, &self.tree, self.tree_rows, event))
             }
-            Event::Request { .. } => Ok(fires(&self.wave, event)),
-            Event::Relay { .. } => Ok(fires(&self.wave, event)),
-            Event::Open { .. } => Ok(fires(&self.wave, event)),
-            Event::Join { .. } | Event::Finish { .. } | Event::Mend { .. } => {
-                Ok(fires(&self.wave, event))
+            Event::Request { .. }
+            | Event::Relay { .. }
+            | Event::Open { .. }
+            | Event::Join { .. }
+            | Event::Finish { .. }
+            | Event::Mend { .. } => Ok(fires(self.view, &self.wave, self.wave_rows, event)),
+            Event::Act { case, with, .. } => {
+                if !sees(self.view, with) {
+                    return Ok(false);
+                }
+                is_taken(alloc, self.view, Arguments { case, with })
             }
-            Event::Act { case, with, .. } => is_taken(alloc, self.view, Arguments { case, with }),
         }
     }
 }
 
-// Whether the guard of a row of the event holds.
-fn fires(seen: &Seen<'_>, event: Event) -> bool
-    ensures { result ≡ is_ok (first_fired seen.now (named_node event) (cases_of event)) }
+// The rows that are enabled in what is seen.
+fn enabled_in(seen: &Seen<'_>) -> CaseSet
+    ensures { result ≡ enabled_in seen.now }
 {
+    match seen {
+        Seen::Tree(view) => tree_enabled(view),
+        Seen::Wave(view) => wave_enabled(view),
+    }
+}
+
+// Whether the node that the event names, if any, is a neighbour, and the guard of a row of the event holds. These rows are
+// enabled.
+fn fires<P: Application>(
+    view: &View<P>,
+    seen: &Seen<'_>,
+    rows: CaseSet,
+    event: Event,
+) -> bool
+    requires layer { IsOfLayer seen.now event }
+    requires rows { rows ≡ enabled_in seen.now }
+    ensures { result ≡ (sees view.now (named_node event)
+        && is_ok (first_fired seen.now (named_node event) (cases_of event))) }
+{
+    if !some_among(rows, event.cases()) {
+        return false;
+    }
+    if !sees(view, event.named()) {
+        return false;
+    }
     first_fired(seen, event.named(), event.cases()).is_ok()
+}
+
+// Whether some of the cases is one of the rows.
+fn some_among(rows: CaseSet, cases: &[u8]) -> bool
+    ensures { result ≡ some_among rows cases.now }
+{
+    cases.iter().any(|case| rows.has(*case))
 }

@@ -2,6 +2,7 @@ pub mod Positions
 pub mod NodePositions
 pub mod Planned
 pub mod Seen
+pub mod EnabledRows
 pub mod WaveRows
 pub mod WavePlans
 pub mod TreePlans
