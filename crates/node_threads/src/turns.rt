@@ -201,9 +201,9 @@ fn turn_on<L: Sharing<P::Local>, P: Application, G: Gate, R: Wait>(
     ensures turns { AddsTurns P.app P.from_text L.book seat.old.node seat.old.receipts seat.new.receipts }
     ensures full { result ≡ Turn.BookFull → HasContinuation P.app P.from_text L.book IsFull }
 {
-    let plan = match view.plan(alloc, event) {
+    let plan = match view.into_plan(alloc, event) {
         Ok(plan) => plan,
-        Err(StepRefusal::NoMemory) => return Turn::NoMemory,
+        Err((StepRefusal::NoMemory, _)) => return Turn::NoMemory,
         Err(_) => return Turn::Over,
     };
     gate.planned(seat.node());

@@ -23,7 +23,7 @@ use crate::ready_set::{ReadySet, doubt_around};
 use app_interface::Application;
 use reset_model::plan::{Effect, Fired};
 use reset_model::{
-    Arguments, Done, Event, Plan, Reply, StepRefusal, View, reply_to, runs_are_steps,
+    Arguments, Done, Event, Near, Plan, Reply, StepRefusal, View, reply_to, runs_are_steps,
 };
 use std::alloc::{AllocError, AllocFailed, Global};
 use std::marker::Model;
@@ -362,8 +362,23 @@ impl<P: Application> Config<P> {
         ensures err { IfErr result
             (λ f. f ≢ StepRefusal.NoMemory → (f ≡ StepRefusal.StrangeNode) × (IsNode self.now.graph at → ⊥)) }
     {
+        self.refill_view(alloc, at, Vec::new(alloc))
+    }
+
+    /// The same, in the room that a view had for its neighbours, which [`View::into_near`] gives back: so whoever looks
+    /// again and again needs no memory for that. What is in it is dropped.
+    pub fn refill_view(
+        &self,
+        alloc: Global,
+        at: u32,
+        room: Vec<Near<P>>,
+    ) -> Result<View<P>, StepRefusal>
+        ensures ok { IfOk result (λ view. IsNode self.now.graph at × (view ≡ view_of P.app self.now at)) }
+        ensures err { IfErr result
+            (λ f. f ≢ StepRefusal.NoMemory → (f ≡ StepRefusal.StrangeNode) × (IsNode self.now.graph at → ⊥)) }
+    {
         match Place::of(&self.nodes, at) {
-            Some(place) => Ok(read_view(alloc, &place)?),
+            Some(place) => Ok(read_view(alloc, &place, room)?),
             None => Err(StepRefusal::StrangeNode),
         }
     }
@@ -402,14 +417,32 @@ impl<P: Application> Config<P> {
             (λ reply. IsSound self.old → IsBySteps P.app P.Inv self.old (plan.event ∷ []) self.new) }
         ensures outcome { IfOk result (λ reply. outcome_of P.app self.old plan.event ≡ Ok (self.new, reply)) }
     {
+        let (reply, _view) = self.carry_out(plan)?;
+        Ok(reply)
+    }
+
+    /// The same, where the view that the plan was made on comes back, whose room the next one may have.
+    pub fn carry_out(&mut self, plan: Plan<P>) -> Result<(Reply, View<P>), Plan<P>>
+        ensures ok { IfOk result (λ done. IsStep P.app self.old plan.event self.new × (done.0 ≡ plan.reply)) }
+        ensures view { IfOk result (λ done. done.1 ≡ plan.view) }
+        ensures seen { OnOk result (IsSeen P.app self.old plan.view) }
+        ensures err { IfErr result (λ back. (back ≡ plan) × (IsSeen P.app self.old plan.view → ⊥)) }
+        ensures kept { OnErr result (self.new ≡ self.old) }
+
+        // As of a step.
+        ensures lawful { IfOk result
+            (λ done. IsSound self.old → IsBySteps P.app P.Inv self.old (plan.event ∷ []) self.new) }
+        ensures outcome { IfOk result (λ done. outcome_of P.app self.old plan.event ≡ Ok (self.new, done.0)) }
+    {
         self.lemma_is_graph();
         runs_are_steps::<P>();
         let Some(ix) = self.index_seeing(plan.seen_view()) else {
             return Err(plan);
         };
         let reply = plan.reply();
-        self.write(ix, plan.into_effect());
-        Ok(reply)
+        let (view, effect) = plan.into_parts();
+        self.write(ix, effect);
+        Ok((reply, view))
     }
 
     // Writes what is done at the node with this index.

@@ -9,17 +9,18 @@ use app_interface::Application;
 use reset_model::{Near, View};
 use std::alloc::{AllocError, Global};
 
-/// What the node sees.
+/// What the node sees, in this room for its neighbours: what is in it is dropped.
 pub(crate) fn read_view<P: Application>(
     alloc: Global,
     place: &Place<'_, P>,
+    room: Vec<Near<P>>,
 ) -> Result<View<P>, AllocError>
     ensures { IfOk result (λ view. view ≡ view_of P.app place.now.config place.now.id) }
 {
     place.lemma_is_place();
     let local = P::copy(alloc, place.local())?;
     let start = P::on_start(alloc, place.topology(), place.index())?;
-    let near = read_near::<P>(alloc, place)?;
+    let near = read_near::<P>(alloc, place, room)?;
     let own = Near {
         id: place.id(),
         tree: place.tree(),
@@ -29,14 +30,16 @@ pub(crate) fn read_view<P: Application>(
     Ok(View::new(own, place.bound(), place.modulus(), start, near))
 }
 
-// The neighbours of the node, as it sees them.
+// The neighbours of the node, as it sees them, in place of what is in the vector.
 fn read_near<P: Application>(
     alloc: Global,
     place: &Place<'_, P>,
+    mut near: Vec<Near<P>>,
 ) -> Result<Vec<Near<P>>, AllocError>
     ensures { IfOk result (λ near. near.items ≡ map (near_of P.app place.now.config) (near_ids place.now)) }
 {
-    let mut near = Vec::new(alloc);
+    near.clear();
+    near.reserve(place.neighbours().len())?;
     for index in place.neighbours() {
         let local = P::copy(alloc, place.local_at(*index))?;
         near.push(Near {

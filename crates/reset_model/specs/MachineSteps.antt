@@ -3,8 +3,8 @@ use Rattle.std.specs.Prelude.{◌≡◌, ℕ, false, Option}
 use Rattle.app_interface.specs.Application.{App}
 use Rattle.topology.specs.Graph.{Graph, Changes, node_bound}
 use Rattle.reset_model.specs.declared.event.Event.{Event}
-use Rattle.reset_model.specs.declared.event.Event.TheVariants.{Claim, Follow, Adopt, Request, Relay, Open, Join, Finish}
-use Rattle.reset_model.specs.declared.event.Event.TheVariants.{Mend, Act}
+use Rattle.reset_model.specs.declared.event.Event.TheVariants.{Open, Join}
+use Rattle.reset_model.specs.declared.event.Event.TheVariants.{Act}
 use Rattle.reset_model.specs.declared.step.StepRefusal.{StepRefusal}
 use Rattle.reset_model.specs.Actions.{ActStep, ActRefused}
 use Rattle.reset_model.specs.Configuration.{Configuration, tree_of, wave_of, local_of}

@@ -174,6 +174,13 @@ impl<P: Application> View<P> {
         &self.near
     }
 
+    /// Its neighbours, in whose room the next view may be read.
+    pub fn into_near(self) -> Vec<Near<P>>
+        ensures { result.items ≡ self.near }
+    {
+        self.near
+    }
+
     // A view that equals this one.
     pub(crate) fn copy(&self, alloc: Global) -> Result<View<P>, AllocError>
         ensures { IfOk result (λ copy. copy ≡ self.now) }

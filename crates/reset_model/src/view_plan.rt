@@ -51,6 +51,24 @@ impl<P: Application> View<P> {
             reply,
         })
     }
+
+    /// The same of a view that isn't used any more: it isn't copied, and comes back with a refusal.
+    pub fn into_plan(self, alloc: Global, event: Event) -> Result<Plan<P>, (StepRefusal, View<P>)>
+        ensures ok { IfOk result (λ plan. (plan.view ≡ self) × (plan.event ≡ event)) }
+        ensures decided { IfOk result (λ plan. planned P.app self event ≡ Ok (plan.effect, plan.reply)) }
+        ensures err { IfErr result (λ e. e.0 ≢ StepRefusal.NoMemory → planned P.app self event ≡ Err e.0) }
+        ensures returned { IfErr result (λ e. e.1 ≡ self) }
+    {
+        match decided(alloc, &self, event) {
+            Ok((effect, reply)) => Ok(Plan {
+                view: self,
+                event,
+                effect,
+                reply,
+            }),
+            Err(refusal) => Err((refusal, self)),
+        }
+    }
 }
 
 impl<P: Application> Plan<P> {
@@ -75,10 +93,11 @@ impl<P: Application> Plan<P> {
         &self.view
     }
 
-    /// What it does at the view's node.
-    pub fn into_effect(self) -> Effect<P::Local>
-        ensures { planned P.app self.view self.event ≡ Ok (result, self.reply) }
+    /// The view that it was made on, and what it does at the view's node.
+    pub fn into_parts(self) -> (View<P>, Effect<P::Local>)
+        ensures view { result.0 ≡ self.view }
+        ensures effect { planned P.app self.view self.event ≡ Ok (result.1, self.reply) }
     {
-        self.effect
+        (self.view, self.effect)
     }
 }

@@ -6,7 +6,7 @@ use Rattle.reset_model.proofs.Deciding.{put-planned}
 use Rattle.reset_machine.proofs.StepClauses.{done_step}
 use Rattle.reset_machine.proofs.StepShadows.{sound_step}
 use Rattle.reset_machine.proofs.Writing.{at_id}
-use Rattle.reset_machine.proofs.config.Config.put_plan.Goals as goal
+use Rattle.reset_machine.proofs.config.Config.carry_out.Goals as goal
 
 pub returns-clause-ok : goal.returns-clause-ok
 returns-clause-ok g c =
@@ -14,10 +14,10 @@ returns-clause-ok g c =
     let now = c.args.self.now in
     let seen = subst (IsSeen app now) c.seen_view.ensures c.in-Some.ensures.seen in
     let at = at_id now now _ _ c.in-Some.ensures.place ∙ ap (λ v. v.id) c.seen_view.ensures in
-    let written = c.write.ensures ∙ ap (λ i. after_effect now i c.into_effect.result) at in
+    let written = c.write.ensures ∙ ap (λ i. after_effect now i c.into_parts-view.result.1) at in
     let is =
-    put-planned app now c.args.plan.view c.args.plan.event c.into_effect.result c.args.plan.reply seen
-    c.into_effect.ensures ∙ ap₂ (λ d r. Ok (d, r)) (sym written) (sym c.reply-reply.ensures) in (
+    put-planned app now c.args.plan.view c.args.plan.event c.into_parts-view.result.1 c.args.plan.reply seen
+    c.into_parts-view.ensures.effect ∙ ap₂ (λ d r. Ok (d, r)) (sym written) (sym c.reply-reply.ensures) in (
       done_step app now c.write.new.self c.args.plan.event c.lemma_is_graph.ensures.graph
           c.lemma_is_graph.ensures.shaped
           (Ok c.reply-reply.result) is,
@@ -30,9 +30,9 @@ returns-clause-outcome g c =
     let now = c.args.self.now in
     let seen = subst (IsSeen app now) c.seen_view.ensures c.in-Some.ensures.seen in
     let at = at_id now now _ _ c.in-Some.ensures.place ∙ ap (λ v. v.id) c.seen_view.ensures in
-    let written = c.write.ensures ∙ ap (λ i. after_effect now i c.into_effect.result) at in
-    put-planned app now c.args.plan.view c.args.plan.event c.into_effect.result c.args.plan.reply seen
-    c.into_effect.ensures ∙ ap₂ (λ d r. Ok (d, r)) (sym written) (sym c.reply-reply.ensures)
+    let written = c.write.ensures ∙ ap (λ i. after_effect now i c.into_parts-view.result.1) at in
+    put-planned app now c.args.plan.view c.args.plan.event c.into_parts-view.result.1 c.args.plan.reply seen
+    c.into_parts-view.ensures.effect ∙ ap₂ (λ d r. Ok (d, r)) (sym written) (sym c.reply-reply.ensures)
 
 pub returns-clause-lawful : goal.returns-clause-lawful
 returns-clause-lawful g c =
@@ -44,9 +44,9 @@ returns-clause-lawful g c =
     let shaped = c.lemma_is_graph.ensures.shaped in
     let seen = subst (IsSeen app now) c.seen_view.ensures c.in-Some.ensures.seen in
     let at = at_id now now _ _ c.in-Some.ensures.place ∙ ap (λ v. v.id) c.seen_view.ensures in
-    let written = c.write.ensures ∙ ap (λ i. after_effect now i c.into_effect.result) at in
+    let written = c.write.ensures ∙ ap (λ i. after_effect now i c.into_parts-view.result.1) at in
     let is =
-    put-planned app now c.args.plan.view e c.into_effect.result c.args.plan.reply seen c.into_effect.ensures
+    put-planned app now c.args.plan.view e c.into_parts-view.result.1 c.args.plan.reply seen c.into_parts-view.ensures.effect
     ∙ ap₂ (λ d r. Ok (d, r)) (sym written) (sym c.reply-reply.ensures) in
     sound_step app g.P.Application.Inv now new e
     (λ reply sound run. c.runs_are_steps.ensures now new (e ∷ []) (Did reply ∷ []) graph shaped.modulus sound run)
