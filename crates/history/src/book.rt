@@ -175,6 +175,28 @@ impl<P: Application> Book<P> {
         ensures lawful { IfOk result (λ receipt. IsSound self.old.config
             → IsBySteps P.app P.Inv self.old.config (plan.event ∷ []) self.new.config) }
     {
+        let (receipt, _view) = self.carry_out(alloc, plan)?;
+        Ok(receipt)
+    }
+
+    /// The same, where the view that the plan was made on comes back, whose room the next one may have.
+    pub fn carry_out(
+        &mut self,
+        alloc: Global,
+        plan: Plan<P>,
+    ) -> Result<(Receipt, View<P>), (ApplyRefusal<P>, Plan<P>)>
+        ensures ok { IfOk result (λ done. (booked P.app self.old plan.event ≡ Ok (self.new, done.0))
+            × (done.0.reply ≡ plan.reply)) }
+        ensures view { IfOk result (λ done. done.1 ≡ plan.view) }
+        ensures seen { OnOk result (IsSeen P.app self.old.config plan.view) }
+        ensures err { IfErr result (λ e. IsUnapplied P.app self.old plan.view e.0) }
+        ensures returned { IfErr result (λ e. e.1 ≡ plan) }
+        ensures kept { OnErr result (self.new ≡ self.old) }
+
+        // As of a step of the configuration.
+        ensures lawful { IfOk result (λ done. IsSound self.old.config
+            → IsBySteps P.app P.Inv self.old.config (plan.event ∷ []) self.new.config) }
+    {
         let count = self.log.segments.len();
         if count >= self.limit {
             return Err((self.full_apply(alloc, plan.seen_view()), plan));
@@ -190,7 +212,7 @@ impl<P: Application> Book<P> {
         let position = count + 1;
         let event = plan.event();
         match self.player.enter_plan(position, plan) {
-            Ok(reply) => Ok(self.log.enter(position, event, reply)),
+            Ok((reply, view)) => Ok((self.log.enter(position, event, reply), view)),
             Err(plan) => Err((self.unseen(alloc, plan.seen_view()), plan)),
         }
     }

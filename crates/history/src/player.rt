@@ -21,7 +21,7 @@ use crate::entry::{Entry, Report};
 use crate::openings::Openings;
 use app_interface::Application;
 use fault_inject::{Fault, FaultRefusal, inject};
-use reset_machine::{Config, Event, Plan, Reply, StepRefusal};
+use reset_machine::{Config, Event, Plan, Reply, StepRefusal, View};
 use std::alloc::{AllocError, Global};
 
 // A configuration that entries happen to, and what they report.
@@ -187,13 +187,19 @@ impl<P: Application> Player<P> {
         Ok(())
     }
 
-    // Does what the plan says, where its node sees what it was made on, and enters it at this position.
-    pub fn enter_plan(&mut self, position: usize, plan: Plan<P>) -> Result<Reply, Plan<P>>
+    // Does what the plan says, where its node sees what it was made on, and enters it at this position. The view that it was
+    // made on comes back.
+    pub fn enter_plan(
+        &mut self,
+        position: usize,
+        plan: Plan<P>,
+    ) -> Result<(Reply, View<P>), Plan<P>>
         requires openings { length self.old.config.graph.ids ≤ length self.old.openings.positions.items }
         requires reports { vec_len self.old.reports < vec_capacity self.old.reports }
-        ensures outcome { IfOk result (λ reply.
-            outcome_of P.app self.old.config plan.event ≡ Ok (self.new.config, reply)) }
-        ensures reply { IfOk result (λ reply. reply ≡ plan.reply) }
+        ensures outcome { IfOk result (λ done.
+            outcome_of P.app self.old.config plan.event ≡ Ok (self.new.config, done.0)) }
+        ensures reply { IfOk result (λ done. done.0 ≡ plan.reply) }
+        ensures view { IfOk result (λ done. done.1 ≡ plan.view) }
         ensures seen { OnOk result (IsSeen P.app self.old.config plan.view) }
         ensures err { IfErr result (λ back. (back ≡ plan) × (IsSeen P.app self.old.config plan.view → ⊥)) }
         ensures kept { OnErr result (self.new ≡ self.old) }
@@ -204,11 +210,11 @@ impl<P: Application> Player<P> {
             → IsBySteps P.app P.Inv self.old.config (plan.event ∷ []) self.new.config) }
     {
         let event = plan.event();
-        match self.config.put_plan(plan) {
-            Ok(reply) => {
+        match self.config.carry_out(plan) {
+            Ok((reply, view)) => {
                 self.config.lemma_is_graph();
                 self.note(position, event, reply);
-                Ok(reply)
+                Ok((reply, view))
             }
             Err(plan) => Err(plan),
         }

@@ -8,9 +8,9 @@ returns-in-Ok-clause-played g c =
     let now = c.args.self.now in
     λ start es before at.
     rw c.note.ensures.same
-    (played_step app g.P.Application.from_text start now.config c.put_plan.new.self es now.openings
+    (played_step app g.P.Application.from_text start now.config c.carry_out.new.self es now.openings
     c.note.new.self.openings now.reports.items c.note.new.self.reports.items
     c.args.plan.event c.in-Ok.reply c.args.position before at c.in-Ok.ensures.outcome
-    (step_graph app now.config c.put_plan.new.self c.args.plan.event c.in-Ok.ensures.ok.0)
+    (step_graph app now.config c.carry_out.new.self c.args.plan.event c.in-Ok.ensures.ok.0)
     c.lemma_is_graph.ensures.graph (rw c.event-event.ensures at c.note.ensures.reports) (rw c.event-event.ensures at c.note.ensures.openings)
     c.note.ensures.within)

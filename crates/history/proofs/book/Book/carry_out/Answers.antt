@@ -2,7 +2,7 @@ use Rattle.std.proofs.Common.{◌++◌, ◌∷◌, [], ◌∙◌, arith, ap, len
 use Rattle.history.specs.declared.entry.Entry.TheVariants.{Step}
 use Rattle.history.specs.Segments.{entries_of}
 use Rattle.history.proofs.Books.{kept_with_entry, kept_with_room}
-use Rattle.history.proofs.book.Book.apply.Goals as goal
+use Rattle.history.proofs.book.Book.carry_out.Goals as goal
 
 pub returns-in-Ok-enter_plan-clause-seen : goal.returns-in-Ok-enter_plan-clause-seen
 returns-in-Ok-enter_plan-clause-seen g c = rw (← c.self.view_is) (rw c.make_room-2.ensures.same at
