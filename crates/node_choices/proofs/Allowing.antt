@@ -1,5 +1,5 @@
 -- Whether a view allows an event of the wave, by what the node sees of the wave.
-use Rattle.std.proofs.Common.{◌≡◌, ◌⊎◌, inl, inr, subst, ℕ, not, Bool, true, false, cond, ◌&&◌, Result, Ok, Err, is_ok, refl, sym, ap, ap₂, ◌∙◌}
+use Rattle.std.proofs.Common.{◌≡◌, ◌⊎◌, inl, inr, subst, ℕ, not, Bool, true, false, cond, ◌&&◌, Option, Result, Ok, Err, is_ok, refl, sym, ap, ap₂, ◌∙◌}
 use Rattle.std.proofs.lemmas.Bool.{eq-eqb}
 use Rattle.app_interface.specs.Application.{App}
 use Rattle.reset_model.specs.declared.event.Event.{Event}
@@ -11,7 +11,7 @@ use Rattle.reset_model.specs.declared.plan.Seen.TheVariants.{Wave}
 use Rattle.reset_model.specs.declared.step.StepRefusal.{StepRefusal}
 use Rattle.reset_model.specs.declared.step.StepRefusal.TheVariants.{StrangeNode, StrangeNeighbour}
 use Rattle.reset_model.specs.LocalSteps.{cases_of, first_fired}
-use Rattle.reset_model.specs.Planned.{Planned, named_planned, row_fired, row_planned, sees}
+use Rattle.reset_model.specs.Planned.{Planned, named_planned, planned, row_fired, row_planned, sees}
 use Rattle.reset_model.specs.Steps.{event_node, named_node}
 use Rattle.reset_model.specs.View.{NodeView, layer_view, wave_view}
 use Rattle.node_choices.specs.Choice.{is_allowed}
@@ -86,3 +86,18 @@ row_allowed {inside = inside} {v = v} {seen = seen} {does = does} app e view own
     ∙ both_ok (sees v (named_node e)) (named_planned app v e)
     ∙ sym (ap (λ b. is_ok (cond (not b) (Err StrangeNode) (cond (not (sees v (named_node e))) (Err StrangeNeighbour)
     (named_planned app v e)))) (eq-eqb v.id (event_node e) its))
+
+-- and what it does is what one of its rows does
+pub row_is_planned : {L : Type 0} {inside v : NodeView L} {seen : Seen} {id node : ℕ} {named : Option ℕ} {near : Bool}
+    (app : App L) (e : Event) → inside ≡ v → id ≡ inside.id → node ≡ event_node e → named ≡ named_node e
+    → near ≡ sees inside named → seen ≡ Wave (wave_view inside) → id ≡ node → near ≡ true → IsOneOfWave e
+    → row_planned inside (first_fired seen (named_node e) (cases_of e)) ≡ planned app v e
+row_is_planned {inside = inside} {v = v} {seen = seen} app e view own at names sees_it looks same there one =
+    let wave : IsOfWave e = of_wave e one in
+    let layer : seen ≡ layer_view v e = looks ∙ ap (λ w. Wave (wave_view w)) view ∙ sym (layer_is v e wave) in
+    let its : v.id ≡ event_node e = ap (λ w. w.id) (sym view) ∙ sym own ∙ same ∙ at in
+    let neighbour : sees v (named_node e) ≡ true = ap₂ (λ w n. sees w n) (sym view) (sym names) ∙ sym sees_it ∙ there in
+    ap₂ (λ w s. row_planned w (first_fired s (named_node e) (cases_of e))) view layer ∙ sym (row_is app v e wave)
+    ∙ sym (ap (λ b. cond (not b) (Err StrangeNode) (cond (not (sees v (named_node e))) (Err StrangeNeighbour)
+    (named_planned app v e))) (eq-eqb v.id (event_node e) its)
+    ∙ ap (λ b. cond (not b) (Err StrangeNeighbour) (named_planned app v e)) neighbour)

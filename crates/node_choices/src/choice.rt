@@ -40,8 +40,11 @@ pub fn allowed_events<P: Application>(
     allowed_in(alloc, &Sight::new(view, &trees, &children))
 }
 
-// The first event that is allowed.
-fn next_in<P: Application>(alloc: Global, sight: &Sight<'_, P>) -> Result<Option<Event>, AllocError>
+/// The first event that is allowed.
+pub fn next_in<P: Application>(
+    alloc: Global,
+    sight: &Sight<'_, P>,
+) -> Result<Option<Event>, AllocError>
     ensures { IfOk result (λ event. event ≡ next_of P.app sight.now) }
 {
     let at = sight.id();

@@ -4,6 +4,8 @@
 
 mod case;
 mod choice;
+mod next;
 mod sight;
 
 pub use choice::{allowed_events, next_event};
+pub use next::{Room, next_plan};

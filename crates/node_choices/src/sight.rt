@@ -1,19 +1,20 @@
 // What a node sees, by layers, so that all its events are tried on what is gathered once.
 
-ghost use Rattle.std.specs.Prelude.{◌≡◌, ◌&&◌, IfOk, is_ok};
+ghost use Rattle.std.specs.Prelude.{◌≡◌, ◌≢◌, ◌&&◌, Err, IfOk, MatchResult, Ok, is_ok};
 ghost use Rattle.node_choices.specs.Sight.{IsOfLayer, enabled_in, some_among};
 ghost use Rattle.reset_model.specs.LocalSteps.{cases_of, first_fired};
-ghost use Rattle.reset_model.specs.Planned.{sees};
+ghost use Rattle.reset_model.specs.Planned.{row_planned, sees};
 ghost use Rattle.reset_model.specs.Steps.{named_node};
 ghost use Rattle.reset_model.specs.View.{children_of, near_trees, near_waves};
 
 use crate::case::is_taken;
 use action_tables::CaseSet;
 use app_interface::Application;
-use reset_machine::{Event, Near, View};
+use reset_machine::{Event, Near, Reply, StepRefusal, View};
 use reset_model::Arguments;
+use reset_model::decide::{case_taken, row_effect};
 use reset_model::neighbourhood::{sees, tree_seen, wave_seen};
-use reset_model::plan::{Seen, first_fired};
+use reset_model::plan::{Effect, Seen, first_fired};
 use std::alloc::{AllocError, Global};
 use std::marker::Model;
 use tree_layer::{TreeRegs, tree_enabled};
@@ -106,6 +107,58 @@ impl<'a, P: Application> Sight<'a, P> {
             }
         }
     }
+}
+
+impl<'a, P: Application> Sight<'a, P> {
+    ghost use Rattle.reset_model.specs.Planned.{planned};
+
+    /// What the event does at the node, with its reply, or the first refusal.
+    pub fn does(
+        &self,
+        alloc: Global,
+        event: Event,
+    ) -> Result<(Effect<P::Local>, Reply), StepRefusal>
+        ensures exact { MatchResult result (λ does. planned P.app self.now event ≡ Ok does)
+            (λ f. f ≢ StepRefusal.NoMemory → planned P.app self.now event ≡ Err f) }
+    {
+        if self.view.id() != event.node() {
+            return Err(StepRefusal::StrangeNode);
+        }
+        if !sees(self.view, event.named()) {
+            return Err(StepRefusal::StrangeNeighbour);
+        }
+        match event {
+            Event::Act { case, with, .. } => {
+                let local = case_taken(alloc, self.view, Arguments { case, with })?;
+                Ok((Effect::Local(local), Reply::Applied))
+            }
+            Event::Claim { .. } | Event::Follow { .. } | Event::Adopt { .. } => {
+                row_does(alloc, self.view, &self.tree, event)
+            }
+            Event::Request { .. }
+            | Event::Relay { .. }
+            | Event::Open { .. }
+            | Event::Join { .. }
+            | Event::Finish { .. }
+            | Event::Mend { .. } => row_does(alloc, self.view, &self.wave, event),
+        }
+    }
+}
+
+// What a row of the event does, by what the node sees of its layer.
+fn row_does<P: Application>(
+    alloc: Global,
+    view: &View<P>,
+    seen: &Seen<'_>,
+    event: Event,
+) -> Result<(Effect<P::Local>, Reply), StepRefusal>
+    ensures exact { MatchResult result
+        (λ does. row_planned view.now (first_fired seen.now (named_node event) (cases_of event)) ≡ Ok does)
+        (λ f. f ≢ StepRefusal.NoMemory
+        → row_planned view.now (first_fired seen.now (named_node event) (cases_of event)) ≡ Err f) }
+{
+    let fired = first_fired(seen, event.named(), event.cases())?;
+    Ok(row_effect(alloc, view, fired)?)
 }
 
 // The rows that are enabled in what is seen.

@@ -48,7 +48,19 @@ fn row_planned<P: Application>(
     ensures exact { MatchResult result (λ does. row_planned view.now (row_fired view.now event) ≡ Ok does)
         (λ f. f ≢ StepRefusal.NoMemory → row_planned view.now (row_fired view.now event) ≡ Err f) }
 {
-    match row_fired(alloc, view, event)? {
+    let fired = row_fired(alloc, view, event)?;
+    Ok(row_effect(alloc, view, fired)?)
+}
+
+/// What a row does that left this, with its reply.
+pub fn row_effect<P: Application>(
+    alloc: Global,
+    view: &View<P>,
+    fired: Fired,
+) -> Result<(Effect<P::Local>, Reply), AllocError>
+    ensures { IfOk result (λ does. row_planned view.now (Ok fired) ≡ Ok does) }
+{
+    match fired {
         Fired::Tree(regs) => Ok((Effect::Tree(regs), Reply::Applied)),
         Fired::Wave(fired) => {
             let start = restarted(alloc, view, fired.restarts)?;
@@ -117,8 +129,8 @@ fn wave_row<P: Application>(
     first_fired(&wave_seen(view, &children), event.named(), event.cases())
 }
 
-// The local state that a case of the application leaves.
-fn case_taken<P: Application>(
+/// The local state that a case of the application leaves, or the first refusal. The neighbour that is named, if any, is one.
+pub fn case_taken<P: Application>(
     alloc: Global,
     view: &View<P>,
     arguments: Arguments,

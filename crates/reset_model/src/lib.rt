@@ -3,7 +3,7 @@
 #![tactic(auto)]
 
 mod action;
-mod decide;
+pub mod decide;
 mod event;
 mod event_kind;
 mod laws;

@@ -1,6 +1,6 @@
 // What a view says of the neighbours: to the rows of the two tables, and to a case of the application.
 
-ghost use Rattle.std.specs.Prelude.{◌≡◌, ◌==◌, not, IfOk, filter, find, map, option_map};
+ghost use Rattle.std.specs.Prelude.{◌≡◌, ◌==◌, not, IfOk, OnOk, filter, find, map, option_map};
 ghost use Rattle.std.specs.List.{list_any};
 ghost use Rattle.app_interface.specs.Views.{seen_values};
 ghost use Rattle.reset_model.specs.Actions.{reads_near};
@@ -66,11 +66,24 @@ pub fn near_trees<P: Application>(
 ) -> Result<Vec<(u32, TreeRegs)>, AllocError>
     ensures { IfOk result (λ trees. trees.items ≡ near_trees near.now) }
 {
-    let mut trees = Vec::with_capacity(alloc, near.len())?;
+    let mut trees = Vec::new(alloc);
+    read_near_trees(near, &mut trees)?;
+    Ok(trees)
+}
+
+/// Reads the tree registers of these neighbours in place of what is in the vector. The room of one view serves the next.
+pub fn read_near_trees<P: Application>(
+    near: &[Near<P>],
+    trees: &mut Vec<(u32, TreeRegs)>,
+) -> Result<(), AllocError>
+    ensures { OnOk result (trees.new.items ≡ near_trees near.now) }
+{
+    trees.clear();
+    trees.reserve(near.len())?;
     for other in near {
         trees.push((other.id, other.tree))?;
     }
-    Ok(trees)
+    Ok(())
 }
 
 /// The wave registers of those neighbours that are children of the node with this identifier.
@@ -82,12 +95,26 @@ pub fn child_waves<P: Application>(
     ensures { IfOk result (λ children. children.items ≡ near_waves (filter (λ n. n.tree.father == id) near.now)) }
 {
     let mut children = Vec::new(alloc);
+    read_child_waves(near, id, &mut children)?;
+    Ok(children)
+}
+
+/// Reads the wave registers of those neighbours that are children of the node with this identifier, in place of what is
+/// in the vector.
+pub fn read_child_waves<P: Application>(
+    near: &[Near<P>],
+    id: u32,
+    children: &mut Vec<(u32, WaveRegs)>,
+) -> Result<(), AllocError>
+    ensures { OnOk result (children.new.items ≡ near_waves (filter (λ n. n.tree.father == id) near.now)) }
+{
+    children.clear();
     for other in near {
         if other.tree.father == id {
             children.push((other.id, other.wave))?;
         }
     }
-    Ok(children)
+    Ok(())
 }
 
 // What the father register names.

@@ -1,6 +1,6 @@
 use Rattle.std.proofs.Common.{◌≡◌, ◌==◌, filter, take}
 use Rattle.reset_model.specs.View.{near_waves}
-use Rattle.reset_model.proofs.neighbourhood.child_waves.Given as goal
+use Rattle.reset_model.proofs.neighbourhood.read_child_waves.Given as goal
 
 -- the children before the index are read
 abbrev pub invariant-loop-other : goal.invariant-loop-other

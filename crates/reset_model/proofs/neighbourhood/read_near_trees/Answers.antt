@@ -1,6 +1,6 @@
 use Rattle.std.proofs.Common.{◌++◌, ◌∷◌, ◌∙◌, [], ap}
 use Rattle.reset_model.proofs.Collected.{mapped_more}
-use Rattle.reset_model.proofs.neighbourhood.near_trees.Goals as goal
+use Rattle.reset_model.proofs.neighbourhood.read_near_trees.Goals as goal
 
 pub loop-other-preserved : goal.loop-other-preserved
 loop-other-preserved g c =

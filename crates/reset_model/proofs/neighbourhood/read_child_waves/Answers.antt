@@ -1,7 +1,7 @@
 use Rattle.std.proofs.Common.{◌==◌, ◌++◌, ◌∷◌, ◌∙◌, [], ap, rules}
 use Rattle.reset_model.proofs.Collected.{passed_over, taken_more}
-use Rattle.reset_model.proofs.neighbourhood.child_waves.Goals as goal
-use Rattle.reset_model.proofs.neighbourhood.child_waves.Goals.{then-other-id+in_ok-push, else-other-id}
+use Rattle.reset_model.proofs.neighbourhood.read_child_waves.Goals as goal
+use Rattle.reset_model.proofs.neighbourhood.read_child_waves.Goals.{then-other-id+in_ok-push, else-other-id}
 
 pub loop-other-preserved : goal.loop-other-preserved
 loop-other-preserved g c =
