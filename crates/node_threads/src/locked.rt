@@ -15,7 +15,7 @@ use crate::round::Sharing;
 use crate::seat::Seat;
 use app_interface::Application;
 use history::{ApplyRefusal, Book, BookRefusal, Receipt};
-use reset_machine::{Event, Plan, StepRefusal, View};
+use reset_machine::{Event, Near, Plan, StepRefusal, View};
 use std::alloc::{AllocError, Global};
 use std::sync::ledger::Book as Tally;
 
@@ -48,29 +48,34 @@ impl<L: Sharing<P::Local>, P: Application> Locked<L, P> {
         self.book.lemma_is_book();
     }
 
-    /// What the seat's node sees now. Its node is one of the book.
-    pub fn look_in(&self, alloc: Global, seat: &Seat<L>) -> Result<View<P>, LookRefusal>
+    /// What the seat's node sees now, in this room for its neighbours. Its node is one of the book.
+    pub fn look_in(
+        &self,
+        alloc: Global,
+        seat: &Seat<L>,
+        room: Vec<Near<P>>,
+    ) -> Result<View<P>, LookRefusal>
         ensures ok { IfOk result (λ view. view ≡ view_of P.app self.now.book.config seat.now.node) }
         ensures err { IfErr result (λ f. f ≡ LookRefusal.NoMemory) }
     {
         seat.lemma_is_node();
-        match self.book.config().view(alloc, seat.node()) {
+        match self.book.config().refill_view(alloc, seat.node(), room) {
             Ok(view) => Ok(view),
             Err(StepRefusal::NoMemory) => Err(LookRefusal::NoMemory),
             Err(_) => Err(LookRefusal::StrangeNode),
         }
     }
 
-    /// Commits the plan: the book applies it, and the seat gets the receipt, or the plan comes back with the
-    /// first refusal. A refused plan changes nothing.
+    /// Commits the plan: the book carries it out, and the seat gets the receipt, which comes with the view that the plan was
+    /// made on; or the plan comes back with the first refusal. A refused plan changes nothing.
     pub fn commit_in(
         &mut self,
         alloc: Global,
         seat: &mut Seat<L>,
         plan: Plan<P>,
-    ) -> Result<Receipt, (CommitRefusal<P>, Plan<P>)>
-        ensures ok { IfOk result (λ receipt. (booked P.app self.old.book plan.event ≡ Ok (self.new.book, receipt))
-            × (receipt.reply ≡ plan.reply) × (seat.new ≡ with_receipt seat.old receipt)) }
+    ) -> Result<(Receipt, View<P>), (CommitRefusal<P>, Plan<P>)>
+        ensures ok { IfOk result (λ done. (booked P.app self.old.book plan.event ≡ Ok (self.new.book, done.0))
+            × (done.0.reply ≡ plan.reply) × (seat.new ≡ with_receipt seat.old done.0)) }
         ensures yours { OnOk result (IsPlanOf seat.old.node plan × IsSeen P.app self.old.book.config plan.view) }
         ensures unit { OnOk result (self.new.tally.total ≡ self.old.tally.total + 1) }
         ensures err { IfErr result (λ e. IsUncommitted P.app self.old.book seat.old.node plan e.0 × (e.1 ≡ plan)) }
@@ -91,11 +96,11 @@ impl<L: Sharing<P::Local>, P: Application> Locked<L, P> {
             mark: _,
             tally,
         } = self;
-        match book.apply(alloc, plan) {
-            Ok(receipt) => {
+        match book.carry_out(alloc, plan) {
+            Ok((receipt, view)) => {
                 tally.add(&mut seat.share, 1);
                 seat.receipts.push_reserved(receipt);
-                Ok(receipt)
+                Ok((receipt, view))
             }
             Err((refusal, plan)) => Err((CommitRefusal::Refused(refusal), plan)),
         }

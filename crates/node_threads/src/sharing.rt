@@ -18,7 +18,7 @@ use crate::seat::Seat;
 use crate::unlocked::Unlocked;
 use app_interface::Application;
 use history::{ApplyRefusal, Book, Receipt};
-use reset_machine::{Event, Plan, View};
+use reset_machine::{Event, Near, Plan, View};
 use std::alloc::{AllocError, Global};
 use std::sync::ledger::{Blank, Share};
 use std::sync::{Condvar, Mutex, Wait};
@@ -142,10 +142,26 @@ impl<L: Sharing<P::Local>, P: Application> Shared<L, P> {
             view ≡ view_of P.app b.config seat.now.node)) }
         ensures err { IfErr result (λ f. f ≡ LookRefusal.NoMemory) }
     {
+        self.look_again(rt, alloc, seat, Vec::new(alloc))
+    }
+
+    // The same, in this room for the neighbours.
+    pub(crate) fn look_again<R: Wait>(
+        &self,
+        rt: &R,
+        alloc: Global,
+        seat: &Seat<L>,
+        room: Vec<Near<P>>,
+    ) -> Result<View<P>, LookRefusal>
+        ensures node { IfOk result (λ view. view.id ≡ seat.now.node) }
+        ensures ok { IfOk result (λ view. HasContinuation P.app P.from_text L.book (λ b.
+            view ≡ view_of P.app b.config seat.now.node)) }
+        ensures err { IfErr result (λ f. f ≡ LookRefusal.NoMemory) }
+    {
         let at = self.index_of(seat.node());
         let mut guarded = self.guarded.lock(rt);
         guarded.locked.lemma_is_locked();
-        let seen = guarded.locked.look_in(alloc, seat);
+        let seen = guarded.locked.look_in(alloc, seat, room);
         guarded.attendance.look(at);
         seen
     }
@@ -168,6 +184,33 @@ impl<L: Sharing<P::Local>, P: Application> Shared<L, P> {
         ensures kept { IfErr result (λ e. (seat.new ≡ seat.old) × (e.1 ≡ plan)) }
         ensures ok { IfOk result (λ receipt. HasContinuation P.app P.from_text L.book (λ b.
             IsSeen P.app b.config plan.view × IsBooked P.app b plan.event receipt)) }
+        ensures err { IfErr result (λ e. HasContinuation P.app P.from_text L.book (λ b.
+            IsUncommitted P.app b seat.old.node plan e.0)) }
+        ensures there { IfErr result (λ e. e.0 ≢ CommitRefusal.Refused ApplyRefusal.StrangeNode) }
+        ensures full { IfErr result (λ e. e.0 ≡ CommitRefusal.Refused ApplyRefusal.BookFull
+            → HasContinuation P.app P.from_text L.book IsFull) }
+    {
+        let (receipt, _view) = self.commit_back(rt, alloc, seat, plan)?;
+        Ok(receipt)
+    }
+
+    // The same, where the view that the plan was made on comes back with the receipt.
+    pub(crate) fn commit_back<R: Wait>(
+        &self,
+        rt: &R,
+        alloc: Global,
+        seat: &mut Seat<L>,
+        plan: Plan<P>,
+    ) -> Result<(Receipt, View<P>), (CommitRefusal<P>, Plan<P>)>
+        ensures yours { OnOk result (IsPlanOf seat.old.node plan) }
+        ensures told { IfOk result (λ done. (done.0.event ≡ plan.event) × (done.0.reply ≡ plan.reply)) }
+        ensures seat { IfOk result (λ done. seat.new ≡ with_receipt seat.old done.0) }
+        ensures not_yours { IfErr result (λ e. e.0 ≡ CommitRefusal.NotYours ↔ (IsPlanOf seat.old.node plan → ⊥)) }
+        ensures stale { IfErr result (λ e. (now : _) → e.0 ≡ CommitRefusal.Refused (ApplyRefusal.Stale now)
+            → (now.id ≡ seat.old.node) × (plan.view ≢ now)) }
+        ensures kept { IfErr result (λ e. (seat.new ≡ seat.old) × (e.1 ≡ plan)) }
+        ensures ok { IfOk result (λ done. HasContinuation P.app P.from_text L.book (λ b.
+            IsSeen P.app b.config plan.view × IsBooked P.app b plan.event done.0)) }
         ensures err { IfErr result (λ e. HasContinuation P.app P.from_text L.book (λ b.
             IsUncommitted P.app b seat.old.node plan e.0)) }
         ensures there { IfErr result (λ e. e.0 ≢ CommitRefusal.Refused ApplyRefusal.StrangeNode) }

@@ -11,9 +11,10 @@ use crate::seat::Seat;
 use crate::sharing::Shared;
 use app_interface::Application;
 use history::ApplyRefusal;
-use node_choices::next_event;
-use reset_machine::{Event, StepRefusal, View};
+use node_choices::{Room, next_plan};
+use reset_machine::{Near, Plan, View};
 use std::alloc::{AllocError, Global};
+use std::mem::replace;
 use std::sync::Wait;
 use wave_layer::Phase;
 
@@ -67,7 +68,9 @@ enum NoTurn {
 // What came of one turn.
 #[derive(Drop)]
 enum Turn<P: Application> {
-    // It is over, whatever it did.
+    // Its plan, which was made on this view, was committed.
+    Taken(View<P>),
+    // Its plan wasn't the seat's.
     Over,
     // The plan was made on what the node doesn't see now. It sees this.
     Stale(View<P>),
@@ -75,7 +78,29 @@ enum Turn<P: Application> {
     NoMemory,
 }
 
-/// Takes turns at the seat. A turn looks, chooses by [`next_event`], plans without the lock, and commits; the
+// The room that a node takes its turns in, so that none of them needs memory of its own: that of the neighbours that it
+// sees, and what its events are tried on.
+#[derive(Drop)]
+struct TurnRoom<P: Application> {
+    near: Vec<Near<P>>,
+    tried: Room,
+}
+
+impl<P: Application> TurnRoom<P> {
+    fn new(alloc: Global) -> TurnRoom<P> {
+        TurnRoom {
+            near: Vec::new(alloc),
+            tried: Room::new(alloc),
+        }
+    }
+
+    // The room of the neighbours, which the next view takes.
+    fn take_near(&mut self, alloc: Global) -> Vec<Near<P>> {
+        replace(&mut self.near, Vec::new(alloc))
+    }
+}
+
+/// Takes turns at the seat. A turn looks, plans by [`next_plan`] without the lock, and commits; the
 /// gate is called with each plan before it is committed, and after. Where there is nothing to do, the turn waits
 /// until a neighbour has changed and looks again. After a stale plan the next turn goes by the view that came with
 /// the refusal, without a look. The turns end early where the book is full or an allocation fails, and where no node
@@ -119,14 +144,16 @@ pub(crate) fn take_turns<L: Sharing<P::Local>, P: Application, G: Gate, R: Wait>
     ensures full { result ≡ Ended.BookFull → HasContinuation P.app P.from_text L.book IsFull }
 {
     let mut seen: Option<View<P>> = None;
+    let mut room = TurnRoom::new(alloc);
     for turn in 0..turns {
-        let (view, event) = match next_allowed(rt, alloc, shared, seat, seen.take(), to_ask) {
-            Ok(found) => found,
+        let plan = match next_allowed(rt, alloc, shared, seat, seen.take(), to_ask, &mut room) {
+            Ok(plan) => plan,
             Err(NoTurn::MayAsk) => return Ended::MayAsk(turns - turn),
             Err(NoTurn::Quiet) => return Ended::Quiet,
             Err(NoTurn::NoMemory) => return Ended::NoMemory,
         };
-        match turn_on(rt, alloc, gate, shared, seat, view, event) {
+        match turn_on(rt, alloc, gate, shared, seat, plan) {
+            Turn::Taken(view) => room.near = view.into_near(),
             Turn::Over => {}
             Turn::Stale(now) => seen = Some(now),
             Turn::BookFull => return Ended::BookFull,
@@ -147,9 +174,9 @@ pub(crate) fn end_of(ended: Ended) -> TurnsEnd
     }
 }
 
-// What the seat's node sees, from what it saw last on, where that allows an event, and the first such event. Where it
-// allows none, it waits for a neighbour that changes. A node that is to ask for a reset neither waits nor takes a turn
-// while it may. A look fails only if an allocation fails.
+// The seat's next plan, from what its node saw last on, where that allows an event: that of the first such event. Where
+// it allows none, the seat waits for a neighbour that changes. A node that is to ask for a reset neither waits nor takes
+// a turn while it may. A look fails only if an allocation fails.
 fn next_allowed<L: Sharing<P::Local>, P: Application, R: Wait>(
     rt: &R,
     alloc: Global,
@@ -157,14 +184,15 @@ fn next_allowed<L: Sharing<P::Local>, P: Application, R: Wait>(
     seat: &Seat<L>,
     last: Option<View<P>>,
     to_ask: bool,
-) -> Result<(View<P>, Event), NoTurn>
-    ensures { IfOk result (λ f. next_of P.app f.0 ≡ Some f.1) }
+    room: &mut TurnRoom<P>,
+) -> Result<Plan<P>, NoTurn>
+    ensures { IfOk result (λ plan. next_of P.app plan.view ≡ Some plan.event) }
 {
     let mut seen = last;
     for _ in rt.forever() {
         let view = match seen.take() {
             Some(view) => view,
-            None => match shared.look(rt, alloc, seat) {
+            None => match shared.look_again(rt, alloc, seat, room.take_near(alloc)) {
                 Ok(view) => view,
                 Err(_) => return Err(NoTurn::NoMemory),
             },
@@ -172,9 +200,9 @@ fn next_allowed<L: Sharing<P::Local>, P: Application, R: Wait>(
         if to_ask && view.wave().phase == Phase::Normal {
             return Err(NoTurn::MayAsk);
         }
-        match next_event(alloc, &view) {
-            Ok(Some(event)) => return Ok((view, event)),
-            Ok(None) => drop(view),
+        match next_plan(alloc, view, &mut room.tried) {
+            Ok(Ok(plan)) => return Ok(plan),
+            Ok(Err(view)) => room.near = view.into_near(),
             Err(AllocError) => return Err(NoTurn::NoMemory),
         }
         if !shared.wait(rt, seat) {
@@ -184,33 +212,27 @@ fn next_allowed<L: Sharing<P::Local>, P: Application, R: Wait>(
     unreachable!()
 }
 
-// One turn, by what the node saw, for the first event that this allows.
+// One turn, by a plan for the first event that its view allows.
 fn turn_on<L: Sharing<P::Local>, P: Application, G: Gate, R: Wait>(
     rt: &R,
     alloc: Global,
     gate: &G,
     shared: &Shared<L, P>,
     seat: &mut Seat<L>,
-    view: View<P>,
-    event: Event,
+    plan: Plan<P>,
 ) -> Turn<P>
-    requires { next_of P.app view ≡ Some event }
+    requires { next_of P.app plan.view ≡ Some plan.event }
     ensures node { seat.new.node ≡ seat.old.node }
     ensures most { length seat.new.receipts ≤ length seat.old.receipts + 1 }
     ensures kept { take (length seat.old.receipts) seat.new.receipts ≡ seat.old.receipts }
     ensures turns { AddsTurns P.app P.from_text L.book seat.old.node seat.old.receipts seat.new.receipts }
     ensures full { result ≡ Turn.BookFull → HasContinuation P.app P.from_text L.book IsFull }
 {
-    let plan = match view.into_plan(alloc, event) {
-        Ok(plan) => plan,
-        Err((StepRefusal::NoMemory, _)) => return Turn::NoMemory,
-        Err(_) => return Turn::Over,
-    };
     gate.planned(seat.node());
-    match shared.commit(rt, alloc, seat, plan) {
-        Ok(_receipt) => {
+    match shared.commit_back(rt, alloc, seat, plan) {
+        Ok((_receipt, view)) => {
             gate.committed(seat.node());
-            Turn::Over
+            Turn::Taken(view)
         }
         Err((refusal, _plan)) => turn_of(refusal),
     }

@@ -1,7 +1,7 @@
 use Rattle.std.proofs.Common.{sym, subst, ◌∙◌}
 use Rattle.node_threads.specs.Locked.{IsContinued}
 use Rattle.node_threads.proofs.Entering.{if_ok}
-use Rattle.node_threads.proofs.sharing.Shared.look.Goals as goal
+use Rattle.node_threads.proofs.sharing.Shared.look_again.Goals as goal
 
 pub returns-clause-ok : goal.returns-clause-ok
 returns-clause-ok g c =

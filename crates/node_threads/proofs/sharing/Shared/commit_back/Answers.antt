@@ -2,20 +2,20 @@ use Rattle.std.proofs.Common.{Contains, sym, subst, ◌∙◌}
 use Rattle.node_threads.specs.Locked.{IsContinued}
 use Rattle.node_threads.proofs.Entering.{booked_entered, if_err, if_err_on, if_ok, if_ok_on, on_ok}
 use Rattle.node_threads.proofs.Refusing.{plan_full, plan_not_yours, plan_stale, plan_there}
-use Rattle.node_threads.proofs.sharing.Shared.commit.Goals as goal
+use Rattle.node_threads.proofs.sharing.Shared.commit_back.Goals as goal
 
 pub returns-clause-yours : goal.returns-clause-yours
 returns-clause-yours g c = on_ok c.commit_in-done.result _ _ (λ is. is.0) c.commit_in-done.ensures.yours
 
 pub returns-clause-told : goal.returns-clause-told
 returns-clause-told g c =
-    if_ok c.commit_in-done.result _ _ (λ receipt is. (
-      (booked_entered g.P.Application.app _ c.args.plan.event _ receipt is.0).event,
+    if_ok c.commit_in-done.result _ _ (λ done is. (
+      (booked_entered g.P.Application.app _ c.args.plan.event _ done.0 is.0).event,
       is.1,
     )) c.commit_in-done.ensures.ok
 
 pub returns-clause-seat : goal.returns-clause-seat
-returns-clause-seat g c = if_ok c.commit_in-done.result _ _ (λ receipt is. is.2) c.commit_in-done.ensures.ok
+returns-clause-seat g c = if_ok c.commit_in-done.result _ _ (λ done is. is.2) c.commit_in-done.ensures.ok
 
 pub returns-clause-kept : goal.returns-clause-kept
 returns-clause-kept g c =
@@ -26,7 +26,7 @@ returns-clause-ok g c =
     let held =
     subst (λ d. IsContinued g.P.Application.app g.P.Application.from_text g.L.Sharing.book d.locked.book)
     (c.deref.ensures ∙ sym c.deref_mut.ensures.value) c.lemma_is_locked.ensures.continued in
-    if_ok_on c.commit_in-done.result _ _ _ (λ receipt yours is. record {
+    if_ok_on c.commit_in-done.result _ _ _ (λ done yours is. record {
       book = _;
       continued = held;
       such = (yours.1, record { after = c.commit_in-done.new.self.book; done = is.0 });
