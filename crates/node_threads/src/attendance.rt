@@ -65,11 +65,16 @@ impl Attendance {
         true
     }
 
-    // A neighbour of these nodes has changed.
-    pub(crate) fn make_stale(&mut self, nodes: &[usize]) {
-        for at in nodes {
-            self.set(*at, Standing::Stale);
+    // A neighbour of these nodes has changed: who of them waited is to be woken.
+    pub(crate) fn make_stale(&mut self, nodes: &[usize]) -> Sleepers {
+        let mut sleepers = Sleepers { bits: 0 };
+        for number in 0..nodes.len() {
+            if self.is_waiting(nodes[number]) {
+                sleepers.add(number);
+            }
+            self.set(nodes[number], Standing::Stale);
         }
+        sleepers
     }
 
     // Whether the node waits.
@@ -100,6 +105,26 @@ impl Attendance {
         } = self;
         *waiting = *waiting - one_if_waiting(standings[at]) + one_if_waiting(standing);
         standings[at] = standing;
+    }
+}
+
+// Which nodes of a list waited, by their numbers in it. A node of a round has fewer than 64 neighbours; of a list that is
+// longer, those beyond are taken for such that waited, since to wake a node in vain does no harm.
+#[derive(Clone, Copy)]
+pub(crate) struct Sleepers {
+    bits: u64,
+}
+
+impl Sleepers {
+    fn add(&mut self, number: usize) {
+        if number < 64 {
+            self.bits |= 1 << number;
+        }
+    }
+
+    // Whether the node with this number waited.
+    pub(crate) fn has(self, number: usize) -> bool {
+        number >= 64 || self.bits >> number & 1 == 1
     }
 }
 

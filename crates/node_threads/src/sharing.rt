@@ -9,7 +9,7 @@ ghost use Rattle.node_threads.specs.Locked.{HasContinuation, IsBooked, IsContinu
 ghost use Rattle.node_threads.specs.Locked.{IsPlanOf, IsUncommitted, IsUndone};
 ghost use Rattle.node_threads.specs.Seats.{empty_seat, with_receipt};
 
-use crate::attendance::Attendance;
+use crate::attendance::{Attendance, Sleepers};
 use crate::guarded::Guarded;
 use crate::locked::Locked;
 use crate::refusal::{CommitRefusal, LookRefusal, SeatRefusal, ShareFault};
@@ -223,9 +223,9 @@ impl<L: Sharing<P::Local>, P: Application> Shared<L, P> {
         guarded.locked.lemma_is_locked();
         let done = guarded.locked.commit_in(alloc, seat, plan);
         let stale = if_changed(neighbours, done.is_ok());
-        guarded.attendance.make_stale(stale);
+        let sleepers = guarded.attendance.make_stale(stale);
         drop(guarded);
-        self.notify(stale);
+        self.notify(stale, sleepers);
         done
     }
 
@@ -253,9 +253,9 @@ impl<L: Sharing<P::Local>, P: Application> Shared<L, P> {
         guarded.locked.lemma_is_locked();
         let done = guarded.locked.step_in(alloc, seat, event);
         let stale = if_changed(neighbours, done.is_ok());
-        guarded.attendance.make_stale(stale);
+        let sleepers = guarded.attendance.make_stale(stale);
         drop(guarded);
-        self.notify(stale);
+        self.notify(stale, sleepers);
         done
     }
 
@@ -316,12 +316,15 @@ impl<L: Sharing<P::Local>, P: Application> Shared<L, P> {
         }
     }
 
-    // Wakes those of these nodes that wait. Under the lock they were made stale, so they look again.
-    fn notify(&self, nodes: &[usize]) {
-        for at in nodes {
-            match self.wakeups.get(*at) {
-                Some(wakeup) => wakeup.notify_one(),
-                None => {}
+    // Wakes those of these nodes that waited: a call of the system each, which the others are spared. Under the lock they
+    // were made stale, so they look again.
+    fn notify(&self, nodes: &[usize], sleepers: Sleepers) {
+        for number in 0..nodes.len() {
+            if sleepers.has(number) {
+                match self.wakeups.get(nodes[number]) {
+                    Some(wakeup) => wakeup.notify_one(),
+                    None => {}
+                }
             }
         }
     }
