@@ -67,7 +67,7 @@ both_ok : {L : Type 0} (near : Bool) (does : Planned L)
 both_ok true does = refl
 both_ok false does = refl
 
-ok_row : {L : Type 0} (v : NodeView L) (r : Result Fired StepRefusal) → is_ok (row_planned v r) ≡ is_ok r
+pub ok_row : {L : Type 0} (v : NodeView L) (r : Result Fired StepRefusal) → is_ok (row_planned v r) ≡ is_ok r
 ok_row v (Ok does) = refl
 ok_row v (Err f) = refl
 

@@ -51,22 +51,24 @@ module _ {L : Type 0} (app : App L) (v : NodeView L) where
       ∙ append_assoc a b (c ++ (d ++ actions)) in
       sym (ap tried order)
 
-  pub from_adoptions : tried (own_first v.id) ≡ None
-      → tried (adoptions v.id v.near ++ (own_next v.id ++ (relays v.id v.near ++ actions))) ≡ next_of app v
-  from_adoptions own = first_none _ _ _ own (two_lists (is_allowed app v) (own_first v.id)
-      (adoptions v.id v.near ++ (own_next v.id ++ (relays v.id v.near ++ actions))) (next_of app v) from_own)
+  -- the events of the tree, those of the wave, and the actions
+  abbrev pub of_tree : List Event
+  of_tree = own_first v.id ++ adoptions v.id v.near
 
-  pub from_own_next : tried (own_first v.id) ≡ None → tried (adoptions v.id v.near) ≡ None
-      → tried (own_next v.id ++ (relays v.id v.near ++ actions)) ≡ next_of app v
-  from_own_next own adopts = first_none _ _ _ adopts (two_lists (is_allowed app v) (adoptions v.id v.near)
-      (own_next v.id ++ (relays v.id v.near ++ actions)) (next_of app v) (from_adoptions own))
+  abbrev pub of_wave : List Event
+  of_wave = own_next v.id ++ relays v.id v.near
 
-  pub from_relays : tried (own_first v.id) ≡ None → tried (adoptions v.id v.near) ≡ None → tried (own_next v.id) ≡ None
-      → tried (relays v.id v.near ++ actions) ≡ next_of app v
-  from_relays own adopts next = first_none _ _ _ next (two_lists (is_allowed app v) (own_next v.id)
-      (relays v.id v.near ++ actions) (next_of app v) (from_own_next own adopts))
+  pub from_tree : tried (of_tree ++ (of_wave ++ actions)) ≡ next_of app v
+  from_tree =
+      let a = own_first v.id in
+      let b = adoptions v.id v.near in
+      ap tried (append_assoc a b (of_wave ++ actions)
+      ∙ ap (λ l. a ++ (b ++ l)) (append_assoc (own_next v.id) (relays v.id v.near) actions)) ∙ from_own
 
-  pub from_actions : tried (own_first v.id) ≡ None → tried (adoptions v.id v.near) ≡ None → tried (own_next v.id) ≡ None
-      → tried (relays v.id v.near) ≡ None → tried actions ≡ next_of app v
-  from_actions own adopts next relay = first_none _ _ _ relay (two_lists (is_allowed app v) (relays v.id v.near) actions
-      (next_of app v) (from_relays own adopts next))
+  pub from_wave : tried of_tree ≡ None → tried (of_wave ++ actions) ≡ next_of app v
+  from_wave tree =
+      first_none _ _ _ tree (two_lists (is_allowed app v) of_tree (of_wave ++ actions) (next_of app v) from_tree)
+
+  pub from_actions : tried of_tree ≡ None → tried of_wave ≡ None → tried actions ≡ next_of app v
+  from_actions tree wave =
+      first_none _ _ _ wave (two_lists (is_allowed app v) of_wave actions (next_of app v) (from_wave tree))

@@ -29,7 +29,7 @@ use Rattle.reset_model.specs.declared.step.StepRefusal.TheVariants.{StrangeNode,
 use Rattle.reset_model.specs.declared.step.StepRefusal.TheVariants.{WantsNeighbour, TakesNoNeighbour, Disagrees}
 use Rattle.reset_model.specs.declared.step.StepRefusal.TheVariants.{NotEnabled, NoMemory}
 use Rattle.reset_model.specs.LocalSteps.{cases_of, first_fired, fired_row, fired_tree, fired_wave, or_next}
-use Rattle.reset_model.specs.Steps.{is_of_tree, named_node}
+use Rattle.reset_model.specs.Steps.{named_node}
 use Rattle.reset_model.proofs.EnabledRows.{among_enabled, row_holds}
 use Rattle.node_choices.specs.Sight.{IsOfLayer, enabled_in, some_among}
 

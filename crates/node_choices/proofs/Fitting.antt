@@ -15,7 +15,7 @@ use Rattle.reset_model.specs.View.{Neighbour, NodeView}
 use Rattle.node_choices.specs.Choice.{case_events, is_allowed}
 
 -- what is refused for itself is refused, whatever is asked before
-refused_later : {L : Type 0} (a b : Bool) (r : Planned L) → is_ok r ≡ false
+pub refused_later : {L : Type 0} (a b : Bool) (r : Planned L) → is_ok r ≡ false
     → is_ok (cond a (Err StrangeNode) (cond b (Err StrangeNeighbour) r)) ≡ false
 refused_later true b r is = refl
 refused_later false true r is = refl

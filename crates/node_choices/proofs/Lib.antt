@@ -3,3 +3,4 @@ mod EnabledRows
 mod Allowing
 mod Choices
 mod Fitting
+mod Resting

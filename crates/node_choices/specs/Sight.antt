@@ -1,5 +1,5 @@
 -- What a node sees of the two layers, with the rows that are enabled there.
-use Rattle.std.specs.Prelude.{◌≡◌, ℕ, Bool, true, false, List}
+use Rattle.std.specs.Prelude.{◌≡◌, ◌==◌, ℕ, Bool, true, false, if◌then◌else◌, List, length}
 use Rattle.std.specs.List.{list_any}
 use Rattle.action_tables.specs.Numbers.{is_among}
 use Rattle.action_tables.specs.Table.{enabled_of}
@@ -24,6 +24,10 @@ IsOfLayer (Wave v) e = is_of_tree e ≡ false
 -- some of these cases is one of these rows
 abbrev pub some_among : List ℕ → List ℕ → Bool
 some_among rows cases = list_any (λ case. is_among case rows) cases
+
+-- none of these rows of the wave table but the request, row 1
+abbrev pub none_but_request : List ℕ → Bool
+none_but_request rows = length rows == (if is_among 1 rows then 1 else 0)
 
 -- these are what the view says of the tree, and of the wave, with the rows that are enabled in each
 pub record IsSight {L : Type 0} (v : NodeView L) (tree wave : Seen) (tree_rows wave_rows : List ℕ) : Type 0 where

@@ -5,7 +5,7 @@ ghost use Rattle.std.specs.List.{flat_map};
 ghost use Rattle.action_tables.specs.Numbers.{all_cases};
 ghost use Rattle.node_choices.specs.Choice.{allowed_events, case_events, is_allowed, next_of};
 ghost use Rattle.reset_model.specs.View.{children_of};
-ghost use Rattle.reset_model.specs.declared.event.Event.TheVariants.{Act, Adopt, Relay};
+ghost use Rattle.reset_model.specs.declared.event.Event.TheVariants.{Act, Adopt, Claim, Finish, Follow, Join, Mend, Open, Relay};
 
 use crate::sight::Sight;
 use action_tables::MOST_CASES;
@@ -47,27 +47,57 @@ pub fn next_in<P: Application>(
 ) -> Result<Option<Event>, AllocError>
     ensures { IfOk result (λ event. event ≡ next_of P.app sight.now) }
 {
+    if let Some(event) = first_of_tree(alloc, sight)? {
+        return Ok(Some(event));
+    }
+    if let Some(event) = first_of_wave(alloc, sight)? {
+        return Ok(Some(event));
+    }
+    action(alloc, sight)
+}
+
+// The first event of the tree that is allowed.
+fn first_of_tree<P: Application>(
+    alloc: Global,
+    sight: &Sight<'_, P>,
+) -> Result<Option<Event>, AllocError>
+    ensures { IfOk result (λ event. event ≡ find (is_allowed P.app sight.now)
+        (Claim sight.now.id ∷ Follow sight.now.id ∷ map (λ n. Adopt sight.now.id n.id) sight.now.near)) }
+{
+    if sight.tree_rests() {
+        return Ok(None);
+    }
     let at = sight.id();
-    let own_first = [Event::Claim { at }, Event::Follow { at }];
-    if let Some(event) = first_allowed(alloc, sight, &own_first)? {
+    let own = [Event::Claim { at }, Event::Follow { at }];
+    if let Some(event) = first_allowed(alloc, sight, &own)? {
         return Ok(Some(event));
     }
-    if let Some(event) = first_adoption(alloc, sight)? {
-        return Ok(Some(event));
+    first_adoption(alloc, sight)
+}
+
+// The first event of the wave that is allowed, but the request.
+fn first_of_wave<P: Application>(
+    alloc: Global,
+    sight: &Sight<'_, P>,
+) -> Result<Option<Event>, AllocError>
+    ensures { IfOk result (λ event. event ≡ find (is_allowed P.app sight.now)
+        (Mend sight.now.id ∷ Join sight.now.id ∷ Finish sight.now.id ∷ Open sight.now.id
+        ∷ map (λ n. Relay sight.now.id n.id) (children_of sight.now))) }
+{
+    if sight.wave_rests() {
+        return Ok(None);
     }
-    let own_next = [
+    let at = sight.id();
+    let own = [
         Event::Mend { at },
         Event::Join { at },
         Event::Finish { at },
         Event::Open { at },
     ];
-    if let Some(event) = first_allowed(alloc, sight, &own_next)? {
+    if let Some(event) = first_allowed(alloc, sight, &own)? {
         return Ok(Some(event));
     }
-    if let Some(event) = first_relay(alloc, sight)? {
-        return Ok(Some(event));
-    }
-    action(alloc, sight)
+    first_relay(alloc, sight)
 }
 
 // All events that are allowed.

@@ -1,11 +1,13 @@
 // What a node sees, by layers, so that all its events are tried on what is gathered once.
 
-ghost use Rattle.std.specs.Prelude.{◌≡◌, ◌≢◌, ◌&&◌, Err, IfOk, MatchResult, Ok, is_ok};
-ghost use Rattle.node_choices.specs.Sight.{IsOfLayer, enabled_in, some_among};
+ghost use Rattle.action_tables.specs.Numbers.{is_among};
+ghost use Rattle.std.specs.Prelude.{if◌then◌else◌, ◌≡◌, ◌≢◌, ◌↔◌, ◌&&◌, [], Err, IfOk, IsTrue, MatchResult, Ok, is_ok};
+ghost use Rattle.node_choices.specs.Sight.{IsOfLayer, enabled_in, none_but_request, some_among};
 ghost use Rattle.reset_model.specs.LocalSteps.{cases_of, first_fired};
 ghost use Rattle.reset_model.specs.Planned.{row_planned, sees};
 ghost use Rattle.reset_model.specs.Steps.{named_node};
-ghost use Rattle.reset_model.specs.View.{children_of, near_trees, near_waves};
+ghost use Rattle.reset_model.specs.View.{children_of, near_trees, near_waves, tree_view, wave_view};
+ghost use Rattle.reset_model.specs.declared.plan.Seen.TheVariants.{Tree, Wave};
 
 use crate::case::is_taken;
 use action_tables::CaseSet;
@@ -19,6 +21,9 @@ use std::alloc::{AllocError, Global};
 use std::marker::Model;
 use tree_layer::{TreeRegs, tree_enabled};
 use wave_layer::{WaveRegs, wave_enabled};
+
+// The request, the one row of the wave table that a node doesn't take by itself.
+const REQUEST: u8 = 1;
 
 /// A view, with what it says of the tree and of the wave, and the rows that are enabled in each: so an event of which no
 /// row is enabled isn't tried.
@@ -80,6 +85,20 @@ impl<'a, P: Application> Sight<'a, P> {
         ensures { result.now ≡ self.now.near }
     {
         self.view.neighbours()
+    }
+
+    /// Whether no row of the tree table is enabled.
+    pub fn tree_rests(&self) -> bool
+        ensures { IsTrue result ↔ enabled_in (Tree (tree_view self.now)) ≡ [] }
+    {
+        self.tree_rows.count() == 0
+    }
+
+    /// Whether no row of the wave table is enabled but the request, row 1.
+    pub fn wave_rests(&self) -> bool
+        ensures { result ≡ none_but_request (enabled_in (Wave (wave_view self.now))) }
+    {
+        self.wave_rows.count() == count_requests(self.wave_rows)
     }
 
     /// Whether the view allows the event.
@@ -191,6 +210,13 @@ fn fires<P: Application>(
         return false;
     }
     first_fired(seen, event.named(), event.cases()).is_ok()
+}
+
+// How many of the rows of the wave table are the request: one or none.
+fn count_requests(rows: CaseSet) -> u32
+    ensures { result ≡ (if is_among 1 rows then 1 else 0) }
+{
+    if rows.has(REQUEST) { 1 } else { 0 }
 }
 
 // Whether some of the cases is one of the rows.
