@@ -170,10 +170,15 @@ fires_among : (seen : Seen) (e : Event) → IsOfLayer seen e → AllFireAmong se
 fires_among (Tree v) (Claim i) is =
     (tree_alone v 1 refl, (tree_alone v 2 refl, (tree_alone v 3 refl, (tree_alone v 4 refl, record {}))))
 fires_among (Tree v) (Follow i) is = (tree_alone v 5 refl, (tree_alone v 6 refl, record {}))
-fires_among (Tree v) (Adopt i j) is = (tree_toward v
-    (λ r. nat_lt r.dist v.bound && nat_lt v.own.root r.root) 7 j (λ asked. refl) (regs_of j v.near) refl,
-    (tree_toward v (λ r. nat_lt r.dist v.bound && v.own.root == r.root && nat_lt (r.dist + 1) v.own.dist) 8 j
-    (λ asked. refl) (regs_of j v.near) refl, record {}))
+fires_among (Tree v) (Adopt i j) is = (
+  tree_toward v
+      (λ r. nat_lt r.dist v.bound && nat_lt v.own.root r.root) 7 j (λ asked. refl) (regs_of j v.near) refl,
+  (
+    tree_toward v (λ r. nat_lt r.dist v.bound && v.own.root == r.root && nat_lt (r.dist + 1) v.own.dist) 8 j
+        (λ asked. refl) (regs_of j v.near) refl,
+    record {},
+  ),
+)
 fires_among (Tree v) (Request i) is = absurd (true≢false (sym is))
 fires_among (Tree v) (Relay i c) is = absurd (true≢false (sym is))
 fires_among (Tree v) (Open i) is = absurd (true≢false (sym is))

@@ -70,11 +70,11 @@ module _ {L : Type 0} (app : App L) (v : NodeView L) where
       let seen : Seen = Tree (tree_view v) in
       let adopts : List Event = map (λ n. Adopt v.id n.id) near in
       sym (none_first (Claim v.id) (Follow v.id ∷ adopts)
-      (rests (Claim v.id) seen refl refl refl (ap (λ r. some_among r (1 ∷ 2 ∷ 3 ∷ 4 ∷ [])) none))
+      (rests (Claim v.id) seen refl refl refl (ap (λ r. some_among r (cases_of (Claim v.id))) none))
       (none_first (Follow v.id) adopts
-      (rests (Follow v.id) seen refl refl refl (ap (λ r. some_among r (5 ∷ 6 ∷ [])) none))
+      (rests (Follow v.id) seen refl refl refl (ap (λ r. some_among r (cases_of (Follow v.id))) none))
       (none_toward (λ j. Adopt v.id j)
-      (λ j. rests (Adopt v.id j) seen refl refl refl (ap (λ r. some_among r (7 ∷ 8 ∷ [])) none)) near)))
+      (λ j. rests (Adopt v.id j) seen refl refl refl (ap (λ r. some_among r (cases_of (Adopt v.id j))) none)) near)))
 
   pub no_wave : none_but_request (enabled_in (Wave (wave_view v))) ≡ true → (near : List (Neighbour L))
       → None ≡ find (is_allowed app v)
@@ -84,12 +84,12 @@ module _ {L : Type 0} (app : App L) (v : NodeView L) where
       let relays : List Event = map (λ n. Relay v.id n.id) near in
       let alone = alone_or_none (enabled_in seen) none in
       sym (none_first (Mend v.id) (Join v.id ∷ Finish v.id ∷ Open v.id ∷ relays)
-      (rests (Mend v.id) seen refl refl refl (none_of (enabled_in seen) (8 ∷ 9 ∷ 10 ∷ 11 ∷ []) alone refl refl))
+      (rests (Mend v.id) seen refl refl refl (none_of (enabled_in seen) (cases_of (Mend v.id)) alone refl refl))
       (none_first (Join v.id) (Finish v.id ∷ Open v.id ∷ relays)
-      (rests (Join v.id) seen refl refl refl (none_of (enabled_in seen) (4 ∷ 5 ∷ []) alone refl refl))
+      (rests (Join v.id) seen refl refl refl (none_of (enabled_in seen) (cases_of (Join v.id)) alone refl refl))
       (none_first (Finish v.id) (Open v.id ∷ relays)
-      (rests (Finish v.id) seen refl refl refl (none_of (enabled_in seen) (6 ∷ 7 ∷ []) alone refl refl))
+      (rests (Finish v.id) seen refl refl refl (none_of (enabled_in seen) (cases_of (Finish v.id)) alone refl refl))
       (none_first (Open v.id) relays
-      (rests (Open v.id) seen refl refl refl (none_of (enabled_in seen) (3 ∷ []) alone refl refl))
+      (rests (Open v.id) seen refl refl refl (none_of (enabled_in seen) (cases_of (Open v.id)) alone refl refl))
       (none_toward (λ j. Relay v.id j)
-      (λ j. rests (Relay v.id j) seen refl refl refl (none_of (enabled_in seen) (2 ∷ []) alone refl refl)) near)))))
+      (λ j. rests (Relay v.id j) seen refl refl refl (none_of (enabled_in seen) (cases_of (Relay v.id j)) alone refl refl)) near)))))

@@ -192,12 +192,7 @@ fn enabled_in(seen: &Seen<'_>) -> CaseSet
 
 // Whether the node that the event names, if any, is a neighbour, and the guard of a row of the event holds. These rows are
 // enabled.
-fn fires<P: Application>(
-    view: &View<P>,
-    seen: &Seen<'_>,
-    rows: CaseSet,
-    event: Event,
-) -> bool
+fn fires<P: Application>(view: &View<P>, seen: &Seen<'_>, rows: CaseSet, event: Event) -> bool
     requires layer { IsOfLayer seen.now event }
     requires rows { rows ≡ enabled_in seen.now }
     ensures { result ≡ (sees view.now (named_node event)

@@ -73,12 +73,7 @@ impl<P: Application> View<P> {
 
 impl<P: Application> Plan<P> {
     /// The plan of an event, of which these are what it does at the view's node and what it replies.
-    pub fn new(
-        view: View<P>,
-        event: Event,
-        effect: Effect<P::Local>,
-        reply: Reply,
-    ) -> Plan<P>
+    pub fn new(view: View<P>, event: Event, effect: Effect<P::Local>, reply: Reply) -> Plan<P>
         requires { planned P.app view event ≡ Ok (effect, reply) }
         ensures { result ≡ record { view = view; event = event; effect = effect; reply = reply } }
     {
